@@ -1,0 +1,3 @@
+pub mod OfItems
+pub mod OfReading
+pub mod Looking

@@ -1,0 +1,10 @@
+pub mod Nested
+pub mod Values
+pub mod DepthSets
+pub mod Orders
+pub mod Strategies
+pub mod Readings
+pub mod Printed
+pub mod Views
+pub mod DepthViews
+pub mod Answers
