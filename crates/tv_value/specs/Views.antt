@@ -1,6 +1,6 @@
 -- The value that a `Value` stands for, and the strategy that a `Tree` stands for.
 use Rattle.std.specs.Prelude.{List, [], ◌∷◌}
-use Rattle.tv_value.specs.Nested.{leaf, list, Trees, trees_of}
+use Rattle.tv_value.specs.Nested.{leaf, list, Trees, items, trees_of}
 use Rattle.tv_value.specs.Values as spec
 use Rattle.tv_value.specs.Values.{Scalar, text, fault}
 use Rattle.tv_value.specs.Strategies.{Strategy, port, cross, dot, Strategies, no_strategies, strategy}
@@ -46,3 +46,7 @@ strategy_view = fold-Tree Strategy Strategies tree_step trees_step
 
 abbrev pub strategies_view : code.Trees → Strategies
 strategies_view = code.fold-Trees Strategy Strategies tree_step trees_step
+
+-- the values of a list, in order
+abbrev pub values_view : Items → List spec.Value
+values_view vs = items (items_view vs)
