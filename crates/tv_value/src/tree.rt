@@ -21,5 +21,5 @@ pub enum Tree {
 #[derive(Drop)]
 #[cycle(tree)]
 pub struct Trees {
-    pub(crate) trees: Vec<Tree>,
+    pub trees: Vec<Tree>,
 }

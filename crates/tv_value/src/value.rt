@@ -43,7 +43,7 @@ pub enum Value {
 #[derive(Drop)]
 #[cycle(value)]
 pub struct Items {
-    pub(crate) values: Vec<Value>,
+    pub values: Vec<Value>,
 }
 
 impl ErrorDoc {
