@@ -3,6 +3,7 @@ pub mod Values
 pub mod DepthSets
 pub mod Orders
 pub mod Strategies
+pub mod Activities
 pub mod Readings
 pub mod Printed
 pub mod Views
