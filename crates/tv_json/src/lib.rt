@@ -1,0 +1,14 @@
+//! Values as JSON.
+//!
+//! `json_of_value` gives the JSON tree of a value (`specs/Printed.antt` of `tv_value`), error documents included, and
+//! `compact` the text of a JSON tree with no space in it. Both take memory for what they make, and time linear in it.
+//!
+//! - `names`: the texts of job names
+//! - `values`: the trees of values
+#![tactic(auto)]
+
+mod names;
+mod values;
+
+pub use names::{element_text, job_text};
+pub use values::{compact, json_of_value};
