@@ -1,3 +1,4 @@
 pub mod OfItems
 pub mod OfReading
 pub mod Looking
+pub mod OfFaults

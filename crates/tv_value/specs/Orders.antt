@@ -40,6 +40,11 @@ abbrev pub in_order : {A : Type 0} → (A → A → Ordering) → List A → Lis
 in_order cmp [] = []
 in_order cmp (x ∷ xs) = put_in_order cmp x (in_order cmp xs)
 
+-- with each of these in its place, the last of them first
+abbrev pub put_all : {A : Type 0} → (A → A → Ordering) → List A → List A → List A
+put_all cmp [] ys = ys
+put_all cmp (x ∷ xs) ys = put_in_order cmp x (put_all cmp xs ys)
+
 -- the first thing of that name
 abbrev pub named : {A : Type 0} → Name → List (Name × A) → Option A
 named n [] = None

@@ -5,6 +5,7 @@
 //! tree as the definition of reading says, its first complaint included, and that work on places of at most 32 indices
 //! is never refused.
 //!
+//! - `order`: orders of texts, places and lists, names of jobs among them
 //! - `memory`: the refusal for want of memory
 //! - `sequence`, `text`, `copied`: lists and texts as small types, and equal ones of their own
 //! - `place`, `job_name`: where a value stands, and which job made it
@@ -18,9 +19,12 @@ mod copied;
 mod depth;
 mod job_name;
 mod memory;
+mod order;
 mod place;
 mod reading;
 mod sequence;
+#[cfg(test)]
+mod tests;
 mod text;
 mod tree;
 mod value;

@@ -1,6 +1,8 @@
-ghost use Rattle.std.specs.Prelude.{◌≡◌, ◌+◌, ◌<◌, ◌^◌, IfOk, map, option_map};
-ghost use Rattle.tv_value.specs.Nested.{at, trees_of, item_at, children};
-ghost use Rattle.tv_value.specs.Values.{has_depth, all_have_depth};
+ghost use Rattle.std.specs.Prelude.{◌≡◌, ◌+◌, ◌<◌, ◌^◌, IfOk, OnOk, map, option_map};
+ghost use Rattle.std.specs.List.{list_any};
+ghost use Rattle.tv_value.specs.Nested.{at, trees_of, item_at, children, leaves, all_leaves};
+ghost use Rattle.tv_value.specs.Values.{has_depth, all_have_depth, is_fault, holds_fault, makers_of};
+ghost use Rattle.tv_value.specs.Orders.{job_name_cmp, in_order, put_in_order, put_all};
 ghost use Rattle.tv_value.specs.DepthSets.{depths, common_depths, least_depth};
 ghost use Rattle.tv_value.specs.DepthViews.{depth_set_view};
 ghost use Rattle.tv_value.specs.Views.{view, items_view, error_view};
@@ -13,6 +15,7 @@ use crate::place::Place;
 use crate::sequence::Sequence;
 use crate::text::{Name, Text};
 use std::alloc::Global;
+use std::collections::BTreeSet;
 
 /// Names with a number each: the ports of a step or flow with their depths.
 pub type Depths = Sequence<(Name, u32)>;
@@ -109,6 +112,40 @@ impl Value {
         self.depths().least()
     }
 
+    /// Whether the value is an error document or contains one. Linear in its size at the most.
+    #[cycle(holds_fault)]
+    pub fn holds_fault(&self) -> bool
+        ensures { result ≡ holds_fault (view self.now) }
+    {
+        match self {
+            Value::Text(_) => false,
+            Value::List(items) => items.hold_fault(),
+            Value::Fault(_) => true,
+        }
+    }
+
+    /// The jobs that made the error documents in the value, in order of their names, each once. The order is level by
+    /// level by step, then place, a prefix first. Takes n log n steps for n documents, and a copy of each name.
+    pub fn faults(&self, alloc: Global) -> Result<JobNames, NoMemory>
+        ensures { IfOk result (λ ns. ns ≡ in_order job_name_cmp (makers_of (leaves (view self.now)))) }
+    {
+        let mut makers = BTreeSet::new(alloc);
+        self.put_makers(alloc, &mut makers)?;
+        Ok(Sequence::of(names_of(alloc, makers)?))
+    }
+
+    /// Puts the makers of the errors into a set, the last first.
+    #[cycle(makers)]
+    fn put_makers(&self, alloc: Global, makers: &mut BTreeSet<JobName>) -> Result<(), NoMemory>
+        ensures { OnOk result (makers.new.keys ≡ put_all job_name_cmp (makers_of (leaves (view self.now))) makers.old.keys) }
+    {
+        match self {
+            Value::Text(_) => Ok(()),
+            Value::List(items) => items.put_makers(alloc, makers),
+            Value::Fault(error) => put_maker(alloc, &error.at, makers),
+        }
+    }
+
     /// What stands at a place, or `None` where nothing does. Linear in the place.
     pub fn at(&self, place: &Place) -> Option<&Value>
         ensures { option_map (λ v. view v.now) result ≡ at (view self.now) place.now }
@@ -132,6 +169,22 @@ impl Value {
             _ => None,
         }
     }
+}
+
+/// Puts one name into a set.
+fn put_maker(alloc: Global, maker: &JobName, makers: &mut BTreeSet<JobName>) -> Result<(), NoMemory>
+    ensures { OnOk result (makers.new.keys ≡ put_in_order job_name_cmp maker.now makers.old.keys) }
+{
+    let maker = maker.copy(alloc)?;
+    makers.insert(maker)?;
+    Ok(())
+}
+
+/// The names of a set, in order.
+fn names_of(alloc: Global, names: BTreeSet<JobName>) -> Result<Vec<JobName>, NoMemory>
+    ensures { IfOk result (λ ns. ns.items ≡ names.keys) }
+{
+    Ok(names.into_iter().collect(alloc)?)
 }
 
 impl Items {
@@ -176,6 +229,30 @@ impl Items {
             values.push(value.copy(alloc)?)?;
         }
         Ok(Items { values })
+    }
+
+    #[cycle(holds_fault)]
+    fn hold_fault(&self) -> bool
+        ensures { result ≡ list_any is_fault (all_leaves (items_view self.now)) }
+    {
+        for value in &self.values {
+            if value.holds_fault() {
+                return true;
+            }
+        }
+        false
+    }
+
+    #[cycle(makers)]
+    fn put_makers(&self, alloc: Global, makers: &mut BTreeSet<JobName>) -> Result<(), NoMemory>
+        ensures { OnOk result (makers.new.keys ≡ put_all job_name_cmp (makers_of (all_leaves (items_view self.now))) makers.old.keys) }
+    {
+        let mut left = self.values.len();
+        while left > 0 {
+            left -= 1;
+            self.values[left].put_makers(alloc, makers)?;
+        }
+        Ok(())
     }
 
     #[cycle(depths)]
