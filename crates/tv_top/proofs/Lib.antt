@@ -1,0 +1,4 @@
+pub mod Looks
+pub mod Mappings
+pub mod Counting
+pub mod Upper
