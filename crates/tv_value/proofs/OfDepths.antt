@@ -1,10 +1,10 @@
 -- The depths of a value are those that it has, and the least of them is the least.
-use Rattle.std.specs.Prelude.{◌≡◌, refl, ℕ, zero, suc, ◌+◌, ◌≤◌, ◌<◌, ◌↔◌, max, Bool, true, false, ◌&&◌, ◌==◌, nat_lt, nat_le, if◌then◌else◌, Option, Some, None, is_some}
+use Rattle.std.specs.Prelude.{◌≡◌, refl, ℕ, zero, suc, ◌+◌, ◌≤◌, ◌<◌, ◌↔◌, Bool, true, false, ◌&&◌, ◌==◌, nat_lt, nat_le, if◌then◌else◌, Some, None, is_some}
 use Rattle.std.proofs.Common.{arith, sym, subst, ap, ◌∙◌, true≢false}
-use Rattle.std.proofs.lemmas.Bool.{ltb-true, ltb-false, leb-true, leb-false, eqb-true, eqb-false, eq-eqb}
-use Rattle.tv_value.specs.Nested.{Tree, leaf, list, Trees, no_trees, tree}
+use Rattle.std.proofs.lemmas.Bool.{ltb-false, leb-true, leb-false, eqb-true, eqb-false, eq-eqb}
+use Rattle.tv_value.specs.Nested.{leaf, list, Trees, no_trees, tree}
 use Rattle.tv_value.specs.Values.{Scalar, Value, scalar_depth, HasDepth, AllHaveDepth, has_depth, all_have_depth}
-use Rattle.tv_value.specs.DepthSets.{DepthSet, exactly, at_least, no_depth, IsOneOf, common, one_deeper, depths, common_depths, least_of, least_depth, depth_limit}
+use Rattle.tv_value.specs.DepthSets.{DepthSet, exactly, at_least, no_depth, IsOneOf, common, one_deeper, depths, common_depths, least_of, depth_limit}
 use Rattle.tv_value.specs.Laws.{TestDecidesDepth, DepthsAreThose, LeastDepthIsLeast, RaggedHasNoDepth}
 
 both-true : (a b : Bool) → (a && b) ≡ true → (a ≡ true) × (b ≡ true)

@@ -1,8 +1,8 @@
 -- Worked examples: what reading, depths and printing come to on small values.
-use Rattle.std.specs.Prelude.{◌≡◌, ℕ, List, [], ◌∷◌, map, codes, true, false, negsuc, Some, None, Ok, Err}
+use Rattle.std.specs.Prelude.{◌≡◌, List, [], ◌∷◌, map, codes, true, false, negsuc, Some, None, Ok, Err}
 use Rattle.serde_json.specs.Data.{Data, unsigned, negative, null, boolean, number, string, array, object, Items, no_items, item, no_members}
 use Rattle.tv_value.specs.Nested.{trees_of, at}
-use Rattle.tv_value.specs.Values.{Text, ErrorDoc, Value, text_value, list_value, fault_value, has_depth, holds_fault}
+use Rattle.tv_value.specs.Values.{Text, ErrorDoc, Value, text_value, list_value, fault_value, has_depth}
 use Rattle.tv_value.specs.DepthSets.{least_depth}
 use Rattle.tv_value.specs.Readings.{read, not_text, ragged}
 use Rattle.tv_value.specs.Printed.{job_text, value_text}
