@@ -1,0 +1,4 @@
+pub mod Chains
+pub mod Tables
+pub mod Regions
+pub mod Steps

@@ -1,0 +1,4 @@
+pub mod Pool
+pub mod Lends
+pub mod Layout
+pub mod Placed
