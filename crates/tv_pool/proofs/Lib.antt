@@ -2,3 +2,4 @@ pub mod Chains
 pub mod Tables
 pub mod Regions
 pub mod Steps
+pub mod PoolLemmas

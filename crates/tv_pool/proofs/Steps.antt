@@ -17,12 +17,9 @@ use Rattle.tv_pool.specs.declared.layout.Chain.{Chain}
 use Rattle.tv_pool.specs.declared.handles.Node.{Node}
 use Rattle.tv_pool.specs.declared.handles.Region.{Region}
 use Rattle.tv_pool.proofs.Chains.{KeepsBelow, KeepsOthers, KeepsBelow-from_others, chain_items-suc, IsChain-kept, IsChain-last, chain_items-kept, length-chain_items, IsChain-at, rewritten, rewritten-here, KeepsOthers-rewritten, IsChain-rewritten, chain_items-rewritten, within}
+use Rattle.tv_pool.proofs.PoolLemmas.{some_from}
 use Rattle.tv_pool.proofs.Tables.{IsApart, Agrees}
 use Rattle.tv_pool.proofs.Regions.{map_range-same, map_range-changed, contents_at-entry, chain_from_contents, contents_at-agrees, contents_at-view}
-
-pub some_from : {X : Type 0} (o : Option X) (P : X → Type 0) → IsSomeAnd o P → (x : X) × (o ≡ Some x) × P x
-some_from None P holds = absurd holds
-some_from (Some x) P holds = (x, refl, holds)
 
 -- a change of one entry leaves each number alone that the entry neither had nor has
 Agrees-updated : (old new : Slab Chain) (entry : ℕ) (slot : Option Chain) (number : ℕ) → Updates old new entry slot → ((c : Chain) → get old entry ≡ Some c → c.number ≢ number) → ((c : Chain) → slot ≡ Some c → c.number ≢ number) → Agrees old.slots new.slots number

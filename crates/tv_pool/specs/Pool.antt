@@ -1,5 +1,5 @@
 -- What a contract sees of a pool and of its handles.
-use Rattle.std.specs.Prelude.{◌≡◌, ℕ, ◌≤◌, List, length, [], ◌∷◌, ◌++◌, map, Option, Some, None, IsSomeAnd, slice_get, slice_index_or, slice_set}
+use Rattle.std.specs.Prelude.{◌≡◌, ◌≢◌, ℕ, List, length, [], ◌∷◌, ◌++◌, map, Option, Some, None, IsSomeAnd, slice_get, slice_index_or, slice_set}
 use Rattle.std.specs.List.{sum_by}
 use Rattle.tv_pool.specs.declared.handles.Region.{Region}
 use Rattle.tv_pool.specs.declared.handles.Node.{Node}
@@ -64,10 +64,10 @@ module _ {T : Type 0} where
   abbrev pub live_count : List (Option (Contents T)) → ℕ
   live_count regions = sum_by (λ c. length (stored_in c)) regions
 
-  -- the region begun as `region` is the newest, empty, and all else stays
-  abbrev pub Begins : Pool T → Pool T → Region → Type 0
-  Begins old new region = (number_of region ≡ length old.regions)
-      × (new.regions ≡ old.regions ++ Some (record { entry = region.entry; stored = [] }) ∷ [])
+  -- the region has the next number and is empty, and all else stays
+  pub record Begins (old new : Pool T) (region : Region) : Type 0 where
+    pub number : number_of region ≡ length old.regions
+    pub regions : new.regions ≡ old.regions ++ Some (record { entry = region.entry; stored = [] }) ∷ []
 
   -- the pool's regions with this in place of what stands under the number
   abbrev pub regions_with : Pool T → ℕ → Option (Contents T) → List (Option (Contents T))
@@ -84,12 +84,25 @@ module _ {T : Type 0} where
     pub position : position_of node ≡ length (items_of old (number_of region))
     pub regions : new.regions ≡ regions_with old (number_of region) (Some (contents_with old region (record { item = item; slot = node.slot })))
 
-  -- the pool with this as the item at the node's position
+  -- what stands under the node's number, with this as the item at its position
   abbrev pub written : Option (Contents T) → Node → T → Option (Contents T)
   written None node item = None
   written (Some c) node item =
       Some (record c { stored = slice_set c.stored node.position (record { item = item; slot = node.slot }) })
 
+  -- the pool with this as the item at the node's position
   abbrev pub with_item : Pool T → Node → T → Pool T
   with_item pool node item =
       record pool { regions = regions_with pool (region_of node) (written (region_at pool (region_of node)) node item) }
+
+  -- regions and nodes that were the pool's still are, and the nodes have the items that they had
+  pub record Keeps (old new : Pool T) : Type 0 where
+    pub live : (region : Region) → IsLive old region → IsLive new region
+    pub held : (node : Node) → Holds old node → Holds new node
+    pub items : (node : Node) → Holds old node → item_at new node ≡ item_at old node
+
+  -- the same for all regions but that of the number
+  pub record KeepsOthers (old new : Pool T) (number : ℕ) : Type 0 where
+    pub live : (region : Region) → number_of region ≢ number → IsLive old region → IsLive new region
+    pub held : (node : Node) → region_of node ≢ number → Holds old node → Holds new node
+    pub items : (node : Node) → region_of node ≢ number → Holds old node → item_at new node ≡ item_at old node

@@ -3,7 +3,7 @@
 
 ghost use Rattle.std.specs.Prelude.{◌≡◌, ℕ, ◌+◌, ◌<◌, ◌≤◌, Some, None, [], length, OnOk, OnErr, IfOk, IfErr, IsOk};
 ghost use Rattle.std.specs.Borrow.{sem};
-ghost use Rattle.tv_pool.specs.Pool.{IsLive, Holds, item_at, live_count, Begins, Puts, regions_with, number_of, with_item, Contents, stored_in, region_at};
+ghost use Rattle.tv_pool.specs.Pool.{IsLive, Holds, item_at, live_count, Begins, Puts, Keeps, KeepsOthers, regions_with, number_of, stored_in, region_at};
 
 mod faults;
 mod handles;
@@ -58,6 +58,7 @@ impl<T> Pool<T> {
         ensures ok { IfOk result (Begins self.old self.new) }
         ensures numbers { OnOk result (length self.old.regions < u64.MAX) }
         ensures refused { OnErr result (self.new.regions ≡ self.old.regions) }
+        ensures kept { Keeps self.old self.new }
         ensures spare { self.old.spare ≤ self.new.spare }
     {
         if self.begun == u64::MAX {
@@ -83,6 +84,7 @@ impl<T> Pool<T> {
         ensures ok { OnOk result (count ≤ self.new.spare) }
         ensures room { count ≤ self.old.spare → IsOk result }
         ensures regions { self.new.regions ≡ self.old.regions }
+        ensures kept { Keeps self.old self.new }
         ensures spare { self.old.spare ≤ self.new.spare }
     {
         match self.nodes.reserve(count as usize) {
@@ -95,6 +97,9 @@ impl<T> Pool<T> {
     pub fn put(&mut self, region: &Region, item: T) -> Result<Node, PutRefused<T>>
         requires { IsLive self.old region.now }
         ensures ok { IfOk result (Puts self.old self.new region.now item) }
+        ensures holds { IfOk result (Holds self.new) }
+        ensures item { IfOk result (λ node. item_at self.new node ≡ Some item) }
+        ensures kept { Keeps self.old self.new }
         ensures refused { IfErr result (λ refused. refused.item ≡ item) }
         ensures unchanged { OnErr result (self.new.regions ≡ self.old.regions) }
         ensures room { 0 < self.old.spare → IsOk result }
@@ -158,6 +163,7 @@ impl<T> Pool<T> {
         T: Drop,
         requires { IsLive self.old region }
         ensures regions { self.new.regions ≡ regions_with self.old (number_of region) None }
+        ensures kept { KeepsOthers self.old self.new (number_of region) }
         ensures spare { self.new.spare ≡ self.old.spare + length (stored_in (region_at self.old (number_of region))) }
     {
         let chain = self.regions.remove(region.entry);

@@ -2,6 +2,7 @@ use Rattle.std.proofs.Common.{◌≡◌, Some, refl, sym, ap, ◌∙◌, arith, 
 use Rattle.std.proofs.lemmas.Option.{same_Some}
 use Rattle.slab.proofs.SlabLemmas.{Updates-with_value}
 use Rattle.tv_pool.specs.declared.layout.Chain.{Chain}
+use Rattle.tv_pool.proofs.PoolLemmas.{Holds-put, item_at-put, Keeps-put}
 use Rattle.tv_pool.proofs.Steps.{live_chain, count-le, IsLaidOut-put, put-view}
 use Rattle.tv_pool.proofs.Pool.put.Goals as goal
 
@@ -30,3 +31,12 @@ returns-in-Ok-clause-ok g c =
     rw (← c.self.view_is) (put-view c.self.inside.nodes c.self.inside.regions c.self.inside.begun c.self.invariant c.insert.new.self _ c.args.region.now.entry c.in-Ok.slot c.index.result.now _ c.args.item c.index.ensures
     (ap (λ (x : Chain). x.number) is) refl (add-one c.index.result.now.count) c.in-Ok.ensures.was_vacant c.in-Ok.ensures.updates c.in-Ok.ensures.len (omega arith)
     (Updates-with_value c.self.inside.regions c.args.region.now.entry _ (rw c.index.ensures refl)) c.args.region.now number refl)
+
+pub returns-in-Ok-clause-holds : goal.returns-in-Ok-clause-holds
+returns-in-Ok-clause-holds g c = Holds-put _ _ _ _ _ c.requires (returns-in-Ok-clause-ok g c)
+
+pub returns-in-Ok-clause-item : goal.returns-in-Ok-clause-item
+returns-in-Ok-clause-item g c = item_at-put _ _ _ _ _ c.requires (returns-in-Ok-clause-ok g c)
+
+pub returns-in-Ok-clause-kept : goal.returns-in-Ok-clause-kept
+returns-in-Ok-clause-kept g c = Keeps-put _ _ _ _ _ c.requires (returns-in-Ok-clause-ok g c)
