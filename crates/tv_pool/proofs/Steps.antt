@@ -1,9 +1,10 @@
 -- What each call of a pool makes of its fields: they stay laid out, and show the regions that the
 -- contract says.
-use Rattle.std.proofs.Common.{◌≡◌, ◌≢◌, ◌⊎◌, ℕ, zero, suc, ◌+◌, ◌-◌, ◌<◌, ◌≤◌, List, [], ◌∷◌, ◌++◌, length, get_or, set, map, cond, Option, Some, None, is_some, refl, sym, ap, ◌∙◌, subst, arith, inl, inr, zero-add, count_by}
+use Rattle.std.proofs.Common.{◌≡◌, ◌≢◌, ◌⊎◌, ℕ, zero, suc, ◌+◌, ◌-◌, ◌<◌, ◌≤◌, eqb, List, [], ◌∷◌, ◌++◌, length, get_or, set, map, cond, Option, Some, None, is_some, refl, sym, ap, ◌∙◌, subst, arith, inl, inr, zero-add, count_by}
 use Rattle.std.specs.List.{range_with_len, slice_get, sum_by}
 use Rattle.std.specs.Option.{IsSomeAnd}
-use Rattle.std.proofs.lemmas.Bool.{cases_eq}
+use Rattle.std.proofs.lemmas.Bool.{cases_eq, eq-eqb}
+use Rattle.std.proofs.lemmas.Bool.Decides.{eqb_tells}
 use Rattle.std.proofs.lemmas.List.{length-set, length-map, length_push}
 use Rattle.std.proofs.lemmas.List.FromFn.{length-map-range_with_len, get_or-map-range_with_len, map-range_with_len_more}
 use Rattle.std.proofs.lemmas.List.Sums.{sum_by-set, sum_by_push}
@@ -11,12 +12,12 @@ use Rattle.std.proofs.lemmas.Option.{same_Some, slice_get-map}
 use Rattle.slab.specs.Slab.{Slab, get, slab_len, Updates, with_value}
 use Rattle.slab.proofs.SlabLemmas.{Updates-with_value}
 use Rattle.tv_pool.specs.Pool.{Pool, Contents, Stored, stored_in, live_count, with_item, written, Puts}
-use Rattle.tv_pool.specs.Layout.{IsChain, chain_items, contents_at, regions_of, IsLaidOut}
+use Rattle.tv_pool.specs.Layout.{Places, IsChain, chain_items, contents_at, regions_of, IsLaidOut}
 use Rattle.tv_pool.specs.declared.layout.Placed.{Placed}
 use Rattle.tv_pool.specs.declared.layout.Chain.{Chain}
 use Rattle.tv_pool.specs.declared.handles.Node.{Node}
 use Rattle.tv_pool.specs.declared.handles.Region.{Region}
-use Rattle.tv_pool.proofs.Chains.{KeepsBelow, KeepsOthers, KeepsBelow-from_others, chain_items-suc, IsChain-kept, IsChain-last, chain_items-kept, length-chain_items, IsChain-at, rewritten, rewritten-here, KeepsOthers-rewritten, IsChain-rewritten, chain_items-rewritten, within}
+use Rattle.tv_pool.proofs.Chains.{KeepsBelow, chain_items-suc, IsChain-kept, IsChain-last, chain_items-kept, length-chain_items, IsChain-at, rewritten, rewritten-here, KeepsBelow-rewritten, IsChain-rewritten, chain_items-rewritten, within}
 use Rattle.tv_pool.proofs.PoolLemmas.{some_from}
 use Rattle.tv_pool.proofs.Tables.{IsApart, Agrees}
 use Rattle.tv_pool.proofs.Regions.{map_range-same, map_range-changed, contents_at-entry, chain_from_contents, contents_at-agrees, contents_at-view}
@@ -58,9 +59,29 @@ pub record LiveChain (table : Slab Chain) (begun number entry : ℕ) : Type 0 wh
   pub inside : number < begun
 
 module _ {T : Type 0} where
+  -- the regions of the table, none of which has the number, have chains, with the items that they had
+  abbrev pub LeavesChains : List (Option (Placed T)) → List (Option (Placed T)) → Places → Slab Chain → ℕ → Type 0
+  LeavesChains old new places table number = (entry : ℕ) (c : Chain) → get table entry ≡ Some c → (c.number ≢ number) × IsChain new places c.number c.last c.count × (chain_items new c.last c.count ≡ chain_items old c.last c.count)
+
   -- what the fields of a pool show
   abbrev pub shown : Slab (Placed T) → Slab Chain → ℕ → Pool T
   shown nodes table begun = record { regions = regions_of nodes.slots table.slots begun; spare = nodes.capacity - slab_len nodes }
+
+  IsChain-moved : (slots : List (Option (Placed T))) (places : Places) (a b c d e f : ℕ) → a ≡ b → c ≡ d → e ≡ f → IsChain slots places b d f → IsChain slots places a c e
+  IsChain-moved slots places a b c d e f one two three chain = rw (one, two, three) chain
+
+  -- a pool that has nothing
+  pub IsLaidOut-new : (nodes : Slab (Placed T)) (table : Slab Chain) → nodes.slots ≡ [] → table.slots ≡ [] → IsLaidOut nodes table 0
+  IsLaidOut-new nodes table no_nodes no_regions =
+      let none : (entry : ℕ) (c : Chain) → get table entry ≡ Some c → ⊥ = λ entry c found. let e : None ≡ Some c = sym (ap (λ xs. get_or xs entry None) no_regions) ∙ found in cc in
+      record {
+        numbered = λ entry c found. absurd (none entry c found);
+        apart = λ one other c d found also same. absurd (none one c found);
+        places = record { owner = λ slot. slot; position = λ slot. slot };
+        chained = λ entry c found. absurd (none entry c found);
+        counted = ap (count_by is_some) no_nodes;
+        room = let empty = ap (count_by is_some) no_nodes in omega (arith, empty);
+      }
 
   pub live_chain : (nodes : Slab (Placed T)) (table : Slab Chain) (begun number entry : ℕ) → IsSomeAnd (get_or (regions_of nodes.slots table.slots begun) number None) (λ r. r.entry ≡ entry) → LiveChain table begun number entry
   live_chain nodes table begun number entry live =
@@ -86,7 +107,7 @@ module _ {T : Type 0} where
         ∙ contents_at-entry nodes.slots table.slots entry chain laid.apart listed
 
     pub length-contents : (entry : ℕ) (chain : Chain) → get table entry ≡ Some chain → length (contents_in entry chain).stored ≡ chain.count
-    length-contents entry chain listed = length-chain_items nodes.slots chain.number chain.last chain.count (laid.chained entry chain listed)
+    length-contents entry chain listed = length-chain_items nodes.slots laid.places chain.number chain.last chain.count (laid.chained entry chain listed)
 
     -- a region has at most the items that the pool has
     pub count-le : (entry : ℕ) (chain : Chain) → get table entry ≡ Some chain → chain.count ≤ slab_len nodes
@@ -143,8 +164,9 @@ module _ {T : Type 0} where
               | inr there ↦ omega (arith, laid.numbered at c there.1)
             ];
             apart = begin-apart;
+            places = laid.places;
             chained = λ at c found. elim (entry_cases at c found) [
-              | inl here ↦ subst (λ (x : Chain). IsChain nodes.slots x.number x.last x.count) (sym here.1) (subst (IsChain nodes.slots fresh.number fresh.last) (sym empty) tt)
+              | inl here ↦ subst (λ (x : Chain). IsChain nodes.slots laid.places x.number x.last x.count) (sym here.1) (subst (IsChain nodes.slots laid.places fresh.number fresh.last) (sym empty) tt)
               | inr there ↦ laid.chained at c there.1
             ];
             counted =
@@ -154,7 +176,7 @@ module _ {T : Type 0} where
           }
 
     -- ---- put
-    module _ (nodes' : Slab (Placed T)) (table' : Slab Chain) (entry slot : ℕ) (chain chain' : Chain) (item : T) (listed : get table entry ≡ Some chain) (number : chain'.number ≡ chain.number) (last : chain'.last ≡ slot) (count : chain'.count ≡ suc chain.count) (vacant : get nodes slot ≡ None) (stores : Updates nodes nodes' slot (Some (record { region = chain.number; position = chain.count; previous = chain.last; item = item }))) (longer : slab_len nodes' ≡ slab_len nodes + 1) (room : slab_len nodes' ≤ nodes'.capacity) (updates : Updates table table' entry (Some chain')) where
+    module _ (nodes' : Slab (Placed T)) (table' : Slab Chain) (entry slot : ℕ) (chain chain' : Chain) (item : T) (listed : get table entry ≡ Some chain) (number : chain'.number ≡ chain.number) (last : chain'.last ≡ slot) (count : chain'.count ≡ suc chain.count) (vacant : get nodes slot ≡ None) (stores : Updates nodes nodes' slot (Some (record { previous = chain.last; item = item }))) (longer : slab_len nodes' ≡ slab_len nodes + 1) (room : slab_len nodes' ≤ nodes'.capacity) (updates : Updates table table' entry (Some chain')) where
       put_cases : (at : ℕ) (c : Chain) → get table' at ≡ Some c → ((at ≡ entry) × (c ≡ chain')) ⊎ ((at ≢ entry) × (get table at ≡ Some c))
       put_cases at c found =
           elim (cases_eq at entry) [
@@ -169,16 +191,42 @@ module _ {T : Type 0} where
             | inr there ↦ (c, there.1, refl)
           ]
 
-      put-keeps : (other bound : ℕ) → KeepsBelow nodes.slots nodes'.slots other bound
+      -- the new slot has the region's next place
+      put-places : Places
+      put-places =
+          record {
+            owner = λ s. cond (eqb s slot) chain.number (laid.places.owner s);
+            position = λ s. cond (eqb s slot) chain.count (laid.places.position s);
+          }
+
+      new_owner : put-places.owner slot ≡ chain.number
+      unfolding put-places
+      new_owner = ap (λ b. cond b chain.number (laid.places.owner slot)) (eq-eqb slot slot refl)
+
+      new_position : put-places.position slot ≡ chain.count
+      unfolding put-places
+      new_position = ap (λ b. cond b chain.count (laid.places.position slot)) (eq-eqb slot slot refl)
+
+      old_place : (at : ℕ) → at ≢ slot → (put-places.owner at ≡ laid.places.owner at) × (put-places.position at ≡ laid.places.position at)
+      unfolding put-places
+      old_place at differs =
+          elim (eqb_tells at slot) [
+            | inl same ↦ absurd (differs same.1)
+            | inr other ↦ (ap (λ b. cond b chain.number (laid.places.owner at)) other.0, ap (λ b. cond b chain.count (laid.places.position at)) other.0)
+          ]
+
+      put-keeps : (other bound : ℕ) → KeepsBelow nodes.slots nodes'.slots laid.places put-places other bound
       put-keeps other bound at placed found own below =
-          stores.others at (λ here. let e : None ≡ Some placed = sym vacant ∙ ap (get nodes) (sym here) ∙ found in absurd (cc)) ∙ found
+          let differs : at ≢ slot = λ here. let e : None ≡ Some placed = sym vacant ∙ ap (get nodes) (sym here) ∙ found in absurd (cc) in
+          let kept = old_place at differs in
+          (stores.others at differs ∙ found, kept.0 ∙ own, kept.1)
 
       put-items : chain_items nodes'.slots chain'.last chain'.count ≡ chain_items nodes.slots chain.last chain.count ++ record { item = item; slot = slot } ∷ []
       put-items =
           ap (λ l. chain_items nodes'.slots l chain'.count) last
           ∙ ap (λ n. chain_items nodes'.slots slot n) count
           ∙ chain_items-suc nodes'.slots slot chain.count _ stores.changed
-          ∙ ap (λ xs. xs ++ record { item = item; slot = slot } ∷ []) (chain_items-kept nodes.slots nodes'.slots chain.number chain.last chain.count (put-keeps chain.number chain.count) (laid.chained entry chain listed))
+          ∙ ap (λ xs. xs ++ record { item = item; slot = slot } ∷ []) (chain_items-kept nodes.slots nodes'.slots laid.places put-places chain.number chain.last chain.count (put-keeps chain.number chain.count) (laid.chained entry chain listed))
 
       pub put-regions : regions_of nodes'.slots table'.slots begun ≡ set regions chain.number (Some (record { entry = entry; stored = chain_items nodes.slots chain.last chain.count ++ record { item = item; slot = slot } ∷ [] }))
       put-regions =
@@ -191,18 +239,19 @@ module _ {T : Type 0} where
             (Agrees-updated table table' entry (Some chain') k updates
               (λ c found same. differs (sym same ∙ ap (λ (x : Chain). x.number) (same_Some c chain (sym found ∙ listed))))
               (λ c is same. differs (sym same ∙ ap (λ (x : Chain). x.number) (sym (same_Some chain' c is)) ∙ number)))
-            (λ at c same found. chain_items-kept nodes.slots nodes'.slots c.number c.last c.count (put-keeps c.number c.count) (laid.chained at c found)))
+            (λ at c same found. chain_items-kept nodes.slots nodes'.slots laid.places put-places c.number c.last c.count (put-keeps c.number c.count) (laid.chained at c found)))
 
       pub IsLaidOut-put : IsLaidOut nodes' table' begun
       IsLaidOut-put =
           record {
             numbered = numbered-kept table table' begun put-numbers laid.numbered;
             apart = IsApart-kept table table' put-numbers laid.apart;
+            places = put-places;
             chained = λ at c found. elim (put_cases at c found) [
               | inl here ↦
-                  let whole : IsChain nodes'.slots chain.number slot (suc chain.count) = (_, stores.changed, refl, refl, IsChain-kept nodes.slots nodes'.slots chain.number chain.last chain.count (put-keeps chain.number chain.count) (laid.chained entry chain listed)) in
-                  subst (λ (x : Chain). IsChain nodes'.slots x.number x.last x.count) (sym here.1) (rw (number, last, count) whole)
-              | inr there ↦ IsChain-kept nodes.slots nodes'.slots c.number c.last c.count (put-keeps c.number c.count) (laid.chained at c there.1)
+                  let whole : IsChain nodes'.slots put-places chain.number slot (suc chain.count) = (_, stores.changed, new_owner, new_position, IsChain-kept nodes.slots nodes'.slots laid.places put-places chain.number chain.last chain.count (put-keeps chain.number chain.count) (laid.chained entry chain listed)) in
+                  subst (λ (x : Chain). IsChain nodes'.slots put-places x.number x.last x.count) (sym here.1) (IsChain-moved nodes'.slots put-places chain'.number chain.number chain'.last slot chain'.count (suc chain.count) number last count whole)
+              | inr there ↦ IsChain-kept nodes.slots nodes'.slots laid.places put-places c.number c.last c.count (put-keeps c.number c.count) (laid.chained at c there.1)
             ];
             counted =
                 let new : Contents T = record { entry = entry; stored = chain_items nodes.slots chain.last chain.count ++ record { item = item; slot = slot } ∷ [] } in
@@ -231,20 +280,17 @@ module _ {T : Type 0} where
           }
 
     -- ---- release
-    module _ (nodes' : Slab (Placed T)) (table' : Slab Chain) (entry : ℕ) (chain : Chain) (listed : get table entry ≡ Some chain) (keeps : KeepsOthers nodes.slots nodes'.slots chain.number) (shorter : slab_len nodes' + chain.count ≡ slab_len nodes) (same_capacity : nodes'.capacity ≡ nodes.capacity) (updates : Updates table table' entry None) where
-      release_cases : (at : ℕ) (c : Chain) → get table' at ≡ Some c → (at ≢ entry) × (get table at ≡ Some c)
-      release_cases at c found =
-          elim (cases_eq at entry) [
-            | inl here ↦ absurd (let e : None ≡ Some c = sym updates.changed ∙ ap (get table') (sym here) ∙ found in cc)
-            | inr there ↦ (there, sym (updates.others at there) ∙ found)
-          ]
+    -- an entry of the table after the release was another of the table before
+    pub release_cases : (table' : Slab Chain) (entry : ℕ) → Updates table table' entry None → (at : ℕ) (c : Chain) → get table' at ≡ Some c → (at ≢ entry) × (get table at ≡ Some c)
+    release_cases table' entry updates at c found =
+        elim (cases_eq at entry) [
+          | inl here ↦ absurd (let e : None ≡ Some c = sym updates.changed ∙ ap (get table') (sym here) ∙ found in cc)
+          | inr there ↦ (there, sym (updates.others at there) ∙ found)
+        ]
 
+    module _ (nodes' : Slab (Placed T)) (table' : Slab Chain) (entry : ℕ) (chain : Chain) (listed : get table entry ≡ Some chain) (places : Places) (others : LeavesChains nodes.slots nodes'.slots places table' chain.number) (shorter : slab_len nodes' + chain.count ≡ slab_len nodes) (same_capacity : nodes'.capacity ≡ nodes.capacity) (updates : Updates table table' entry None) where
       release-numbers : KeepsNumbers table table'
-      release-numbers at c found = (c, (release_cases at c found).1, refl)
-
-      release-keeps : (at : ℕ) (c : Chain) → get table at ≡ Some c → at ≢ entry → KeepsBelow nodes.slots nodes'.slots c.number c.count
-      release-keeps at c found there =
-          KeepsBelow-from_others nodes.slots nodes'.slots chain.number c.number c.count keeps (λ same. there (laid.apart at entry c chain found listed same))
+      release-numbers at c found = (c, (release_cases table' entry updates at c found).1, refl)
 
       gone : contents_at nodes'.slots table'.slots chain.number ≡ None
       gone = nothing (contents_at nodes'.slots table'.slots chain.number) refl
@@ -253,7 +299,7 @@ module _ {T : Type 0} where
           nothing None is = refl
           nothing (Some r) is =
               let there = chain_from_contents nodes'.slots table'.slots chain.number r is in
-              let was = release_cases r.entry there.0 there.1 in
+              let was = release_cases table' entry updates r.entry there.0 there.1 in
               absurd (was.0 (laid.apart r.entry entry there.0 chain was.1 listed there.2))
 
       pub release-regions : regions_of nodes'.slots table'.slots begun ≡ set regions chain.number None
@@ -265,16 +311,17 @@ module _ {T : Type 0} where
             (Agrees-updated table table' entry None k updates
               (λ c found same. differs (sym same ∙ ap (λ (x : Chain). x.number) (same_Some c chain (sym found ∙ listed))))
               (λ c is same. absurd (cc)))
-            (λ at c same found. chain_items-kept nodes.slots nodes'.slots c.number c.last c.count (release-keeps at c found (λ here. differs (sym same ∙ ap (λ (x : Chain). x.number) (same_Some c chain (sym found ∙ ap (get table) here ∙ listed))))) (laid.chained at c found)))
+            (λ at c same found.
+              let there : at ≢ entry = λ here. differs (sym same ∙ ap (λ (x : Chain). x.number) (same_Some c chain (sym found ∙ ap (get table) here ∙ listed))) in
+              (others at c (updates.others at there ∙ found)).2))
 
       pub IsLaidOut-release : IsLaidOut nodes' table' begun
       IsLaidOut-release =
           record {
             numbered = numbered-kept table table' begun release-numbers laid.numbered;
             apart = IsApart-kept table table' release-numbers laid.apart;
-            chained = λ at c found.
-              let was = release_cases at c found in
-              IsChain-kept nodes.slots nodes'.slots c.number c.last c.count (release-keeps at c was.1 was.0) (laid.chained at c was.1);
+            places = places;
+            chained = λ at c found. (others at c found).1;
             counted = let all = live_count-set entry chain None listed in omega (arith, all, shorter, ap live_count release-regions);
             room = omega (arith, laid.room, shorter, same_capacity);
           }
@@ -297,7 +344,7 @@ module _ {T : Type 0} where
       pub at : stored.slot ≡ slot
       pub placed : Placed T
       pub found : get nodes slot ≡ Some placed
-      pub own : placed.region ≡ chain.number
+      pub own : laid.places.owner slot ≡ chain.number
       pub item : placed.item ≡ stored.item
 
     pub held : (region position slot : ℕ) → IsSomeAnd (slice_get (stored_in (get_or regions region None)) position) (λ s. s.slot ≡ slot) → Held region position slot
@@ -309,7 +356,7 @@ module _ {T : Type 0} where
             let view = contents_at-view nodes.slots table.slots begun region r shown in
             let there = chain_from_contents nodes.slots table.slots region r view.1 in
             let read = ap (λ xs. slice_get xs position) (sym there.3) ∙ stored.1 in
-            let inner = IsChain-at nodes.slots there.0.number there.0.last there.0.count position stored.0 (laid.chained r.entry there.0 there.1) read in
+            let inner = IsChain-at nodes.slots laid.places there.0.number there.0.last there.0.count position stored.0 (laid.chained r.entry there.0 there.1) read in
             record {
               entry = r.entry;
               chain = there.0;
@@ -320,7 +367,7 @@ module _ {T : Type 0} where
               at = stored.2;
               placed = inner.0;
               found = ap (get nodes) (sym stored.2) ∙ inner.1;
-              own = inner.2;
+              own = ap laid.places.owner (sym stored.2) ∙ inner.2;
               item = inner.4;
             }
 
@@ -349,17 +396,18 @@ module _ {T : Type 0} where
           map_range-changed (contents_at nodes.slots table.slots) g begun region _ (subst (λ n. n < begun) h.same (laid.numbered h.entry h.chain h.listed))
           (ap g (sym h.same)
           ∙ contents_at-entry nodes_with.slots table.slots h.entry h.chain laid.apart h.listed
-          ∙ ap (λ xs. Some (record { entry = h.entry; stored = xs })) (chain_items-rewritten nodes.slots slot h.placed item h.found h.chain.number h.chain.last h.chain.count position h.stored (laid.chained h.entry h.chain h.listed) h.read h.at))
+          ∙ ap (λ xs. Some (record { entry = h.entry; stored = xs })) (chain_items-rewritten nodes.slots laid.places slot h.placed item h.found h.chain.number h.chain.last h.chain.count position h.stored (laid.chained h.entry h.chain h.listed) h.read h.at))
           (λ k below differs.
             contents_at-agrees nodes.slots nodes_with.slots table.slots table.slots k laid.apart laid.apart (record { forth = λ at c same found. found; back = λ at c same found. found })
-            (λ at c same found. chain_items-kept nodes.slots nodes_with.slots c.number c.last c.count (KeepsBelow-from_others nodes.slots nodes_with.slots h.placed.region c.number c.count (KeepsOthers-rewritten nodes.slots slot h.placed item h.found) (λ e. differs (sym same ∙ e ∙ h.own ∙ h.same))) (laid.chained at c found)))
+            (λ at c same found. chain_items-kept nodes.slots nodes_with.slots laid.places laid.places c.number c.last c.count (KeepsBelow-rewritten nodes.slots laid.places slot h.placed item h.found c.number c.count (λ e. differs (sym same ∙ sym e ∙ h.own ∙ h.same))) (laid.chained at c found)))
 
       pub IsLaidOut-write : IsLaidOut nodes_with table begun
       IsLaidOut-write =
           record {
             numbered = laid.numbered;
             apart = laid.apart;
-            chained = λ at c found. IsChain-rewritten nodes.slots slot h.placed item h.found c.number c.last c.count (laid.chained at c found);
+            places = laid.places;
+            chained = λ at c found. IsChain-rewritten nodes.slots laid.places slot h.placed item h.found c.number c.last c.count (laid.chained at c found);
             counted =
                 let xs = chain_items nodes.slots h.chain.last h.chain.count in
                 let all = live_count-set h.entry h.chain (Some (record { entry = h.entry; stored = set xs position (record { item = item; slot = slot }) })) h.listed in
@@ -378,28 +426,25 @@ module _ {T : Type 0} where
         ∙ ap (λ rs. let p : Pool T = record { regions = rs; spare = spare } in p) (write-regions node.region node.position node.slot h item)
         ∙ ap (λ c. let p : Pool T = record { regions = set regions node.region (written c node item); spare = spare } in p) (sym was)
 
--- taking the last item of a chain leaves the rest of it, and all other regions
-module _ {T : Type 0} (first nodes nodes' : Slab (Placed T)) (number slot left : ℕ) (placed : Placed T) (some : 0 < left) (chain : IsChain nodes.slots number slot left) (others : KeepsOthers first.slots nodes.slots number) (taken : get nodes slot ≡ Some placed) (updates : Updates nodes nodes' slot None) where
-  last_is : (suc placed.position ≡ left) × (placed.region ≡ number) × IsChain nodes.slots number placed.previous placed.position
-  last_is =
-      let last = IsChain-last nodes.slots number slot left some chain in
-      let is : last.0 ≡ placed = same_Some last.0 placed (sym last.1 ∙ taken) in
-      (
-        ap (λ (p : Placed T). suc p.position) (sym is) ∙ last.3,
-        ap (λ (p : Placed T). p.region) (sym is) ∙ last.2,
-        subst (λ (p : Placed T). IsChain nodes.slots number p.previous p.position) is last.4,
-      )
+-- taking the last item of a chain leaves the rest of it, and all other chains
+module _ {T : Type 0} (first nodes nodes' : Slab (Placed T)) (places : Places) (table : Slab Chain) (number slot left : ℕ) (placed : Placed T) (some : 0 < left) (chain : IsChain nodes.slots places number slot left) (others : LeavesChains first.slots nodes.slots places table number) (taken : get nodes slot ≡ Some placed) (updates : Updates nodes nodes' slot None) where
+  pub cut-position : suc (places.position slot) ≡ left
+  cut-position = (IsChain-last nodes.slots places number slot left some chain).3
 
-  pub cut-position : suc placed.position ≡ left
-  cut-position = last_is.0
-
-  pub cut-chain : IsChain nodes'.slots number placed.previous placed.position
+  pub cut-chain : IsChain nodes'.slots places number placed.previous (places.position slot)
   cut-chain =
-      IsChain-kept nodes.slots nodes'.slots number placed.previous placed.position
-      (λ at p found own below. updates.others at (λ here. let is : p ≡ placed = same_Some p placed (sym found ∙ ap (get nodes) here ∙ taken) in omega (arith, below, ap (λ (q : Placed T). q.position) is)) ∙ found)
-      last_is.2
+      let last = IsChain-last nodes.slots places number slot left some chain in
+      let is : last.0 ≡ placed = same_Some last.0 placed (sym last.1 ∙ taken) in
+      IsChain-kept nodes.slots nodes'.slots places places number placed.previous (places.position slot)
+      (λ at p found own below. (updates.others at (λ here. omega (arith, below, ap places.position here)) ∙ found, own, refl))
+      (subst (λ (p : Placed T). IsChain nodes.slots places number p.previous (places.position slot)) is last.4)
 
-  pub cut-others : KeepsOthers first.slots nodes'.slots number
-  cut-others at p found differs =
-      let now = others at p found differs in
-      updates.others at (λ here. let is : p ≡ placed = same_Some p placed (sym now ∙ ap (get nodes) here ∙ taken) in differs (ap (λ (q : Placed T). q.region) is ∙ last_is.1)) ∙ now
+  pub cut-others : LeavesChains first.slots nodes'.slots places table number
+  cut-others at c found =
+      let was = others at c found in
+      let last = IsChain-last nodes.slots places number slot left some chain in
+      let keeps : KeepsBelow nodes.slots nodes'.slots places places c.number c.count = λ k p seen own below. (updates.others k (λ here. was.0 (sym own ∙ ap places.owner here ∙ last.2)) ∙ seen, own, refl) in (
+        was.0,
+        IsChain-kept nodes.slots nodes'.slots places places c.number c.last c.count keeps was.1,
+        chain_items-kept nodes.slots nodes'.slots places places c.number c.last c.count keeps was.1 ∙ was.2,
+      )

@@ -8,6 +8,11 @@ use Rattle.tv_pool.specs.declared.layout.Placed.{Placed}
 use Rattle.tv_pool.specs.declared.layout.Chain.{Chain}
 use Rattle.tv_pool.specs.declared.Pool.TheInside.{Inside}
 
+-- which region has a slot, and at which position of its list
+pub record Places : Type 0 where
+  pub owner : ℕ → ℕ
+  pub position : ℕ → ℕ
+
 -- the first entry from this one on whose chain has the number
 abbrev pub find_from : ℕ → List (Option Chain) → ℕ → Option (ℕ × Chain)
 find_from entry [] number = None
@@ -17,12 +22,12 @@ find_from entry (Some chain ∷ rest) number =
 
 module _ {T : Type 0} where
   -- the chain of so many slots that ends in `last`: each is the region's, at its position
-  abbrev pub IsChain : List (Option (Placed T)) → ℕ → ℕ → ℕ → Type 0
-  IsChain slots number last zero = Unit {0}
-  IsChain slots number last (suc before) = (placed : Placed T)
+  abbrev pub IsChain : List (Option (Placed T)) → Places → ℕ → ℕ → ℕ → Type 0
+  IsChain slots places number last zero = Unit {0}
+  IsChain slots places number last (suc before) = (placed : Placed T)
       × (slice_index_or slots last None ≡ Some placed)
-      × (placed.region ≡ number) × (placed.position ≡ before)
-      × IsChain slots number placed.previous before
+      × (places.owner last ≡ number) × (places.position last ≡ before)
+      × IsChain slots places number placed.previous before
 
   -- the items of the chain of so many slots that ends in `last`, first to last
   abbrev pub chain_items : List (Option (Placed T)) → ℕ → ℕ → List (Stored T)
@@ -45,11 +50,13 @@ module _ {T : Type 0} where
   abbrev pub regions_of : List (Option (Placed T)) → List (Option Chain) → ℕ → List (Option (Contents T))
   regions_of slots table begun = map (contents_at slots table) (range_with_len 0 begun)
 
-  -- the regions have numbers of their own among those given, and chains that hold each item once
+  -- the regions have numbers of their own among those given, and chains that share no slot, since
+  -- each slot has one place; the chains hold all items
   pub record IsLaidOut (nodes : Slab (Placed T)) (table : Slab Chain) (begun : ℕ) : Type 0 where
     pub numbered : (entry : ℕ) (c : Chain) → get table entry ≡ Some c → c.number < begun
     pub apart : (one other : ℕ) (c d : Chain) → get table one ≡ Some c → get table other ≡ Some d → c.number ≡ d.number → one ≡ other
-    pub chained : (entry : ℕ) (c : Chain) → get table entry ≡ Some c → IsChain nodes.slots c.number c.last c.count
+    pub places : Places
+    pub chained : (entry : ℕ) (c : Chain) → get table entry ≡ Some c → IsChain nodes.slots places c.number c.last c.count
     pub counted : slab_len nodes ≡ live_count (regions_of nodes.slots table.slots begun)
     pub room : slab_len nodes ≤ nodes.capacity
 

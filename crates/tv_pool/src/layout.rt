@@ -3,13 +3,9 @@ ghost use Rattle.std.specs.Prelude.{◌≡◌};
 ghost use Rattle.std.specs.Borrow.{sem};
 
 
-/// An item with its place: the slots of a region are a chain from its last item to its first.
+/// An item of a region, whose slots are a chain from its last item to its first.
 #[derive(Debug, Drop)]
 pub(crate) struct Placed<T> {
-    // The number of the item's region.
-    pub(crate) region: u64,
-    // How many items the region has before it.
-    pub(crate) position: u64,
     // The slot of the item before it, of any value where there is none.
     pub(crate) previous: usize,
     pub(crate) item: T,

@@ -111,8 +111,6 @@ impl<T> Pool<T> {
             count,
         } = self.regions[region.entry];
         let placed = Placed {
-            region: number,
-            position: count,
             previous: last,
             item,
         };
@@ -129,12 +127,7 @@ impl<T> Pool<T> {
                 })
             }
             Err(AllocFailed { value }) => {
-                let Placed {
-                    region: _,
-                    position: _,
-                    previous: _,
-                    item,
-                } = value;
+                let Placed { previous: _, item } = value;
                 Err(PutRefused { item })
             }
         }
