@@ -29,6 +29,18 @@ module _ {X : Type 0} where
   slice_get-push_below (y ∷ ys) last zero x found = found
   slice_get-push_below (y ∷ ys) last (suc k) x found = slice_get-push_below ys last k x found
 
+  pub slice_get-set_same : (xs : List X) (k : ℕ) (x : X) → k < length xs → slice_get (set xs k x) k ≡ Some x
+  slice_get-set_same [] k x inside = absurd (omega arith)
+  slice_get-set_same (y ∷ ys) zero x inside = refl
+  slice_get-set_same (y ∷ ys) (suc k) x inside = slice_get-set_same ys k x (omega (arith, inside))
+
+  pub slice_get-set_other : (xs : List X) (k other : ℕ) (x : X) → other ≢ k → slice_get (set xs k x) other ≡ slice_get xs other
+  slice_get-set_other [] k other x differs = refl
+  slice_get-set_other (y ∷ ys) zero zero x differs = absurd (differs refl)
+  slice_get-set_other (y ∷ ys) zero (suc other) x differs = refl
+  slice_get-set_other (y ∷ ys) (suc k) zero x differs = refl
+  slice_get-set_other (y ∷ ys) (suc k) (suc other) x differs = slice_get-set_other ys k other x (λ same. differs (ap suc same))
+
   -- a place with something in it lies inside the list
   pub within : (xs : List (Option X)) (k : ℕ) (x : X) → get_or xs k None ≡ Some x → k < length xs
   within xs k x found = grind (arith, get_or_past)
@@ -85,12 +97,12 @@ module _ {T : Type 0} where
         elim (slice_get_push xs top k s read) [
           | inl below ↦ IsChain-at chain.0.previous before k s chain.4 below.1
           | inr here ↦ (
-              chain.0,
-              ap (λ (t : Stored T). get_or slots t.slot None) (sym here.1) ∙ chain.1,
-              ap (λ (t : Stored T). places.owner t.slot) (sym here.1) ∙ chain.2,
-              ap (λ (t : Stored T). places.position t.slot) (sym here.1) ∙ chain.3 ∙ sym (length-chain_items chain.0.previous before chain.4) ∙ here.0,
-              ap (λ (t : Stored T). t.item) here.1,
-            )
+            chain.0,
+            ap (λ (t : Stored T). get_or slots t.slot None) (sym here.1) ∙ chain.1,
+            ap (λ (t : Stored T). places.owner t.slot) (sym here.1) ∙ chain.2,
+            ap (λ (t : Stored T). places.position t.slot) (sym here.1) ∙ chain.3 ∙ sym (length-chain_items chain.0.previous before chain.4) ∙ here.0,
+            ap (λ (t : Stored T). t.item) here.1,
+          )
         ]
 
   module _ (old : List (Option (Placed T))) (places : Places) (slot : ℕ) (placed : Placed T) (item : T) (found : get_or old slot None ≡ Some placed) where

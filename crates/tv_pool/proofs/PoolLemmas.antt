@@ -4,11 +4,11 @@ use Rattle.std.specs.List.{slice_get}
 use Rattle.std.specs.Option.{IsSomeAnd, option_map}
 use Rattle.std.proofs.lemmas.Bool.{cases_eq}
 use Rattle.std.proofs.lemmas.List.{get_or-set_same, get_or-set_other, get_or_append_left, length-map}
-use Rattle.std.proofs.lemmas.Option.{slice_get-map, same_Some}
-use Rattle.tv_pool.specs.Pool.{Pool, Contents, Stored, region_at, stored_in, stored_at, items_of, item_at, IsLive, Holds, Keeps, KeepsOthers, Begins, Puts, with_item, number_of, region_of, position_of}
+use Rattle.std.proofs.lemmas.Option.{slice_get-map, slice_get_within, same_Some}
+use Rattle.tv_pool.specs.Pool.{Pool, Contents, Stored, region_at, stored_in, stored_at, items_of, item_at, IsLive, Holds, Keeps, KeepsOthers, Begins, Puts, with_item, written, number_of, region_of, position_of}
 use Rattle.tv_pool.specs.declared.handles.Region.{Region}
 use Rattle.tv_pool.specs.declared.handles.Node.{Node}
-use Rattle.tv_pool.proofs.Chains.{within, slice_get-push_last, slice_get-push_below}
+use Rattle.tv_pool.proofs.Chains.{within, slice_get-push_last, slice_get-push_below, slice_get-set_same, slice_get-set_other}
 
 pub some_from : {X : Type 0} (o : Option X) (P : X → Type 0) → IsSomeAnd o P → (x : X) × (o ≡ Some x) × P x
 some_from None P holds = absurd holds
@@ -34,9 +34,9 @@ module _ {T : Type 0} where
   Keeps-from old new grows =
       record {
         live = λ region was.
-          let live = some_from _ (λ (c : Contents T). c.entry ≡ region.entry) was in
-          let now = grows region.number live.0 live.1 in
-          subst (λ o. IsSomeAnd o (λ (c : Contents T). c.entry ≡ region.entry)) (sym now.1) (now.2 ∙ live.2);
+            let live = some_from _ (λ (c : Contents T). c.entry ≡ region.entry) was in
+            let now = grows region.number live.0 live.1 in
+            subst (λ o. IsSomeAnd o (λ (c : Contents T). c.entry ≡ region.entry)) (sym now.1) (now.2 ∙ live.2);
         held = λ node was. Holds-same old new node (same node was) was;
         items = λ node was. item_at-same old new node (same node was);
       }
@@ -78,19 +78,18 @@ module _ {T : Type 0} where
           elim (cases_eq number region.number) [
             | inl same ↦
                 let was = some_from _ (λ (x : Contents T). x.entry ≡ region.entry) live in
-                let is : c ≡ was.0 = same_Some c was.0 (sym found ∙ ap (region_at old) same ∙ was.1) in
-                (
+                let is : c ≡ was.0 = same_Some c was.0 (sym found ∙ ap (region_at old) same ∙ was.1) in (
                   record { entry = region.entry; stored = stored_in (region_at old region.number) ++ record { item = item; slot = node.slot } ∷ [] },
                   ap (region_at new) same ∙ region_at-put old new region item node live puts,
                   sym was.2 ∙ ap (λ (x : Contents T). x.entry) (sym is),
                   λ k s there. slice_get-push_below _ _ k s (ap (λ o. slice_get (stored_in o) k) was.1 ∙ ap (λ (x : Contents T). slice_get x.stored k) (sym is) ∙ there),
                 )
             | inr differs ↦ (
-                c,
-                ap (λ rs. get_or rs number None) puts.regions ∙ get_or-set_other old.regions region.number number _ None differs ∙ found,
-                refl,
-                λ k s there. there,
-              )
+              c,
+              ap (λ rs. get_or rs number None) puts.regions ∙ get_or-set_other old.regions region.number number _ None differs ∙ found,
+              refl,
+              λ k s there. there,
+            )
           ]
 
   -- what is stored at the node of the put item
@@ -119,3 +118,89 @@ module _ {T : Type 0} where
     where
       there : (other : ℕ) → other ≢ number → region_at new other ≡ region_at old other
       there other differs = ap (λ rs. get_or rs other None) changed ∙ get_or-set_other old.regions number other contents None differs
+
+  -- ---- a write through `get_mut`
+  module _ (pool : Pool T) (node : Node) (item : T) (holds : Holds pool node) where
+    -- the pool after the write
+    abbrev after : Pool T
+    after = with_item pool node item
+
+    abbrev stored_new : Stored T
+    stored_new = record { item = item; slot = node.slot }
+
+    record Written : Type 0 where
+      contents : Contents T
+      shown : region_at pool node.region ≡ Some contents
+      stored : Stored T
+      read : slice_get contents.stored node.position ≡ Some stored
+      at : stored.slot ≡ node.slot
+
+    written_there : Written
+    written_there = by_contents (region_at pool node.region) refl (some_from _ (λ (s : Stored T). s.slot ≡ node.slot) holds)
+      where
+        by_contents : (o : Option (Contents T)) → region_at pool node.region ≡ o → (s : Stored T) × (slice_get (stored_in o) node.position ≡ Some s) × (s.slot ≡ node.slot) → Written
+        by_contents None shown stored = absurd (let e = stored.1 in cc)
+        by_contents (Some c) shown stored = record { contents = c; shown = shown; stored = stored.0; read = stored.1; at = stored.2 }
+
+    region_at-after : region_at after node.region ≡ Some (record written_there.contents { stored = set written_there.contents.stored node.position stored_new })
+    region_at-after =
+        let w = written_there in
+        get_or-set_same pool.regions node.region _ None (within pool.regions node.region w.contents w.shown)
+        ∙ ap (λ o. written o node item) w.shown
+
+    region_at-after_other : (number : ℕ) → number ≢ node.region → region_at after number ≡ region_at pool number
+    region_at-after_other number differs = get_or-set_other pool.regions node.region number _ None differs
+
+    stored_at-after : stored_at after node ≡ Some stored_new
+    stored_at-after =
+        let w = written_there in
+        ap (λ o. slice_get (stored_in o) node.position) region_at-after
+        ∙ slice_get-set_same w.contents.stored node.position stored_new (slice_get_within w.contents.stored node.position w.stored w.read)
+
+    stored_at-after_other : (other : Node) → (region_of other ≡ region_of node → position_of other ≢ position_of node) → stored_at after other ≡ stored_at pool other
+    stored_at-after_other other differs =
+        let w = written_there in
+        elim (cases_eq other.region node.region) [
+          | inl same ↦
+              ap (λ n. slice_get (stored_in (region_at after n)) other.position) same
+              ∙ ap (λ o. slice_get (stored_in o) other.position) region_at-after
+              ∙ slice_get-set_other w.contents.stored node.position other.position stored_new (differs same)
+              ∙ sym (ap (λ n. slice_get (stored_in (region_at pool n)) other.position) same ∙ ap (λ o. slice_get (stored_in o) other.position) w.shown)
+          | inr there ↦ ap (λ o. slice_get (stored_in o) other.position) (region_at-after_other other.region there)
+        ]
+
+    -- the node has what was written
+    pub item_at-with_item : item_at after node ≡ Some item
+    item_at-with_item = item_at-stored after node ∙ ap (option_map (λ (s : Stored T). s.item)) stored_at-after
+
+    -- every node of another place has what it had
+    pub item_at-with_item_other : (other : Node) → (region_of other ≡ region_of node → position_of other ≢ position_of node) → item_at after other ≡ item_at pool other
+    item_at-with_item_other other differs = item_at-same pool after other (stored_at-after_other other differs)
+
+    -- every region that was live is
+    pub IsLive-with_item : (region : Region) → IsLive pool region → IsLive after region
+    IsLive-with_item region live =
+        elim (cases_eq region.number node.region) [
+          | inl same ↦
+              let w = written_there in
+              let is : IsSomeAnd (Some w.contents) (λ (c : Contents T). c.entry ≡ region.entry) = subst (λ o. IsSomeAnd o (λ (c : Contents T). c.entry ≡ region.entry)) (ap (region_at pool) same ∙ w.shown) live in
+              subst (λ o. IsSomeAnd o (λ (c : Contents T). c.entry ≡ region.entry)) (sym (ap (region_at after) same ∙ region_at-after)) is
+          | inr there ↦ IsLive-same pool after region (region_at-after_other region.number there) live
+        ]
+
+    -- every node that was held is
+    pub Holds-with_item : (other : Node) → Holds pool other → Holds after other
+    Holds-with_item other was =
+        elim (cases_eq other.region node.region) [
+          | inl same ↦ elim (cases_eq other.position node.position) [
+            | inl also ↦
+                let w = written_there in
+                let stored = some_from _ (λ (s : Stored T). s.slot ≡ other.slot) was in
+                let read : stored_at pool node ≡ Some stored.0 = sym (ap (λ n. slice_get (stored_in (region_at pool n)) other.position) same ∙ ap (slice_get (stored_in (region_at pool node.region))) also) ∙ stored.1 in
+                let is : w.stored ≡ stored.0 = same_Some w.stored stored.0 (sym w.read ∙ sym (ap (λ o. slice_get (stored_in o) node.position) w.shown) ∙ read) in
+                let now : stored_at after other ≡ Some stored_new = ap (λ n. slice_get (stored_in (region_at after n)) other.position) same ∙ ap (slice_get (stored_in (region_at after node.region))) also ∙ stored_at-after in
+                subst (λ o. IsSomeAnd o (λ (s : Stored T). s.slot ≡ other.slot)) (sym now) (sym w.at ∙ ap (λ (s : Stored T). s.slot) is ∙ stored.2)
+            | inr there ↦ Holds-same pool after other (stored_at-after_other other (λ e. there)) was
+          ]
+          | inr there ↦ Holds-same pool after other (stored_at-after_other other (λ e. absurd (there e))) was
+        ]

@@ -16,8 +16,8 @@ module _ {X : Type 0} (f g : ℕ → Option X) (n : ℕ) where
   pub map_range-same : ((k : ℕ) → k < n → g k ≡ f k) → map g (range_with_len 0 n) ≡ map f (range_with_len 0 n)
   map_range-same agree =
       ext_get_or None _ _ (length-map-range_with_len g 0 n ∙ sym (length-map-range_with_len f 0 n)) (λ k inside.
-        let below : k < n = omega (arith, inside, length-map-range_with_len g 0 n) in
-        get_or-map-range_with_len g 0 n k k None below (zero-add k) ∙ agree k below ∙ sym (get_or-map-range_with_len f 0 n k k None below (zero-add k)))
+      let below : k < n = omega (arith, inside, length-map-range_with_len g 0 n) in
+      get_or-map-range_with_len g 0 n k k None below (zero-add k) ∙ agree k below ∙ sym (get_or-map-range_with_len f 0 n k k None below (zero-add k)))
 
   -- two functions that agree at each other index make lists that differ there alone
   pub map_range-changed : (at : ℕ) (new : Option X) → at < n → g at ≡ new → ((k : ℕ) → k < n → k ≢ at → g k ≡ f k) → map g (range_with_len 0 n) ≡ set (map f (range_with_len 0 n)) at new
@@ -25,12 +25,12 @@ module _ {X : Type 0} (f g : ℕ → Option X) (n : ℕ) where
       let fs = map f (range_with_len 0 n) in
       let len = length-map-range_with_len f 0 n in
       ext_get_or None _ _ (length-map-range_with_len g 0 n ∙ sym len ∙ sym (length-set fs at new)) (λ k inside.
-        let below : k < n = omega (arith, inside, length-map-range_with_len g 0 n) in
-        let read = get_or-map-range_with_len g 0 n k k None below (zero-add k) in
-        elim (cases_eq k at) [
-          | inl same ↦ read ∙ ap g same ∙ is ∙ sym (ap (λ j. get_or (set fs at new) j None) same ∙ get_or-set_same fs at new None (omega (arith, len, within)))
-          | inr differs ↦ read ∙ agree k below differs ∙ sym (get_or-set_other fs at k new None differs ∙ get_or-map-range_with_len f 0 n k k None below (zero-add k))
-        ])
+      let below : k < n = omega (arith, inside, length-map-range_with_len g 0 n) in
+      let read = get_or-map-range_with_len g 0 n k k None below (zero-add k) in
+      elim (cases_eq k at) [
+        | inl same ↦ read ∙ ap g same ∙ is ∙ sym (ap (λ j. get_or (set fs at new) j None) same ∙ get_or-set_same fs at new None (omega (arith, len, within)))
+        | inr differs ↦ read ∙ agree k below differs ∙ sym (get_or-set_other fs at k new None differs ∙ get_or-map-range_with_len f 0 n k k None below (zero-add k))
+      ])
 
 module _ {T : Type 0} where
   pub contents_at-entry : (slots : List (Option (Placed T))) (table : List (Option Chain)) (entry : ℕ) (c : Chain) → IsApart table → get_or table entry None ≡ Some c → contents_at slots table c.number ≡ Some (record { entry = entry; stored = chain_items slots c.last c.count })

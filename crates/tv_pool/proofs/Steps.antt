@@ -151,9 +151,9 @@ module _ {T : Type 0} where
           let g = contents_at nodes.slots table'.slots in
           let old = map_range-same f g begun (λ k below. contents_at-agrees nodes.slots nodes.slots table.slots table'.slots k laid.apart begin-apart (Agrees-updated table table' entry (Some fresh) k updates (λ c found. absurd (cc)) (λ c is same. omega (arith, ap (λ (x : Chain). x.number) (same_Some fresh c is), number, same, below))) (λ at c same found. refl)) in
           let last : g begun ≡ Some (record { entry = entry; stored = [] }) =
-              ap g (sym number)
-              ∙ contents_at-entry nodes.slots table'.slots entry fresh begin-apart updates.changed
-              ∙ ap (λ n. Some (record { entry = entry; stored = chain_items nodes.slots fresh.last n })) empty in
+          ap g (sym number)
+          ∙ contents_at-entry nodes.slots table'.slots entry fresh begin-apart updates.changed
+          ∙ ap (λ n. Some (record { entry = entry; stored = chain_items nodes.slots fresh.last n })) empty in
           map-range_with_len_more g 0 begun begun (zero-add begun) ∙ ap (λ xs. xs ++ g begun ∷ []) old ∙ ap (λ x. regions ++ x ∷ []) last
 
       pub IsLaidOut-begin : IsLaidOut nodes table' (begun + 1)
@@ -235,11 +235,11 @@ module _ {T : Type 0} where
           map_range-changed (contents_at nodes.slots table.slots) g begun chain.number _ (laid.numbered entry chain listed)
           (ap g (sym number) ∙ contents_at-entry nodes'.slots table'.slots entry chain' apart' updates.changed ∙ ap (λ xs. Some (record { entry = entry; stored = xs })) put-items)
           (λ k below differs.
-            contents_at-agrees nodes.slots nodes'.slots table.slots table'.slots k laid.apart apart'
-            (Agrees-updated table table' entry (Some chain') k updates
-              (λ c found same. differs (sym same ∙ ap (λ (x : Chain). x.number) (same_Some c chain (sym found ∙ listed))))
-              (λ c is same. differs (sym same ∙ ap (λ (x : Chain). x.number) (sym (same_Some chain' c is)) ∙ number)))
-            (λ at c same found. chain_items-kept nodes.slots nodes'.slots laid.places put-places c.number c.last c.count (put-keeps c.number c.count) (laid.chained at c found)))
+          contents_at-agrees nodes.slots nodes'.slots table.slots table'.slots k laid.apart apart'
+          (Agrees-updated table table' entry (Some chain') k updates
+          (λ c found same. differs (sym same ∙ ap (λ (x : Chain). x.number) (same_Some c chain (sym found ∙ listed))))
+          (λ c is same. differs (sym same ∙ ap (λ (x : Chain). x.number) (sym (same_Some chain' c is)) ∙ number)))
+          (λ at c same found. chain_items-kept nodes.slots nodes'.slots laid.places put-places c.number c.last c.count (put-keeps c.number c.count) (laid.chained at c found)))
 
       pub IsLaidOut-put : IsLaidOut nodes' table' begun
       IsLaidOut-put =
@@ -307,13 +307,13 @@ module _ {T : Type 0} where
           let apart' = IsApart-kept table table' release-numbers laid.apart in
           map_range-changed (contents_at nodes.slots table.slots) (contents_at nodes'.slots table'.slots) begun chain.number None (laid.numbered entry chain listed) gone
           (λ k below differs.
-            contents_at-agrees nodes.slots nodes'.slots table.slots table'.slots k laid.apart apart'
-            (Agrees-updated table table' entry None k updates
-              (λ c found same. differs (sym same ∙ ap (λ (x : Chain). x.number) (same_Some c chain (sym found ∙ listed))))
-              (λ c is same. absurd (cc)))
-            (λ at c same found.
-              let there : at ≢ entry = λ here. differs (sym same ∙ ap (λ (x : Chain). x.number) (same_Some c chain (sym found ∙ ap (get table) here ∙ listed))) in
-              (others at c (updates.others at there ∙ found)).2))
+          contents_at-agrees nodes.slots nodes'.slots table.slots table'.slots k laid.apart apart'
+          (Agrees-updated table table' entry None k updates
+          (λ c found same. differs (sym same ∙ ap (λ (x : Chain). x.number) (same_Some c chain (sym found ∙ listed))))
+          (λ c is same. absurd (cc)))
+          (λ at c same found.
+          let there : at ≢ entry = λ here. differs (sym same ∙ ap (λ (x : Chain). x.number) (same_Some c chain (sym found ∙ ap (get table) here ∙ listed))) in
+          (others at c (updates.others at there ∙ found)).2))
 
       pub IsLaidOut-release : IsLaidOut nodes' table' begun
       IsLaidOut-release =
@@ -398,8 +398,8 @@ module _ {T : Type 0} where
           ∙ contents_at-entry nodes_with.slots table.slots h.entry h.chain laid.apart h.listed
           ∙ ap (λ xs. Some (record { entry = h.entry; stored = xs })) (chain_items-rewritten nodes.slots laid.places slot h.placed item h.found h.chain.number h.chain.last h.chain.count position h.stored (laid.chained h.entry h.chain h.listed) h.read h.at))
           (λ k below differs.
-            contents_at-agrees nodes.slots nodes_with.slots table.slots table.slots k laid.apart laid.apart (record { forth = λ at c same found. found; back = λ at c same found. found })
-            (λ at c same found. chain_items-kept nodes.slots nodes_with.slots laid.places laid.places c.number c.last c.count (KeepsBelow-rewritten nodes.slots laid.places slot h.placed item h.found c.number c.count (λ e. differs (sym same ∙ sym e ∙ h.own ∙ h.same))) (laid.chained at c found)))
+          contents_at-agrees nodes.slots nodes_with.slots table.slots table.slots k laid.apart laid.apart (record { forth = λ at c same found. found; back = λ at c same found. found })
+          (λ at c same found. chain_items-kept nodes.slots nodes_with.slots laid.places laid.places c.number c.last c.count (KeepsBelow-rewritten nodes.slots laid.places slot h.placed item h.found c.number c.count (λ e. differs (sym same ∙ sym e ∙ h.own ∙ h.same))) (laid.chained at c found)))
 
       pub IsLaidOut-write : IsLaidOut nodes_with table begun
       IsLaidOut-write =

@@ -2,3 +2,4 @@ pub mod Pool
 pub mod Lends
 pub mod Layout
 pub mod Placed
+pub mod Mirror

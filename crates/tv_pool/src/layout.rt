@@ -2,7 +2,6 @@
 ghost use Rattle.std.specs.Prelude.{◌≡◌};
 ghost use Rattle.std.specs.Borrow.{sem};
 
-
 /// An item of a region, whose slots are a chain from its last item to its first.
 #[derive(Debug, Drop)]
 pub(crate) struct Placed<T> {

@@ -13,6 +13,6 @@ pub returns : goal.returns
 returns g c =
     let h = held c.self.inside.nodes c.self.inside.regions c.self.inside.begun c.self.invariant _ _ _ (rw (← c.self.view_is) at c.requires) in
     rw (← c.self.view_is) (
-      Held-item c.self.inside.nodes c.self.inside.regions c.self.inside.begun c.self.invariant _ _ _ h
-      ∙ ap (λ (p : Placed _). Some p.item) (same_Some _ _ (sym h.found ∙ c.index.ensures))
+    Held-item c.self.inside.nodes c.self.inside.regions c.self.inside.begun c.self.invariant _ _ _ h
+    ∙ ap (λ (p : Placed _). Some p.item) (same_Some _ _ (sym h.found ∙ c.index.ensures))
     )

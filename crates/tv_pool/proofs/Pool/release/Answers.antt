@@ -22,11 +22,11 @@ items-init g c =
       places = c.self.invariant.places;
       chain = subst (λ n. IsChain c.self.inside.nodes.slots c.self.invariant.places n c.remove-chain.result.last c.remove-chain.result.count) (ap (λ (x : Chain). x.number) (sym is) ∙ live.same) (c.self.invariant.chained _ _ c.remove-chain.ensures.value);
       others = λ entry chain found.
-        let was = release_cases c.self.inside.nodes c.self.inside.regions c.self.inside.begun c.self.invariant c.remove-chain.new.self c.args.region.entry c.remove-chain.ensures.updates entry chain found in (
-          λ e. was.0 (c.self.invariant.apart entry c.args.region.entry chain live.chain was.1 live.listed (e ∙ sym live.same)),
-          c.self.invariant.chained entry chain was.1,
-          refl,
-        );
+          let was = release_cases c.self.inside.nodes c.self.inside.regions c.self.inside.begun c.self.invariant c.remove-chain.new.self c.args.region.entry c.remove-chain.ensures.updates entry chain found in (
+            λ e. was.0 (c.self.invariant.apart entry c.args.region.entry chain live.chain was.1 live.listed (e ∙ sym live.same)),
+            c.self.invariant.chained entry chain was.1,
+            refl,
+          );
       len = omega arith;
       capacity = refl;
       table = refl;

@@ -16,5 +16,5 @@ invariant-items g l = record {
   len : slab_len l.self-inside.nodes + l.counter ≡ slab_len l.initial.self-inside.nodes;
   capacity : l.self-inside.nodes.capacity ≡ l.initial.self-inside.nodes.capacity;
   table : l.self-inside.regions ≡ l.initial.self-inside.regions;
-  begun : l.self-inside.begun ≡ l.initial.self-inside.begun
+  begun : l.self-inside.begun ≡ l.initial.self-inside.begun;
 }
