@@ -8,7 +8,8 @@ use thiserror::Error;
 pub struct NoMemory;
 
 /// There was no memory for the item, which is given back.
-#[derive(Debug, Drop)]
+#[derive(Debug, Drop, Error)]
+#[error("out of memory")]
 pub struct PutRefused<T> {
     /// The item that wasn't put.
     pub item: T,

@@ -4,6 +4,7 @@ ghost use Rattle.tv_pool.specs.Mirror.{KnowsRegions, IsOfOthers};
 
 use super::*;
 use std::process::Abort;
+use std::rc::Rc;
 use std::test::Fail;
 
 #[test]
@@ -19,6 +20,26 @@ fn the_other_region_stays(rt: HostRuntime) -> Result<(), Fail> {
     pool.release(first);
     assert_eq!(rt; pool.live(), 1);
     assert_eq!(rt; *pool.get(seven), 7);
+    Ok(())
+}
+
+#[test]
+fn each_item_is_dropped_once(rt: HostRuntime) -> Result<(), Fail> {
+    let owner = Rc::new(rt.alloc(), 0u8)?;
+    let mut pool = Pool::new(rt.alloc());
+    let first = pool.begin()?;
+    let second = pool.begin()?;
+    'puts: for _ in 0..3 {
+        pool.put(&first, owner.clone()?)?;
+        pool.put(&second, owner.clone()?)?;
+    }
+    assert_eq!(rt; Rc::strong_count(&owner), 7);
+    pool.release(first);
+    assert_eq!(rt; Rc::strong_count(&owner), 4);
+    {
+        let _gone = pool;
+    }
+    assert_eq!(rt; Rc::strong_count(&owner), 1);
     Ok(())
 }
 

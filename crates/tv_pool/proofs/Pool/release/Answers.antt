@@ -1,4 +1,5 @@
 use Rattle.std.proofs.Common.{◌≡◌, ◌<◌, None, set, refl, sym, ap, ◌∙◌, subst, arith}
+use Rattle.std.proofs.lemmas.List.{length-map}
 use Rattle.std.proofs.lemmas.Option.{same_Some}
 use Rattle.tv_pool.specs.Layout.{IsChain}
 use Rattle.tv_pool.specs.declared.layout.Chain.{Chain}
@@ -72,7 +73,7 @@ pub returns-clause-spare : goal.returns-clause-spare
 returns-clause-spare g c =
     let live = live_chain c.self.inside.nodes c.self.inside.regions c.self.inside.begun c.args.region.number c.args.region.entry (rw (← c.self.view_is) at c.requires) in
     let same : c.remove-chain.result.number ≡ c.args.region.number = ap (λ (x : Chain). x.number) (same_Some _ live.chain (sym c.remove-chain.ensures.value ∙ live.listed)) ∙ live.same in
-    rw (← c.self.view_is) (release-spare c.self.inside.nodes c.self.inside.regions c.self.inside.begun c.self.invariant c.items.self-inside.nodes c.remove-chain.new.self c.args.region.entry c.remove-chain.result c.remove-chain.ensures.value c.items.invariant.places (rw (same, ← c.items.invariant.table) c.items.invariant.others) (omega arith) c.items.invariant.capacity c.remove-chain.ensures.updates c.args.region.number same)
+    rw (← c.self.view_is, length-map) (release-spare c.self.inside.nodes c.self.inside.regions c.self.inside.begun c.self.invariant c.items.self-inside.nodes c.remove-chain.new.self c.args.region.entry c.remove-chain.result c.remove-chain.ensures.value c.items.invariant.places (rw (same, ← c.items.invariant.table) c.items.invariant.others) (omega arith) c.items.invariant.capacity c.remove-chain.ensures.updates c.args.region.number same)
 
 pub returns-clause-kept : goal.returns-clause-kept
 returns-clause-kept g c = KeepsOthers-set _ _ _ None (returns-clause-regions g c)
