@@ -1,11 +1,11 @@
 -- Lemmas on what a contract sees of a pool, for this crate and its callers.
-use Rattle.std.proofs.Common.{◌≡◌, ◌≢◌, ℕ, ◌+◌, ◌<◌, ◌≤◌, List, [], ◌∷◌, ◌++◌, length, get_or, set, Option, Some, None, refl, sym, ap, ◌∙◌, subst, arith, inl, inr}
+use Rattle.std.proofs.Common.{◌≡◌, ◌≢◌, ℕ, [], ◌∷◌, ◌++◌, length, get_or, set, map, Option, Some, None, refl, sym, ap, ◌∙◌, subst, inl, inr}
 use Rattle.std.specs.List.{slice_get}
 use Rattle.std.specs.Option.{IsSomeAnd, option_map}
 use Rattle.std.proofs.lemmas.Bool.{cases_eq}
 use Rattle.std.proofs.lemmas.List.{get_or-set_same, get_or-set_other, get_or_append_left, length-map}
 use Rattle.std.proofs.lemmas.Option.{slice_get-map, slice_get_within, same_Some}
-use Rattle.tv_pool.specs.Pool.{Pool, Contents, Stored, region_at, stored_in, stored_at, items_of, item_at, IsLive, Holds, Keeps, KeepsOthers, Begins, Puts, with_item, written, number_of, region_of, position_of}
+use Rattle.tv_pool.specs.Pool.{Pool, Contents, Stored, region_at, stored_in, stored_at, item_at, IsLive, Holds, Keeps, KeepsOthers, Begins, Puts, with_item, written, region_of, position_of}
 use Rattle.tv_pool.specs.declared.handles.Region.{Region}
 use Rattle.tv_pool.specs.declared.handles.Node.{Node}
 use Rattle.tv_pool.proofs.Chains.{within, slice_get-push_last, slice_get-push_below, slice_get-set_same, slice_get-set_other}
@@ -63,6 +63,15 @@ module _ {T : Type 0} where
         refl,
         λ k s there. there,
       ))
+
+  -- a put speaks of the regions alone
+  pub Puts-regions : (old other new : Pool T) (region : Region) (item : T) (node : Node) → other.regions ≡ old.regions → Puts other new region item node → Puts old new region item node
+  Puts-regions old other new region item node same puts =
+      record {
+        number = puts.number;
+        position = puts.position ∙ ap (λ rs. length (map (λ (s : Stored T). s.item) (stored_in (get_or rs region.number None)))) same;
+        regions = puts.regions ∙ ap (λ rs. set rs region.number (Some (record { entry = region.entry; stored = stored_in (get_or rs region.number None) ++ record { item = item; slot = node.slot } ∷ [] }))) same;
+      }
 
   -- what stands under the region's number after a put
   pub region_at-put : (old new : Pool T) (region : Region) (item : T) (node : Node) → IsLive old region → Puts old new region item node → region_at new region.number ≡ Some (record { entry = region.entry; stored = stored_in (region_at old region.number) ++ record { item = item; slot = node.slot } ∷ [] })

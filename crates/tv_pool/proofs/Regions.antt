@@ -1,11 +1,11 @@
 -- Lemmas on the regions that a pool's fields show.
-use Rattle.std.proofs.Common.{◌≡◌, ◌≢◌, ◌⊎◌, ℕ, zero, suc, ◌+◌, ◌<◌, ◌≤◌, List, [], ◌∷◌, ◌++◌, length, get_or, set, map, Option, Some, None, refl, sym, ap, ◌∙◌, arith, inl, inr, zero-add}
+use Rattle.std.proofs.Common.{◌≡◌, ◌≢◌, ◌⊎◌, ℕ, ◌<◌, ◌≤◌, List, get_or, set, map, Option, Some, None, refl, sym, ap, ◌∙◌, arith, inl, inr, zero-add}
 use Rattle.std.specs.List.{range_with_len}
 use Rattle.std.proofs.lemmas.Bool.{cases_eq}
 use Rattle.std.proofs.lemmas.List.{get_or-set_same, get_or-set_other, get_or_past, length-set, ext_get_or}
 use Rattle.std.proofs.lemmas.List.FromFn.{length-map-range_with_len, get_or-map-range_with_len}
 use Rattle.std.proofs.lemmas.Option.{same_Some}
-use Rattle.tv_pool.specs.Pool.{Contents, Stored}
+use Rattle.tv_pool.specs.Pool.{Contents}
 use Rattle.tv_pool.specs.Layout.{chain_items, find_from, contents_of, contents_at, regions_of}
 use Rattle.tv_pool.specs.declared.layout.Placed.{Placed}
 use Rattle.tv_pool.specs.declared.layout.Chain.{Chain}

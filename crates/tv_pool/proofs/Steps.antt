@@ -1,7 +1,7 @@
 -- What each call of a pool makes of its fields: they stay laid out, and show the regions that the
 -- contract says.
-use Rattle.std.proofs.Common.{◌≡◌, ◌≢◌, ◌⊎◌, ℕ, zero, suc, ◌+◌, ◌-◌, ◌<◌, ◌≤◌, eqb, List, [], ◌∷◌, ◌++◌, length, get_or, set, map, cond, Option, Some, None, is_some, refl, sym, ap, ◌∙◌, subst, arith, inl, inr, zero-add, count_by}
-use Rattle.std.specs.List.{range_with_len, slice_get, sum_by}
+use Rattle.std.proofs.Common.{◌≡◌, ◌≢◌, ◌⊎◌, ℕ, suc, ◌+◌, ◌-◌, ◌<◌, ◌≤◌, eqb, List, [], ◌∷◌, ◌++◌, length, get_or, set, map, cond, Option, Some, None, is_some, refl, sym, ap, ◌∙◌, subst, arith, inl, inr, zero-add, count_by}
+use Rattle.std.specs.List.{slice_get}
 use Rattle.std.specs.Option.{IsSomeAnd}
 use Rattle.std.proofs.lemmas.Bool.{cases_eq, eq-eqb}
 use Rattle.std.proofs.lemmas.Bool.Decides.{eqb_tells}
@@ -10,14 +10,13 @@ use Rattle.std.proofs.lemmas.List.FromFn.{length-map-range_with_len, get_or-map-
 use Rattle.std.proofs.lemmas.List.Sums.{sum_by-set, sum_by_push}
 use Rattle.std.proofs.lemmas.Option.{same_Some, slice_get-map}
 use Rattle.slab.specs.Slab.{Slab, get, slab_len, Updates, with_value}
-use Rattle.slab.proofs.SlabLemmas.{Updates-with_value}
 use Rattle.tv_pool.specs.Pool.{Pool, Contents, Stored, stored_in, live_count, with_item, written, Puts}
 use Rattle.tv_pool.specs.Layout.{Places, IsChain, chain_items, contents_at, regions_of, IsLaidOut}
 use Rattle.tv_pool.specs.declared.layout.Placed.{Placed}
 use Rattle.tv_pool.specs.declared.layout.Chain.{Chain}
 use Rattle.tv_pool.specs.declared.handles.Node.{Node}
 use Rattle.tv_pool.specs.declared.handles.Region.{Region}
-use Rattle.tv_pool.proofs.Chains.{KeepsBelow, chain_items-suc, IsChain-kept, IsChain-last, chain_items-kept, length-chain_items, IsChain-at, rewritten, rewritten-here, KeepsBelow-rewritten, IsChain-rewritten, chain_items-rewritten, within}
+use Rattle.tv_pool.proofs.Chains.{KeepsBelow, chain_items-suc, IsChain-kept, IsChain-last, chain_items-kept, length-chain_items, IsChain-at, KeepsBelow-rewritten, IsChain-rewritten, chain_items-rewritten, within}
 use Rattle.tv_pool.proofs.PoolLemmas.{some_from}
 use Rattle.tv_pool.proofs.Tables.{IsApart, Agrees}
 use Rattle.tv_pool.proofs.Regions.{map_range-same, map_range-changed, contents_at-entry, chain_from_contents, contents_at-agrees, contents_at-view}
@@ -81,6 +80,19 @@ module _ {T : Type 0} where
         chained = λ entry c found. absurd (none entry c found);
         counted = ap (count_by is_some) no_nodes;
         room = let empty = ap (count_by is_some) no_nodes in omega (arith, empty);
+      }
+
+  -- more room changes nothing
+  pub IsLaidOut-room : (nodes nodes' : Slab (Placed T)) (table : Slab Chain) (begun : ℕ) → nodes' ≡ record nodes { capacity = nodes'.capacity } → nodes.capacity ≤ nodes'.capacity → IsLaidOut nodes table begun → IsLaidOut nodes' table begun
+  IsLaidOut-room nodes nodes' table begun same more laid =
+      let slots : nodes.slots ≡ nodes'.slots = sym (ap (λ (s : Slab (Placed T)). s.slots) same) in
+      record {
+        numbered = laid.numbered;
+        apart = laid.apart;
+        places = laid.places;
+        chained = λ entry c found. subst (λ xs. IsChain xs laid.places c.number c.last c.count) slots (laid.chained entry c found);
+        counted = ap (count_by is_some) (sym slots) ∙ laid.counted ∙ ap (λ xs. live_count (regions_of xs table.slots begun)) slots;
+        room = let len = ap (count_by is_some) slots in omega (arith, len, laid.room, more);
       }
 
   pub live_chain : (nodes : Slab (Placed T)) (table : Slab Chain) (begun number entry : ℕ) → IsSomeAnd (get_or (regions_of nodes.slots table.slots begun) number None) (λ r. r.entry ≡ entry) → LiveChain table begun number entry

@@ -38,7 +38,7 @@ pub use faults::{NoMemory, PutRefused};
 pub use handles::{Node, Region};
 use layout::{Chain, Placed};
 use slab::Slab;
-use std::alloc::{AllocFailed, Global};
+use std::alloc::Global;
 use std::marker::Model;
 
 /// A pool of items of one type in regions.
@@ -140,33 +140,24 @@ impl<T> Pool<T> {
         ensures room { 0 < self.old.spare → IsOk result }
         ensures spare { self.old.spare ≤ self.new.spare + 1 }
     {
-        let Chain {
-            number,
-            last,
-            count,
-        } = self.regions[region.entry];
-        let placed = Placed {
-            previous: last,
-            item,
-        };
-        match self.nodes.insert(placed) {
-            Ok(slot) => {
-                // So the count of one region fits too.
-                prove!(self.nodes.len() <= self.nodes.capacity());
-                let chain = &mut self.regions[region.entry];
-                chain.last = slot;
-                chain.count = count + 1;
-                Ok(Node {
-                    region: number,
-                    position: count,
-                    slot,
-                })
-            }
-            Err(AllocFailed { value }) => {
-                let Placed { previous: _, item } = value;
-                Err(PutRefused { item })
-            }
+        if self.nodes.reserve(1).is_err() {
+            return Err(PutRefused { item });
         }
+        // So the count of one region fits too.
+        prove!(self.nodes.len() < self.nodes.capacity());
+        let chain = &mut self.regions[region.entry];
+        let slot = self.nodes.insert_reserved(Placed {
+            previous: chain.last,
+            item,
+        });
+        let position = chain.count;
+        chain.last = slot;
+        chain.count = position + 1;
+        Ok(Node {
+            region: chain.number,
+            position,
+            slot,
+        })
     }
 
     /// The item of a node, by one access of the memory.

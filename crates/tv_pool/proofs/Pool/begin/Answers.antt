@@ -1,4 +1,4 @@
-use Rattle.std.proofs.Common.{◌≡◌, refl, sym, ap, ◌∙◌, arith}
+use Rattle.std.proofs.Common.{refl, sym, arith}
 use Rattle.tv_pool.proofs.PoolLemmas.{Keeps-begin}
 use Rattle.tv_pool.proofs.Steps.{IsLaidOut-begin, begin-regions, length-regions}
 use Rattle.tv_pool.proofs.Pool.begin.Goals as goal

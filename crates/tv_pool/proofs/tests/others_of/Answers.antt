@@ -1,4 +1,4 @@
-use Rattle.std.proofs.Common.{◌≡◌, ◌≢◌, ◌<◌, ℕ, get_or, arith, sym, length, Contains}
+use Rattle.std.proofs.Common.{◌≢◌, ◌<◌, get_or, arith, length, Contains}
 use Rattle.std.proofs.lemmas.List.{get_or_default}
 use Rattle.std.proofs.lemmas.List.Elements.{All-push}
 use Rattle.tv_pool.specs.Pool.{region_of}
