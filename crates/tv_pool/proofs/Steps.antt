@@ -9,7 +9,7 @@ use Rattle.std.proofs.lemmas.List.{length-set, length-map, length_push}
 use Rattle.std.proofs.lemmas.List.FromFn.{length-map-range_with_len, get_or-map-range_with_len, map-range_with_len_more}
 use Rattle.std.proofs.lemmas.List.Sums.{sum_by-set, sum_by_push}
 use Rattle.std.proofs.lemmas.Option.{same_Some, slice_get-map}
-use Rattle.slab.specs.Slab.{Slab, get, slab_len, Updates, with_value}
+use Rattle.slab.specs.Slab.{Slab, get, ContainsKey, slab_len, Updates, with_value}
 use Rattle.tv_pool.specs.Pool.{Pool, Contents, Stored, stored_in, live_count, with_item, written, Puts}
 use Rattle.tv_pool.specs.Layout.{Places, IsChain, chain_items, contents_at, regions_of, IsLaidOut}
 use Rattle.tv_pool.specs.declared.layout.Placed.{Placed}
@@ -56,6 +56,9 @@ pub record LiveChain (table : Slab Chain) (begun number entry : ℕ) : Type 0 wh
   pub listed : get table entry ≡ Some chain
   pub same : chain.number ≡ number
   pub inside : number < begun
+
+pub LiveChain-contains : (table : Slab Chain) (begun number entry : ℕ) → LiveChain table begun number entry → ContainsKey table entry
+LiveChain-contains table begun number entry live = rw live.listed refl
 
 module _ {T : Type 0} where
   -- the regions of the table, none of which has the number, have chains, with the items that they had
@@ -382,6 +385,9 @@ module _ {T : Type 0} where
               own = ap laid.places.owner (sym stored.2) ∙ inner.2;
               item = inner.4;
             }
+
+    pub Held-contains : (region position slot : ℕ) → Held region position slot → ContainsKey nodes slot
+    Held-contains region position slot h = rw h.found refl
 
     -- the item at the node's position is that in its slot
     pub Held-item : (region position slot : ℕ) (h : Held region position slot) → slice_get (map (λ (s : Stored T). s.item) (stored_in (get_or regions region None))) position ≡ Some h.placed.item

@@ -24,7 +24,7 @@
 //! the memory shows it, and `proofs/PoolLemmas.antt` lemmas for callers.
 #![tactic(auto)]
 
-ghost use Rattle.std.specs.Prelude.{◌≡◌, ℕ, ◌+◌, ◌<◌, ◌≤◌, Some, None, [], length, OnOk, OnErr, IfOk, IfErr, IsOk};
+ghost use Rattle.std.specs.Prelude.{◌≡◌, ◌++◌, ◌∷◌, ℕ, ◌+◌, ◌<◌, ◌≤◌, Some, None, [], length, OnOk, OnErr, IfOk, IfErr, IsOk};
 ghost use Rattle.std.specs.Borrow.{sem};
 ghost use Rattle.tv_pool.specs.Pool.{IsLive, Holds, item_at, live_count, Begins, Puts, Keeps, KeepsOthers, regions_with, number_of, items_of};
 
@@ -132,6 +132,7 @@ impl<T> Pool<T> {
     pub fn put(&mut self, region: &Region, item: T) -> Result<Node, PutRefused<T>>
         requires { IsLive self.old region.now }
         ensures ok { IfOk result (Puts self.old self.new region.now item) }
+        ensures last { OnOk result (items_of self.new (number_of region.now) ≡ items_of self.old (number_of region.now) ++ item ∷ []) }
         ensures holds { IfOk result (Holds self.new) }
         ensures item { IfOk result (λ node. item_at self.new node ≡ Some item) }
         ensures kept { Keeps self.old self.new }

@@ -4,13 +4,13 @@ use Rattle.slab.specs.Slab.{with_value}
 use Rattle.tv_pool.specs.Layout.{IsLaidOut}
 use Rattle.tv_pool.specs.Pool.{with_item}
 use Rattle.tv_pool.specs.declared.layout.Placed.{Placed}
-use Rattle.tv_pool.proofs.Steps.{held, Held-item, IsLaidOut-write, write-view, shown}
+use Rattle.tv_pool.proofs.Steps.{held, Held-contains, Held-item, IsLaidOut-write, write-view, shown}
 use Rattle.tv_pool.proofs.Pool.get_mut.Goals as goal
 
 pub index_mut-requires : goal.index_mut-requires
 index_mut-requires g c =
     let h = held c.self.inside.nodes c.self.inside.regions c.self.inside.begun c.self.invariant _ _ _ (rw (← c.self.view_is) at c.requires) in
-    rw h.found refl
+    Held-contains c.self.inside.nodes c.self.inside.regions c.self.inside.begun c.self.invariant _ _ _ h
 
 pub invariant_of-self-lent : goal.invariant_of-self-lent
 invariant_of-self-lent g c w =

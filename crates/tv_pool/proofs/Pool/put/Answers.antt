@@ -5,14 +5,14 @@ use Rattle.slab.proofs.SlabLemmas.{Updates-with_value}
 use Rattle.tv_pool.specs.Layout.{regions_of}
 use Rattle.tv_pool.specs.declared.layout.Placed.{Placed}
 use Rattle.tv_pool.specs.declared.layout.Chain.{Chain}
-use Rattle.tv_pool.proofs.PoolLemmas.{Holds-put, item_at-put, Keeps-put, Puts-regions}
-use Rattle.tv_pool.proofs.Steps.{live_chain, count-le, IsLaidOut-room, IsLaidOut-put, put-view, shown}
+use Rattle.tv_pool.proofs.PoolLemmas.{Holds-put, item_at-put, items_of-put, Keeps-put, Puts-regions}
+use Rattle.tv_pool.proofs.Steps.{live_chain, LiveChain-contains, count-le, IsLaidOut-room, IsLaidOut-put, put-view, shown}
 use Rattle.tv_pool.proofs.Pool.put.Goals as goal
 
 pub index_mut-chain-requires : goal.index_mut-chain-requires
 index_mut-chain-requires g c =
     let live = live_chain c.self.inside.nodes c.self.inside.regions c.self.inside.begun _ _ (rw (← c.self.view_is) at c.requires) in
-    rw live.listed refl
+    LiveChain-contains c.self.inside.regions c.self.inside.begun _ _ live
 
 pub overflow_add-chain : goal.overflow_add-chain
 overflow_add-chain g c =
@@ -46,3 +46,6 @@ returns-clause-item g c = item_at-put _ _ _ _ _ c.requires (returns-clause-ok g 
 
 pub returns-clause-kept : goal.returns-clause-kept
 returns-clause-kept g c = Keeps-put _ _ _ _ _ c.requires (returns-clause-ok g c)
+
+pub returns-clause-last : goal.returns-clause-last
+returns-clause-last g c = items_of-put _ _ _ _ _ c.requires (returns-clause-ok g c)

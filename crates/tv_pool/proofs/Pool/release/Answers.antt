@@ -5,13 +5,13 @@ use Rattle.tv_pool.specs.Layout.{IsChain}
 use Rattle.tv_pool.specs.declared.layout.Chain.{Chain}
 use Rattle.tv_pool.proofs.Chains.{IsChain-last}
 use Rattle.tv_pool.proofs.PoolLemmas.{KeepsOthers-set}
-use Rattle.tv_pool.proofs.Steps.{live_chain, cut-position, cut-chain, cut-others, IsLaidOut-release, release-regions, release-spare, release_cases, regions}
+use Rattle.tv_pool.proofs.Steps.{live_chain, LiveChain-contains, cut-position, cut-chain, cut-others, IsLaidOut-release, release-regions, release-spare, release_cases, regions}
 use Rattle.tv_pool.proofs.Pool.release.Goals as goal
 
 pub remove-chain-requires : goal.remove-chain-requires
 remove-chain-requires g c =
     let live = live_chain c.self.inside.nodes c.self.inside.regions c.self.inside.begun _ _ (rw (← c.self.view_is) at c.requires) in
-    rw live.listed refl
+    LiveChain-contains c.self.inside.regions c.self.inside.begun _ _ live
 
 pub items-init : goal.items-init
 items-init g c =
