@@ -1,5 +1,5 @@
 ghost use Rattle.std.specs.Prelude.{All, IfOk, OnOk, List, Option, ◌≡◌, ◌≢◌, ◌<◌, length};
-ghost use Rattle.tv_pool.specs.Pool.{Holds, region_of};
+ghost use Rattle.tv_pool.specs.Pool.{Holds, IsLive, region_of};
 ghost use Rattle.tv_pool.specs.Mirror.{KnowsRegions, IsOfOthers};
 
 use super::*;
@@ -20,6 +20,29 @@ fn the_other_region_stays(rt: HostRuntime) -> Result<(), Fail> {
     pool.release(first);
     assert_eq!(rt; pool.live(), 1);
     assert_eq!(rt; *pool.get(seven), 7);
+    Ok(())
+}
+
+// What was reserved serves any regions, whatever is begun and released in between.
+fn reserved_puts_are_not_refused(pool: &mut Pool<u64>, other: Region)
+    requires { IsLive pool.old other }
+{
+    if pool.reserve(2).is_err() {
+        return;
+    }
+    let Ok(region) = pool.begin() else { return };
+    let first = pool.put(&other, 5).is_ok();
+    pool.release(other);
+    let second = pool.put(&region, 7).is_ok();
+    prove!(first && second);
+}
+
+#[test]
+fn room_stays(rt: HostRuntime) -> Result<(), Fail> {
+    let mut pool = Pool::new(rt.alloc());
+    let region = pool.begin()?;
+    reserved_puts_are_not_refused(&mut pool, region);
+    assert_eq!(rt; pool.live(), 1);
     Ok(())
 }
 
