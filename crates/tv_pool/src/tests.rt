@@ -24,24 +24,23 @@ fn the_other_region_stays(rt: HostRuntime) -> Result<(), Fail> {
 }
 
 // What was reserved serves any regions, whatever is begun and released in between.
-fn reserved_puts_are_not_refused(pool: &mut Pool<u64>, other: Region)
+fn reserved_puts_are_not_refused(pool: &mut Pool<u64>, other: Region) -> Result<(), NoMemory>
     requires { IsLive pool.old other }
 {
-    if pool.reserve(2).is_err() {
-        return;
-    }
-    let Ok(region) = pool.begin() else { return };
+    pool.reserve(2)?;
+    let region = pool.begin()?;
     let first = pool.put(&other, 5).is_ok();
     pool.release(other);
     let second = pool.put(&region, 7).is_ok();
     prove!(first && second);
+    Ok(())
 }
 
 #[test]
 fn room_stays(rt: HostRuntime) -> Result<(), Fail> {
     let mut pool = Pool::new(rt.alloc());
     let region = pool.begin()?;
-    reserved_puts_are_not_refused(&mut pool, region);
+    reserved_puts_are_not_refused(&mut pool, region)?;
     assert_eq!(rt; pool.live(), 1);
     Ok(())
 }
