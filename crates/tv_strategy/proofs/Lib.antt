@@ -1,0 +1,3 @@
+pub mod AtDepth
+pub mod AtPlace
+pub mod OfSources

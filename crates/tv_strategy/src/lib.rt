@@ -1,0 +1,2 @@
+//! Iteration strategies.
+#![tactic(auto)]
