@@ -8,7 +8,7 @@ use Rattle.tv_strategy.specs.Origins.{Origin, Traced, traced, from_job}
 use Rattle.tv_strategy.specs.Measures.{strategy_depth, sum_of_depths, first_depth, DotsAgree, AllDotsAgree, HaveOneDepth}
 use Rattle.tv_strategy.specs.Levels.{EndHasLevels, HasLevels, AllHaveLevels}
 use Rattle.tv_strategy.specs.Outputs.{output_below, outputs_from, end_output}
-use Rattle.tv_strategy.specs.Iterations.{Binding, End, job, passed, Iteration, Iterations, stopped, walk, walk_each, end_with, added, crossed, each_crossed, crossed_end, paired, each_paired, paired_end, iteration, cross_of, dot_of, walks}
+use Rattle.tv_strategy.specs.Iterations.{Binding, End, job, passed, Iteration, Iterations, stopped, walk, walk_each, end_with, added, crossed, each_crossed, crossed_end, paired, each_paired, paired_end, iteration, cross_of, dot_of}
 
 -- ---- a port walks its mismatch
 

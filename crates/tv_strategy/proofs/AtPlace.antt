@@ -19,7 +19,7 @@ pub record Both (t : Option Iteration) (u : Option Iteration) (b : Binding) : Ty
   pub first : IsJob t left
   pub second : IsJob u right
 
-item_at-map : {N M A B : Type 0} (f : N → M) (g : A → B) (ts : Trees N A) (i : ℕ) → item_at (map_trees f g ts) i ≡ option_map (map_tree f g) (item_at ts i)
+pub item_at-map : {N M A B : Type 0} (f : N → M) (g : A → B) (ts : Trees N A) (i : ℕ) → item_at (map_trees f g ts) i ≡ option_map (map_tree f g) (item_at ts i)
 item_at-map f g no_trees i = refl
 item_at-map f g (tree t ts) zero = refl
 item_at-map f g (tree t ts) (suc i) = item_at-map f g ts i
@@ -45,16 +45,16 @@ added-at s b (i ∷ q) (list r ts) c h =
 
 -- ---- a cross
 
-abbrev ItemHasLevels : Option Iteration → ℕ → Type 0
+abbrev pub ItemHasLevels : Option Iteration → ℕ → Type 0
 ItemHasLevels None k = Unit {0}
 ItemHasLevels (Some t) k = HasLevels t k
 
-item-levels : (ts : Iterations) (k i : ℕ) → AllHaveLevels ts k → ItemHasLevels (item_at ts i) k
+pub item-levels : (ts : Iterations) (k i : ℕ) → AllHaveLevels ts k → ItemHasLevels (item_at ts i) k
 item-levels no_trees k i h = tt
 item-levels (tree t ts) k zero h = h.0
 item-levels (tree t ts) k (suc i) h = item-levels ts k i h.1
 
-item_at-each_crossed : (ts : Iterations) (u : Iteration) (i : ℕ) → item_at (each_crossed ts u) i ≡ option_map (λ t. crossed t u) (item_at ts i)
+pub item_at-each_crossed : (ts : Iterations) (u : Iteration) (i : ℕ) → item_at (each_crossed ts u) i ≡ option_map (λ t. crossed t u) (item_at ts i)
 item_at-each_crossed no_trees u i = refl
 item_at-each_crossed (tree t ts) u zero = refl
 item_at-each_crossed (tree t ts) u (suc i) = item_at-each_crossed ts u i
@@ -81,12 +81,12 @@ crossed-at u (i ∷ q) (list s ts) (suc k) l c h =
 
 -- ---- a dot, or a child that goes on below the other
 
-abbrev pair_items : Option Iteration → Option Iteration → Option Iteration
+abbrev pub pair_items : Option Iteration → Option Iteration → Option Iteration
 pair_items None o = None
 pair_items (Some t) None = None
 pair_items (Some t) (Some u) = Some (paired t u)
 
-item_at-each_paired : (ts us : Iterations) (i : ℕ) → item_at (each_paired ts us) i ≡ pair_items (item_at ts i) (item_at us i)
+pub item_at-each_paired : (ts us : Iterations) (i : ℕ) → item_at (each_paired ts us) i ≡ pair_items (item_at ts i) (item_at us i)
 item_at-each_paired no_trees us i = refl
 item_at-each_paired (tree t ts) no_trees i = sym (nothing (item_at (tree t ts) i))
   where

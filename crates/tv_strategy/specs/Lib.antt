@@ -6,3 +6,7 @@ pub mod Conditions
 pub mod Outputs
 pub mod Levels
 pub mod Sources
+pub mod Views
+pub mod Promises
+pub mod Stated
+pub mod Worked

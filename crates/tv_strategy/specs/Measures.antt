@@ -50,7 +50,7 @@ abbrev mutual
 -- two children of a dot that differ: the depth of its first child, and the first other
 pub record Difference : Type 0 where
   pub first : ℕ
-  pub other : ℕ
+  pub second : ℕ
 
 abbrev pub depths_of : (Name → ℕ) → Strategies → List ℕ
 depths_of ports no_strategies = []
@@ -58,7 +58,7 @@ depths_of ports (strategy c cs) = strategy_depth ports c ∷ depths_of ports cs
 
 abbrev pub first_other : List ℕ → Option Difference
 first_other [] = None
-first_other (d ∷ ds) = option_map (λ e. record { first = d; other = e }) (find (λ e. not (e == d)) ds)
+first_other (d ∷ ds) = option_map (λ e. record { first = d; second = e }) (find (λ e. not (e == d)) ds)
 
 -- the first difference, children before their node, left to right
 abbrev mutual

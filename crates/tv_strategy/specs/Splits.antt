@@ -24,6 +24,10 @@ abbrev mutual
   split_dot ports no_strategies q = []
   split_dot ports (strategy c cs) q = split ports c q ++ split_dot ports cs q
 
+-- the first d indices were taken, as deep as the strategy, and the places that they split into were added
+abbrev pub AddsSplit : (Name → ℕ) → Strategy → Place → List (Name × Place) → List (Name × Place) → ℕ → Type 0
+AddsSplit ports s indices before after d = (d ≡ strategy_depth ports s) × (after ≡ before ++ split ports s (take d indices))
+
 -- a binding has, port by port, what stands at these places of the ports' values
 abbrev pub IsBoundAt : (Name → Traced) → List (Name × Place) → Binding → Type 0
 IsBoundAt values places b = map {B = Name × Option Traced} (λ r. (r.0, Some r.1)) b ≡ map {B = Name × Option Traced} (λ r. (r.0, at (values r.0) r.1)) places
