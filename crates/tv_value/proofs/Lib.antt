@@ -2,3 +2,5 @@ pub mod OfItems
 pub mod OfReading
 pub mod Looking
 pub mod OfFaults
+pub mod ByName
+pub mod OfTrees
