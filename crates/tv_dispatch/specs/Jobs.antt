@@ -1,5 +1,5 @@
 -- One job: its tries as a finished list, the judgment of an outcome, and how the tries end.
-use Rattle.std.specs.Prelude.{ℕ, zero, suc, List, [], ◌∷◌, ◌++◌, map, flat_map, length, ◌==◌, if◌then◌else◌, Option, Some, None, Result, Ok, Err, codes, decimal}
+use Rattle.std.specs.Prelude.{ℕ, suc, List, [], ◌∷◌, ◌++◌, map, flat_map, length, ◌==◌, if◌then◌else◌, Option, Some, None, Result, Ok, Err, codes, decimal}
 use Rattle.std.specs.List.{range_with_len}
 use Rattle.tv_value.specs.Nested.{leaves}
 use Rattle.tv_value.specs.Values.{Text, Name, JobName, Value, has_depth, holds_fault, makers_of, fault_value}

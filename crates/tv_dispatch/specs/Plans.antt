@@ -1,5 +1,5 @@
 -- A job's tries as the numbers of activities and attempts, and the fold of them one step at a time.
-use Rattle.std.specs.Prelude.{◌≡◌, ℕ, suc, List, [], ◌∷◌, ◌++◌, map, Bool, true, false, ◌&&◌, ◌==◌, if◌then◌else◌, Some, is_ok}
+use Rattle.std.specs.Prelude.{◌≡◌, ℕ, suc, List, [], ◌∷◌, ◌++◌, map, Bool, ◌&&◌, ◌==◌, if◌then◌else◌, Some, is_ok}
 use Rattle.std.specs.List.{range_with_len, slice_get}
 use Rattle.tv_gate.specs.Outcomes.{Giving}
 use Rattle.tv_dispatch.specs.Activities.{Activity, service, nested}
@@ -80,5 +80,5 @@ IsFate as' (wrong why) x = x ≡ next.Failed
 abbrev pub number : Ask → ℕ × ℕ
 number a = (a.activity, a.attempt)
 
-abbrev pub is_right : Giving → Ask → Bool
-is_right gives a = is_ok (outcome_of gives a)
+abbrev pub came_right : Giving → Ask → Bool
+came_right gives a = is_ok (outcome_of gives a)

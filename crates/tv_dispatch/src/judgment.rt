@@ -1,7 +1,8 @@
-ghost use Rattle.std.specs.Prelude.{◌≡◌, IfOk, map, length, Ok};
+ghost use Rattle.std.specs.Prelude.{◌≡◌, IfOk, map};
 ghost use Rattle.tv_value.specs.Views.{view};
+ghost use Rattle.tv_gate.specs.Outcomes.{good};
 ghost use Rattle.tv_gate.specs.Views.{outcome_view};
-ghost use Rattle.tv_dispatch.specs.Jobs.{judged, value_complaint, first_complaint, ok_unless};
+ghost use Rattle.tv_dispatch.specs.Jobs.{judged, value_complaint};
 ghost use Rattle.tv_dispatch.specs.Verdicts.{verdict_of};
 
 use std::alloc::Global;
@@ -23,7 +24,49 @@ pub fn judge(alloc: Global, outputs: &Depths, outcome: &Outcome) -> Result<Verdi
     ensures { IfOk result (λ v. v ≡ verdict_of (judged (map (λ o. o.1) outputs.now) (outcome_view outcome.now))) }
 {
     match outcome {
-        Outcome::Good(values) => Ok(Verdict::Right),
+        Outcome::Good(values) => judge_values(alloc, outputs.as_slice(), values.as_slice()),
         Outcome::Bad(why) => Ok(Verdict::Wrong(why.copy(alloc)?)),
     }
+}
+
+/// Judges the values of an outcome.
+fn judge_values(
+    alloc: Global,
+    outputs: &[(Name, u32)],
+    values: &[Value],
+) -> Result<Verdict, NoMemory>
+    ensures { IfOk result (λ v. v ≡ verdict_of (judged (map (λ o. o.1) outputs.now) (good (map view values.now)))) }
+{
+    let count = values.len();
+    if count != outputs.len() {
+        let why = format!(in alloc; "outcome has {count} values")?;
+        return Ok(Verdict::Wrong(Text::of(why)));
+    }
+    for index in 0..count {
+        let complaint = complaint(alloc, index + 1, outputs[index].1, &values[index])?;
+        if let Some(why) = complaint {
+            return Ok(Verdict::Wrong(why));
+        }
+    }
+    Ok(Verdict::Right)
+}
+
+/// Why an output's value of this number, from 1, isn't right.
+fn complaint(
+    alloc: Global,
+    number: usize,
+    depth: u32,
+    value: &Value,
+) -> Result<Option<Text>, NoMemory>
+    ensures { IfOk result (λ o. o ≡ value_complaint number depth (view value.now)) }
+{
+    if value.holds_fault() {
+        let why = format!(in alloc; "outcome value {number} holds an error")?;
+        return Ok(Some(Text::of(why)));
+    }
+    if value.has_depth(depth) {
+        return Ok(None);
+    }
+    let why = format!(in alloc; "outcome value {number} lacks depth {depth}")?;
+    Ok(Some(Text::of(why)))
 }
