@@ -1,0 +1,4 @@
+pub mod Activities
+pub mod Jobs
+pub mod Plans
+pub mod Verdicts
