@@ -5,7 +5,7 @@ use Rattle.tv_value.specs.Nested.{no_trees}
 use Rattle.tv_value.specs.Values.{Value, text_value, list_value, fault_value}
 use Rattle.tv_value.specs.Orders.{same_name}
 use Rattle.tv_gate.specs.Outcomes.{good, bad, Giving}
-use Rattle.tv_dispatch.specs.Activities.{service, nested}
+use Rattle.tv_value.specs.Activities.{service, nested}
 use Rattle.tv_dispatch.specs.Jobs.{judged, tries, Taken, taken, right, opens, wrong}
 use Rattle.tv_dispatch.specs.Plans.{number}
 

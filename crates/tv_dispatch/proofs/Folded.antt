@@ -10,7 +10,7 @@ use Rattle.tv_dispatch.specs.declared.plan.Kind.TheVariants.{Service, Nested}
 use Rattle.tv_dispatch.specs.declared.plan.Plan.{Plan}
 use Rattle.tv_dispatch.specs.declared.plan.Next.{Next}
 use Rattle.tv_dispatch.specs.declared.plan.Next.TheVariants as next
-use Rattle.tv_dispatch.specs.Activities.{Activity, service, nested}
+use Rattle.tv_value.specs.Activities.{Activity, service, nested}
 use Rattle.tv_dispatch.specs.Jobs.{Ask, Try, ask, open_flow, tries, outcome_of, Taken, taken, match_result, right}
 use Rattle.tv_dispatch.specs.Plans.{Turn, asks, nests, turns, turns_of, left_after, first_next, next_try, asked, reached, taken_turns, kind_of, IsFate, number, came_right}
 use Rattle.tv_dispatch.proofs.Turns.{attempts, rest, left-rest, rest-again, rest-over}

@@ -5,7 +5,7 @@ use Rattle.tv_value.specs.Nested.{leaves}
 use Rattle.tv_value.specs.Values.{Text, Name, JobName, Value, has_depth, holds_fault, makers_of, fault_value}
 use Rattle.tv_value.specs.Orders.{job_name_cmp, in_order}
 use Rattle.tv_gate.specs.Outcomes.{Outcome, good, bad, Giving}
-use Rattle.tv_dispatch.specs.Activities.{Activity, service, nested}
+use Rattle.tv_value.specs.Activities.{Activity, service, nested}
 
 -- why output value k, of this depth, isn't right
 abbrev pub value_complaint : ℕ → ℕ → Value → Option Text

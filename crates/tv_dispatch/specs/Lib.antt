@@ -1,4 +1,3 @@
-pub mod Activities
 pub mod Jobs
 pub mod Plans
 pub mod Verdicts

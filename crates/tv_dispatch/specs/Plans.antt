@@ -2,7 +2,7 @@
 use Rattle.std.specs.Prelude.{◌≡◌, ℕ, suc, List, [], ◌∷◌, ◌++◌, map, Bool, ◌&&◌, ◌==◌, if◌then◌else◌, Some, is_ok}
 use Rattle.std.specs.List.{range_with_len, slice_get}
 use Rattle.tv_gate.specs.Outcomes.{Giving}
-use Rattle.tv_dispatch.specs.Activities.{Activity, service, nested}
+use Rattle.tv_value.specs.Activities.{Activity, service, nested}
 use Rattle.tv_dispatch.specs.Jobs.{Ask, outcome_of, Fate, right, opens, wrong}
 use Rattle.tv_dispatch.specs.declared.plan.Kind.{Kind}
 use Rattle.tv_dispatch.specs.declared.plan.Kind.TheVariants.{Service, Nested}

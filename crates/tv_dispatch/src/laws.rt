@@ -3,7 +3,7 @@ ghost use Rattle.std.specs.Prelude.{◌≡◌, ◌≤◌, ◌+◌, ◌*◌, ℕ,
 ghost use Rattle.tv_value.specs.Values.{Value};
 ghost use Rattle.tv_gate.specs.Outcomes.{Giving, Outcome, good};
 ghost use Rattle.tv_dispatch.specs.declared.plan.Plan.{Plan};
-ghost use Rattle.tv_dispatch.specs.Activities.{Activity};
+ghost use Rattle.tv_value.specs.Activities.{Activity};
 ghost use Rattle.tv_dispatch.specs.Jobs.{judged, tries, taken};
 ghost use Rattle.tv_dispatch.specs.Plans.{asked, reached, first_next, taken_turns, turns_of, kind_of, came_right, number, IsFate};
 
