@@ -4,3 +4,5 @@ pub mod Looking
 pub mod OfFaults
 pub mod OfDepths
 pub mod Computed
+pub mod ByName
+pub mod OfTrees
