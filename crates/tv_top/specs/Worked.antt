@@ -1,5 +1,5 @@
 -- Worked examples: what each definition comes to on small documents, bytes and words.
-use Rattle.std.specs.Prelude.{◌≡◌, ℕ, List, [], ◌∷◌, map, codes, Option, Some, None}
+use Rattle.std.specs.Prelude.{◌≡◌, ℕ, List, [], ◌∷◌, map, codes, Some, None}
 use Rattle.serde_json.specs.Data.{Data, unsigned, number, string, array, object, Items, no_items, item}
 use Rattle.tv_value.specs.Nested.{trees_of}
 use Rattle.tv_value.specs.Values.{Text, Name, Value, text_value, list_value}
@@ -7,7 +7,7 @@ use Rattle.tv_value.specs.Printed.{members}
 use Rattle.tv_gate.specs.Outcomes.{good, bad, Giving}
 use Rattle.tv_top.specs.Local.{local_gives, local_knows}
 use Rattle.tv_top.specs.Narrow.{Narrow, narrow}
-use Rattle.tv_top.specs.Meaning.{Totals, mapped, narrow_totals}
+use Rattle.tv_top.specs.Meaning.{mapped, narrow_totals}
 use Rattle.tv_top.specs.Words.{command_of, run}
 use Rattle.tv_top.specs.Answers.{printed, refused, answer_to_json, answer_to}
 use Rattle.tv_top.specs.Lines.{fault_line, code_of}
