@@ -2,10 +2,10 @@
 #![tactic(auto)]
 
 use std::alloc::Global;
+use std::io::ErrorKind;
 use std::process::ExitCode;
 use std::rt::Env;
 use std::{env, io};
-use std::io::ErrorKind;
 use tv_gate::GateAsker;
 use tv_io::{ReaderSource, WriterSink, write_all};
 use tv_top::services::LocalGate;
