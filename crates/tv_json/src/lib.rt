@@ -8,6 +8,8 @@
 #![tactic(auto)]
 
 mod names;
+#[cfg(test)]
+mod tests;
 mod values;
 
 pub use names::{element_text, job_text};

@@ -8,14 +8,16 @@
 //! items in the order in which they were put (`items_of`), and `spare`, how many puts can't be
 //! refused. A region's number is never given twice. `put` adds one item at the end of one region's
 //! list, `get_mut` writes one item, `release` takes away one region, and nothing else changes.
-//! Every item is dropped once: when its region is released, or with the pool. Only `put` lowers
-//! `spare`, by 1 at most. So after `reserve` of some number, as many puts are not refused, whatever
-//! regions they are for, and whatever is begun or released in between. Want of memory is the one
-//! refusal, and leaves all regions as they were.
+//! Only `put` lowers `spare`, by 1 at most. So after `reserve` of some number, as many puts are not
+//! refused, whatever regions they are for, and whatever is begun or released in between. Want of
+//! memory is the one refusal, and leaves all regions as they were; after 2^64 - 1 regions `begin`
+//! answers the same. That every item is dropped once, when its region is released or with the pool,
+//! is tested and in no contract.
 //!
 //! **Handles.** `Region` and `Node` also hold where in the pool's memory they lie, so that no call
-//! searches. A handle of another pool lies elsewhere there, and does not meet the conditions
-//! `IsLive` and `Holds`.
+//! searches. A handle of another pool may stand for the same number and spot; the conditions
+//! `IsLive` and `Holds` speak only of numbers and spots, so a caller keeps each pool's handles
+//! apart.
 //!
 //! **How it is laid out.** The items of all regions stand in one slab, each with the slot of the
 //! item before it in its region; a table has each live region's number, last slot and count

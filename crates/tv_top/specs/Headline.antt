@@ -45,14 +45,18 @@ IsAnswer answer s text = OfDocument s (λ bytes. (answer bytes ≡ printed text)
 abbrev pub IsRefusal : (List ℕ → Answer) → Source → Status → Type 0
 IsRefusal answer s status = OfDocument s (λ bytes. answer bytes ≡ refused status)
 
+-- the source was read to its end, and this refusal is the answer
+abbrev pub IsReadRefusal : (List ℕ → Answer) → Source → Status → Type 0
+IsReadRefusal answer s status = OfDocument s (λ bytes. (answer bytes ≡ refused status) × (s.left_after ≡ Some []))
+
 -- why a run came to an end without a text to print
 abbrev pub RefusalCause : (List ℕ → Answer) → Source → Status → Type 0
 RefusalCause answer s Done = ⊥
 RefusalCause answer s Usage = IsRefusal answer s Usage
 RefusalCause answer s ReadFault = ReadFailed s
 RefusalCause answer s TooLong = IsRefusal answer s TooLong
-RefusalCause answer s NotJson = IsRefusal answer s NotJson
-RefusalCause answer s NotBuilt = IsRefusal answer s NotBuilt
+RefusalCause answer s NotJson = IsReadRefusal answer s NotJson
+RefusalCause answer s NotBuilt = IsReadRefusal answer s NotBuilt
 RefusalCause answer s WriteFault = ⊥
 RefusalCause answer s NoMemory = Unit {0}
 
@@ -69,8 +73,8 @@ Cause answer s out Usage = IsRefusal answer s Usage
 -- the source counted a fault
 Cause answer s out ReadFault = ReadFailed s
 Cause answer s out TooLong = IsRefusal answer s TooLong
-Cause answer s out NotJson = IsRefusal answer s NotJson
-Cause answer s out NotBuilt = IsRefusal answer s NotBuilt
+Cause answer s out NotJson = IsReadRefusal answer s NotJson
+Cause answer s out NotBuilt = IsReadRefusal answer s NotBuilt
 -- the output counted a fault; the document was read to its end, and a beginning of its answer was written, not the whole
 Cause answer s out WriteFault = WriteFailed out × OfDocument s (λ bytes. (text : Text) × (answer bytes ≡ printed text) × (s.left_after ≡ Some []) × IsCutShort out.sent out.sent_after text)
 -- want of memory alone is free

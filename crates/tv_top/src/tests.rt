@@ -8,9 +8,9 @@ use std::alloc::Global;
 use std::sync::Wait;
 use std::test::Fail;
 use std::thread::Threads;
-use tv_gate::{Asker, GateAsker, Outcome};
+use tv_gate::{Asker, GateAsker, LoggedGate, Outcome};
 use tv_io::{MemorySink, MemorySource};
-use tv_value::{Items, NoMemory};
+use tv_value::{Items, NoMemory, Value};
 
 /// The document of one text.
 const ONE_TEXT: &str =
@@ -519,4 +519,35 @@ fn each_status_has_its_code(rt: HostRuntime) {
     for (status, code) in table {
         assert_eq!(rt; status.code(), code);
     }
+}
+
+/// Whether these are the inputs of one text.
+fn is_one_text(inputs: &Items, text: &str) -> bool {
+    let values = inputs.as_slice();
+    match values.get(0) {
+        Some(Value::Text(inside)) => values.len() == 1 && inside.as_str() == text,
+        _ => false,
+    }
+}
+
+// Each text is asked for once, in order, by its first attempt.
+#[test]
+fn each_text_is_asked_for_once(rt: HostRuntime) -> Result<(), Fail> {
+    let alloc = rt.alloc();
+    let words = words_of(alloc, &["run"])?;
+    let mut source = source_of(alloc, TWO_TEXTS.as_bytes(), SOUND)?;
+    let mut out = sink_of(alloc, SOUND.piece, 0)?;
+    let mut err = sink_of(alloc, SOUND.piece, 0)?;
+    let gate = LocalGate::new();
+    let mut asker = LoggedGate::new(alloc, &gate);
+    let status = taverna_alone(alloc, &words, &mut source, &mut out, &mut err, &mut asker);
+    assert_eq!(rt; status, Status::Done);
+    let calls = asker.calls();
+    assert_eq!(rt; calls.len(), 2);
+    for (call, text) in calls.iter().zip(["a", "b"]) {
+        assert_eq!(rt; call.service.as_str(), "upper");
+        assert_eq!(rt; call.attempt, 0);
+        assert!(rt; is_one_text(&call.inputs, text), "{text}");
+    }
+    Ok(())
 }

@@ -1,7 +1,8 @@
 //! The top calls.
-ghost use Rattle.std.specs.Prelude.{◌≡◌, ◌≢◌, ◌≤◌, ◌↔◌, None, Err};
+ghost use Rattle.std.specs.Prelude.{◌+◌, ◌≡◌, ◌≢◌, ◌≤◌, ◌↔◌, None, Err};
 ghost use Rattle.tv_top.specs.Words.{command_of as asked_for};
-ghost use Rattle.tv_top.specs.Answers.{answer_to, run_answer};
+ghost use Rattle.tv_top.specs.Answers.{answer_to, run_answer, byte_limit};
+ghost use Rattle.tv_io.specs.ReadOf.{TakesAtMost};
 ghost use Rattle.tv_top.specs.Asked.{texts_of};
 ghost use Rattle.tv_top.specs.Lines.{fault_line};
 ghost use Rattle.tv_top.specs.Headline.{IsAnswered, Cause, IsComplete, IsReported};
@@ -43,6 +44,7 @@ pub fn taverna_alone<S: Source, K: Sink, E: Sink, A: Asker>(
 
     // Words that give no command are told from them alone, and then nothing is read.
     ensures usage { (result ≡ Status.Usage) ↔ (asked_for (texts_of words.now) ≡ None) }
+    ensures taken { TakesAtMost (byte_limit + 1) (S.left source.old) (S.left source.new) }
     ensures unread { result ≡ Status.Usage → source.new ≡ source.old }
 
     // The output has nothing but an answer, and the line on `err` is the status's.
@@ -80,6 +82,7 @@ fn carried_out<S: Source, K: Sink, A: Asker>(
         (record { left = S.left source.old; left_after = S.left source.new; faults = S.faults source.old; faults_after = S.faults source.new })
         (record { sent = K.sent out.old; sent_after = K.sent out.new; faults = K.faults out.old; faults_after = K.faults out.new }) result }
     ensures usage { (result ≡ Status.Usage) ↔ (asked_for (texts_of words.now) ≡ None) }
+    ensures taken { TakesAtMost (byte_limit + 1) (S.left source.old) (S.left source.new) }
     ensures unread { result ≡ Status.Usage → source.new ≡ source.old }
     ensures silent { result ≢ Status.Done → result ≢ Status.WriteFault → out.new ≡ out.old }
 {
@@ -102,6 +105,7 @@ fn answered<S: Source, A: Asker>(
     ensures answer { IsAnswered (answer_to A.Services.gives A.Services.knows (asked_for (texts_of words.now)))
         (record { left = S.left source.old; left_after = S.left source.new; faults = S.faults source.old; faults_after = S.faults source.new }) result }
     ensures usage { (result ≡ Err Status.Usage) ↔ (asked_for (texts_of words.now) ≡ None) }
+    ensures taken { TakesAtMost (byte_limit + 1) (S.left source.old) (S.left source.new) }
     ensures unread { result ≡ Err Status.Usage → source.new ≡ source.old }
 {
     match command_of(words) {
@@ -113,6 +117,7 @@ fn answered<S: Source, A: Asker>(
 fn run<S: Source, A: Asker>(alloc: Global, source: &mut S, asker: &mut A) -> Result<Text, Status>
     ensures answer { IsAnswered (run_answer A.Services.gives A.Services.knows)
         (record { left = S.left source.old; left_after = S.left source.new; faults = S.faults source.old; faults_after = S.faults source.new }) result }
+    ensures taken { TakesAtMost (byte_limit + 1) (S.left source.old) (S.left source.new) }
     ensures command { result ≢ Err Status.Usage }
 {
     match read_all(alloc, source, BYTE_LIMIT) {
@@ -149,6 +154,7 @@ pub fn taverna<
         (record { left = S.left source.old; left_after = S.left source.new; faults = S.faults source.old; faults_after = S.faults source.new })
         (record { sent = K.sent out.old; sent_after = K.sent out.new; faults = K.faults out.old; faults_after = K.faults out.new }) result }
     ensures usage { (result ≡ Status.Usage) ↔ (asked_for (texts_of words.now) ≡ None) }
+    ensures taken { TakesAtMost (byte_limit + 1) (S.left source.old) (S.left source.new) }
     ensures unread { result ≡ Status.Usage → source.new ≡ source.old }
     ensures silent { result ≢ Status.Done → result ≢ Status.WriteFault → out.new ≡ out.old }
     ensures unsaid { result ≡ Status.Done → err.new ≡ err.old }

@@ -7,11 +7,10 @@ use smallvec::SmallVec;
 use std::alloc::Global;
 use std::marker::Model;
 
-/// How many indices a place holds with no allocation. No delivered depth is greater.
-pub const INLINE: usize = 32;
-
 /// A place in a value: an index for each level, the outermost first. The empty place is the whole value.
-#[derive(Drop)]
+///
+/// Up to 32 indices it holds with no allocation. No delivered depth is greater.
+#[derive(Debug, Drop)]
 pub struct Place {
     indices: SmallVec<u32, 32>,
 }

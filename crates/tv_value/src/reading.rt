@@ -12,11 +12,19 @@ use crate::text::Text;
 use crate::value::{Items, Value};
 use serde_json::Number;
 use std::alloc::{AllocError, AllocFailed, Global};
+use thiserror::Error;
 
-#[derive(Drop)]
+/// Why a JSON tree is no value, with the place of what is wrong in it.
+#[derive(Debug, Drop, Error)]
 pub enum ValueFault {
+    /// Neither a string, nor an integer, nor an array.
+    #[error("neither a text, nor an integer, nor a list")]
     NotText(Place),
+    /// A list whose items have no depth in common, or that has 2^32 items or more.
+    #[error("the items of a list have no depth in common")]
     Ragged(Place),
+    /// Want of memory.
+    #[error("want of memory")]
     NoMemory,
 }
 
@@ -40,6 +48,9 @@ impl<T: Drop> From<AllocFailed<T>> for ValueFault {
     }
 }
 
+/// The value of a JSON tree: a text of a string, the text of a number's digits, a list of an array.
+///
+/// Items are read in order and a list itself after them; the first fault is answered. Linear in the tree.
 #[cycle(reading)]
 pub fn value_of(alloc: Global, json: &serde_json::Value) -> Result<Value, ValueFault>
     ensures { IsReading result (read (json_view json.now)) }

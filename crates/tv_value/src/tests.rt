@@ -2,7 +2,9 @@ use crate::job_name::JobName;
 use crate::memory::NoMemory;
 use crate::place::Place;
 use crate::sequence::Sequence;
+use crate::copied::Copied;
 use crate::text::Text;
+use crate::tree::{Tree, Trees};
 use crate::value::{ErrorDoc, Items, Value};
 use std::alloc::Global;
 use std::test::Fail;
@@ -49,6 +51,65 @@ fn makers_stand_in_order_each_once(rt: HostRuntime) -> Result<(), Fail> {
             makers.as_slice().get(index) == Some(&job(alloc, step, place)?),
             "at {index}"
         );
+    }
+    Ok(())
+}
+
+fn is_text(value: Option<&Value>, text: &str) -> bool {
+    match value {
+        Some(Value::Text(inside)) => inside.as_str() == text,
+        _ => false,
+    }
+}
+
+fn is_bounced(value: Option<&Value>, at: &JobName) -> bool {
+    match value {
+        Some(Value::Fault(error)) => {
+            &error.at == at && error.why.as_str() == "bounced" && error.from.as_slice().is_empty()
+        }
+        _ => false,
+    }
+}
+
+// With ample memory nothing is refused.
+#[test]
+fn values_are_copied_whole(rt: HostRuntime) -> Result<(), Fail> {
+    let alloc = rt.alloc();
+    let text = Value::Text(Text::from_str(alloc, "a text of more than a few letters")?);
+    let copy = list(alloc, fault(alloc, "q", 10)?, text)?.copy(alloc)?;
+    match &copy {
+        Value::List(items) => {
+            let values = items.values.as_slice();
+            assert_eq!(rt; values.len(), 2);
+            assert!(rt; is_bounced(values.get(0), &job(alloc, "q", 10)?));
+            assert!(rt; is_text(values.get(1), "a text of more than a few letters"));
+        }
+        _ => assert!(rt; false, "no list"),
+    }
+    Ok(())
+}
+
+fn is_leaf(tree: Option<&Tree>, port: &str) -> bool {
+    match tree {
+        Some(Tree::Leaf(name)) => name.as_str() == port,
+        _ => false,
+    }
+}
+
+#[test]
+fn strategies_are_copied_whole(rt: HostRuntime) -> Result<(), Fail> {
+    let alloc = rt.alloc();
+    let mut trees = Vec::new(alloc);
+    trees.push(Tree::Leaf(Text::from_str(alloc, "a")?))?;
+    trees.push(Tree::Dot(Trees::of(Vec::new(alloc))))?;
+    match &Tree::Cross(Trees::of(trees)).copy(alloc)? {
+        Tree::Cross(trees) => {
+            let copies = trees.as_slice();
+            assert_eq!(rt; copies.len(), 2);
+            assert!(rt; is_leaf(copies.get(0), "a"));
+            assert!(rt; matches!(copies.get(1), Some(Tree::Dot(_))));
+        }
+        _ => assert!(rt; false, "no cross"),
     }
     Ok(())
 }

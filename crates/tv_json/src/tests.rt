@@ -1,0 +1,48 @@
+use crate::{compact, element_text, job_text, json_of_value};
+use std::alloc::Global;
+use std::test::Fail;
+use tv_value::{ErrorDoc, Items, JobName, NoMemory, Place, Sequence, Text, Value};
+
+/// The job `n[0]/u[]`.
+fn inner_job(alloc: Global) -> Result<JobName, NoMemory> {
+    let mut levels = Vec::new(alloc);
+    levels.push((Text::from_str(alloc, "n")?, Place::of(alloc, &[0])?))?;
+    levels.push((Text::from_str(alloc, "u")?, Place::top(alloc)))?;
+    Ok(Sequence::of(levels))
+}
+
+#[test]
+fn names_are_written_with_their_places(rt: HostRuntime) -> Result<(), Fail> {
+    let alloc = rt.alloc();
+    let element = element_text(
+        alloc,
+        &Text::from_str(alloc, "u")?,
+        &Place::of(alloc, &[1, 2])?,
+    )?;
+    assert_eq!(rt; element.as_str(), "u[1,2]");
+    assert_eq!(rt; job_text(alloc, &inner_job(alloc)?)?.as_str(), "n[0]/u[]");
+    Ok(())
+}
+
+#[test]
+fn an_error_document_stands_in_a_list(rt: HostRuntime) -> Result<(), Fail> {
+    let alloc = rt.alloc();
+    let mut from = Vec::new(alloc);
+    from.push(inner_job(alloc)?)?;
+    let error = ErrorDoc {
+        at: inner_job(alloc)?,
+        depth: 1,
+        why: Text::from_str(alloc, "bounced")?,
+        from: Sequence::of(from),
+    };
+    let mut values = Vec::new(alloc);
+    values.push(Value::Fault(Box::new(alloc, error)?))?;
+    values.push(Value::Text(Text::from_str(alloc, "a\n\"b\"")?))?;
+    values.push(Value::List(Items::of(Vec::new(alloc))))?;
+    let json = json_of_value(alloc, &Value::List(Items::of(values)))?;
+    assert_eq!(rt;
+        compact(alloc, &json)?.as_str(),
+        "[{\"error\":{\"at\":\"n[0]/u[]\",\"depth\":1,\"from\":[\"n[0]/u[]\"],\"why\":\"bounced\"}},\"a\\n\\\"b\\\"\",[]]"
+    );
+    Ok(())
+}
