@@ -1,0 +1,7 @@
+pub mod OfViews
+pub mod OfNumbers
+pub mod OfNames
+pub mod OfComplaints
+pub mod OfTexts
+pub mod OfLists
+pub mod Examples

@@ -1,0 +1,64 @@
+-- The first complaint of the inputs, input by input.
+use Rattle.std.specs.Prelude.{◌≡◌, ℕ, zero, suc, ◌+◌, ◌<◌, ◌≤◌, List, [], ◌∷◌, map, drop, length, refl, Option, Some, None}
+use Rattle.std.proofs.Common.{arith, ap, ◌∙◌, get_or}
+use Rattle.tv_value.specs.Values as spec
+use Rattle.tv_value.specs.Values.{Text}
+use Rattle.tv_value.specs.declared.value.Value.{Value}
+use Rattle.tv_value.specs.Views.{view}
+use Rattle.tv_local.specs.declared.row.Want.{Want}
+use Rattle.tv_local.specs.Reading.{first_of, or_else}
+
+next : (i : ℕ) → suc i ≡ i + 1
+next i = omega arith
+
+module _ (f : ℕ → Want → spec.Value → Option Text) where
+  -- the first complaint from number i on
+  abbrev pub complaint_from : ℕ → List Want → List Value → Option Text
+  complaint_from i ws vs = first_of f (i + 1) (drop i ws) (drop i (map view vs))
+
+  step_at : (ws : List Want) (vs : List Value) (i k : ℕ) (w : Want) (v : Value) → i < length ws → i < length vs → first_of f k (drop i ws) (drop i (map view vs)) ≡ or_else (f k (get_or ws i w) (view (get_or vs i v))) (first_of f (suc k) (drop (suc i) ws) (drop (suc i) (map view vs)))
+  step_at [] vs i k w v h p = absurd (none i h)
+    where
+      none : (i : ℕ) → i < 0 → ⊥
+      none i q = omega arith
+  step_at (x ∷ ws) [] i k w v h p = absurd (none i p)
+    where
+      none : (i : ℕ) → i < 0 → ⊥
+      none i q = omega arith
+  step_at (x ∷ ws) (y ∷ vs) zero k w v h p = refl
+  step_at (x ∷ ws) (y ∷ vs) (suc i) k w v h p = step_at ws vs i k w v (omega arith) (omega arith)
+
+  pub complaint-step : (ws : List Want) (vs : List Value) (i : ℕ) (w : Want) (v : Value) → i < length ws → i < length vs → complaint_from i ws vs ≡ or_else (f (i + 1) (get_or ws i w) (view (get_or vs i v))) (complaint_from (i + 1) ws vs)
+  complaint-step ws vs i w v h p =
+      step_at ws vs i (i + 1) w v h p
+      ∙ ap (λ c. or_else (f (i + 1) (get_or ws i w) (view (get_or vs i v))) c)
+      (ap (λ n. first_of f n (drop (suc i) ws) (drop (suc i) (map view vs))) (next (i + 1)) ∙ ap (λ n. first_of f (i + 1 + 1) (drop n ws) (drop n (map view vs))) (next i))
+
+  of_none : (k : ℕ) (ws : List Want) → first_of f k ws [] ≡ None
+  of_none k [] = refl
+  of_none k (w ∷ ws) = refl
+
+  end_at : (ws : List Want) (us : List spec.Value) (i k : ℕ) → length ws ≤ i → first_of f k (drop i ws) (drop i us) ≡ None
+  end_at [] us zero k p = refl
+  end_at [] us (suc i) k p = refl
+  end_at (w ∷ ws) us zero k p = absurd (none (length ws) p)
+    where
+      none : (n : ℕ) → suc n ≤ 0 → ⊥
+      none n q = omega arith
+  end_at (w ∷ ws) [] (suc i) k p = of_none k (drop i ws)
+  end_at (w ∷ ws) (u ∷ us) (suc i) k p = end_at ws us i k (omega arith)
+
+  pub complaint-end : (ws : List Want) (vs : List Value) (i : ℕ) → length ws ≤ i → complaint_from i ws vs ≡ None
+  complaint-end ws vs i h = end_at ws (map view vs) i (i + 1) h
+
+pub found-first : (o p : Option Text) (why : Text) → o ≡ Some why → or_else o p ≡ Some why
+found-first o p why e = ap (λ q. or_else q p) e
+
+-- an item is the same whatever would stand past the end
+pub item_default : {A : Type 0} (xs : List A) (i : ℕ) (d e : A) → i < length xs → get_or xs i d ≡ get_or xs i e
+item_default [] i d e h = absurd (none i h)
+  where
+    none : (i : ℕ) → i < 0 → ⊥
+    none i p = omega arith
+item_default (x ∷ xs) zero d e h = refl
+item_default (x ∷ xs) (suc i) d e h = item_default xs i d e (omega arith)
