@@ -1,0 +1,16 @@
+pub mod Jobs
+pub mod Made
+pub mod Instances
+pub mod Turns
+pub mod Meanings
+pub mod Totals
+pub mod Lineages
+pub mod Results
+pub mod Partials
+pub mod Agreeing
+pub mod Levels
+pub mod Lists
+pub mod Members
+pub mod Earlier
+pub mod Asked
+pub mod Stated
