@@ -5,3 +5,5 @@
 //! (`specs/Steps.antt`). They take the results of an instance's jobs as a function of their names, and the steps so far
 //! in whatever form the crate above keeps them. The check of documents will stand here.
 #![tactic(auto)]
+
+pub mod laws;
