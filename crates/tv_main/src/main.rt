@@ -5,16 +5,26 @@ use std::alloc::Global;
 use std::process::ExitCode;
 use std::rt::Env;
 use std::{env, io};
+use std::io::ErrorKind;
 use tv_gate::GateAsker;
-use tv_io::{ReaderSource, WriterSink};
+use tv_io::{ReaderSource, WriterSink, write_all};
 use tv_top::services::LocalGate;
 use tv_top::{Status, taverna};
 
-/// The words after the program's name.
+/// The words after the program's name. Where one isn't UTF-8 there are none, which give no command either.
 fn words(rt: &(impl Env + Alloc<A = Global>)) -> io::Result<Vec<String>> {
     let mut words = Vec::new(rt.alloc());
-    for word in env::args(rt)?.skip(1) {
-        words.push(word)?;
+    match env::args(rt) {
+        Ok(all) => {
+            for word in all.skip(1) {
+                words.push(word)?;
+            }
+        }
+        Err(error) => {
+            if error.kind() == ErrorKind::OutOfMemory {
+                return Err(error);
+            }
+        }
     }
     Ok(words)
 }
@@ -36,7 +46,10 @@ fn main(rt: HostRuntime) -> ExitCode {
             &gate,
             &mut asker,
         ),
-        Err(_) => Status::NoMemory,
+        Err(_) => {
+            let _ = write_all(&mut err, Status::NoMemory.line().as_bytes());
+            Status::NoMemory
+        }
     };
     ExitCode::from(status.code())
 }

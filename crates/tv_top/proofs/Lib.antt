@@ -2,3 +2,4 @@ pub mod Looks
 pub mod Mappings
 pub mod Counting
 pub mod Upper
+mod Computed

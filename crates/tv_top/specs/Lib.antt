@@ -10,3 +10,4 @@ pub mod Headline
 pub mod Asked
 pub mod Local
 pub mod CommandViews
+pub mod Worked

@@ -9,9 +9,11 @@
 //! - `running`, `results`, `answering`: from a document to the answer
 //! - `top`: the top calls
 //! - `services`: the local services
+//! - `laws`: the definitions computed on worked examples
 #![tactic(auto)]
 
 mod answering;
+pub mod laws;
 mod narrow;
 mod objects;
 mod reading;
@@ -19,6 +21,8 @@ mod results;
 mod running;
 pub mod services;
 mod status;
+#[cfg(test)]
+mod tests;
 mod top;
 mod words;
 
