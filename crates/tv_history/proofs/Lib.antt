@@ -16,3 +16,4 @@ pub mod Taking
 pub mod Follows
 pub mod Sequence
 pub mod InOrder
+pub mod Computed

@@ -6,3 +6,6 @@ pub mod ReadOff
 pub mod Going
 pub mod Alone
 pub mod Stated
+pub mod Worker
+pub mod RowsOfHistories
+pub mod RowsOfRuns

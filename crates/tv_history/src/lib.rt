@@ -7,6 +7,8 @@
 //! it is as the meaning says, for one worker in the stated order.
 //!
 //! - `laws`: the laws
+//! - `rows`: worked histories and runs
 #![tactic(auto)]
 
 pub mod laws;
+pub mod rows;

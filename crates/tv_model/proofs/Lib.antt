@@ -16,3 +16,4 @@ pub mod Binds
 pub mod Delivers
 pub mod Ordered
 pub mod OfTotals
+pub mod Computed

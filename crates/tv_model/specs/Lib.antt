@@ -14,3 +14,9 @@ pub mod Members
 pub mod Earlier
 pub mod Asked
 pub mod Stated
+pub mod TextServices
+pub mod Writing
+pub mod RowsOfIteration
+pub mod RowsOfFaults
+pub mod RowsOfFlows
+pub mod RowsOfSize

@@ -7,6 +7,8 @@
 //! the result line and what it is for a partial tree to be below a value.
 //!
 //! - `laws`: what holds of these definitions, for every flow and all services
+//! - `rows`: worked documents, each with what it means
 #![tactic(auto)]
 
 pub mod laws;
+pub mod rows;
