@@ -5,7 +5,7 @@ use Rattle.std.specs.Cmp.Lexicographic.{bytes_decides}
 use Rattle.std.proofs.Common.{arith, sym, ap, subst, ◌∙◌, append-nil}
 use Rattle.std.proofs.lemmas.List.{map-append}
 use Rattle.std.proofs.lemmas.List.Folds.{list_all-append}
-use Rattle.tv_value.specs.Nested.{Tree, leaf, list, Trees, no_trees, tree, map_trees}
+use Rattle.tv_value.specs.Nested.{leaf, list, Trees, no_trees, tree, map_trees}
 use Rattle.tv_value.specs.Values.{Name, Scalar, text, fault, scalar_depth, HasDepth, AllHaveDepth}
 use Rattle.tv_value.specs.Orders.{same_name, named}
 use Rattle.tv_value.specs.Strategies.{Strategy, port, cross, dot, Strategies, no_strategies, strategy}
@@ -15,17 +15,11 @@ use Rattle.tv_strategy.specs.Iterations.{Binding, End, job, passed, Iteration, I
 use Rattle.tv_strategy.specs.Measures.{strategy_depth}
 use Rattle.tv_strategy.specs.Measures.{DotsAgree, AllDotsAgree, HaveOneDepth}
 use Rattle.tv_model.specs.Agreeing.{ports_in, all_ports_in}
+pub use Rattle.tv_model.specs.Fitting.{HaveDepths}
 use Rattle.tv_model.proofs.Tests.{Each, true≠false, left_true, right_true}
 use Rattle.tv_strategy.proofs.OfSources.{each-append}
 use Rattle.tv_strategy.specs.Levels.{HasLevels, AllHaveLevels}
 use Rattle.tv_strategy.proofs.AtDepth.{iteration-levels, dot_of-levels}
-
--- values and their depths, one by one
-abbrev pub HaveDepths : {N : Type 0} → List ℕ → List (Tree N Scalar) → Type 0
-HaveDepths [] [] = Unit {0}
-HaveDepths [] (v ∷ vs) = ⊥
-HaveDepths (d ∷ ds) [] = ⊥
-HaveDepths (d ∷ ds) (v ∷ vs) = HasDepth v d × HaveDepths ds vs
 
 module _ (declared : Name → ℕ) where
   abbrev pub Fits : Binding → Type 0

@@ -15,6 +15,7 @@ use Rattle.tv_model.specs.Made.{Made, Meaning, Opened, link_value, feed_value, d
 use Rattle.tv_check.specs.Steps.{port_mismatch, strategy_of}
 use Rattle.tv_model.specs.Instances.{step_made}
 use Rattle.tv_model.specs.Agreeing.{constant_depth, StepDepths, link_depth, feed_depth, port_depth, step_depths, AllAre, FeedAgrees}
+pub use Rattle.tv_model.specs.Fitting.{AreRight, IsRight}
 use Rattle.tv_model.proofs.Tests.{Each}
 use Rattle.tv_strategy.proofs.AtDepth.{traced-depth}
 use Rattle.tv_model.proofs.Fed.{step_ports, step_iteration, named_or, find_map_or}
@@ -78,12 +79,6 @@ forget-step gives inside I given ms (n, s) =
     ∙ ap (λ f. map (λ p. (p.0, strategy_depth f (strategy_of s) + p.1)) s.outputs) (mismatches given ms s))
 
 -- ---- a value that is delivered has the delivered depth
-
-abbrev pub IsRight : Delivered → Type 0
-IsRight d = HasDepth d.value d.depth
-
-abbrev pub AreRight : List (Name × Delivered) → Type 0
-AreRight ds = Each (λ d. IsRight d.1) ds
 
 wrapped-depth : (k : ℕ) (v : Traced) (d n : ℕ) → n ≡ k + d → HasDepth v d → HasDepth (wrapped k v) n
 wrapped-depth zero v d n e h = subst (λ m. HasDepth v m) (same d n e) h

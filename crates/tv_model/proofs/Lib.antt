@@ -14,6 +14,8 @@ pub mod Results
 pub mod Agreed
 pub mod Binds
 pub mod Delivers
+pub mod OfDepths
+pub mod InDepth
 pub mod Ordered
 pub mod OfTotals
 pub mod Computed

@@ -8,6 +8,7 @@ pub mod Lineages
 pub mod Results
 pub mod Partials
 pub mod Agreeing
+pub mod Fitting
 pub mod Levels
 pub mod Lists
 pub mod Members

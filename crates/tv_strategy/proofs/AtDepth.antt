@@ -7,6 +7,7 @@ use Rattle.tv_value.specs.Strategies.{Strategy, port, cross, dot, Strategies, no
 use Rattle.tv_strategy.specs.Origins.{Origin, Traced, traced, from_job}
 use Rattle.tv_strategy.specs.Measures.{strategy_depth, sum_of_depths, first_depth, DotsAgree, AllDotsAgree, HaveOneDepth}
 use Rattle.tv_strategy.specs.Levels.{EndHasLevels, HasLevels, AllHaveLevels}
+use Rattle.tv_strategy.specs.Sources.{EndStands, JobsStand, JobsStandFrom}
 use Rattle.tv_strategy.specs.Outputs.{output_below, outputs_from, end_output}
 use Rattle.tv_strategy.specs.Iterations.{Binding, End, job, passed, Iteration, Iterations, stopped, walk, walk_each, end_with, added, crossed, each_crossed, crossed_end, paired, each_paired, paired_end, iteration, cross_of, dot_of}
 
@@ -127,25 +128,38 @@ mutual
   all_traced-depth o no_trees d h = tt
   all_traced-depth o (tree t ts) d h = (traced-depth o t d h.0, all_traced-depth o ts d h.1)
 
-module _ (named : Place → JobName) (made : Place → Value) (declared : ℕ) (right : (q : Place) → HasDepth (made q) declared) where
-  end_output-depth : (q : Place) (s : List Origin) (e : End) (d n : ℕ) → n ≡ d + declared → EndHasLevels e d → HasDepth (end_output named made declared q d s e) n
-  end_output-depth q s (job b) d n p h = traced-depth (from_job (named q)) (made q) n (subst (λ k. HasDepth (made q) k) (same d n declared p h) (right q))
+module _ (J : Place → Type 0) where
+  -- what holds of every place holds of the places of jobs
+  mutual
+    pub jobs-stand : ((q : Place) → J q) → (t : Iteration) (q : Place) → JobsStand J q t
+    jobs-stand f (leaf s (job b)) q = f q
+    jobs-stand f (leaf s (passed m e)) q = tt
+    jobs-stand f (list s ts) q = jobs_from-stand f ts q 0
+
+    pub jobs_from-stand : ((q : Place) → J q) → (ts : Iterations) (q : Place) (i : ℕ) → JobsStandFrom J q i ts
+    jobs_from-stand f no_trees q i = tt
+    jobs_from-stand f (tree t ts) q i = (jobs-stand f t (q ++ i ∷ []), jobs_from-stand f ts q (suc i))
+
+-- each job, at its place, makes a value of the declared depth
+module _ (J : Place → Type 0) (named : Place → JobName) (made : Place → Value) (declared : ℕ) (right : (q : Place) → J q → HasDepth (made q) declared) where
+  end_output-depth : (q : Place) (s : List Origin) (e : End) (d n : ℕ) → n ≡ d + declared → EndHasLevels e d → EndStands J q e → HasDepth (end_output named made declared q d s e) n
+  end_output-depth q s (job b) d n p h j = traced-depth (from_job (named q)) (made q) n (subst (λ k. HasDepth (made q) k) (same d n declared p h) (right q j))
     where
       same : (d n declared : ℕ) → n ≡ d + declared → d ≡ 0 → declared ≡ n
       same d n declared p h = omega arith
-  end_output-depth q s (passed m e) d n p h = sym p
+  end_output-depth q s (passed m e) d n p h j = sym p
 
   -- the output of an iteration has the depth of the iteration and the port's declared depth together
   mutual
-    pub output-depth : (t : Iteration) (q : Place) (d n : ℕ) → n ≡ d + declared → HasLevels t d → HasDepth (output_below named made declared q d t) n
-    output-depth (leaf s e) q d n p h = end_output-depth q s e d n p h
-    output-depth (list s ts) q zero n p h = absurd h
-    output-depth (list s ts) q (suc d) zero p h = absurd (none d declared p)
+    pub output-depth : (t : Iteration) (q : Place) (d n : ℕ) → n ≡ d + declared → HasLevels t d → JobsStand J q t → HasDepth (output_below named made declared q d t) n
+    output-depth (leaf s e) q d n p h j = end_output-depth q s e d n p h j
+    output-depth (list s ts) q zero n p h j = absurd h
+    output-depth (list s ts) q (suc d) zero p h j = absurd (none d declared p)
       where
         none : (d declared : ℕ) → 0 ≡ suc d + declared → ⊥
         none d declared e = omega arith
-    output-depth (list s ts) q (suc d) (suc n) p h = outputs-depth ts q d 0 n (omega arith) h
+    output-depth (list s ts) q (suc d) (suc n) p h j = outputs-depth ts q d 0 n (omega arith) h j
 
-    pub outputs-depth : (ts : Iterations) (q : Place) (d i n : ℕ) → n ≡ d + declared → AllHaveLevels ts d → AllHaveDepth (outputs_from named made declared q d i ts) n
-    outputs-depth no_trees q d i n p h = tt
-    outputs-depth (tree t ts) q d i n p h = (output-depth t (q ++ i ∷ []) d n p h.0, outputs-depth ts q d (suc i) n p h.1)
+    pub outputs-depth : (ts : Iterations) (q : Place) (d i n : ℕ) → n ≡ d + declared → AllHaveLevels ts d → JobsStandFrom J q i ts → AllHaveDepth (outputs_from named made declared q d i ts) n
+    outputs-depth no_trees q d i n p h j = tt
+    outputs-depth (tree t ts) q d i n p h j = (output-depth t (q ++ i ∷ []) d n p h.0 j.0, outputs-depth ts q d (suc i) n p h.1 j.1)

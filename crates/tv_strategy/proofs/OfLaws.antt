@@ -5,14 +5,14 @@ use Rattle.std.proofs.Common.{ap, sym, subst, ◌∙◌}
 use Rattle.std.proofs.lemmas.Bool.{eqb-true, eq-eqb}
 use Rattle.std.proofs.lemmas.List.{map-append}
 use Rattle.tv_value.specs.Nested.{Place}
-use Rattle.tv_value.specs.Values.{Name}
+use Rattle.tv_value.specs.Values.{Name, HasDepth}
 use Rattle.tv_value.specs.Strategies.{Strategy, port, cross, dot, Strategies, no_strategies, strategy}
 use Rattle.tv_strategy.specs.Iterations.{walks, iteration}
 use Rattle.tv_strategy.specs.Measures.{strategy_depth, leaf_names, all_leaf_names, DotsAgree, AllDotsAgree, HaveOneDepth, Difference, depths_of, first_other, first_difference, first_inside, measured}
 use Rattle.tv_strategy.specs.Splits.{split, split_cross, split_dot}
 use Rattle.tv_strategy.specs.Conditions.{names_in}
 use Rattle.tv_strategy.specs.Stated.{EndsStandAtDepth, OutputsHaveDepth, AgreeWithoutDifference, SplitNamesLeaves, SourcesAreNodes, OutputsAreOfSources, Passes, JoinsNothingWhereDotDiffers}
-use Rattle.tv_strategy.proofs.AtDepth.{walk-levels, iteration-levels, output-depth}
+use Rattle.tv_strategy.proofs.AtDepth.{walk-levels, iteration-levels, jobs-stand, output-depth}
 use Rattle.tv_strategy.proofs.OfSources.{walk-have, iteration-have, output-have}
 use Rattle.tv_strategy.proofs.OfJoins.{none-differs, differs-none}
 use Rattle.tv_strategy.proofs.OfMeasures.{first_not, unless-ok}
@@ -25,7 +25,7 @@ ends-stand mismatch declared values h s a =
 
 pub outputs-stand : OutputsHaveDepth
 outputs-stand mismatch declared values h s a named made d right =
-    output-depth named made d right (iteration (walks mismatch values) s) [] (strategy_depth mismatch s) _ refl (ends-stand mismatch declared values h s a)
+    output-depth (λ q. HasDepth (made q) d) named made d (λ q k. k) (iteration (walks mismatch values) s) [] (strategy_depth mismatch s) _ refl (ends-stand mismatch declared values h s a) (jobs-stand (λ q. HasDepth (made q) d) right (iteration (walks mismatch values) s) [])
 
 -- ---- agreement
 
