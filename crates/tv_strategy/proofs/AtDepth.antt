@@ -18,7 +18,7 @@ stopped-levels p o (text t) k d h = absurd (none h)
   where
     none : 0 ≡ suc k + d → ⊥
     none e = omega arith
-stopped-levels p o (fault e) k d h = tt
+stopped-levels p o (fault e) k d h = omega arith
 
 mutual
   pub walk-levels : (p : Name) (v : Traced) (k d e : ℕ) → e ≡ k + d → HasDepth v e → HasLevels (walk p k v) k
@@ -36,7 +36,7 @@ mutual
 
 end_with-levels : (b : Binding) (e : End) (d : ℕ) → EndHasLevels e d → EndHasLevels (end_with b e) d
 end_with-levels b (job c) d h = h
-end_with-levels b (passed m e) d h = tt
+end_with-levels b (passed m e) d h = h
 
 mutual
   pub added-levels : (s : List Origin) (b : Binding) (t : Iteration) (d : ℕ) → HasLevels t d → HasLevels (added s b t) d
@@ -55,7 +55,7 @@ crossed_end-levels s (job b) u c d n q h k = added-levels s b u n (subst (λ m. 
   where
     same : (c d n : ℕ) → n ≡ c + d → c ≡ 0 → d ≡ n
     same c d n q h = omega arith
-crossed_end-levels s (passed m e) u c d n q h k = tt
+crossed_end-levels s (passed m e) u c d n q h k = omega arith
 
 mutual
   pub crossed-levels : (t u : Iteration) (c d n : ℕ) → n ≡ c + d → HasLevels t c → HasLevels u d → HasLevels (crossed t u) n
@@ -73,19 +73,19 @@ mutual
 
 -- ---- a dot keeps the common depth; the second may be deeper
 
-paired_end-levels : (s : List Origin) (e : End) (u : Iteration) (d : ℕ) → HasLevels u d → HasLevels (paired_end s e u) d
-paired_end-levels s (job b) u d k = added-levels s b u d k
-paired_end-levels s (passed m e) u d k = tt
+paired_end-levels : (s : List Origin) (e : End) (u : Iteration) (c d : ℕ) → c ≤ d → EndHasLevels e c → HasLevels u d → HasLevels (paired_end s e u) d
+paired_end-levels s (job b) u c d q h k = added-levels s b u d k
+paired_end-levels s (passed m e) u c d q h k = omega arith
 
 mutual
   pub paired-levels : (t u : Iteration) (c d : ℕ) → c ≤ d → HasLevels t c → HasLevels u d → HasLevels (paired t u) d
-  paired-levels (leaf s e) u c d q h k = paired_end-levels s e u d k
+  paired-levels (leaf s e) u c d q h k = paired_end-levels s e u c d q h k
   paired-levels (list s ts) (leaf r (job b)) zero d q h k = absurd h
   paired-levels (list s ts) (leaf r (job b)) (suc c) d q h k = absurd (none c d q k)
     where
       none : (c d : ℕ) → suc c ≤ d → d ≡ 0 → ⊥
       none c d p e = omega arith
-  paired-levels (list s ts) (leaf r (passed m e)) c d q h k = tt
+  paired-levels (list s ts) (leaf r (passed m e)) c d q h k = k
   paired-levels (list s ts) (list r us) zero d q h k = absurd h
   paired-levels (list s ts) (list r us) (suc c) zero q h k = absurd k
   paired-levels (list s ts) (list r us) (suc c) (suc d) q h k = each_paired-levels ts us c d (omega arith) h k
@@ -127,18 +127,6 @@ mutual
   pub all_traced-depth : (o : Origin) (vs : Trees (Unit {0}) Scalar) (d : ℕ) → AllHaveDepth vs d → AllHaveDepth (map_trees (λ _. o) (λ a. a) vs) d
   all_traced-depth o no_trees d h = tt
   all_traced-depth o (tree t ts) d h = (traced-depth o t d h.0, all_traced-depth o ts d h.1)
-
-module _ (J : Place → Type 0) where
-  -- what holds of every place holds of the places of jobs
-  mutual
-    pub jobs-stand : ((q : Place) → J q) → (t : Iteration) (q : Place) → JobsStand J q t
-    jobs-stand f (leaf s (job b)) q = f q
-    jobs-stand f (leaf s (passed m e)) q = tt
-    jobs-stand f (list s ts) q = jobs_from-stand f ts q 0
-
-    pub jobs_from-stand : ((q : Place) → J q) → (ts : Iterations) (q : Place) (i : ℕ) → JobsStandFrom J q i ts
-    jobs_from-stand f no_trees q i = tt
-    jobs_from-stand f (tree t ts) q i = (jobs-stand f t (q ++ i ∷ []), jobs_from-stand f ts q (suc i))
 
 -- each job, at its place, makes a value of the declared depth
 module _ (J : Place → Type 0) (named : Place → JobName) (made : Place → Value) (declared : ℕ) (right : (q : Place) → J q → HasDepth (made q) declared) where

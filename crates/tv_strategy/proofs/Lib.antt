@@ -11,3 +11,4 @@ pub mod OfLists
 pub mod OfLaws
 pub mod ThereAll
 pub mod OfVisits
+pub mod OfReturns

@@ -12,7 +12,7 @@ use Rattle.tv_strategy.specs.Measures.{strategy_depth, leaf_names, all_leaf_name
 use Rattle.tv_strategy.specs.Splits.{split, split_cross, split_dot}
 use Rattle.tv_strategy.specs.Conditions.{names_in}
 use Rattle.tv_strategy.specs.Stated.{EndsStandAtDepth, OutputsHaveDepth, AgreeWithoutDifference, SplitNamesLeaves, SourcesAreNodes, OutputsAreOfSources, Passes, JoinsNothingWhereDotDiffers}
-use Rattle.tv_strategy.proofs.AtDepth.{walk-levels, iteration-levels, jobs-stand, output-depth}
+use Rattle.tv_strategy.proofs.AtDepth.{walk-levels, iteration-levels, output-depth}
 use Rattle.tv_strategy.proofs.OfSources.{walk-have, iteration-have, output-have}
 use Rattle.tv_strategy.proofs.OfJoins.{none-differs, differs-none}
 use Rattle.tv_strategy.proofs.OfMeasures.{first_not, unless-ok}
@@ -25,7 +25,7 @@ ends-stand mismatch declared values h s a =
 
 pub outputs-stand : OutputsHaveDepth
 outputs-stand mismatch declared values h s a named made d right =
-    output-depth (λ q. HasDepth (made q) d) named made d (λ q k. k) (iteration (walks mismatch values) s) [] (strategy_depth mismatch s) _ refl (ends-stand mismatch declared values h s a) (jobs-stand (λ q. HasDepth (made q) d) right (iteration (walks mismatch values) s) [])
+    output-depth (λ q. HasDepth (made q) d) named made d (λ q k. k) (iteration (walks mismatch values) s) [] (strategy_depth mismatch s) _ refl (ends-stand mismatch declared values h s a) right
 
 -- ---- agreement
 
