@@ -12,3 +12,4 @@ pub mod OfLaws
 pub mod ThereAll
 pub mod OfVisits
 pub mod OfReturns
+pub mod OfRooms

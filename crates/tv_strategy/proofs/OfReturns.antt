@@ -1,5 +1,5 @@
 -- The places that a place splits into meet the conditions of joining, and join to it.
-use Rattle.std.specs.Prelude.{◌≡◌, refl, ℕ, suc, List, [], ◌∷◌, ◌++◌, length, take, drop, Bool, true, false, if◌then◌else◌, Option, Some, unwrap_or}
+use Rattle.std.specs.Prelude.{◌≡◌, refl, ℕ, suc, List, [], ◌∷◌, ◌++◌, length, take, drop, Bool, true, false, if◌then◌else◌, Some, unwrap_or}
 use Rattle.std.proofs.Common.{arith, ap, sym, subst, ◌∙◌, append_assoc}
 use Rattle.tv_value.specs.Nested.{Place}
 use Rattle.tv_value.specs.Values.{Name}
