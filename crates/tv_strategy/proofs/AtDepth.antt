@@ -7,6 +7,7 @@ use Rattle.tv_value.specs.Strategies.{Strategy, port, cross, dot, Strategies, no
 use Rattle.tv_strategy.specs.Origins.{Origin, Traced, traced, from_job}
 use Rattle.tv_strategy.specs.Measures.{strategy_depth, sum_of_depths, first_depth, DotsAgree, AllDotsAgree, HaveOneDepth}
 use Rattle.tv_strategy.specs.Levels.{EndHasLevels, HasLevels, AllHaveLevels}
+use Rattle.tv_strategy.specs.Sources.{EndStands, JobsStand, JobsStandFrom}
 use Rattle.tv_strategy.specs.Outputs.{output_below, outputs_from, end_output}
 use Rattle.tv_strategy.specs.Iterations.{Binding, End, job, passed, Iteration, Iterations, stopped, walk, walk_each, end_with, added, crossed, each_crossed, crossed_end, paired, each_paired, paired_end, iteration, cross_of, dot_of}
 
@@ -17,7 +18,7 @@ stopped-levels p o (text t) k d h = absurd (none h)
   where
     none : 0 ≡ suc k + d → ⊥
     none e = omega arith
-stopped-levels p o (fault e) k d h = tt
+stopped-levels p o (fault e) k d h = omega arith
 
 mutual
   pub walk-levels : (p : Name) (v : Traced) (k d e : ℕ) → e ≡ k + d → HasDepth v e → HasLevels (walk p k v) k
@@ -35,7 +36,7 @@ mutual
 
 end_with-levels : (b : Binding) (e : End) (d : ℕ) → EndHasLevels e d → EndHasLevels (end_with b e) d
 end_with-levels b (job c) d h = h
-end_with-levels b (passed m e) d h = tt
+end_with-levels b (passed m e) d h = h
 
 mutual
   pub added-levels : (s : List Origin) (b : Binding) (t : Iteration) (d : ℕ) → HasLevels t d → HasLevels (added s b t) d
@@ -54,7 +55,7 @@ crossed_end-levels s (job b) u c d n q h k = added-levels s b u n (subst (λ m. 
   where
     same : (c d n : ℕ) → n ≡ c + d → c ≡ 0 → d ≡ n
     same c d n q h = omega arith
-crossed_end-levels s (passed m e) u c d n q h k = tt
+crossed_end-levels s (passed m e) u c d n q h k = omega arith
 
 mutual
   pub crossed-levels : (t u : Iteration) (c d n : ℕ) → n ≡ c + d → HasLevels t c → HasLevels u d → HasLevels (crossed t u) n
@@ -72,19 +73,19 @@ mutual
 
 -- ---- a dot keeps the common depth; the second may be deeper
 
-paired_end-levels : (s : List Origin) (e : End) (u : Iteration) (d : ℕ) → HasLevels u d → HasLevels (paired_end s e u) d
-paired_end-levels s (job b) u d k = added-levels s b u d k
-paired_end-levels s (passed m e) u d k = tt
+paired_end-levels : (s : List Origin) (e : End) (u : Iteration) (c d : ℕ) → c ≤ d → EndHasLevels e c → HasLevels u d → HasLevels (paired_end s e u) d
+paired_end-levels s (job b) u c d q h k = added-levels s b u d k
+paired_end-levels s (passed m e) u c d q h k = omega arith
 
 mutual
   pub paired-levels : (t u : Iteration) (c d : ℕ) → c ≤ d → HasLevels t c → HasLevels u d → HasLevels (paired t u) d
-  paired-levels (leaf s e) u c d q h k = paired_end-levels s e u d k
+  paired-levels (leaf s e) u c d q h k = paired_end-levels s e u c d q h k
   paired-levels (list s ts) (leaf r (job b)) zero d q h k = absurd h
   paired-levels (list s ts) (leaf r (job b)) (suc c) d q h k = absurd (none c d q k)
     where
       none : (c d : ℕ) → suc c ≤ d → d ≡ 0 → ⊥
       none c d p e = omega arith
-  paired-levels (list s ts) (leaf r (passed m e)) c d q h k = tt
+  paired-levels (list s ts) (leaf r (passed m e)) c d q h k = k
   paired-levels (list s ts) (list r us) zero d q h k = absurd h
   paired-levels (list s ts) (list r us) (suc c) zero q h k = absurd k
   paired-levels (list s ts) (list r us) (suc c) (suc d) q h k = each_paired-levels ts us c d (omega arith) h k
@@ -127,25 +128,26 @@ mutual
   all_traced-depth o no_trees d h = tt
   all_traced-depth o (tree t ts) d h = (traced-depth o t d h.0, all_traced-depth o ts d h.1)
 
-module _ (named : Place → JobName) (made : Place → Value) (declared : ℕ) (right : (q : Place) → HasDepth (made q) declared) where
-  end_output-depth : (q : Place) (s : List Origin) (e : End) (d n : ℕ) → n ≡ d + declared → EndHasLevels e d → HasDepth (end_output named made declared q d s e) n
-  end_output-depth q s (job b) d n p h = traced-depth (from_job (named q)) (made q) n (subst (λ k. HasDepth (made q) k) (same d n declared p h) (right q))
+-- each job, at its place, makes a value of the declared depth
+module _ (J : Place → Type 0) (named : Place → JobName) (made : Place → Value) (declared : ℕ) (right : (q : Place) → J q → HasDepth (made q) declared) where
+  end_output-depth : (q : Place) (s : List Origin) (e : End) (d n : ℕ) → n ≡ d + declared → EndHasLevels e d → EndStands J q e → HasDepth (end_output named made declared q d s e) n
+  end_output-depth q s (job b) d n p h j = traced-depth (from_job (named q)) (made q) n (subst (λ k. HasDepth (made q) k) (same d n declared p h) (right q j))
     where
       same : (d n declared : ℕ) → n ≡ d + declared → d ≡ 0 → declared ≡ n
       same d n declared p h = omega arith
-  end_output-depth q s (passed m e) d n p h = sym p
+  end_output-depth q s (passed m e) d n p h j = sym p
 
   -- the output of an iteration has the depth of the iteration and the port's declared depth together
   mutual
-    pub output-depth : (t : Iteration) (q : Place) (d n : ℕ) → n ≡ d + declared → HasLevels t d → HasDepth (output_below named made declared q d t) n
-    output-depth (leaf s e) q d n p h = end_output-depth q s e d n p h
-    output-depth (list s ts) q zero n p h = absurd h
-    output-depth (list s ts) q (suc d) zero p h = absurd (none d declared p)
+    pub output-depth : (t : Iteration) (q : Place) (d n : ℕ) → n ≡ d + declared → HasLevels t d → JobsStand J q t → HasDepth (output_below named made declared q d t) n
+    output-depth (leaf s e) q d n p h j = end_output-depth q s e d n p h j
+    output-depth (list s ts) q zero n p h j = absurd h
+    output-depth (list s ts) q (suc d) zero p h j = absurd (none d declared p)
       where
         none : (d declared : ℕ) → 0 ≡ suc d + declared → ⊥
         none d declared e = omega arith
-    output-depth (list s ts) q (suc d) (suc n) p h = outputs-depth ts q d 0 n (omega arith) h
+    output-depth (list s ts) q (suc d) (suc n) p h j = outputs-depth ts q d 0 n (omega arith) h j
 
-    pub outputs-depth : (ts : Iterations) (q : Place) (d i n : ℕ) → n ≡ d + declared → AllHaveLevels ts d → AllHaveDepth (outputs_from named made declared q d i ts) n
-    outputs-depth no_trees q d i n p h = tt
-    outputs-depth (tree t ts) q d i n p h = (output-depth t (q ++ i ∷ []) d n p h.0, outputs-depth ts q d (suc i) n p h.1)
+    pub outputs-depth : (ts : Iterations) (q : Place) (d i n : ℕ) → n ≡ d + declared → AllHaveLevels ts d → JobsStandFrom J q i ts → AllHaveDepth (outputs_from named made declared q d i ts) n
+    outputs-depth no_trees q d i n p h j = tt
+    outputs-depth (tree t ts) q d i n p h j = (output-depth t (q ++ i ∷ []) d n p h.0 j.0, outputs-depth ts q d (suc i) n p h.1 j.1)

@@ -1,6 +1,6 @@
 -- The worked examples compute.
 use Rattle.std.specs.Prelude.{refl}
-use Rattle.tv_strategy.specs.Worked.{WalksNestedLists, WalksEmptyList, CrossesTwoLists, CrossesWithEmptyInnerList, CrossesWithEmptyOuterList, CrossesWithFault, PairsToShorter, TellsDotFault, PairsWithFault, SplitsAndJoins, JoinsNothing}
+use Rattle.tv_strategy.specs.Worked.{WalksNestedLists, WalksEmptyList, CrossesTwoLists, CrossesWithEmptyInnerList, CrossesWithEmptyOuterList, CrossesWithFault, PairsToShorter, TellsDotFault, PairsWithFault, SplitsAndJoins, JoinsNothing, CrossWaits, DotWaits}
 
 pub walks_nested_lists : WalksNestedLists
 walks_nested_lists = refl
@@ -34,3 +34,9 @@ splits_and_joins = (refl, refl)
 
 pub joins_nothing : JoinsNothing
 joins_nothing = refl
+
+pub cross_waits : CrossWaits
+cross_waits = refl
+
+pub dot_waits : DotWaits
+dot_waits = (refl, refl)

@@ -11,3 +11,5 @@ pub mod OfLists
 pub mod OfLaws
 pub mod ThereAll
 pub mod OfVisits
+pub mod OfReturns
+pub mod OfRooms

@@ -21,7 +21,7 @@ are-parts : (ports : Name → Place) (rs ss : List (Name × Place)) → AreOf po
 are-parts ports [] ss h = (tt, h)
 are-parts ports (r ∷ rs) ss h = let p = are-parts ports rs ss h.1 in ((h.0, p.0), p.1)
 
-lengths-parts : (mismatch : Name → ℕ) (ports : Name → Place) (ns ms : List Name) → HaveLengths mismatch ports (ns ++ ms) → HaveLengths mismatch ports ns × HaveLengths mismatch ports ms
+pub lengths-parts : (mismatch : Name → ℕ) (ports : Name → Place) (ns ms : List Name) → HaveLengths mismatch ports (ns ++ ms) → HaveLengths mismatch ports ns × HaveLengths mismatch ports ms
 lengths-parts mismatch ports [] ms h = (tt, h)
 lengths-parts mismatch ports (n ∷ ns) ms h = let p = lengths-parts mismatch ports ns ms h.1 in ((h.0, p.0), p.1)
 
@@ -55,7 +55,7 @@ pub record Joined (o p : Option Place) (q : Place) : Type 0 where
   pub back_is : p ≡ Some back
   pub whole_is : q ≡ front ++ back
 
-one_after-some : (o p : Option Place) (q : Place) → one_after o p ≡ Some q → Joined o p q
+pub one_after-some : (o p : Option Place) (q : Place) → one_after o p ≡ Some q → Joined o p q
 one_after-some None p q h = absurd (cc)
 one_after-some (Some f) None q h = absurd (cc)
 one_after-some (Some f) (Some b) q h = record { front = f; back = b; front_is = refl; back_is = refl; whole_is = cc }
@@ -64,7 +64,7 @@ either-some : (b : Bool) (f q : Place) → (if b then Some f else None) ≡ Some
 either-some true f q h = (refl, cc)
 either-some false f q h = absurd (cc)
 
-in_common-some : (o p : Option Place) (q : Place) → in_common o p ≡ Some q → (o ≡ Some q) × (p ≡ Some q)
+pub in_common-some : (o p : Option Place) (q : Place) → in_common o p ≡ Some q → (o ≡ Some q) × (p ≡ Some q)
 in_common-some None p q h = absurd (cc)
 in_common-some (Some f) None q h = absurd (cc)
 in_common-some (Some f) (Some b) q h =

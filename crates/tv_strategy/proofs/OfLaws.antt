@@ -5,7 +5,7 @@ use Rattle.std.proofs.Common.{ap, sym, subst, ◌∙◌}
 use Rattle.std.proofs.lemmas.Bool.{eqb-true, eq-eqb}
 use Rattle.std.proofs.lemmas.List.{map-append}
 use Rattle.tv_value.specs.Nested.{Place}
-use Rattle.tv_value.specs.Values.{Name}
+use Rattle.tv_value.specs.Values.{Name, HasDepth}
 use Rattle.tv_value.specs.Strategies.{Strategy, port, cross, dot, Strategies, no_strategies, strategy}
 use Rattle.tv_strategy.specs.Iterations.{walks, iteration}
 use Rattle.tv_strategy.specs.Measures.{strategy_depth, leaf_names, all_leaf_names, DotsAgree, AllDotsAgree, HaveOneDepth, Difference, depths_of, first_other, first_difference, first_inside, measured}
@@ -25,7 +25,7 @@ ends-stand mismatch declared values h s a =
 
 pub outputs-stand : OutputsHaveDepth
 outputs-stand mismatch declared values h s a named made d right =
-    output-depth named made d right (iteration (walks mismatch values) s) [] (strategy_depth mismatch s) _ refl (ends-stand mismatch declared values h s a)
+    output-depth (λ q. HasDepth (made q) d) named made d (λ q k. k) (iteration (walks mismatch values) s) [] (strategy_depth mismatch s) _ refl (ends-stand mismatch declared values h s a) right
 
 -- ---- agreement
 

@@ -1,13 +1,13 @@
 -- What is so of an iteration whose jobs all stand at one depth, and of what stands at one place of it.
-use Rattle.std.specs.Prelude.{◌≡◌, ℕ, zero, suc, Option, Some, None}
+use Rattle.std.specs.Prelude.{◌≡◌, ◌<◌, ℕ, zero, suc, Option, Some, None}
 use Rattle.tv_value.specs.Nested.{leaf, list, no_trees, tree}
 use Rattle.tv_strategy.specs.Iterations.{Binding, End, job, passed, Iteration, Iterations}
 
 abbrev pub EndHasLevels : End → ℕ → Type 0
 EndHasLevels (job b) d = d ≡ 0
-EndHasLevels (passed m e) d = Unit {0}
+EndHasLevels (passed m e) d = 0 < d
 
--- all jobs stand below so many lists; a passed fault may stand above
+-- all jobs stand below so many lists, and a passed fault below fewer
 abbrev mutual
   pub HasLevels : Iteration → ℕ → Type 0
   HasLevels (leaf s e) d = EndHasLevels e d

@@ -2,6 +2,7 @@ pub mod Origins
 pub mod Iterations
 pub mod Measures
 pub mod Splits
+pub mod Rooms
 pub mod Conditions
 pub mod Outputs
 pub mod Levels

@@ -7,7 +7,7 @@ use Rattle.tv_strategy.specs.Origins.{Mark, Origin, Traced, from_job, from_level
 use Rattle.tv_strategy.specs.Iterations.{Binding, passed, Iteration, Iterations, walk, walks, iteration}
 use Rattle.tv_strategy.specs.Measures.{strategy_depth, leaf_names, DotsAgree, first_difference}
 use Rattle.tv_strategy.specs.Splits.{split, joined}
-use Rattle.tv_strategy.specs.Conditions.{HaveLengths, names_in}
+use Rattle.tv_strategy.specs.Conditions.{HaveLengths, names_in, Suits, HasPlaces, number_of, place_of}
 use Rattle.tv_strategy.specs.Outputs.{output_below}
 use Rattle.tv_strategy.specs.Levels.{HasLevels, IsJob}
 use Rattle.tv_strategy.specs.Promises.{HaveDepths, ArePlacesOfEnd, UndoesSplit, DotDiffers}
@@ -23,7 +23,7 @@ EndsStandAtDepth =
 -- an output has the strategy's depth and the port's declared depth together
 abbrev pub OutputsHaveDepth : Type 0
 OutputsHaveDepth =
-    (mismatch declared : Name → ℕ) (values : Name → Traced) → HaveDepths mismatch declared values → (s : Strategy) → DotsAgree mismatch s → (named : Place → JobName) (made : Place → Value) (d : ℕ) → ((q : Place) → HasDepth (made q) d) → HasDepth (output_below named made d [] (strategy_depth mismatch s) (iteration (walks mismatch values) s)) (strategy_depth mismatch s + d)
+    (mismatch declared : Name → ℕ) (values : Name → Traced) → HaveDepths mismatch declared values → (s : Strategy) → DotsAgree mismatch s → (named : Place → JobName) (made : Place → Value) (d : ℕ) → JobsStand (λ q. HasDepth (made q) d) [] (iteration (walks mismatch values) s) → HasDepth (output_below named made d [] (strategy_depth mismatch s) (iteration (walks mismatch values) s)) (strategy_depth mismatch s + d)
 
 -- the dots agree exactly where there is no difference to tell of
 abbrev pub AgreeWithoutDifference : Type 0
@@ -97,6 +97,11 @@ JoinUndoesSplit = (mismatch : Name → ℕ) (ports : Name → Place) (s : Strate
 
 abbrev pub JoinsNothingWhereDotDiffers : Type 0
 JoinsNothingWhereDotDiffers = (ports : Name → Place) (s : Strategy) → (joined ports s ≡ None) ↔ DotDiffers ports s
+
+-- the places that a place splits into meet the conditions of joining, and join to it
+abbrev pub JoinGivesPlaceBack : Type 0
+JoinGivesPlaceBack =
+    (mismatch : List (Name × ℕ)) (s : Strategy) → Suits mismatch s → DotsAgree (number_of mismatch) s → (q : Place) → length q ≡ strategy_depth (number_of mismatch) s → HasPlaces mismatch (split (number_of mismatch) s q) s × (joined (place_of (split (number_of mismatch) s q)) s ≡ Some q)
 
 -- ---- sources
 

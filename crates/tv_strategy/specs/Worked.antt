@@ -1,9 +1,9 @@
 -- Worked examples: what each iteration and each output comes to.
 use Rattle.std.specs.Prelude.{◌≡◌, ℕ, ◌-◌, List, [], ◌∷◌, map, flat_map, codes, Option, Some, None, Err}
-use Rattle.tv_value.specs.Nested.{leaf, list, trees_of, Place, at, leaves}
+use Rattle.tv_value.specs.Nested.{Tree, leaf, list, trees_of, Place, at, leaves, map_tree}
 use Rattle.tv_value.specs.Values.{Text, Name, ErrorDoc, Scalar, text, fault, Value, text_value, fault_value}
 use Rattle.tv_value.specs.Strategies.{Strategy, port, cross, dot, no_strategies, strategy}
-use Rattle.tv_strategy.specs.Origins.{Traced, plain, traced, fixed}
+use Rattle.tv_strategy.specs.Origins.{Origin, Traced, plain, traced, fixed, input_value, from_input}
 use Rattle.tv_strategy.specs.Iterations.{Binding, job, passed, Iteration, iteration, walks}
 use Rattle.tv_strategy.specs.Measures.{strategy_depth, measured}
 use Rattle.tv_strategy.specs.Splits.{split, joined}
@@ -127,3 +127,24 @@ SplitsAndJoins =
 -- a dot's children have different places
 abbrev pub JoinsNothing : Type 0
 JoinsNothing = joined (place_of ((a, 1 ∷ []) ∷ (b, 0 ∷ []) ∷ [])) pairing ≡ None
+
+-- the two ports with inputs of the flow
+abbrev pub inputs : Value → Value → Name → Traced
+inputs v w p = input_value p [] (unwrap_or (named p ((a, v) ∷ (b, w) ∷ [])) v)
+
+-- what each node of an iteration waits for
+abbrev pub waits : Iteration → Tree (List Origin) (Unit {0})
+waits t = map_tree (λ s. s) (λ _. tt) t
+
+-- a cross waits for the walked lists, and inside for the outer binding too
+abbrev pub CrossWaits : Type 0
+CrossWaits =
+    waits (iteration (walks (levels 1 1) (inputs (texts (codes "x" ∷ [])) (texts (codes "y" ∷ [])))) crossing)
+    ≡ list (from_input a [] ∷ []) (trees_of (list (from_input a (0 ∷ []) ∷ from_input b [] ∷ []) (trees_of (leaf (from_input a (0 ∷ []) ∷ from_input b (0 ∷ []) ∷ []) tt ∷ [])) ∷ []))
+
+-- a dot waits at each place for all its children
+abbrev pub DotWaits : Type 0
+DotWaits =
+    (waits (iteration (walks (levels 1 1) (inputs (texts (codes "x" ∷ [])) (texts (codes "y" ∷ [])))) pairing)
+    ≡ list (from_input a [] ∷ from_input b [] ∷ []) (trees_of (leaf (from_input a (0 ∷ []) ∷ from_input b (0 ∷ []) ∷ []) tt ∷ [])))
+    × (waits (iteration (walks (levels 1 1) (inputs (texts (codes "x" ∷ [])) (no_list []))) pairing) ≡ leaf (from_input a [] ∷ from_input b [] ∷ []) tt)

@@ -2,9 +2,9 @@
 ghost use Rattle.tv_strategy.specs.Stated.{EndsStandAtDepth, OutputsHaveDepth, AgreeWithoutDifference};
 ghost use Rattle.tv_strategy.specs.Stated.{CrossOfOneIsItsChild, DotIsAsLongAsShortest};
 ghost use Rattle.tv_strategy.specs.Stated.{WalkPassesFault, CrossKeepsFault, CrossKeepsEmptyList, DotKeepsFirstFault, DotKeepsLaterFault};
-ghost use Rattle.tv_strategy.specs.Stated.{SplitGivesPlacesOfEnd, JobStandsWhereAllAreThere, SplitNamesLeaves, JoinUndoesSplit, JoinsNothingWhereDotDiffers};
+ghost use Rattle.tv_strategy.specs.Stated.{SplitGivesPlacesOfEnd, JobStandsWhereAllAreThere, SplitNamesLeaves, JoinUndoesSplit, JoinsNothingWhereDotDiffers, JoinGivesPlaceBack};
 ghost use Rattle.tv_strategy.specs.Stated.{SourcesAreNodes, OutputsAreOfSources};
-ghost use Rattle.tv_strategy.specs.Worked.{WalksNestedLists, WalksEmptyList, CrossesTwoLists, CrossesWithEmptyInnerList, CrossesWithEmptyOuterList, CrossesWithFault, PairsToShorter, TellsDotFault, PairsWithFault, SplitsAndJoins, JoinsNothing};
+ghost use Rattle.tv_strategy.specs.Worked.{WalksNestedLists, WalksEmptyList, CrossesTwoLists, CrossesWithEmptyInnerList, CrossesWithEmptyOuterList, CrossesWithFault, PairsToShorter, TellsDotFault, PairsWithFault, SplitsAndJoins, JoinsNothing, CrossWaits, DotWaits};
 
 /// All jobs of an iteration stand at the strategy's depth. A passed fault may stand above it.
 pub fn ends_stand_at_depth()
@@ -45,6 +45,7 @@ pub fn places()
     ensures names { SplitNamesLeaves }
     ensures undoes { JoinUndoesSplit }
     ensures none { JoinsNothingWhereDotDiffers }
+    ensures back { JoinGivesPlaceBack }
 {}
 
 /// What holds of every node of the ports' values holds of every source of the iteration and, where it passes on, of every node of an output.
@@ -63,6 +64,8 @@ pub fn worked_iterations()
     ensures crossed_fault { CrossesWithFault }
     ensures paired { PairsToShorter }
     ensures paired_fault { PairsWithFault }
+    ensures cross_waits { CrossWaits }
+    ensures dot_waits { DotWaits }
 {}
 
 /// Worked examples of depths and places.

@@ -1,4 +1,4 @@
-ghost use Rattle.std.specs.Prelude.{◌≡◌, ◌≤◌, length, IfOk, IsNone, ◌↔◌};
+ghost use Rattle.std.specs.Prelude.{◌≡◌, ◌≤◌, length, IfOk, IsOk, IsNone, ◌↔◌};
 ghost use Rattle.tv_value.specs.Strategies.{port, cross, dot};
 ghost use Rattle.tv_value.specs.Views.{strategy_view};
 ghost use Rattle.tv_strategy.specs.Measures.{DotsAgree, strategy_depth};
@@ -7,6 +7,7 @@ ghost use Rattle.tv_strategy.specs.Splits.{split as split_of};
 ghost use Rattle.tv_strategy.specs.Conditions.{Suits, HasPlaces, number_of, place_of};
 ghost use Rattle.tv_strategy.specs.Promises.{ArePlacesOfEnd, UndoesSplit, DotDiffers};
 ghost use Rattle.tv_strategy.specs.Views.{children_view};
+ghost use Rattle.tv_strategy.specs.Rooms.{room};
 
 use crate::depth::mismatch_at;
 use std::alloc::Global;
@@ -131,13 +132,15 @@ pub fn join(
     ensures place { IfOk result (λ o. o ≡ joined (place_of places.now) (strategy_view tree.now)) }
     ensures undoes { IfOk result (λ o. UndoesSplit (number_of mismatch.now) (strategy_view tree.now) (place_of places.now) o) }
     ensures none { IfOk result (λ o. IsNone o ↔ DotDiffers (place_of places.now) (strategy_view tree.now)) }
+    ensures short { DotsAgree (number_of mismatch.now) (strategy_view tree.now) → strategy_depth (number_of mismatch.now) (strategy_view tree.now) ≤ 32 → IsOk result }
 {
     join_tree(alloc, tree, places)
 }
 
 #[cycle(join)]
 fn join_tree(alloc: Global, tree: &Tree, places: &PortPlaces) -> Result<Option<Place>, NoMemory>
-    ensures { IfOk result (λ o. o ≡ joined (place_of places.now) (strategy_view tree.now)) }
+    ensures place { IfOk result (λ o. o ≡ joined (place_of places.now) (strategy_view tree.now)) }
+    ensures short { room (place_of places.now) (strategy_view tree.now) ≤ 32 → IsOk result }
 {
     match tree {
         Tree::Leaf(name) => join_leaf(alloc, name, places),
@@ -148,7 +151,8 @@ fn join_tree(alloc: Global, tree: &Tree, places: &PortPlaces) -> Result<Option<P
 
 /// The place of a port, the empty one where none is listed.
 fn join_leaf(alloc: Global, name: &Name, places: &PortPlaces) -> Result<Option<Place>, NoMemory>
-    ensures { IfOk result (λ o. o ≡ Some (place_of places.now name.now)) }
+    ensures place { IfOk result (λ o. o ≡ Some (place_of places.now name.now)) }
+    ensures short { length (place_of places.now name.now) ≤ 32 → IsOk result }
 {
     match places.named(name) {
         Some(place) => {
@@ -162,7 +166,8 @@ fn join_leaf(alloc: Global, name: &Name, places: &PortPlaces) -> Result<Option<P
 /// The children's places, one after the other.
 #[cycle(join)]
 fn join_cross(alloc: Global, trees: &[Tree], places: &PortPlaces) -> Result<Option<Place>, NoMemory>
-    ensures { IfOk result (λ o. o ≡ joined (place_of places.now) (cross (children_view trees.now))) }
+    ensures place { IfOk result (λ o. o ≡ joined (place_of places.now) (cross (children_view trees.now))) }
+    ensures short { room (place_of places.now) (cross (children_view trees.now)) ≤ 32 → IsOk result }
 {
     let mut whole = Place::top(alloc);
     for tree in trees {
@@ -177,7 +182,8 @@ fn join_cross(alloc: Global, trees: &[Tree], places: &PortPlaces) -> Result<Opti
 /// The one place that the children have.
 #[cycle(join)]
 fn join_dot(alloc: Global, trees: &[Tree], places: &PortPlaces) -> Result<Option<Place>, NoMemory>
-    ensures { IfOk result (λ o. o ≡ joined (place_of places.now) (dot (children_view trees.now))) }
+    ensures place { IfOk result (λ o. o ≡ joined (place_of places.now) (dot (children_view trees.now))) }
+    ensures short { room (place_of places.now) (dot (children_view trees.now)) ≤ 32 → IsOk result }
 {
     let Some((first, others)) = trees.split_first() else {
         return Ok(Some(Place::top(alloc)));

@@ -1,10 +1,12 @@
-use Rattle.std.proofs.Common.{◌≡◌, ◌<◌, Bool, not, refl, Some, None, false, true, arith, ap, sym, subst, ◌∙◌}
+use Rattle.std.proofs.Common.{◌≡◌, ◌<◌, ◌≤◌, ◌+◌, length, drop, length-append, Bool, not, refl, Some, None, false, true, arith, ap, sym, subst, ◌∙◌}
 use Rattle.tv_value.specs.Views.{strategy_view}
 use Rattle.tv_value.proofs.OfTrees.{size, sizes, size-item, strategies_of-drop, strategies_of-end}
 use Rattle.tv_strategy.specs.Conditions.{place_of}
-use Rattle.tv_strategy.specs.Splits.{joined, joined_dot, same_place}
+use Rattle.tv_strategy.specs.Splits.{joined, joined_cross, joined_dot, one_after, same_place}
 use Rattle.tv_strategy.specs.Views.{children_view}
-use Rattle.tv_strategy.proofs.OfPlaces.{all_at-differs, all_at-end, all_at-none, dot-all}
+use Rattle.tv_strategy.proofs.OfPlaces.{cross-next, all_at-differs, all_at-end, all_at-none, dot-all}
+use Rattle.tv_strategy.specs.Rooms.{room_of_all}
+use Rattle.tv_strategy.proofs.OfRooms.{room-left}
 use Rattle.tv_strategy.proofs.places.+join.Goals as goal
 
 pub join_cross-join_tree-requires : goal.join_cross-join_tree-requires
@@ -12,6 +14,32 @@ join_cross-join_tree-requires t c =
     let xs = c.args.trees.now in
     let x = c.tree-item.result in
     (subst (λ n. size (strategy_view x) < n) c.decreases (size-item strategy_view xs c.loop-tree.tree-index x c.loop-tree-test.true c.tree-item.is), tt)
+
+no-error : {A : Type 0} → false ≡ true → A
+no-error h = absurd (cc)
+
+pub join_cross-returns-in_err-append-clause-short : goal.join_cross-returns-in_err-append-clause-short
+join_cross-returns-in_err-append-clause-short t c h =
+    let ports = place_of c.args.places.now in
+    let xs = c.args.trees.now in
+    let x = c.tree-item.result in
+    let i = c.loop-tree.tree-index in
+    let is : Some c.in-Some.place ≡ joined ports (strategy_view x) = sym c.in-Some.is ∙ c.in_ok-place.ensures.place in
+    let left = room-left ports _ (strategy_view x) _ c.in-Some.place (length c.loop-tree.whole) _ (strategies_of-drop strategy_view xs i x c.loop-tree-test.true c.tree-item.is) is c.loop-tree.invariant.1 in
+    no-error (c.in_err-append.ensures.short (omega (arith, left, h)))
+
+pub join_cross-loop-tree-preserved : goal.join_cross-loop-tree-preserved
+join_cross-loop-tree-preserved t c =
+    let ports = place_of c.args.places.now in
+    let xs = c.args.trees.now in
+    let x = c.tree-item.result in
+    let i = c.loop-tree.tree-index in
+    let rest = strategies_of-drop strategy_view xs i x c.loop-tree-test.true c.tree-item.is in
+    let is : Some c.in-Some.place ≡ joined ports (strategy_view x) = sym c.in-Some.is ∙ c.in_ok-place.ensures.place in
+    let left = room-left ports _ (strategy_view x) _ c.in-Some.place (length c.loop-tree.whole) _ rest is c.loop-tree.invariant.1 in
+    (c.loop-tree.invariant.0
+    ∙ cross-next ports _ (strategy_view x) _ c.loop-tree.whole c.in-Some.place rest is
+    ∙ ap (λ w. one_after (Some w) (joined_cross ports (children_view (drop (i + 1) xs)))) (sym c.in_ok-append.ensures.ok), subst (λ n. n + room_of_all ports (children_view (drop (i + 1) xs)) ≤ room_of_all ports (children_view xs)) (sym (ap length c.in_ok-append.ensures.ok ∙ length-append c.loop-tree.whole c.in-Some.place)) left)
 
 pub join_dot-join_tree-requires-in-loop-tree : goal.join_dot-join_tree-requires-in-loop-tree
 join_dot-join_tree-requires-in-loop-tree t c =
@@ -21,48 +49,48 @@ join_dot-join_tree-requires-in-loop-tree t c =
     let part = size-item strategy_view xs c.loop-tree.tree-index x c.loop-tree-test.true c.tree-item.is in
     (omega arith, tt)
 
-pub join_dot-returns-in_default-3 : goal.join_dot-returns-in_default-3
-join_dot-returns-in_default-3 t c =
+pub join_dot-returns-in_default-3-clause-place : goal.join_dot-returns-in_default-3-clause-place
+join_dot-returns-in_default-3-clause-place t c =
     let ports = place_of c.args.places.now in
     let xs = c.in-Some.others.now in
     let x = c.tree-item.result in
     let i = c.loop-tree.tree-index in
     let q = c.as_slice-common.result.now in
-    let first : joined ports (strategy_view c.in-Some.first.now) ≡ Some q = sym c.in_ok-place.ensures ∙ c.in-Some-2.is ∙ ap Some (sym c.as_slice-common.ensures) in
-    let none : None ≡ joined ports (strategy_view x) = sym c.in_default-3.is ∙ c.in_ok-other.ensures in
+    let first : joined ports (strategy_view c.in-Some.first.now) ≡ Some q = sym c.in_ok-place.ensures.place ∙ c.in-Some-2.is ∙ ap Some (sym c.as_slice-common.ensures) in
+    let none : None ≡ joined ports (strategy_view x) = sym c.in_default-3.is ∙ c.in_ok-other.ensures.place in
     sym (ap (λ ys. joined_dot ports (children_view ys)) c.in-Some.ensures.cases.0
     ∙ dot-all ports (strategy_view c.in-Some.first.now) (children_view xs) q first
-    ∙ c.loop-tree.invariant
+    ∙ c.loop-tree.invariant.0
     ∙ all_at-none ports _ (strategy_view x) _ q (strategies_of-drop strategy_view xs i x c.loop-tree-test.true c.tree-item.is) none)
 
 not-true : (b : Bool) → not b ≡ true → false ≡ b
 not-true true h = absurd (cc)
 not-true false h = refl
 
-pub join_dot-returns-then-ne : goal.join_dot-returns-then-ne
-join_dot-returns-then-ne t c =
+pub join_dot-returns-then-ne-clause-place : goal.join_dot-returns-then-ne-clause-place
+join_dot-returns-then-ne-clause-place t c =
     let ports = place_of c.args.places.now in
     let xs = c.in-Some.others.now in
     let x = c.tree-item.result in
     let i = c.loop-tree.tree-index in
     let q = c.as_slice-common.result.now in
     let r = c.as_slice.result.now in
-    let first : joined ports (strategy_view c.in-Some.first.now) ≡ Some q = sym c.in_ok-place.ensures ∙ c.in-Some-2.is ∙ ap Some (sym c.as_slice-common.ensures) in
-    let other : Some r ≡ joined ports (strategy_view x) = ap Some c.as_slice.ensures ∙ sym c.in-Some-3.is ∙ c.in_ok-other.ensures in
+    let first : joined ports (strategy_view c.in-Some.first.now) ≡ Some q = sym c.in_ok-place.ensures.place ∙ c.in-Some-2.is ∙ ap Some (sym c.as_slice-common.ensures) in
+    let other : Some r ≡ joined ports (strategy_view x) = ap Some c.as_slice.ensures ∙ sym c.in-Some-3.is ∙ c.in_ok-other.ensures.place in
     let differs : c.ne.result ≡ not (same_place q r) = c.ne.ensures in
     sym (ap (λ ys. joined_dot ports (children_view ys)) c.in-Some.ensures.cases.0
     ∙ dot-all ports (strategy_view c.in-Some.first.now) (children_view xs) q first
-    ∙ c.loop-tree.invariant
+    ∙ c.loop-tree.invariant.0
     ∙ all_at-differs ports _ (strategy_view x) _ q r (strategies_of-drop strategy_view xs i x c.loop-tree-test.true c.tree-item.is) other (not-true (same_place q r) (sym differs ∙ c.if-ne.true)))
 
-pub join_dot-returns : goal.join_dot-returns
-join_dot-returns t c =
+pub join_dot-returns-clause-place : goal.join_dot-returns-clause-place
+join_dot-returns-clause-place t c =
     let ports = place_of c.args.places.now in
     let xs = c.in-Some.others.now in
     let q = c.as_slice-common.result.now in
-    let first : joined ports (strategy_view c.in-Some.first.now) ≡ Some q = sym c.in_ok-place.ensures ∙ c.in-Some-2.is ∙ ap Some (sym c.as_slice-common.ensures) in
+    let first : joined ports (strategy_view c.in-Some.first.now) ≡ Some q = sym c.in_ok-place.ensures.place ∙ c.in-Some-2.is ∙ ap Some (sym c.as_slice-common.ensures) in
     sym (ap (λ ys. joined_dot ports (children_view ys)) c.in-Some.ensures.cases.0
     ∙ dot-all ports (strategy_view c.in-Some.first.now) (children_view xs) q first
-    ∙ c.loop-tree.invariant
+    ∙ c.loop-tree.invariant.0
     ∙ all_at-end ports _ q (strategies_of-end strategy_view xs c.loop-tree.tree-index c.loop-tree-test.false)
     ∙ ap Some c.as_slice-common.ensures)

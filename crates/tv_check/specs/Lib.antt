@@ -1,0 +1,11 @@
+pub mod Ranks
+pub mod Delivered
+pub mod Steps
+pub mod Faulty
+pub mod Naming
+pub mod Cycles
+pub mod Inputs
+pub mod CheckedDepths
+pub mod Depthwise
+pub mod Passes
+pub mod Worked

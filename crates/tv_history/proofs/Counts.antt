@@ -1,0 +1,122 @@
+-- How many entries of a kind a history has, and sums over the jobs.
+use Rattle.std.specs.Prelude.{◌≡◌, refl, ℕ, suc, ◌+◌, ◌≤◌, List, [], ◌∷◌, length, filter, flat_map, Bool, true, false, cond, Option, Some, None, is_some}
+use Rattle.std.specs.Option.{option_map_or}
+use Rattle.std.proofs.Common.{arith, sym, ap, ◌∙◌, inl, inr, length-append}
+use Rattle.tv_value.specs.Values.{JobName}
+use Rattle.tv_value.specs.Orders.{same_job}
+use Rattle.tv_history.specs.Entries.{Entry, History}
+use Rattle.tv_model.proofs.Tests.{true≠false, same_job_decides}
+use Rattle.tv_model.proofs.Turns.{In}
+use Rattle.tv_model.proofs.Members.{Apart}
+pub use Rattle.tv_history.specs.Tallies.{bit, tally, total}
+
+pub total-same : {A : Type 0} (f g : A → ℕ) (xs : List A) → ((x : A) → In x xs → f x ≡ g x) → total f xs ≡ total g xs
+total-same f g [] h = refl
+total-same f g (x ∷ xs) h = by (f x) (g x) (total f xs) (total g xs) (h x (inl refl)) (total-same f g xs (λ y i. h y (inr i)))
+  where
+    by : (a b c d : ℕ) → a ≡ b → c ≡ d → a + c ≡ b + d
+    by a b c d p q = omega arith
+
+pub total-at_most : {A : Type 0} (f g : A → ℕ) (xs : List A) → ((x : A) → In x xs → f x ≤ g x) → total f xs ≤ total g xs
+total-at_most f g [] h = by 0
+  where
+    by : (n : ℕ) → n ≤ n
+    by n = omega arith
+total-at_most f g (x ∷ xs) h = by (f x) (g x) (total f xs) (total g xs) (h x (inl refl)) (total-at_most f g xs (λ y i. h y (inr i)))
+  where
+    by : (a b c d : ℕ) → a ≤ b → c ≤ d → a + c ≤ b + d
+    by a b c d p q = omega arith
+
+pub total-of_sums : {A : Type 0} (f g : A → ℕ) (xs : List A) → total (λ x. f x + g x) xs ≡ total f xs + total g xs
+total-of_sums f g [] = by tt
+  where
+    by : Unit {0} → 0 ≡ 0 + 0
+    by t = omega arith
+total-of_sums f g (x ∷ xs) = by (f x) (g x) (total f xs) (total g xs) (total (λ x. f x + g x) xs) (total-of_sums f g xs)
+  where
+    by : (a b c d e : ℕ) → e ≡ c + d → (a + b) + e ≡ (a + c) + (b + d)
+    by a b c d e p = omega arith
+
+pub total-zeros : {A : Type 0} (f : A → ℕ) (xs : List A) → ((x : A) → In x xs → f x ≡ 0) → total f xs ≡ 0
+total-zeros f [] h = refl
+total-zeros f (x ∷ xs) h = by (f x) (total f xs) (h x (inl refl)) (total-zeros f xs (λ y i. h y (inr i)))
+  where
+    by : (a b : ℕ) → a ≡ 0 → b ≡ 0 → a + b ≡ 0
+    by a b p q = omega arith
+
+pub total-in : {A : Type 0} (f : A → ℕ) (x : A) (xs : List A) → In x xs → f x ≤ total f xs
+total-in f x [] h = absurd h
+total-in f x (y ∷ xs) (inl p) = by (f x) (f y) (total f xs) (ap f p)
+  where
+    by : (a b c : ℕ) → a ≡ b → a ≤ b + c
+    by a b c q = omega arith
+total-in f x (y ∷ xs) (inr h) = by (f x) (f y) (total f xs) (total-in f x xs h)
+  where
+    by : (a b c : ℕ) → a ≤ c → a ≤ b + c
+    by a b c q = omega arith
+
+pub length-as_total : {A B : Type 0} (f : A → List B) (xs : List A) → length (flat_map f xs) ≡ total (λ x. length (f x)) xs
+length-as_total f [] = refl
+length-as_total f (x ∷ xs) = length-append (f x) (flat_map f xs) ∙ ap (λ n. length (f x) + n) (length-as_total f xs)
+
+pub filter-as_total : {A : Type 0} (p : A → Bool) (xs : List A) → length (filter p xs) ≡ total (λ x. bit (p x)) xs
+filter-as_total p [] = refl
+filter-as_total {A = A} p (x ∷ xs) = by (p x) (filter-as_total p xs)
+  where
+    by : (b : Bool) → length (filter p xs) ≡ total (λ x. bit (p x)) xs → length (cond b (x ∷ filter p xs) (filter p xs)) ≡ bit b + total (λ x. bit (p x)) xs
+    by true h = omega arith
+    by false h = omega arith
+
+pub length-as_ones : {A : Type 0} (xs : List A) → length xs ≡ total (λ x. 1) xs
+length-as_ones [] = refl
+length-as_ones (x ∷ xs) = by (length xs) (total (λ x. 1) xs) (length-as_ones xs)
+  where
+    by : (a b : ℕ) → a ≡ b → suc a ≡ 1 + b
+    by a b p = omega arith
+
+-- ---- each entry belongs to one
+
+module _ {A : Type 0} (name : A → JobName) where
+  -- where names are apart, one has this name
+  pub once-counted : (k : JobName) (xs : List A) → Apart name xs → (x : A) → In x xs → name x ≡ k → total (λ y. bit (same_job (name y) k)) xs ≡ 1
+  once-counted k [] a x h e = absurd h
+  once-counted k (y ∷ xs) a x (inl p) e =
+      by (same_job (name y) k) (total (λ y. bit (same_job (name y) k)) xs) ((same_job_decides (name y) k).1 (ap name (sym p) ∙ e))
+      (total-zeros (λ y. bit (same_job (name y) k)) xs (λ z i. none z i))
+    where
+      by : (b : Bool) (n : ℕ) → b ≡ true → n ≡ 0 → bit b + n ≡ 1
+      by true n p q = omega arith
+      by false n p q = absurd (true≠false (sym p))
+
+      none : (z : A) → In z xs → bit (same_job (name z) k) ≡ 0
+      none z i = not_it (same_job (name z) k) refl
+        where
+          not_it : (b : Bool) → same_job (name z) k ≡ b → bit b ≡ 0
+          not_it false q = refl
+          not_it true q = absurd (a.0 z i ((same_job_decides (name z) k).0 q ∙ sym e ∙ ap name p))
+  once-counted k (y ∷ xs) a x (inr i) e = by (same_job (name y) k) refl (total (λ y. bit (same_job (name y) k)) xs) (once-counted k xs a.1 x i e)
+    where
+      by : (b : Bool) → same_job (name y) k ≡ b → (n : ℕ) → n ≡ 1 → bit b + n ≡ 1
+      by false q n p = omega arith
+      by true q n p = absurd (a.0 x i (e ∙ sym ((same_job_decides (name y) k).0 q)))
+
+  -- of a kind of entries, with the name that each has
+  module _ (p : JobName → Entry → Bool) (kind : Entry → Option JobName) (agree : (n : JobName) (e : Entry) → p n e ≡ option_map_or (same_job n) (kind e) false) (xs : List A) (apart : Apart name xs) where
+    abbrev pub Owned : Entry → Type 0
+    Owned e = (k : JobName) → kind e ≡ Some k → (x : A) × In x xs × (name x ≡ k)
+
+    one-entry : (e : Entry) → Owned e → total (λ x. bit (p (name x) e)) xs ≡ bit (is_some (kind e))
+    one-entry e o = total-same (λ x. bit (p (name x) e)) (λ x. bit (option_map_or (same_job (name x)) (kind e) false)) xs (λ x i. ap bit (agree (name x) e)) ∙ by (kind e) refl
+      where
+        by : (q : Option JobName) → kind e ≡ q → total (λ x. bit (option_map_or (same_job (name x)) q false)) xs ≡ bit (is_some q)
+        by None f = total-zeros (λ x. 0) xs (λ x i. refl)
+        by (Some k) f = let r = o k f in once-counted k xs apart r.0 r.1 r.2
+
+    pub all-entries : (past : History) → ((e : Entry) → In e past → Owned e) → total (λ x. tally (p (name x)) past) xs ≡ tally (λ e. is_some (kind e)) past
+    all-entries [] o = total-zeros (λ x. 0) xs (λ x i. refl)
+    all-entries (e ∷ past) o =
+        total-of_sums (λ x. bit (p (name x) e)) (λ x. tally (p (name x)) past) xs
+        ∙ by (total (λ x. bit (p (name x) e)) xs) (bit (is_some (kind e))) (total (λ x. tally (p (name x)) past) xs) (tally (λ e. is_some (kind e)) past) (one-entry e (o e (inl refl))) (all-entries past (λ f i. o f (inr i)))
+      where
+        by : (a b c d : ℕ) → a ≡ b → c ≡ d → a + c ≡ b + d
+        by a b c d p q = omega arith

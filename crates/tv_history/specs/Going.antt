@@ -1,0 +1,26 @@
+-- How long a history can be, and that it can go on.
+use Rattle.std.specs.Prelude.{Bool, false, length, true, ℕ, ◌*◌, ◌+◌, ◌≡◌, ◌≤◌}
+use Rattle.tv_gate.specs.Outcomes.{Giving}
+use Rattle.tv_flow.specs.Flows.{Document}
+use Rattle.tv_strategy.specs.Sources.{Each}
+use Rattle.tv_model.specs.Made.{Meaning}
+use Rattle.tv_model.specs.Levels.{levels}
+use Rattle.tv_history.specs.Entries.{Entry, History, recalled}
+use Rattle.tv_history.specs.Histories.{is_legal_after}
+use Rattle.tv_history.specs.Tallies.{total}
+
+abbrev pub is_recall : Entry → Bool
+is_recall (recalled k) = true
+is_recall _ = false
+
+-- twice the asks, four times the jobs, and the lists and passed faults, and one more
+abbrev pub most_entries : Meaning → ℕ
+most_entries m = 2 * total (λ j. length j.asks) m.jobs + 4 * length m.jobs + length (levels m.steps) + 1
+
+-- an entry that is legal next, and no recall
+abbrev pub Next : Giving → Meaning → History → Type 0
+Next gives m past = (e : Entry) × (is_legal_after gives m past e ≡ true) × (is_recall e ≡ false)
+
+-- what the check of a document gives: every step may have a job at a time
+pub record IsWellFormed (d : Document) : Type 0 where
+  pub places : Each (λ f. Each (λ s. 1 ≤ s.1.jobs) f.1.steps) d.flows
