@@ -1,8 +1,8 @@
+use crate::copied::Copied;
 use crate::job_name::JobName;
 use crate::memory::NoMemory;
 use crate::place::Place;
 use crate::sequence::Sequence;
-use crate::copied::Copied;
 use crate::text::Text;
 use crate::tree::{Tree, Trees};
 use crate::value::{ErrorDoc, Items, Value};
