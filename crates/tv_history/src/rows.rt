@@ -1,4 +1,7 @@
 //! Worked histories, legal ones and some that are not, and whole runs of a plain worker: they compute.
+//!
+//! The histories stand in `specs/RowsOfHistories.antt`, the runs in `specs/RowsOfRuns.antt`, and the worker, which settles
+//! whatever can be settled and else asks, in `specs/Worker.antt`. The documents are those of `tv_model`.
 ghost use Rattle.tv_history.specs.RowsOfHistories.{AcceptsOnce, AcceptsWhatIsOut, BouncesJobOnFault, ClosesAfterItsSources, ClosesInnerLists, ClosesKnownList, ClosesOnce, EndsAfterItsJob, EndsAfterItsSteps, EndsInstanceAfterItsJobs, HandsOutAgainAfterRecall, HandsOutOnce, JudgesAsItCame, KeepsLimitOfJobs, OpensInJobOrder, PassesMadeFault, ReadsTotalsOff, RecallsAllThatIsOut, StreamsWhileListIsOpen, TakesFirstJob, TakesItemsAsTheyCome, TakesNoRecalledAnswer, TriesInTurn, WorksOnBothSteps};
 ghost use Rattle.tv_history.specs.RowsOfRuns.{KeepsNothingAtEnd, RunsBouncedItem, RunsFailover, RunsGenerated, RunsIdleStepInAnotherOrder, RunsNestedFlow, RunsNestedLists, RunsOneAfterAnother, RunsOneText, RunsPairedFault, RunsPairs, RunsPassedFault, RunsTwoSteps};
 

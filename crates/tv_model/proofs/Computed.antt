@@ -1,10 +1,12 @@
 -- The worked documents compute.
 use Rattle.json.specs.Print.{escape_byte}
+use Rattle.std.proofs.Common.{arith}
 use Rattle.std.specs.Fmt.{digits}
 use Rattle.std.specs.Prelude.{refl}
 use Rattle.tv_model.specs.RowsOfFaults.{BouncesOneItem, CrossesEmptyListWithFault, CrossesListWithFault, FailsAfterRetries, FailsOver, PairsWithFault, PassesFaultOfList, RetriesUntilRight, TellsDepthOfValue, TellsErrorInValue, TellsNumberOfValues}
 use Rattle.tv_model.specs.RowsOfFlows.{AsksInsideFlows, ForwardOfCross, ForwardThroughFlow, GivesTheSameInEachOrder, HasNoSuchElement, JoinsGeneNames, LimitOfJobsLeavesOrder, LineageOfCross, LineageThroughFlow, LineageThroughSteps, OpensFlowForEachItem, RunsAfter, RunsByRank, StreamsToNextStep}
 use Rattle.tv_model.specs.RowsOfIteration.{CapitalsOfText, CrossesTwoLists, CrossesWithEmptyInnerList, CrossesWithEmptyOuterList, MergesTwoTexts, PairsToShorter, ReadsNumbersAsTexts, WalksEmptyList, WalksNestedLists, WrapsTextInList}
+use Rattle.tv_model.specs.RowsOfParts.{KnowsNothingElse, KnowsPartsOfList}
 use Rattle.tv_model.specs.RowsOfSize.{LengthOfTen, LineOfOne, TotalsOfTen, TotalsOfThree}
 
 pub capitals_of_text : CapitalsOfText
@@ -146,6 +148,12 @@ forward_through_flow = refl
 pub lineage_through_steps : LineageThroughSteps
 unfolding digits escape_byte
 lineage_through_steps = refl
+
+pub knows_parts_of_list : KnowsPartsOfList
+knows_parts_of_list = (tt, (refl, tt), (refl, (refl, (refl, tt))))
+
+pub knows_nothing_else : KnowsNothingElse
+knows_nothing_else = (λ h. h.0, λ h. omega (arith, h.0), λ h. h)
 
 pub line_of_one : LineOfOne
 unfolding digits escape_byte

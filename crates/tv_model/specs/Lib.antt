@@ -21,3 +21,4 @@ pub mod RowsOfIteration
 pub mod RowsOfFaults
 pub mod RowsOfFlows
 pub mod RowsOfSize
+pub mod RowsOfParts
