@@ -1,0 +1,5 @@
+pub mod Keys
+pub mod KeptValues
+pub mod Growing
+pub mod Places
+pub mod Shapes
