@@ -3,3 +3,5 @@ pub mod KeptValues
 pub mod Growing
 pub mod Places
 pub mod Shapes
+pub mod Sorting
+pub mod Branches

@@ -1,5 +1,5 @@
 -- What the lists that were read keep: as many entries as there were, and the byte order of names.
-use Rattle.std.specs.Prelude.{◌≡◌, ℕ, suc, List, [], ◌∷◌, length, map, Bool, true, false, ◌&&◌, if◌then◌else◌, Result, Ok, Err, String, string_bytes, refl}
+use Rattle.std.specs.Prelude.{◌≡◌, ℕ, suc, List, [], ◌∷◌, length, map, Bool, true, false, ◌&&◌, if◌then◌else◌, Result, Ok, Err, IfOk, String, string_bytes, refl}
 use Rattle.std.specs.declared.alloc.Global.{Global}
 use Rattle.std.specs.declared.cmp.Ordering.{Ordering}
 use Rattle.std.specs.List.{list_all, AllByRecursion}
@@ -14,6 +14,9 @@ use Rattle.tv_value.specs.Values.{Text, Name}
 use Rattle.tv_value.specs.Orders.{name_cmp}
 use Rattle.tv_value.specs.Readings.{item_count}
 use Rattle.tv_flow.specs.declared.faults.FormKind.TheVariants.{BadName}
+use Rattle.tv_flow.specs.declared.faults.FormFault.{FormFault}
+use Rattle.tv_flow.specs.Answers.{IsForm}
+use Rattle.tv_flow.specs.Views.{each}
 use Rattle.tv_flow.specs.Complaints.{Path, Complaint, complaint, key, index, given}
 use Rattle.tv_flow.specs.Forms.{is_name, name_or_not, entries_form, items_form, member_count}
 use Rattle.tv_flow.specs.Formed.{is_ascending, is_between, are_entries, are_named, are_listed}
@@ -84,3 +87,16 @@ module _ {A : Type 0} (form : Path → Data → Result A Complaint) (here : Path
       ∙ ap (λ ns. is_ascending ns && all) names
       ∙ ap (λ c. c && all) (ascending ms o)
       ∙ h
+
+-- names with things that are seen as they are
+pub same-each : {A : Type 0} (es : List (Name × A)) → map (λ e. (e.0, e.1)) es ≡ es
+same-each [] = refl
+same-each (e ∷ es) = ap (λ xs. e ∷ xs) (same-each es)
+
+pub unseen : {A : Type 0} (r : Result (List (Name × A)) FormFault) (s : Result (List (Name × A)) Complaint) → IsForm (each (λ a. a)) r s → IsForm (λ es. es) r s
+unseen (Ok es) s h = h ∙ ap Ok (same-each es)
+unseen (Err f) s h = h
+
+pub kept-unseen : {A : Type 0} (test : A → Bool) (least most : ℕ) (r : Result (List (Name × A)) FormFault) → IfOk r (λ es. are_named test least most (each (λ a. a) es) ≡ true) → IfOk r (λ es. are_named test least most es ≡ true)
+kept-unseen test least most (Ok es) h = ap (are_named test least most) (sym (same-each es)) ∙ h
+kept-unseen test least most (Err f) h = h

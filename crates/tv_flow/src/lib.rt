@@ -2,10 +2,14 @@
 mod at;
 mod document;
 mod faults;
+mod feeds;
 mod formed;
 mod lists;
+mod names;
 mod objects;
 mod scalars;
+mod steps;
+mod trees;
 
 pub use document::{
     Activities, Activity, Document, Feed, Flow, FlowOutputs, Flows, Inputs, Link, Links, Step, StepInput, StepInputs,

@@ -50,7 +50,7 @@ fn member_count(members: &Map<String, Json>) -> usize
 }
 
 /// The number of an array's items.
-fn item_count(items: &Vec<Json>) -> usize
+pub(crate) fn item_count(items: &Vec<Json>) -> usize
     ensures { result ≡ item_count (json_items items.now.items) }
 {
     items.len()

@@ -1,5 +1,5 @@
 //! Objects with stated fields.
-ghost use Rattle.std.specs.Prelude.{◌≡◌, IfOk, true, List, ℕ, map, option_map, string_bytes, not};
+ghost use Rattle.std.specs.Prelude.{◌≡◌, ◌<◌, ◌^◌, [], IfOk, true, List, ℕ, map, option_map, string_bytes, not};
 ghost use Rattle.std.specs.List.{list_any, find};
 ghost use Rattle.std.specs.BTreeMap.{keys};
 ghost use Rattle.serde_json.specs.View.{view as json_view, members_view};
@@ -7,15 +7,18 @@ ghost use Rattle.tv_value.specs.Orders.{same_name};
 ghost use Rattle.tv_flow.specs.Complaints.{key};
 ghost use Rattle.tv_flow.specs.PathViews.{at_view};
 ghost use Rattle.tv_flow.specs.Answers.{IsForm};
-ghost use Rattle.tv_flow.specs.Formed.{is_between};
-ghost use Rattle.tv_flow.specs.Forms.{fields_form, unknown_key, required, optional, number_form, has};
+ghost use Rattle.tv_flow.specs.Formed.{is_between, are_named, are_listed};
+ghost use Rattle.tv_flow.specs.Views.{each};
+ghost use Rattle.tv_flow.specs.Forms.{fields_form, unknown_key, required, optional, number_form, named_form, array_form, has};
 
 use crate::at::At;
 use crate::faults::{FormFault, FormKind};
 use crate::formed::Formed;
+use crate::lists::{array, named};
 use crate::scalars::number;
 use serde_json::{Map, Value as Json};
 use std::alloc::Global;
+use tv_value::{Name, Sequence};
 
 /// Whether it is an object that has a key.
 pub(crate) fn has(json: &Json, key: &str) -> bool
@@ -88,5 +91,61 @@ pub(crate) fn optional_number(
     match json.get(key) {
         Some(json) => number(alloc, &At::Key(at, key), json, low, high),
         None => Ok(otherwise),
+    }
+}
+
+/// A named object that must be there.
+pub(crate) fn required_named<T: Formed>(
+    alloc: Global,
+    at: &At<'_>,
+    json: &Json,
+    key: &str,
+    least: usize,
+    most: usize,
+) -> Result<Sequence<(Name, T)>, FormFault>
+    ensures read { IsForm (each T.seen) result (required (named_form T.form least most) key.now (at_view at.now) (json_view json.now)) }
+    ensures kept { IfOk result (λ es. are_named T.keeps least most (each T.seen es) ≡ true) }
+{
+    let there = At::Key(at, key);
+    match json.get(key) {
+        Some(json) => named(alloc, &there, json, least, most),
+        None => Err(there.fault(alloc, FormKind::Missing)),
+    }
+}
+
+/// A named object that may be left out, and is then empty.
+pub(crate) fn optional_named<T: Formed>(
+    alloc: Global,
+    at: &At<'_>,
+    json: &Json,
+    key: &str,
+    most: usize,
+) -> Result<Sequence<(Name, T)>, FormFault>
+    ensures read { IsForm (each T.seen) result (optional [] (named_form T.form 0 most) key.now (at_view at.now) (json_view json.now)) }
+    ensures kept { IfOk result (λ es. are_named T.keeps 0 most (each T.seen es) ≡ true) }
+{
+    match json.get(key) {
+        Some(json) => named(alloc, &At::Key(at, key), json, 0, most),
+        None => Ok(Sequence::empty(alloc)),
+    }
+}
+
+/// An array that must be there.
+pub(crate) fn required_array<T: Formed>(
+    alloc: Global,
+    at: &At<'_>,
+    json: &Json,
+    key: &str,
+    least: usize,
+    most: usize,
+) -> Result<Sequence<T>, FormFault>
+    requires { most < 2 ^ 32 }
+    ensures read { IsForm (map T.seen) result (required (array_form T.form least most) key.now (at_view at.now) (json_view json.now)) }
+    ensures kept { IfOk result (λ xs. are_listed T.keeps least most (map T.seen xs) ≡ true) }
+{
+    let there = At::Key(at, key);
+    match json.get(key) {
+        Some(json) => array(alloc, &there, json, least, most),
+        None => Err(there.fault(alloc, FormKind::Missing)),
     }
 }
