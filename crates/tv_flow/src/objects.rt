@@ -74,6 +74,25 @@ pub(crate) fn required<T: Formed>(alloc: Global, at: &At<'_>, json: &Json, key: 
     }
 }
 
+/// A number that must be there.
+pub(crate) fn required_number(
+    alloc: Global,
+    at: &At<'_>,
+    json: &Json,
+    key: &str,
+    low: u32,
+    high: u32,
+) -> Result<u32, FormFault>
+    ensures read { IsForm (λ n. n) result (required (number_form low high) key.now (at_view at.now) (json_view json.now)) }
+    ensures kept { IfOk result (λ n. is_between low high n ≡ true) }
+{
+    let there = At::Key(at, key);
+    match json.get(key) {
+        Some(json) => number(alloc, &there, json, low, high),
+        None => Err(there.fault(alloc, FormKind::Missing)),
+    }
+}
+
 /// A number that may be left out, and is then `otherwise`.
 pub(crate) fn optional_number(
     alloc: Global,
