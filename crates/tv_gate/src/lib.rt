@@ -6,13 +6,21 @@
 //!
 //! - `outcome`: what a call gives
 //! - `services`: the traits
-//! - `askers`: askers over gates
+//! - `askers`: an asker over a gate
+//! - `logged`: an asker over a gate that tells its calls
+//! - `script`: a gate that answers by a function of a type
 #![tactic(auto)]
 
 mod askers;
+mod logged;
 mod outcome;
+mod script;
 mod services;
+#[cfg(test)]
+mod tests;
 
 pub use askers::GateAsker;
+pub use logged::{Call, LoggedGate};
 pub use outcome::Outcome;
+pub use script::{Script, ScriptedGate};
 pub use services::{Asker, Gate, Services};

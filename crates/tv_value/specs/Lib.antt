@@ -9,3 +9,5 @@ pub mod Printed
 pub mod Views
 pub mod DepthViews
 pub mod Answers
+pub mod Laws
+pub mod Worked

@@ -18,6 +18,7 @@
 mod copied;
 mod depth;
 mod job_name;
+pub mod laws;
 mod memory;
 mod order;
 mod place;

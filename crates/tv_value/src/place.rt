@@ -1,4 +1,4 @@
-ghost use Rattle.std.specs.Prelude.{◌≡◌, ◌+◌, ◌≤◌, ◌<◌, [], ◌∷◌, ◌++◌, length, take, drop, IfOk, IsOk};
+ghost use Rattle.std.specs.Prelude.{◌≡◌, ◌+◌, ◌≤◌, ◌<◌, [], ◌∷◌, ◌++◌, length, take, drop, IfOk, IsOk, OnOk, OnErr};
 ghost use Rattle.tv_value.specs.Orders.{is_prefix};
 
 use crate::copied::Copied;
@@ -80,6 +80,16 @@ impl Place {
         let mut place = self.copy(alloc)?;
         place.indices.extend_from_slice(tail.indices.as_slice())?;
         Ok(place)
+    }
+
+    /// Puts the other place inside this one. Where memory is wanting this one stays as it was.
+    pub fn append(&mut self, tail: &Place) -> Result<(), NoMemory>
+        ensures ok { OnOk result (self.new ≡ self.old ++ tail.now) }
+        ensures err { OnErr result (self.new ≡ self.old) }
+        ensures short { length self.old + length tail.now ≤ 32 → IsOk result }
+    {
+        self.indices.extend_from_slice(tail.indices.as_slice())?;
+        Ok(())
     }
 
     /// The first `at` indices, and the others.

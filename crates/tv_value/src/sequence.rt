@@ -1,6 +1,7 @@
-ghost use Rattle.std.specs.Prelude.{◌≡◌, ◌++◌, ◌∷◌, [], length, IfOk, OnOk, OnErr};
+ghost use Rattle.std.specs.Prelude.{◌≡◌, [], option_map};
+ghost use Rattle.tv_value.specs.Orders.{named};
 
-use crate::memory::NoMemory;
+use crate::text::Name;
 use std::alloc::Global;
 use std::marker::Model;
 
@@ -47,5 +48,19 @@ impl<T> Sequence<T> {
         ensures { result.now ≡ self.now }
     {
         self.items.as_slice()
+    }
+}
+
+impl<T> Sequence<(Name, T)> {
+    /// The first thing of that name. Linear in the list.
+    pub fn named(&self, name: &Name) -> Option<&T>
+        ensures { option_map (λ x. x.now) result ≡ named name.now self.now }
+    {
+        for item in self.as_slice() {
+            if name.as_str() == item.0.as_str() {
+                return Some(&item.1);
+            }
+        }
+        None
     }
 }

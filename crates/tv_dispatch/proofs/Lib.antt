@@ -1,0 +1,5 @@
+pub mod Turns
+pub mod Complaints
+pub mod Folded
+pub mod Judged
+pub mod Examples

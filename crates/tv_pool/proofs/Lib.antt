@@ -1,0 +1,5 @@
+pub mod Chains
+pub mod Tables
+pub mod Regions
+pub mod Steps
+pub mod PoolLemmas

@@ -1,0 +1,5 @@
+pub mod Pool
+pub mod Lends
+pub mod Layout
+pub mod Placed
+pub mod Mirror

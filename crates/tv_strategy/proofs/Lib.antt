@@ -1,0 +1,13 @@
+pub mod AtDepth
+pub mod AtPlace
+pub mod OfSources
+pub mod OfMeasures
+pub mod OfPlaces
+pub mod OfSplits
+pub mod Computed
+pub mod OfEnds
+pub mod OfJoins
+pub mod OfLists
+pub mod OfLaws
+pub mod ThereAll
+pub mod OfVisits

@@ -1,0 +1,8 @@
+use Rattle.tv_strategy.proofs.OfEnds.{split-of_end}
+use Rattle.tv_strategy.proofs.ThereAll.{job-there}
+use Rattle.tv_strategy.proofs.OfLaws.{split-names_leaves, nothing-exactly}
+use Rattle.tv_strategy.proofs.OfJoins.{joined-undoes}
+use Rattle.tv_strategy.proofs.laws.places.Goals as goal
+
+pub returns : goal.returns
+returns c = record { ends = split-of_end; there = job-there; names = split-names_leaves; undoes = joined-undoes; none = nothing-exactly }

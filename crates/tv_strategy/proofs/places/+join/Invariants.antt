@@ -1,0 +1,25 @@
+use Rattle.std.proofs.Common.{◌≡◌, Some, drop}
+use Rattle.tv_value.specs.Views.{strategy_view}
+use Rattle.tv_value.proofs.OfTrees.{size, sizes}
+use Rattle.tv_strategy.specs.Conditions.{place_of}
+use Rattle.tv_strategy.specs.Splits.{joined_cross, one_after}
+use Rattle.tv_strategy.specs.Views.{children_view}
+use Rattle.tv_strategy.proofs.OfPlaces.{all_at}
+use Rattle.tv_strategy.proofs.places.+join.Given as goal
+
+abbrev pub decreases-join_tree : goal.decreases-join_tree
+decreases-join_tree l = size (strategy_view l.tree.now)
+
+abbrev pub decreases-join_cross : goal.decreases-join_cross
+decreases-join_cross l = sizes (children_view l.trees.now)
+
+abbrev pub decreases-join_dot : goal.decreases-join_dot
+decreases-join_dot l = sizes (children_view l.trees.now)
+
+abbrev pub invariant-join_cross-loop-tree : goal.invariant-join_cross-loop-tree
+invariant-join_cross-loop-tree l =
+    joined_cross (place_of l.places) (children_view l.trees) ≡ one_after (Some l.whole) (joined_cross (place_of l.places) (children_view (drop l.tree-index l.trees)))
+
+abbrev pub invariant-join_dot-loop-tree : goal.invariant-join_dot-loop-tree
+invariant-join_dot-loop-tree l =
+    all_at (place_of l.places) l.common (children_view l.others) ≡ all_at (place_of l.places) l.common (children_view (drop l.tree-index l.others))

@@ -1,0 +1,12 @@
+pub mod Origins
+pub mod Iterations
+pub mod Measures
+pub mod Splits
+pub mod Conditions
+pub mod Outputs
+pub mod Levels
+pub mod Sources
+pub mod Views
+pub mod Promises
+pub mod Stated
+pub mod Worked

@@ -1,0 +1,32 @@
+//! Iteration strategies: how the mismatches of a step's ports combine into its jobs.
+//!
+//! A step whose ports are delivered deeper values than they declare runs once for each binding of its iteration. The
+//! definition of this iteration (`specs/Iterations.antt`) takes whole delivered values to a tree of lists whose ends bind
+//! one value for each port, or are faults that stand in the place of a list. A cross puts each with each, its first child
+//! outermost; a dot puts equal positions together, to the shortest. Each node lists its sources, the nodes of delivered
+//! values that it waits for. An output of the step (`specs/Outputs.antt`) is the same tree, with what each job made at its
+//! end.
+//!
+//! The crate promises that
+//! - `depth_of` is the depth of this tree, or tells of the first dot whose children differ (`specs/Measures.antt`);
+//! - `split` gives the places of the ports' values that the job at a place is made of, whatever values are delivered, and
+//!   `join` undoes it: it answers nothing exactly where two children of a dot have different places
+//!   (`specs/Splits.antt`, `specs/Promises.antt`);
+//! - the laws of `specs/Stated.antt` hold for every strategy and all values, and the worked examples of
+//!   `specs/Worked.antt` compute.
+//!
+//! Their conditions stand in `specs/Conditions.antt`. Want of memory is the one refusal of `split` and `join`.
+//!
+//! - `depth`: the depth of a strategy
+//! - `places`: from the place of a job to those of its ports' values, and back
+//! - `laws`: what holds of the definitions alone
+#![tactic(auto)]
+
+mod depth;
+pub mod laws;
+mod places;
+#[cfg(test)]
+mod tests;
+
+pub use depth::{DotFault, depth_of};
+pub use places::{PortPlaces, join, split};

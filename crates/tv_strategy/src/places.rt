@@ -1,0 +1,198 @@
+ghost use Rattle.std.specs.Prelude.{◌≡◌, ◌≤◌, length, IfOk, IsNone, ◌↔◌};
+ghost use Rattle.tv_value.specs.Strategies.{port, cross, dot};
+ghost use Rattle.tv_value.specs.Views.{strategy_view};
+ghost use Rattle.tv_strategy.specs.Measures.{DotsAgree, strategy_depth};
+ghost use Rattle.tv_strategy.specs.Splits.{AddsSplit, joined};
+ghost use Rattle.tv_strategy.specs.Splits.{split as split_of};
+ghost use Rattle.tv_strategy.specs.Conditions.{Suits, HasPlaces, number_of, place_of};
+ghost use Rattle.tv_strategy.specs.Promises.{ArePlacesOfEnd, UndoesSplit, DotDiffers};
+ghost use Rattle.tv_strategy.specs.Views.{children_view};
+
+use crate::depth::mismatch_at;
+use std::alloc::Global;
+use tv_value::{Copied, Depths, Name, NoMemory, Place, Sequence, Tree};
+
+/// Ports with a place each.
+pub type PortPlaces = Sequence<(Name, Place)>;
+
+/// The places of the ports' values that the job at a place is made of: a cross gives its first child the first indices, a dot gives each child all.
+///
+/// The ports come from left to right as the strategy has them. Want of memory is the one refusal.
+/// Linear in the tree, with a look-up in `mismatch` and a copy of a name and a place for each leaf.
+pub fn split(
+    alloc: Global,
+    tree: &Tree,
+    mismatch: &Depths,
+    place: &Place,
+) -> Result<PortPlaces, NoMemory>
+    requires suits { Suits mismatch.now (strategy_view tree.now) }
+    requires agree { DotsAgree (number_of mismatch.now) (strategy_view tree.now) }
+    requires deep { length place.now ≡ strategy_depth (number_of mismatch.now) (strategy_view tree.now) }
+    ensures places { IfOk result (λ ps. ps ≡ split_of (number_of mismatch.now) (strategy_view tree.now) place.now) }
+    ensures ends { IfOk result (λ ps. ArePlacesOfEnd (number_of mismatch.now) (strategy_view tree.now) place.now ps) }
+{
+    let mut places = Vec::new(alloc);
+    split_into(alloc, tree, mismatch, place.as_slice(), &mut places)?;
+    Ok(Sequence::of(places))
+}
+
+/// Appends the places that the first indices split into, and answers how many indices these are.
+#[cycle(split)]
+fn split_into(
+    alloc: Global,
+    tree: &Tree,
+    mismatch: &Depths,
+    indices: &[u32],
+    places: &mut Vec<(Name, Place)>,
+) -> Result<usize, NoMemory>
+    requires agree { DotsAgree (number_of mismatch.now) (strategy_view tree.now) }
+    requires deep { strategy_depth (number_of mismatch.now) (strategy_view tree.now) ≤ length indices.now }
+    ensures { IfOk result (AddsSplit (number_of mismatch.now) (strategy_view tree.now) indices.now places.old.items places.new.items) }
+{
+    match tree {
+        Tree::Leaf(name) => split_leaf(alloc, name, mismatch, indices, places),
+        Tree::Cross(trees) => split_cross(alloc, trees.as_slice(), mismatch, indices, places),
+        Tree::Dot(trees) => split_dot(alloc, trees.as_slice(), mismatch, indices, places),
+    }
+}
+
+fn split_leaf(
+    alloc: Global,
+    name: &Name,
+    mismatch: &Depths,
+    indices: &[u32],
+    places: &mut Vec<(Name, Place)>,
+) -> Result<usize, NoMemory>
+    requires { number_of mismatch.now name.now ≤ length indices.now }
+    ensures { IfOk result (AddsSplit (number_of mismatch.now) (port name.now) indices.now places.old.items places.new.items) }
+{
+    let depth = mismatch_at(mismatch, name) as usize;
+    let place = Place::of(alloc, &indices[..depth])?;
+    let name = name.copy(alloc)?;
+    places.push((name, place))?;
+    Ok(depth)
+}
+
+/// Each child in turn takes its indices from those left.
+#[cycle(split)]
+fn split_cross(
+    alloc: Global,
+    trees: &[Tree],
+    mismatch: &Depths,
+    indices: &[u32],
+    places: &mut Vec<(Name, Place)>,
+) -> Result<usize, NoMemory>
+    requires agree { DotsAgree (number_of mismatch.now) (cross (children_view trees.now)) }
+    requires deep { strategy_depth (number_of mismatch.now) (cross (children_view trees.now)) ≤ length indices.now }
+    ensures { IfOk result (AddsSplit (number_of mismatch.now) (cross (children_view trees.now)) indices.now places.old.items places.new.items) }
+{
+    let mut taken = 0;
+    for tree in trees {
+        taken += split_into(alloc, tree, mismatch, &indices[taken..], places)?;
+    }
+    Ok(taken)
+}
+
+/// Each child takes the same indices.
+#[cycle(split)]
+fn split_dot(
+    alloc: Global,
+    trees: &[Tree],
+    mismatch: &Depths,
+    indices: &[u32],
+    places: &mut Vec<(Name, Place)>,
+) -> Result<usize, NoMemory>
+    requires agree { DotsAgree (number_of mismatch.now) (dot (children_view trees.now)) }
+    requires deep { strategy_depth (number_of mismatch.now) (dot (children_view trees.now)) ≤ length indices.now }
+    ensures { IfOk result (AddsSplit (number_of mismatch.now) (dot (children_view trees.now)) indices.now places.old.items places.new.items) }
+{
+    let Some((first, others)) = trees.split_first() else {
+        return Ok(0);
+    };
+    let depth = split_into(alloc, first, mismatch, indices, places)?;
+    for tree in others {
+        split_into(alloc, tree, mismatch, indices, places)?;
+    }
+    Ok(depth)
+}
+
+/// The place of the job that is made of the values at these places of its ports, or `None` where two children of a dot
+/// have different places. Undoes `split`. Only the conditions name `mismatch`.
+///
+/// Want of memory is the one refusal. Linear in the tree, with a look-up in `places` for each leaf and a copy of the part of the place that each node has.
+pub fn join(
+    alloc: Global,
+    tree: &Tree,
+    mismatch: &Depths,
+    places: &PortPlaces,
+) -> Result<Option<Place>, NoMemory>
+    requires suits { Suits mismatch.now (strategy_view tree.now) }
+    requires placed { HasPlaces mismatch.now places.now (strategy_view tree.now) }
+    ensures place { IfOk result (λ o. o ≡ joined (place_of places.now) (strategy_view tree.now)) }
+    ensures undoes { IfOk result (λ o. UndoesSplit (number_of mismatch.now) (strategy_view tree.now) (place_of places.now) o) }
+    ensures none { IfOk result (λ o. IsNone o ↔ DotDiffers (place_of places.now) (strategy_view tree.now)) }
+{
+    join_tree(alloc, tree, places)
+}
+
+#[cycle(join)]
+fn join_tree(alloc: Global, tree: &Tree, places: &PortPlaces) -> Result<Option<Place>, NoMemory>
+    ensures { IfOk result (λ o. o ≡ joined (place_of places.now) (strategy_view tree.now)) }
+{
+    match tree {
+        Tree::Leaf(name) => join_leaf(alloc, name, places),
+        Tree::Cross(trees) => join_cross(alloc, trees.as_slice(), places),
+        Tree::Dot(trees) => join_dot(alloc, trees.as_slice(), places),
+    }
+}
+
+/// The place of a port, the empty one where none is listed.
+fn join_leaf(alloc: Global, name: &Name, places: &PortPlaces) -> Result<Option<Place>, NoMemory>
+    ensures { IfOk result (λ o. o ≡ Some (place_of places.now name.now)) }
+{
+    match places.named(name) {
+        Some(place) => {
+            let place = place.copy(alloc)?;
+            Ok(Some(place))
+        }
+        None => Ok(Some(Place::top(alloc))),
+    }
+}
+
+/// The children's places, one after the other.
+#[cycle(join)]
+fn join_cross(alloc: Global, trees: &[Tree], places: &PortPlaces) -> Result<Option<Place>, NoMemory>
+    ensures { IfOk result (λ o. o ≡ joined (place_of places.now) (cross (children_view trees.now))) }
+{
+    let mut whole = Place::top(alloc);
+    for tree in trees {
+        let Some(place) = join_tree(alloc, tree, places)? else {
+            return Ok(None);
+        };
+        whole.append(&place)?;
+    }
+    Ok(Some(whole))
+}
+
+/// The one place that the children have.
+#[cycle(join)]
+fn join_dot(alloc: Global, trees: &[Tree], places: &PortPlaces) -> Result<Option<Place>, NoMemory>
+    ensures { IfOk result (λ o. o ≡ joined (place_of places.now) (dot (children_view trees.now))) }
+{
+    let Some((first, others)) = trees.split_first() else {
+        return Ok(Some(Place::top(alloc)));
+    };
+    let Some(place) = join_tree(alloc, first, places)? else {
+        return Ok(None);
+    };
+    let common = place.as_slice();
+    for tree in others {
+        let Some(other) = join_tree(alloc, tree, places)? else {
+            return Ok(None);
+        };
+        if common != other.as_slice() {
+            return Ok(None);
+        }
+    }
+    Ok(Some(place))
+}

@@ -1,0 +1,91 @@
+-- The words of the headline: what each status says of the bytes that were read and written.
+use Rattle.std.specs.Prelude.{◌≡◌, ℕ, List, [], Option, Some, ◌⊎◌, Result, Ok, Err}
+use Rattle.tv_value.specs.Values.{Text}
+use Rattle.tv_io.specs.Rising.{HasRisen}
+use Rattle.tv_io.specs.SentOf.{IsSentOf, IsCutShort}
+use Rattle.tv_top.specs.Answers.{Answer, printed, refused}
+use Rattle.tv_top.specs.declared.status.Status.{Status}
+use Rattle.tv_top.specs.declared.status.Status.TheVariants.{Done, Usage, ReadFault, TooLong, NotJson, NotBuilt, WriteFault, NoMemory}
+
+-- bytes that a source or a sink may tell
+abbrev pub Told : Type 0
+Told = Option (List ℕ)
+
+-- what a source tells before and after a call: the bytes it has left, and its count of faults
+pub record Source : Type 0 where
+  pub left : Told
+  pub left_after : Told
+  pub faults : ℕ
+  pub faults_after : ℕ
+
+-- what a sink tells before and after a call: the bytes it has taken, and its count of faults
+pub record Sink : Type 0 where
+  pub sent : Told
+  pub sent_after : Told
+  pub faults : ℕ
+  pub faults_after : ℕ
+
+-- the source counted a fault
+abbrev pub ReadFailed : Source → Type 0
+ReadFailed s = HasRisen s.faults s.faults_after
+
+-- the sink counted a fault
+abbrev pub WriteFailed : Sink → Type 0
+WriteFailed k = HasRisen k.faults k.faults_after
+
+-- a fact of the bytes that the source had, where it tells them
+abbrev pub OfDocument : Source → (List ℕ → Type 0) → Type 0
+OfDocument s P = (bytes : List ℕ) → s.left ≡ Some bytes → P bytes
+
+-- the source was read to its end, and this text is the answer
+abbrev pub IsAnswer : (List ℕ → Answer) → Source → Text → Type 0
+IsAnswer answer s text = OfDocument s (λ bytes. (answer bytes ≡ printed text) × (s.left_after ≡ Some []))
+
+-- this refusal is the answer
+abbrev pub IsRefusal : (List ℕ → Answer) → Source → Status → Type 0
+IsRefusal answer s status = OfDocument s (λ bytes. answer bytes ≡ refused status)
+
+-- why a run came to an end without a text to print
+abbrev pub RefusalCause : (List ℕ → Answer) → Source → Status → Type 0
+RefusalCause answer s Done = ⊥
+RefusalCause answer s Usage = IsRefusal answer s Usage
+RefusalCause answer s ReadFault = ReadFailed s
+RefusalCause answer s TooLong = IsRefusal answer s TooLong
+RefusalCause answer s NotJson = IsRefusal answer s NotJson
+RefusalCause answer s NotBuilt = IsRefusal answer s NotBuilt
+RefusalCause answer s WriteFault = ⊥
+RefusalCause answer s NoMemory = Unit {0}
+
+-- a text to print is the answer, and a refusal has its cause
+abbrev pub IsAnswered : (List ℕ → Answer) → Source → Result Text Status → Type 0
+IsAnswered answer s (Ok text) = IsAnswer answer s text
+IsAnswered answer s (Err status) = RefusalCause answer s status
+
+-- why a call ended with this status
+abbrev pub Cause : (List ℕ → Answer) → Source → Sink → Status → Type 0
+-- the document was read to its end, and its answer was written whole
+Cause answer s out Done = OfDocument s (λ bytes. (text : Text) × (answer bytes ≡ printed text) × (s.left_after ≡ Some []) × IsSentOf out.sent out.sent_after text)
+Cause answer s out Usage = IsRefusal answer s Usage
+-- the source counted a fault
+Cause answer s out ReadFault = ReadFailed s
+Cause answer s out TooLong = IsRefusal answer s TooLong
+Cause answer s out NotJson = IsRefusal answer s NotJson
+Cause answer s out NotBuilt = IsRefusal answer s NotBuilt
+-- the output counted a fault; the document was read to its end, and a beginning of its answer was written, not the whole
+Cause answer s out WriteFault = WriteFailed out × OfDocument s (λ bytes. (text : Text) × (answer bytes ≡ printed text) × (s.left_after ≡ Some []) × IsCutShort out.sent out.sent_after text)
+-- want of memory alone is free
+Cause answer s out NoMemory = Unit {0}
+
+-- the status that an answer asks for
+abbrev pub status_of : Answer → Status
+status_of (printed text) = Done
+status_of (refused status) = status
+
+-- where neither the source nor the output counted a fault, the status is that of the answer, or memory was wanting
+abbrev pub IsComplete : (List ℕ → Answer) → Source → Sink → Status → Type 0
+IsComplete answer s out status =
+    OfDocument s (λ bytes. (ReadFailed s → ⊥) → (WriteFailed out → ⊥) → (status ≡ status_of (answer bytes)) ⊎ (status ≡ NoMemory))
+
+-- the line was written whole, or its sink counted a fault and a beginning of it was written, not the whole
+abbrev pub IsReported : Sink → Text → Type 0
+IsReported err line = IsSentOf err.sent err.sent_after line ⊎ (WriteFailed err × IsCutShort err.sent err.sent_after line)

@@ -1,0 +1,13 @@
+pub mod Words
+pub mod Objects
+pub mod Narrow
+pub mod NarrowViews
+pub mod Meaning
+pub mod Results
+pub mod Answers
+pub mod Lines
+pub mod Headline
+pub mod Asked
+pub mod Local
+pub mod CommandViews
+pub mod Worked

@@ -1,0 +1,58 @@
+ghost use Rattle.std.specs.Prelude.{◌≡◌};
+ghost use Rattle.tv_top.specs.Lines.{fault_line, code_of};
+
+/// How a command ended. The program's exit code is `code`.
+#[derive(Clone, Copy, Debug, PartialEq, Eq)]
+pub enum Status {
+    /// What the command writes was written whole.
+    Done,
+    /// The words give no command.
+    Usage,
+    /// A read of the source failed.
+    ReadFault,
+    /// More than 2^24 bytes came.
+    TooLong,
+    /// The bytes are no JSON text in UTF-8, or it is nested more than 127 deep.
+    NotJson,
+    /// The document isn't one that is built.
+    NotBuilt,
+    /// A write of the output failed.
+    WriteFault,
+    /// Memory was wanting.
+    NoMemory,
+}
+
+impl Status {
+    /// The exit code: 0, 2, 3, 4, 5, 11, 9 and 10 in the order above.
+    pub fn code(self) -> u8
+        ensures { result ≡ code_of self }
+    {
+        match self {
+            Status::Done => 0,
+            Status::Usage => 2,
+            Status::ReadFault => 3,
+            Status::TooLong => 4,
+            Status::NotJson => 5,
+            Status::WriteFault => 9,
+            Status::NoMemory => 10,
+            Status::NotBuilt => 11,
+        }
+    }
+
+    /// The line on standard error, with its line feed; empty at `Done`.
+    pub fn line(self) -> &'static str
+        ensures { result.now ≡ fault_line self }
+    {
+        match self {
+            Status::Done => "",
+            Status::Usage =>
+                "taverna: usage: taverna run [--workers N] | check | trace | lineage --of PORT[PLACE] | forward --of PORT[PLACE] | gen N [--workers W]\n",
+            Status::ReadFault => "taverna: read fault\n",
+            Status::TooLong => "taverna: input longer than 16777216 bytes\n",
+            Status::NotJson => "taverna: not JSON\n",
+            Status::NotBuilt => "taverna: not built\n",
+            Status::WriteFault => "taverna: write fault\n",
+            Status::NoMemory => "taverna: want of memory\n",
+        }
+    }
+}
