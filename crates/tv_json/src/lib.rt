@@ -7,8 +7,11 @@
 //! - `values`: the trees of values
 #![tactic(auto)]
 
+mod documents;
 mod names;
+mod printed;
 mod values;
 
+pub use documents::json_of_document;
 pub use names::{element_text, job_text};
 pub use values::{compact, json_of_value};
