@@ -109,8 +109,8 @@ module _ {A : Type 0} (form : Path → Data → Result A Complaint) (here : Path
   entries-unread es ts e as' n f split p q =
       let rest = λ (b : A). given (entries_of ts) (λ bs. Ok ((n, b) ∷ bs)) in
       let whole : put_before as' (entries_of es) ≡ put_before as' (given (thing_of e) rest) =
-          ap (λ xs. put_before as' (entries_of xs)) split
-          ∙ ap (λ r. put_before as' (given r (thing_then e (entries_of ts)))) p in
+      ap (λ xs. put_before as' (entries_of xs)) split
+      ∙ ap (λ r. put_before as' (given r (thing_then e (entries_of ts)))) p in
       whole ∙ stopped f as' (thing_of e) rest q ∙ ap (told f) (sym whole)
 
   pub entries-end : (es : List Entry) (as' : List (Name × A)) → es ≡ [] → put_before as' (entries_of es) ≡ Ok as'

@@ -23,10 +23,10 @@ module _ (n : ℕ) (vs : Trees (Unit {0}) Scalar) (v : Value) (kept : are_values
   deep : (b c : Bool) → nat_lt n length_limit ≡ b → is_some (least_depth (list_value vs)) ≡ c → (if b then (if c then Ok (list_value vs) else Err (ragged [])) else Err (ragged [])) ≡ Ok v → is_value v ≡ true
   deep true true p q e =
       subst (λ w. is_value w ≡ true) (ok (list_value vs) v e)
-        (ap (λ m. nat_lt m length_limit && is_some (least_depth (list_value vs)) && are_values vs) same
-        ∙ ap (λ b. b && is_some (least_depth (list_value vs)) && are_values vs) p
-        ∙ ap (λ b. b && are_values vs) q
-        ∙ kept)
+      (ap (λ m. nat_lt m length_limit && is_some (least_depth (list_value vs)) && are_values vs) same
+      ∙ ap (λ b. b && is_some (least_depth (list_value vs)) && are_values vs) p
+      ∙ ap (λ b. b && are_values vs) q
+      ∙ kept)
   deep true false p q e = never v _ e
   deep false c p q e = never v _ e
 

@@ -57,7 +57,13 @@ pub(crate) fn item_count(items: &Vec<Json>) -> usize
 }
 
 /// As many entries as there may be.
-pub(crate) fn counted(alloc: Global, at: &At<'_>, count: usize, least: usize, most: usize) -> Result<(), FormFault>
+pub(crate) fn counted(
+    alloc: Global,
+    at: &At<'_>,
+    count: usize,
+    least: usize,
+    most: usize,
+) -> Result<(), FormFault>
     ensures read { IsForm (λ u. tt) result (counted least most (at_view at.now) count) }
     ensures kept { OnOk result (is_between least most count ≡ true) }
     ensures small { OnOk result (count ≤ most) }

@@ -28,7 +28,12 @@ pub(crate) fn has(json: &Json, key: &str) -> bool
 }
 
 /// An object that has these fields and no others.
-pub(crate) fn fields(alloc: Global, at: &At<'_>, json: &Json, fields: &[&str]) -> Result<(), FormFault>
+pub(crate) fn fields(
+    alloc: Global,
+    at: &At<'_>,
+    json: &Json,
+    fields: &[&str],
+) -> Result<(), FormFault>
     ensures { IsForm (λ u. tt) result (fields_form (map (λ f. f.now) fields.now) (at_view at.now) (json_view json.now)) }
 {
     match json.as_object() {
@@ -63,7 +68,12 @@ fn is_among(fields: &[&str], key: &str) -> bool
 }
 
 /// A field that must be there.
-pub(crate) fn required<T: Formed>(alloc: Global, at: &At<'_>, json: &Json, key: &str) -> Result<T, FormFault>
+pub(crate) fn required<T: Formed>(
+    alloc: Global,
+    at: &At<'_>,
+    json: &Json,
+    key: &str,
+) -> Result<T, FormFault>
     ensures read { IsForm T.seen result (required T.form key.now (at_view at.now) (json_view json.now)) }
     ensures kept { IfOk result (λ x. T.keeps (T.seen x) ≡ true) }
 {

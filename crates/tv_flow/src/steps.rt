@@ -73,7 +73,15 @@ impl Formed for Step {
             alloc,
             at,
             json,
-            &["inputs", "outputs", "strategy", "activities", "retries", "jobs", "after"],
+            &[
+                "inputs",
+                "outputs",
+                "strategy",
+                "activities",
+                "retries",
+                "jobs",
+                "after",
+            ],
         )?;
         let inputs = optional_named(alloc, at, json, "inputs", 16)?;
         let outputs = optional_depths(alloc, at, json, "outputs")?;
@@ -107,7 +115,12 @@ pub(crate) fn optional_depths(
     optional_named(alloc, at, json, key, 16)
 }
 
-fn optional_tree(alloc: Global, at: &At<'_>, json: &Json, key: &str) -> Result<Option<Tree>, FormFault>
+fn optional_tree(
+    alloc: Global,
+    at: &At<'_>,
+    json: &Json,
+    key: &str,
+) -> Result<Option<Tree>, FormFault>
     ensures read { IsForm (option_map strategy_view) result (optional None given_tree key.now (at_view at.now) (json_view json.now)) }
     ensures kept { IfOk result (λ t. is_given_tree (option_map strategy_view t) ≡ true) }
 {

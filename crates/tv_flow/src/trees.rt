@@ -61,7 +61,12 @@ fn dot_node<'a>(alloc: Global, json: &Json, at: &'a At<'a>) -> Result<Tree, Form
 
 /// The trees at the one field of a node.
 #[cycle(trees)]
-fn children<'a>(alloc: Global, json: &Json, at: &'a At<'a>, key: &'a str) -> Result<Trees, FormFault>
+fn children<'a>(
+    alloc: Global,
+    json: &Json,
+    at: &'a At<'a>,
+    key: &'a str,
+) -> Result<Trees, FormFault>
     ensures read { IsForm strategies_view result (branch key.now (at_view at.now) (json_view json.now)) }
     ensures kept { IfOk result (λ ts. is_between 1 16 (strategy_count (strategies_view ts)) && are_trees (strategies_view ts) ≡ true) }
 {

@@ -17,6 +17,6 @@ returns-in_ok-things-in-Some-clause-kept g c =
     let as' = seen c.in_ok-things-in-Some.things.items in
     ap (λ xs. are_listed g.T.Formed.keeps c.args.least c.args.most (seen xs)) c.of.ensures
     ∙ listed form (at_view c.args.at.now) g.T.Formed.keeps c.args.least c.args.most (json_items c.in-Some.items.now.items) as'
-        (sym (ap (λ xs. items_form form (at_view c.args.at.now) 0 (json_items xs)) c.as_slice.ensures.value) ∙ c.in_ok-things-in-Some.ensures.read)
-        (sym (ap (λ n. is_between c.args.least c.args.most n ) c.item_count.ensures) ∙ c.in_ok-counted-in-Some.ensures.kept)
-        c.in_ok-things-in-Some.ensures.kept
+    (sym (ap (λ xs. items_form form (at_view c.args.at.now) 0 (json_items xs)) c.as_slice.ensures.value) ∙ c.in_ok-things-in-Some.ensures.read)
+    (sym (ap (λ n. is_between c.args.least c.args.most n) c.item_count.ensures) ∙ c.in_ok-counted-in-Some.ensures.kept)
+    c.in_ok-things-in-Some.ensures.kept

@@ -26,12 +26,12 @@ loop-key-preserved g c =
     let grown : each seen c.push.new.self.items ≡ each seen things ++ (c.in_ok-name.name, a) ∷ [] = ap (each seen) c.in_ok-push.ensures.items ∙ map-append (λ p. (p.0, seen p.1)) things ((c.in_ok-name.name, c.in_ok-thing.thing) ∷ []) in
     record {
       read =
-        c.loop-key.invariant.read
-        ∙ entries-more form here c.loop-key.key-iterator c.next.new.self e (each seen things) c.in_ok-name.name a c.in-Some.ensures.steps named read
-        ∙ ap (λ ps. put_before ps (entries_of form here c.next.new.self)) (sym grown);
+          c.loop-key.invariant.read
+          ∙ entries-more form here c.loop-key.key-iterator c.next.new.self e (each seen things) c.in_ok-name.name a c.in-Some.ensures.steps named read
+          ∙ ap (λ ps. put_before ps (entries_of form here c.next.new.self)) (sym grown);
       kept =
-        ap (list_all (λ p. is_name p.0 && g.T.Formed.keeps p.1)) grown
-        ∙ all-push (λ p. is_name p.0 && g.T.Formed.keeps p.1) (each seen things) (c.in_ok-name.name, a) c.loop-key.invariant.kept (ap (λ b. b && g.T.Formed.keeps a) c.in_ok-name.ensures.kept ∙ c.in_ok-thing.ensures.kept)
+          ap (list_all (λ p. is_name p.0 && g.T.Formed.keeps p.1)) grown
+          ∙ all-push (λ p. is_name p.0 && g.T.Formed.keeps p.1) (each seen things) (c.in_ok-name.name, a) c.loop-key.invariant.kept (ap (λ b. b && g.T.Formed.keeps a) c.in_ok-name.ensures.kept ∙ c.in_ok-thing.ensures.kept);
     }
 
 pub returns-in_err-name-clause-read : goal.returns-in_err-name-clause-read
@@ -45,7 +45,7 @@ returns-in_err-name-clause-read g c =
     let unnamed = subst (λ r. r ≡ told f r) (name-same there c.as_str-in-loop-key.ensures.value) c.in_err-name.ensures.read in
     let whole = c.loop-key.invariant.read in
     let h : entries_form form here (members_view c.args.members.now.entries) ≡ told f (entries_form form here (members_view c.args.members.now.entries)) =
-        whole ∙ entries-unnamed form here c.loop-key.key-iterator c.next.new.self e things f c.in-Some.ensures.steps unnamed ∙ ap (told f) (sym whole) in
+    whole ∙ entries-unnamed form here c.loop-key.key-iterator c.next.new.self e things f c.in-Some.ensures.steps unnamed ∙ ap (told f) (sym whole) in
     search rules
 
 pub returns-in_err-thing-clause-read : goal.returns-in_err-thing-clause-read
@@ -60,5 +60,5 @@ returns-in_err-thing-clause-read g c =
     let unread = subst (λ r. r ≡ told f r) (ap (λ (p : Path). form p (json_view c.in-Some.value.now)) there) c.in_err-thing.ensures.read in
     let whole = c.loop-key.invariant.read in
     let h : entries_form form here (members_view c.args.members.now.entries) ≡ told f (entries_form form here (members_view c.args.members.now.entries)) =
-        whole ∙ entries-unread form here c.loop-key.key-iterator c.next.new.self e things c.in_ok-name.name f c.in-Some.ensures.steps named unread ∙ ap (told f) (sym whole) in
+    whole ∙ entries-unread form here c.loop-key.key-iterator c.next.new.self e things c.in_ok-name.name f c.in-Some.ensures.steps named unread ∙ ap (told f) (sym whole) in
     search rules

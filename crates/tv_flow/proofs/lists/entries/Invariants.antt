@@ -13,5 +13,5 @@ invariant-loop-key g l =
     let seen = each g.T.Formed.seen l.things.items in
     record {
       read : entries_form form (at_view l.at) (members_view l.members.entries) ≡ put_before seen (entries_of form (at_view l.at) l.key-iterator);
-      kept : list_all (λ e. is_name e.0 && g.T.Formed.keeps e.1) seen ≡ true
+      kept : list_all (λ e. is_name e.0 && g.T.Formed.keeps e.1) seen ≡ true;
     }

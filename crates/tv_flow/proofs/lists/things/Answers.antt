@@ -20,8 +20,8 @@ loop-index-preserved g c =
     let grown : map seen c.push.new.self.items ≡ map seen things ++ a ∷ [] = ap (map seen) c.in_ok-push.ensures.items ∙ map-append seen things (c.in_ok-thing.thing ∷ []) in
     record {
       read =
-        c.loop-index.invariant.read
-        ∙ items-more form here xs i c.index-items-index.result (map seen things) a (omega arith) (subst (λ j. form (index here i) (json_view j) ≡ Ok a) c.index-items-index.is (ap (λ (p : Path). form p (json_view c.index-items-index.result)) (sym (at-Index c.args.at i)) ∙ c.in_ok-thing.ensures.read))
-        ∙ ap (λ ys. put_before ys (items_from form here xs (i + 1))) (sym grown);
-      kept = ap (list_all g.T.Formed.keeps) grown ∙ all-push g.T.Formed.keeps (map seen things) a c.loop-index.invariant.kept c.in_ok-thing.ensures.kept
+          c.loop-index.invariant.read
+          ∙ items-more form here xs i c.index-items-index.result (map seen things) a (omega arith) (subst (λ j. form (index here i) (json_view j) ≡ Ok a) c.index-items-index.is (ap (λ (p : Path). form p (json_view c.index-items-index.result)) (sym (at-Index c.args.at i)) ∙ c.in_ok-thing.ensures.read))
+          ∙ ap (λ ys. put_before ys (items_from form here xs (i + 1))) (sym grown);
+      kept = ap (list_all g.T.Formed.keeps) grown ∙ all-push g.T.Formed.keeps (map seen things) a c.loop-index.invariant.kept c.in_ok-thing.ensures.kept;
     }

@@ -12,5 +12,5 @@ invariant-loop-index g l =
     let seen = map g.T.Formed.seen l.things.items in
     record {
       read : items_form form (at_view l.at) 0 (json_items l.items) ≡ put_before seen (items_from form (at_view l.at) l.items l.index);
-      kept : list_all g.T.Formed.keeps seen ≡ true
+      kept : list_all g.T.Formed.keeps seen ≡ true;
     }

@@ -40,12 +40,12 @@ each_tree-loop-index-preserved t c =
     let grown : map strategy_view c.push.new.self.items ≡ map strategy_view trees ++ a ∷ [] = ap (map strategy_view) c.in_ok-push.ensures.items ∙ map-append strategy_view trees (c.in_ok-tree.tree ∷ []) in
     record {
       read =
-        c.loop-index.invariant.read
-        ∙ items-more tree_form here xs i c.index.result.now (map strategy_view trees) a
-            (omega (arith, c.args.items.now.ok.0, c.len-index-end.ensures, c.loop-index-test.true))
-            (subst (λ j. tree_form (index here i) (json_view j) ≡ Ok a) c.index.ensures (ap (λ (p : Path). tree_form p (json_view c.index.result.now)) (sym (at-Index c.args.at i)) ∙ c.in_ok-tree.ensures.read))
-        ∙ ap (λ ys. put_before ys (items_from tree_form here xs (i + 1))) (sym grown);
-      kept = ap (list_all is_tree) grown ∙ all-push is_tree (map strategy_view trees) a c.loop-index.invariant.kept c.in_ok-tree.ensures.kept
+          c.loop-index.invariant.read
+          ∙ items-more tree_form here xs i c.index.result.now (map strategy_view trees) a
+          (omega (arith, c.args.items.now.ok.0, c.len-index-end.ensures, c.loop-index-test.true))
+          (subst (λ j. tree_form (index here i) (json_view j) ≡ Ok a) c.index.ensures (ap (λ (p : Path). tree_form p (json_view c.index.result.now)) (sym (at-Index c.args.at i)) ∙ c.in_ok-tree.ensures.read))
+          ∙ ap (λ ys. put_before ys (items_from tree_form here xs (i + 1))) (sym grown);
+      kept = ap (list_all is_tree) grown ∙ all-push is_tree (map strategy_view trees) a c.loop-index.invariant.kept c.in_ok-tree.ensures.kept;
     }
 
 pub each_tree-returns-in_err-tree-clause-read : goal.each_tree-returns-in_err-tree-clause-read
@@ -57,7 +57,7 @@ each_tree-returns-in_err-tree-clause-read t c =
     let stop = subst (λ j. tree_form (index here i) (json_view j) ≡ told f (tree_form (index here i) (json_view j))) c.index.ensures (subst (λ p. tree_form p (json_view c.index.result.now) ≡ told f (tree_form p (json_view c.index.result.now))) (at-Index c.args.at i) c.in_err-tree.ensures.read) in
     let whole = c.loop-index.invariant.read in
     let h : items_form tree_form here 0 (json_items xs) ≡ told f (items_form tree_form here 0 (json_items xs)) =
-        whole ∙ items-stop tree_form here xs i c.index.result.now (map strategy_view c.loop-index.trees.items) f (omega (arith, c.args.items.now.ok.0, c.len-index-end.ensures, c.loop-index-test.true)) stop ∙ ap (told f) (sym whole) in
+    whole ∙ items-stop tree_form here xs i c.index.result.now (map strategy_view c.loop-index.trees.items) f (omega (arith, c.args.items.now.ok.0, c.len-index-end.ensures, c.loop-index-test.true)) stop ∙ ap (told f) (sym whole) in
     search rules
 
 pub tree-returns-then-has-clause-read : goal.tree-returns-then-has-clause-read
@@ -95,7 +95,7 @@ trees-returns-in_err-trees-in-Array-clause-read t c =
     let is = ap json_view c.in-Array.is ∙ view-Array c.in-Array.items in
     let f = c.in_err-trees-in-Array.field-0.0 in
     let h : trees_form here d ≡ told f (trees_form here d) =
-        trees-stop here (json_items c.in-Array.items.items) d c.item_count.result is c.item_count.ensures c.in_ok-counted-in-Array.ensures.read f c.in_err-trees-in-Array.ensures.read in
+    trees-stop here (json_items c.in-Array.items.items) d c.item_count.result is c.item_count.ensures c.in_ok-counted-in-Array.ensures.read f c.in_err-trees-in-Array.ensures.read in
     search rules
 
 pub trees-returns-in_ok-trees-in-Array-clause-read : goal.trees-returns-in_ok-trees-in-Array-clause-read

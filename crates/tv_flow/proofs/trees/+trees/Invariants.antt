@@ -33,5 +33,5 @@ invariant-each_tree-loop-index l =
     let seen = map strategy_view l.trees.items in
     record {
       read : items_form tree_form (at_view l.at) 0 (json_items l.items.items) ≡ put_before seen (items_from tree_form (at_view l.at) l.items.items l.index);
-      kept : list_all is_tree seen ≡ true
+      kept : list_all is_tree seen ≡ true;
     }
