@@ -1,6 +1,7 @@
 pub mod Flows
 pub mod Complaints
 pub mod Forms
+pub mod Branch
 pub mod Formed
 pub mod Views
 pub mod DocumentViews

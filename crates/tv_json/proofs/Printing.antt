@@ -8,6 +8,9 @@ use Rattle.tv_value.specs.Nested.{Tree, leaf, list, Trees, no_trees, tree, trees
 use Rattle.tv_value.specs.Values.{Text, Scalar, text, fault}
 use Rattle.tv_value.specs.declared.value.Value.{Value}
 use Rattle.tv_value.specs.Views.{view}
+use Rattle.tv_value.specs.Strategies.{Strategy}
+use Rattle.tv_value.specs.Views.{strategies_of}
+use Rattle.tv_json.specs.Documents.{tree_json, all_trees}
 use Rattle.tv_value.specs.Printed.{json, all_json, scalar_json, job_text, strings}
 
 pub strings-each : {X : Type 0} (f : X → Text) (xs : List X) → items_of (map (λ x. string (f x)) xs) ≡ strings (map f xs)
@@ -35,3 +38,15 @@ mutual
   pub all_json-plain : {N : Type 0} (ts : Trees N Scalar) → items_have_float (all_json ts) ≡ false
   all_json-plain no_trees = refl
   all_json-plain (tree t ts) = ap (λ b. b || items_have_float (all_json ts)) (json-plain t) ∙ all_json-plain ts
+
+pub map-twice : {A B C : Type 0} (f : A → B) (g : B → C) (xs : List A) → map (λ x. g (f x)) xs ≡ map g (map f xs)
+map-twice f g [] = refl
+map-twice f g (x ∷ xs) = ap (λ ys. g (f x) ∷ ys) (map-twice f g xs)
+
+pub trees-each : (ts : List Strategy) → items_of (map tree_json ts) ≡ all_trees (strategies_of ts)
+trees-each [] = refl
+trees-each (t ∷ ts) = ap (item (tree_json t)) (trees-each ts)
+
+pub map-same : {A : Type 0} (xs : List A) → map (λ x. x) xs ≡ xs
+map-same [] = refl
+map-same (x ∷ xs) = ap (λ ys. x ∷ ys) (map-same xs)

@@ -7,10 +7,13 @@
 //! - `values`: the trees of values
 #![tactic(auto)]
 
+mod documents;
 mod names;
 #[cfg(test)]
 mod tests;
+mod printed;
 mod values;
 
+pub use documents::json_of_document;
 pub use names::{element_text, job_text};
 pub use values::{compact, json_of_value};

@@ -1,0 +1,168 @@
+-- Strategies, node by node: what the fields of a node say, and that what stands inside is less deep.
+use Rattle.std.specs.Prelude.{◌≡◌, ℕ, zero, suc, ◌+◌, ◌<◌, ◌≤◌, max, List, [], ◌∷◌, length, map, Bool, true, false, ◌&&◌, is_some, codes, Option, Some, None, option_map, Result, Ok, Err, refl}
+use Rattle.std.specs.declared.cmp.Ordering.{Ordering}
+use Rattle.std.specs.Ordering.{nat_cmp, match_ordering}
+use Rattle.std.specs.Cmp.Lexicographic.{slice_cmp}
+use Rattle.std.specs.List.{list_all}
+use Rattle.std.proofs.Common.{ap, sym, subst, ◌∙◌, arith, get_or, Less, Equal, Greater}
+use Rattle.serde_json.specs.Data.{Data, object, array, Items, no_items, item, Members, no_members, member, depth, items_depth, members_depth}
+use Rattle.serde_json.specs.Find.{get, get_member}
+use Rattle.serde_json.specs.View.{view as json_view, items_view as json_items}
+use Rattle.serde_json.specs.declared.value.Value.{Value as Json}
+use Rattle.tv_value.specs.Values.{Text}
+use Rattle.tv_value.specs.Strategies.{Strategy, Strategies, no_strategies, strategy, cross, dot}
+use Rattle.tv_value.specs.Views.{strategies_of, strategy_view, strategies_view, tree_step, trees_step}
+use Rattle.tv_value.specs.declared.tree.Trees.{Trees}
+use Rattle.tv_value.specs.declared.tree.Tree.TheFolds.{fold_out-Trees}
+use Rattle.tv_value.specs.Readings.{item_count}
+use Rattle.tv_flow.specs.declared.faults.FormFault.{FormFault}
+use Rattle.tv_flow.specs.declared.faults.FormFault.TheVariants.{Form, NoMemory}
+use Rattle.tv_flow.specs.Answers.{told}
+use Rattle.tv_flow.proofs.Shapes.{items-count}
+use Rattle.tv_flow.specs.declared.faults.FormKind.TheVariants.{Missing}
+use Rattle.tv_flow.specs.Complaints.{Path, Complaint, complaint, key, index, given}
+use Rattle.tv_flow.specs.Forms.{fields_form, required, present, has, node_form, tree_form, children_form, trees_form, each_tree, items_form, counted}
+use Rattle.tv_flow.specs.Branch.{branch}
+use Rattle.tv_flow.specs.Formed.{is_tree, are_trees, strategy_count, is_between}
+
+pub given-given : {A B C : Type 0} (r : Result A Complaint) (f : A → Result B Complaint) (g : B → Result C Complaint) → given (given r f) g ≡ given r (λ a. given (f a) g)
+given-given (Ok a) f g = refl
+given-given (Err c) f g = refl
+
+mapped : {A : Type 0} (f : Data → A) (o : Ordering) (p : Option Data) (d : Data) → match_ordering o (option_map f p) (Some (f d)) (option_map f p) ≡ option_map f (match_ordering o p (Some d) p)
+mapped f Less p d = refl
+mapped f Equal p d = refl
+mapped f Greater p d = refl
+
+children_form-get : (k : Text) (there : Path) (ms : Members) → children_form k there ms ≡ option_map (trees_form there) (get_member k ms)
+children_form-get k there no_members = refl
+children_form-get k there (member l d ms) =
+    ap (λ o. match_ordering (slice_cmp nat_cmp k l) o (Some (trees_form there d)) o) (children_form-get k there ms)
+    ∙ mapped (trees_form there) (slice_cmp nat_cmp k l) (get_member k ms) d
+
+abbrev pub Child : Type 0
+Child = Option (Result Strategies Complaint)
+
+branch-of : (k : Text) (here : Path) (ms : Members) (r : Result (Unit {0}) Complaint) (o : Option Data) (d : Data) (make : Strategies → Strategy) → o ≡ Some d → given r (λ u. given (trees_form (key here k) d) (λ ts. Ok (make ts))) ≡ given (given r (λ u. given (present (key here k) o) (trees_form (key here k)))) (λ ts. Ok (make ts))
+branch-of k here ms r o d make e =
+    ap (λ p. given r (λ u. given (given p (trees_form (key here k))) (λ ts. Ok (make ts)))) (ap (present (key here k)) (sym e))
+    ∙ sym (given-given r (λ u. given (present (key here k) o) (trees_form (key here k))) (λ ts. Ok (make ts)))
+
+missing-of : (k : Text) (here : Path) (r : Result (Unit {0}) Complaint) (o : Option Data) (make : Strategies → Strategy) → o ≡ None → given r (λ u. complaint Missing (key here k)) ≡ given (given r (λ u. given (present (key here k) o) (trees_form (key here k)))) (λ ts. Ok (make ts))
+missing-of k here r o make e =
+    ap (λ p. given r (λ u. given (given p (trees_form (key here k))) (λ ts. Ok (make ts)))) (ap (present (key here k)) (sym e))
+    ∙ sym (given-given r (λ u. given (present (key here k) o) (trees_form (key here k))) (λ ts. Ok (make ts)))
+
+some-of : (o : Option Data) → is_some o ≡ true → (d : Data) × (o ≡ Some d)
+some-of (Some d) e = (d, refl)
+some-of None e = absurd (cc)
+
+none-of : (o : Option Data) → is_some o ≡ false → o ≡ None
+none-of (Some d) e = absurd (cc)
+none-of None e = refl
+
+module _ (here : Path) (ms : Members) where
+  abbrev pub child : Text → Child
+  child k = option_map (trees_form (key here k)) (get_member k ms)
+
+  node : tree_form here (object ms) ≡ node_form here ms (child (codes "cross")) (child (codes "dot"))
+  node =
+      ap (λ c. node_form here ms c (children_form (codes "dot") (key here (codes "dot")) ms)) (children_form-get (codes "cross") (key here (codes "cross")) ms)
+      ∙ ap (node_form here ms (child (codes "cross"))) (children_form-get (codes "dot") (key here (codes "dot")) ms)
+
+  pub node-cross : has (codes "cross") (object ms) ≡ true → tree_form here (object ms) ≡ given (branch (codes "cross") here (object ms)) (λ ts. Ok (cross ts))
+  node-cross e =
+      let s = some-of (get_member (codes "cross") ms) e in
+      node
+      ∙ ap (λ o. node_form here ms (option_map (trees_form (key here (codes "cross"))) o) (child (codes "dot"))) s.1
+      ∙ branch-of (codes "cross") here ms (fields_form (codes "cross" ∷ []) here (object ms)) (get_member (codes "cross") ms) s.0 cross s.1
+
+  pub node-dot : has (codes "cross") (object ms) ≡ false → has (codes "dot") (object ms) ≡ true → tree_form here (object ms) ≡ given (branch (codes "dot") here (object ms)) (λ ts. Ok (dot ts))
+  node-dot n e =
+      let s = some-of (get_member (codes "dot") ms) e in
+      node
+      ∙ ap (λ o. node_form here ms (option_map (trees_form (key here (codes "cross"))) o) (child (codes "dot"))) (none-of (get_member (codes "cross") ms) n)
+      ∙ ap (λ o. node_form here ms None (option_map (trees_form (key here (codes "dot"))) o)) s.1
+      ∙ branch-of (codes "dot") here ms (fields_form (codes "dot" ∷ []) here (object ms)) (get_member (codes "dot") ms) s.0 dot s.1
+
+  pub node-neither : has (codes "cross") (object ms) ≡ false → has (codes "dot") (object ms) ≡ false → tree_form here (object ms) ≡ given (branch (codes "cross") here (object ms)) (λ ts. Ok (cross ts))
+  node-neither n e =
+      let m = none-of (get_member (codes "cross") ms) n in
+      node
+      ∙ ap (λ o. node_form here ms (option_map (trees_form (key here (codes "cross"))) o) (child (codes "dot"))) m
+      ∙ ap (λ o. node_form here ms None (option_map (trees_form (key here (codes "dot"))) o)) (none-of (get_member (codes "dot") ms) e)
+      ∙ missing-of (codes "cross") here (fields_form (codes "cross" ∷ []) here (object ms)) (get_member (codes "cross") ms) cross m
+
+-- ---- children as a list
+
+grown : (t : Strategy) (r : Result (List Strategy) Complaint) → given (given r (λ ts. Ok (strategies_of ts))) (λ ss. Ok (strategy t ss)) ≡ given (given r (λ ts. Ok (t ∷ ts))) (λ ts. Ok (strategies_of ts))
+grown t (Ok ts) = refl
+grown t (Err c) = refl
+
+grown-any : (r : Result Strategy Complaint) (s : Result (List Strategy) Complaint) → given r (λ t. given (given s (λ ts. Ok (strategies_of ts))) (λ ss. Ok (strategy t ss))) ≡ given (given r (λ t. given s (λ ts. Ok (t ∷ ts)))) (λ ts. Ok (strategies_of ts))
+grown-any (Ok t) s = grown t s
+grown-any (Err c) s = refl
+
+pub each_tree-items : (here : Path) (i : ℕ) (ds : Items) → each_tree here i ds ≡ given (items_form tree_form here i ds) (λ ts. Ok (strategies_of ts))
+each_tree-items here i no_items = refl
+each_tree-items here i (item d ds) =
+    ap (λ r. given (tree_form (index here i) d) (λ t. given r (λ ss. Ok (strategy t ss)))) (each_tree-items here (suc i) ds)
+    ∙ grown-any (tree_form (index here i) d) (items_form tree_form here (suc i) ds)
+
+pub count-each : (ts : List Strategy) → strategy_count (strategies_of ts) ≡ length ts
+count-each [] = refl
+count-each (t ∷ ts) = ap suc (count-each ts)
+
+pub trees-each : (ts : List Strategy) → are_trees (strategies_of ts) ≡ list_all is_tree ts
+trees-each [] = refl
+trees-each (t ∷ ts) = ap (λ b. is_tree t && b) (trees-each ts)
+
+-- the view of children is made of theirs
+pub strategies_view-each : (ts : Trees) → strategies_view ts ≡ strategies_of (map strategy_view ts.trees.items)
+strategies_view-each ts = fold_out-Trees _ _ tree_step trees_step ts
+
+pub passed : {A B : Type 0} (f : FormFault) (r : Result A Complaint) (k : A → Result B Complaint) → r ≡ told f r → given r k ≡ told f (given r k)
+passed (Form kind path) r k e = ap (λ s. given s k) e
+passed NoMemory r k e = refl
+
+module _ (here : Path) (ds : Items) (d : Data) (n : ℕ) (is : d ≡ array ds) (same : n ≡ item_count ds) (fits : counted 1 16 here n ≡ Ok tt) where
+  pub trees-array : trees_form here d ≡ given (items_form tree_form here 0 ds) (λ ts. Ok (strategies_of ts))
+  trees-array =
+      ap (trees_form here) is
+      ∙ ap (λ r. given r (λ u. each_tree here 0 ds)) (ap (counted 1 16 here) (sym same) ∙ fits)
+      ∙ each_tree-items here 0 ds
+
+  pub trees-stop : (f : FormFault) → items_form tree_form here 0 ds ≡ told f (items_form tree_form here 0 ds) → trees_form here d ≡ told f (trees_form here d)
+  trees-stop f e = trees-array ∙ passed f (items_form tree_form here 0 ds) (λ ts. Ok (strategies_of ts)) e ∙ ap (told f) (sym trees-array)
+
+  pub trees-read : (ts : List Strategy) → items_form tree_form here 0 ds ≡ Ok ts → trees_form here d ≡ Ok (strategies_of ts)
+  trees-read ts e = trees-array ∙ ap (λ r. given r (λ us. Ok (strategies_of us))) e
+
+  pub trees-kept : (ts : List Strategy) → items_form tree_form here 0 ds ≡ Ok ts → is_between 1 16 n ≡ true → list_all is_tree ts ≡ true → (is_between 1 16 (strategy_count (strategies_of ts)) && are_trees (strategies_of ts)) ≡ true
+  trees-kept ts e b h =
+      ap (λ m. is_between 1 16 m && are_trees (strategies_of ts)) (count-each ts ∙ items-count tree_form here 0 ds ts e ∙ sym same)
+      ∙ ap (λ c. c && are_trees (strategies_of ts)) b
+      ∙ trees-each ts ∙ h
+
+-- ---- depths of JSON trees
+
+member-deep : (k : Text) (ms : Members) (d : Data) → get_member k ms ≡ Some d → depth d ≤ members_depth ms
+member-deep k no_members d e = absurd (cc)
+member-deep k (member l x ms) d e = step (slice_cmp nat_cmp k l) (λ h. member-deep k ms d h) e
+  where
+    some : (a b : Data) → Some a ≡ Some b → a ≡ b
+    some a b p = cc
+
+    step : (o : Ordering) → (get_member k ms ≡ Some d → depth d ≤ members_depth ms) → match_ordering o (get_member k ms) (Some x) (get_member k ms) ≡ Some d → depth d ≤ max (depth x) (members_depth ms)
+    step Less f p = let h = f p in omega arith
+    step Equal f p = let q = ap depth (some x d p) in omega arith
+    step Greater f p = let h = f p in omega arith
+
+pub get-deep : (k : Text) (x d : Data) → get k x ≡ Some d → depth d < depth x
+get-deep k (object ms) d e = let h = member-deep k ms d e in omega arith
+get-deep k x d e = absurd (cc)
+
+pub item-deep : (xs : List Json) (i : ℕ) (d : Json) → i < length xs → depth (json_view (get_or xs i d)) ≤ items_depth (json_items xs)
+item-deep [] i d h = absurd (omega arith)
+item-deep (x ∷ xs) zero d h = omega arith
+item-deep (x ∷ xs) (suc i) d h = let g = item-deep xs i d (omega arith) in omega arith

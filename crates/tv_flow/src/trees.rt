@@ -1,0 +1,109 @@
+//! Iteration strategies.
+ghost use Rattle.std.specs.Prelude.{◌≡◌, ◌<◌, ◌^◌, ◌&&◌, IfOk, true, map, length, codes, Ok};
+ghost use Rattle.std.specs.List.{list_all};
+ghost use Rattle.serde_json.specs.View.{view as json_view, items_view as json_items};
+ghost use Rattle.tv_value.specs.Views.{strategy_view, strategies_view};
+ghost use Rattle.tv_flow.specs.Complaints.{given};
+ghost use Rattle.tv_value.specs.Strategies.{cross, dot};
+ghost use Rattle.tv_flow.specs.Branch.{branch};
+ghost use Rattle.tv_flow.specs.PathViews.{at_view};
+ghost use Rattle.tv_flow.specs.Answers.{IsForm};
+ghost use Rattle.tv_flow.specs.Formed.{is_tree, is_between, strategy_count, are_trees};
+ghost use Rattle.tv_flow.specs.Forms.{tree_form, trees_form, items_form};
+
+use crate::at::At;
+use crate::faults::{FormFault, FormKind};
+use crate::lists::{counted, item_count};
+use crate::objects::{fields, has};
+use crate::scalars::name_or_not;
+use serde_json::Value as Json;
+use std::alloc::Global;
+use tv_value::{Tree, Trees};
+
+/// A strategy: a name, or an object with `cross` or `dot`.
+#[cycle(trees)]
+pub(crate) fn tree<'a>(alloc: Global, json: &Json, at: &'a At<'a>) -> Result<Tree, FormFault>
+    ensures read { IsForm strategy_view result (tree_form (at_view at.now) (json_view json.now)) }
+    ensures kept { IfOk result (λ t. is_tree (strategy_view t) ≡ true) }
+{
+    match json {
+        Json::String(text) => Ok(Tree::Leaf(name_or_not(alloc, at, text.as_str())?)),
+        Json::Object(_) => {
+            if has(json, "cross") {
+                cross_node(alloc, json, at)
+            } else if has(json, "dot") {
+                dot_node(alloc, json, at)
+            } else {
+                cross_node(alloc, json, at)
+            }
+        }
+        _ => Err(at.fault(alloc, FormKind::WrongKind)),
+    }
+}
+
+#[cycle(trees)]
+fn cross_node<'a>(alloc: Global, json: &Json, at: &'a At<'a>) -> Result<Tree, FormFault>
+    ensures read { IsForm strategy_view result (given (branch (codes "cross") (at_view at.now) (json_view json.now)) (λ ts. Ok (cross ts))) }
+    ensures kept { IfOk result (λ t. is_tree (strategy_view t) ≡ true) }
+{
+    let trees = children(alloc, json, at, "cross")?;
+    Ok(Tree::Cross(trees))
+}
+
+#[cycle(trees)]
+fn dot_node<'a>(alloc: Global, json: &Json, at: &'a At<'a>) -> Result<Tree, FormFault>
+    ensures read { IsForm strategy_view result (given (branch (codes "dot") (at_view at.now) (json_view json.now)) (λ ts. Ok (dot ts))) }
+    ensures kept { IfOk result (λ t. is_tree (strategy_view t) ≡ true) }
+{
+    let trees = children(alloc, json, at, "dot")?;
+    Ok(Tree::Dot(trees))
+}
+
+/// The trees at the one field of a node.
+#[cycle(trees)]
+fn children<'a>(
+    alloc: Global,
+    json: &Json,
+    at: &'a At<'a>,
+    key: &'a str,
+) -> Result<Trees, FormFault>
+    ensures read { IsForm strategies_view result (branch key.now (at_view at.now) (json_view json.now)) }
+    ensures kept { IfOk result (λ ts. is_between 1 16 (strategy_count (strategies_view ts)) && are_trees (strategies_view ts) ≡ true) }
+{
+    fields(alloc, at, json, &[key])?;
+    let there = At::Key(at, key);
+    match json.get(key) {
+        Some(json) => trees(alloc, json, &there),
+        None => Err(there.fault(alloc, FormKind::Missing)),
+    }
+}
+
+#[cycle(trees)]
+fn trees<'a>(alloc: Global, json: &Json, at: &'a At<'a>) -> Result<Trees, FormFault>
+    ensures read { IsForm strategies_view result (trees_form (at_view at.now) (json_view json.now)) }
+    ensures kept { IfOk result (λ ts. is_between 1 16 (strategy_count (strategies_view ts)) && are_trees (strategies_view ts) ≡ true) }
+{
+    match json {
+        Json::Array(items) => {
+            counted(alloc, at, item_count(items), 1, 16)?;
+            let trees = each_tree(alloc, items, at)?;
+            Ok(Trees { trees })
+        }
+        _ => Err(at.fault(alloc, FormKind::WrongKind)),
+    }
+}
+
+#[cycle(trees)]
+fn each_tree<'a>(alloc: Global, items: &Vec<Json>, at: &'a At<'a>) -> Result<Vec<Tree>, FormFault>
+    requires { length items.now.items < 2 ^ 32 }
+    ensures read { IsForm (λ v. map strategy_view v.items) result (items_form tree_form (at_view at.now) 0 (json_items items.now.items)) }
+    ensures kept { IfOk result (λ v. list_all is_tree (map strategy_view v.items) ≡ true) }
+{
+    let mut trees = Vec::new(alloc);
+    for index in 0..items.len() {
+        let there = At::Index(&*at, index as u32);
+        let tree = tree(alloc, &items[index], &there)?;
+        trees.push(tree)?;
+    }
+    Ok(trees)
+}
