@@ -9,9 +9,9 @@
 
 mod documents;
 mod names;
+mod printed;
 #[cfg(test)]
 mod tests;
-mod printed;
 mod values;
 
 pub use documents::json_of_document;
