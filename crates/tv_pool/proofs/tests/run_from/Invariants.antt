@@ -1,10 +1,10 @@
 use Rattle.std.proofs.Common.{All}
 use Rattle.tv_pool.specs.Pool.{Holds}
 use Rattle.tv_pool.specs.Mirror.{KnowsRegions}
-use Rattle.tv_pool.proofs.tests.a_pool_is_its_plain_lists.Given as goal
+use Rattle.tv_pool.proofs.tests.run_from.Given as goal
 
-abbrev pub invariant-loop-call : goal.invariant-loop-call
-invariant-loop-call g l = record {
+abbrev pub invariant-loop-index : goal.invariant-loop-index
+invariant-loop-index g l = record {
   regions : KnowsRegions l.pool l.mirror.regions.items;
   nodes : All (Holds l.pool) l.mirror.nodes.items;
 }
