@@ -30,6 +30,7 @@ found n q (x ∷ pre) post h = step (found n q pre post) (same_name n x.0) refl
   where
     twice : (t k : ℕ) → suc t ≡ 1 → t ≡ suc k → ⊥
     twice t k e f = omega arith
+
     step : (times n (names_in (pre ++ (n, q) ∷ post)) ≡ 1 → named n (pre ++ (n, q) ∷ post) ≡ Some q) → (b : Bool) → same_name n x.0 ≡ b → named n (x ∷ pre ++ (n, q) ∷ post) ≡ Some q
     step next true e = let t = there n q pre post in absurd (twice (times n (names_in (pre ++ (n, q) ∷ post))) t.0 (sym (ap (λ b. if b then suc (times n (names_in (pre ++ (n, q) ∷ post))) else times n (names_in (pre ++ (n, q) ∷ post))) e) ∙ h) t.1)
     step next false e = ap (λ b. if b then Some x.1 else named n (pre ++ (n, q) ∷ post)) e ∙ next (sym (ap (λ b. if b then suc (times n (names_in (pre ++ (n, q) ∷ post))) else times n (names_in (pre ++ (n, q) ∷ post))) e) ∙ h)

@@ -427,6 +427,9 @@ fn dot_fault_as_text(rt: HostRuntime) -> Result<(), Fail> {
         second: 2,
     };
     let text = format!(in alloc; "{fault}")?;
-    assert!(rt; text.as_str() == "the children of a dot have the depths 1 and 2", "the printed fault");
+    assert!(rt;
+        text.as_str() == "the children of a dot have the depths 1 and 2",
+        "the printed fault"
+    );
     Ok(())
 }

@@ -36,10 +36,12 @@ join_cross-loop-tree-preserved t c =
     let i = c.loop-tree.tree-index in
     let rest = strategies_of-drop strategy_view xs i x c.loop-tree-test.true c.tree-item.is in
     let is : Some c.in-Some.place ≡ joined ports (strategy_view x) = sym c.in-Some.is ∙ c.in_ok-place.ensures.place in
-    let left = room-left ports _ (strategy_view x) _ c.in-Some.place (length c.loop-tree.whole) _ rest is c.loop-tree.invariant.1 in
-    (c.loop-tree.invariant.0
-    ∙ cross-next ports _ (strategy_view x) _ c.loop-tree.whole c.in-Some.place rest is
-    ∙ ap (λ w. one_after (Some w) (joined_cross ports (children_view (drop (i + 1) xs)))) (sym c.in_ok-append.ensures.ok), subst (λ n. n + room_of_all ports (children_view (drop (i + 1) xs)) ≤ room_of_all ports (children_view xs)) (sym (ap length c.in_ok-append.ensures.ok ∙ length-append c.loop-tree.whole c.in-Some.place)) left)
+    let left = room-left ports _ (strategy_view x) _ c.in-Some.place (length c.loop-tree.whole) _ rest is c.loop-tree.invariant.1 in (
+      c.loop-tree.invariant.0
+          ∙ cross-next ports _ (strategy_view x) _ c.loop-tree.whole c.in-Some.place rest is
+          ∙ ap (λ w. one_after (Some w) (joined_cross ports (children_view (drop (i + 1) xs)))) (sym c.in_ok-append.ensures.ok),
+      subst (λ n. n + room_of_all ports (children_view (drop (i + 1) xs)) ≤ room_of_all ports (children_view xs)) (sym (ap length c.in_ok-append.ensures.ok ∙ length-append c.loop-tree.whole c.in-Some.place)) left,
+    )
 
 pub join_dot-join_tree-requires-in-loop-tree : goal.join_dot-join_tree-requires-in-loop-tree
 join_dot-join_tree-requires-in-loop-tree t c =
