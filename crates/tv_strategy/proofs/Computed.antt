@@ -1,6 +1,6 @@
 -- The worked examples compute.
 use Rattle.std.specs.Prelude.{refl}
-use Rattle.tv_strategy.specs.Worked.{WalksNestedLists, WalksEmptyList, CrossesTwoLists, CrossesWithEmptyInnerList, CrossesWithEmptyOuterList, CrossesWithFault, PairsToShorter, TellsDotFault, PairsWithFault, SplitsAndJoins, JoinsNothing, CrossWaits, DotWaits}
+use Rattle.tv_strategy.specs.Worked.{WalksNestedLists, WalksEmptyList, CrossesTwoLists, CrossesWithEmptyInnerList, CrossesWithEmptyOuterList, CrossesWithFault, CrossesFaultWithList, PairsToShorter, TellsDotFault, PairsWithFault, SplitsAndJoins, JoinsNothing, CrossWaits, DotWaits}
 
 pub walks_nested_lists : WalksNestedLists
 walks_nested_lists = refl
@@ -19,6 +19,9 @@ crosses_with_empty_outer_list = refl
 
 pub crosses_with_fault : CrossesWithFault
 crosses_with_fault = (refl, refl)
+
+pub crosses_fault_with_list : CrossesFaultWithList
+crosses_fault_with_list = (refl, refl)
 
 pub pairs_to_shorter : PairsToShorter
 pairs_to_shorter = refl

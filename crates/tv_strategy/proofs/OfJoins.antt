@@ -146,9 +146,9 @@ module _ (mismatch : Name → ℕ) (ports : Name → Place) where
         ∙ ap (in_common (Some q)) (dot-joined (strategy d ds) q a.1 o.1 (l ∙ o.0) hs.1)
         ∙ ap (λ b. if b then Some q else None) (same-itself q)
 
-  if-fits : (s : Strategy) → HaveLengths mismatch ports (leaf_names s) → (o : Option Place) → joined ports s ≡ o → IfSome o (SplitsInto mismatch s ports)
+  if-fits : (s : Strategy) → HaveLengths mismatch ports (leaf_names s) → (o : Option Place) → joined ports s ≡ o → IfSome o (λ q. DotsAgree mismatch s × SplitsInto mismatch s ports q)
   if-fits s l None h = tt
-  if-fits s l (Some q) h = let f = joined-fits s q l h in (f.long, f.are)
+  if-fits s l (Some q) h = let f = joined-fits s q l h in (f.agree, (f.long, f.are))
 
   pub joined-undoes : (s : Strategy) → HaveLengths mismatch ports (leaf_names s) → UndoesSplit mismatch s ports (joined ports s)
   joined-undoes s l = record { splits = if-fits s l (joined ports s) refl; only = λ a q h. split-joined s q a h.0 h.1 }

@@ -8,7 +8,7 @@ use Rattle.tv_strategy.specs.Origins.{Origin, Traced}
 use Rattle.tv_strategy.specs.Iterations.{Binding, End, job, passed, Iteration, Iterations, walk, added, crossed, crossed_end, each_crossed, paired, each_paired, iteration, cross_of, dot_of, one_job}
 use Rattle.tv_strategy.specs.Measures.{strategy_depth}
 use Rattle.tv_strategy.specs.Levels.{HasLevels}
-use Rattle.tv_strategy.specs.Stated.{IsListOf, CrossOfOneIsItsChild, DotIsAsLongAsShortest, WalkPassesFault, CrossKeepsFault, CrossKeepsEmptyList, DotKeepsFirstFault, DotKeepsLaterFault}
+use Rattle.tv_strategy.specs.Stated.{IsListOf, CrossOfOneIsItsChild, DotIsAsLongAsShortest, DotHasListWhereAllHave, WalkPassesFault, CrossKeepsFault, CrossKeepsEmptyList, DotKeepsFirstFault, DotKeepsLaterFault}
 use Rattle.tv_strategy.proofs.AtDepth.{iteration-levels, dot_of-levels}
 use Rattle.tv_strategy.proofs.AtPlace.{ItemHasLevels, item-levels, item_at-each_crossed, item_at-each_paired, pair_items}
 use Rattle.tv_strategy.proofs.OfEnds.{item_at-walk_each}
@@ -147,3 +147,20 @@ dot-shortest ports mismatch walks c (strategy d ds) a q n h =
     let rest = dot_of-levels ports mismatch walks (strategy d ds) a.0.1 a.1.1 in
     let p = paired-lists q (iteration ports c) (dot_of ports (strategy d ds)) (strategy_depth mismatch c) n first (subst (λ k. HasLevels (dot_of ports (strategy d ds)) k) (sym same) rest) h in
     (p.left, p.right, p.left_is, dot-shortest ports mismatch walks d ds (a.0.1, a.1.1) q p.right p.right_is, p.least)
+
+-- lists in both, and a list in the pair
+pair-list : (q : Place) (t u : Iteration) (m k n : ℕ) → IsListOf (at t q) m → IsListOf (at u q) k → n ≡ min m k → IsListOf (at (paired t u) q) n
+pair-list q t u m k n h j e = both (at t q) (at u q) h j refl refl
+  where
+    both : (o p : Option Iteration) → IsListOf o m → IsListOf p k → at t q ≡ o → at u q ≡ p → IsListOf (at (paired t u) q) n
+    both None p h j x y = absurd h
+    both (Some (leaf s e)) p h j x y = absurd h
+    both (Some (list s ts)) None h j x y = absurd j
+    both (Some (list s ts)) (Some (leaf r e)) h j x y = absurd j
+    both (Some (list s ts)) (Some (list r us)) h j x y =
+        subst (λ o. IsListOf o n) (sym (paired-there q t u (list s ts) (list r us) x y)) (count-each_paired ts us ∙ ap (λ a. min a (count us)) h ∙ ap (min m) j ∙ sym e)
+
+pub dot-lists : DotHasListWhereAllHave
+dot-lists ports c no_strategies q n h = h
+dot-lists ports c (strategy d ds) q n h =
+    pair-list q (iteration ports c) (dot_of ports (strategy d ds)) h.0 h.1 n h.2 (dot-lists ports d ds q h.1 h.3) h.4

@@ -27,9 +27,9 @@ AreOf ports (r ∷ rs) = (ports r.0 ≡ r.1) × AreOf ports rs
 abbrev pub SplitsInto : (Name → ℕ) → Strategy → (Name → Place) → Place → Type 0
 SplitsInto mismatch s ports q = (length q ≡ strategy_depth mismatch s) × AreOf ports (split mismatch s q)
 
--- the answer splits into the ports' places, and where the dots agree nothing else does
+-- where there is an answer the dots agree and it splits into the ports' places, and where they agree nothing else does
 pub record UndoesSplit (mismatch : Name → ℕ) (s : Strategy) (ports : Name → Place) (answer : Option Place) : Type 0 where
-  pub splits : IfSome answer (SplitsInto mismatch s ports)
+  pub splits : IfSome answer (λ q. DotsAgree mismatch s × SplitsInto mismatch s ports q)
   pub only : DotsAgree mismatch s → (q : Place) → SplitsInto mismatch s ports q → answer ≡ Some q
 
 -- two neighbours have different places

@@ -52,6 +52,11 @@ abbrev pub DotIsAsLongAsShortest : Type 0
 DotIsAsLongAsShortest =
     (ports : Name → Iteration) (mismatch : Name → ℕ) → ((p : Name) → HasLevels (ports p) (mismatch p)) → (c : Strategy) (cs : Strategies) → DotsAgree mismatch (dot (strategy c cs)) → (q : Place) (n : ℕ) → IsListOf (at (iteration ports (dot (strategy c cs))) q) n → HaveShortest ports (strategy c cs) q n
 
+-- and where all its children have lists a dot has one
+abbrev pub DotHasListWhereAllHave : Type 0
+DotHasListWhereAllHave =
+    (ports : Name → Iteration) (c : Strategy) (cs : Strategies) (q : Place) (n : ℕ) → HaveShortest ports (strategy c cs) q n → IsListOf (at (iteration ports (dot (strategy c cs))) q) n
+
 -- ---- faults and empty lists
 
 -- a port's fault above the last level that it walks is passed there

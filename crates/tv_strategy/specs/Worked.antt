@@ -102,6 +102,16 @@ CrossesWithFault =
     (output joins (levels 1 1) (both (texts []) (no_list [])) crossing ≡ texts [])
     × (output joins (levels 1 1) (both (texts (codes "a" ∷ [])) (no_list [])) crossing ≡ lists (no_list [] ∷ []))
 
+-- that fault in the place of lists of lists
+abbrev pub no_lists : Place → Value
+no_lists q = let e = no_range q in fault_value (record { at = e.at; depth = 2; why = e.why; from = e.from })
+
+-- a fault in the place of the outer list stands once, as deep as the output, however many items the inner list has
+abbrev pub CrossesFaultWithList : Type 0
+CrossesFaultWithList =
+    (output joins (levels 1 1) (both (no_list []) (texts [])) crossing ≡ no_lists [])
+    × (output joins (levels 1 1) (both (no_list []) (texts (codes "1" ∷ codes "2" ∷ []))) crossing ≡ no_lists [])
+
 -- in pairs, to the shorter
 abbrev pub PairsToShorter : Type 0
 PairsToShorter =

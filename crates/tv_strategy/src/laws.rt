@@ -1,10 +1,10 @@
 //! What holds of the definitions alone: each law is the clause of a function that does nothing.
 ghost use Rattle.tv_strategy.specs.Stated.{EndsStandAtDepth, OutputsHaveDepth, AgreeWithoutDifference};
-ghost use Rattle.tv_strategy.specs.Stated.{CrossOfOneIsItsChild, DotIsAsLongAsShortest};
+ghost use Rattle.tv_strategy.specs.Stated.{CrossOfOneIsItsChild, DotIsAsLongAsShortest, DotHasListWhereAllHave};
 ghost use Rattle.tv_strategy.specs.Stated.{WalkPassesFault, CrossKeepsFault, CrossKeepsEmptyList, DotKeepsFirstFault, DotKeepsLaterFault};
 ghost use Rattle.tv_strategy.specs.Stated.{SplitGivesPlacesOfEnd, JobStandsWhereAllAreThere, SplitNamesLeaves, JoinUndoesSplit, JoinsNothingWhereDotDiffers, JoinGivesPlaceBack};
 ghost use Rattle.tv_strategy.specs.Stated.{SourcesAreNodes, OutputsAreOfSources};
-ghost use Rattle.tv_strategy.specs.Worked.{WalksNestedLists, WalksEmptyList, CrossesTwoLists, CrossesWithEmptyInnerList, CrossesWithEmptyOuterList, CrossesWithFault, PairsToShorter, TellsDotFault, PairsWithFault, SplitsAndJoins, JoinsNothing, CrossWaits, DotWaits};
+ghost use Rattle.tv_strategy.specs.Worked.{WalksNestedLists, WalksEmptyList, CrossesTwoLists, CrossesWithEmptyInnerList, CrossesWithEmptyOuterList, CrossesWithFault, CrossesFaultWithList, PairsToShorter, TellsDotFault, PairsWithFault, SplitsAndJoins, JoinsNothing, CrossWaits, DotWaits};
 
 /// All jobs of an iteration stand at the strategy's depth. A passed fault may stand above it.
 pub fn ends_stand_at_depth()
@@ -21,10 +21,11 @@ pub fn agree_without_difference()
     ensures { AgreeWithoutDifference }
 {}
 
-/// A cross of one child is that child, and the length of a dot's list is, at each place by itself, the least of its children's.
+/// A cross of one child is that child, and a dot has a list exactly where all its children have one, at each place by itself as long as the shortest.
 pub fn crosses_and_dots()
     ensures one { CrossOfOneIsItsChild }
     ensures shortest { DotIsAsLongAsShortest }
+    ensures there { DotHasListWhereAllHave }
 {}
 
 /// A fault met at an outer level stands once for all that would stand inside, and an empty outer list has no inner lists.
@@ -62,6 +63,7 @@ pub fn worked_iterations()
     ensures empty_inner { CrossesWithEmptyInnerList }
     ensures empty_outer { CrossesWithEmptyOuterList }
     ensures crossed_fault { CrossesWithFault }
+    ensures outer_fault { CrossesFaultWithList }
     ensures paired { PairsToShorter }
     ensures paired_fault { PairsWithFault }
     ensures cross_waits { CrossWaits }

@@ -9,13 +9,14 @@
 //!
 //! The crate promises that
 //! - `depth_of` is the depth of this tree, or tells of the first dot whose children differ (`specs/Measures.antt`);
-//! - `split` gives the places of the ports' values that the job at a place is made of, whatever values are delivered, and
-//!   `join` undoes it: it answers nothing exactly where two children of a dot have different places
+//! - `split` gives the places of the ports' values that the job at a place is made of, whatever values of these depths are
+//!   delivered, and `join` undoes it: it answers nothing exactly where two children of a dot have different places
 //!   (`specs/Splits.antt`, `specs/Promises.antt`);
 //! - the laws of `specs/Stated.antt` hold for every strategy and all values, and the worked examples of
 //!   `specs/Worked.antt` compute.
 //!
-//! Their conditions stand in `specs/Conditions.antt`. Want of memory is the one refusal of `split` and `join`.
+//! Their conditions stand in `specs/Conditions.antt`. Want of memory is the one refusal of `split` and `join`, and `join` has none
+//! where the dots agree and the place has at most 32 indices.
 //!
 //! - `depth`: the depth of a strategy
 //! - `places`: from the place of a job to those of its ports' values, and back

@@ -18,7 +18,7 @@ pub type PortPlaces = Sequence<(Name, Place)>;
 
 /// The places of the ports' values that the job at a place is made of: a cross gives its first child the first indices, a dot gives each child all.
 ///
-/// The ports come from left to right as the strategy has them. Want of memory is the one refusal.
+/// The ports come from left to right as the strategy has them. Want of memory is the one refusal, and may come at any length, since the names are copied into a list.
 /// Linear in the tree, with a look-up in `mismatch` and a copy of a name and a place for each leaf.
 pub fn split(
     alloc: Global,
@@ -120,7 +120,8 @@ fn split_dot(
 /// The place of the job that is made of the values at these places of its ports, or `None` where two children of a dot
 /// have different places. Undoes `split`. Only the conditions name `mismatch`.
 ///
-/// Want of memory is the one refusal. Linear in the tree, with a look-up in `places` for each leaf and a copy of the part of the place that each node has.
+/// Want of memory is the one refusal, and there is none where the dots agree and the place has at most 32 indices.
+/// Linear in the tree, with a look-up in `places` for each leaf and a copy of the part of the place that each node has.
 pub fn join(
     alloc: Global,
     tree: &Tree,

@@ -418,3 +418,18 @@ fn dot_in_dot_differs(rt: HostRuntime) -> Result<(), Fail> {
     check_depth(&rt, alloc, &tree, &[("a", 2), ("b", 2), ("c", 2)], Ok(2))?;
     Ok(())
 }
+
+#[test]
+fn dot_fault_as_text(rt: HostRuntime) -> Result<(), Fail> {
+    let alloc = rt.alloc();
+    let fault = DotFault {
+        first: 1,
+        second: 2,
+    };
+    let text = format!(in alloc; "{fault}")?;
+    assert!(rt;
+        text.as_str() == "the children of a dot have the depths 1 and 2",
+        "the printed fault"
+    );
+    Ok(())
+}

@@ -1,7 +1,7 @@
-use Rattle.std.proofs.Common.{◌≡◌, ◌++◌, IfSome, arith, subst, sym}
-use Rattle.tv_value.specs.Strategies.{dot, strategy}
+use Rattle.std.proofs.Common.{◌≡◌, IfSome, arith, subst, sym}
+use Rattle.tv_value.specs.Strategies.{dot}
 use Rattle.tv_value.specs.Views.{strategy_view}
-use Rattle.tv_value.proofs.OfTrees.{size, sizes}
+use Rattle.tv_value.proofs.OfTrees.{sizes}
 use Rattle.tv_strategy.specs.Conditions.{number_of}
 use Rattle.tv_strategy.specs.Views.{children_view}
 use Rattle.tv_strategy.proofs.OfVisits.{Visited, AllVisited, visited-both}
