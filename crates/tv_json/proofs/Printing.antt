@@ -1,5 +1,5 @@
 -- Lists of JSON trees, item by item.
-use Rattle.std.specs.Prelude.{◌≡◌, List, [], ◌∷◌, map, refl, false, ◌||◌}
+use Rattle.std.specs.Prelude.{◌≡◌, suc, List, [], ◌∷◌, length, map, refl, false, ◌||◌}
 use Rattle.std.proofs.Common.{ap, ◌∙◌}
 use Rattle.serde_json.specs.Written.{has_float, items_have_float}
 use Rattle.serde_json.specs.Data.{string, item}
@@ -50,3 +50,7 @@ trees-each (t ∷ ts) = ap (item (tree_json t)) (trees-each ts)
 pub map-same : {A : Type 0} (xs : List A) → map (λ x. x) xs ≡ xs
 map-same [] = refl
 map-same (x ∷ xs) = ap (λ ys. x ∷ ys) (map-same xs)
+
+pub length-each : {A B N : Type 0} (f : A → B) (es : List (N × A)) → length {A = N × B} (map (λ e. (e.0, f e.1)) es) ≡ length es
+length-each f [] = refl
+length-each f (e ∷ es) = ap suc (length-each f es)

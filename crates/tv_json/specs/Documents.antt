@@ -8,7 +8,6 @@ use Rattle.tv_value.specs.Activities.{Activity, service, nested}
 use Rattle.tv_value.specs.Printed.{members, strings, json}
 use Rattle.tv_flow.specs.Flows.{Link, input, output, Feed, link, merge, constant, StepInput, Step, Flow, Document}
 
-
 abbrev pub number_json : ℕ → Data
 number_json n = number (unsigned n)
 
@@ -75,16 +74,16 @@ step_json s = object (members (step_members s ++ strategy_member s.strategy))
 abbrev pub flow_json : Flow → Data
 flow_json f =
     object (members
-      ( (codes "inputs", named_json number_json f.inputs)
-      ∷ (codes "outputs", named_json feed_json f.outputs)
-      ∷ (codes "steps", named_json step_json f.steps)
-      ∷ []))
+    ((codes "inputs", named_json number_json f.inputs)
+    ∷ (codes "outputs", named_json feed_json f.outputs)
+    ∷ (codes "steps", named_json step_json f.steps)
+    ∷ []))
 
 abbrev pub document_json : Document → Data
 document_json d =
     object (members
-      ( (codes "flows", named_json flow_json d.flows)
-      ∷ (codes "inputs", named_json json d.inputs)
-      ∷ (codes "main", string d.main)
-      ∷ (codes "taverna", number_json d.format)
-      ∷ []))
+    ((codes "flows", named_json flow_json d.flows)
+    ∷ (codes "inputs", named_json json d.inputs)
+    ∷ (codes "main", string d.main)
+    ∷ (codes "taverna", number_json d.format)
+    ∷ []))

@@ -18,13 +18,27 @@ use tv_flow::{Activity, Document, Feed, Flow, Link, Step, StepInput};
 use tv_value::{Depths, Names, NoMemory, Tree, Trees};
 
 /// The JSON tree of a document: every field of the document form, defaults included, but an absent strategy.
-/// Linear in the document, and in the logarithm of the number of names in each object.
+/// It reads back as the same document, where that has at most 16 inputs. Linear in the document, and in the logarithm of the number of names in each object.
 pub fn json_of_document(alloc: Global, document: &Document) -> Result<Json, NoMemory>
+    ensures json { IfOk result (λ j. json_view j ≡ document_json (document_view document.now)) }
+    ensures reads_back { IfOk result (λ j. length document.now.inputs ≤ 16 → form_of (json_view j) ≡ Ok (document_view document.now)) }
+{
+    let json = document_tree(alloc, document)?;
+    Ok(json)
+}
+
+fn document_tree(alloc: Global, document: &Document) -> Result<Json, NoMemory>
     ensures { IfOk result (λ j. json_view j ≡ document_json (document_view document.now)) }
 {
     let flows = named(alloc, document.flows.as_slice())?;
     let inputs = named(alloc, document.inputs.as_slice())?;
-    Ok(document_object(alloc, flows, inputs, document.main.as_str(), document.format)?)
+    Ok(document_object(
+        alloc,
+        flows,
+        inputs,
+        document.main.as_str(),
+        document.format,
+    )?)
 }
 
 fn document_object(
@@ -165,7 +179,15 @@ fn required_fields(alloc: Global, step: &Step) -> Result<Map<String, Json>, NoMe
     let after = json_of_names(alloc, &step.after)?;
     let inputs = named(alloc, step.inputs.as_slice())?;
     let outputs = json_of_depths(alloc, &step.outputs)?;
-    Ok(step_fields(alloc, activities, after, inputs, step.jobs, outputs, step.retries)?)
+    Ok(step_fields(
+        alloc,
+        activities,
+        after,
+        inputs,
+        step.jobs,
+        outputs,
+        step.retries,
+    )?)
 }
 
 fn step_fields(

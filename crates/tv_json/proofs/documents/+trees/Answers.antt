@@ -11,9 +11,9 @@ pub json_of_trees-returns : goal.json_of_trees-returns
 json_of_trees-returns t c =
     let trees = c.deref-tree-items.result.now in
     ap items_of
-      (c.loop-tree.invariant
-      ∙ ap (map (λ u. tree_json (strategy_view u))) (take_all c.loop-tree.tree-index trees c.loop-tree-test.false)
-      ∙ map-twice strategy_view tree_json trees)
+    (c.loop-tree.invariant
+    ∙ ap (map (λ u. tree_json (strategy_view u))) (take_all c.loop-tree.tree-index trees c.loop-tree-test.false)
+    ∙ map-twice strategy_view tree_json trees)
     ∙ trees-each (map strategy_view trees)
     ∙ ap (λ ts. all_trees (strategies_of (map strategy_view ts))) c.deref-tree-items.ensures.value
     ∙ ap all_trees (sym (strategies_view-each c.args.trees.now))

@@ -11,6 +11,6 @@ returns g c =
     let things = c.args.things.now in
     view-Array c.loop-thing.items
     ∙ ap (λ ds. array (items_of ds))
-        (c.loop-thing.invariant
-        ∙ ap (map (λ x. g.T.Printed.printed (g.T.Printed.seen x))) (take_all c.loop-thing.thing-index things c.loop-thing-test.false)
-        ∙ map-twice g.T.Printed.seen g.T.Printed.printed things)
+    (c.loop-thing.invariant
+    ∙ ap (map (λ x. g.T.Printed.printed (g.T.Printed.seen x))) (take_all c.loop-thing.thing-index things c.loop-thing-test.false)
+    ∙ map-twice g.T.Printed.seen g.T.Printed.printed things)
