@@ -10,7 +10,7 @@ use std::test::Fail;
 #[test]
 fn the_other_region_stays(rt: HostRuntime) -> Result<(), Fail> {
     let mut pool = Pool::new(rt.alloc());
-    assert_eq!(rt; pool.reserve(2), Ok(()));
+    pool.reserve(2)?;
     let first = pool.begin()?;
     let second = pool.begin()?;
     let five = pool.put(&first, 5u64)?;
