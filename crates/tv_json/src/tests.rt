@@ -1,6 +1,8 @@
-use crate::{compact, element_text, job_text, json_of_value};
+use crate::{compact, element_text, job_text, json_of_document, json_of_value};
+use serde_json::Value as Json;
 use std::alloc::Global;
 use std::test::Fail;
+use tv_flow::read_document;
 use tv_value::{ErrorDoc, Items, JobName, NoMemory, Place, Sequence, Text, Value};
 
 /// The job `n[0]/u[]`.
@@ -44,5 +46,24 @@ fn an_error_document_stands_in_a_list(rt: HostRuntime) -> Result<(), Fail> {
         compact(alloc, &json)?.as_str(),
         "[{\"error\":{\"at\":\"n[0]/u[]\",\"depth\":1,\"from\":[\"n[0]/u[]\"],\"why\":\"bounced\"}},\"a\\n\\\"b\\\"\",[]]"
     );
+    Ok(())
+}
+
+#[test]
+fn defaults_are_written_but_an_absent_strategy(rt: HostRuntime) -> Result<(), Fail> {
+    let alloc = rt.alloc();
+    let text =
+        "{\"taverna\":1,\"main\":\"m\",\"flows\":{\"m\":{\"outputs\":{},\"steps\":{\"s\":{\"activities\":[{\"service\":\"upper\"}]}}}}}";
+    let json = Json::from_str(alloc, text)?;
+    match read_document(alloc, &json) {
+        Ok(document) => {
+            let json = json_of_document(alloc, &document)?;
+            assert_eq!(rt;
+                compact(alloc, &json)?.as_str(),
+                "{\"flows\":{\"m\":{\"inputs\":{},\"outputs\":{},\"steps\":{\"s\":{\"activities\":[{\"service\":\"upper\"}],\"after\":[],\"inputs\":{},\"jobs\":1,\"outputs\":{},\"retries\":0}}}},\"inputs\":{},\"main\":\"m\",\"taverna\":1}"
+            );
+        }
+        Err(_) => assert!(rt; false, "no document"),
+    }
     Ok(())
 }

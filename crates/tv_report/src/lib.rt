@@ -6,5 +6,7 @@
 #![tactic(auto)]
 
 mod forms;
+#[cfg(test)]
+mod tests;
 
 pub use forms::form_line;
