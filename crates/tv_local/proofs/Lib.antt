@@ -5,3 +5,4 @@ pub mod OfComplaints
 pub mod OfTexts
 pub mod OfLists
 pub mod Examples
+pub mod Single

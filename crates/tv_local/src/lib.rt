@@ -4,7 +4,7 @@
 //! rule come complaints of the inputs, in a stated order (`specs/Reading.antt`). The crate promises that `LocalGate`
 //! gives exactly the outcomes of this table, or wants memory, and that it knows exactly the eighteen names. A name that
 //! is none of these is refused without text. All services are linear in their inputs and what they give, but `distinct`
-//! and `intersect`, which sort.
+//! and `intersect`, which look texts up in an ordered set: for n texts, n log n comparisons.
 //!
 //! - `gate`: the services as a gate, which chooses among the rules
 //! - `row`: the names, and what each service wants
@@ -12,12 +12,14 @@
 //! - `number`: number texts
 //! - `text`, `list`, `arithmetic`: the rules
 //! - `answer`: outcomes of one value
+//! - `laws`: what holds of the table for all inputs
 #![tactic(auto)]
 
 mod answer;
 mod arithmetic;
 mod gate;
 mod input;
+pub mod laws;
 mod list;
 mod number;
 mod row;
