@@ -1,7 +1,7 @@
 //! Puts, gets and releases of a pool, or of a vector for each region, to be timed from outside:
 //! `tv_pool_bench LAYOUT SIZE COUNT` fills regions of `SIZE` items one after another, reads each item
 //! once in a scattered order and releases the region, until `COUNT` items went through. It prints
-//! the sum of what was read. `bench/pool.sh` times it.
+//! the sum of what was read. `bench/pool.py` times it.
 #![tactic(auto)]
 
 ghost use Rattle.std.specs.Prelude.{All, OnOk, ◌<◌, length};
