@@ -1,16 +1,16 @@
 -- Strategies, node by node: what the fields of a node say, and that what stands inside is less deep.
-use Rattle.std.specs.Prelude.{◌≡◌, ℕ, zero, suc, ◌+◌, ◌<◌, ◌≤◌, max, List, [], ◌∷◌, length, map, Bool, true, false, ◌&&◌, is_some, codes, Option, Some, None, option_map, Result, Ok, Err, refl}
+use Rattle.std.specs.Prelude.{◌≡◌, ℕ, zero, suc, ◌<◌, ◌≤◌, max, List, [], ◌∷◌, length, map, true, false, ◌&&◌, is_some, codes, Option, Some, None, option_map, Result, Ok, Err, refl}
 use Rattle.std.specs.declared.cmp.Ordering.{Ordering}
 use Rattle.std.specs.Ordering.{nat_cmp, match_ordering}
 use Rattle.std.specs.Cmp.Lexicographic.{slice_cmp}
 use Rattle.std.specs.List.{list_all}
-use Rattle.std.proofs.Common.{ap, sym, subst, ◌∙◌, arith, get_or, Less, Equal, Greater}
+use Rattle.std.proofs.Common.{ap, sym, ◌∙◌, arith, get_or, Less, Equal, Greater}
 use Rattle.serde_json.specs.Data.{Data, object, array, Items, no_items, item, Members, no_members, member, depth, items_depth, members_depth}
 use Rattle.serde_json.specs.Find.{get, get_member}
 use Rattle.serde_json.specs.View.{view as json_view, items_view as json_items}
 use Rattle.serde_json.specs.declared.value.Value.{Value as Json}
 use Rattle.tv_value.specs.Values.{Text}
-use Rattle.tv_value.specs.Strategies.{Strategy, Strategies, no_strategies, strategy, cross, dot}
+use Rattle.tv_value.specs.Strategies.{Strategy, Strategies, strategy, cross, dot}
 use Rattle.tv_value.specs.Views.{strategies_of, strategy_view, strategies_view, tree_step, trees_step}
 use Rattle.tv_value.specs.declared.tree.Trees.{Trees}
 use Rattle.tv_value.specs.declared.tree.Tree.TheFolds.{fold_out-Trees}
@@ -21,7 +21,7 @@ use Rattle.tv_flow.specs.Answers.{told}
 use Rattle.tv_flow.proofs.Shapes.{items-count}
 use Rattle.tv_flow.specs.declared.faults.FormKind.TheVariants.{Missing}
 use Rattle.tv_flow.specs.Complaints.{Path, Complaint, complaint, key, index, given}
-use Rattle.tv_flow.specs.Forms.{fields_form, required, present, has, node_form, tree_form, children_form, trees_form, each_tree, items_form, counted}
+use Rattle.tv_flow.specs.Forms.{fields_form, present, has, node_form, tree_form, children_form, trees_form, each_tree, items_form, counted}
 use Rattle.tv_flow.specs.Branch.{branch}
 use Rattle.tv_flow.specs.Formed.{is_tree, are_trees, strategy_count, is_between}
 

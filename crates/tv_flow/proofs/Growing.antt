@@ -1,9 +1,9 @@
 -- Reading a list entry by entry: the entries so far, before what the rest gives.
-use Rattle.std.specs.Prelude.{◌≡◌, ℕ, zero, suc, ◌+◌, ◌<◌, ◌≤◌, List, [], ◌∷◌, ◌++◌, length, drop, map, Bool, true, false, ◌&&◌, Result, Ok, Err, String, string_bytes, refl}
+use Rattle.std.specs.Prelude.{◌≡◌, ℕ, zero, suc, ◌+◌, ◌<◌, ◌≤◌, List, [], ◌∷◌, ◌++◌, length, drop, Bool, true, false, ◌&&◌, Result, Ok, Err, String, string_bytes, refl}
 use Rattle.std.specs.declared.alloc.Global.{Global}
 use Rattle.std.specs.List.{list_all}
-use Rattle.std.proofs.Common.{ap, sym, subst, ◌∙◌, arith, get_or, append_assoc, append-nil}
-use Rattle.serde_json.specs.Data.{Data, Items, no_items, item, Members, no_members, member}
+use Rattle.std.proofs.Common.{ap, sym, ◌∙◌, arith, get_or, append_assoc, append-nil}
+use Rattle.serde_json.specs.Data.{Data, no_items, item}
 use Rattle.serde_json.specs.View.{view as json_view, items_view as json_items, members_view}
 use Rattle.serde_json.specs.declared.value.Value.{Value as Json}
 use Rattle.tv_value.specs.Values.{Text, Name}

@@ -1,6 +1,6 @@
 -- What a value that was read keeps.
-use Rattle.std.specs.Prelude.{◌≡◌, ℕ, zero, suc, [], Bool, true, false, ◌&&◌, nat_lt, is_some, if◌then◌else◌, Result, Ok, Err, refl}
-use Rattle.std.proofs.Common.{ap, sym, subst, ◌∙◌}
+use Rattle.std.specs.Prelude.{◌≡◌, ℕ, suc, [], Bool, true, false, ◌&&◌, nat_lt, is_some, if◌then◌else◌, Result, Ok, Err, refl}
+use Rattle.std.proofs.Common.{ap, subst, ◌∙◌}
 use Rattle.serde_json.specs.Data.{Data, Num, unsigned, negative, float, null, boolean, number, string, array, object, Items, no_items, item}
 use Rattle.tv_value.specs.Nested.{Trees, no_trees, tree, count}
 use Rattle.tv_value.specs.Values.{Value, Scalar, list_value}

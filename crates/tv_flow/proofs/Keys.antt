@@ -4,7 +4,7 @@ use Rattle.std.specs.List.{list_any, find}
 use Rattle.std.specs.Map.{keys_of}
 use Rattle.std.specs.declared.alloc.Global.{Global}
 use Rattle.std.proofs.Common.{Bor, ap, sym, ◌∙◌}
-use Rattle.serde_json.specs.View.{view, members_view}
+use Rattle.serde_json.specs.View.{members_view}
 use Rattle.serde_json.specs.declared.value.Value.{Value as Json}
 use Rattle.tv_value.specs.Values.{Text}
 use Rattle.tv_value.specs.Orders.{same_name}

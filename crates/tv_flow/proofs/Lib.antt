@@ -5,3 +5,4 @@ pub mod Places
 pub mod Shapes
 pub mod Sorting
 pub mod Branches
+pub mod FirstOfAll

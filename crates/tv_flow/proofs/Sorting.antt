@@ -3,7 +3,7 @@ use Rattle.std.specs.Prelude.{◌≡◌, ℕ, zero, suc, ◌+◌, ◌<◌, ◌�
 use Rattle.std.specs.declared.cmp.Ordering.{Ordering}
 use Rattle.std.specs.List.{list_all}
 use Rattle.std.specs.Ordering.{is_lt, ordering_reverse, match_ordering}
-use Rattle.std.proofs.Common.{ap, sym, subst, ◌∙◌, arith, get_or, Less, Equal, Greater}
+use Rattle.std.proofs.Common.{ap, sym, ◌∙◌, arith, get_or, Less, Equal, Greater}
 use Rattle.std.proofs.lemmas.Bool.Decides.{nat_tests}
 use Rattle.std.proofs.lemmas.Cmp.{nat_list_cmp_total}
 use Rattle.tv_value.specs.Values.{Name}

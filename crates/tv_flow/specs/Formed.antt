@@ -1,5 +1,5 @@
 -- What every document that was read keeps: kinds, ranges, numbers of entries, and the byte order of names.
-use Rattle.std.specs.Prelude.{ℕ, suc, List, [], ◌∷◌, length, map, Bool, true, false, ◌&&◌, ◌==◌, nat_le, nat_lt, not, Option, Some, None, is_some}
+use Rattle.std.specs.Prelude.{ℕ, suc, List, [], ◌∷◌, length, map, Bool, true, ◌&&◌, nat_le, nat_lt, not, Option, Some, None, is_some}
 use Rattle.std.specs.List.{list_all}
 use Rattle.std.specs.Ordering.{is_lt}
 use Rattle.tv_value.specs.Nested.{leaf, list, Trees, no_trees, tree, count}

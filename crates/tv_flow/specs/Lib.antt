@@ -7,3 +7,4 @@ pub mod Views
 pub mod DocumentViews
 pub mod PathViews
 pub mod Answers
+pub mod Listed

@@ -2,6 +2,7 @@
 ghost use Rattle.std.specs.Prelude.{◌≡◌};
 
 use std::alloc::{AllocError, AllocFailed};
+use thiserror::Error;
 use tv_value::{NoMemory, Sequence, Text};
 
 /// What is wrong with the form of a document.
@@ -38,9 +39,10 @@ pub enum Part {
 pub type Path = Sequence<Part>;
 
 /// Why a document wasn't read.
-#[derive(Debug, Drop)]
+#[derive(Debug, Drop, Error)]
 pub enum FormFault {
     /// The first thing wrong with its form, and where.
+    #[error("the document's form is wrong: {kind:?}")]
     Form {
         /// What is wrong.
         kind: FormKind,
@@ -48,6 +50,7 @@ pub enum FormFault {
         path: Path,
     },
     /// Want of memory.
+    #[error("want of memory")]
     NoMemory,
 }
 

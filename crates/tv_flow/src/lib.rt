@@ -12,14 +12,18 @@
 //! - `formed`, `objects`, `lists`: what is read by a form, objects with fields, arrays and named objects
 //! - `scalars`, `names`, `feeds`, `trees`, `steps`, `flows`: the tables of the form, smallest first
 //! - `reading`: whole documents
+//! - `laws`: the first complaint is the head of the list of all (`specs/Listed.antt`)
+//! - `copies`: flows of their own that stand for the same
 #![tactic(auto)]
 
 mod at;
+mod copies;
 mod document;
 mod faults;
 mod feeds;
 mod flows;
 mod formed;
+pub mod laws;
 mod lists;
 mod names;
 mod objects;

@@ -1,4 +1,4 @@
-use Rattle.std.proofs.Common.{ap, subst, sym, ◌∙◌, ◌≡◌, true, map, arith}
+use Rattle.std.proofs.Common.{ap, sym, ◌∙◌, map, arith}
 use Rattle.serde_json.specs.View.{items_view as json_items}
 use Rattle.tv_flow.specs.PathViews.{at_view}
 use Rattle.tv_flow.specs.Forms.{items_form}

@@ -1,4 +1,4 @@
-use Rattle.std.proofs.Common.{rules, ◌≡◌, ◌&&◌, ◌++◌, ◌∷◌, [], true, ap, sym, subst, ◌∙◌, string_bytes}
+use Rattle.std.proofs.Common.{rules, ◌≡◌, ◌&&◌, ◌++◌, ◌∷◌, [], ap, sym, subst, ◌∙◌}
 use Rattle.std.proofs.lemmas.List.{map-append}
 use Rattle.std.specs.List.{list_all}
 use Rattle.std.specs.Map.Iter.{deref_pair}

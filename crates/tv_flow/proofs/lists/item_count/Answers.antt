@@ -1,4 +1,4 @@
-use Rattle.std.proofs.Common.{◌∙◌, arith}
+use Rattle.std.proofs.Common.{arith}
 use Rattle.tv_flow.proofs.Growing.{item_count-each}
 use Rattle.tv_flow.proofs.lists.item_count.Goals as goal
 

@@ -1,5 +1,4 @@
-use Rattle.std.proofs.Common.{ap, subst, sym, ◌∙◌, ◌≡◌, true, map, arith}
-use Rattle.serde_json.specs.View.{members_view}
+use Rattle.std.proofs.Common.{ap, sym, ◌∙◌}
 use Rattle.tv_flow.specs.PathViews.{at_view}
 use Rattle.tv_flow.specs.Views.{each}
 use Rattle.tv_flow.specs.Formed.{is_between, are_named}

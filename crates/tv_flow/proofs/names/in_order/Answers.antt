@@ -1,5 +1,4 @@
-use Rattle.std.proofs.Common.{◌≡◌, ap, sym, ◌∙◌}
-use Rattle.tv_value.specs.Orders.{in_order, put_in_order, name_cmp}
+use Rattle.std.proofs.Common.{ap, sym, ◌∙◌}
 use Rattle.tv_flow.proofs.Sorting.{put_all, put_all-last, put_all-in_order}
 use Rattle.tv_flow.proofs.names.in_order.Goals as goal
 

@@ -1,6 +1,5 @@
-use Rattle.std.proofs.Common.{◌≡◌, ap, sym, ◌∙◌, true}
+use Rattle.std.proofs.Common.{ap, sym, ◌∙◌}
 use Rattle.std.proofs.lemmas.List.{map-id}
-use Rattle.tv_value.specs.Orders.{in_order, name_cmp}
 use Rattle.tv_flow.specs.Forms.{is_name}
 use Rattle.tv_flow.specs.Formed.{are_names, are_listed}
 use Rattle.tv_flow.proofs.Sorting.{names-kept}

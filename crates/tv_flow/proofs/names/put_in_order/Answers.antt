@@ -1,6 +1,6 @@
-use Rattle.std.proofs.Common.{◌≡◌, ap, sym, subst, ◌∙◌, arith, get_or, Less, Equal, Greater}
+use Rattle.std.proofs.Common.{ap, sym, ◌∙◌, arith, get_or}
 use Rattle.tv_value.specs.Orders.{name_cmp}
-use Rattle.tv_flow.proofs.Sorting.{put-less, put-equal, put-greater, put-end}
+use Rattle.tv_flow.proofs.Sorting.{put-less, put-equal, put-end}
 use Rattle.tv_flow.proofs.names.put_in_order.Goals as goal
 
 pub returns-in-Less : goal.returns-in-Less

@@ -1,4 +1,4 @@
-use Rattle.std.proofs.Common.{◌≡◌, ap, ◌∙◌, Some, option_map, string_bytes}
+use Rattle.std.proofs.Common.{ap, ◌∙◌, Some, option_map, string_bytes}
 use Rattle.tv_flow.proofs.Keys.{first_key-unknown}
 use Rattle.tv_flow.proofs.objects.unknown_key.Goals as goal
 

@@ -1,4 +1,3 @@
-use Rattle.tv_flow.specs.Forms.{optional, named_form, depth_form}
 use Rattle.tv_flow.specs.Formed.{is_depth}
 use Rattle.tv_flow.proofs.Shapes.{unseen, kept-unseen}
 use Rattle.tv_flow.proofs.steps.optional_depths.Goals as goal

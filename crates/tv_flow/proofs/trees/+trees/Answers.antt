@@ -1,12 +1,12 @@
-use Rattle.std.proofs.Common.{rules, ◌≡◌, ◌+◌, ◌++◌, ◌∷◌, [], ◌&&◌, Ok, map, length, true, false, codes, ap, sym, subst, ◌∙◌, arith}
+use Rattle.std.proofs.Common.{rules, ◌≡◌, ◌+◌, ◌++◌, ◌∷◌, [], ◌&&◌, Ok, map, true, false, codes, ap, sym, subst, ◌∙◌, arith}
 use Rattle.std.proofs.lemmas.List.{map-append}
 use Rattle.std.specs.List.{list_all}
-use Rattle.serde_json.specs.Data.{depth, items_depth, array}
+use Rattle.serde_json.specs.Data.{depth}
 use Rattle.serde_json.specs.View.{view as json_view, items_view as json_items, members_view}
 use Rattle.serde_json.proofs.Views.{view-Object, view-Array}
 use Rattle.tv_value.specs.Strategies.{cross, dot}
 use Rattle.tv_flow.specs.Branch.{branch}
-use Rattle.tv_value.specs.Views.{strategy_view, strategies_view, strategies_of}
+use Rattle.tv_value.specs.Views.{strategy_view}
 use Rattle.tv_flow.specs.Complaints.{Path, index, given}
 use Rattle.tv_flow.specs.PathViews.{at_view}
 use Rattle.tv_flow.specs.Answers.{IsForm, told}
