@@ -50,3 +50,7 @@ flow_depths flow = steps_depths flow.inputs [] (ranked flow.steps)
 
 abbrev pub output_depths : Flow → List ℕ
 output_depths flow = map (λ o. feed_depth flow.inputs (flow_depths flow) o.1) flow.outputs
+
+-- the outputs of a flow with their delivered depths
+abbrev pub measured_outputs : Flow → List (Name × ℕ)
+measured_outputs flow = map (λ o. (o.0, feed_depth flow.inputs (flow_depths flow) o.1)) flow.outputs

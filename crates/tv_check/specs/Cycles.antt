@@ -1,11 +1,12 @@
 -- Flows that nest in themselves or too deep, and steps that come before themselves.
-use Rattle.std.specs.Prelude.{ℕ, zero, suc, max, List, [], ◌∷◌, map, length, Bool, ◌||◌, nat_lt, filter_map, flat_map, Option, Some, None}
+use Rattle.std.specs.Prelude.{ℕ, zero, suc, List, [], map, length, Bool, ◌||◌, nat_lt, filter_map, flat_map, Option, Some, None}
 use Rattle.std.specs.List.{list_any}
 use Rattle.std.specs.Option.{option_map_or}
 use Rattle.tv_value.specs.Values.{Name}
 use Rattle.tv_value.specs.Orders.{same_name, named}
 use Rattle.tv_value.specs.Activities.{Activity, service, nested}
 use Rattle.tv_flow.specs.Flows.{Flow, Document}
+use Rattle.tv_graph.specs.Graphs.{greatest}
 use Rattle.tv_check.specs.Ranks.{earlier_steps}
 use Rattle.tv_check.specs.Faulty.{flow_cycle, link_cycle, too_deep, at_flow, at_step, Complaint, plainly, with_numbers}
 use Rattle.tv_check.specs.Naming.{complain_if}
@@ -34,11 +35,11 @@ steps_before f s = option_map_or earlier_steps (named s f.steps) []
 -- one, and the greatest nesting of the flows that it opens; `levels` bounds how deep it is looked into
 abbrev pub nesting : Document → ℕ → Name → ℕ
 nesting d zero f = 1
-nesting d (suc levels) f = suc (most (map (nesting d levels) (flows_in d f)))
-  where
-    most : List ℕ → ℕ
-    most [] = 0
-    most (n ∷ ns) = max n (most ns)
+nesting d (suc levels) f = suc (greatest (map (nesting d levels) (flows_in d f)))
+
+-- of all flows, in their order
+abbrev pub nestings : Document → List ℕ
+nestings d = map (λ f. nesting d (length d.flows) f.0) d.flows
 
 -- how deep flows may nest, the outermost counted
 abbrev pub nesting_limit : ℕ
@@ -52,7 +53,10 @@ abbrev pub nesting_complaints : Document → List Complaint
 nesting_complaints d =
     flat_map (λ f. let n = nesting d (length d.flows) f.0 in complain_if (nat_lt nesting_limit n) (with_numbers too_deep (at_flow f.0) n nesting_limit)) d.flows
 
--- the steps that reach themselves by links and by what they run after
+-- the steps of a flow that reach themselves by links and by what they run after
+abbrev pub flow_link_cycles : Name → Flow → List Complaint
+flow_link_cycles n f = flat_map (λ s. complain_if (reaches (steps_before f) (length f.steps) s.0 s.0) (plainly link_cycle (at_step n s.0))) f.steps
+
+-- and so flow by flow
 abbrev pub link_cycle_complaints : Document → List Complaint
-link_cycle_complaints d =
-    flat_map (λ f. flat_map (λ s. complain_if (reaches (steps_before f.1) (length f.1.steps) s.0 s.0) (plainly link_cycle (at_step f.0 s.0))) f.1.steps) d.flows
+link_cycle_complaints d = flat_map (λ f. flow_link_cycles f.0 f.1) d.flows

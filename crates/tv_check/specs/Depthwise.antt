@@ -8,7 +8,7 @@ use Rattle.tv_flow.specs.Flows.{Feed, link, merge, constant, Step, Flow, Documen
 use Rattle.tv_strategy.specs.Measures.{strategy_depth, Difference, first_difference}
 use Rattle.tv_check.specs.Ranks.{ranked}
 use Rattle.tv_check.specs.Steps.{strategy_of}
-use Rattle.tv_check.specs.CheckedDepths.{StepDepths, link_depth, feed_depth, port_depth, step_depths, flow_depths, output_depths}
+use Rattle.tv_check.specs.CheckedDepths.{StepDepths, link_depth, feed_depth, port_depth, step_depths, flow_depths, measured_outputs}
 use Rattle.tv_check.specs.Faulty.{merge_depths, dot_depths, nested_ports, too_deep, Where, at_step, at_input, at_output, at_activity, at_flow_output, Complaint, plainly, with_numbers}
 use Rattle.tv_check.specs.Naming.{complain_if, numbered}
 use Rattle.tv_check.specs.Cycles.{nesting}
@@ -43,12 +43,7 @@ same_ports (p ∷ ps) (q ∷ qs) = same_name p.0 q.0 && p.1 == q.1 && same_ports
 
 -- a flow takes what the step takes, and gives what the step gives
 abbrev pub fits_flow : Step → Flow → Bool
-fits_flow s f = same_ports (map (λ i. (i.0, i.1.depth)) s.inputs) f.inputs && same_ports s.outputs (zip_depths f.outputs (output_depths f))
-  where
-    zip_depths : List (Name × Feed) → List ℕ → List (Name × ℕ)
-    zip_depths [] ds = []
-    zip_depths (o ∷ os) [] = []
-    zip_depths (o ∷ os) (d ∷ ds) = (o.0, d) ∷ zip_depths os ds
+fits_flow s f = same_ports (map (λ i. (i.0, i.1.depth)) s.inputs) f.inputs && same_ports s.outputs (measured_outputs f)
 
 abbrev pub nested_complaints : Document → Name → Name → Step → ℕ × Activity → List Complaint
 nested_complaints d f n s (k, service a) = []

@@ -6,7 +6,7 @@ use Rattle.tv_value.specs.Values.{Name}
 use Rattle.tv_value.specs.Orders.{same_name, named}
 use Rattle.tv_value.specs.Strategies.{Strategy}
 use Rattle.tv_value.specs.Activities.{Activity, service, nested}
-use Rattle.tv_flow.specs.Flows.{Link, input, output, Feed, link, merge, constant, Step, Flow, Document}
+use Rattle.tv_flow.specs.Flows.{Link, input, output, Feed, link, merge, constant, StepInput, Step, Flow, Document}
 use Rattle.tv_strategy.specs.Measures.{leaf_names}
 use Rattle.tv_check.specs.Faulty.{no_such_port, no_such_service, no_such_flow, strategy_ports, Where, at_main, at_step, at_input, at_activity, at_after, at_flow_output, Complaint, plainly}
 
@@ -44,23 +44,33 @@ abbrev pub numbered : {A : Type 0} → ℕ → List A → List (ℕ × A)
 numbered k [] = []
 numbered k (x ∷ xs) = (k, x) ∷ numbered (suc k) xs
 
+abbrev pub input_complaints : Name → Flow → Name → Name × StepInput → List Complaint
+input_complaints f flow n i = link_complaints flow (at_input f n i.0) i.1.from
+
+abbrev pub strategy_complaints : Name → Name × Step → List Complaint
+strategy_complaints f (n, s) = option_map_or (λ t. complain_if (not (fits_ports s t)) (plainly strategy_ports (at_step f n))) s.strategy []
+
+abbrev pub after_complaints : Name → Flow → Name → ℕ × Name → List Complaint
+after_complaints f flow n (k, a) = complain_if (not (has_name flow.steps a)) (plainly no_such_port (at_after f n k))
+
+abbrev pub output_complaints : Name → Flow → Name × Feed → List Complaint
+output_complaints f flow o = link_complaints flow (at_flow_output f o.0) o.1
+
 module _ (knows : Name → Bool) (d : Document) where
   abbrev pub activity_complaints : Name → Name → ℕ × Activity → List Complaint
-  activity_complaints f s (k, service n) = complain_if (not (knows n)) (plainly no_such_service (at_activity f s k))
-  activity_complaints f s (k, nested g) = complain_if (not (has_name d.flows g)) (plainly no_such_flow (at_activity f s k))
+  activity_complaints f n (k, service a) = complain_if (not (knows a)) (plainly no_such_service (at_activity f n k))
+  activity_complaints f n (k, nested g) = complain_if (not (has_name d.flows g)) (plainly no_such_flow (at_activity f n k))
 
   -- a step: the links of its inputs, its strategy, its activities, and the steps that it runs after
   abbrev pub step_naming : Name → Flow → Name × Step → List Complaint
   step_naming f flow (n, s) =
-      flat_map (λ i. link_complaints flow (at_input f n i.0) i.1.from) s.inputs
-      ++ option_map_or (λ t. complain_if (not (fits_ports s t)) (plainly strategy_ports (at_step f n))) s.strategy []
+      flat_map (input_complaints f flow n) s.inputs
+      ++ strategy_complaints f (n, s)
       ++ flat_map (activity_complaints f n) (numbered 0 s.activities)
-      ++ flat_map (λ a. complain_if (not (has_name flow.steps a.1)) (plainly no_such_port (at_after f n a.0))) (numbered 0 s.after)
+      ++ flat_map (after_complaints f flow n) (numbered 0 s.after)
 
   abbrev pub flow_naming : Name × Flow → List Complaint
-  flow_naming (f, flow) =
-      flat_map (step_naming f flow) flow.steps
-      ++ flat_map (λ o. link_complaints flow (at_flow_output f o.0) o.1) flow.outputs
+  flow_naming (f, flow) = flat_map (step_naming f flow) flow.steps ++ flat_map (output_complaints f flow) flow.outputs
 
   -- the main flow, and then the flows in order
   abbrev pub naming_complaints : List Complaint

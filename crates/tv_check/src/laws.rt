@@ -1,4 +1,5 @@
 //! What the definitions say of small documents: each is the clause of a function that does nothing, and computes.
+ghost use Rattle.tv_check.specs.RankLaws.{AllAreRanked, NoneIsRankedOnCycles, NamesAreInside};
 ghost use Rattle.tv_check.specs.Worked.{AcceptsCross, AcceptsNested, TellsNoMain, TellsLinksFirst, TellsStrategyPorts, TellsNamesFirst, TellsAfter, TellsFlowOutput};
 ghost use Rattle.tv_check.specs.Worked.{TellsFlowCycle, TellsDeepNesting, TellsLinkCycle, TellsSelfLink};
 ghost use Rattle.tv_check.specs.Worked.{TellsMergeDepths, TellsDeepMerge, TellsDotDepths, TellsDeepOutput, TellsNestedPorts};
@@ -42,4 +43,11 @@ pub fn inputs()
     ensures missing { TellsMissingFirst }
     ensures unknown { TellsUnknownInput }
     ensures depth { TellsInputDepth }
+{}
+
+/// Where no name is complained of, every step has a rank exactly where none comes before itself.
+pub fn ranks()
+    ensures all { AllAreRanked }
+    ensures none { NoneIsRankedOnCycles }
+    ensures inside { NamesAreInside }
 {}

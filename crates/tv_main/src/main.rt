@@ -8,7 +8,7 @@ use std::rt::Env;
 use std::{env, io};
 use tv_gate::GateAsker;
 use tv_io::{ReaderSource, WriterSink, write_all};
-use tv_top::services::LocalGate;
+use tv_local::LocalGate;
 use tv_top::{Status, taverna};
 
 /// The words after the program's name. Where one isn't UTF-8 there are none, which give no command either.

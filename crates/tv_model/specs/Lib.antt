@@ -4,6 +4,7 @@ pub mod Instances
 pub mod Turns
 pub mod Meanings
 pub mod Totals
+pub mod TotalsViews
 pub mod Lineages
 pub mod Results
 pub mod Partials

@@ -7,8 +7,12 @@
 //! the result line and what it is for a partial tree to be below a value.
 //!
 //! - `laws`: what holds of these definitions, for every flow and all services
+//! - `totals`: totals as the code counts them
 //! - `rows`: worked documents, each with what it means
 #![tactic(auto)]
 
 pub mod laws;
 pub mod rows;
+mod totals;
+
+pub use totals::Totals;

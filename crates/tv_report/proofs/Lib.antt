@@ -1,1 +1,4 @@
 pub mod Plain
+pub mod Growing
+pub mod OfTokens
+pub mod OfPlans

@@ -1,1 +1,6 @@
 pub mod FormLines
+pub mod CheckLines
+pub mod DepthLines
+pub mod PlanLines
+pub mod ResultLines
+pub mod Tokens

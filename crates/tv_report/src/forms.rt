@@ -37,7 +37,8 @@ fn line(alloc: Global, kind: FormKind, path: &Path) -> Result<Text, NoMemory>
     Ok(Text::of(text))
 }
 
-fn push_number(text: &mut String, number: u32) -> Result<(), NoMemory>
+/// Adds a number in decimal.
+pub(crate) fn push_number(text: &mut String, number: u32) -> Result<(), NoMemory>
     ensures { OnOk result (string_bytes text.new ≡ string_bytes text.old ++ decimal number) }
 {
     write!(text, "{number}")?;

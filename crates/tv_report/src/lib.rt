@@ -1,12 +1,20 @@
 //! The texts that the commands print.
 //!
-//! Each text is exact, byte by byte (`specs/FormLines.antt`). All take memory for what they make, and time linear in it.
+//! Each text is exact, byte by byte, by a definition in `specs/`. All take memory for what they make, and time linear in it.
 //!
-//! - `forms`: the line of a form fault
+//! - `forms`, `checks`: the lines of faults of the form and of the check
+//! - `results`: the result line of a run
+//! - `depths`: the lines of `check`
 #![tactic(auto)]
 
+mod checks;
+mod depths;
 mod forms;
+mod results;
 #[cfg(test)]
 mod tests;
 
+pub use checks::check_line;
+pub use depths::depth_lines;
 pub use forms::form_line;
+pub use results::{NamedValues, result_line};

@@ -2,70 +2,62 @@
 use Rattle.std.specs.Prelude.{refl}
 use Rattle.std.specs.Fmt.{digits}
 use Rattle.json.specs.Print.{escape_byte}
-use Rattle.tv_top.specs.Worked.{ReadsOneText, ReadsNestedLists, ReadsEmptyList, RefusesOtherDepth, RefusesUnknownService, RefusesOtherFormat, RefusesTwoSteps, RefusesDeepPort, MapsNestedLists, CountsTexts, MapsNothingWrong, AnswersOneText, AnswersNestedLists, AnswersEmptyList, AnswersNoDocument, AnswersNoJson, AnswersNoCommand, TakesRun, TakesNothingElse, TellsCodes, TellsLines}
+use Rattle.tv_top.specs.Worked.{RunsOneText, RunsChain, RunsFailure, RunsNoCross, ChecksCross, ChecksChain, RefusesCircle, RefusesNoDocument, RefusesNoJson, RefusesNoCommand, TellsCodes, TellsLines, RefusesDepth, TakesCommands, TakesNothingElse}
 
-pub reads_one_text : ReadsOneText
-reads_one_text = refl
-
-pub reads_nested_lists : ReadsNestedLists
-reads_nested_lists = refl
-
-pub reads_empty_list : ReadsEmptyList
-reads_empty_list = refl
-
-pub refuses_other_depth : RefusesOtherDepth
-refuses_other_depth = refl
-
-pub refuses_unknown_service : RefusesUnknownService
-refuses_unknown_service = refl
-
-pub refuses_other_format : RefusesOtherFormat
-refuses_other_format = refl
-
-pub refuses_two_steps : RefusesTwoSteps
-refuses_two_steps = refl
-
-pub refuses_deep_port : RefusesDeepPort
-refuses_deep_port = refl
-
-pub maps_nested_lists : MapsNestedLists
-maps_nested_lists = refl
-
-pub counts_texts : CountsTexts
-counts_texts = refl
-
-pub maps_nothing_wrong : MapsNothingWrong
-maps_nothing_wrong = (refl, refl, refl)
-
-pub answers_one_text : AnswersOneText
+pub runs_one_text : RunsOneText
 unfolding digits escape_byte
-answers_one_text = refl
+runs_one_text = refl
 
-pub answers_nested_lists : AnswersNestedLists
+pub runs_chain : RunsChain
 unfolding digits escape_byte
-answers_nested_lists = refl
+runs_chain = refl
 
-pub answers_empty_list : AnswersEmptyList
+pub runs_failure : RunsFailure
 unfolding digits escape_byte
-answers_empty_list = refl
+runs_failure = refl
 
-pub answers_no_document : AnswersNoDocument
-answers_no_document = refl
+pub runs_no_cross : RunsNoCross
+unfolding digits escape_byte
+runs_no_cross = refl
 
-pub answers_no_json : AnswersNoJson
-answers_no_json = refl
+pub checks_cross : ChecksCross
+unfolding digits escape_byte
+checks_cross = refl
 
-pub answers_no_command : AnswersNoCommand
-answers_no_command = refl
+pub checks_chain : ChecksChain
+unfolding digits escape_byte
+checks_chain = refl
 
-pub takes_run : TakesRun
-takes_run = refl
+pub refuses_circle : RefusesCircle
+unfolding digits escape_byte
+refuses_circle = refl
 
-pub takes_nothing_else : TakesNothingElse
-takes_nothing_else = (refl, refl, refl, refl)
+pub refuses_no_document : RefusesNoDocument
+unfolding digits escape_byte
+refuses_no_document = refl
+
+pub refuses_no_json : RefusesNoJson
+unfolding digits escape_byte
+refuses_no_json = refl
+
+pub refuses_no_command : RefusesNoCommand
+unfolding digits escape_byte
+refuses_no_command = refl
 
 pub tells_codes : TellsCodes
+unfolding digits escape_byte
 tells_codes = refl
 
 pub tells_lines : TellsLines
+unfolding digits escape_byte
 tells_lines = refl
+
+pub refuses_depth : RefusesDepth
+unfolding digits escape_byte
+refuses_depth = (refl, refl)
+
+pub takes_commands : TakesCommands
+takes_commands = (refl, refl)
+
+pub takes_nothing_else : TakesNothingElse
+takes_nothing_else = (refl, refl, refl, refl)

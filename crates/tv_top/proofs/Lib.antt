@@ -1,5 +1,4 @@
-pub mod Looks
-pub mod Mappings
-pub mod Counting
-pub mod Upper
+pub mod Bytes
+pub mod Plainly
+pub mod Given
 mod Computed

@@ -1,7 +1,8 @@
 -- The command that a `Command` stands for.
 use Rattle.tv_top.specs.Words as spec
 use Rattle.tv_top.specs.declared.words.Command.{Command}
-use Rattle.tv_top.specs.declared.words.Command.TheVariants.{Run}
+use Rattle.tv_top.specs.declared.words.Command.TheVariants.{Run, Check}
 
 abbrev pub command_view : Command → spec.Command
 command_view Run = spec.run
+command_view Check = spec.check

@@ -4,8 +4,11 @@ use Rattle.tv_value.specs.Values.{Text}
 use Rattle.tv_io.specs.Rising.{HasRisen}
 use Rattle.tv_io.specs.SentOf.{IsSentOf, IsCutShort}
 use Rattle.tv_top.specs.Answers.{Answer, printed, refused}
+use Rattle.tv_top.specs.Lines.{fault_line}
+use Rattle.tv_top.specs.Asked.{refusal_status, refusal_line}
+use Rattle.tv_top.specs.declared.refusal.Refusal.{Refusal}
 use Rattle.tv_top.specs.declared.status.Status.{Status}
-use Rattle.tv_top.specs.declared.status.Status.TheVariants.{Done, Usage, ReadFault, TooLong, NotJson, NotBuilt, WriteFault, NoMemory}
+use Rattle.tv_top.specs.declared.status.Status.TheVariants.{Done, Usage, ReadFault, TooLong, NotJson, Form, Check, NotBuilt, WriteFault, NoMemory}
 
 -- bytes that a source or a sink may tell
 abbrev pub Told : Type 0
@@ -41,29 +44,16 @@ OfDocument s P = (bytes : List ℕ) → s.left ≡ Some bytes → P bytes
 abbrev pub IsAnswer : (List ℕ → Answer) → Source → Text → Type 0
 IsAnswer answer s text = OfDocument s (λ bytes. (answer bytes ≡ printed text) × (s.left_after ≡ Some []))
 
--- this refusal is the answer
+-- this refusal is the answer, whatever its line
+abbrev pub IsRefused : (List ℕ → Answer) → Status → List ℕ → Type 0
+IsRefused answer status bytes = (line : Text) × (answer bytes ≡ refused status line)
+
 abbrev pub IsRefusal : (List ℕ → Answer) → Source → Status → Type 0
-IsRefusal answer s status = OfDocument s (λ bytes. answer bytes ≡ refused status)
+IsRefusal answer s status = OfDocument s (IsRefused answer status)
 
 -- the source was read to its end, and this refusal is the answer
 abbrev pub IsReadRefusal : (List ℕ → Answer) → Source → Status → Type 0
-IsReadRefusal answer s status = OfDocument s (λ bytes. (answer bytes ≡ refused status) × (s.left_after ≡ Some []))
-
--- why a run came to an end without a text to print
-abbrev pub RefusalCause : (List ℕ → Answer) → Source → Status → Type 0
-RefusalCause answer s Done = ⊥
-RefusalCause answer s Usage = IsRefusal answer s Usage
-RefusalCause answer s ReadFault = ReadFailed s
-RefusalCause answer s TooLong = IsRefusal answer s TooLong
-RefusalCause answer s NotJson = IsReadRefusal answer s NotJson
-RefusalCause answer s NotBuilt = IsReadRefusal answer s NotBuilt
-RefusalCause answer s WriteFault = ⊥
-RefusalCause answer s NoMemory = Unit {0}
-
--- a text to print is the answer, and a refusal has its cause
-abbrev pub IsAnswered : (List ℕ → Answer) → Source → Result Text Status → Type 0
-IsAnswered answer s (Ok text) = IsAnswer answer s text
-IsAnswered answer s (Err status) = RefusalCause answer s status
+IsReadRefusal answer s status = OfDocument s (λ bytes. IsRefused answer status bytes × (s.left_after ≡ Some []))
 
 -- why a call ended with this status
 abbrev pub Cause : (List ℕ → Answer) → Source → Sink → Status → Type 0
@@ -74,22 +64,64 @@ Cause answer s out Usage = IsRefusal answer s Usage
 Cause answer s out ReadFault = ReadFailed s
 Cause answer s out TooLong = IsRefusal answer s TooLong
 Cause answer s out NotJson = IsReadRefusal answer s NotJson
+Cause answer s out Form = IsReadRefusal answer s Form
+Cause answer s out Check = IsReadRefusal answer s Check
 Cause answer s out NotBuilt = IsReadRefusal answer s NotBuilt
 -- the output counted a fault; the document was read to its end, and a beginning of its answer was written, not the whole
 Cause answer s out WriteFault = WriteFailed out × OfDocument s (λ bytes. (text : Text) × (answer bytes ≡ printed text) × (s.left_after ≡ Some []) × IsCutShort out.sent out.sent_after text)
 -- want of memory alone is free
 Cause answer s out NoMemory = Unit {0}
 
+-- why a call came to an end without a text to print
+abbrev pub RefusalCause : (List ℕ → Answer) → Source → Status → Type 0
+RefusalCause answer s Done = ⊥
+RefusalCause answer s Usage = IsRefusal answer s Usage
+RefusalCause answer s ReadFault = ReadFailed s
+RefusalCause answer s TooLong = IsRefusal answer s TooLong
+RefusalCause answer s NotJson = IsReadRefusal answer s NotJson
+RefusalCause answer s Form = IsReadRefusal answer s Form
+RefusalCause answer s Check = IsReadRefusal answer s Check
+RefusalCause answer s NotBuilt = IsReadRefusal answer s NotBuilt
+RefusalCause answer s WriteFault = ⊥
+RefusalCause answer s NoMemory = Unit {0}
+
 -- the status that an answer asks for
 abbrev pub status_of : Answer → Status
 status_of (printed text) = Done
-status_of (refused status) = status
+status_of (refused status line) = status
 
 -- where neither the source nor the output counted a fault, the status is that of the answer, or memory was wanting
 abbrev pub IsComplete : (List ℕ → Answer) → Source → Sink → Status → Type 0
 IsComplete answer s out status =
     OfDocument s (λ bytes. (ReadFailed s → ⊥) → (WriteFailed out → ⊥) → (status ≡ status_of (answer bytes)) ⊎ (status ≡ NoMemory))
 
+-- the line of the answer to some bytes, and to those that the source had, where it tells them
+abbrev pub IsAnswersLine : (List ℕ → Answer) → Source → Status → Text → Type 0
+IsAnswersLine answer s status line =
+    ((bytes : List ℕ) × (answer bytes ≡ refused status line)) × OfDocument s (λ bytes. answer bytes ≡ refused status line)
+
+-- the line of a status: for a fault of the form or of the check that of the answer, else the one that the status always has
+abbrev pub IsLine : (List ℕ → Answer) → Source → Status → Text → Type 0
+IsLine answer s Done line = ⊥
+IsLine answer s Usage line = line ≡ fault_line Usage
+IsLine answer s ReadFault line = line ≡ fault_line ReadFault
+IsLine answer s TooLong line = line ≡ fault_line TooLong
+IsLine answer s NotJson line = line ≡ fault_line NotJson
+IsLine answer s Form line = IsAnswersLine answer s Form line
+IsLine answer s Check line = IsAnswersLine answer s Check line
+IsLine answer s NotBuilt line = line ≡ fault_line NotBuilt
+IsLine answer s WriteFault line = line ≡ fault_line WriteFault
+IsLine answer s NoMemory line = line ≡ fault_line NoMemory
+
+-- a text to print is the answer, and a refusal has its cause and its line
+abbrev pub IsAnswered : (List ℕ → Answer) → Source → Result Text Refusal → Type 0
+IsAnswered answer s (Ok text) = IsAnswer answer s text
+IsAnswered answer s (Err r) = RefusalCause answer s (refusal_status r) × IsLine answer s (refusal_status r) (refusal_line r)
+
 -- the line was written whole, or its sink counted a fault and a beginning of it was written, not the whole
 abbrev pub IsReported : Sink → Text → Type 0
 IsReported err line = IsSentOf err.sent err.sent_after line ⊎ (WriteFailed err × IsCutShort err.sent err.sent_after line)
+
+-- the status's line was reported
+abbrev pub IsSaid : (List ℕ → Answer) → Source → Sink → Status → Type 0
+IsSaid answer s err status = (line : Text) × IsLine answer s status line × IsReported err line

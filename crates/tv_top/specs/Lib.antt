@@ -1,13 +1,7 @@
 pub mod Words
-pub mod Objects
-pub mod Narrow
-pub mod NarrowViews
-pub mod Meaning
-pub mod Results
-pub mod Answers
 pub mod Lines
-pub mod Headline
+pub mod Answers
 pub mod Asked
-pub mod Local
+pub mod Headline
 pub mod CommandViews
 pub mod Worked

@@ -1,148 +1,115 @@
--- Worked examples: what each definition comes to on small documents, bytes and words.
-use Rattle.std.specs.Prelude.{◌≡◌, ℕ, List, [], ◌∷◌, map, codes, Some, None}
-use Rattle.serde_json.specs.Data.{Data, unsigned, number, string, array, object, Items, no_items, item}
-use Rattle.tv_value.specs.Nested.{trees_of}
-use Rattle.tv_value.specs.Values.{Text, Name, Value, text_value, list_value}
-use Rattle.tv_value.specs.Printed.{members}
-use Rattle.tv_gate.specs.Outcomes.{good, bad, Giving}
-use Rattle.tv_top.specs.Local.{local_gives, local_knows}
-use Rattle.tv_top.specs.Narrow.{Narrow, narrow}
-use Rattle.tv_top.specs.Meaning.{mapped, narrow_totals}
-use Rattle.tv_top.specs.Words.{command_of, run}
-use Rattle.tv_top.specs.Answers.{printed, refused, answer_to_json, answer_to}
+-- Worked examples: what each definition comes to on small documents and words.
+use Rattle.std.specs.Prelude.{◌≡◌, List, [], ◌∷◌, map, codes, Some, None}
+use Rattle.serde_json.specs.Data.{Data, object, no_members}
+use Rattle.tv_value.specs.Values.{Text, Value, text_value}
+use Rattle.tv_flow.specs.Flows.{Document, input, merge}
+use Rattle.tv_json.specs.Documents.{document_json}
+use Rattle.tv_local.specs.LocalGives.{local_gives, local_knows}
+use Rattle.tv_model.specs.Writing.{a, asks, b, document, from_input, from_step, out, takes, takes_list, words, x, y}
+use Rattle.tv_top.specs.Words.{Command, command_of, run, check}
+use Rattle.tv_top.specs.Answers.{Answer, printed, refused, answer_to_json, answer_to}
 use Rattle.tv_top.specs.Lines.{fault_line, code_of}
 use Rattle.tv_top.specs.declared.status.Status.{Status}
-use Rattle.tv_top.specs.declared.status.Status.TheVariants.{Done, Usage, ReadFault, TooLong, NotJson, NotBuilt, WriteFault, NoMemory}
+use Rattle.tv_top.specs.declared.status.Status.TheVariants.{Done, Usage, ReadFault, TooLong, NotJson, Form, Check, NotBuilt, WriteFault, NoMemory}
 
--- an object of these members, in byte order of keys
-abbrev pub object_of : List (Text × Data) → Data
-object_of ms = object (members ms)
+-- ---- documents
 
-abbrev pub items_of : List Data → Items
-items_of [] = no_items
-items_of (d ∷ ds) = item d (items_of ds)
+-- capitals of the input x
+abbrev pub one_step : Value → Document
+one_step v = document ((x, 0) ∷ []) ((codes "u", asks (codes "upper") (takes a (from_input x) ∷ [])) ∷ []) (out (codes "u")) ((x, v) ∷ [])
 
-abbrev pub array_of : List Data → Data
-array_of ds = array (items_of ds)
+-- capitals, then small letters
+abbrev pub two_steps : Document
+two_steps =
+    document
+    ((x, 1) ∷ [])
+    ((codes "p", asks (codes "upper") (takes a (from_input x) ∷ [])) ∷ (codes "q", asks (codes "lower") (takes a (from_step (codes "p")) ∷ [])) ∷ [])
+    (out (codes "q"))
+    ((x, words (codes "a" ∷ codes "b" ∷ [])) ∷ [])
 
-abbrev pub t : Text → Value
-t s = text_value s
+-- the second of three texts fails, and what it feeds bounces
+abbrev pub one_failure : Document
+one_failure =
+    document
+    ((x, 1) ∷ [])
+    ((codes "f", asks (codes "fail_if") (takes a (from_input x) ∷ [])) ∷ (codes "u", asks (codes "upper") (takes a (from_step (codes "f")) ∷ [])) ∷ [])
+    (out (codes "u"))
+    ((x, words (codes "no" ∷ codes "true" ∷ codes "no" ∷ [])) ∷ [])
 
-abbrev pub l : List Value → Value
-l vs = list_value (trees_of vs)
+-- two lists, each text with each
+abbrev pub two_ports : Document
+two_ports =
+    document
+    ((x, 1) ∷ (y, 1) ∷ [])
+    ((codes "c", asks (codes "concat") (takes a (from_input x) ∷ takes b (from_input y) ∷ [])) ∷ [])
+    (out (codes "c"))
+    ((x, words (codes "a" ∷ codes "b" ∷ [])) ∷ (y, words (codes "1" ∷ codes "2" ∷ [])) ∷ [])
 
--- the step `u`, with the depth of its port and its service
-abbrev pub step_json : ℕ → Name → Data
-step_json depth service =
-    object_of ((codes "activities", array_of (object_of ((codes "service", string service) ∷ []) ∷ [])) ∷ (codes "inputs", object_of ((codes "a", object_of ((codes "depth", number (unsigned depth)) ∷ (codes "from", object_of ((codes "input", string (codes "x")) ∷ [])) ∷ [])) ∷ [])) ∷ (codes "outputs", object_of ((codes "o", number (unsigned 0)) ∷ [])) ∷ [])
+-- each step is fed by the other
+abbrev pub circle : Document
+circle =
+    document
+    ((x, 0) ∷ [])
+    ((codes "p", asks (codes "upper") (takes a (from_step (codes "q")) ∷ [])) ∷ (codes "q", asks (codes "lower") (takes a (from_step (codes "p")) ∷ [])) ∷ [])
+    (out (codes "q"))
+    ((x, text_value (codes "a")) ∷ [])
 
--- the flow `m`, with the depth of its input and its steps
-abbrev pub flow_json : ℕ → List (Text × Data) → Data
-flow_json depth steps =
-    object_of ((codes "inputs", object_of ((codes "x", number (unsigned depth)) ∷ [])) ∷ (codes "outputs", object_of ((codes "out", object_of ((codes "port", string (codes "o")) ∷ (codes "step", string (codes "u")) ∷ [])) ∷ [])) ∷ (codes "steps", object_of steps) ∷ [])
+-- ---- answers
 
--- the document of a flow, of a format, and the value of its input
-abbrev pub format_json : ℕ → Data → Data → Data
-format_json format flow value =
-    object_of ((codes "flows", object_of ((codes "m", flow) ∷ [])) ∷ (codes "inputs", object_of ((codes "x", value) ∷ [])) ∷ (codes "main", string (codes "m")) ∷ (codes "taverna", number (unsigned format)) ∷ [])
+abbrev pub answer : Command → Document → Answer
+answer command d = answer_to_json local_gives local_knows command (Some (document_json d))
 
--- the document of one step with this service over a value of this depth
-abbrev pub document_json : Name → ℕ → Data → Data
-document_json service depth value = format_json 1 (flow_json depth ((codes "u", step_json 0 service) ∷ [])) value
+abbrev pub RunsOneText : Type 0
+RunsOneText = answer run (one_step (text_value (codes "a"))) ≡ printed (codes "{\"outputs\":{\"out\":\"A\"},\"totals\":{\"attempts\":1,\"bounced\":0,\"failed\":0,\"jobs\":1}}\n")
 
-abbrev pub upper : Name
-upper = codes "upper"
+abbrev pub RunsChain : Type 0
+RunsChain = answer run two_steps ≡ printed (codes "{\"outputs\":{\"out\":[\"a\",\"b\"]},\"totals\":{\"attempts\":4,\"bounced\":0,\"failed\":0,\"jobs\":4}}\n")
 
-abbrev pub nested_json : Data
-nested_json = array_of (array_of (string (codes "a") ∷ []) ∷ array_of [] ∷ array_of (string (codes "b") ∷ string (codes "c") ∷ []) ∷ [])
+abbrev pub RunsFailure : Type 0
+RunsFailure =
+    answer run one_failure
+    ≡ printed (codes "{\"outputs\":{\"out\":[\"NO\",{\"error\":{\"at\":\"u[1]\",\"depth\":0,\"from\":[\"f[1]\"],\"why\":\"bounced\"}},\"NO\"]},\"totals\":{\"attempts\":5,\"bounced\":1,\"failed\":1,\"jobs\":6}}\n")
 
-abbrev pub nested_value : Value
-nested_value = l (l (t (codes "a") ∷ []) ∷ l [] ∷ l (t (codes "b") ∷ t (codes "c") ∷ []) ∷ [])
+abbrev pub RunsNoCross : Type 0
+RunsNoCross = answer run two_ports ≡ refused NotBuilt (codes "taverna: not built\n")
 
-abbrev pub narrow_to : Value → Narrow
-narrow_to v = record { service = upper; value = v; output = codes "out" }
+abbrev pub ChecksCross : Type 0
+ChecksCross = answer check two_ports ≡ printed (codes "in m c a 0 1\nin m c b 0 1\nout m c o 0 2\nflow m out 2\n")
 
--- documents of one step are read
-abbrev pub ReadsOneText : Type 0
-ReadsOneText = narrow local_knows (document_json upper 0 (string (codes "a"))) ≡ Some (narrow_to (t (codes "a")))
+abbrev pub ChecksChain : Type 0
+ChecksChain = answer check two_steps ≡ printed (codes "in m p a 0 1\nout m p o 0 1\nin m q a 0 1\nout m q o 0 1\nflow m out 1\n")
 
-abbrev pub ReadsNestedLists : Type 0
-ReadsNestedLists = narrow local_knows (document_json upper 2 nested_json) ≡ Some (narrow_to nested_value)
+-- both commands refuse it, and in this order: the form, the check
+abbrev pub RefusesDepth : Type 0
+RefusesDepth =
+    (answer run (one_step (words (codes "a" ∷ []))) ≡ refused Check (codes "taverna: check fault 13 input depth at input x: 0 and 1\n"))
+    × (answer check (one_step (words (codes "a" ∷ []))) ≡ refused Check (codes "taverna: check fault 13 input depth at input x: 0 and 1\n"))
 
-abbrev pub ReadsEmptyList : Type 0
-ReadsEmptyList = narrow local_knows (document_json upper 1 (array_of [])) ≡ Some (narrow_to (l []))
+abbrev pub RefusesCircle : Type 0
+RefusesCircle = answer run circle ≡ refused Check (codes "taverna: check fault 5 link cycle at flow m step p\n")
 
--- what isn't such a document: another depth, service or format, two steps, a port of depth 1
-abbrev pub RefusesOtherDepth : Type 0
-RefusesOtherDepth = narrow local_knows (document_json upper 1 nested_json) ≡ None
+abbrev pub RefusesNoDocument : Type 0
+RefusesNoDocument = answer_to_json local_gives local_knows check (Some (object no_members)) ≡ refused Form (codes "taverna: form fault 1 missing at [\"taverna\"]\n")
 
-abbrev pub RefusesUnknownService : Type 0
-RefusesUnknownService = narrow local_knows (document_json (codes "lower") 0 (string (codes "a"))) ≡ None
+abbrev pub RefusesNoJson : Type 0
+RefusesNoJson = answer_to_json local_gives local_knows run None ≡ refused NotJson (codes "taverna: not JSON\n")
 
-abbrev pub RefusesOtherFormat : Type 0
-RefusesOtherFormat = narrow local_knows (format_json 2 (flow_json 0 ((codes "u", step_json 0 upper) ∷ [])) (string (codes "a"))) ≡ None
+abbrev pub RefusesNoCommand : Type 0
+RefusesNoCommand = answer_to local_gives local_knows None [] ≡ refused Usage (fault_line Usage)
 
-abbrev pub RefusesTwoSteps : Type 0
-RefusesTwoSteps = narrow local_knows (format_json 1 (flow_json 0 ((codes "u", step_json 0 upper) ∷ (codes "v", step_json 0 upper) ∷ [])) (string (codes "a"))) ≡ None
+-- ---- words and statuses
 
-abbrev pub RefusesDeepPort : Type 0
-RefusesDeepPort = narrow local_knows (format_json 1 (flow_json 0 ((codes "u", step_json 1 upper) ∷ [])) (string (codes "a"))) ≡ None
-
--- the service stands in the place of each text, and there is a job and an attempt for each
-abbrev pub MapsNestedLists : Type 0
-MapsNestedLists = mapped local_gives upper nested_value ≡ Some (l (l (t (codes "A") ∷ []) ∷ l [] ∷ l (t (codes "B") ∷ t (codes "C") ∷ []) ∷ []))
-
-abbrev pub CountsTexts : Type 0
-CountsTexts = narrow_totals (narrow_to nested_value) ≡ record { attempts = 3; bounced = 0; failed = 0; jobs = 3 }
-
--- nothing stands for a value where one outcome isn't right: a bad one, one of two values, one that is a list
-abbrev pub refusing : Giving
-refusing service inputs attempt = bad (codes "no")
-
-abbrev pub doubling : Giving
-doubling service inputs attempt = good (t (codes "a") ∷ t (codes "a") ∷ [])
-
-abbrev pub listing : Giving
-listing service inputs attempt = good (l [] ∷ [])
-
-abbrev pub MapsNothingWrong : Type 0
-MapsNothingWrong =
-    (mapped refusing upper nested_value ≡ None) × (mapped doubling upper nested_value ≡ None) × (mapped listing upper nested_value ≡ None)
-
--- the answers to the documents
-abbrev pub AnswersOneText : Type 0
-AnswersOneText = answer_to_json local_gives local_knows (Some (document_json upper 0 (string (codes "a")))) ≡ printed (codes "{\"outputs\":{\"out\":\"A\"},\"totals\":{\"attempts\":1,\"bounced\":0,\"failed\":0,\"jobs\":1}}\n")
-
-abbrev pub AnswersNestedLists : Type 0
-AnswersNestedLists = answer_to_json local_gives local_knows (Some (document_json upper 2 nested_json)) ≡ printed (codes "{\"outputs\":{\"out\":[[\"A\"],[],[\"B\",\"C\"]]},\"totals\":{\"attempts\":3,\"bounced\":0,\"failed\":0,\"jobs\":3}}\n")
-
-abbrev pub AnswersEmptyList : Type 0
-AnswersEmptyList = answer_to_json local_gives local_knows (Some (document_json upper 1 (array_of []))) ≡ printed (codes "{\"outputs\":{\"out\":[]},\"totals\":{\"attempts\":0,\"bounced\":0,\"failed\":0,\"jobs\":0}}\n")
-
-abbrev pub AnswersNoDocument : Type 0
-AnswersNoDocument = answer_to_json local_gives local_knows (Some (array_of [])) ≡ refused NotBuilt
-
-abbrev pub AnswersNoJson : Type 0
-AnswersNoJson = answer_to_json local_gives local_knows None ≡ refused NotJson
-
-abbrev pub AnswersNoCommand : Type 0
-AnswersNoCommand = answer_to local_gives local_knows None [] ≡ refused Usage
-
--- the words
-abbrev pub TakesRun : Type 0
-TakesRun = command_of (codes "run" ∷ []) ≡ Some run
+abbrev pub TakesCommands : Type 0
+TakesCommands = (command_of (codes "run" ∷ []) ≡ Some run) × (command_of (codes "check" ∷ []) ≡ Some check)
 
 abbrev pub TakesNothingElse : Type 0
 TakesNothingElse =
-    (command_of [] ≡ None) × (command_of (codes "Run" ∷ []) ≡ None) × (command_of (codes "check" ∷ []) ≡ None) × (command_of (codes "run" ∷ codes "run" ∷ []) ≡ None)
-
--- the lines and codes of the statuses
-abbrev pub statuses : List Status
-statuses = Done ∷ Usage ∷ ReadFault ∷ TooLong ∷ NotJson ∷ NotBuilt ∷ WriteFault ∷ NoMemory ∷ []
+    (command_of [] ≡ None) × (command_of (codes "Run" ∷ []) ≡ None) × (command_of (codes "trace" ∷ []) ≡ None) × (command_of (codes "run" ∷ codes "check" ∷ []) ≡ None)
 
 abbrev pub TellsCodes : Type 0
-TellsCodes = map code_of statuses ≡ 0 ∷ 2 ∷ 3 ∷ 4 ∷ 5 ∷ 11 ∷ 9 ∷ 10 ∷ []
+TellsCodes =
+    map code_of (Done ∷ Usage ∷ ReadFault ∷ TooLong ∷ NotJson ∷ Form ∷ Check ∷ WriteFault ∷ NoMemory ∷ NotBuilt ∷ []) ≡ 0 ∷ 2 ∷ 3 ∷ 4 ∷ 5 ∷ 6 ∷ 7 ∷ 9 ∷ 10 ∷ 11 ∷ []
 
 abbrev pub TellsLines : Type 0
 TellsLines =
-    map fault_line (Done ∷ ReadFault ∷ TooLong ∷ NotJson ∷ NotBuilt ∷ WriteFault ∷ NoMemory ∷ []) ≡ [] ∷ codes "taverna: read fault\n" ∷ codes "taverna: input longer than 16777216 bytes\n" ∷ codes "taverna: not JSON\n" ∷ codes "taverna: not built\n" ∷ codes "taverna: write fault\n" ∷ codes "taverna: want of memory\n" ∷ []
+    map fault_line (ReadFault ∷ TooLong ∷ NotJson ∷ NotBuilt ∷ WriteFault ∷ NoMemory ∷ []) ≡ codes "taverna: read fault\n" ∷ codes "taverna: input longer than 16777216 bytes\n" ∷ codes "taverna: not JSON\n" ∷ codes "taverna: not built\n" ∷ codes "taverna: write fault\n" ∷ codes "taverna: want of memory\n" ∷ []

@@ -1,81 +1,134 @@
-//! From words and bytes to the text to print, or the refusal.
-ghost use Rattle.std.specs.Prelude.{◌≡◌, ◌≤◌, ◌^◌, length, IfOk};
+//! From bytes to the text to print, or the refusal.
+ghost use Rattle.std.specs.Prelude.{◌≡◌, ◌≤◌, ◌⊎◌, ◌^◌, length, IfOk, true, is_ok};
 ghost use Rattle.serde_json.specs.View.{view as json_view};
-ghost use Rattle.tv_top.specs.Narrow.{narrow};
-ghost use Rattle.tv_top.specs.Meaning.{mapped};
-ghost use Rattle.tv_top.specs.Answers.{run_answer, answer_to_json, answer_to_narrow, answer_to_output, byte_limit};
-ghost use Rattle.tv_top.specs.Asked.{GivesAnswer, narrow_view, answer_of_line};
+ghost use Rattle.tv_flow.specs.DocumentViews.{document_view};
+ghost use Rattle.tv_flow.specs.Forms.{form_of};
+ghost use Rattle.tv_check.specs.FaultViews.{fault_view};
+ghost use Rattle.tv_check.specs.Passes.{checked};
+ghost use Rattle.tv_check.specs.RunViews.{run_view};
+ghost use Rattle.tv_report.specs.CheckLines.{check_text};
+ghost use Rattle.tv_report.specs.FormLines.{is_form, line_of};
+ghost use Rattle.tv_top.specs.Answers.{answer_of_run, answer_to_accepted, answer_to_checked, answer_to_read, answer_to_bytes, byte_limit};
+ghost use Rattle.tv_top.specs.Asked.{GivesAnswer};
+ghost use Rattle.tv_top.specs.CommandViews.{command_view};
+ghost use Rattle.tv_model.specs.Meanings.{meaning};
+ghost use Rattle.tv_model.specs.Results.{result_line};
+ghost use Rattle.tv_plain.specs.Chains.{is_chain};
 
-use crate::reading::{Narrow, json_of, read_narrow};
-use crate::results::{Totals, count_leaves, result_line};
-use crate::running::mapped;
+use crate::reading::json_of;
+use crate::refusal::Refusal;
 use crate::status::Status;
+use crate::words::Command;
 use serde_json::Value as Json;
 use std::alloc::Global;
+use tv_check::{CheckFault, CheckRefused, CheckedRun, check};
+use tv_flow::{Document, FormFault, read_document};
 use tv_gate::Asker;
+use tv_plain::{is_chain, run_chain};
+use tv_report::{check_line, depth_lines, form_line, result_line};
 use tv_value::{NoMemory, Text};
 
-/// The answer of `run` to a document of at most 2^24 bytes: the result line, or the refusal.
-pub(crate) fn run_answer<A: Asker>(
+/// The answer of a command to a document of at most 2^24 bytes.
+pub(crate) fn answer_to_bytes<A: Asker>(
     alloc: Global,
+    command: Command,
     bytes: Vec<u8>,
     asker: &mut A,
-) -> Result<Text, Status>
+) -> Result<Text, Refusal>
     requires { length bytes.items ≤ byte_limit }
-    ensures { GivesAnswer result (run_answer A.Services.gives A.Services.knows bytes.items) }
+    ensures { GivesAnswer result (answer_to_bytes A.Services.gives A.Services.knows (command_view command) bytes.items) }
 {
     let json = json_of(alloc, &bytes)?;
     drop(bytes);
-    json_answer(alloc, json, asker)
+    answer_to_json(alloc, command, json, asker)
 }
 
-fn json_answer<A: Asker>(alloc: Global, json: Json, asker: &mut A) -> Result<Text, Status>
-    ensures { GivesAnswer result (answer_to_narrow A.Services.gives (narrow A.Services.knows (json_view json))) }
-{
-    match read_narrow::<A::Services>(alloc, &json) {
-        Ok(Some(narrow)) => {
-            drop(json);
-            narrow_answer(alloc, narrow, asker)
-        }
-        Ok(None) => Err(Status::NotBuilt),
-        Err(NoMemory) => Err(Status::NoMemory),
-    }
-}
-
-fn narrow_answer<A: Asker>(alloc: Global, narrow: Narrow, asker: &mut A) -> Result<Text, Status>
-    ensures { let n = narrow_view narrow in GivesAnswer result (answer_to_output n (mapped A.Services.gives n.service n.value)) }
-{
-    match narrow_line(alloc, narrow, asker) {
-        Ok(Some(line)) => Ok(line),
-        Ok(None) => Err(Status::NotBuilt),
-        Err(NoMemory) => Err(Status::NoMemory),
-    }
-}
-
-/// The result line of a narrow document, or `None` where an outcome isn't right.
-fn narrow_line<A: Asker>(
+fn answer_to_json<A: Asker>(
     alloc: Global,
-    narrow: Narrow,
+    command: Command,
+    json: Json,
     asker: &mut A,
-) -> Result<Option<Text>, NoMemory>
-    ensures { let n = narrow_view narrow in IfOk result (λ o. answer_of_line o ≡ answer_to_output n (mapped A.Services.gives n.service n.value)) }
+) -> Result<Text, Refusal>
+    ensures { GivesAnswer result (answer_to_read A.Services.gives A.Services.knows (command_view command) (form_of (json_view json))) }
 {
-    let Narrow {
-        service,
-        value,
-        output,
-    } = narrow;
-    let Some(jobs) = count_leaves(&value) else {
-        return Err(NoMemory);
-    };
-    let totals = Totals {
-        attempts: jobs,
-        bounced: 0,
-        failed: 0,
-        jobs,
-    };
-    match mapped(alloc, value, service.as_str(), asker)? {
-        Some(result) => Ok(Some(result_line(alloc, output.as_str(), &result, totals)?)),
-        None => Ok(None),
+    match read_document(alloc, &json) {
+        Ok(document) => {
+            drop(json);
+            answer_to_document(alloc, command, document, asker)
+        }
+        Err(fault) => Err(form_refusal(alloc, &fault)),
     }
+}
+
+/// The line of a fault of form.
+fn form_refusal(alloc: Global, fault: &FormFault) -> Refusal
+    ensures { ((is_form fault.now ≡ true) × (result ≡ Refusal.Form (line_of fault.now))) ⊎ (result ≡ Refusal.Plain Status.NoMemory) }
+{
+    match fault {
+        FormFault::Form { .. } => match form_line(alloc, fault) {
+            Ok(line) => Refusal::Form(line),
+            Err(NoMemory) => Refusal::Plain(Status::NoMemory),
+        },
+        FormFault::NoMemory => Refusal::Plain(Status::NoMemory),
+    }
+}
+
+fn answer_to_document<A: Asker>(
+    alloc: Global,
+    command: Command,
+    document: Document,
+    asker: &mut A,
+) -> Result<Text, Refusal>
+    ensures { GivesAnswer result (answer_to_checked A.Services.gives A.Services.knows (command_view command) (document_view document) (checked A.Services.knows (document_view document))) }
+{
+    match check::<A::Services>(alloc, document) {
+        Ok(run) => answer_to_accepted(alloc, command, run, asker),
+        Err(CheckRefused::Check(fault)) => Err(check_refusal(alloc, &fault)),
+        Err(CheckRefused::NoMemory) => Err(Refusal::Plain(Status::NoMemory)),
+    }
+}
+
+/// The line of a fault of the check.
+fn check_refusal(alloc: Global, fault: &CheckFault) -> Refusal
+    ensures { (result ≡ Refusal.Check (check_text (fault_view fault.now))) ⊎ (result ≡ Refusal.Plain Status.NoMemory) }
+{
+    match check_line(alloc, fault) {
+        Ok(line) => Refusal::Check(line),
+        Err(NoMemory) => Refusal::Plain(Status::NoMemory),
+    }
+}
+
+fn answer_to_accepted<A: Asker>(
+    alloc: Global,
+    command: Command,
+    run: CheckedRun,
+    asker: &mut A,
+) -> Result<Text, Refusal>
+    ensures { GivesAnswer result (answer_to_accepted A.Services.gives A.Services.knows (command_view command) (run_view run)) }
+{
+    match command {
+        Command::Run => answer_of_run(alloc, run, asker),
+        Command::Check => Ok(depth_lines(alloc, &run)?),
+    }
+}
+
+fn answer_of_run<A: Asker>(alloc: Global, run: CheckedRun, asker: &mut A) -> Result<Text, Refusal>
+    ensures { GivesAnswer result (answer_of_run A.Services.gives A.Services.knows (run_view run)) }
+{
+    if is_chain(run.document()) {
+        Ok(line_of_run(alloc, run, asker)?)
+    } else {
+        Err(Refusal::Plain(Status::NotBuilt))
+    }
+}
+
+/// The result line of a chain.
+fn line_of_run<A: Asker>(alloc: Global, run: CheckedRun, asker: &mut A) -> Result<Text, NoMemory>
+    requires { is_chain (run_view run) ≡ true }
+    ensures { IfOk result (λ t. t ≡ result_line (meaning A.Services.gives (run_view run))) }
+{
+    let ran = run_chain(alloc, &run, asker)?;
+    drop(run);
+    let line = result_line(alloc, &ran.outputs, &ran.totals)?;
+    Ok(line)
 }

@@ -1,42 +1,31 @@
 //! The definitions computed on worked examples: each example is the clause of a function that does nothing, so a definition
 //! that comes to something else is refused.
-ghost use Rattle.tv_top.specs.Worked.{ReadsOneText, ReadsNestedLists, ReadsEmptyList, RefusesOtherDepth, RefusesUnknownService, RefusesOtherFormat, RefusesTwoSteps, RefusesDeepPort};
-ghost use Rattle.tv_top.specs.Worked.{MapsNestedLists, CountsTexts, MapsNothingWrong};
-ghost use Rattle.tv_top.specs.Worked.{AnswersOneText, AnswersNestedLists, AnswersEmptyList, AnswersNoDocument, AnswersNoJson, AnswersNoCommand};
-ghost use Rattle.tv_top.specs.Worked.{TakesRun, TakesNothingElse, TellsCodes, TellsLines};
+ghost use Rattle.tv_top.specs.Worked.{RunsOneText, RunsChain, RunsFailure, RunsNoCross, ChecksCross, ChecksChain};
+ghost use Rattle.tv_top.specs.Worked.{RefusesDepth, RefusesCircle, RefusesNoDocument, RefusesNoJson, RefusesNoCommand};
+ghost use Rattle.tv_top.specs.Worked.{TakesCommands, TakesNothingElse, TellsCodes, TellsLines};
 
-/// Which JSON trees are documents of one step.
-pub fn worked_documents()
-    ensures one { ReadsOneText }
-    ensures nested { ReadsNestedLists }
-    ensures empty { ReadsEmptyList }
-    ensures depth { RefusesOtherDepth }
-    ensures service { RefusesUnknownService }
-    ensures format { RefusesOtherFormat }
-    ensures steps { RefusesTwoSteps }
-    ensures port { RefusesDeepPort }
+/// What is printed for documents, byte by byte.
+pub fn worked_texts()
+    ensures one { RunsOneText }
+    ensures chain { RunsChain }
+    ensures failure { RunsFailure }
+    ensures depths { ChecksCross }
+    ensures chain_depths { ChecksChain }
 {}
 
-/// What such a document means, and its totals.
-pub fn worked_meanings()
-    ensures nested { MapsNestedLists }
-    ensures totals { CountsTexts }
-    ensures wrong { MapsNothingWrong }
-{}
-
-/// The answers to JSON trees, the printed line byte by byte.
-pub fn worked_answers()
-    ensures one { AnswersOneText }
-    ensures nested { AnswersNestedLists }
-    ensures empty { AnswersEmptyList }
-    ensures no_document { AnswersNoDocument }
-    ensures no_json { AnswersNoJson }
-    ensures no_command { AnswersNoCommand }
+/// What is refused, with its line.
+pub fn worked_refusals()
+    ensures cross { RunsNoCross }
+    ensures depth { RefusesDepth }
+    ensures circle { RefusesCircle }
+    ensures no_document { RefusesNoDocument }
+    ensures no_json { RefusesNoJson }
+    ensures no_command { RefusesNoCommand }
 {}
 
 /// The words that give a command, and the lines and codes of the statuses.
 pub fn worked_words()
-    ensures run { TakesRun }
+    ensures commands { TakesCommands }
     ensures other { TakesNothingElse }
     ensures status_codes { TellsCodes }
     ensures lines { TellsLines }

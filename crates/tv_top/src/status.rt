@@ -14,7 +14,11 @@ pub enum Status {
     TooLong,
     /// The bytes are no JSON text in UTF-8, or it is nested more than 127 deep.
     NotJson,
-    /// The document isn't one that is built.
+    /// The JSON text isn't a document, by its form.
+    Form,
+    /// The check complains of the document.
+    Check,
+    /// The document is accepted, and isn't one that is run yet.
     NotBuilt,
     /// A write of the output failed.
     WriteFault,
@@ -23,7 +27,7 @@ pub enum Status {
 }
 
 impl Status {
-    /// The exit code: 0, 2, 3, 4, 5, 11, 9 and 10 in the order above.
+    /// The exit code: 0, 2, 3, 4, 5, 6, 7, 11, 9 and 10 in the order above.
     pub fn code(self) -> u8
         ensures { result ≡ code_of self }
     {
@@ -33,13 +37,16 @@ impl Status {
             Status::ReadFault => 3,
             Status::TooLong => 4,
             Status::NotJson => 5,
+            Status::Form => 6,
+            Status::Check => 7,
             Status::WriteFault => 9,
             Status::NoMemory => 10,
             Status::NotBuilt => 11,
         }
     }
 
-    /// The line on standard error, with its line feed; empty at `Done`.
+    /// The line on standard error, with its line feed, where it is always the same: empty at `Done`, and at `Form` and `Check`,
+    /// whose lines tell the fault.
     pub fn line(self) -> &'static str
         ensures { result.now ≡ fault_line self }
     {
@@ -50,6 +57,8 @@ impl Status {
             Status::ReadFault => "taverna: read fault\n",
             Status::TooLong => "taverna: input longer than 16777216 bytes\n",
             Status::NotJson => "taverna: not JSON\n",
+            Status::Form => "",
+            Status::Check => "",
             Status::NotBuilt => "taverna: not built\n",
             Status::WriteFault => "taverna: write fault\n",
             Status::NoMemory => "taverna: want of memory\n",

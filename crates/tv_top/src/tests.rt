@@ -1,7 +1,6 @@
-//! Whole runs over memory: worked documents, documents that aren't built, and streams that fail.
+//! Whole runs over memory: worked documents, documents that are refused, and streams that fail.
 ghost use Rattle.std.specs.Prelude.{◌<◌, IfOk};
 
-use crate::services::{LocalGate, LocalServices};
 use crate::status::Status;
 use crate::top::{taverna, taverna_alone};
 use std::alloc::Global;
@@ -10,6 +9,7 @@ use std::test::Fail;
 use std::thread::Threads;
 use tv_gate::{Asker, GateAsker, LoggedGate, Outcome};
 use tv_io::{MemorySink, MemorySource};
+use tv_local::{LocalGate, LocalServices};
 use tv_value::{Items, NoMemory, Value};
 
 /// The document of one text.
@@ -206,7 +206,7 @@ fn other_words_are_told_the_usage(rt: HostRuntime) -> Result<(), Fail> {
         &["run", "--workers", "0"],
         &["run", "--of", "out[]"],
         &["--help"],
-        &["check"],
+        &["check", ""],
         &["trace"],
         &["gen", "1"],
         &["lineage", "--of", "out[]"],
@@ -220,57 +220,349 @@ fn other_words_are_told_the_usage(rt: HostRuntime) -> Result<(), Fail> {
     Ok(())
 }
 
-// One change each of a document that is built.
+// One change each of a document that is built: the code of its status, and what is told of the fault.
 #[test]
-fn other_documents_are_not_built(rt: HostRuntime) -> Result<(), Fail> {
+fn changed_documents_end_so(rt: HostRuntime) -> Result<(), Fail> {
     let alloc = rt.alloc();
     let table = [
-        ("\"taverna\":1", "\"taverna\":2"),
-        ("\"taverna\":1", "\"taverna\":1.0"),
-        ("\"taverna\":1,", ""),
-        ("\"taverna\":1", "\"taverna\":1,\"note\":1"),
-        ("\"main\":\"m\"", "\"main\":\"n\""),
-        ("\"main\":\"m\"", "\"main\":1"),
-        ("\"flows\":{", "\"flows\":{\"n\":{\"outputs\":{}},"),
-        ("{\"x\":1}", "{\"x\":0}"),
-        ("{\"x\":1}", "{\"x\":2}"),
-        ("{\"x\":1}", "{\"x\":33}"),
-        ("{\"x\":1}", "{\"x\":-1}"),
-        ("{\"x\":1}", "{\"x\":1,\"y\":1}"),
-        ("{\"x\":1}", "{}"),
-        ("\"steps\":{", "\"steps\":{\"v\":{\"activities\":[]},"),
-        ("{\"input\":\"x\"}", "{\"input\":\"y\"}"),
-        ("{\"input\":\"x\"}", "{\"constant\":\"a\"}"),
-        ("\"depth\":0", "\"depth\":1"),
-        ("\"outputs\":{\"o\":0}", "\"outputs\":{\"o\":1}"),
-        ("\"outputs\":{\"o\":0}", "\"jobs\":1,\"outputs\":{\"o\":0}"),
-        ("\"service\":\"upper\"", "\"service\":\"lower\""),
-        ("\"service\":\"upper\"", "\"flow\":\"m\""),
-        ("[{\"service\"", "[{\"service\":\"upper\"},{\"service\""),
-        ("\"step\":\"u\"", "\"step\":\"v\""),
-        ("\"port\":\"o\"", "\"port\":\"p\""),
-        ("\"out\":", "\"o t\":"),
-        ("\"out\":", "\"\":"),
+        (
+            "\"taverna\":1",
+            "\"taverna\":2",
+            6,
+            "5 out of range at [\"taverna\"]",
+        ),
+        (
+            "\"taverna\":1",
+            "\"taverna\":1.0",
+            6,
+            "3 wrong kind at [\"taverna\"]",
+        ),
+        ("\"taverna\":1,", "", 6, "1 missing at [\"taverna\"]"),
+        (
+            "\"taverna\":1",
+            "\"taverna\":1,\"note\":1",
+            6,
+            "2 unknown at [\"note\"]",
+        ),
+        (
+            "\"main\":\"m\"",
+            "\"main\":1",
+            6,
+            "3 wrong kind at [\"main\"]",
+        ),
+        (
+            "{\"x\":1}",
+            "{\"x\":33}",
+            6,
+            "5 out of range at [\"flows\",\"m\",\"inputs\",\"x\"]",
+        ),
+        (
+            "{\"x\":1}",
+            "{\"x\":-1}",
+            6,
+            "5 out of range at [\"flows\",\"m\",\"inputs\",\"x\"]",
+        ),
+        (
+            "\"steps\":{",
+            "\"steps\":{\"v\":{\"activities\":[]},",
+            6,
+            "6 empty at [\"flows\",\"m\",\"steps\",\"v\",\"activities\"]",
+        ),
         (
             "\"out\":",
-            "\"a23456789b123456789c123456789d123456789e123456789f123456789g12345\":",
+            "\"o t\":",
+            6,
+            "4 bad name at [\"flows\",\"m\",\"outputs\",\"o t\"]",
         ),
-        ("\"x\":[", "\"y\":["),
-        ("\"a\",\"b\"", "\"a\",[\"b\"]"),
-        ("\"a\",\"b\"", "\"a\",null"),
-        ("\"a\",\"b\"", "\"a\",true"),
-        ("\"a\",\"b\"", "\"a\",{\"b\":\"b\"}"),
-        ("\"a\",\"b\"", "\"a\",1.0"),
-        ("\"a\",\"b\"", "\"a\",-0"),
-        ("\"a\",\"b\"", "\"a\",18446744073709551616"),
+        (
+            "\"out\":",
+            "\"\":",
+            6,
+            "4 bad name at [\"flows\",\"m\",\"outputs\",\"\"]",
+        ),
+        (
+            "\"a\",\"b\"",
+            "\"a\",[\"b\"]",
+            6,
+            "8 ragged at [\"inputs\",\"x\"]",
+        ),
+        (
+            "\"a\",\"b\"",
+            "\"a\",null",
+            6,
+            "7 not text at [\"inputs\",\"x\",1]",
+        ),
+        (
+            "\"a\",\"b\"",
+            "\"a\",{\"b\":\"b\"}",
+            6,
+            "7 not text at [\"inputs\",\"x\",1]",
+        ),
+        (
+            "\"a\",\"b\"",
+            "\"a\",1.0",
+            6,
+            "7 not text at [\"inputs\",\"x\",1]",
+        ),
+        (
+            "\"a\",\"b\"",
+            "\"a\",18446744073709551616",
+            6,
+            "7 not text at [\"inputs\",\"x\",1]",
+        ),
+        (
+            "\"main\":\"m\"",
+            "\"main\":\"n\"",
+            7,
+            "3 no such flow at main",
+        ),
+        (
+            "{\"input\":\"x\"}",
+            "{\"input\":\"y\"}",
+            7,
+            "1 no such port at flow m step u input a",
+        ),
+        (
+            "\"service\":\"upper\"",
+            "\"service\":\"Upper\"",
+            7,
+            "2 no such service at flow m step u activity 0",
+        ),
+        (
+            "\"service\":\"upper\"",
+            "\"flow\":\"m\"",
+            7,
+            "4 flow cycle at flow m",
+        ),
+        (
+            "\"port\":\"o\"",
+            "\"port\":\"p\"",
+            7,
+            "1 no such port at flow m output out",
+        ),
+        (
+            "{\"x\":1}",
+            "{\"x\":1,\"y\":1}",
+            7,
+            "11 input missing at input y",
+        ),
+        (
+            "\"x\":[",
+            "\"y\":[\"a\"],\"x\":[",
+            7,
+            "12 input unknown at input y",
+        ),
+        (
+            "{\"x\":1}",
+            "{\"x\":0}",
+            7,
+            "13 input depth at input x: 0 and 1",
+        ),
+        (
+            "{\"x\":1}",
+            "{\"x\":2}",
+            7,
+            "13 input depth at input x: 2 and 1",
+        ),
+        ("\"flows\":{", "\"flows\":{\"n\":{\"outputs\":{}},", 11, ""),
+        ("{\"input\":\"x\"}", "{\"constant\":\"a\"}", 11, ""),
+        (
+            "{\"input\":\"x\"}",
+            "{\"merge\":[{\"input\":\"x\"}]}",
+            11,
+            "",
+        ),
+        ("\"depth\":0", "\"depth\":1", 11, ""),
+        ("\"outputs\":{\"o\":0}", "\"outputs\":{\"o\":1}", 11, ""),
+        (
+            "\"outputs\":{\"o\":0}",
+            "\"retries\":1,\"outputs\":{\"o\":0}",
+            11,
+            "",
+        ),
+        (
+            "[{\"service\"",
+            "[{\"service\":\"upper\"},{\"service\"",
+            11,
+            "",
+        ),
     ];
-    for (old, new) in table {
+    for (old, new, code, fault) in table {
         let document = changed(alloc, old, new)?;
+        let line = match code {
+            6 => format!(in alloc; "taverna: form fault {fault}\n")?,
+            7 => format!(in alloc; "taverna: check fault {fault}\n")?,
+            _ => String::from_str(alloc, "taverna: not built\n")?,
+        };
         let ran = alone(alloc, &["run"], document.as_str().as_bytes(), SOUND)?;
         assert!(rt;
-            ran.is(Status::NotBuilt, "", "taverna: not built\n"),
+            ran.status.code() == code && ran.is(ran.status, "", line.as_str()),
             "{new}"
         );
+    }
+    Ok(())
+}
+
+/// Capitals of the input x.
+const CAPITALS: &str =
+    "{\"u\":{\"inputs\":{\"a\":{\"depth\":0,\"from\":{\"input\":\"x\"}}},\"outputs\":{\"o\":0},\"activities\":[{\"service\":\"upper\"}]}}";
+
+/// Capitals, and small letters of them.
+const CHAIN: &str =
+    "{\"p\":{\"inputs\":{\"a\":{\"depth\":0,\"from\":{\"input\":\"x\"}}},\"outputs\":{\"o\":0},\"activities\":[{\"service\":\"upper\"}]},\"q\":{\"inputs\":{\"a\":{\"depth\":0,\"from\":{\"step\":\"p\",\"port\":\"o\"}}},\"outputs\":{\"o\":0},\"activities\":[{\"service\":\"lower\"}]}}";
+
+/// A failure where the text is true, and capitals of the rest.
+const FAILURES: &str =
+    "{\"f\":{\"inputs\":{\"a\":{\"depth\":0,\"from\":{\"input\":\"x\"}}},\"outputs\":{\"o\":0},\"activities\":[{\"service\":\"fail_if\"}]},\"u\":{\"inputs\":{\"a\":{\"depth\":0,\"from\":{\"step\":\"f\",\"port\":\"o\"}}},\"outputs\":{\"o\":0},\"activities\":[{\"service\":\"upper\"}]}}";
+
+/// Two steps that feed each other.
+const CIRCLE: &str =
+    "{\"p\":{\"inputs\":{\"a\":{\"depth\":0,\"from\":{\"step\":\"q\",\"port\":\"o\"}}},\"outputs\":{\"o\":0},\"activities\":[{\"service\":\"upper\"}]},\"q\":{\"inputs\":{\"a\":{\"depth\":0,\"from\":{\"step\":\"p\",\"port\":\"o\"}}},\"outputs\":{\"o\":0},\"activities\":[{\"service\":\"lower\"}]}}";
+
+/// The inputs x and y, each text with each.
+const CROSS: &str =
+    "{\"c\":{\"inputs\":{\"a\":{\"depth\":0,\"from\":{\"input\":\"x\"}},\"b\":{\"depth\":0,\"from\":{\"input\":\"y\"}}},\"outputs\":{\"o\":0},\"activities\":[{\"service\":\"concat\"}]}}";
+
+/// The inputs x and y, in pairs.
+const DOT: &str =
+    "{\"c\":{\"inputs\":{\"a\":{\"depth\":0,\"from\":{\"input\":\"x\"}},\"b\":{\"depth\":0,\"from\":{\"input\":\"y\"}}},\"outputs\":{\"o\":0},\"strategy\":{\"dot\":[\"a\",\"b\"]},\"activities\":[{\"service\":\"concat\"}]}}";
+
+/// The inputs x and y, as one list.
+const MERGE: &str =
+    "{\"e\":{\"inputs\":{\"a\":{\"depth\":1,\"from\":{\"merge\":[{\"input\":\"x\"},{\"input\":\"y\"}]}}},\"outputs\":{\"o\":1},\"activities\":[{\"service\":\"echo\"}]}}";
+
+/// The document of these steps with one output, that of a step, on these values.
+fn document(
+    alloc: Global,
+    inputs: &str,
+    steps: &str,
+    last: &str,
+    values: &str,
+) -> Result<String, Fail> {
+    Ok(format!(in alloc;
+        "{{\"taverna\":1,\"main\":\"m\",\"flows\":{{\"m\":{{\"inputs\":{inputs},\"steps\":{steps},\"outputs\":{{\"out\":{{\"step\":\"{last}\",\"port\":\"o\"}}}}}}}},\"inputs\":{values}}}"
+    )?)
+}
+
+// Steps, the last one, the inputs with their values, the word, the status, the text and the line.
+#[test]
+fn worked_documents_end_so(rt: HostRuntime) -> Result<(), Fail> {
+    let alloc = rt.alloc();
+    let table = [
+        (
+            CHAIN,
+            "q",
+            "{\"x\":1}",
+            "{\"x\":[\"a\",\"b\"]}",
+            "run",
+            Status::Done,
+            "{\"outputs\":{\"out\":[\"a\",\"b\"]},\"totals\":{\"attempts\":4,\"bounced\":0,\"failed\":0,\"jobs\":4}}\n",
+            "",
+        ),
+        (
+            FAILURES,
+            "u",
+            "{\"x\":1}",
+            "{\"x\":[\"no\",\"true\",\"no\"]}",
+            "run",
+            Status::Done,
+            "{\"outputs\":{\"out\":[\"NO\",{\"error\":{\"at\":\"u[1]\",\"depth\":0,\"from\":[\"f[1]\"],\"why\":\"bounced\"}},\"NO\"]},\"totals\":{\"attempts\":5,\"bounced\":1,\"failed\":1,\"jobs\":6}}\n",
+            "",
+        ),
+        (
+            DOT,
+            "c",
+            "{\"x\":1,\"y\":0}",
+            "{\"x\":[\"a\"],\"y\":\"1\"}",
+            "run",
+            Status::Check,
+            "",
+            "taverna: check fault 7 dot depths at flow m step c: 1 and 0\n",
+        ),
+        (
+            MERGE,
+            "e",
+            "{\"x\":0,\"y\":1}",
+            "{\"x\":\"a\",\"y\":[\"b\"]}",
+            "run",
+            Status::Check,
+            "",
+            "taverna: check fault 8 merge depths at flow m step e input a: 0 and 1\n",
+        ),
+        (
+            CAPITALS,
+            "u",
+            "{\"x\":0}",
+            "{\"x\":[\"a\"]}",
+            "check",
+            Status::Check,
+            "",
+            "taverna: check fault 13 input depth at input x: 0 and 1\n",
+        ),
+        (
+            CIRCLE,
+            "q",
+            "{\"x\":0}",
+            "{\"x\":\"a\"}",
+            "run",
+            Status::Check,
+            "",
+            "taverna: check fault 5 link cycle at flow m step p\n",
+        ),
+        (
+            CROSS,
+            "c",
+            "{\"x\":1,\"y\":1}",
+            "{\"x\":[\"a\",\"b\"],\"y\":[\"1\",\"2\"]}",
+            "check",
+            Status::Done,
+            "in m c a 0 1\nin m c b 0 1\nout m c o 0 2\nflow m out 2\n",
+            "",
+        ),
+        (
+            CROSS,
+            "c",
+            "{\"x\":1,\"y\":1}",
+            "{\"x\":[\"a\",\"b\"],\"y\":[\"1\",\"2\"]}",
+            "run",
+            Status::NotBuilt,
+            "",
+            "taverna: not built\n",
+        ),
+    ];
+    for (index, (steps, last, inputs, values, word, status, out, err)) in table
+        .into_iter()
+        .enumerate()
+    {
+        let text = document(alloc, inputs, steps, last, values)?;
+        let bytes = text.as_str().as_bytes();
+        let ran = alone(alloc, &[word], bytes, SOUND)?;
+        assert!(rt; ran.is(status, out, err), "alone: {index}");
+        let ran = by_gate(&rt, rt.alloc(), &[word], bytes, SOUND)?;
+        assert!(rt; ran.is(status, out, err), "by gate: {index}");
+    }
+    Ok(())
+}
+
+// What has no field that must be there, no flow, and a ragged value.
+#[test]
+fn faults_of_form_are_told(rt: HostRuntime) -> Result<(), Fail> {
+    let table: [(&str, &str); 3] = [
+        ("{}", "taverna: form fault 1 missing at [\"taverna\"]\n"),
+        (
+            "{\"taverna\":1,\"main\":\"m\",\"flows\":{}}",
+            "taverna: form fault 6 empty at [\"flows\"]\n",
+        ),
+        (
+            "{\"taverna\":1,\"main\":\"m\",\"flows\":{\"m\":{\"outputs\":{}}},\"inputs\":{\"x\":[\"a\",[\"b\"]]}}",
+            "taverna: form fault 8 ragged at [\"inputs\",\"x\"]\n",
+        ),
+    ];
+    for (document, line) in table {
+        for word in ["run", "check"] {
+            let ran = alone(rt.alloc(), &[word], document.as_bytes(), SOUND)?;
+            assert!(rt; ran.is(Status::Form, "", line), "{word} {document}");
+        }
     }
     Ok(())
 }
@@ -316,15 +608,13 @@ fn bytes_that_are_no_json_text(rt: HostRuntime) -> Result<(), Fail> {
 #[test]
 fn json_that_is_no_document(rt: HostRuntime) -> Result<(), Fail> {
     let alloc = rt.alloc();
-    let table: [&[u8]; 4] = [b"null", b"{}", b" 1", b"\"run\""];
+    let kind = "taverna: form fault 3 wrong kind at []\n";
+    let table: [&[u8]; 3] = [b"null", b" 1", b"\"run\""];
     for (index, bytes) in table.into_iter().enumerate() {
-        assert!(rt;
-            ends_so(alloc, bytes, Status::NotBuilt, "taverna: not built\n")?,
-            "{index}"
-        );
+        assert!(rt; ends_so(alloc, bytes, Status::Form, kind)?, "{index}");
     }
     let deep = brackets(alloc, 127)?;
-    assert!(rt; ends_so(alloc, &deep, Status::NotBuilt, "taverna: not built\n")?);
+    assert!(rt; ends_so(alloc, &deep, Status::Form, kind)?);
     let deep = brackets(alloc, 128)?;
     assert!(rt; ends_so(alloc, &deep, Status::NotJson, "taverna: not JSON\n")?);
     Ok(())
@@ -461,6 +751,14 @@ fn each_write_of_the_line_fails_in_turn(rt: HostRuntime) -> Result<(), Fail> {
     let streams = Streams {
         piece: 10,
         source_fails: 0,
+        out_fails: 0,
+        err_fails: 3,
+    };
+    let ran = by_gate(&rt, rt.alloc(), &["run"], b"{}", streams)?;
+    assert!(rt; ran.is(Status::Form, "", "taverna: form fault "));
+    let streams = Streams {
+        piece: 10,
+        source_fails: 0,
         out_fails: 2,
         err_fails: 2,
     };
@@ -512,6 +810,8 @@ fn each_status_has_its_code(rt: HostRuntime) {
         (Status::ReadFault, 3),
         (Status::TooLong, 4),
         (Status::NotJson, 5),
+        (Status::Form, 6),
+        (Status::Check, 7),
         (Status::WriteFault, 9),
         (Status::NoMemory, 10),
         (Status::NotBuilt, 11),
@@ -549,5 +849,21 @@ fn each_text_is_asked_for_once(rt: HostRuntime) -> Result<(), Fail> {
         assert_eq!(rt; call.attempt, 0);
         assert!(rt; is_one_text(&call.inputs, text), "{text}");
     }
+    Ok(())
+}
+
+// The check asks no service.
+#[test]
+fn the_check_asks_nothing(rt: HostRuntime) -> Result<(), Fail> {
+    let alloc = rt.alloc();
+    let words = words_of(alloc, &["check"])?;
+    let mut source = source_of(alloc, TWO_TEXTS.as_bytes(), SOUND)?;
+    let mut out = sink_of(alloc, SOUND.piece, 0)?;
+    let mut err = sink_of(alloc, SOUND.piece, 0)?;
+    let gate = LocalGate::new();
+    let mut asker = LoggedGate::new(alloc, &gate);
+    let status = taverna_alone(alloc, &words, &mut source, &mut out, &mut err, &mut asker);
+    assert_eq!(rt; status, Status::Done);
+    assert_eq!(rt; asker.calls().len(), 0);
     Ok(())
 }

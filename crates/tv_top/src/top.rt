@@ -1,13 +1,14 @@
 //! The top calls.
-ghost use Rattle.std.specs.Prelude.{◌+◌, ◌≡◌, ◌≢◌, ◌≤◌, ◌↔◌, None, Err};
-ghost use Rattle.tv_top.specs.Words.{command_of as asked_for};
-ghost use Rattle.tv_top.specs.Answers.{answer_to, run_answer, byte_limit};
+ghost use Rattle.std.specs.Prelude.{◌+◌, ◌≡◌, ◌≢◌, ◌≤◌, ◌↔◌, None, IfErr};
 ghost use Rattle.tv_io.specs.ReadOf.{TakesAtMost};
-ghost use Rattle.tv_top.specs.Asked.{texts_of};
-ghost use Rattle.tv_top.specs.Lines.{fault_line};
-ghost use Rattle.tv_top.specs.Headline.{IsAnswered, Cause, IsComplete, IsReported};
+ghost use Rattle.tv_top.specs.Words.{command_of as asked_for};
+ghost use Rattle.tv_top.specs.CommandViews.{command_view};
+ghost use Rattle.tv_top.specs.Answers.{answer_to, answer_to_bytes, byte_limit};
+ghost use Rattle.tv_top.specs.Asked.{texts_of, refusal_status, refusal_line, ended};
+ghost use Rattle.tv_top.specs.Headline.{IsAnswered, Cause, IsComplete, IsLine, IsReported, IsSaid};
 
-use crate::answering::run_answer;
+use crate::answering::answer_to_bytes;
+use crate::refusal::Refusal;
 use crate::status::Status;
 use crate::words::{Command, command_of};
 use std::alloc::Global;
@@ -41,57 +42,58 @@ pub fn taverna_alone<S: Source, K: Sink, E: Sink, A: Asker>(
     ensures complete { IsComplete (answer_to A.Services.gives A.Services.knows (asked_for (texts_of words.now)))
         (record { left = S.left source.old; left_after = S.left source.new; faults = S.faults source.old; faults_after = S.faults source.new })
         (record { sent = K.sent out.old; sent_after = K.sent out.new; faults = K.faults out.old; faults_after = K.faults out.new }) result }
-
     // Words that give no command are told from them alone, and then nothing is read.
     ensures usage { (result ≡ Status.Usage) ↔ (asked_for (texts_of words.now) ≡ None) }
     ensures taken { TakesAtMost (byte_limit + 1) (S.left source.old) (S.left source.new) }
     ensures unread { result ≡ Status.Usage → source.new ≡ source.old }
-
     // The output has nothing but an answer, and the line on `err` is the status's.
     ensures silent { result ≢ Status.Done → result ≢ Status.WriteFault → out.new ≡ out.old }
     ensures unsaid { result ≡ Status.Done → err.new ≡ err.old }
-    ensures said { result ≢ Status.Done → IsReported (record { sent = E.sent err.old; sent_after = E.sent err.new; faults = E.faults err.old; faults_after = E.faults err.new }) (fault_line result) }
+    ensures said { result ≢ Status.Done → IsSaid (answer_to A.Services.gives A.Services.knows (asked_for (texts_of words.now)))
+        (record { left = S.left source.old; left_after = S.left source.new; faults = S.faults source.old; faults_after = S.faults source.new })
+        (record { sent = E.sent err.old; sent_after = E.sent err.new; faults = E.faults err.old; faults_after = E.faults err.new }) result }
 {
-    let status = carried_out(alloc, words, source, out, asker);
-    report(status, err);
-    status
+    let ended = carried_out(alloc, words, source, out, asker);
+    match ended {
+        Ok(()) => Status::Done,
+        Err(refusal) => told(&refusal, err),
+    }
 }
 
-/// The line of a status that isn't `Done`.
-fn report<E: Sink>(status: Status, err: &mut E)
-    ensures unsaid { status ≡ Status.Done → err.new ≡ err.old }
-    ensures said { status ≢ Status.Done → IsReported (record { sent = E.sent err.old; sent_after = E.sent err.new; faults = E.faults err.old; faults_after = E.faults err.new }) (fault_line status) }
+/// Writes the line of a refusal, and gives its status.
+fn told<E: Sink>(refusal: &Refusal, err: &mut E) -> Status
+    ensures status { result ≡ refusal_status refusal.now }
+    ensures said { IsReported (record { sent = E.sent err.old; sent_after = E.sent err.new; faults = E.faults err.old; faults_after = E.faults err.new }) (refusal_line refusal.now) }
 {
-    if status == Status::Done {
-        return;
-    }
-    match write_all(err, status.line().as_bytes()) {
+    match write_all(err, refusal.line().as_bytes()) {
         Ok(()) => {}
         Err(_) => {}
     }
+    refusal.status()
 }
 
+/// Writes the answer to the words and the bytes.
 fn carried_out<S: Source, K: Sink, A: Asker>(
     alloc: Global,
     words: &[String],
     source: &mut S,
     out: &mut K,
     asker: &mut A,
-) -> Status
+) -> Result<(), Refusal>
     ensures cause { Cause (answer_to A.Services.gives A.Services.knows (asked_for (texts_of words.now)))
         (record { left = S.left source.old; left_after = S.left source.new; faults = S.faults source.old; faults_after = S.faults source.new })
-        (record { sent = K.sent out.old; sent_after = K.sent out.new; faults = K.faults out.old; faults_after = K.faults out.new }) result }
-    ensures usage { (result ≡ Status.Usage) ↔ (asked_for (texts_of words.now) ≡ None) }
+        (record { sent = K.sent out.old; sent_after = K.sent out.new; faults = K.faults out.old; faults_after = K.faults out.new }) (ended result) }
+    ensures line { IfErr result (λ r. IsLine (answer_to A.Services.gives A.Services.knows (asked_for (texts_of words.now)))
+        (record { left = S.left source.old; left_after = S.left source.new; faults = S.faults source.old; faults_after = S.faults source.new }) (refusal_status r) (refusal_line r)) }
+    ensures usage { (ended result ≡ Status.Usage) ↔ (asked_for (texts_of words.now) ≡ None) }
     ensures taken { TakesAtMost (byte_limit + 1) (S.left source.old) (S.left source.new) }
-    ensures unread { result ≡ Status.Usage → source.new ≡ source.old }
-    ensures silent { result ≢ Status.Done → result ≢ Status.WriteFault → out.new ≡ out.old }
+    ensures unread { ended result ≡ Status.Usage → source.new ≡ source.old }
+    ensures silent { ended result ≢ Status.Done → ended result ≢ Status.WriteFault → out.new ≡ out.old }
 {
-    match answered(alloc, words, source, asker) {
-        Ok(text) => match write_all(out, text.as_str().as_bytes()) {
-            Ok(()) => Status::Done,
-            Err(_) => Status::WriteFault,
-        },
-        Err(status) => status,
+    let text = answered(alloc, words, source, asker)?;
+    match write_all(out, text.as_str().as_bytes()) {
+        Ok(()) => Ok(()),
+        Err(_) => Err(Refusal::Plain(Status::WriteFault)),
     }
 }
 
@@ -101,30 +103,35 @@ fn answered<S: Source, A: Asker>(
     words: &[String],
     source: &mut S,
     asker: &mut A,
-) -> Result<Text, Status>
+) -> Result<Text, Refusal>
     ensures answer { IsAnswered (answer_to A.Services.gives A.Services.knows (asked_for (texts_of words.now)))
         (record { left = S.left source.old; left_after = S.left source.new; faults = S.faults source.old; faults_after = S.faults source.new }) result }
-    ensures usage { (result ≡ Err Status.Usage) ↔ (asked_for (texts_of words.now) ≡ None) }
+    ensures usage { (ended result ≡ Status.Usage) ↔ (asked_for (texts_of words.now) ≡ None) }
     ensures taken { TakesAtMost (byte_limit + 1) (S.left source.old) (S.left source.new) }
-    ensures unread { result ≡ Err Status.Usage → source.new ≡ source.old }
+    ensures unread { ended result ≡ Status.Usage → source.new ≡ source.old }
 {
     match command_of(words) {
-        Some(Command::Run) => run(alloc, source, asker),
-        None => Err(Status::Usage),
+        Some(command) => read_and_answered(alloc, command, source, asker),
+        None => Err(Refusal::Plain(Status::Usage)),
     }
 }
 
-fn run<S: Source, A: Asker>(alloc: Global, source: &mut S, asker: &mut A) -> Result<Text, Status>
-    ensures answer { IsAnswered (run_answer A.Services.gives A.Services.knows)
+fn read_and_answered<S: Source, A: Asker>(
+    alloc: Global,
+    command: Command,
+    source: &mut S,
+    asker: &mut A,
+) -> Result<Text, Refusal>
+    ensures answer { IsAnswered (answer_to_bytes A.Services.gives A.Services.knows (command_view command))
         (record { left = S.left source.old; left_after = S.left source.new; faults = S.faults source.old; faults_after = S.faults source.new }) result }
     ensures taken { TakesAtMost (byte_limit + 1) (S.left source.old) (S.left source.new) }
-    ensures command { result ≢ Err Status.Usage }
+    ensures command { ended result ≢ Status.Usage }
 {
     match read_all(alloc, source, BYTE_LIMIT) {
-        Ok(bytes) => run_answer(alloc, bytes, asker),
-        Err(ReadAllFault::ReadFault) => Err(Status::ReadFault),
-        Err(ReadAllFault::TooLong) => Err(Status::TooLong),
-        Err(ReadAllFault::NoMemory) => Err(Status::NoMemory),
+        Ok(bytes) => answer_to_bytes(alloc, command, bytes, asker),
+        Err(ReadAllFault::ReadFault) => Err(Refusal::Plain(Status::ReadFault)),
+        Err(ReadAllFault::TooLong) => Err(Refusal::Plain(Status::TooLong)),
+        Err(ReadAllFault::NoMemory) => Err(Refusal::Plain(Status::NoMemory)),
     }
 }
 
@@ -158,7 +165,9 @@ pub fn taverna<
     ensures unread { result ≡ Status.Usage → source.new ≡ source.old }
     ensures silent { result ≢ Status.Done → result ≢ Status.WriteFault → out.new ≡ out.old }
     ensures unsaid { result ≡ Status.Done → err.new ≡ err.old }
-    ensures said { result ≢ Status.Done → IsReported (record { sent = E.sent err.old; sent_after = E.sent err.new; faults = E.faults err.old; faults_after = E.faults err.new }) (fault_line result) }
+    ensures said { result ≢ Status.Done → IsSaid (answer_to G.Services.gives G.Services.knows (asked_for (texts_of words.now)))
+        (record { left = S.left source.old; left_after = S.left source.new; faults = S.faults source.old; faults_after = S.faults source.new })
+        (record { sent = E.sent err.old; sent_after = E.sent err.new; faults = E.faults err.old; faults_after = E.faults err.new }) result }
 {
     taverna_alone(alloc, words, source, out, err, asker)
 }

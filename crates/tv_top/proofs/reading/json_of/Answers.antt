@@ -1,6 +1,6 @@
 use Rattle.std.proofs.Common.{inl, refl, true≢false, sym, ◌∙◌}
 use Rattle.serde_json.specs.View.{view as json_view}
-use Rattle.tv_top.proofs.Counting.{json_of-has, json_of-none}
+use Rattle.tv_top.proofs.Bytes.{json_of-has, json_of-none}
 use Rattle.tv_top.proofs.reading.json_of.Goals as goal
 
 pub returns-in-Ok : goal.returns-in-Ok

@@ -1,0 +1,11 @@
+pub mod Arranged
+pub mod Counting
+pub mod Cycles
+pub mod Depths
+pub mod Measuring
+pub mod Members
+pub mod Rows
+pub mod Searching
+pub mod Tables
+pub mod Taking
+pub mod Walks

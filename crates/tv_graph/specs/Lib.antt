@@ -1,0 +1,5 @@
+pub mod Free
+pub mod Graphs
+pub mod Laws
+pub mod Untaken
+pub mod Waiting

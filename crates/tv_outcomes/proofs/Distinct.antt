@@ -1,0 +1,127 @@
+-- No two tries of a job have one activity and attempt.
+use Rattle.std.specs.Prelude.{◌≡◌, ℕ, suc, ◌⊎◌, ◌≤◌, List, [], ◌∷◌, map, Bool, true, false, None, Result, Ok, Err, if◌then◌else◌}
+use Rattle.std.specs.List.{list_any, range_with_len}
+use Rattle.std.proofs.Common.{arith, sym, ap, subst, ◌∙◌, inl, inr}
+use Rattle.tv_value.specs.Activities.{Activity, service, nested}
+use Rattle.tv_value.specs.Nested.{Place}
+use Rattle.tv_value.specs.Values.{Name, JobName, Text, Value, holds_fault}
+use Rattle.tv_flow.specs.Flows.{Document, Step}
+use Rattle.tv_strategy.specs.Origins.{Origin, Traced, plain}
+use Rattle.tv_gate.specs.Outcomes.{Giving}
+use Rattle.tv_dispatch.specs.Jobs.{Ask, outcome_of, Try, ask, open_flow, tries, Fate, right, opens, wrong, Taken, taken, match_result}
+use Rattle.tv_check.specs.Steps.{declared_depths}
+use Rattle.tv_model.specs.Instances.{with_fate, bounced_job, tried_job, job_on}
+use Rattle.tv_model.specs.Jobs.{Job}
+use Rattle.tv_model.specs.Made.{Meaning}
+use Rattle.tv_model.specs.Meanings.{meaning}
+use Rattle.tv_model.specs.Members.{In}
+use Rattle.tv_model.proofs.Fed.{each-all}
+use Rattle.tv_model.proofs.Order.{in-append, of-map}
+use Rattle.tv_outcomes.proofs.Everywhere.{document-has}
+
+abbrev pub AreDistinct : List Ask → Type 0
+AreDistinct as' = (a b : Ask) → In a as' → In b as' → a.activity ≡ b.activity → a.attempt ≡ b.attempt → a ≡ b
+
+-- what is taken is among the tries
+abbrev taken_by : Giving → Ask → List Try → Result (List Value) Text → Taken
+taken_by gives a ts r = match_result {C = Taken} r (λ vs. record { asks = a ∷ []; fate = right vs }) (λ reason. record { asks = a ∷ (taken gives reason ts).asks; fate = (taken gives reason ts).fate })
+
+taken-in : (gives : Giving) (why : Text) (ts : List Try) (b : Ask) → In b (taken gives why ts).asks → In (ask b) ts
+taken-in gives why [] b h = absurd h
+taken-in gives why (open_flow f ∷ ts) b h = absurd h
+taken-in gives why (ask a ∷ ts) b h = by (outcome_of gives a) h (λ w k. taken-in gives w ts b k)
+  where
+    by : (r : Result (List Value) Text) → In b (taken_by gives a ts r).asks → ((w : Text) → In b (taken gives w ts).asks → In (ask b) ts) → In (ask b) (ask a ∷ ts)
+    by (Ok vs) (inl p) rec = inl (ap (λ x. ask x) p)
+    by (Ok vs) (inr k) rec = absurd k
+    by (Err w) (inl p) rec = inl (ap (λ x. ask x) p)
+    by (Err w) (inr k) rec = inr (rec w k)
+
+ask-part : (a b : Ask) → ask a ≡ ask b → a ≡ b
+ask-part a b e = ap or_a e
+  where
+    or_a : Try → Ask
+    or_a (ask c) = c
+    or_a (open_flow f) = a
+
+no-flow : (a : Ask) (f : Name) → ask a ≡ open_flow f → ⊥
+no-flow a f e = subst Holds e tt
+  where
+    Holds : Try → Type 0
+    Holds (ask c) = Unit {0}
+    Holds (open_flow g) = ⊥
+
+module _ (vs : List Value) (ds : List ℕ) (retries : ℕ) where
+  abbrev one_ask : Name → ℕ → ℕ → Ask
+  one_ask s k n = record { service = s; inputs = vs; outputs = ds; activity = k; attempt = n }
+
+  abbrev attempts : Name → ℕ → List Try
+  attempts s k = map (λ n. ask (one_ask s k n)) (range_with_len 0 (suc retries))
+
+  of-attempts : (s : Name) (k : ℕ) (a : Ask) → In (ask a) (attempts s k) → a ≡ one_ask s k a.attempt
+  of-attempts s k a h =
+      let r = of-map (λ n. ask (one_ask s k n)) (ask a) (range_with_len 0 (suc retries)) h in
+      let e = ask-part a (one_ask s k r.0) r.2 in
+      e ∙ ap (λ n. one_ask s k n) (sym (ap (λ (x : Ask). x.attempt) e))
+
+  later : (k : ℕ) (as' : List Activity) (a : Ask) → In (ask a) (tries vs ds retries k as') → k ≤ a.activity
+  later k [] a h = absurd h
+  later k (nested f ∷ as') a (inl p) = absurd (no-flow a f p)
+  later k (nested f ∷ as') a (inr h) = less k a.activity (later (suc k) as' a h)
+    where
+      less : (x y : ℕ) → suc x ≤ y → x ≤ y
+      less x y p = omega arith
+  later k (service s ∷ as') a h = by (in-append (ask a) (attempts s k) (tries vs ds retries (suc k) as') h) (λ g. later (suc k) as' a g)
+    where
+      same : (x y : ℕ) → y ≡ x → x ≤ y
+      same x y p = omega arith
+
+      less : (x y : ℕ) → suc x ≤ y → x ≤ y
+      less x y p = omega arith
+
+      by : In (ask a) (attempts s k) ⊎ In (ask a) (tries vs ds retries (suc k) as') → (In (ask a) (tries vs ds retries (suc k) as') → suc k ≤ a.activity) → k ≤ a.activity
+      by (inl g) rec = same k a.activity (ap (λ (x : Ask). x.activity) (of-attempts s k a g))
+      by (inr g) rec = less k a.activity (rec g)
+
+  tries-distinct : (k : ℕ) (as' : List Activity) (a b : Ask) → In (ask a) (tries vs ds retries k as') → In (ask b) (tries vs ds retries k as') → a.activity ≡ b.activity → a.attempt ≡ b.attempt → a ≡ b
+  tries-distinct k [] a b h g e f = absurd h
+  tries-distinct k (nested n ∷ as') a b (inl p) g e f = absurd (no-flow a n p)
+  tries-distinct k (nested n ∷ as') a b (inr h) (inl p) e f = absurd (no-flow b n p)
+  tries-distinct k (nested n ∷ as') a b (inr h) (inr g) e f = tries-distinct (suc k) as' a b h g e f
+  tries-distinct k (service s ∷ as') a b h g e f = by (in-append (ask a) (attempts s k) (tries vs ds retries (suc k) as') h) (in-append (ask b) (attempts s k) (tries vs ds retries (suc k) as') g) (λ x y. tries-distinct (suc k) as' a b x y e f)
+    where
+      apart : (x y : ℕ) → x ≡ k → suc k ≤ y → x ≡ y → ⊥
+      apart x y p q r = omega arith
+
+      by : In (ask a) (attempts s k) ⊎ In (ask a) (tries vs ds retries (suc k) as') → In (ask b) (attempts s k) ⊎ In (ask b) (tries vs ds retries (suc k) as') → (In (ask a) (tries vs ds retries (suc k) as') → In (ask b) (tries vs ds retries (suc k) as') → a ≡ b) → a ≡ b
+      by (inl x) (inl y) rec = of-attempts s k a x ∙ ap (λ n. one_ask s k n) f ∙ sym (of-attempts s k b y)
+      by (inl x) (inr y) rec = absurd (apart a.activity b.activity (ap (λ (z : Ask). z.activity) (of-attempts s k a x)) (later (suc k) as' b y) e)
+      by (inr x) (inl y) rec = absurd (apart b.activity a.activity (ap (λ (z : Ask). z.activity) (of-attempts s k b y)) (later (suc k) as' a x) (sym e))
+      by (inr x) (inr y) rec = rec x y
+
+module _ (gives : Giving) (inside : Name → JobName → List (Name × Value) → Meaning) (I : JobName) where
+  fate-distinct : (s : Step) (j : Job) (as' : List Ask) (f : Fate) → AreDistinct as' → AreDistinct (with_fate gives inside I s (record j { asks = as' }) f).job.asks
+  fate-distinct s j as' (right vs) h = h
+  fate-distinct s j as' (opens f) h = h
+  fate-distinct s j as' (wrong why) h = h
+
+  job-distinct : (c : Name) (s : Step) (waits : List Origin) (q : Place) (inputs : List Traced) → AreDistinct (job_on gives inside I c s waits q inputs).job.asks
+  job-distinct c s waits q inputs = by (list_any (λ z. holds_fault z) inputs)
+    where
+      j : Job
+      j = bounced_job gives inside I c s waits q inputs
+
+      ts : List Try
+      ts = tries (map plain inputs) (declared_depths s) s.retries 0 s.activities
+
+      t : Taken
+      t = taken gives [] ts
+
+      by : (z : Bool) → AreDistinct (if z then record { job = j; inside = None } else tried_job gives inside I s j).job.asks
+      by true = λ a b h. absurd h
+      by false =
+          fate-distinct s j t.asks t.fate (λ a b h g e f. tries-distinct (map plain inputs) (declared_depths s) s.retries 0 s.activities a b (taken-in gives [] ts a h) (taken-in gives [] ts b g) e f)
+
+pub asks-distinct : (gives : Giving) (d : Document) (j : Job) → In j (meaning gives d).jobs → AreDistinct j.asks
+asks-distinct gives d =
+    document-has gives (λ s. Unit {0}) (λ j. AreDistinct j.asks) (λ inside I c s waits q inputs k. job-distinct gives inside I c s waits q inputs) d (each-all _ (λ f. each-all _ (λ s. tt) f.1.steps) d.flows)

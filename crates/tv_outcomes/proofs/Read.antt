@@ -1,0 +1,36 @@
+-- Every document that was read has an activity at every step.
+use Rattle.std.specs.Prelude.{◌≡◌, ℕ, zero, suc, ◌≤◌, List, [], ◌∷◌, length, Bool, true, ◌&&◌, nat_le}
+use Rattle.std.specs.List.{list_all}
+use Rattle.std.proofs.Common.{arith, sym}
+use Rattle.tv_value.specs.Values.{Name}
+use Rattle.tv_flow.specs.Flows.{Document, Step}
+use Rattle.tv_flow.specs.Formed.{is_between, is_activity, is_feed, is_value, is_step, is_flow, is_formed, are_entries, are_named, are_listed, are_names}
+use Rattle.tv_flow.specs.Forms.{is_name}
+use Rattle.tv_model.proofs.Tests.{Each, true≠false, left_true, right_true}
+use Rattle.tv_model.proofs.Turns.{each-map}
+use Rattle.tv_outcomes.specs.Agreed.{HasActivities}
+
+one-at_least : (n : ℕ) → nat_le 1 n ≡ true → 1 ≤ n
+one-at_least zero h = absurd (true≠false (sym h))
+one-at_least (suc n) h = omega arith
+
+each-passes : {A : Type 0} (p : A → Bool) (xs : List A) → list_all p xs ≡ true → Each (λ x. p x ≡ true) xs
+each-passes p [] h = tt
+each-passes p (x ∷ xs) h = (left_true (p x) (list_all p xs) h, each-passes p xs (right_true (p x) (list_all p xs) h))
+
+-- what passes by its name passes
+named-pass : {A : Type 0} (p : A → Bool) (least most : ℕ) (es : List (Name × A)) → are_named p least most es ≡ true → Each (λ e. p e.1 ≡ true) es
+named-pass p least most es h =
+    each-map (λ e. (is_name e.0 && p e.1) ≡ true) (λ e. p e.1 ≡ true) (λ e k. right_true (is_name e.0) (p e.1) k) es
+    (each-passes (λ e. is_name e.0 && p e.1) es (right_true _ (list_all (λ e. is_name e.0 && p e.1) es) (right_true (is_between least most (length es)) (are_entries p es) h)))
+
+step-activities : (s : Step) → is_step s ≡ true → 1 ≤ length s.activities
+step-activities s h =
+    one-at_least (length s.activities) (left_true (nat_le 1 (length s.activities)) _ (left_true (is_between 1 8 (length s.activities)) (list_all is_activity s.activities)
+    (right_true _ (are_listed is_activity 1 8 s.activities) (left_true _ (is_between 0 100 s.retries) (left_true _ (is_between 1 64 s.jobs) (left_true _ (are_names s.after) h))))))
+
+pub documents-have_activities : (d : Document) → is_formed d ≡ true → HasActivities d
+documents-have_activities d h = record {
+  activities = each-map (λ f. is_flow f.1 ≡ true) (λ f. Each (λ s. 1 ≤ length s.1.activities) f.1.steps) (λ f k. each-map (λ s. is_step s.1 ≡ true) (λ s. 1 ≤ length s.1.activities) (λ s. step-activities s.1) f.1.steps (named-pass is_step 0 1000 f.1.steps (right_true _ (are_named is_step 0 1000 f.1.steps) (left_true _ (are_named is_feed 0 16 f.1.outputs) k)))) d.flows
+      (named-pass is_flow 1 256 d.flows (right_true _ (are_named is_flow 1 256 d.flows) (left_true _ (are_entries is_value d.inputs) h)));
+}

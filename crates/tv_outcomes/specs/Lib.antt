@@ -1,0 +1,3 @@
+pub mod Agreed
+pub mod Stated
+pub mod RowsOfOutcomes

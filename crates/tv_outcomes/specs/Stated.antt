@@ -1,0 +1,44 @@
+-- The law of outcomes, for every document and all services.
+use Rattle.std.specs.Prelude.{true, ◌∷◌, ◌≡◌}
+use Rattle.tv_gate.specs.Outcomes.{Giving}
+use Rattle.tv_flow.specs.Flows.{Document}
+use Rattle.tv_flow.specs.Formed.{is_formed}
+use Rattle.tv_model.specs.Meanings.{meaning}
+use Rattle.tv_model.specs.Totals.{totals}
+use Rattle.tv_history.specs.Entries.{Entry, History}
+use Rattle.tv_history.specs.Histories.{is_done, is_legal, is_legal_after}
+use Rattle.tv_outcomes.specs.Agreed.{AgreeNext, AgreeOn, HasActivities, HaveTheSameState}
+
+-- a history that is legal by one is legal by every other that agrees on it
+abbrev pub OutcomesDecideHistories : Type 0
+OutcomesDecideHistories =
+    (gives other : Giving) (d : Document) → HasActivities d → (past : History) → is_legal gives (meaning gives d) past ≡ true → AgreeOn gives other (meaning gives d) past → is_legal other (meaning other d) past ≡ true
+
+-- all that may be asked of it is then the same by both
+abbrev pub OutcomesDecideStates : Type 0
+OutcomesDecideStates =
+    (gives other : Giving) (d : Document) → HasActivities d → (past : History) → is_legal gives (meaning gives d) past ≡ true → AgreeOn gives other (meaning gives d) past → HaveTheSameState gives other (meaning gives d) (meaning other d) past
+
+-- and so are the entries that are legal next, where both agree on what is accepted by them
+abbrev pub OutcomesDecideEntries : Type 0
+OutcomesDecideEntries =
+    (gives other : Giving) (d : Document) → HasActivities d → (past : History) → is_legal gives (meaning gives d) past ≡ true → AgreeOn gives other (meaning gives d) past → (e : Entry) → AgreeNext gives other (meaning gives d) past e → is_legal_after gives (meaning gives d) past e ≡ is_legal_after other (meaning other d) past e
+
+-- where the run is done, so are the outputs and the totals
+abbrev pub OutcomesDecideResults : Type 0
+OutcomesDecideResults =
+    (gives other : Giving) (d : Document) → HasActivities d → (past : History) → is_legal gives (meaning gives d) past ≡ true → AgreeOn gives other (meaning gives d) past → is_done gives (meaning gives d) past ≡ true → ((meaning gives d).outputs ≡ (meaning other d).outputs) × (totals (meaning gives d).jobs ≡ totals (meaning other d).jobs)
+
+-- where both give the try that is accepted next the same outcome, they still agree after it
+abbrev pub AgreementGrows : Type 0
+AgreementGrows =
+    (gives other : Giving) (d : Document) (past : History) (e : Entry) → is_legal_after gives (meaning gives d) past e ≡ true → AgreeOn gives other (meaning gives d) past → AgreeNext gives other (meaning gives d) past e → AgreeOn gives other (meaning gives d) (e ∷ past)
+
+-- that two agree on a history is the same by the meaning of either
+abbrev pub AgreementIsMutual : Type 0
+AgreementIsMutual =
+    (gives other : Giving) (d : Document) → HasActivities d → (past : History) → is_legal gives (meaning gives d) past ≡ true → AgreeOn gives other (meaning gives d) past → AgreeOn other gives (meaning other d) past
+
+-- every document that was read has an activity at every step
+abbrev pub DocumentsHaveActivities : Type 0
+DocumentsHaveActivities = (d : Document) → is_formed d ≡ true → HasActivities d

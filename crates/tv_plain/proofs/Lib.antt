@@ -1,0 +1,11 @@
+pub mod OfJobs
+pub mod OfSteps
+pub mod OfFlows
+pub mod OfChecks
+pub mod OfInputs
+pub mod OfDocuments
+pub mod OfGiving
+pub mod OfKeeping
+pub mod OfTaking
+pub mod OfRunning
+pub mod OfTests

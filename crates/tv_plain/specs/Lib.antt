@@ -1,0 +1,7 @@
+pub mod Chains
+pub mod Recursion
+pub mod Answering
+pub mod Keeping
+pub mod Stated
+pub mod Ran
+pub mod Choosing
