@@ -1,22 +1,52 @@
-"""Times ten million puts, gets and releases of the pool, and of a vector for each region, with many
-small regions and with few large ones: the least processor time of five runs of each.
+"""Times ten million puts, gets and releases of the pool, of a vector for each region, and of the pool's layout over raw memory
+in plain Rust (`pool_raw.rs`, where a `rustc` is there), with many small regions and with few large ones: the least processor
+time of five runs of each.
 
     python3 bench/pool.py PROGRAM
 
 PROGRAM is what `rt run` builds in crates/tv_pool_bench.
 """
 import os
+import shutil
 import subprocess
 import sys
+import tempfile
 
-for size, shape in ((10, "many regions of 10"), (2_500_000, "4 regions of 2,500,000")):
-    for layout in ("pool", "vectors"):
-        least = None
-        for _ in range(5):
-            run = subprocess.Popen([sys.argv[1], layout, str(size), "10000000"], stdout=subprocess.DEVNULL)
-            _, status, used = os.wait4(run.pid, 0)
-            if status != 0:
-                sys.exit(f"{layout} {size}: status {status}")
-            spent = used.ru_utime + used.ru_stime
-            least = spent if least is None else min(least, spent)
-        print(f"{layout}, {shape}: {least * 1000:.0f} ms")
+COUNT = "10000000"
+SHAPES = ((10, "many regions of 10"), (2_500_000, "4 regions of 2,500,000"))
+
+
+def least_time(words):
+    """The least processor time of five runs, in milliseconds, and what the last printed."""
+    least = None
+    for _ in range(5):
+        run = subprocess.Popen(words, stdout=subprocess.PIPE)
+        printed = run.stdout.read()
+        _, status, used = os.wait4(run.pid, 0)
+        if status != 0:
+            sys.exit(f"{words}: status {status}")
+        spent = (used.ru_utime + used.ru_stime) * 1000
+        least = spent if least is None else min(least, spent)
+    return least, printed
+
+
+def main():
+    with tempfile.TemporaryDirectory() as folder:
+        layouts = {name: [sys.argv[1], name] for name in ("pool", "vectors")}
+        if shutil.which("rustc"):
+            raw = os.path.join(folder, "pool_raw")
+            source = os.path.join(os.path.dirname(os.path.abspath(__file__)), "pool_raw.rs")
+            subprocess.run(["rustc", "-O", "--edition", "2021", "-o", raw, source], check=True)
+            layouts["raw memory"] = [raw]
+        for size, shape in SHAPES:
+            sums = set()
+            for name, words in layouts.items():
+                spent, printed = least_time(words + [str(size), COUNT])
+                sums.add(printed)
+                print(f"{name}, {shape}: {spent:.0f} ms")
+            if len(sums) != 1:
+                sys.exit("the layouts read different sums")
+
+
+if __name__ == "__main__":
+    main()
