@@ -1,5 +1,9 @@
 //! The first fault of documents that are wrong in one or two places, and what whole ones become.
-use crate::{Document, FormFault, Part, Path, read_document};
+mod forms;
+mod kinds;
+mod limits;
+
+use crate::{Document, Feed, FormFault, Part, Path, read_document};
 use serde_json::Value as Json;
 use std::alloc::{AllocError, Global};
 use std::fmt::Write;
@@ -64,12 +68,49 @@ fn push_path(text: &mut String, path: &Path) -> Result<(), AllocError> {
     Ok(())
 }
 
-fn read(alloc: Global, around: &[&str; 2], text: &str) -> Result<String, Fail> {
-    let before = around[0];
-    let after = around[1];
-    let whole = format!(in alloc; "{before}{text}{after}")?;
-    let json = Json::from_str(alloc, whole.as_str())?;
-    Ok(told(alloc, &read_document(alloc, &json))?)
+/// Reads a document, and compares what is told.
+fn tells(rt: &impl Abort, alloc: Global, document: &str, due: &str) -> Result<(), Fail> {
+    let json = Json::from_str(alloc, document)?;
+    let found = told(alloc, &read_document(alloc, &json))?;
+    assert_eq!(rt; found.as_str(), due, "{document}");
+    Ok(())
+}
+
+/// A template with a text in the place of its first `@`.
+fn filled(alloc: Global, template: &str, text: &str) -> Result<String, AllocError> {
+    match template.split_once('@') {
+        Some((before, after)) => format!(in alloc; "{before}{text}{after}"),
+        None => String::from_str(alloc, template),
+    }
+}
+
+/// Puts a text into each document, and compares what is told. In what is due `@` is the path of the place.
+fn each_tells(
+    rt: &impl Abort,
+    alloc: Global,
+    places: &[[&str; 2]],
+    text: &str,
+    due: &str,
+) -> Result<(), Fail> {
+    for place in places {
+        let document = filled(alloc, place[0], text)?;
+        let due = filled(alloc, due, place[1])?;
+        tells(rt, alloc, document.as_str(), due.as_str())?;
+    }
+    Ok(())
+}
+
+/// The same of each text with what is due of it.
+fn all_fill(
+    rt: &impl Abort,
+    alloc: Global,
+    places: &[[&str; 2]],
+    rows: &[[&str; 2]],
+) -> Result<(), Fail> {
+    for row in rows {
+        each_tells(rt, alloc, places, row[0], row[1])?;
+    }
+    Ok(())
 }
 
 /// Reads each text in the middle of a document, and compares what is told.
@@ -80,9 +121,11 @@ fn all_tell(
     rows: &[[&str; 2]],
 ) -> Result<(), Fail> {
     for row in rows {
-        let found = read(alloc, around, row[0])?;
+        let before = around[0];
         let text = row[0];
-        assert_eq!(rt; found.as_str(), row[1], "{text}");
+        let after = around[1];
+        let document = format!(in alloc; "{before}{text}{after}")?;
+        tells(rt, alloc, document.as_str(), row[1])?;
     }
     Ok(())
 }
@@ -500,6 +543,33 @@ fn whole_steps(rt: HostRuntime) -> Result<(), Fail> {
     match &input.1 {
         Value::Text(text) => assert_eq!(rt; text.as_str(), "-9223372036854775808"),
         _ => panic!(rt; "a number is no text"),
+    }
+    Ok(())
+}
+
+/// A copy of a flow, of which the clauses say that it stands for the same.
+#[test]
+fn copies(rt: HostRuntime) -> Result<(), Fail> {
+    let alloc = rt.alloc();
+    let text =
+        r#"{"taverna":1,"main":"m","flows":{"m":{"inputs":{"x":7},"steps":{"s":{"inputs":{"i":{"depth":1,"from":{"constant":["a"]}}},"strategy":{"dot":["i"]},"activities":[{"service":"a"},{"flow":"f"}],"retries":4}},"outputs":{"a":{"merge":[{"input":"x"},{"step":"s","port":"o"}]}}}}}"#;
+    let json = Json::from_str(alloc, text)?;
+    let document = read_document(alloc, &json)
+        .ok()
+        .ok_or("a document is refused")?;
+    let flow = document.flows.as_slice().first().ok_or("no flow")?;
+    let copy = flow.1.copy(alloc)?;
+    let input = copy.inputs.as_slice().first().ok_or("no input")?;
+    assert_eq!(rt; input.1, 7);
+    let step = copy.steps.as_slice().first().ok_or("no step")?;
+    assert_eq!(rt; step.0.as_str(), "s");
+    assert_eq!(rt; step.1.retries, 4);
+    assert_eq!(rt; step.1.activities.as_slice().len(), 2);
+    assert!(rt; step.1.strategy.is_some());
+    let output = copy.outputs.as_slice().first().ok_or("no output")?;
+    match &output.1 {
+        Feed::Merge(links) => assert_eq!(rt; links.as_slice().len(), 2),
+        _ => panic!(rt; "a merge is another feed"),
     }
     Ok(())
 }
