@@ -67,3 +67,33 @@ fn defaults_are_written_but_an_absent_strategy(rt: HostRuntime) -> Result<(), Fa
     }
     Ok(())
 }
+
+/// A text of every form that has all fields, its keys in byte order and its values as strings, is what is written again.
+#[test]
+fn whole_documents_are_written_as_they_were_read(rt: HostRuntime) -> Result<(), Fail> {
+    let alloc = rt.alloc();
+    let text =
+        r#"{"flows":{"f":{"inputs":{},"outputs":{},"steps":{}},"m":{"inputs":{"x":0,"y":32},"outputs":{"a":{"input":"x"},"b":{"port":"o","step":"s"},"c":{"merge":[{"port":"o","step":"s"},{"input":"x"}]},"d":{"constant":[["1"],[]]}},"steps":{"s":{"activities":[{"service":"b"},{"flow":"f"},{"service":"a"}],"after":["t","u"],"inputs":{"i":{"depth":2,"from":{"constant":""}},"j":{"depth":0,"from":{"merge":[{"input":"y"}]}}},"jobs":64,"outputs":{"o":1,"p":0},"retries":100,"strategy":{"cross":["j",{"dot":["i"]}]}}}}},"inputs":{"x":"18446744073709551615","y":[]},"main":"m","taverna":1}"#;
+    let json = Json::from_str(alloc, text)?;
+    let document = read_document(alloc, &json)
+        .ok()
+        .ok_or("a document is refused")?;
+    let json = json_of_document(alloc, &document)?;
+    assert_eq!(rt; compact(alloc, &json)?.as_str(), text);
+    Ok(())
+}
+
+/// Floats, of which the clauses say only that they read back.
+#[test]
+fn floats_are_written_with_a_point_or_an_exponent(rt: HostRuntime) -> Result<(), Fail> {
+    let alloc = rt.alloc();
+    let json = Json::from_str(
+        alloc,
+        "[ 1e0, -0, 0.50, 1E300, -1.5e-7, null, { \"a\": true } ]",
+    )?;
+    assert_eq!(rt;
+        compact(alloc, &json)?.as_str(),
+        "[1.0,-0.0,0.5,1e+300,-1.5e-7,null,{\"a\":true}]"
+    );
+    Ok(())
+}

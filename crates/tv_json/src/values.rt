@@ -1,8 +1,11 @@
 //! The JSON trees of values, and their texts.
-ghost use Rattle.std.specs.Prelude.{◌≡◌, IfOk, string_bytes, map, false, codes, [], ◌∷◌};
-ghost use Rattle.serde_json.specs.Data.{string, object, number, unsigned};
+ghost use Rattle.std.specs.Prelude.{◌≡◌, ◌≤◌, IfOk, Some, string_bytes, map, false, codes, [], ◌∷◌};
+ghost use Rattle.json.specs.Lex.{tokens};
+ghost use Rattle.json.specs.Print.{print};
+ghost use Rattle.serde_json.specs.Data.{string, object, number, unsigned, depth};
+ghost use Rattle.serde_json.specs.Read.{read, max_depth};
 ghost use Rattle.serde_json.specs.View.{view as json_view, items_view as json_items};
-ghost use Rattle.serde_json.specs.Written.{compact_text, has_float};
+ghost use Rattle.serde_json.specs.Written.{compact_text, has_float, IsInOrder};
 ghost use Rattle.tv_value.specs.Printed.{json, all_json, error_json, job_text, strings, members};
 ghost use Rattle.tv_value.specs.Views.{view, items_view, error_view};
 
@@ -66,8 +69,15 @@ fn strings_of_names(alloc: Global, names: &JobNames) -> Result<Vec<Json>, NoMemo
 }
 
 /// The text of a JSON tree, as `serde_json` writes it with no space between its tokens.
+///
+/// The clauses give the very text of a tree with no float. That of every tree is its tokens with nothing between them,
+/// it has the tree's items and members in order, and it reads back as the tree, if that is nested no deeper than reading
+/// goes. Linear in the tree.
 pub fn compact(alloc: Global, json: &Json) -> Result<Text, NoMemory>
-    ensures { IfOk result (λ t. has_float (json_view json.now) ≡ false → t ≡ compact_text (json_view json.now)) }
+    ensures text { IfOk result (λ t. has_float (json_view json.now) ≡ false → t ≡ compact_text (json_view json.now)) }
+    ensures no_space { IfOk result (λ t. t ≡ print (tokens t)) }
+    ensures order { IfOk result (λ t. IsInOrder t (json_view json.now)) }
+    ensures reads_back { IfOk result (λ t. depth (json_view json.now) ≤ max_depth → read t ≡ Some (json_view json.now)) }
 {
     Ok(Text::of(json.to_string(alloc)?))
 }

@@ -41,6 +41,33 @@ fn each_kind_has_its_line(rt: HostRuntime) -> Result<(), Fail> {
     Ok(())
 }
 
+/// The path of a fault is compact JSON: with no part, and with keys of which some bytes are escaped.
+#[test]
+fn paths_are_compact_json(rt: HostRuntime) -> Result<(), Fail> {
+    let alloc = rt.alloc();
+    let kind = FormKind::Unknown;
+    let table = [
+        ("", "\"\""),
+        ("a b/", "\"a b/\""),
+        ("\"\\", "\"\\\"\\\\\""),
+        ("\n\t\u{1}\u{7f}", "\"\\n\\t\\u0001\u{7f}\""),
+        ("\u{e9}\u{1f600}", "\"\u{e9}\u{1f600}\""),
+    ];
+    for (key, printed) in table {
+        let mut parts = Vec::new(alloc);
+        parts.push(Part::Key(Text::from_str(alloc, key)?))?;
+        parts.push(Part::Index(4294967295))?;
+        let path = Sequence::of(parts);
+        let line = form_line(alloc, &FormFault::Form { kind, path })?;
+        let due = format!(in alloc; "taverna: form fault 2 unknown at [{printed},4294967295]\n")?;
+        assert_eq!(rt; line.as_str(), due.as_str());
+    }
+    let path = Sequence::empty(alloc);
+    let line = form_line(alloc, &FormFault::Form { kind, path })?;
+    assert_eq!(rt; line.as_str(), "taverna: form fault 2 unknown at []\n");
+    Ok(())
+}
+
 fn name(alloc: Global, text: &str) -> Result<Name, NoMemory> {
     Text::from_str(alloc, text)
 }
