@@ -1,11 +1,14 @@
+pub mod Alike
 pub mod Arranged
 pub mod Counting
 pub mod Cycles
 pub mod Depths
+pub mod Gathers
+pub mod Late
+pub mod Leaves
 pub mod Measuring
 pub mod Members
 pub mod Rows
-pub mod Searching
 pub mod Tables
 pub mod Taking
 pub mod Walks

@@ -66,6 +66,7 @@ impl Graph {
         requires { vertex < length self.now }
         ensures value { result.now ≡ before self.now vertex }
         ensures within { list_all (λ u. nat_lt u (length self.now)) result.now ≡ true }
+        ensures graph { is_graph self.now ≡ true }
     {
         &self.lists[vertex as usize]
     }

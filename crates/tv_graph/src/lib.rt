@@ -12,11 +12,15 @@
 //! the heights before it. No clause says how long a call takes; the comments of the calls do.
 //!
 //! `graph` has the type, `orders` the three calls, `untaken` with `waiting` and `free` what `by_least` keeps while it takes
-//! vertices, and `search` the search for what comes before a vertex. In `proofs/`, for crates above: `Walks` (what comes
-//! before what), `Arranged` and `Cycles` (`by_least` against cycles), `Measuring` and `Depths` (heights), `Counting` (how
-//! many numbers pass a test).
+//! vertices. `cyclic` finds the vertices that come before themselves by two searches: that of `walk` leaves each vertex
+//! after what comes before it (`specs/Leaving.antt`), and one goes the other way from those left last
+//! (`specs/Gathered.antt`), by the step in `search`.
+//!
+//! In `proofs/`, for crates above: `Walks` (what comes before what), `Arranged` and `Cycles` (`by_least` against cycles),
+//! `Measuring` and `Depths` (heights), `Counting` (how many numbers pass a test).
 #![tactic(auto)]
 
+mod cyclic;
 mod free;
 mod graph;
 pub mod laws;
@@ -27,6 +31,7 @@ mod search;
 mod tests;
 mod untaken;
 mod waiting;
+mod walk;
 
 pub use graph::{Graph, is_graph};
 pub use memory::NoMemory;

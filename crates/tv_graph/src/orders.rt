@@ -1,11 +1,11 @@
 //! Orders of vertices, cycles and heights.
 ghost use Rattle.std.specs.Prelude.{◌≡◌, ◌<◌, ℕ, true, false, length, map, nat_lt, slice_index, slice_index_or, IfOk, None};
 ghost use Rattle.std.specs.List.{list_all};
-ghost use Rattle.tv_graph.specs.Graphs.{by_least, first_on_cycle, greatest, heights, is_on_cycle, is_one_of};
+ghost use Rattle.tv_graph.specs.Graphs.{by_least, first_on_cycle, greatest, heights, is_one_of};
 
+use crate::cyclic::cyclic;
 use crate::graph::Graph;
 use crate::memory::NoMemory;
-use crate::search::marks_before;
 use crate::untaken::Untaken;
 use std::alloc::Global;
 
@@ -38,22 +38,8 @@ fn marks_of(alloc: Global, vertices: &[u32], count: usize) -> Result<Vec<bool>, 
     Ok(marks)
 }
 
-/// Whether a vertex comes before itself, where none of those marked in `came` does.
-fn is_on_cycle(alloc: Global, graph: &Graph, came: &[bool], vertex: u32) -> Result<bool, NoMemory>
-    requires vertex { vertex < length graph.now }
-    requires count { length came.now ≡ length graph.now }
-    requires came { slice_index_or came.now vertex false ≡ true → is_on_cycle graph.now vertex ≡ false }
-    ensures { IfOk result (λ yes. yes ≡ is_on_cycle graph.now vertex) }
-{
-    if came[vertex as usize] {
-        return Ok(false);
-    }
-    let marks = marks_before(alloc, graph, vertex)?;
-    Ok(marks[vertex as usize])
-}
-
-/// The least vertex that comes before itself. Where there is none it takes the time of `by_least`; else that of a search
-/// through all edges for each vertex that `by_least` lacks, up to the answer.
+/// The least vertex that comes before itself. Where there is none it takes the time of `by_least`; else time linear in
+/// vertices and edges besides.
 pub fn first_on_cycle(alloc: Global, graph: &Graph) -> Result<Option<u32>, NoMemory>
     ensures { IfOk result (λ v. v ≡ first_on_cycle graph.now) }
 {
@@ -62,9 +48,10 @@ pub fn first_on_cycle(alloc: Global, graph: &Graph) -> Result<Option<u32>, NoMem
     if order.len() == count {
         return Ok(None);
     }
-    let came = marks_of(alloc, &order, count)?;
+    let cyclic = cyclic(alloc, graph)?;
+    let marks = marks_of(alloc, &cyclic, count)?;
     for vertex in 0..count as u32 {
-        if is_on_cycle(alloc, graph, &came, vertex)? {
+        if marks[vertex as usize] {
             return Ok(Some(vertex));
         }
     }

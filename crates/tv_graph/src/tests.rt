@@ -36,7 +36,7 @@ fn lists_of(alloc: Global, rows: &[&[u32]]) -> Result<Vec<Vec<u32>>, Fail> {
 #[test]
 fn small_graphs(rt: HostRuntime) -> Result<(), Fail> {
     let alloc = rt.alloc();
-    let table: [(&[&[u32]], &[u32], Option<u32>, &[u32]); 10] = [
+    let table: [(&[&[u32]], &[u32], Option<u32>, &[u32]); 11] = [
         (&[], &[], None, &[]),
         (&[&[]], &[0], None, &[1]),
         (&[&[0]], &[], Some(0), &[]),
@@ -52,6 +52,7 @@ fn small_graphs(rt: HostRuntime) -> Result<(), Fail> {
         (&[&[1], &[2], &[2, 3], &[4], &[3]], &[], Some(2), &[]),
         (&[&[1], &[2], &[], &[4], &[3]], &[2, 1, 0], Some(3), &[]),
         (&[&[1], &[2], &[0], &[], &[3]], &[3, 4], Some(0), &[]),
+        (&[&[3], &[0, 2], &[1], &[4], &[3]], &[], Some(1), &[]),
     ];
     for (rows, order, first, levels) in table {
         check(&rt, alloc, lists_of(alloc, rows)?, order, first, levels)?;

@@ -22,7 +22,7 @@ pub(crate) struct Untaken {
 }
 
 /// The first place, from `place` on, of a vertex that isn't taken, or the list's length.
-fn next_untaken(before: &[u32], taken: &[bool], place: usize) -> usize
+pub(crate) fn next_untaken(before: &[u32], taken: &[bool], place: usize) -> usize
     requires within { list_all (λ u. nat_lt u (length taken.now)) before.now ≡ true }
     requires passed { list_all (λ u. slice_index_or taken.now u false) (take place before.now) ≡ true }
     ensures passed { list_all (λ u. slice_index_or taken.now u false) (take result before.now) ≡ true }

@@ -1,4 +1,4 @@
-//! For each vertex the vertices that wait for it.
+//! For each vertex a list of vertices: those that wait for it, or those directly after it.
 ghost use Rattle.std.specs.Prelude.{◌≡◌, ◌<◌, ℕ, ◌&&◌, ◌||◌, ◌==◌, OnOk, IfOk, [], cond};
 ghost use Rattle.tv_graph.specs.Graphs.{is_one_of};
 ghost use Rattle.tv_graph.specs.Waiting.{waiting_at, waiting_length};
@@ -44,5 +44,12 @@ impl Waiting {
         ensures after { (u : ℕ) → waiting_at self.new u ≡ cond (u == at) [] (waiting_at self.old u) }
     {
         mem::replace(&mut self.lists[at as usize], Vec::new(alloc))
+    }
+    /// The vertices that wait for `at`.
+    pub(crate) fn at(&self, at: u32) -> &[u32]
+        requires { at < waiting_length self.now }
+        ensures { result.now ≡ waiting_at self.now at }
+    {
+        &self.lists[at as usize]
     }
 }
