@@ -4,12 +4,12 @@ use Rattle.std.specs.Option.{is_none, option_map_or}
 use Rattle.tv_value.specs.Values.{Name}
 use Rattle.tv_value.specs.Activities.{Activity, service, nested}
 use Rattle.tv_flow.specs.Flows.{Feed, Step, Flow, Document}
-use Rattle.tv_check.specs.Faulty.{Complaint, plainly, strategy_ports, no_such_port, no_such_flow, at_main, at_step, at_input, at_after, at_flow_output}
-use Rattle.tv_check.specs.Naming.{complain_if, has_name, fits_ports, link_complaints, numbered, activity_complaints, step_naming, flow_naming, naming_complaints}
-use Rattle.tv_check.specs.Cycles.{cycle_complaints, nesting_complaints, link_cycle_complaints}
-use Rattle.tv_check.specs.Depthwise.{depth_complaints}
-use Rattle.tv_check.specs.Inputs.{given_complaints}
-use Rattle.tv_check.specs.Passes.{complaints, first_of, checked}
+use Rattle.tv_naming.specs.Faulty.{Complaint, plainly, strategy_ports, no_such_port, no_such_flow, at_main, at_step, at_input, at_after, at_flow_output, first_of}
+use Rattle.tv_naming.specs.Naming.{complain_if, has_name, fits_ports, link_complaints, numbered, activity_complaints, step_naming, flow_naming, naming_complaints}
+use Rattle.tv_depths.specs.Cycles.{cycle_complaints, nesting_complaints, link_cycle_complaints}
+use Rattle.tv_depths.specs.Depthwise.{depth_complaints}
+use Rattle.tv_naming.specs.Inputs.{given_complaints}
+use Rattle.tv_check.specs.Passes.{complaints, checked}
 use Rattle.tv_check.specs.Plans.{IsAccepted}
 
 -- ---- lists that say nothing

@@ -8,17 +8,16 @@ use Rattle.tv_flow.specs.Flows.{Flow, Document}
 use Rattle.tv_flow.specs.Formed.{is_ascending, is_flow}
 use Rattle.tv_graph.specs.Graphs.{by_least}
 use Rattle.tv_graph.proofs.Cycles.{no_cycle-all_come, all_come-no_cycle}
-use Rattle.tv_check.specs.Faulty.{Complaint, plainly, link_cycle, at_step}
-use Rattle.tv_check.specs.Ranks.{earlier_steps, ranked}
-use Rattle.tv_check.specs.Cycles.{reaches, steps_before, flow_link_cycles, link_cycle_complaints}
+use Rattle.tv_naming.specs.Faulty.{Complaint, plainly, link_cycle, at_step, first_of}
+use Rattle.tv_depths.specs.Ranks.{earlier_steps, ranked}
+use Rattle.tv_depths.specs.Cycles.{reaches, steps_before, flow_link_cycles, link_cycle_complaints}
 use Rattle.tv_check.specs.NamedGraphs.{numbers_of, links_inside}
 use Rattle.tv_check.specs.RankLaws.{is_acyclic}
-use Rattle.tv_check.specs.Passes.{first_of}
-use Rattle.tv_check.proofs.OfLists.{Each, each-get}
-use Rattle.tv_check.proofs.ByPosition.{names_of}
+use Rattle.tv_naming.proofs.OfLists.{Each, each-get}
+use Rattle.tv_naming.proofs.ByPosition.{names_of}
 use Rattle.tv_check.proofs.OfGraphs.{graph, at, graph_of-is}
 use Rattle.tv_check.proofs.OfCycles.{first-reaching, on_cycle, first-told}
-use Rattle.tv_check.proofs.OfForms.{steps-named}
+use Rattle.tv_naming.proofs.OfForms.{steps-named}
 use Rattle.tv_check.proofs.OfRanks.{ranked-numbers}
 
 none-fails : {X : Type 0} (p : X → Bool) (xs : List X) → list_all (λ x. not (p x)) xs ≡ true → find p xs ≡ None

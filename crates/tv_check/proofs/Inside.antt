@@ -8,12 +8,12 @@ use Rattle.tv_value.specs.Values.{Name}
 use Rattle.tv_value.specs.Orders.{named}
 use Rattle.tv_value.specs.Activities.{Activity, service, nested}
 use Rattle.tv_flow.specs.Flows.{Link, input, output, Feed, link, merge, constant, Step, Flow, Document}
-use Rattle.tv_check.specs.Faulty.{Where, Complaint, plainly, no_such_port, no_such_flow, at_main, at_input, at_after}
-use Rattle.tv_check.specs.Naming.{has_name, is_there, complain_if, link_complaints, numbered, activity_complaints, step_naming, flow_naming, naming_complaints}
-use Rattle.tv_check.specs.Ranks.{link_step, feed_steps, earlier_steps}
-use Rattle.tv_check.specs.Cycles.{opened_flow, opened_flows}
+use Rattle.tv_naming.specs.Faulty.{Where, Complaint, plainly, no_such_port, no_such_flow, at_main, at_input, at_after}
+use Rattle.tv_naming.specs.Naming.{has_name, is_there, complain_if, link_complaints, numbered, activity_complaints, step_naming, flow_naming, naming_complaints}
+use Rattle.tv_depths.specs.Ranks.{link_step, feed_steps, earlier_steps}
+use Rattle.tv_depths.specs.Cycles.{opened_flow, opened_flows}
 use Rattle.tv_check.specs.NamedGraphs.{leads_inside, links_inside, names_inside}
-use Rattle.tv_check.proofs.OfLists.{both, list_all-at, Each}
+use Rattle.tv_naming.proofs.OfLists.{both, list_all-at, Each}
 
 pub nil-parts : {X : Type 0} (xs ys : List X) → xs ++ ys ≡ [] → (xs ≡ []) × (ys ≡ [])
 nil-parts [] ys e = (refl, e)

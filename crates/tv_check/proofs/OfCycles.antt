@@ -9,16 +9,15 @@ use Rattle.tv_value.specs.Values.{Name}
 use Rattle.tv_value.specs.Orders.{same_name, name_cmp, named}
 use Rattle.tv_flow.specs.Formed.{is_ascending}
 use Rattle.tv_graph.specs.Graphs.{vertices, comes_before, is_on_cycle, first_on_cycle}
-use Rattle.tv_check.specs.Naming.{has_name, complain_if}
-use Rattle.tv_check.specs.Plans.{position}
-use Rattle.tv_check.specs.Cycles.{reaches}
-use Rattle.tv_check.specs.Faulty.{Complaint}
-use Rattle.tv_check.specs.Passes.{first_of}
+use Rattle.tv_naming.specs.Naming.{has_name, complain_if}
+use Rattle.tv_naming.specs.Numbers.{position}
+use Rattle.tv_depths.specs.Cycles.{reaches}
+use Rattle.tv_naming.specs.Faulty.{Complaint, first_of}
 use Rattle.tv_check.specs.NamedGraphs.{numbers_of}
-use Rattle.tv_check.proofs.OfLists.{both, Each, each-at, find-same, find-map, find-each}
-use Rattle.tv_check.proofs.ByPosition.{names_of, same_name-is, same_name-refl, below-differs, less, there, named-at}
+use Rattle.tv_naming.proofs.OfLists.{both, Each, each-at, find-same, find-map, find-each}
+use Rattle.tv_naming.proofs.ByPosition.{names_of, same_name-is, same_name-refl, below-differs, less, there, named-at}
 use Rattle.tv_flow.specs.Views.{each}
-use Rattle.tv_check.proofs.OfForms.{length-each, entry-each}
+use Rattle.tv_naming.proofs.OfForms.{length-each, entry-each}
 use Rattle.tv_check.proofs.OfGraphs.{next, graph, at, before-next, any-numbers, position-apart}
 
 -- ---- the numbers of the things, in their order

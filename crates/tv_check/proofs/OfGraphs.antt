@@ -9,12 +9,11 @@ use Rattle.tv_value.specs.Values.{Name}
 use Rattle.tv_value.specs.Orders.{same_name, named}
 use Rattle.tv_flow.specs.Views.{each}
 use Rattle.tv_graph.specs.Graphs.{Graph, is_graph, before}
-use Rattle.tv_check.specs.Naming.{has_name}
-use Rattle.tv_check.specs.Plans.{position}
-use Rattle.tv_check.specs.Numbers.{number_in}
+use Rattle.tv_naming.specs.Naming.{has_name}
+use Rattle.tv_naming.specs.Numbers.{number_in, position}
 use Rattle.tv_check.specs.NamedGraphs.{numbers_of, graph_of}
-use Rattle.tv_check.proofs.ByPosition.{same_name-is, same_name-refl, there, number-found}
-use Rattle.tv_check.proofs.OfLists.{map-same, map-map, filter_map-same}
+use Rattle.tv_naming.proofs.ByPosition.{same_name-is, same_name-refl, there, number-found}
+use Rattle.tv_naming.proofs.OfLists.{map-same, map-map, filter_map-same}
 
 -- ---- the numbers are vertices
 

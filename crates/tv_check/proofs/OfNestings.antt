@@ -11,14 +11,13 @@ use Rattle.tv_value.specs.Orders.{named, same_name}
 use Rattle.tv_flow.specs.Flows.{Flow, Document}
 use Rattle.tv_flow.specs.Formed.{is_ascending}
 use Rattle.tv_graph.specs.Graphs.{Graph, first_on_cycle, greatest, height, heights}
-use Rattle.tv_check.specs.Naming.{complain_if}
-use Rattle.tv_check.specs.Faulty.{Complaint}
-use Rattle.tv_check.specs.Cycles.{opened_flows, flows_in, nesting, nestings, cycle_complaints}
-use Rattle.tv_check.specs.Faulty.{at_flow, flow_cycle, plainly}
-use Rattle.tv_check.specs.Passes.{first_of}
+use Rattle.tv_naming.specs.Naming.{complain_if}
+use Rattle.tv_naming.specs.Faulty.{Complaint, first_of}
+use Rattle.tv_depths.specs.Cycles.{opened_flows, flows_in, nesting, nestings, cycle_complaints}
+use Rattle.tv_naming.specs.Faulty.{at_flow, flow_cycle, plainly}
 use Rattle.tv_check.specs.NamedGraphs.{numbers_of, leads_inside}
-use Rattle.tv_check.proofs.OfLists.{both, map-map, map-same}
-use Rattle.tv_check.proofs.ByPosition.{names_of}
+use Rattle.tv_naming.proofs.OfLists.{both, map-map, map-same}
+use Rattle.tv_naming.proofs.ByPosition.{names_of}
 use Rattle.tv_check.proofs.OfGraphs.{graph, at, before-next}
 use Rattle.tv_check.proofs.OfCycles.{vertices-are, first-reaching, first-told, on_cycle}
 use Rattle.tv_check.proofs.OfRanks.{numbers-all, all_there}

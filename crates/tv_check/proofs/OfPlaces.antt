@@ -6,7 +6,7 @@ use Rattle.std.proofs.lemmas.Bool.{eqb-true, eqb-false, ltb-true}
 use Rattle.std.proofs.lemmas.List.{drop_more, drop_all, get_or-set_same, get_or-set_other, length-set, ext_get_or, get_or-replicate, length-replicate}
 use Rattle.std.proofs.lemmas.List.FromFn.{length-map-range_with_len, get_or-map-range_with_len}
 use Rattle.tv_check.specs.RankNumbers.{place}
-use Rattle.tv_check.proofs.OfLists.{list_all-at}
+use Rattle.tv_naming.proofs.OfLists.{list_all-at}
 
 module _ (list : List ℕ) where
   -- what stands from i on is filled in

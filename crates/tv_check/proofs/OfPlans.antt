@@ -9,16 +9,17 @@ use Rattle.tv_flow.specs.Flows.{Feed, Step, Flow}
 use Rattle.tv_flow.specs.Views.{each, step_input_view}
 use Rattle.tv_flow.specs.declared.document.StepInput.{StepInput as CodeInput}
 use Rattle.tv_strategy.specs.Measures.{strategy_depth}
-use Rattle.tv_check.specs.CheckedDepths.{feed_depth, port_depth, flow_depths, measured_outputs}
-use Rattle.tv_check.specs.Ranks.{ranked}
-use Rattle.tv_check.specs.Steps.{strategy_of, ports_of}
+use Rattle.tv_depths.specs.CheckedDepths.{feed_depth, port_depth, flow_depths, measured_outputs}
+use Rattle.tv_depths.specs.Ranks.{ranked}
+use Rattle.tv_depths.specs.Steps.{strategy_of, ports_of}
+use Rattle.tv_naming.specs.Numbers.{position}
 use Rattle.tv_check.specs.Plans as plan
 use Rattle.tv_check.specs.Planned.{planned, IsPlanned}
-use Rattle.tv_check.specs.Tables.{known, IsMeasured, step_level, Agree}
-use Rattle.tv_check.proofs.OfDepths.{feed-agree}
-use Rattle.tv_check.proofs.FormedParts.{steps-ascend}
-use Rattle.tv_check.proofs.OfRanked.{all-ranked}
-use Rattle.tv_check.proofs.OfTold.{get-map}
+use Rattle.tv_depths.specs.Tables.{known, IsMeasured, step_level, Agree}
+use Rattle.tv_depths.proofs.OfDepths.{feed-agree}
+use Rattle.tv_naming.proofs.FormedParts.{steps-ascend}
+use Rattle.tv_depths.proofs.OfRanked.{all-ranked}
+use Rattle.tv_naming.proofs.OfTold.{get-map}
 
 -- the ports of a cross, one by one
 pub ports-listed : (is : List (Name × CodeInput)) → strategies_of (map (λ i. port i.0) is) ≡ ports_of (each step_input_view is)
@@ -26,12 +27,12 @@ ports-listed [] = refl
 ports-listed (i ∷ is) = ap (strategy (port i.0)) (ports-listed is)
 
 -- a step's plan is the one by the table
-pub planned-is : (f : Flow) (ls : List (Option ℕ)) → Agree (flow_depths f) (known f.steps ls) → (s : Name × Step) (rank depth : ℕ) → rank ≡ plan.position s.0 (ranked f.steps) → depth ≡ strategy_depth (port_depth f.inputs (flow_depths f) s.1) (strategy_of s.1) → planned f ls rank depth s.1 ≡ plan.step_plan f s
+pub planned-is : (f : Flow) (ls : List (Option ℕ)) → Agree (flow_depths f) (known f.steps ls) → (s : Name × Step) (rank depth : ℕ) → rank ≡ position s.0 (ranked f.steps) → depth ≡ strategy_depth (port_depth f.inputs (flow_depths f) s.1) (strategy_of s.1) → planned f ls rank depth s.1 ≡ plan.step_plan f s
 planned-is f ls same (n, s) rank depth r d =
     let whole : (Feed → ℕ) → ℕ → ℕ → plan.StepPlan =
     λ g k v. record { rank = k; tree = strategy_of s; depth = v; delivered = map (λ i. (i.0, g i.1.from)) s.inputs; mismatch = map (λ i. (i.0, g i.1.from - i.1.depth)) s.inputs }
     in
-    ap (λ g. whole g rank depth) (sym (feed-agree f.inputs (flow_depths f) (known f.steps ls) same)) ∙ ap (λ k. whole (feed_depth f.inputs (flow_depths f)) k depth) r ∙ ap (whole (feed_depth f.inputs (flow_depths f)) (plan.position n (ranked f.steps))) d
+    ap (λ g. whole g rank depth) (sym (feed-agree f.inputs (flow_depths f) (known f.steps ls) same)) ∙ ap (λ k. whole (feed_depth f.inputs (flow_depths f)) k depth) r ∙ ap (whole (feed_depth f.inputs (flow_depths f)) (position n (ranked f.steps))) d
 
 module _ {A B C : Type 0} (v : A → B) (g : C → B) where
   next-mapped : (ys : List C) (j : ℕ) (y : C) → slice_get ys j ≡ Some y → map g (take (suc j) ys) ≡ map g (take j ys) ++ g y ∷ []
@@ -49,8 +50,8 @@ module _ (f : Flow) (ls : List (Option ℕ)) (os : List (Name × ℕ)) (rs : Lis
   pub level-at : get_or ls j None ≡ Some (strategy_depth (port_depth f.inputs (flow_depths f) s.1) (strategy_of s.1))
   level-at = get_or_from_slice_get ls j _ None (ap (λ xs. slice_get xs j) h.levels_are ∙ get-map (λ (t : Name × Step). Some (strategy_depth (port_depth f.inputs (flow_depths f) t.1) (strategy_of t.1))) f.steps j s at)
 
-  pub rank-at : get_or rs j 0 ≡ plan.position s.0 (ranked f.steps)
-  rank-at = get_or_from_slice_get rs j _ 0 (ap (λ xs. slice_get xs j) h.ranks_are ∙ get-map (λ (t : Name × Step). plan.position t.0 (ranked f.steps)) f.steps j s at)
+  pub rank-at : get_or rs j 0 ≡ position s.0 (ranked f.steps)
+  rank-at = get_or_from_slice_get rs j _ 0 (ap (λ xs. slice_get xs j) h.ranks_are ∙ get-map (λ (t : Name × Step). position t.0 (ranked f.steps)) f.steps j s at)
 
   pub plan-at : (depth : ℕ) → get_or ls j None ≡ Some depth → planned f ls (get_or rs j 0) depth s.1 ≡ plan.step_plan f s
   plan-at depth e =
@@ -92,5 +93,5 @@ levels-are f ls os m e =
     let rank = all-ranked f.steps (steps-ascend f m.table.formed) e at.0 (k, at.1.0) in
     m.levels rank.0 k at.0 rank.1 at.1.0 ∙ ap Some (sym at.1.1))
 
-pub planned-from : (f : Flow) (ls : List (Option ℕ)) (os : List (Name × ℕ)) (rs : List ℕ) → IsMeasured f ls os → length (ranked f.steps) ≡ length f.steps → rs ≡ map (λ s. plan.position s.0 (ranked f.steps)) f.steps → IsPlanned f ls os rs
+pub planned-from : (f : Flow) (ls : List (Option ℕ)) (os : List (Name × ℕ)) (rs : List ℕ) → IsMeasured f ls os → length (ranked f.steps) ≡ length f.steps → rs ≡ map (λ s. position s.0 (ranked f.steps)) f.steps → IsPlanned f ls os rs
 planned-from f ls os rs m e r = record { measured = m; levels_are = levels-are f ls os m e; ranks_are = r }

@@ -10,13 +10,13 @@ use Rattle.tv_value.specs.Orders.{same_name}
 use Rattle.tv_flow.specs.Flows.{Step}
 use Rattle.tv_flow.specs.Formed.{is_ascending}
 use Rattle.tv_graph.specs.Graphs.{Graph, before, vertices, is_one_of, is_next, taken_by_least, by_least}
-use Rattle.tv_check.specs.Naming.{has_name}
-use Rattle.tv_check.specs.Plans.{position}
-use Rattle.tv_check.specs.Ranks.{earlier_steps, is_among, by_rank, ranked}
+use Rattle.tv_naming.specs.Naming.{has_name}
+use Rattle.tv_naming.specs.Numbers.{position}
+use Rattle.tv_depths.specs.Ranks.{earlier_steps, is_among, by_rank, ranked}
 use Rattle.tv_check.specs.RankNumbers.{place, numbers_by_rank, ranks_by_number}
 use Rattle.tv_check.specs.NamedGraphs.{numbers_of, leads_inside}
-use Rattle.tv_check.proofs.OfLists.{both, Each, each-at, list_all-at, find-same, find-map, find-each, find-filter, filter-filter, filter-same, filter-all, map-map, map-each, each-get, pair-same}
-use Rattle.tv_check.proofs.ByPosition.{names_of, same_name-sym, there, named-at, number-there}
+use Rattle.tv_naming.proofs.OfLists.{both, Each, each-at, list_all-at, find-same, find-map, find-each, find-filter, filter-filter, filter-same, filter-all, map-map, map-each, each-get, pair-same}
+use Rattle.tv_naming.proofs.ByPosition.{names_of, same_name-sym, there, named-at, number-there}
 use Rattle.tv_check.proofs.OfGraphs.{graph, at, before-next, position-apart}
 use Rattle.tv_check.proofs.OfCycles.{IsThere, each-there, positions, vertices-are}
 

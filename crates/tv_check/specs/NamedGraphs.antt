@@ -4,10 +4,10 @@ use Rattle.std.specs.List.{list_all}
 use Rattle.tv_value.specs.Values.{Name}
 use Rattle.tv_flow.specs.Flows.{Flow, Document}
 use Rattle.tv_graph.specs.Graphs.{Graph}
-use Rattle.tv_check.specs.Ranks.{earlier_steps}
-use Rattle.tv_check.specs.Naming.{has_name}
-use Rattle.tv_check.specs.Cycles.{opened_flows}
-use Rattle.tv_check.specs.Numbers.{number_in}
+use Rattle.tv_depths.specs.Ranks.{earlier_steps}
+use Rattle.tv_naming.specs.Naming.{has_name}
+use Rattle.tv_depths.specs.Cycles.{opened_flows}
+use Rattle.tv_naming.specs.Numbers.{number_in}
 
 -- of the names that are there
 abbrev pub numbers_of : {A : Type 0} → List (Name × A) → List Name → List ℕ

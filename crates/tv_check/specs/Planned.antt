@@ -3,11 +3,12 @@ use Rattle.std.specs.Prelude.{◌≡◌, ℕ, List, map, Option, Some}
 use Rattle.tv_flow.specs.Flows.{Step, Flow}
 use Rattle.tv_value.specs.Values.{Name}
 use Rattle.tv_strategy.specs.Measures.{strategy_depth}
-use Rattle.tv_check.specs.CheckedDepths.{port_depth, flow_depths}
-use Rattle.tv_check.specs.Ranks.{ranked}
-use Rattle.tv_check.specs.Steps.{strategy_of}
+use Rattle.tv_depths.specs.CheckedDepths.{port_depth, flow_depths}
+use Rattle.tv_depths.specs.Ranks.{ranked}
+use Rattle.tv_depths.specs.Steps.{strategy_of}
+use Rattle.tv_naming.specs.Numbers.{position}
 use Rattle.tv_check.specs.Plans as plan
-use Rattle.tv_check.specs.Tables.{IsMeasured, table_depth, table_mismatch}
+use Rattle.tv_depths.specs.Tables.{IsMeasured, table_depth, table_mismatch}
 
 -- with this rank, and this depth of its strategy
 abbrev pub planned : Flow → List (Option ℕ) → ℕ → ℕ → Step → plan.StepPlan
@@ -18,4 +19,4 @@ planned f ls rank depth s =
 pub record IsPlanned (f : Flow) (ls : List (Option ℕ)) (outputs : List (Name × ℕ)) (ranks : List ℕ) : Type 0 where
   pub measured : IsMeasured f ls outputs
   pub levels_are : ls ≡ map (λ s. Some (strategy_depth (port_depth f.inputs (flow_depths f) s.1) (strategy_of s.1))) f.steps
-  pub ranks_are : ranks ≡ map (λ s. plan.position s.0 (ranked f.steps)) f.steps
+  pub ranks_are : ranks ≡ map (λ s. position s.0 (ranked f.steps)) f.steps

@@ -1,20 +1,15 @@
 -- What the check works out for each step and flow, beside saying that the document is accepted.
-use Rattle.std.specs.Prelude.{◌≡◌, ℕ, suc, ◌-◌, List, [], ◌∷◌, map, Bool, true, if◌then◌else◌}
+use Rattle.std.specs.Prelude.{◌≡◌, ℕ, ◌-◌, List, map, Bool, true}
 use Rattle.std.specs.Option.{is_none}
 use Rattle.tv_value.specs.Values.{Name}
-use Rattle.tv_value.specs.Orders.{same_name}
 use Rattle.tv_value.specs.Strategies.{Strategy}
 use Rattle.tv_flow.specs.Flows.{Step, Flow, Document}
 use Rattle.tv_strategy.specs.Measures.{strategy_depth}
-use Rattle.tv_check.specs.Ranks.{ranked}
-use Rattle.tv_check.specs.Steps.{strategy_of}
-use Rattle.tv_check.specs.CheckedDepths.{feed_depth, port_depth, flow_depths, measured_outputs}
+use Rattle.tv_depths.specs.Ranks.{ranked}
+use Rattle.tv_depths.specs.Steps.{strategy_of}
+use Rattle.tv_depths.specs.CheckedDepths.{feed_depth, port_depth, flow_depths, measured_outputs}
 use Rattle.tv_check.specs.Passes.{checked}
-
--- the position of a name in a list, its length where the name isn't there
-abbrev pub position : {A : Type 0} → Name → List (Name × A) → ℕ
-position n [] = 0
-position n (m ∷ ms) = if same_name n m.0 then 0 else suc (position n ms)
+use Rattle.tv_naming.specs.Numbers.{position}
 
 pub record StepPlan : Type 0 where
   pub rank : ℕ

@@ -2,8 +2,8 @@
 use Rattle.std.specs.Prelude.{ℕ, suc, List, [], ◌∷◌, map, ◌==◌, if◌then◌else◌}
 use Rattle.tv_value.specs.Values.{Name}
 use Rattle.tv_flow.specs.Flows.{Step}
-use Rattle.tv_check.specs.Ranks.{ranked}
-use Rattle.tv_check.specs.Plans.{position}
+use Rattle.tv_depths.specs.Ranks.{ranked}
+use Rattle.tv_naming.specs.Numbers.{position}
 
 -- the number of each step, in the order of ranks
 abbrev pub numbers_by_rank : List (Name × Step) → List ℕ

@@ -3,19 +3,20 @@ ghost use Rattle.std.specs.Prelude.{◌≡◌, ◌<◌, IfOk, true, map, length}
 ghost use Rattle.tv_flow.specs.DocumentViews.{document_view};
 ghost use Rattle.tv_flow.specs.Views.{flow_view};
 ghost use Rattle.tv_check.specs.FlowPlanViews.{flow_plan_view};
-ghost use Rattle.tv_check.specs.Naming.{has_name};
+ghost use Rattle.tv_naming.specs.Naming.{has_name};
 ghost use Rattle.tv_check.specs.Plannable.{IsToPlan, IsPlannable};
-ghost use Rattle.tv_check.specs.Plans.{position, flow_plan, flow_plans};
+ghost use Rattle.tv_check.specs.Plans.{flow_plan, flow_plans};
+ghost use Rattle.tv_naming.specs.Numbers.{position};
 ghost use Rattle.tv_check.specs.RunViews.{run_view};
 
 use crate::cycles::ranks;
-use crate::lookup::number_of;
-use crate::measured::Measured;
 use crate::planning::flow_plan;
 use crate::plans::{FlowPlan, FlowPlans};
 use crate::run::CheckedRun;
 use std::alloc::Global;
+use tv_depths::Measured;
 use tv_flow::{Document, Flow};
+use tv_naming::number_of;
 use tv_value::{NoMemory, Sequence};
 
 /// The document with its plans. Linear in it, with a look-up for each link.

@@ -2,27 +2,36 @@
 ghost use Rattle.std.specs.Prelude.{◌≡◌, ◌++◌, IfOk, List, [], option_map};
 ghost use Rattle.tv_flow.specs.DocumentViews.{document_view};
 ghost use Rattle.tv_check.specs.Answered.{IsCheckOf};
-ghost use Rattle.tv_check.specs.Cycles.{nestings, cycle_complaints, nesting_complaints, link_cycle_complaints};
-ghost use Rattle.tv_check.specs.Faulty.{Complaint};
-ghost use Rattle.tv_check.specs.FaultViews.{fault_view};
-ghost use Rattle.tv_check.specs.Naming.{naming_complaints};
-ghost use Rattle.tv_check.specs.Passes.{checked, first_of};
-ghost use Rattle.tv_check.specs.Told.{IsToldOf};
+ghost use Rattle.tv_depths.specs.Cycles.{nestings, cycle_complaints, nesting_complaints, link_cycle_complaints};
+ghost use Rattle.tv_naming.specs.Faulty.{Complaint, first_of};
+ghost use Rattle.tv_naming.specs.FaultViews.{fault_view};
+ghost use Rattle.tv_naming.specs.Naming.{naming_complaints};
+ghost use Rattle.tv_check.specs.Passes.{checked};
+ghost use Rattle.tv_naming.specs.Told.{IsToldOf};
 
 use crate::accepted::checked_run;
 use crate::cycles::{flow_cycle_fault, link_cycle_fault, nesting_fault, nestings};
-use crate::depths::document_measured;
-use crate::faults::{CheckFault, CheckRefused};
-use crate::given::given_fault;
-use crate::naming::naming_fault;
 use crate::orders::orders_of;
 use crate::run::CheckedRun;
 use std::alloc::Global;
+use tv_depths::document_measured;
 use tv_flow::Document;
 use tv_gate::Services;
+use tv_naming::{CheckFault, CheckRefused, given_fault, naming_fault};
 
-/// The document with the plans of its flows, or the first complaint of the check for the services of a type. Near linear in
-/// the document, with a look-up for each name in it.
+/// The document with the plans of its flows, or the first complaint of the check for the services of a type.
+///
+/// The cost of an accepted document is near linear in it, with a look-up for each name. A refused one costs the passes up
+/// to the one that complains, in this order, and nothing of those after it:
+///
+/// - names: linear up to the complaint, with a look-up for each name;
+/// - flows that nest in themselves, and then those that nest too deep: a look-up for each activity of the document, and
+///   time near linear in flows and activities, wherever the flow stands that is complained of;
+/// - steps that come before themselves, flow by flow: a look-up for each link, and time near linear in the steps and links
+///   of each flow up to the one complained of;
+/// - depths: the order of all flows' steps, near linear in steps and links, and then linear up to the complaint, with a
+///   look-up for each link, and up to 8 passes over the list of flows;
+/// - values given: linear in the values, with a look-up for each.
 pub fn check<V: Services>(alloc: Global, document: Document) -> Result<CheckedRun, CheckRefused>
     ensures { IsCheckOf (checked V.knows (document_view document)) (document_view document) result }
 {

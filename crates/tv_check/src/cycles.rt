@@ -7,20 +7,19 @@ ghost use Rattle.tv_flow.specs.DocumentViews.{document_view};
 ghost use Rattle.tv_graph.specs.Graphs.{by_least, first_on_cycle, heights};
 ghost use Rattle.tv_check.specs.NamedGraphs.{leads_inside, links_inside};
 ghost use Rattle.tv_check.specs.RankNumbers.{numbers_by_rank, ranks_by_number, place};
-ghost use Rattle.tv_check.specs.FaultViews.{fault_view};
-ghost use Rattle.tv_check.specs.Passes.{first_of};
-ghost use Rattle.tv_check.specs.Faulty.{at_flow, at_step, flow_cycle, link_cycle, plainly, too_deep, with_numbers};
-ghost use Rattle.tv_check.specs.Cycles.{cycle_complaints, flow_link_cycles, link_cycle_complaints, nesting_complaints, nesting_limit, nestings, opened_flows};
+ghost use Rattle.tv_naming.specs.FaultViews.{fault_view};
+ghost use Rattle.tv_naming.specs.Faulty.{at_flow, at_step, flow_cycle, link_cycle, plainly, too_deep, with_numbers, first_of};
+ghost use Rattle.tv_depths.specs.Cycles.{cycle_complaints, flow_link_cycles, link_cycle_complaints, nesting_complaints, nesting_limit, nestings, opened_flows};
 
-use crate::faults::{CheckFault, CheckKind, Spot};
 use crate::graphs::{flow_graph, step_graph};
 use std::alloc::Global;
 use tv_flow::{Document, Flow};
 use tv_graph::Graph;
+use tv_naming::{CheckFault, CheckKind, Spot};
 use tv_value::{Copied, Name, NoMemory};
 
-/// The first flow in byte order that opens itself, by however many flows. Takes a look-up for each activity; where there is
-/// such a flow, as much as a search through all activities for each flow.
+/// The first flow in byte order that opens itself, by however many flows. Near linear in flows and activities, with a look-up
+/// for each activity.
 pub(crate) fn flow_cycle_fault(
     alloc: Global,
     document: &Document,
@@ -54,8 +53,8 @@ fn first_on_cycle(alloc: Global, graph: &Graph) -> Result<Option<u32>, NoMemory>
     tv_graph::first_on_cycle(alloc, graph).map_err(|_error| NoMemory)
 }
 
-/// The first step in byte order, flow by flow, that comes before itself. Takes a look-up for each link; where there is such
-/// a step, as much as a search through all links of its flow for each of the flow's steps.
+/// The first step in byte order, flow by flow, that comes before itself. Near linear in the steps and links of the flows up
+/// to its own, with a look-up for each link.
 pub(crate) fn link_cycle_fault(
     alloc: Global,
     document: &Document,

@@ -1,6 +1,6 @@
 //! The first flow and the first step on a cycle, of small documents.
 use crate::cycles::{flow_cycle_fault, link_cycle_fault};
-use crate::faults::{CheckFault, Spot};
+use crate::{CheckFault, Spot};
 use serde_json::Value as Json;
 use std::alloc::{AllocError, Global};
 use std::fmt::Write;

@@ -4,18 +4,16 @@ ghost use Rattle.tv_value.specs.Strategies.{cross, dot};
 ghost use Rattle.tv_value.specs.Views.{strategy_view, strategies_view};
 ghost use Rattle.tv_flow.specs.Formed.{is_step};
 ghost use Rattle.tv_flow.specs.Views.{each, flow_view, step_view, step_input_view};
-ghost use Rattle.tv_check.specs.Steps.{strategy_of, ports_of};
-ghost use Rattle.tv_check.specs.Tables.{IsTable, table_depth, table_mismatch};
+ghost use Rattle.tv_depths.specs.Steps.{strategy_of, ports_of};
+ghost use Rattle.tv_depths.specs.Tables.{IsTable, table_depth, table_mismatch};
 ghost use Rattle.tv_check.specs.PlanViews.{step_plan_view, IsOfDocument};
 ghost use Rattle.tv_check.specs.FlowPlanViews.{flow_plan_view};
 ghost use Rattle.tv_check.specs.Plans.{flow_plan, step_plan};
 ghost use Rattle.tv_check.specs.Planned.{planned, IsPlanned};
 
-use crate::delivered::feed_depth;
-use crate::levels::mismatches;
-use crate::measured::Measured;
 use crate::plans::{FlowPlan, StepPlan, StepPlans};
 use std::alloc::Global;
+use tv_depths::{Measured, feed_depth, mismatches};
 use tv_flow::{Flow, Step, StepInputs};
 use tv_value::{Copied, Depths, NoMemory, Sequence, Tree, Trees};
 

@@ -1,7 +1,8 @@
 //! What a checked document tells.
 ghost use Rattle.std.specs.Prelude.{◌≡◌, ◌<◌, length, slice_get, Some};
 ghost use Rattle.tv_flow.specs.DocumentViews.{document_view};
-ghost use Rattle.tv_check.specs.Plans.{IsAccepted, position, flow_plans};
+ghost use Rattle.tv_check.specs.Plans.{IsAccepted, flow_plans};
+ghost use Rattle.tv_naming.specs.Numbers.{position};
 ghost use Rattle.tv_check.specs.FlowPlanViews.{flow_plan_view};
 ghost use Rattle.tv_check.specs.RunViews.{run_view};
 

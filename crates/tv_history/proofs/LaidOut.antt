@@ -8,7 +8,7 @@ use Rattle.tv_gate.specs.Outcomes.{Giving}
 use Rattle.tv_model.specs.Jobs.{Job}
 use Rattle.tv_model.specs.Made.{Meaning, Opened}
 use Rattle.tv_model.specs.Meanings.{jobs_with_inside, instance_meaning, no_meaning, flow_meaning, meaning, most_nesting}
-use Rattle.tv_check.specs.Ranks.{ranked}
+use Rattle.tv_depths.specs.Ranks.{ranked}
 use Rattle.tv_history.specs.Entries.{History}
 use Rattle.tv_history.specs.Histories.{is_legal}
 use Rattle.tv_model.proofs.Tests.{Each}

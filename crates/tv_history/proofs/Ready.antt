@@ -10,7 +10,7 @@ use Rattle.tv_strategy.specs.Origins.{Origin, Known, at_start, by_job, by_level,
 use Rattle.tv_gate.specs.Outcomes.{Giving}
 use Rattle.tv_dispatch.specs.Jobs.{Ask}
 use Rattle.tv_model.specs.Jobs.{Job, job_needs}
-use Rattle.tv_check.specs.Delivered.{StepMeaning}
+use Rattle.tv_depths.specs.Delivered.{StepMeaning}
 use Rattle.tv_model.specs.Made.{Meaning}
 use Rattle.tv_model.specs.Meanings.{meaning}
 use Rattle.tv_history.specs.Entries.{History, is_accepted}

@@ -7,7 +7,7 @@ use Rattle.tv_value.specs.Values.{Name, JobName}
 use Rattle.tv_value.specs.Orders.{same_job}
 use Rattle.tv_gate.specs.Outcomes.{Giving}
 use Rattle.tv_model.specs.Jobs.{Job, job_needs}
-use Rattle.tv_check.specs.Delivered.{StepMeaning}
+use Rattle.tv_depths.specs.Delivered.{StepMeaning}
 use Rattle.tv_model.specs.Made.{Meaning}
 use Rattle.tv_model.specs.Turns.{is_bounced}
 use Rattle.tv_history.specs.Entries.{Entry, handed_out, accepted, bounced, closed, fault_passed, opened, ended, recalled, History, is_begun_entry, is_opened_entry, is_ended_entry, is_out}

@@ -13,7 +13,7 @@ use Rattle.tv_model.specs.Jobs.{Job}
 use Rattle.tv_model.specs.Made.{Meaning, Opened, Made}
 use Rattle.tv_model.specs.Meanings.{jobs_with_inside, instance_meaning, no_meaning, flow_meaning}
 use Rattle.tv_model.specs.Turns.{is_bounced}
-use Rattle.tv_check.specs.Ranks.{ranked}
+use Rattle.tv_depths.specs.Ranks.{ranked}
 use Rattle.tv_history.specs.Entries.{Entry, handed_out, accepted, bounced, closed, fault_passed, opened, ended, recalled, History, is_opened_entry, is_begun_entry}
 use Rattle.tv_model.specs.Lists.{first_of_list}
 use Rattle.tv_history.specs.Histories.{asks_left, is_settled, is_legal, is_legal_after}

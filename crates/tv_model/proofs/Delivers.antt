@@ -10,9 +10,9 @@ use Rattle.tv_strategy.specs.Origins.{Traced, fixed}
 use Rattle.tv_strategy.specs.Iterations.{Iteration}
 use Rattle.tv_strategy.specs.Measures.{strategy_depth}
 use Rattle.tv_gate.specs.Outcomes.{Giving}
-use Rattle.tv_check.specs.Delivered.{Delivered, Ported, nothing_delivered, wrapped, ported}
+use Rattle.tv_depths.specs.Delivered.{Delivered, Ported, nothing_delivered, wrapped, ported}
 use Rattle.tv_model.specs.Made.{Made, Meaning, Opened, link_value, feed_value, delivered_outputs}
-use Rattle.tv_check.specs.Steps.{port_mismatch, strategy_of}
+use Rattle.tv_depths.specs.Steps.{port_mismatch, strategy_of}
 use Rattle.tv_model.specs.Instances.{step_made}
 use Rattle.tv_model.specs.Agreeing.{constant_depth, StepDepths, link_depth, feed_depth, port_depth, step_depths, AllAre, FeedAgrees}
 pub use Rattle.tv_model.specs.Fitting.{AreRight, IsRight}

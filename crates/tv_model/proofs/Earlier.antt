@@ -13,10 +13,10 @@ use Rattle.tv_strategy.specs.Iterations.{End, job, passed, Iteration, Iterations
 use Rattle.tv_strategy.specs.Measures.{strategy_depth}
 use Rattle.tv_gate.specs.Outcomes.{Giving}
 use Rattle.tv_dispatch.specs.Jobs.{Fate, right, opens, wrong, tries, taken}
-use Rattle.tv_check.specs.Delivered.{Delivered}
+use Rattle.tv_depths.specs.Delivered.{Delivered}
 use Rattle.tv_model.specs.Jobs.{Job, job_needs}
 use Rattle.tv_model.specs.Made.{Meaning, Opened, Made, endings, result_of, delivered_outputs}
-use Rattle.tv_check.specs.Steps.{strategy_of, port_mismatch, bound_values, declared_depths, spot, node_origin}
+use Rattle.tv_depths.specs.Steps.{strategy_of, port_mismatch, bound_values, declared_depths, spot, node_origin}
 use Rattle.tv_model.specs.Instances.{with_fate, bounced_job, tried_job, job_on, node_jobs, step_made, steps_made}
 use Rattle.tv_model.proofs.Tests.{Each, or_right, same_job_decides}
 use Rattle.tv_model.proofs.Turns.{or_left, each-map}

@@ -7,10 +7,10 @@ use Rattle.tv_value.specs.Orders.{same_name, named}
 use Rattle.tv_flow.specs.Flows.{Link, input, output, Feed, link, merge, constant, Step}
 use Rattle.tv_strategy.specs.Origins.{Origin, Traced, fixed}
 use Rattle.tv_strategy.specs.Iterations.{job, Iteration, walk, iteration}
-use Rattle.tv_check.specs.Delivered.{Delivered, Ported, nothing_delivered, merged, wrapped, ported}
+use Rattle.tv_depths.specs.Delivered.{Delivered, Ported, nothing_delivered, merged, wrapped, ported}
 use Rattle.tv_model.specs.Made.{Made, link_value, feed_value, endings}
-use Rattle.tv_check.specs.Steps.{strategy_of, port_iteration}
-use Rattle.tv_check.specs.Ranks.{is_among}
+use Rattle.tv_depths.specs.Steps.{strategy_of, port_iteration}
+use Rattle.tv_depths.specs.Ranks.{is_among}
 use Rattle.tv_model.proofs.Tests.{Each}
 use Rattle.tv_strategy.proofs.OfSources.{each-append, walk-have, iteration-have, traced-have}
 use Rattle.tv_strategy.specs.Sources.{AtNodes, AtAllNodes, SourcesHave}

@@ -10,12 +10,12 @@ use Rattle.tv_strategy.specs.Origins.{Origin, by_job, fixed}
 use Rattle.tv_strategy.specs.Iterations.{Binding, job, passed, Iteration, Iterations}
 use Rattle.tv_strategy.specs.Measures.{strategy_depth}
 use Rattle.tv_gate.specs.Outcomes.{Giving}
-use Rattle.tv_check.specs.Delivered.{Delivered, StepMeaning}
+use Rattle.tv_depths.specs.Delivered.{Delivered, StepMeaning}
 use Rattle.tv_model.specs.Jobs.{Job}
 use Rattle.tv_model.specs.Made.{Meaning, Opened, Made, endings, result_of, delivered_outputs}
-use Rattle.tv_check.specs.Steps.{strategy_of, port_mismatch, spot, node_origin, bound_values}
+use Rattle.tv_depths.specs.Steps.{strategy_of, port_mismatch, spot, node_origin, bound_values}
 use Rattle.tv_model.specs.Instances.{node_jobs, job_on, step_made, steps_made}
-use Rattle.tv_check.specs.Ranks.{is_among}
+use Rattle.tv_depths.specs.Ranks.{is_among}
 use Rattle.tv_model.specs.Turns.{is_bounced, is_failed}
 use Rattle.tv_model.specs.Levels.{Level, level_at, levels}
 use Rattle.tv_model.proofs.Tests.{Each, true≠false, or_right}

@@ -11,9 +11,9 @@ use Rattle.tv_strategy.specs.Levels.{HasLevels}
 use Rattle.tv_strategy.specs.Measures.{strategy_depth, DotsAgree}
 use Rattle.tv_strategy.proofs.OfSources.{each-append}
 use Rattle.tv_gate.specs.Outcomes.{Giving}
-use Rattle.tv_check.specs.Delivered.{Delivered, Ported, ported}
-use Rattle.tv_check.specs.Ranks.{ranked}
-use Rattle.tv_check.specs.Steps.{port_mismatch, strategy_of}
+use Rattle.tv_depths.specs.Delivered.{Delivered, Ported, ported}
+use Rattle.tv_depths.specs.Ranks.{ranked}
+use Rattle.tv_depths.specs.Steps.{port_mismatch, strategy_of}
 use Rattle.tv_model.specs.Agreeing.{Agrees, FlowAgrees, StepAgrees, StepsAgree, InputsAgree, FeedsAgree, InputsHave, ActivitiesNest, StepsNest, NestsWithin, feed_depth, steps_depths, output_depths}
 use Rattle.tv_model.specs.Earlier.{given_of, job_list}
 use Rattle.tv_model.specs.Fitting.{AreRight, HaveDepths, IsStepOf, StepHasDepths, JobHasDepths, HasItsDepths}

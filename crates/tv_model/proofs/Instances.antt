@@ -13,7 +13,7 @@ use Rattle.tv_gate.specs.Outcomes.{Giving}
 use Rattle.tv_model.specs.Made.{Meaning, Made}
 use Rattle.tv_model.specs.Turns.{turn_of, ask_order}
 use Rattle.tv_model.specs.Instances.{steps_made}
-use Rattle.tv_check.specs.Ranks.{ranked, by_rank, is_among, earlier_steps}
+use Rattle.tv_depths.specs.Ranks.{ranked, by_rank, is_among, earlier_steps}
 use Rattle.tv_model.proofs.Tests.{Each, true≠false}
 use Rattle.tv_model.proofs.Turns.{each-map}
 use Rattle.tv_strategy.specs.Sources.{AtNodes, AtAllNodes}

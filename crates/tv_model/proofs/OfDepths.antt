@@ -16,8 +16,8 @@ use Rattle.tv_strategy.specs.Sources.{JobsStand, JobsStandFrom}
 use Rattle.tv_strategy.proofs.AtDepth.{walk-levels, iteration-levels, output-depth}
 use Rattle.tv_strategy.proofs.OfSources.{each-append}
 use Rattle.tv_gate.specs.Outcomes.{Giving}
-use Rattle.tv_check.specs.Delivered.{Ported}
-use Rattle.tv_check.specs.Steps.{bound_values, declared_depths, port_iteration, port_mismatch, spot, strategy_of}
+use Rattle.tv_depths.specs.Delivered.{Ported}
+use Rattle.tv_depths.specs.Steps.{bound_values, declared_depths, port_iteration, port_mismatch, spot, strategy_of}
 use Rattle.tv_model.specs.Agreeing.{ports_in, FindThemselves, ActivitiesAgree, ActivitiesNest, NestsWithin}
 use Rattle.tv_model.specs.Fitting.{AreRight, HaveDepths, PortsHave}
 use Rattle.tv_model.specs.Instances.{node_jobs, job_on}

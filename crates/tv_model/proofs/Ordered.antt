@@ -10,7 +10,7 @@ use Rattle.tv_gate.specs.Outcomes.{Giving}
 use Rattle.tv_model.specs.Made.{Meaning, Opened}
 use Rattle.tv_model.specs.Turns.{turn_of}
 use Rattle.tv_model.specs.Meanings.{jobs_with_inside, instance_meaning, no_meaning, flow_meaning}
-use Rattle.tv_check.specs.Ranks.{ranked}
+use Rattle.tv_depths.specs.Ranks.{ranked}
 use Rattle.tv_model.proofs.Turns.{In}
 use Rattle.tv_model.proofs.Fed.{named_map_or, each-all}
 use Rattle.tv_model.proofs.Earlier.{job_list}

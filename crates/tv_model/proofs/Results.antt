@@ -11,7 +11,7 @@ use Rattle.tv_strategy.specs.Origins.{Origin, Traced, plain}
 use Rattle.tv_gate.specs.Outcomes.{Outcome, good, bad, Giving}
 use Rattle.tv_dispatch.specs.Jobs.{value_complaint, or_else, first_complaint, ok_unless, judged, Ask, outcome_of, Try, ask, open_flow, tries, Fate, right, opens, wrong, Taken, taken, match_result, error_results}
 use Rattle.tv_model.specs.Made.{Meaning, Opened}
-use Rattle.tv_check.specs.Steps.{declared_depths}
+use Rattle.tv_depths.specs.Steps.{declared_depths}
 use Rattle.tv_model.specs.Instances.{zip_names, with_fate, bounced_job, tried_job, job_on}
 use Rattle.tv_model.specs.Agreeing.{FindThemselves, InputsHave, ActivityAgrees, ActivitiesAgree, ActivitiesNest, NestsWithin, output_depths}
 use Rattle.tv_model.proofs.Tests.{Each, true≠false, left_true, right_true}

@@ -12,10 +12,10 @@ use Rattle.tv_strategy.specs.Iterations.{Binding, End, job, passed, Iteration, I
 use Rattle.tv_strategy.specs.Measures.{strategy_depth}
 use Rattle.tv_strategy.specs.Outputs.{output_below, outputs_from, end_output}
 use Rattle.tv_gate.specs.Outcomes.{Giving}
-use Rattle.tv_check.specs.Delivered.{Delivered, StepMeaning}
+use Rattle.tv_depths.specs.Delivered.{Delivered, StepMeaning}
 use Rattle.tv_model.specs.Made.{Meaning, Made, Opened, endings, result_of, delivered_outputs}
-use Rattle.tv_check.specs.Steps.{spot, node_origin, port_mismatch, strategy_of}
-use Rattle.tv_check.specs.Ranks.{is_among}
+use Rattle.tv_depths.specs.Steps.{spot, node_origin, port_mismatch, strategy_of}
+use Rattle.tv_depths.specs.Ranks.{is_among}
 use Rattle.tv_model.specs.Instances.{step_made, steps_made}
 use Rattle.tv_model.specs.Levels.{Level, level_at, levels}
 use Rattle.tv_model.specs.Lists.{rest_of}

@@ -10,10 +10,10 @@ use Rattle.tv_flow.specs.Flows.{Step, Flow}
 use Rattle.tv_strategy.specs.Origins.{Origin, by_job}
 use Rattle.tv_gate.specs.Outcomes.{Giving}
 use Rattle.tv_model.specs.Jobs.{Job}
-use Rattle.tv_check.specs.Delivered.{StepMeaning}
+use Rattle.tv_depths.specs.Delivered.{StepMeaning}
 use Rattle.tv_model.specs.Made.{Meaning, Opened, Made}
 use Rattle.tv_model.specs.Meanings.{jobs_with_inside, steps_inside, instance_meaning, no_meaning, flow_meaning}
-use Rattle.tv_check.specs.Ranks.{ranked, by_rank, is_among, earlier_steps}
+use Rattle.tv_depths.specs.Ranks.{ranked, by_rank, is_among, earlier_steps}
 use Rattle.tv_model.specs.Turns.{is_bounced, is_failed}
 use Rattle.tv_model.specs.Levels.{Level, level_at, levels}
 use Rattle.tv_model.proofs.Tests.{Each, true≠false}

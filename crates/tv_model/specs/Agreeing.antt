@@ -10,10 +10,10 @@ use Rattle.tv_value.specs.Strategies.{Strategies, Strategy, cross, dot, no_strat
 use Rattle.tv_value.specs.Values.{HasDepth, Name, Value}
 use Rattle.tv_flow.specs.Flows.{Document, Feed, Flow, Link, Step, StepInput, constant, input, link, merge, output}
 use Rattle.tv_strategy.specs.Measures.{DotsAgree, strategy_depth}
-use Rattle.tv_check.specs.Ranks.{ranked}
-use Rattle.tv_check.specs.Steps.{declared_depths, strategy_of}
+use Rattle.tv_depths.specs.Ranks.{ranked}
+use Rattle.tv_depths.specs.Steps.{declared_depths, strategy_of}
 use Rattle.tv_model.specs.Meanings.{most_nesting}
-pub use Rattle.tv_check.specs.CheckedDepths.{StepDepths, link_depth, merged_depth, constant_depth, feed_depth, port_depth, step_depths, steps_depths, flow_depths, output_depths}
+pub use Rattle.tv_depths.specs.CheckedDepths.{StepDepths, link_depth, merged_depth, constant_depth, feed_depth, port_depth, step_depths, steps_depths, flow_depths, output_depths}
 
 abbrev pub AllAre : ℕ → List ℕ → Type 0
 AllAre d [] = Unit {0}

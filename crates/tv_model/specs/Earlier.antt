@@ -7,7 +7,7 @@ use Rattle.tv_value.specs.Values.{JobName, Name, Value}
 use Rattle.tv_flow.specs.Flows.{Flow}
 use Rattle.tv_strategy.specs.Origins.{input_value}
 use Rattle.tv_strategy.specs.Sources.{Each}
-use Rattle.tv_check.specs.Delivered.{Delivered}
+use Rattle.tv_depths.specs.Delivered.{Delivered}
 use Rattle.tv_model.specs.Jobs.{job_needs}
 use Rattle.tv_model.specs.Made.{Made, Opened}
 

@@ -5,8 +5,8 @@ use Rattle.tv_value.specs.Orders.{named}
 use Rattle.tv_value.specs.Values.{HasDepth, Name, Scalar}
 use Rattle.tv_flow.specs.Flows.{Flow, Step, StepInput}
 use Rattle.tv_strategy.specs.Sources.{Each}
-use Rattle.tv_check.specs.Delivered.{Delivered, Ported, StepMeaning}
-use Rattle.tv_check.specs.Steps.{declared_depths}
+use Rattle.tv_depths.specs.Delivered.{Delivered, Ported, StepMeaning}
+use Rattle.tv_depths.specs.Steps.{declared_depths}
 use Rattle.tv_model.specs.Jobs.{Job}
 use Rattle.tv_model.specs.Made.{Meaning}
 use Rattle.tv_model.specs.Members.{In}

@@ -9,8 +9,8 @@ use Rattle.tv_strategy.specs.Iterations.{Iteration, iteration, job, passed}
 use Rattle.tv_strategy.specs.Measures.{strategy_depth}
 use Rattle.tv_strategy.specs.Origins.{Origin, Traced, plain}
 use Rattle.tv_dispatch.specs.Jobs.{Fate, error_results, fault_makers, opens, right, taken, tries, wrong}
-use Rattle.tv_check.specs.Delivered.{Delivered, ported}
-use Rattle.tv_check.specs.Steps.{bound_values, declared_depths, node_origin, port_iteration, port_mismatch, spot, strategy_of}
+use Rattle.tv_depths.specs.Delivered.{Delivered, ported}
+use Rattle.tv_depths.specs.Steps.{bound_values, declared_depths, node_origin, port_iteration, port_mismatch, spot, strategy_of}
 use Rattle.tv_model.specs.Jobs.{Job, bounced_end, failed_end, good_end}
 use Rattle.tv_model.specs.Made.{Made, Meaning, Opened, delivered_outputs, endings, feed_value}
 

@@ -8,8 +8,8 @@ use Rattle.tv_flow.specs.Flows.{Feed, Link}
 use Rattle.tv_strategy.specs.Iterations.{Iteration}
 use Rattle.tv_strategy.specs.Origins.{Origin, Traced}
 use Rattle.tv_dispatch.specs.Jobs.{Ask}
-use Rattle.tv_check.specs.Delivered.{Delivered, StepMeaning, feed_delivers, link_delivers}
-use Rattle.tv_check.specs.Steps.{endings_of, outputs_delivered}
+use Rattle.tv_depths.specs.Delivered.{Delivered, StepMeaning, feed_delivers, link_delivers}
+use Rattle.tv_depths.specs.Steps.{endings_of, outputs_delivered}
 use Rattle.tv_model.specs.Jobs.{Job}
 
 -- of a flow on given inputs: steps by rank, jobs in job order, both with those inside; and the asks in the order of one worker

@@ -7,8 +7,8 @@ use Rattle.tv_value.specs.Values.{JobName, Name, Value}
 use Rattle.tv_gate.specs.Outcomes.{Giving}
 use Rattle.tv_flow.specs.Flows.{Document, Flow}
 use Rattle.tv_strategy.specs.Origins.{input_value}
-use Rattle.tv_check.specs.Delivered.{StepMeaning}
-use Rattle.tv_check.specs.Ranks.{ranked}
+use Rattle.tv_depths.specs.Delivered.{StepMeaning}
+use Rattle.tv_depths.specs.Ranks.{ranked}
 use Rattle.tv_model.specs.Instances.{steps_made}
 use Rattle.tv_model.specs.Jobs.{Job}
 use Rattle.tv_model.specs.Made.{Meaning, Opened, feed_value}

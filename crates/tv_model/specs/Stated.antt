@@ -4,7 +4,7 @@ use Rattle.tv_value.specs.Orders.{named}
 use Rattle.tv_value.specs.Values.{JobName, Name, Value}
 use Rattle.tv_gate.specs.Outcomes.{Giving}
 use Rattle.tv_flow.specs.Flows.{Document, Flow}
-use Rattle.tv_check.specs.Ranks.{ranked}
+use Rattle.tv_depths.specs.Ranks.{ranked}
 use Rattle.tv_model.specs.Agreeing.{Agrees, output_depths}
 use Rattle.tv_model.specs.Asked.{IsOrdered}
 use Rattle.tv_model.specs.Earlier.{NeedEarlier, given_of}

@@ -10,9 +10,9 @@ use Rattle.tv_strategy.specs.Origins.{Origin, Known, at_start, by_job, by_level,
 use Rattle.tv_strategy.specs.Iterations.{Binding, End, job, passed, Iteration, Iterations, walk}
 use Rattle.tv_strategy.specs.Outputs.{end_output, output_below, outputs_from}
 use Rattle.tv_strategy.specs.Measures.{strategy_depth}
-use Rattle.tv_check.specs.Delivered.{Delivered, Ported, nothing_delivered, merged, wrapped, ported}
-use Rattle.tv_check.specs.Ranks.{is_among}
-use Rattle.tv_check.specs.Steps.{port_iteration, port_mismatch, strategy_of}
+use Rattle.tv_depths.specs.Delivered.{Delivered, Ported, nothing_delivered, merged, wrapped, ported}
+use Rattle.tv_depths.specs.Ranks.{is_among}
+use Rattle.tv_depths.specs.Steps.{port_iteration, port_mismatch, strategy_of}
 use Rattle.tv_model.specs.Made.{Made, link_value, feed_value, endings}
 use Rattle.tv_model.proofs.Tests.{true≠false}
 use Rattle.tv_model.proofs.Fed.{step_ports, step_iteration}

@@ -9,7 +9,7 @@ use Rattle.tv_flow.specs.Flows.{Document, Step}
 use Rattle.tv_strategy.specs.Origins.{Origin, Traced, plain}
 use Rattle.tv_gate.specs.Outcomes.{Giving}
 use Rattle.tv_dispatch.specs.Jobs.{Ask, outcome_of, Try, ask, open_flow, tries, Fate, right, opens, wrong, Taken, taken, match_result}
-use Rattle.tv_check.specs.Steps.{declared_depths}
+use Rattle.tv_depths.specs.Steps.{declared_depths}
 use Rattle.tv_model.specs.Instances.{with_fate, bounced_job, tried_job, job_on}
 use Rattle.tv_model.specs.Jobs.{Job}
 use Rattle.tv_model.specs.Made.{Meaning}
@@ -26,7 +26,7 @@ AreDistinct as' = (a b : Ask) → In a as' → In b as' → a.activity ≡ b.act
 abbrev taken_by : Giving → Ask → List Try → Result (List Value) Text → Taken
 taken_by gives a ts r = match_result {C = Taken} r (λ vs. record { asks = a ∷ []; fate = right vs }) (λ reason. record { asks = a ∷ (taken gives reason ts).asks; fate = (taken gives reason ts).fate })
 
-taken-in : (gives : Giving) (why : Text) (ts : List Try) (b : Ask) → In b (taken gives why ts).asks → In (ask b) ts
+pub taken-in : (gives : Giving) (why : Text) (ts : List Try) (b : Ask) → In b (taken gives why ts).asks → In (ask b) ts
 taken-in gives why [] b h = absurd h
 taken-in gives why (open_flow f ∷ ts) b h = absurd h
 taken-in gives why (ask a ∷ ts) b h = by (outcome_of gives a) h (λ w k. taken-in gives w ts b k)
@@ -44,7 +44,7 @@ ask-part a b e = ap or_a e
     or_a (ask c) = c
     or_a (open_flow f) = a
 
-no-flow : (a : Ask) (f : Name) → ask a ≡ open_flow f → ⊥
+pub no-flow : (a : Ask) (f : Name) → ask a ≡ open_flow f → ⊥
 no-flow a f e = subst Holds e tt
   where
     Holds : Try → Type 0
@@ -52,13 +52,13 @@ no-flow a f e = subst Holds e tt
     Holds (open_flow g) = ⊥
 
 module _ (vs : List Value) (ds : List ℕ) (retries : ℕ) where
-  abbrev one_ask : Name → ℕ → ℕ → Ask
+  abbrev pub one_ask : Name → ℕ → ℕ → Ask
   one_ask s k n = record { service = s; inputs = vs; outputs = ds; activity = k; attempt = n }
 
-  abbrev attempts : Name → ℕ → List Try
+  abbrev pub attempts : Name → ℕ → List Try
   attempts s k = map (λ n. ask (one_ask s k n)) (range_with_len 0 (suc retries))
 
-  of-attempts : (s : Name) (k : ℕ) (a : Ask) → In (ask a) (attempts s k) → a ≡ one_ask s k a.attempt
+  pub of-attempts : (s : Name) (k : ℕ) (a : Ask) → In (ask a) (attempts s k) → a ≡ one_ask s k a.attempt
   of-attempts s k a h =
       let r = of-map (λ n. ask (one_ask s k n)) (ask a) (range_with_len 0 (suc retries)) h in
       let e = ask-part a (one_ask s k r.0) r.2 in

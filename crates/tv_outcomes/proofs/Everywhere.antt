@@ -8,9 +8,9 @@ use Rattle.tv_flow.specs.Flows.{Document, Flow, Step}
 use Rattle.tv_strategy.specs.Iterations.{Iteration, job, passed}
 use Rattle.tv_strategy.specs.Origins.{Origin, Traced}
 use Rattle.tv_gate.specs.Outcomes.{Giving}
-use Rattle.tv_check.specs.Delivered.{Delivered}
-use Rattle.tv_check.specs.Ranks.{ranked}
-use Rattle.tv_check.specs.Steps.{bound_values}
+use Rattle.tv_depths.specs.Delivered.{Delivered}
+use Rattle.tv_depths.specs.Ranks.{ranked}
+use Rattle.tv_depths.specs.Steps.{bound_values}
 use Rattle.tv_model.specs.Earlier.{given_of}
 use Rattle.tv_model.specs.Instances.{job_on, node_jobs, step_made, steps_made}
 use Rattle.tv_model.specs.Jobs.{Job}

@@ -9,7 +9,7 @@ use Rattle.tv_value.specs.Orders.{same_job}
 use Rattle.tv_strategy.specs.Origins.{Origin, Known, at_start, by_job, by_level}
 use Rattle.tv_gate.specs.Outcomes.{Giving}
 use Rattle.tv_dispatch.specs.Jobs.{Ask}
-use Rattle.tv_check.specs.Delivered.{StepMeaning}
+use Rattle.tv_depths.specs.Delivered.{StepMeaning}
 use Rattle.tv_model.specs.Jobs.{Job}
 use Rattle.tv_model.specs.Levels.{Level, levels}
 use Rattle.tv_model.specs.Lists.{rest_of}

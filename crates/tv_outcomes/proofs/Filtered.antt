@@ -1,5 +1,5 @@
 -- What passes a test in aligned lists is the same, where no dark member passes and twins pass alike.
-use Rattle.std.specs.Prelude.{◌≡◌, refl, ℕ, suc, ◌+◌, List, [], ◌∷◌, ◌++◌, map, filter, filter_map, find, length, count_by, cond, Bool, true, false, ◌||◌, ◌&&◌, Option, Some, None, option_map, if◌then◌else◌}
+use Rattle.std.specs.Prelude.{◌≡◌, refl, ℕ, suc, ◌+◌, List, [], ◌∷◌, ◌++◌, map, filter, filter_map, find, length, count_by, cond, Bool, true, false, ◌||◌, ◌&&◌, Option, Some, None, option_and_then, option_map, if◌then◌else◌}
 use Rattle.std.specs.List.{list_any, list_all, cons_option}
 use Rattle.std.specs.Option.{option_map_or}
 use Rattle.std.proofs.Common.{arith, sym, ap, ◌∙◌, inl, inr}
@@ -115,6 +115,29 @@ module _ {A : Type 0} (D E : A → Type 0) (T : A → A → Type 0) (p q : A →
   all-aligned (x ∷ xs) ys (inr a) =
       (λ i. t x a.twin a.like i && all-aligned xs a.rest a.more i)
       ∙ sym (ap (list_all q) a.whole ∙ list_all-append q a.dark (a.twin ∷ a.rest) ∙ ap (λ b. b && list_all q (a.twin ∷ a.rest)) (dark-all a.dark a.unseen))
+
+-- ---- the only one that passes
+
+no-other : {A : Type 0} (p q : A → Bool) (x : A) (xs : List A) → q x ≡ false → ((y : A) → In y xs → p y ≡ true → x ≡ y) → find (λ y. p y && q y) xs ≡ None
+no-other p q x [] h o = refl
+no-other {A = A} p q x (y ∷ xs) h o = by (p y) (q y) refl refl (no-other p q x xs h (λ z i. o z (inr i)))
+  where
+    by : (b c : Bool) → p y ≡ b → q y ≡ c → find (λ z. p z && q z) xs ≡ None → cond (b && c) (Some y) (find (λ z. p z && q z) xs) ≡ None
+    by false c e f k = k
+    by true false e f k = k
+    by true true e f k = absurd (true≠false (sym f ∙ ap q (sym (o y (inl refl) e)) ∙ h))
+
+pub find-first : {A C : Type 0} (p q : A → Bool) (f : A → C) (xs : List A) → ((x y : A) → In x xs → In y xs → p x ≡ true → p y ≡ true → x ≡ y) → option_and_then (λ x. if q x then Some (f x) else None) (find p xs) ≡ option_map f (find (λ x. p x && q x) xs)
+find-first p q f [] o = refl
+find-first {A = A} {C = C} p q f (x ∷ xs) o = by (p x) (q x) refl refl (find-first p q f xs (λ y z i h. o y z (inr i) (inr h)))
+  where
+    if_so : A → Option C
+    if_so y = if q y then Some (f y) else None
+
+    by : (b c : Bool) → p x ≡ b → q x ≡ c → option_and_then if_so (find p xs) ≡ option_map f (find (λ y. p y && q y) xs) → option_and_then if_so (cond b (Some x) (find p xs)) ≡ option_map f (cond (b && c) (Some x) (find (λ y. p y && q y) xs))
+    by false c e g k = k
+    by true true e g k = ap (λ d. if d then Some (f x) else None) g
+    by true false e g k = ap (λ d. if d then Some (f x) else None) g ∙ sym (ap (option_map f) (no-other p q x xs g (λ y i h. o x y (inl refl) (inr i) e h)))
 
 -- ---- through options
 

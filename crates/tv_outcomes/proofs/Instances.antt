@@ -12,9 +12,9 @@ use Rattle.tv_strategy.specs.Iterations.{Iteration, job, passed}
 use Rattle.tv_strategy.specs.Measures.{strategy_depth}
 use Rattle.tv_strategy.specs.Sources.{AtNodes}
 use Rattle.tv_gate.specs.Outcomes.{Giving}
-use Rattle.tv_check.specs.Delivered.{Delivered, StepMeaning}
-use Rattle.tv_check.specs.Ranks.{ranked}
-use Rattle.tv_check.specs.Steps.{spot, node_origin, port_mismatch, strategy_of}
+use Rattle.tv_depths.specs.Delivered.{Delivered, StepMeaning}
+use Rattle.tv_depths.specs.Ranks.{ranked}
+use Rattle.tv_depths.specs.Steps.{spot, node_origin, port_mismatch, strategy_of}
 use Rattle.tv_model.specs.Earlier.{given_of}
 use Rattle.tv_model.specs.Instances.{step_made, steps_made}
 use Rattle.tv_model.specs.Jobs.{Job}

@@ -16,3 +16,4 @@ pub mod Distinct
 pub mod Decided
 pub mod Computed
 pub mod Read
+pub mod Few

@@ -6,7 +6,7 @@ use Rattle.std.proofs.Common.{sym, ap, subst, ◌∙◌}
 use Rattle.tv_value.specs.Values.{JobName}
 use Rattle.tv_gate.specs.Outcomes.{Giving}
 use Rattle.tv_dispatch.specs.Jobs.{Ask}
-use Rattle.tv_check.specs.Delivered.{StepMeaning}
+use Rattle.tv_depths.specs.Delivered.{StepMeaning}
 use Rattle.tv_model.specs.Jobs.{Job}
 use Rattle.tv_model.specs.Lists.{first_of_list}
 use Rattle.tv_model.specs.Made.{Meaning, Opened}

@@ -10,8 +10,8 @@ use Rattle.tv_strategy.specs.Origins.{Origin, Known}
 use Rattle.tv_strategy.specs.Iterations.{End, job, passed, Iteration}
 use Rattle.tv_gate.specs.Outcomes.{Giving}
 use Rattle.tv_dispatch.specs.Jobs.{Ask, judged}
-use Rattle.tv_check.specs.Delivered.{StepMeaning}
-use Rattle.tv_check.specs.Steps.{spot}
+use Rattle.tv_depths.specs.Delivered.{StepMeaning}
+use Rattle.tv_depths.specs.Steps.{spot}
 use Rattle.tv_model.specs.Jobs.{Job}
 use Rattle.tv_model.specs.Levels.{Level, level_at, levels}
 use Rattle.tv_model.specs.Made.{Meaning}
@@ -25,13 +25,14 @@ use Rattle.tv_model.proofs.Fed.{each-all}
 use Rattle.tv_model.proofs.Formed.{IsNode, nodes-in, level-instance}
 use Rattle.tv_model.proofs.Members.{in_each, of-options}
 use Rattle.tv_model.proofs.Whole.{AnyNumber, IsWhole}
+use Rattle.tv_history.proofs.Ready.{are-jobs}
 use Rattle.tv_history.proofs.Running.{out-begun}
-use Rattle.tv_outcomes.specs.Agreed.{AgreeOn, AgreeNext, offer_of, bouncing, settling, ending, tries_out, out_count, running, settled_job, settled, HaveTheSameState}
+use Rattle.tv_outcomes.specs.Agreed.{AgreeOn, AgreeNext, offer_of, bouncing, settling, ending, tries_out, out_count, running, settled_job, settled, ready, stands, standing_of, standings, standing_at, HaveTheSameState}
 use Rattle.tv_outcomes.proofs.Aligned.{Aligned, aligned-one, aligned-flat, alike-nodes}
 use Rattle.tv_outcomes.proofs.Alike.{same-count}
 use Rattle.tv_outcomes.proofs.Delivers.{AlikeEnds}
 use Rattle.tv_outcomes.proofs.Facts.{never}
-use Rattle.tv_outcomes.proofs.Filtered.{filter-aligned, any-aligned, find-aligned, count-aligned, all-aligned, any-filtered, filter-all, map_or-of_map, filter-of_options, has_first}
+use Rattle.tv_outcomes.proofs.Filtered.{filter-aligned, any-aligned, find-aligned, count-aligned, all-aligned, any-filtered, filter-all, find-first, map_or-of_map, filter-of_options, has_first}
 use Rattle.tv_outcomes.proofs.Instances.{InstancesAlike}
 use Rattle.tv_outcomes.proofs.Iterated.{and_left, and_right, Dims, AreShared, SameIterations, shared-all, has-dims}
 use Rattle.tv_outcomes.proofs.Sides.{IsShut, IsDarkNow}
@@ -175,6 +176,58 @@ module _ (gives other : Giving) (m n : Meaning) (w : IsWhole gives AnyNumber m [
   settled-same =
       filter-aligned Dark Gone Twin Free (is_settled gives m past) (is_settled other n past) settled_job settled_job (λ j d. d.unsettled) (λ j d. d.unsettled) (λ x y _ t. t.settled) (λ x y _ t e i. record { name = t.name i; inputs = t.inputs i; result = t.result e i }) m.jobs n.jobs free al.jobs
 
+  ready-same : ready gives m past ≡ ready other n past
+  ready-same =
+      filter-aligned Dark Gone Twin Free (is_ready gives m past) (is_ready other n past) (λ j. j.name) (λ j. j.name) (λ j d. d.unready) (λ j d. d.unready) (λ x y _ t. is_ready-same x y t) (λ x y _ t _. t.name) m.jobs n.jobs free al.jobs
+
+  tried-same : (x y : Job) → Twin x y → (if is_none (next_ask gives m past x) then x.asks else []) ≡ (if is_none (next_ask other n past y) then y.asks else [])
+  tried-same x y t = by (is_none (next_ask gives m past x)) refl ∙ ap (λ o. if is_none o then y.asks else []) t.next
+    where
+      by : (b : Bool) → is_none (next_ask gives m past x) ≡ b → (if b then x.asks else []) ≡ (if b then y.asks else [])
+      by true e = t.asks e
+      by false e = refl
+
+  standing-same : (x y : Job) → Twin x y → standing_of gives m past x ≡ standing_of other n past y
+  standing-same x y t = λ i. record { name = t.name i; ready = is_ready-same x y t i; running = is_running-same x y t i; settled = t.settled i; out = is_out past (t.name i); nested = t.inner i; next = t.next i; tried = tried-same x y t i }
+
+  stands-same : (x y : Job) → Twin x y → stands gives m past x ≡ stands other n past y
+  stands-same x y t = λ i. is_ready-same x y t i || is_running-same x y t i || t.settled i || is_out past (t.name i) || t.inner i
+
+  -- a dark job just waits
+  module _ (g : Giving) (k : Meaning) (j : Job) where
+    dark-stands : list_any (is_begun_entry j.name) past ≡ false → is_ready g k past j ≡ false → is_settled g k past j ≡ false → is_open g k past j.name ≡ false → stands g k past j ≡ false
+    dark-stands b a s o =
+        or_none (is_ready g k past j || is_running g k past j || is_settled g k past j || is_out past j.name) (has_open_instance g k past j)
+        (or_none (is_ready g k past j || is_running g k past j || is_settled g k past j) (is_out past j.name)
+        (or_none (is_ready g k past j || is_running g k past j) (is_settled g k past j) (or_none (is_ready g k past j) (is_running g k past j) a (dark-running g k j b)) s)
+        (dark-out g k j b a))
+        (and_right (is_some j.opens) (is_open g k past j.name) o)
+
+    dark-named : (c : JobName) → stands g k past j ≡ false → (same_job c j.name && stands g k past j) ≡ false
+    dark-named c h = and_right (same_job c j.name) (stands g k past j) h
+
+  dark-here : (j : Job) → Dark j → stands gives m past j ≡ false
+  dark-here j d = dark-stands gives m j d.unbegun d.unready d.unsettled d.unopened
+
+  dark-there : (j : Job) → Gone j → stands other n past j ≡ false
+  dark-there j d = dark-stands other n j d.unbegun d.unready d.unsettled d.unopened
+
+  standings-same : standings gives m past ≡ standings other n past
+  standings-same = filter-aligned Dark Gone Twin Free (stands gives m past) (stands other n past) (standing_of gives m past) (standing_of other n past) dark-here dark-there (λ x y _ t. stands-same x y t) (λ x y _ t _. standing-same x y t) m.jobs n.jobs free al.jobs
+
+  -- the job of a name is the only one
+  at-name : (g : Giving) (k : Meaning) → IsWhole g AnyNumber k [] → (c : JobName) → standing_at g k past c ≡ option_map (standing_of g k past) (find (λ j. same_job c j.name && stands g k past j) k.jobs)
+  at-name g k u c =
+      find-first (λ j. same_job c j.name) (stands g k past) (standing_of g k past) k.jobs
+      (λ x y i h a b. (are-jobs g AnyNumber k [] u).once x y i h (sym ((same_job_decides c x.name).0 a) ∙ (same_job_decides c y.name).0 b))
+
+  standing_at-same : (c : JobName) → standing_at gives m past c ≡ standing_at other n past c
+  standing_at-same c =
+      at-name gives m w c
+      ∙ find-aligned Dark Gone Twin Free (λ j. same_job c j.name && stands gives m past j) (λ j. same_job c j.name && stands other n past j) (standing_of gives m past) (standing_of other n past) (λ j d. dark-named gives m j c (dark-here j d)) (λ j d. dark-named other n j c (dark-there j d))
+      (λ x y _ t i. same_job c (t.name i) && stands-same x y t i) (λ x y _ t _. standing-same x y t) m.jobs n.jobs free al.jobs
+      ∙ sym (at-name other n v c)
+
   -- ---- lists and passed faults
 
   abbrev LevelDark : Level → Type 0
@@ -313,7 +366,7 @@ module _ (gives other : Giving) (m n : Meaning) (w : IsWhole gives AnyNumber m [
   more-same = λ i. any-bounces i || any-settles i || any-ends i
 
   pub same-state : HaveTheSameState gives other m n past
-  same-state = record { offer = offered-found (offer_of gives m past) (offer_of other n past) offer-same; going = going-found (offer_of gives m past) (offer_of other n past) offer-same; bounce = bouncing-same; settle = settling-same; end = ending-same; more = more-same; done = refl; out = tries-out_same; out_count = out-same; running = running-same; settled = settled-same }
+  same-state = record { offer = offered-found (offer_of gives m past) (offer_of other n past) offer-same; going = going-found (offer_of gives m past) (offer_of other n past) offer-same; bounce = bouncing-same; settle = settling-same; end = ending-same; more = more-same; done = refl; out = tries-out_same; out_count = out-same; running = running-same; settled = settled-same; ready = ready-same; standings = standings-same; standing_at = standing_at-same }
 
   -- ---- which entries are legal next
 

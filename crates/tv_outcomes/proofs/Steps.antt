@@ -11,8 +11,8 @@ use Rattle.tv_strategy.specs.Iterations.{Binding, End, job, passed, Iteration, I
 use Rattle.tv_strategy.specs.Outputs.{output_below}
 use Rattle.tv_strategy.specs.Measures.{strategy_depth}
 use Rattle.tv_gate.specs.Outcomes.{Giving}
-use Rattle.tv_check.specs.Delivered.{Delivered, StepMeaning}
-use Rattle.tv_check.specs.Steps.{spot, node_origin, bound_values, port_mismatch, strategy_of}
+use Rattle.tv_depths.specs.Delivered.{Delivered, StepMeaning}
+use Rattle.tv_depths.specs.Steps.{spot, node_origin, bound_values, port_mismatch, strategy_of}
 use Rattle.tv_model.specs.Instances.{job_on, node_jobs, step_made, steps_made}
 use Rattle.tv_model.specs.Levels.{Level, level_at}
 use Rattle.tv_model.specs.Made.{Meaning, Opened, Made, endings, result_of, delivered_outputs}

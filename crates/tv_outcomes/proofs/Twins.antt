@@ -9,8 +9,8 @@ use Rattle.tv_flow.specs.Flows.{Step}
 use Rattle.tv_strategy.specs.Origins.{Origin, Known, Traced, plain}
 use Rattle.tv_gate.specs.Outcomes.{Giving}
 use Rattle.tv_dispatch.specs.Jobs.{Ask, Fate, right, opens, wrong, Try, tries, Taken, taken}
-use Rattle.tv_check.specs.Delivered.{StepMeaning}
-use Rattle.tv_check.specs.Steps.{spot, declared_depths}
+use Rattle.tv_depths.specs.Delivered.{StepMeaning}
+use Rattle.tv_depths.specs.Steps.{spot, declared_depths}
 use Rattle.tv_model.specs.Instances.{with_fate, bounced_job, tried_job, job_on, zip_names}
 use Rattle.tv_model.specs.Jobs.{Job}
 use Rattle.tv_model.specs.Lists.{first_of_list}
@@ -67,6 +67,7 @@ module _ (gives other : Giving) (D : ℕ → Type 0) (m n : Meaning) (w : IsWhol
     pub opens : (is_none (next_ask gives m past x) && is_some x.opens) ≡ (is_none (next_ask other n past y) && is_some y.opens)
     pub inner : has_open_instance gives m past x ≡ has_open_instance other n past y
     pub result : is_settled gives m past x ≡ true → x.result ≡ y.result
+    pub asks : is_none (next_ask gives m past x) ≡ true → x.asks ≡ y.asks
 
   pub record IsTwinStep (s t : StepMeaning) : Type 0 where
     pub instance : s.instance ≡ t.instance
@@ -112,11 +113,11 @@ module _ (gives other : Giving) (D : ℕ → Type 0) (m n : Meaning) (w : IsWhol
 
     -- the same tries are taken, and end alike
     same-fate : (as' : List Ask) (f : Fate) → BelongsTo m (ours as' f) → BelongsTo n (theirs as' f) → AreTwins (ours as' f) (theirs as' f)
-    same-fate as' (right vs) b d = record { job = record { name = refl; instance = refl; step = refl; limit = refl; inputs = refl; waits = refl; shared = shared; bounced = refl; next = refl; settled = refl; opens = refl; inner = refl; result = λ h. refl }; jobs = tt; steps = tt }
-    same-fate as' (wrong why) b d = record { job = record { name = refl; instance = refl; step = refl; limit = refl; inputs = refl; waits = refl; shared = shared; bounced = refl; next = refl; settled = refl; opens = refl; inner = refl; result = λ h. refl }; jobs = tt; steps = tt }
+    same-fate as' (right vs) b d = record { job = record { name = refl; instance = refl; step = refl; limit = refl; inputs = refl; waits = refl; shared = shared; bounced = refl; next = refl; settled = refl; opens = refl; inner = refl; result = λ h. refl; asks = λ h. refl }; jobs = tt; steps = tt }
+    same-fate as' (wrong why) b d = record { job = record { name = refl; instance = refl; step = refl; limit = refl; inputs = refl; waits = refl; shared = shared; bounced = refl; next = refl; settled = refl; opens = refl; inner = refl; result = λ h. refl; asks = λ h. refl }; jobs = tt; steps = tt }
     same-fate as' (opens f) b d =
         let a = alike f name (zip_names s.inputs inputs) (part-of m (ours as' (opens f)) (inside f name (zip_names s.inputs inputs)) refl b) (part-of n (theirs as' (opens f)) (inner f name (zip_names s.inputs inputs)) refl d) in
-        record { job = record { name = refl; instance = refl; step = refl; limit = refl; inputs = refl; waits = refl; shared = shared; bounced = refl; next = refl; settled = refl; opens = refl; inner = open-same gives other m n past name; result = λ h. ap (λ os. map (λ o. plain o.1) os) (a.outputs h) }; jobs = a.jobs; steps = a.steps }
+        record { job = record { name = refl; instance = refl; step = refl; limit = refl; inputs = refl; waits = refl; shared = shared; bounced = refl; next = refl; settled = refl; opens = refl; inner = open-same gives other m n past name; result = λ h. ap (λ os. map (λ o. plain o.1) os) (a.outputs h); asks = λ h. refl }; jobs = a.jobs; steps = a.steps }
 
     -- what a job keeps however its tries end
     record IsTried (as' : List Ask) (o : Opened) : Type 0 where
@@ -156,6 +157,7 @@ module _ (gives other : Giving) (D : ℕ → Type 0) (m n : Meaning) (w : IsWhol
         opens = ap (λ x. is_none x && is_some o.job.opens) next_o ∙ sym (ap (λ x. is_none x && is_some p.job.opens) next_p);
         inner = closed_by gives m o t shut ∙ sym (closed_by other n p u also_shut);
         result = λ h. absurd (true≠false (sym h ∙ unsettled));
+        asks = λ h. absurd (true≠false (sym h ∙ ap is_none next_o));
       };
       jobs = aligned-dark (IsDarkNow gives D m w fit past l) (IsDarkNow other D n v fot past r) IsTwin (inner_jobs o) (inner_jobs p) dark.0 gone.0;
       steps = aligned-dark (IsShut gives D m w fit past l) (IsShut other D n v fot past r) IsTwinStep (steps_inside o) (steps_inside p) dark.1 gone.1;
@@ -213,5 +215,5 @@ module _ (gives other : Giving) (D : ℕ → Type 0) (m n : Meaning) (w : IsWhol
     job-twins b d = by (list_any (λ z. holds_fault z) inputs) b d
       where
         by : (z : Bool) → BelongsTo m (if z then record { job = plain_job; inside = None } else tried_job gives inside I s plain_job) → BelongsTo n (if z then record { job = plain_job; inside = None } else tried_job other inner I s plain_job) → AreTwins (if z then record { job = plain_job; inside = None } else tried_job gives inside I s plain_job) (if z then record { job = plain_job; inside = None } else tried_job other inner I s plain_job)
-        by true b d = record { job = record { name = refl; instance = refl; step = refl; limit = refl; inputs = refl; waits = refl; shared = shared; bounced = refl; next = refl; settled = refl; opens = refl; inner = refl; result = λ h. refl }; jobs = tt; steps = tt }
+        by true b d = record { job = record { name = refl; instance = refl; step = refl; limit = refl; inputs = refl; waits = refl; shared = shared; bounced = refl; next = refl; settled = refl; opens = refl; inner = refl; result = λ h. refl; asks = λ h. refl }; jobs = tt; steps = tt }
         by false b d = tried-twins b d

@@ -1,6 +1,6 @@
 -- When two functions of the services agree on a history, and what is read off a history beside which entries are legal.
 use Rattle.std.specs.List.{list_any}
-use Rattle.std.specs.Prelude.{Bool, List, Option, Some, ℕ, count_by, false, filter, find, length, map, option_map, true, ◌&&◌, ◌==◌, ◌||◌, ◌≡◌, ◌≤◌}
+use Rattle.std.specs.Prelude.{Bool, List, None, Option, Some, [], ℕ, count_by, false, filter, find, if◌then◌else◌, is_none, length, map, option_and_then, option_map, true, ◌&&◌, ◌==◌, ◌||◌, ◌≡◌, ◌≤◌}
 use Rattle.tv_value.specs.Orders.{same_job}
 use Rattle.tv_value.specs.Values.{JobName, Value}
 use Rattle.tv_gate.specs.Outcomes.{Giving}
@@ -13,7 +13,7 @@ use Rattle.tv_model.specs.Levels.{levels}
 use Rattle.tv_model.specs.Made.{Meaning}
 use Rattle.tv_model.specs.Members.{In}
 use Rattle.tv_history.specs.Entries.{Entry, History, accepted, is_out}
-use Rattle.tv_history.specs.Histories.{can_bounce, can_end, can_open, can_settle, can_settle_more, instances, is_done, is_offered, is_running, is_settled, next_ask}
+use Rattle.tv_history.specs.Histories.{can_bounce, can_end, can_open, can_settle, can_settle_more, has_open_instance, instances, is_done, is_offered, is_ready, is_running, is_settled, next_ask}
 
 -- an acceptance of this try of the job of this name
 abbrev pub is_acceptance : JobName → Ask → Entry → Bool
@@ -49,6 +49,19 @@ pub record Settled : Type 0 where
 
 abbrev pub settled_job : Job → Settled
 settled_job j = record { name = j.name; inputs = j.inputs; result = j.result }
+
+-- where a job stands
+pub record Standing : Type 0 where
+  pub name : JobName
+  pub ready : Bool
+  pub running : Bool
+  pub settled : Bool
+  pub out : Bool
+  -- its flow is open
+  pub nested : Bool
+  pub next : Option Ask
+  -- the tries behind it, once none is left
+  pub tried : List Ask
 
 module _ (gives : Giving) (m : Meaning) (past : History) where
   abbrev pub offer_of : Job → Offer
@@ -90,6 +103,34 @@ module _ (gives : Giving) (m : Meaning) (past : History) where
   abbrev pub settled : List Settled
   settled = map settled_job (filter (is_settled gives m past) m.jobs)
 
+  -- the jobs that are ready, in job order
+  abbrev pub ready : List JobName
+  ready = map (λ j. j.name) (filter (is_ready gives m past) m.jobs)
+
+  -- whether it doesn't just wait
+  abbrev pub stands : Job → Bool
+  stands j = is_ready gives m past j || is_running gives m past j || is_settled gives m past j || is_out past j.name || has_open_instance gives m past j
+
+  abbrev pub standing_of : Job → Standing
+  standing_of j = record {
+    name = j.name;
+    ready = is_ready gives m past j;
+    running = is_running gives m past j;
+    settled = is_settled gives m past j;
+    out = is_out past j.name;
+    nested = has_open_instance gives m past j;
+    next = next_ask gives m past j;
+    tried = if is_none (next_ask gives m past j) then j.asks else [];
+  }
+
+  -- where the jobs stand that don't just wait, in job order
+  abbrev pub standings : List Standing
+  standings = map standing_of (filter stands m.jobs)
+
+  -- where the job of a name stands, unless it just waits or there is none
+  abbrev pub standing_at : JobName → Option Standing
+  standing_at k = option_and_then (λ (j : Job). if stands j then Some (standing_of j) else None) (find (λ j. same_job k j.name) m.jobs)
+
 -- all that may be asked of a history is the same by both
 pub record HaveTheSameState (gives other : Giving) (m n : Meaning) (past : History) : Type 0 where
   pub offer : first_offer gives m past ≡ first_offer other n past
@@ -103,6 +144,9 @@ pub record HaveTheSameState (gives other : Giving) (m n : Meaning) (past : Histo
   pub out_count : out_count gives m past ≡ out_count other n past
   pub running : running gives m past ≡ running other n past
   pub settled : settled gives m past ≡ settled other n past
+  pub ready : ready gives m past ≡ ready other n past
+  pub standings : standings gives m past ≡ standings other n past
+  pub standing_at : (k : JobName) → standing_at gives m past k ≡ standing_at other n past k
 
 -- both give the try that the entry accepts the same outcome
 abbrev pub AgreeNext : Giving → Giving → Meaning → History → Entry → Type 0

@@ -1,8 +1,8 @@
 use Rattle.std.proofs.Common.{◌≡◌, ◌∙◌, ap, sym, true, false, is_some, Some}
 use Rattle.tv_flow.specs.Views.{each, flow_view}
-use Rattle.tv_check.specs.Plans.{position}
-use Rattle.tv_check.proofs.ByPosition.{number-absent, number-there}
-use Rattle.tv_check.proofs.Kept.{flows-ascend, has-each}
+use Rattle.tv_naming.specs.Numbers.{position}
+use Rattle.tv_naming.proofs.ByPosition.{number-absent, number-there}
+use Rattle.tv_naming.proofs.Kept.{flows-ascend, has-each}
 use Rattle.tv_check.proofs.OfGraphs.{number_in-each}
 use Rattle.tv_check.proofs.accepted.main_number.Goals as goal
 

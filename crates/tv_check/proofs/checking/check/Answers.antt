@@ -1,14 +1,14 @@
 use Rattle.std.proofs.Common.{◌≡◌, ◌∙◌, ◌++◌, [], ap, sym, subst}
 use Rattle.tv_flow.specs.DocumentViews.{document_view}
-use Rattle.tv_check.specs.Naming.{naming_complaints}
-use Rattle.tv_check.specs.Cycles.{cycle_complaints, nesting_complaints, link_cycle_complaints}
-use Rattle.tv_check.specs.Depthwise.{depth_complaints}
-use Rattle.tv_check.specs.Inputs.{given_complaints}
-use Rattle.tv_check.specs.Passes.{first_of}
+use Rattle.tv_naming.specs.Naming.{naming_complaints}
+use Rattle.tv_depths.specs.Cycles.{cycle_complaints, nesting_complaints, link_cycle_complaints}
+use Rattle.tv_depths.specs.Depthwise.{depth_complaints}
+use Rattle.tv_naming.specs.Inputs.{given_complaints}
+use Rattle.tv_naming.specs.Faulty.{first_of}
 use Rattle.tv_check.specs.Plannable.{AreByRank, IsPlannable}
 use Rattle.tv_check.proofs.Accepting.{accepted, left-nil, right-nil}
 use Rattle.tv_check.proofs.Inside.{names-inside}
-use Rattle.tv_check.proofs.OfLists.{both}
+use Rattle.tv_naming.proofs.OfLists.{both}
 use Rattle.tv_check.proofs.Prepared.{prepared}
 use Rattle.tv_check.proofs.ToPlan.{plannable}
 use Rattle.tv_check.proofs.checking.check.Goals as goal

@@ -1,6 +1,6 @@
 use Rattle.tv_flow.specs.DocumentViews.{document_view}
 use Rattle.tv_check.proofs.Inside.{names-inside}
-use Rattle.tv_check.proofs.OfLists.{both}
+use Rattle.tv_naming.proofs.OfLists.{both}
 use Rattle.tv_check.proofs.checking.names_and_links.Goals as goal
 
 pub nestings-requires-clause-inside : goal.nestings-requires-clause-inside

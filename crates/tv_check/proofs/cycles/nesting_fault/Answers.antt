@@ -5,9 +5,9 @@ use Rattle.tv_value.specs.Values.{Name}
 use Rattle.tv_flow.specs.Flows.{Flow, Document}
 use Rattle.tv_flow.specs.Views.{flow_view}
 use Rattle.tv_flow.specs.DocumentViews.{document_view}
-use Rattle.tv_check.specs.Cycles.{nesting, nesting_limit}
-use Rattle.tv_check.specs.Faulty.{at_flow, too_deep, Complaint, with_numbers}
-use Rattle.tv_check.proofs.OfForms.{length-each, entry-each}
+use Rattle.tv_depths.specs.Cycles.{nesting, nesting_limit}
+use Rattle.tv_naming.specs.Faulty.{at_flow, too_deep, Complaint, with_numbers}
+use Rattle.tv_naming.proofs.OfForms.{length-each, entry-each}
 use Rattle.tv_check.proofs.OfNestings.{no-position, a-position, number-at}
 use Rattle.tv_check.proofs.cycles.nesting_fault.Goals as goal
 

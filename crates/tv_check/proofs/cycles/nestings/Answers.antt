@@ -3,7 +3,7 @@ use Rattle.std.specs.Result.{IfOk}
 use Rattle.tv_flow.specs.Views.{flow_view}
 use Rattle.tv_flow.specs.DocumentViews.{document_view}
 use Rattle.tv_graph.specs.Graphs.{first_on_cycle, heights}
-use Rattle.tv_check.proofs.OfForms.{flows-named, rise-each}
+use Rattle.tv_naming.proofs.OfForms.{flows-named, rise-each}
 use Rattle.tv_check.proofs.OfNestings.{nestings-are, cycle-free}
 use Rattle.tv_check.proofs.cycles.nestings.Goals as goal
 

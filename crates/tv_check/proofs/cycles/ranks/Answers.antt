@@ -4,7 +4,7 @@ use Rattle.std.specs.List.{list_all, range_with_len}
 use Rattle.std.specs.Result.{IfOk}
 use Rattle.tv_flow.specs.Views.{step_view, flow_view}
 use Rattle.tv_check.specs.RankNumbers.{place}
-use Rattle.tv_check.proofs.OfForms.{steps-named, length-each}
+use Rattle.tv_naming.proofs.OfForms.{steps-named, length-each}
 use Rattle.tv_check.proofs.OfRanks.{ranked-below, ranked-few, ranks-placed}
 use Rattle.tv_check.proofs.cycles.ranks.Goals as goal
 

@@ -4,7 +4,7 @@ use Rattle.std.specs.List.{list_all}
 use Rattle.tv_flow.specs.Views.{each, step_view, flow_view}
 use Rattle.tv_graph.specs.Graphs.{by_least}
 use Rattle.tv_check.specs.RankNumbers.{numbers_by_rank}
-use Rattle.tv_check.proofs.OfForms.{steps-named, rise-each, length-each}
+use Rattle.tv_naming.proofs.OfForms.{steps-named, rise-each, length-each}
 use Rattle.tv_check.proofs.OfRanks.{ranked-numbers, ranked-below}
 use Rattle.tv_check.proofs.cycles.steps_by_rank.Goals as goal
 

@@ -1,5 +1,0 @@
-use Rattle.tv_check.proofs.Kept.{flow-ascends}
-use Rattle.tv_check.proofs.naming.flow_fault.Goals as goal
-
-pub outputs_fault-requires : goal.outputs_fault-requires
-outputs_fault-requires g c = flow-ascends c.args.flow.now c.requires

@@ -1,0 +1,7 @@
+pub mod AtViews
+pub mod FaultViews
+pub mod Faulty
+pub mod Inputs
+pub mod Naming
+pub mod Numbers
+pub mod Told
