@@ -9,9 +9,8 @@ use Rattle.tv_value.specs.Orders.{same_name, named}
 use Rattle.tv_value.specs.Strategies.{Strategy, port, cross, dot, no_strategies, strategy}
 use Rattle.tv_value.specs.Activities.{Activity, service, nested}
 use Rattle.tv_flow.specs.Flows.{Link, Feed, link, merge, constant, StepInput, Step, Flow}
-use Rattle.tv_check.specs.Faulty.{Complaint}
+use Rattle.tv_check.specs.Faulty.{Complaint, first_of}
 use Rattle.tv_check.specs.Naming.{is_there, complain_if, fits_ports, are_the_same}
-use Rattle.tv_check.specs.Passes.{first_of}
 use Rattle.tv_check.specs.Steps.{strategy_of}
 use Rattle.tv_model.proofs.Tests.{Each, true≠false, left_true, right_true}
 use Rattle.tv_plain.specs.Chains.{is_single, is_linked, is_service, is_plain_strategy, is_chain_step}

@@ -7,8 +7,7 @@ use Rattle.tv_value.specs.Orders.{same_name, named}
 use Rattle.tv_value.specs.Views.{view}
 use Rattle.tv_value.specs.declared.value.Value.{Value}
 use Rattle.tv_check.specs.Naming.{has_name}
-use Rattle.tv_check.specs.Numbers.{number_in}
-use Rattle.tv_check.specs.Plans.{position}
+use Rattle.tv_check.specs.Numbers.{number_in, position}
 use Rattle.tv_plain.specs.Keeping.{slots_view, kept}
 
 no-length : {B : Type 0} (n : ℕ) → 0 ≡ suc n → B

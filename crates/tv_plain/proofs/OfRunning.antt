@@ -1,8 +1,9 @@
 -- A chain run in the order of ranks.
-use Rattle.std.specs.Prelude.{◌≡◌, refl, ℕ, suc, ◌≤◌, ◌<◌, List, [], ◌∷◌, map, length, Bool, true, false, Option, Some, None, option_map, unwrap_or, is_some, is_none, if◌then◌else◌, slice_get, Result, Ok, Err, IfOk}
+use Rattle.std.specs.Prelude.{◌≡◌, refl, ℕ, suc, ◌≤◌, ◌<◌, ◌+◌, ◌-◌, List, [], ◌∷◌, ◌++◌, map, take, length, Bool, true, false, Option, Some, None, option_map, unwrap_or, is_some, is_none, if◌then◌else◌, slice_get, Result, Ok, Err, IfOk}
 use Rattle.std.specs.List.{list_all, cons_option}
 use Rattle.std.specs.Cmp.Lexicographic.{bytes_decides}
 use Rattle.std.proofs.Common.{arith, get_or, ap, sym, subst, ◌∙◌}
+use Rattle.std.proofs.lemmas.List.{map-append, take_all, take_more}
 use Rattle.tv_value.specs.Values as spec
 use Rattle.tv_value.specs.Values.{Name}
 use Rattle.tv_value.specs.Orders.{same_name, named}
@@ -17,7 +18,7 @@ use Rattle.tv_check.specs.Faulty.{Complaint}
 use Rattle.tv_check.specs.NamedGraphs.{links_inside, names_inside, leads_inside}
 use Rattle.tv_check.specs.Cycles.{opened_flows}
 use Rattle.tv_check.specs.Passes.{checked}
-use Rattle.tv_check.specs.Plans.{position}
+use Rattle.tv_check.specs.Numbers.{position}
 use Rattle.tv_check.specs.RankNumbers.{numbers_by_rank}
 use Rattle.tv_check.specs.Ranks.{ranked}
 use Rattle.tv_check.proofs.Inside.{names-inside}
@@ -130,3 +131,12 @@ module _ (d : Document) (accepted : is_none (checked (λ n. true) d) ≡ true) (
   module _ (gives : Giving) (formed : is_formed d ≡ true) (chain : is_chain d ≡ true) where
     pub means : GivesMeaning gives d flow
     means = chains-go_by_recursion gives (λ n. true) d flow formed chain told-nothing main-is
+
+-- ---- the last of a list
+
+pub map-last : {A B : Type 0} (f : A → B) (xs : List A) (x : A) → 1 ≤ length xs → x ≡ get_or xs (length xs - 1) x → map f (take (length xs - 1) xs) ++ f x ∷ [] ≡ map f xs
+map-last {A = A} f xs x h e =
+    let on : (length xs - 1) + 1 ≡ length xs = omega arith in
+    let whole : take (length xs - 1) xs ++ x ∷ [] ≡ xs =
+    ap (λ y. take (length xs - 1) xs ++ y ∷ []) e ∙ sym (take_more xs (length xs - 1) x (omega arith)) ∙ ap (λ n. take n xs) on ∙ take_all (length xs) xs (omega arith) in
+    sym (map-append f (take (length xs - 1) xs) (x ∷ [])) ∙ ap (map f) whole

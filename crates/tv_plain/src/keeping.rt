@@ -9,7 +9,7 @@ ghost use Rattle.tv_plain.specs.Keeping.{slots_view, kept, fed_from};
 use std::alloc::Global;
 use tv_check::number_of;
 use tv_flow::{Feed, Step, Steps};
-use tv_value::{Name, NoMemory, Value};
+use tv_value::{Items, Name, NoMemory, Value};
 
 /// So many empty slots.
 pub(crate) fn no_values(alloc: Global, count: usize) -> Result<Vec<Option<Value>>, NoMemory>
@@ -87,4 +87,52 @@ pub(crate) fn step_fed<'a>(
         [] => empty,
         [input, ..] => fed(steps, start, slots, empty, &input.1.from),
     }
+}
+
+/// The value that a feed stands for, for the last reader: what a step gave is moved out of its slot.
+pub(crate) fn value_taken(
+    alloc: Global,
+    steps: &Steps,
+    start: &Value,
+    slots: &mut Vec<Option<Value>>,
+    feed: &Feed,
+) -> Result<Value, NoMemory>
+    requires sorted { is_ascending (map (λ s. s.0) steps.now) ≡ true }
+    requires long { length slots.old.items ≡ length steps.now }
+    ensures { IfOk result (λ v. view v ≡ fed_from (view start.now) steps.now (slots_view slots.old.items) (feed_view feed.now)) }
+{
+    match feed {
+        Feed::Input(_) => start.copy(alloc),
+        Feed::Output(step, _) => Ok(step_taken(alloc, steps, slots, step)),
+        Feed::Merge(_) => Ok(nothing(alloc)),
+        Feed::Constant(_) => Ok(nothing(alloc)),
+    }
+}
+
+/// What the step of a name gave, moved out of its slot, or the empty list.
+fn step_taken(alloc: Global, steps: &Steps, slots: &mut Vec<Option<Value>>, name: &Name) -> Value
+    requires sorted { is_ascending (map (λ s. s.0) steps.now) ≡ true }
+    requires long { length slots.old.items ≡ length steps.now }
+    ensures { view result ≡ unwrap_or (kept name.now steps.now (slots_view slots.old.items)) nothing }
+{
+    match number_of(steps, name) {
+        Some(number) => slot_taken(alloc, &mut slots[number]),
+        None => nothing(alloc),
+    }
+}
+
+fn slot_taken(alloc: Global, slot: &mut Option<Value>) -> Value
+    ensures { view result ≡ unwrap_or (option_map view slot.old) nothing }
+{
+    match slot.take() {
+        Some(value) => value,
+        None => nothing(alloc),
+    }
+}
+
+/// The empty list.
+fn nothing(alloc: Global) -> Value
+    ensures { view result ≡ nothing }
+{
+    Value::List(Items::of(Vec::new(alloc)))
 }

@@ -81,8 +81,8 @@ pub(crate) fn run_in_order<A: Asker>(
         &flow.steps,
         start,
         &empty,
-        slots.as_slice(),
-        &flow.outputs,
+        &mut slots,
+        flow.outputs.as_slice(),
     )?;
     Ok(Ran { outputs, totals })
 }

@@ -9,10 +9,10 @@ ghost use Rattle.tv_plain.specs.Keeping.{slots_view, fed_from, picked, HoldsAll,
 
 use crate::counting::no_totals;
 use crate::giving::value_given;
-use crate::keeping::{fed, step_fed};
+use crate::keeping::{fed, step_fed, value_taken};
 use crate::ran::NamedValues;
 use std::alloc::Global;
-use tv_flow::{Activities, Activity, Feed, FlowOutputs, Steps};
+use tv_flow::{Activities, Activity, Feed, Steps};
 use tv_gate::Asker;
 use tv_model::Totals;
 use tv_value::{Copied, Name, NoMemory, Sequence, Text, Value};
@@ -111,25 +111,51 @@ pub(crate) fn take_steps<A: Asker>(
     Ok(totals)
 }
 
-/// The outputs of a flow, in order of their names.
+/// The outputs of a flow, in order of their names. What a step gave is moved to the last output, and copied for the others.
 pub(crate) fn outputs_given(
     alloc: Global,
     steps: &Steps,
     start: &Value,
     empty: &Value,
-    slots: &[Option<Value>],
-    outputs: &FlowOutputs,
+    slots: &mut Vec<Option<Value>>,
+    outputs: &[(Name, Feed)],
 ) -> Result<NamedValues, NoMemory>
+    requires sorted { is_ascending (map (λ s. s.0) steps.now) ≡ true }
+    requires long { length slots.old.items ≡ length steps.now }
+    requires empty { view empty.now ≡ nothing }
+    ensures { IfOk result (λ os. each view os ≡ map (λ o. (o.0, fed_from (view start.now) steps.now (slots_view slots.old.items) o.1)) (each feed_view outputs.now)) }
+{
+    match outputs {
+        [] => Ok(Sequence::empty(alloc)),
+        [others @ .., last] => {
+            let mut given = outputs_copied(alloc, steps, start, empty, slots.as_slice(), others)?;
+            let name = last.0.copy(alloc)?;
+            let value = value_taken(alloc, steps, start, slots, &last.1)?;
+            given.push((name, value))?;
+            Ok(Sequence::of(given))
+        }
+    }
+}
+
+/// Outputs with copies of their values.
+fn outputs_copied(
+    alloc: Global,
+    steps: &Steps,
+    start: &Value,
+    empty: &Value,
+    slots: &[Option<Value>],
+    outputs: &[(Name, Feed)],
+) -> Result<Vec<(Name, Value)>, NoMemory>
     requires sorted { is_ascending (map (λ s. s.0) steps.now) ≡ true }
     requires long { length slots.now ≡ length steps.now }
     requires empty { view empty.now ≡ nothing }
-    ensures { IfOk result (λ os. each view os ≡ map (λ o. (o.0, fed_from (view start.now) steps.now (slots_view slots.now) o.1)) (each feed_view outputs.now)) }
+    ensures { IfOk result (λ os. each view os.items ≡ map (λ o. (o.0, fed_from (view start.now) steps.now (slots_view slots.now) o.1)) (each feed_view outputs.now)) }
 {
-    let mut given = Vec::with_capacity(alloc, outputs.as_slice().len())?;
-    for output in outputs.as_slice() {
+    let mut given = Vec::new(alloc);
+    for output in outputs {
         given.push(output_given(alloc, steps, start, empty, slots, output)?)?;
     }
-    Ok(Sequence::of(given))
+    Ok(given)
 }
 
 fn output_given(

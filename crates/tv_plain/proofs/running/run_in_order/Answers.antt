@@ -17,6 +17,6 @@ returns-clause-outputs g c =
     let start = view c.start_of-start.result.now in
     let outputs = each feed_view flow.outputs in
     c.in_ok-outputs.ensures
-    ∙ ap (λ os. map {B = Name × Value} (λ o. (o.0, fed_from start flow.steps (slots_view os) o.1)) outputs) c.as_slice-2.ensures.value
+    ∙ ap (λ fs. map {B = Name × Value} (λ o. (o.0, fed_from start flow.steps (slots_view c.take_steps.new.slots.items) o.1)) (each feed_view fs)) c.as_slice-2.ensures
     ∙ outputs-held start flow.steps (slots_view c.take_steps.new.slots.items) (totals_view c.in_ok-totals.totals) (given_by gives start (picked steps order)) c.in_ok-totals.ensures outputs
     ∙ ap (λ v. map {B = Name × Value} (λ o. (o.0, fed v (given_by gives v (picked steps order)).values o.1)) outputs) c.start_of-start.ensures

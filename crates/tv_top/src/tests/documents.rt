@@ -1,0 +1,261 @@
+//! Worked documents: what they print, and what they ask.
+use crate::status::Status;
+use crate::tests::{SOUND, TWO_TEXTS, alone, by_gate, changed, sink_of, source_of, words_of};
+use crate::top::taverna_alone;
+use std::alloc::Global;
+use std::test::Fail;
+use tv_gate::LoggedGate;
+use tv_local::LocalGate;
+use tv_value::{Items, Value};
+
+/// The document of a value whose depth is declared, and the line of its result.
+fn of_value(alloc: Global, depth: u32, value: &str) -> Result<String, Fail> {
+    let inputs = format!(in alloc; "\"inputs\":{{\"x\":{depth}}}")?;
+    let with_depth = changed(alloc, "\"inputs\":{\"x\":1}", inputs.as_str())?;
+    match with_depth.as_str().split_once("[\"a\",\"b\"]") {
+        Some((head, tail)) => Ok(format!(in alloc; "{head}{value}{tail}")?),
+        None => Ok(String::new(alloc)),
+    }
+}
+
+fn line_of(alloc: Global, value: &str, jobs: u32) -> Result<String, Fail> {
+    Ok(format!(in alloc;
+        "{{\"outputs\":{{\"out\":{value}}},\"totals\":{{\"attempts\":{jobs},\"bounced\":0,\"failed\":0,\"jobs\":{jobs}}}}}\n"
+    )?)
+}
+
+#[test]
+fn values_run_to_their_lines(rt: HostRuntime) -> Result<(), Fail> {
+    let alloc = rt.alloc();
+    let table = [
+        (0, "\"a\"", "\"A\"", 1),
+        (
+            2,
+            "[[\"a\"],[],[\"b\",\"c\"]]",
+            "[[\"A\"],[],[\"B\",\"C\"]]",
+            3,
+        ),
+        (1, "[]", "[]", 0),
+        (7, "[]", "[]", 0),
+        (2, "[[],[]]", "[[],[]]", 0),
+        (1, "[1,-2]", "[\"1\",\"-2\"]", 2),
+        (0, "18446744073709551615", "\"18446744073709551615\"", 1),
+        (0, "-9223372036854775808", "\"-9223372036854775808\"", 1),
+        (
+            0,
+            "\"\\u00e9 \\t\\\"z\\\" \\/ \\u0001\"",
+            "\"\u{e9} \\t\\\"Z\\\" / \\u0001\"",
+            1,
+        ),
+        (1, " [ \"brca1\" ,\n\"\" ] ", "[\"BRCA1\",\"\"]", 2),
+        (
+            32,
+            "[[[[[[[[[[[[[[[[[[[[[[[[[[[[[[[[\"a\"]]]]]]]]]]]]]]]]]]]]]]]]]]]]]]]]",
+            "[[[[[[[[[[[[[[[[[[[[[[[[[[[[[[[[\"A\"]]]]]]]]]]]]]]]]]]]]]]]]]]]]]]]]",
+            1,
+        ),
+    ];
+    for (depth, value, result, jobs) in table {
+        let document = of_value(alloc, depth, value)?;
+        let line = line_of(alloc, result, jobs)?;
+        let ran = alone(alloc, &["run"], document.as_str().as_bytes(), SOUND)?;
+        assert!(rt; ran.is(Status::Done, line.as_str(), ""), "alone: {value}");
+        let ran = by_gate(
+            &rt,
+            rt.alloc(),
+            &["run"],
+            document.as_str().as_bytes(),
+            SOUND,
+        )?;
+        assert!(rt; ran.is(Status::Done, line.as_str(), ""), "by gate: {value}");
+    }
+    Ok(())
+}
+
+/// Capitals of the input x.
+const CAPITALS: &str =
+    "{\"u\":{\"inputs\":{\"a\":{\"depth\":0,\"from\":{\"input\":\"x\"}}},\"outputs\":{\"o\":0},\"activities\":[{\"service\":\"upper\"}]}}";
+
+/// Capitals, and small letters of them.
+const CHAIN: &str =
+    "{\"p\":{\"inputs\":{\"a\":{\"depth\":0,\"from\":{\"input\":\"x\"}}},\"outputs\":{\"o\":0},\"activities\":[{\"service\":\"upper\"}]},\"q\":{\"inputs\":{\"a\":{\"depth\":0,\"from\":{\"step\":\"p\",\"port\":\"o\"}}},\"outputs\":{\"o\":0},\"activities\":[{\"service\":\"lower\"}]}}";
+
+/// A failure where the text is true, and capitals of the rest.
+const FAILURES: &str =
+    "{\"f\":{\"inputs\":{\"a\":{\"depth\":0,\"from\":{\"input\":\"x\"}}},\"outputs\":{\"o\":0},\"activities\":[{\"service\":\"fail_if\"}]},\"u\":{\"inputs\":{\"a\":{\"depth\":0,\"from\":{\"step\":\"f\",\"port\":\"o\"}}},\"outputs\":{\"o\":0},\"activities\":[{\"service\":\"upper\"}]}}";
+
+/// Two steps that feed each other.
+const CIRCLE: &str =
+    "{\"p\":{\"inputs\":{\"a\":{\"depth\":0,\"from\":{\"step\":\"q\",\"port\":\"o\"}}},\"outputs\":{\"o\":0},\"activities\":[{\"service\":\"upper\"}]},\"q\":{\"inputs\":{\"a\":{\"depth\":0,\"from\":{\"step\":\"p\",\"port\":\"o\"}}},\"outputs\":{\"o\":0},\"activities\":[{\"service\":\"lower\"}]}}";
+
+/// The inputs x and y, each text with each.
+const CROSS: &str =
+    "{\"c\":{\"inputs\":{\"a\":{\"depth\":0,\"from\":{\"input\":\"x\"}},\"b\":{\"depth\":0,\"from\":{\"input\":\"y\"}}},\"outputs\":{\"o\":0},\"activities\":[{\"service\":\"concat\"}]}}";
+
+/// The inputs x and y, in pairs.
+const DOT: &str =
+    "{\"c\":{\"inputs\":{\"a\":{\"depth\":0,\"from\":{\"input\":\"x\"}},\"b\":{\"depth\":0,\"from\":{\"input\":\"y\"}}},\"outputs\":{\"o\":0},\"strategy\":{\"dot\":[\"a\",\"b\"]},\"activities\":[{\"service\":\"concat\"}]}}";
+
+/// The inputs x and y, as one list.
+const MERGE: &str =
+    "{\"e\":{\"inputs\":{\"a\":{\"depth\":1,\"from\":{\"merge\":[{\"input\":\"x\"},{\"input\":\"y\"}]}}},\"outputs\":{\"o\":1},\"activities\":[{\"service\":\"echo\"}]}}";
+
+/// The document of these steps with one output, that of a step, on these values.
+fn document(
+    alloc: Global,
+    inputs: &str,
+    steps: &str,
+    last: &str,
+    values: &str,
+) -> Result<String, Fail> {
+    Ok(format!(in alloc;
+        "{{\"taverna\":1,\"main\":\"m\",\"flows\":{{\"m\":{{\"inputs\":{inputs},\"steps\":{steps},\"outputs\":{{\"out\":{{\"step\":\"{last}\",\"port\":\"o\"}}}}}}}},\"inputs\":{values}}}"
+    )?)
+}
+
+// Steps, the last one, the inputs with their values, the word, the status, the text and the line.
+#[test]
+fn worked_documents_end_so(rt: HostRuntime) -> Result<(), Fail> {
+    let alloc = rt.alloc();
+    let table = [
+        (
+            CHAIN,
+            "q",
+            "{\"x\":1}",
+            "{\"x\":[\"a\",\"b\"]}",
+            "run",
+            Status::Done,
+            "{\"outputs\":{\"out\":[\"a\",\"b\"]},\"totals\":{\"attempts\":4,\"bounced\":0,\"failed\":0,\"jobs\":4}}\n",
+            "",
+        ),
+        (
+            FAILURES,
+            "u",
+            "{\"x\":1}",
+            "{\"x\":[\"no\",\"true\",\"no\"]}",
+            "run",
+            Status::Done,
+            "{\"outputs\":{\"out\":[\"NO\",{\"error\":{\"at\":\"u[1]\",\"depth\":0,\"from\":[\"f[1]\"],\"why\":\"bounced\"}},\"NO\"]},\"totals\":{\"attempts\":5,\"bounced\":1,\"failed\":1,\"jobs\":6}}\n",
+            "",
+        ),
+        (
+            DOT,
+            "c",
+            "{\"x\":1,\"y\":0}",
+            "{\"x\":[\"a\"],\"y\":\"1\"}",
+            "run",
+            Status::Check,
+            "",
+            "taverna: check fault 7 dot depths at flow m step c: 1 and 0\n",
+        ),
+        (
+            MERGE,
+            "e",
+            "{\"x\":0,\"y\":1}",
+            "{\"x\":\"a\",\"y\":[\"b\"]}",
+            "run",
+            Status::Check,
+            "",
+            "taverna: check fault 8 merge depths at flow m step e input a: 0 and 1\n",
+        ),
+        (
+            CAPITALS,
+            "u",
+            "{\"x\":0}",
+            "{\"x\":[\"a\"]}",
+            "check",
+            Status::Check,
+            "",
+            "taverna: check fault 13 input depth at input x: 0 and 1\n",
+        ),
+        (
+            CIRCLE,
+            "q",
+            "{\"x\":0}",
+            "{\"x\":\"a\"}",
+            "run",
+            Status::Check,
+            "",
+            "taverna: check fault 5 link cycle at flow m step p\n",
+        ),
+        (
+            CROSS,
+            "c",
+            "{\"x\":1,\"y\":1}",
+            "{\"x\":[\"a\",\"b\"],\"y\":[\"1\",\"2\"]}",
+            "check",
+            Status::Done,
+            "in m c a 0 1\nin m c b 0 1\nout m c o 0 2\nflow m out 2\n",
+            "",
+        ),
+        (
+            CROSS,
+            "c",
+            "{\"x\":1,\"y\":1}",
+            "{\"x\":[\"a\",\"b\"],\"y\":[\"1\",\"2\"]}",
+            "run",
+            Status::NotBuilt,
+            "",
+            "taverna: not built\n",
+        ),
+    ];
+    for (index, (steps, last, inputs, values, word, status, out, err)) in table
+        .into_iter()
+        .enumerate()
+    {
+        let text = document(alloc, inputs, steps, last, values)?;
+        let bytes = text.as_str().as_bytes();
+        let ran = alone(alloc, &[word], bytes, SOUND)?;
+        assert!(rt; ran.is(status, out, err), "alone: {index}");
+        let ran = by_gate(&rt, rt.alloc(), &[word], bytes, SOUND)?;
+        assert!(rt; ran.is(status, out, err), "by gate: {index}");
+    }
+    Ok(())
+}
+
+/// Whether these are the inputs of one text.
+fn is_one_text(inputs: &Items, text: &str) -> bool {
+    let values = inputs.as_slice();
+    match values.get(0) {
+        Some(Value::Text(inside)) => values.len() == 1 && inside.as_str() == text,
+        _ => false,
+    }
+}
+
+// Each text is asked for once, in order, by its first attempt.
+#[test]
+fn each_text_is_asked_for_once(rt: HostRuntime) -> Result<(), Fail> {
+    let alloc = rt.alloc();
+    let words = words_of(alloc, &["run"])?;
+    let mut source = source_of(alloc, TWO_TEXTS.as_bytes(), SOUND)?;
+    let mut out = sink_of(alloc, SOUND.piece, 0)?;
+    let mut err = sink_of(alloc, SOUND.piece, 0)?;
+    let gate = LocalGate::new();
+    let mut asker = LoggedGate::new(alloc, &gate);
+    let status = taverna_alone(alloc, &words, &mut source, &mut out, &mut err, &mut asker);
+    assert_eq!(rt; status, Status::Done);
+    let calls = asker.calls();
+    assert_eq!(rt; calls.len(), 2);
+    for (call, text) in calls.iter().zip(["a", "b"]) {
+        assert_eq!(rt; call.service.as_str(), "upper");
+        assert_eq!(rt; call.attempt, 0);
+        assert!(rt; is_one_text(&call.inputs, text), "{text}");
+    }
+    Ok(())
+}
+
+// The check asks no service.
+#[test]
+fn the_check_asks_nothing(rt: HostRuntime) -> Result<(), Fail> {
+    let alloc = rt.alloc();
+    let words = words_of(alloc, &["check"])?;
+    let mut source = source_of(alloc, TWO_TEXTS.as_bytes(), SOUND)?;
+    let mut out = sink_of(alloc, SOUND.piece, 0)?;
+    let mut err = sink_of(alloc, SOUND.piece, 0)?;
+    let gate = LocalGate::new();
+    let mut asker = LoggedGate::new(alloc, &gate);
+    let status = taverna_alone(alloc, &words, &mut source, &mut out, &mut err, &mut asker);
+    assert_eq!(rt; status, Status::Done);
+    assert_eq!(rt; asker.calls().len(), 0);
+    Ok(())
+}
