@@ -1,0 +1,5 @@
+pub mod OriginViews
+pub mod TracedViews
+pub mod IterationViews
+pub mod PortIterations
+pub mod Results
