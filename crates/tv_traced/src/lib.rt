@@ -9,6 +9,7 @@
 //! - `walking`: a port that walks levels of its value
 //! - `adding`, `crossing`, `pairing`: crosses and dots of iterations
 //! - `strategies`: the iteration of a strategy
+//! - `results`: what jobs gave, by their places
 //! - `outputs`: what stands at an output once the jobs are done
 #![tactic(auto)]
 
@@ -18,7 +19,10 @@ mod iteration;
 mod origin;
 mod outputs;
 mod pairing;
+mod results;
 mod strategies;
+#[cfg(test)]
+mod tests;
 mod traced;
 mod walking;
 

@@ -8,17 +8,19 @@ ghost use Rattle.tv_strategy.specs.Outputs.{output_below, outputs_from};
 ghost use Rattle.tv_traced.specs.IterationViews.{iteration_view, iterations_view};
 ghost use Rattle.tv_traced.specs.OriginViews.{mark_view, origin_view};
 ghost use Rattle.tv_traced.specs.TracedViews.{traced_view, nodes_view};
-ghost use Rattle.tv_traced.specs.Results.{made_at, placed};
+ghost use Rattle.tv_traced.specs.Results.{made_at, found_made};
 
 use crate::iteration::{End, Iteration, Iterations};
 use crate::origin::{Mark, Origin, Origins};
+use crate::results::{by_place, made_at};
 use crate::traced::{Nodes, Traced, index_of, with_origin};
 use std::alloc::Global;
+use std::collections::BTreeMap;
 use tv_value::{Copied, ErrorDoc, Items, JobName, Name, NoMemory, Place, Sequence, Value};
 
 /// The output of this number of a step: its iteration with each binding replaced by what the job there made, and each passed fault by the same
-/// document with its depth changed. The nodes are named by the instance, the step and the place. Linear in what it gives, and for
-/// each binding in the results up to its place.
+/// document with its depth changed. The nodes are named by the instance, the step and the place. Linear in what it gives, and
+/// n log n for n results.
 pub fn output(
     alloc: Global,
     instance: &JobName,
@@ -31,11 +33,12 @@ pub fn output(
 ) -> Result<Traced, NoMemory>
     ensures { IfOk result (λ v. traced_view v ≡ output_below (λ q. instance.now ++ (step.now, q) ∷ []) (made_at results.now number) declared [] levels (iteration_view iteration.now)) }
 {
+    let found = by_place(alloc, results)?;
     output_below(
         alloc,
         instance,
         step,
-        results,
+        &found,
         number,
         declared,
         &mut Vec::new(alloc),
@@ -50,20 +53,20 @@ fn output_below(
     alloc: Global,
     instance: &JobName,
     step: &Name,
-    results: &[(Place, Items)],
+    found: &BTreeMap<Place, &Items>,
     number: usize,
     declared: u32,
     place: &mut Vec<u32>,
     levels: u32,
     iteration: &Iteration,
 ) -> Result<Traced, NoMemory>
-    ensures value { IfOk result (λ v. traced_view v ≡ output_below (λ q. instance.now ++ (step.now, q) ∷ []) (made_at results.now number) declared place.old.items levels (iteration_view iteration.now)) }
+    ensures value { IfOk result (λ v. traced_view v ≡ output_below (λ q. instance.now ++ (step.now, q) ∷ []) (found_made (λ vs. values_view vs.now) found.now number) declared place.old.items levels (iteration_view iteration.now)) }
     ensures place { OnOk result (place.new.items ≡ place.old.items) }
 {
     let name = spot(alloc, instance, step, place.as_slice())?;
     match iteration {
         Iteration::Leaf(_, End::Job(_)) => {
-            job_output(alloc, &name, results, number, place.as_slice())
+            job_output(alloc, &name, found, number, place.as_slice())
         }
         Iteration::Leaf(sources, End::Passed(mark, error)) => {
             passed_output(alloc, &name, sources, mark, error, levels, declared)
@@ -72,7 +75,7 @@ fn output_below(
             let origin = Origin::of_level(alloc, &name, &None, sources.as_slice())?;
             let below = one_less(levels);
             let nodes = outputs_from(
-                alloc, instance, step, results, number, declared, place, below, items,
+                alloc, instance, step, found, number, declared, place, below, items,
             )?;
             Ok(Traced::List(origin, nodes))
         }
@@ -85,21 +88,21 @@ fn outputs_from(
     alloc: Global,
     instance: &JobName,
     step: &Name,
-    results: &[(Place, Items)],
+    found: &BTreeMap<Place, &Items>,
     number: usize,
     declared: u32,
     place: &mut Vec<u32>,
     levels: u32,
     iterations: &Iterations,
 ) -> Result<Nodes, NoMemory>
-    ensures values { IfOk result (λ vs. nodes_view vs ≡ outputs_from (λ q. instance.now ++ (step.now, q) ∷ []) (made_at results.now number) declared place.old.items levels 0 (iterations_view iterations.now)) }
+    ensures values { IfOk result (λ vs. nodes_view vs ≡ outputs_from (λ q. instance.now ++ (step.now, q) ∷ []) (found_made (λ vs. values_view vs.now) found.now number) declared place.old.items levels 0 (iterations_view iterations.now)) }
     ensures place { OnOk result (place.new.items ≡ place.old.items) }
 {
     let mut values = Vec::with_capacity(alloc, iterations.items.len())?;
     for (index, item) in iterations.items.iter().enumerate() {
         place.push(index_of(index)?)?;
         let value = output_below(
-            alloc, instance, step, results, number, declared, place, levels, item,
+            alloc, instance, step, found, number, declared, place, levels, item,
         )?;
         values.push(value)?;
         let _ = place.pop();
@@ -161,14 +164,14 @@ fn with_depth(error: ErrorDoc, levels: u32, declared: u32) -> Result<ErrorDoc, N
 fn job_output(
     alloc: Global,
     name: &JobName,
-    results: &[(Place, Items)],
+    found: &BTreeMap<Place, &Items>,
     number: usize,
     place: &[u32],
 ) -> Result<Traced, NoMemory>
-    ensures { IfOk result (λ v. traced_view v ≡ traced (from_job name.now) (made_at results.now number place.now)) }
+    ensures { IfOk result (λ v. traced_view v ≡ traced (from_job name.now) (found_made (λ vs. values_view vs.now) found.now number place.now)) }
 {
     let origin = Origin::of_job(alloc, name)?;
-    match placed(results, place) {
+    match made_at(alloc, found, place)? {
         Some(items) => value_output(alloc, &origin, items, number),
         None => empty_output(alloc, &origin),
     }
@@ -194,18 +197,6 @@ fn empty_output(alloc: Global, origin: &Origin) -> Result<Traced, NoMemory>
 {
     let origin = origin.copy(alloc)?;
     Ok(Traced::List(origin, Nodes::of(Vec::new(alloc))))
-}
-
-/// The values that were made at a place, the first where there are several.
-fn placed<'a>(results: &'a [(Place, Items)], place: &[u32]) -> Option<&'a Items>
-    ensures { option_map (λ vs. values_view vs.now) result ≡ placed results.now place.now }
-{
-    for made in results {
-        if place == made.0.as_slice() {
-            return Some(&made.1);
-        }
-    }
-    None
 }
 
 /// The value of this number.

@@ -6,7 +6,8 @@ use Rattle.tv_strategy.specs.Outputs.{output_below, outputs_from}
 use Rattle.tv_traced.specs.IterationViews.{iteration_view, iterations_view}
 use Rattle.tv_strategy.specs.Origins.{from_level}
 use Rattle.tv_traced.specs.OriginViews.{origin_view}
-use Rattle.tv_traced.specs.Results.{made_at}
+use Rattle.tv_value.specs.Views.{values_view}
+use Rattle.tv_traced.specs.Results.{found_made}
 use Rattle.tv_traced.specs.TracedViews.{traced_view}
 use Rattle.tv_traced.proofs.OfInputs.{popped}
 use Rattle.tv_traced.proofs.OfIterations.{iterations_view-each, list_view}
@@ -18,7 +19,7 @@ use Rattle.tv_traced.proofs.outputs.+output.Goals as goal
 pub outputs_from-loop-index-preserved : goal.outputs_from-loop-index-preserved
 outputs_from-loop-index-preserved t c =
     let name : Place → JobName = λ p. c.args.instance.now ++ (c.args.step.now, p) ∷ [] in
-    let given : Place → Value = made_at c.args.results.now c.args.number in
+    let given : Place → Value = found_made (λ vs. values_view vs.now) c.args.found.now c.args.number in
     let d = c.args.declared in
     let k = c.args.levels in
     let q = c.args.place.now.items in
@@ -42,7 +43,7 @@ outputs_from-loop-index-preserved t c =
 pub outputs_from-returns : goal.outputs_from-returns
 outputs_from-returns t c =
     let name : Place → JobName = λ p. c.args.instance.now ++ (c.args.step.now, p) ∷ [] in
-    let given : Place → Value = made_at c.args.results.now c.args.number in
+    let given : Place → Value = found_made (λ vs. values_view vs.now) c.args.found.now c.args.number in
     let d = c.args.declared in
     let k = c.args.levels in
     let q = c.args.place.now.items in
@@ -61,7 +62,7 @@ outputs_from-returns t c =
 pub output_below-returns-clause-value : goal.output_below-returns-clause-value
 output_below-returns-clause-value t c =
     let name : Place → JobName = λ p. c.args.instance.now ++ (c.args.step.now, p) ∷ [] in
-    let given : Place → Value = made_at c.args.results.now c.args.number in
+    let given : Place → Value = found_made (λ vs. values_view vs.now) c.args.found.now c.args.number in
     let d = c.args.declared in
     let q = c.args.place.now.items in
     let s = c.in-List.sources in
