@@ -1,0 +1,4 @@
+pub mod OfSameness
+pub mod OfTries
+pub mod OfNamed
+pub mod OfJobs

@@ -1,0 +1,12 @@
+pub mod MadeViews
+pub mod LevelLists
+pub mod PortWalks
+pub mod Opening
+pub mod PlacedOutputs
+pub mod StepParts
+pub mod Picked
+pub mod Apart
+pub mod InstanceParts
+pub use Rattle.tv_known.specs.Known
+pub use Rattle.tv_known.specs.Sameness
+pub use Rattle.tv_known.specs.WholeViews
