@@ -1,0 +1,4 @@
+mod Pasts
+mod Asked
+mod Found
+mod Opened

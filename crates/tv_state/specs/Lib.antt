@@ -1,0 +1,3 @@
+pub mod EventViews
+pub mod StateViews
+pub mod StateTests
