@@ -1,0 +1,196 @@
+-- Where no activity opens a flow, the meaning has the main instance alone, and no job opens anything.
+use Rattle.std.specs.List.{list_all, list_any}
+use Rattle.std.specs.Option.{option_map_or}
+use Rattle.std.specs.Prelude.{Bool, Err, List, None, Ok, Option, Result, Some, [], false, flat_map, if◌then◌else◌, is_some, length, map, refl, suc, true, ℕ, ◌++◌, ◌∷◌, ◌≡◌, ◌⊎◌}
+use Rattle.std.specs.List.{range_with_len}
+use Rattle.std.proofs.Common.{ap, inl, inr, subst, sym, ◌∙◌}
+use Rattle.std.proofs.lemmas.List.Folds.{list_all-append}
+use Rattle.tv_value.specs.Activities.{Activity, nested, service}
+use Rattle.tv_value.specs.Nested.{Place, leaf, list, nodes}
+use Rattle.tv_value.specs.Orders.{named, same_name}
+use Rattle.tv_value.specs.Values.{JobName, Name, Text, Value, holds_fault}
+use Rattle.tv_gate.specs.Outcomes.{Giving}
+use Rattle.tv_flow.specs.Flows.{Document, Flow, Step}
+use Rattle.tv_strategy.specs.Iterations.{Iteration, iteration, job, passed}
+use Rattle.tv_strategy.specs.Origins.{Origin, Traced, plain}
+use Rattle.tv_strategy.specs.Sources.{Each}
+use Rattle.tv_dispatch.specs.Jobs.{Ask, Fate, Taken, Try, ask, match_result, open_flow, opens, outcome_of, right, taken, tries, wrong}
+use Rattle.tv_check.specs.Delivered.{Delivered, StepMeaning, ported}
+use Rattle.tv_check.specs.Steps.{bound_values, declared_depths, port_iteration, strategy_of}
+use Rattle.tv_model.specs.Instances.{bounced_job, job_on, node_jobs, step_made, steps_made, tried_job, with_fate}
+use Rattle.tv_model.specs.Jobs.{Job}
+use Rattle.tv_model.specs.Made.{Made, Meaning, Opened, endings, feed_value}
+use Rattle.tv_model.specs.Members.{In}
+use Rattle.tv_check.specs.Ranks.{ranked}
+use Rattle.tv_model.specs.Earlier.{given_of}
+use Rattle.tv_model.specs.Meanings.{flow_meaning, instance_meaning, jobs_with_inside, meaning, no_meaning, steps_inside}
+use Rattle.tv_model.proofs.Fed.{each-all, each-flat_map}
+use Rattle.tv_model.proofs.Members.{each_in, in_each, of-flat}
+use Rattle.tv_model.proofs.Whole.{AnyNumber, rank-each}
+use Rattle.tv_model.proofs.Tests.{both_true, left_true, right_true, true≠false}
+use Rattle.tv_outcomes.proofs.Takes.{some-part}
+use Rattle.tv_board.specs.Flat.{is_service, only_services, opens_nothing}
+
+abbrev pub is_asking : Try → Bool
+is_asking (ask a) = true
+is_asking (open_flow f) = false
+
+asks-ask : (f : ℕ → Ask) (ns : List ℕ) → list_all is_asking (map (λ n. ask (f n)) ns) ≡ true
+asks-ask f [] = refl
+asks-ask f (n ∷ ns) = asks-ask f ns
+
+pub tries-ask : (vs : List Value) (ds : List ℕ) (retries k : ℕ) (acts : List Activity) → list_all is_service acts ≡ true → list_all is_asking (tries vs ds retries k acts) ≡ true
+tries-ask vs ds retries k [] h = refl
+tries-ask vs ds retries k (service s ∷ acts) h =
+    list_all-append is_asking (map (λ n. ask (record { service = s; inputs = vs; outputs = ds; activity = k; attempt = n })) (range_with_len 0 (suc retries))) (tries vs ds retries (suc k) acts)
+    ∙ both_true (list_all is_asking (map (λ n. ask (record { service = s; inputs = vs; outputs = ds; activity = k; attempt = n })) (range_with_len 0 (suc retries)))) (list_all is_asking (tries vs ds retries (suc k) acts)) (asks-ask (λ n. record { service = s; inputs = vs; outputs = ds; activity = k; attempt = n }) (range_with_len 0 (suc retries))) (tries-ask vs ds retries (suc k) acts h)
+tries-ask vs ds retries k (nested f ∷ acts) h = absurd (true≠false (sym h))
+
+abbrev pub opens_one : Fate → Bool
+opens_one (right vs) = false
+opens_one (opens f) = true
+opens_one (wrong why) = false
+
+pub taken-opens : (gives : Giving) (why : Text) (ts : List Try) → list_all is_asking ts ≡ true → opens_one (taken gives why ts).fate ≡ false
+taken-opens gives why [] h = refl
+taken-opens gives why (open_flow f ∷ ts) h = absurd (true≠false (sym h))
+taken-opens gives why (ask a ∷ ts) h = by (outcome_of gives a) (λ w. taken-opens gives w ts h)
+  where
+    by : (o : Result (List Value) Text) → ((w : Text) → opens_one (taken gives w ts).fate ≡ false) → opens_one (match_result {C = Taken} o (λ vs. record { asks = a ∷ []; fate = right vs }) (λ reason. record { asks = a ∷ (taken gives reason ts).asks; fate = (taken gives reason ts).fate })).fate ≡ false
+    by (Ok vs) rec = refl
+    by (Err w) rec = rec w
+
+module _ (gives : Giving) (inside : Name → JobName → List (Name × Value) → Meaning) (instance : JobName) where
+  -- a job that opens nothing
+  pub record IsAlone (o : Opened) : Type 0 where
+    pub opens : o.job.opens ≡ None
+    pub nothing : o.inside ≡ None
+    pub in_instance : o.job.instance ≡ instance
+
+  fate-alone : (s : Step) (j : Job) (f : Fate) → j.opens ≡ None → j.instance ≡ instance → opens_one f ≡ false → IsAlone (with_fate gives inside instance s j f)
+  fate-alone s j (right vs) o i h = record { opens = o; nothing = refl; in_instance = i }
+  fate-alone s j (wrong why) o i h = record { opens = o; nothing = refl; in_instance = i }
+  fate-alone s j (opens f) o i h = absurd (true≠false h)
+
+  on-alone : (n : Name) (s : Step) (waits : List Origin) (q : Place) (vs : List Traced) → list_all is_service s.activities ≡ true → IsAlone (job_on gives inside instance n s waits q vs)
+  on-alone n s waits q vs h = by (list_any (λ v. holds_fault v) vs)
+    where
+      bounced : Job
+      bounced = bounced_job gives inside instance n s waits q vs
+
+      tried : IsAlone (tried_job gives inside instance s (bounced_job gives inside instance n s waits q vs))
+      tried =
+          let ts = tries (map plain vs) (declared_depths s) s.retries 0 s.activities in
+          fate-alone s (record (bounced_job gives inside instance n s waits q vs) { asks = (taken gives [] ts).asks }) (taken gives [] ts).fate refl refl (taken-opens gives [] ts (tries-ask (map plain vs) (declared_depths s) s.retries 0 s.activities h))
+
+      by : (b : Bool) → IsAlone (if b then record { job = bounced_job gives inside instance n s waits q vs; inside = None } else tried_job gives inside instance s (bounced_job gives inside instance n s waits q vs))
+      by true = record { opens = refl; nothing = refl; in_instance = refl }
+      by false = tried
+
+  node-alone : (n : Name) (s : Step) (ended : List Origin) → list_all is_service s.activities ≡ true → (x : Place × Iteration) → Each IsAlone (node_jobs gives inside instance n s ended x)
+  node-alone n s ended h (q, leaf r (job b)) = (on-alone n s (r ++ ended) q (bound_values s b) h, tt)
+  node-alone n s ended h (q, leaf r (passed m e)) = tt
+  node-alone n s ended h (q, list r ts) = tt
+
+  -- a step of this list, whose jobs open nothing
+  pub record IsMadeAlone (all : List (Name × Step)) (m : Made) : Type 0 where
+    pub jobs : Each IsAlone m.jobs
+    pub in_instance : m.step.instance ≡ instance
+    pub of_step : (s : Step) × In (m.step.step, s) all
+
+  step-alone : (all : List (Name × Step)) (given : List (Name × Delivered)) (made : List Made) (n : Name) (s : Step) → list_all is_service s.activities ≡ true → In (n, s) all → IsMadeAlone all (step_made gives inside instance given made (n, s))
+  step-alone all given made n s h i = record {
+    jobs = each-flat_map (λ x. Unit {0}) IsAlone (node_jobs gives inside instance n s (endings made s.after)) (λ x u. node-alone n s (endings made s.after) h x) (nodes it) (each-all (λ x. Unit {0}) (λ x. tt) (nodes it));
+    in_instance = refl;
+    of_step = (s, i);
+  }
+    where
+      it : Iteration
+      it = iteration (port_iteration (map (λ i. (i.0, ported i.1.depth (feed_value given made i.1.from))) s.inputs)) (strategy_of s)
+
+  pub steps-alone : (all : List (Name × Step)) (given : List (Name × Delivered)) (made : List Made) (ss : List (Name × Step)) → Each (IsMadeAlone all) made → Each (λ s. (list_all is_service s.1.activities ≡ true) × In s all) ss → Each (IsMadeAlone all) (steps_made gives inside instance given made ss)
+  steps-alone all given made [] m h = m
+  steps-alone all given made (s ∷ ss) m h = steps-alone all given (step_made gives inside instance given made s ∷ made) ss (step-alone all given made s.0 s.1 h.0.0 h.0.1, m) h.1
+
+  -- a meaning with this instance alone
+  pub record IsFlat (all : List (Name × Step)) (m : Meaning) : Type 0 where
+    pub jobs : (j : Job) → In j m.jobs → j.opens ≡ None
+    pub steps : (s : StepMeaning) → In s m.steps → (s.instance ≡ instance) × ((t : Step) × In (s.step, t) all)
+
+  job-flat : (o : Opened) → IsAlone o → (j : Job) → In j (jobs_with_inside o) → j.opens ≡ None
+  job-flat o a j i = by (subst (λ x. In j (o.job ∷ option_map_or (λ (m : Meaning). m.jobs) x [])) a.nothing i)
+    where
+      by : In j (o.job ∷ []) → j.opens ≡ None
+      by (inl e) = ap (λ (k : Job). k.opens) e ∙ a.opens
+      by (inr k) = absurd k
+
+  steps-none : (o : Opened) → IsAlone o → (s : StepMeaning) → In s (steps_inside o) → ⊥
+  steps-none o a s i = subst (λ x. In s (option_map_or (λ (m : Meaning). m.steps) x [])) a.nothing i
+
+  in-either : {A : Type 0} (x : A) (xs ys : List A) → In x (xs ++ ys) → In x xs ⊎ In x ys
+  in-either x [] ys i = inr i
+  in-either x (y ∷ xs) ys (inl e) = inl (inl e)
+  in-either x (y ∷ xs) ys (inr i) = by (in-either x xs ys i)
+    where
+      by : In x xs ⊎ In x ys → ((x ≡ y) ⊎ In x xs) ⊎ In x ys
+      by (inl k) = inl (inr k)
+      by (inr k) = inr k
+
+  of-steps : (all : List (Name × Step)) (made : List Made) → Each (IsMadeAlone all) made → (s : StepMeaning) → In s (map (λ (m : Made). m.step) made) → (s.instance ≡ instance) × ((t : Step) × In (s.step, t) all)
+  of-steps all [] h s i = absurd i
+  of-steps all (m ∷ made) h s (inl e) = subst (λ (x : StepMeaning). (x.instance ≡ instance) × ((t : Step) × In (x.step, t) all)) (sym e) (h.0.in_instance, h.0.of_step)
+  of-steps all (m ∷ made) h s (inr i) = of-steps all made h.1 s i
+
+  opened-alone : (all : List (Name × Step)) (made : List Made) → Each (IsMadeAlone all) made → (o : Opened) → In o (flat_map (λ (m : Made). m.jobs) made) → IsAlone o
+  opened-alone all made h o i =
+      let r = of-flat (λ (m : Made). m.jobs) o made i in
+      each_in IsAlone r.0.jobs (each_in (IsMadeAlone all) made h r.0 r.1).jobs o r.2
+
+  pub instance-flat : (flow : Flow) (vs : List (Name × Value)) → Each (λ s. (list_all is_service s.1.activities ≡ true) × In s flow.steps) flow.steps → IsFlat flow.steps (instance_meaning gives inside instance flow vs)
+  instance-flat flow vs h = record {
+    jobs = λ j i. let r = of-flat jobs_with_inside j opened i in job-flat r.0 (opened-alone flow.steps made alone r.0 r.1) j r.2;
+    steps = λ s i. by s (in-either s (map (λ (m : Made). m.step) made) (flat_map steps_inside opened) i);
+  }
+    where
+      made : List Made
+      made = steps_made gives inside instance (given_of flow vs) [] (ranked flow.steps)
+
+      opened : List Opened
+      opened = flat_map (λ (m : Made). m.jobs) (steps_made gives inside instance (given_of flow vs) [] (ranked flow.steps))
+
+      alone : Each (IsMadeAlone flow.steps) (steps_made gives inside instance (given_of flow vs) [] (ranked flow.steps))
+      alone = steps-alone flow.steps (given_of flow vs) [] (ranked flow.steps) tt (rank-each gives AnyNumber (λ s. (list_all is_service s.1.activities ≡ true) × In s flow.steps) (length flow.steps) [] flow.steps h)
+
+      by : (s : StepMeaning) → In s (map (λ (m : Made). m.step) (steps_made gives inside instance (given_of flow vs) [] (ranked flow.steps))) ⊎ In s (flat_map steps_inside (flat_map (λ (m : Made). m.jobs) (steps_made gives inside instance (given_of flow vs) [] (ranked flow.steps)))) → (s.instance ≡ instance) × ((t : Step) × In (s.step, t) flow.steps)
+      by s (inl k) = of-steps flow.steps (steps_made gives inside instance (given_of flow vs) [] (ranked flow.steps)) (steps-alone flow.steps (given_of flow vs) [] (ranked flow.steps) tt (rank-each gives AnyNumber (λ s. (list_all is_service s.1.activities ≡ true) × In s flow.steps) (length flow.steps) [] flow.steps h)) s k
+      by s (inr k) = let r = of-flat steps_inside s (flat_map (λ (m : Made). m.jobs) (steps_made gives inside instance (given_of flow vs) [] (ranked flow.steps))) k in absurd (steps-none r.0 (opened-alone flow.steps (steps_made gives inside instance (given_of flow vs) [] (ranked flow.steps)) (steps-alone flow.steps (given_of flow vs) [] (ranked flow.steps) tt (rank-each gives AnyNumber (λ s. (list_all is_service s.1.activities ≡ true) × In s flow.steps) (length flow.steps) [] flow.steps h)) r.0 r.1) s r.2)
+
+-- ---- a document
+
+services-at : {A : Type 0} (p : A → Bool) (xs : List A) → list_all p xs ≡ true → (x : A) → In x xs → p x ≡ true
+services-at p [] h x i = absurd i
+services-at p (y ∷ ys) h x (inl e) = ap p e ∙ left_true (p y) (list_all p ys) h
+services-at p (y ∷ ys) h x (inr k) = services-at p ys (right_true (p y) (list_all p ys) h) x k
+
+named-services : (n : Name) (fs : List (Name × Flow)) → list_all only_services fs ≡ true → (f : Flow) → named n fs ≡ Some f → list_all (λ s. list_all is_service s.1.activities) f.steps ≡ true
+named-services n [] h f e = absurd (true≠false (sym (ap is_some e)))
+named-services n (g ∷ gs) h f e = by (same_name n g.0) e (named-services n gs (right_true (only_services g) (list_all only_services gs) h) f)
+  where
+    by : (b : Bool) → (if b then Some g.1 else named n gs) ≡ Some f → (named n gs ≡ Some f → list_all (λ s. list_all is_service s.1.activities) f.steps ≡ true) → list_all (λ s. list_all is_service s.1.activities) f.steps ≡ true
+    by true k rec = subst (λ (x : Flow). list_all (λ s. list_all is_service s.1.activities) x.steps ≡ true) (some-part g.1 f k) (left_true (only_services g) (list_all only_services gs) h)
+    by false k rec = rec k
+
+module _ (gives : Giving) (d : Document) (flat : opens_nothing d ≡ true) where
+  -- the meaning has the main instance alone, and its steps
+  pub meaning-flat : (f : Flow) → named d.main d.flows ≡ Some f → IsFlat gives (flow_meaning gives d.flows 7) [] f.steps (meaning gives d)
+  meaning-flat f e =
+      subst (λ o. IsFlat gives (flow_meaning gives d.flows 7) [] f.steps (option_map_or (λ (flow : Flow). instance_meaning gives (flow_meaning gives d.flows 7) [] flow d.inputs) o no_meaning)) (sym e)
+      (instance-flat gives (flow_meaning gives d.flows 7) [] f d.inputs (in_each (λ s. (list_all is_service s.1.activities ≡ true) × In s f.steps) f.steps (λ s i. (services-at (λ x. list_all is_service x.1.activities) f.steps (named-services d.main d.flows flat f e) s i, i))))
+
+  -- no job opens anything
+  pub none-opens : (j : Job) → In j (meaning gives d).jobs → j.opens ≡ None
+  none-opens j i = by (named d.main d.flows) refl i
+    where
+      by : (o : Option Flow) → named d.main d.flows ≡ o → In j (option_map_or (λ (flow : Flow). instance_meaning gives (flow_meaning gives d.flows 7) [] flow d.inputs) o no_meaning).jobs → j.opens ≡ None
+      by None e k = absurd k
+      by (Some f) e k = (meaning-flat f e).jobs j i

@@ -1,0 +1,5 @@
+use Rattle.tv_board.proofs.OfRecalls.{recalled-none_out}
+use Rattle.tv_board.proofs.board.Board.recall_all.Goals as goal
+
+pub returns-clause-none_out : goal.returns-clause-none_out
+returns-clause-none_out g c = recalled-none_out g.V.Services.gives c.args.self.now c.recall.new.self c.out_count-count.result c.in_ok-recall.ensures.appended

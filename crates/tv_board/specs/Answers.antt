@@ -1,0 +1,21 @@
+-- What an answer answers.
+use Rattle.std.specs.Prelude.{List, Option, ℕ, ◌⊎◌}
+use Rattle.tv_value.specs.Values.{Name, Value}
+use Rattle.tv_value.specs.Views.{values_view}
+use Rattle.tv_value.specs.declared.value.Items.{Items}
+use Rattle.tv_gate.specs.Calls.{Call, IsCalled, IsSameCalls}
+use Rattle.tv_board.specs.declared.ticket.Ticket.{Ticket}
+
+-- the ticket, service, inputs and outputs of a task or an answer
+pub record Question : Type 0 where
+  pub ticket : Ticket
+  pub service : Name
+  pub inputs : List Value
+  pub outputs : List (Name × ℕ)
+
+abbrev pub question : Ticket → Name → Items → List (Name × ℕ) → Question
+question t s vs os = record { ticket = t; service = s; inputs = values_view vs; outputs = os }
+
+-- told calls are as before, or followed by this one
+abbrev pub IsSameOrCalled : Option (List Call) → Option (List Call) → Call → Type 0
+IsSameOrCalled before after call = IsSameCalls before after ⊎ IsCalled before after call

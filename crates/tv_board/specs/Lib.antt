@@ -1,0 +1,14 @@
+pub mod Given
+pub mod Answers
+pub mod Runs
+pub mod RunCodes
+pub mod Flat
+pub mod Kept
+pub mod Numbering
+pub mod Steps
+pub mod States
+pub mod Calls
+pub mod Settlements
+pub mod Looked
+pub mod Refusals
+pub mod Counted
