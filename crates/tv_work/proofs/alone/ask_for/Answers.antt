@@ -1,0 +1,27 @@
+use Rattle.std.proofs.Common.{ap, subst, sym, ◌∙◌, ◌≤◌}
+use Rattle.tv_gate.specs.Views.{outcome_view}
+use Rattle.tv_board.specs.Answers.{Question}
+use Rattle.tv_board.specs.Calls.{IsTask, out_count}
+use Rattle.tv_board.specs.Refusals.{answered}
+use Rattle.tv_work.proofs.OfTurns.{accepted-goes_on, accepted-turn, only-no_task, task-no_room}
+use Rattle.tv_work.proofs.alone.ask_for.Goals as goal
+
+pub no_task-requires : goal.no_task-requires
+no_task-requires g c = only-no_task g.V.Services.gives c.args.board.now c.args.ticket.now c.in-Err.fault c.requires.only c.in-Err.ensures.fault
+
+pub no_room-requires : goal.no_room-requires
+no_room-requires g c =
+    task-no_room g.V.Services.gives c.args.board.now (answered c.in_ok-answer.answer) (outcome_view c.in_ok-answer.answer.outcome) c.in-Err-accept.refused (subst (IsTask g.V.Services.gives c.args.board.now) (sym c.in_ok-answer.ensures.answer) c.in-Ok.ensures.task.0) c.in-Err-accept.ensures.refused
+
+pub returns-in-Ok-accept-clause-goes_on : goal.returns-in-Ok-accept-clause-goes_on
+returns-in-Ok-accept-clause-goes_on g c =
+    accepted-goes_on g.V.Services.gives c.args.board.now c.accept.new.self c.args.ticket.now (answered c.in_ok-answer.answer) (outcome_view c.in_ok-answer.answer.outcome) c.in-Ok-accept._accepted
+    (ap (λ (q : Question). q.ticket) c.in_ok-answer.ensures.answer ∙ c.in-Ok.ensures.task.1) c.in-Ok-accept.ensures.accepted
+
+pub returns-in-Ok-accept-clause-turned : goal.returns-in-Ok-accept-clause-turned
+returns-in-Ok-accept-clause-turned g c =
+    accepted-turn g.V.Services.gives c.args.board.now c.accept.new.self c.args.ticket.now (answered c.in_ok-answer.answer) (outcome_view c.in_ok-answer.answer.outcome) c.in-Ok-accept._accepted
+    (ap (λ (q : Question). q.ticket) c.in_ok-answer.ensures.answer ∙ c.in-Ok.ensures.task.1) c.in-Ok-accept.ensures.accepted c.requires.legal c.requires.only
+
+pub returns-in-Err-accept-clause-refused : goal.returns-in-Err-accept-clause-refused
+returns-in-Err-accept-clause-refused g c = subst (λ r. out_count g.V.Services.gives r ≤ 1) (sym c.in-Err-accept.ensures.unchanged) c.requires.only.few

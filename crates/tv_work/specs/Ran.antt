@@ -1,0 +1,17 @@
+-- What a whole run gives.
+use Rattle.std.specs.Prelude.{List, map, ◌≡◌}
+use Rattle.tv_value.specs.Views.{view}
+use Rattle.tv_value.specs.declared.value.Value.{Value}
+use Rattle.tv_value.specs.Values.{Name}
+use Rattle.tv_gate.specs.Outcomes.{Giving}
+use Rattle.tv_flow.specs.Flows.{Document}
+use Rattle.tv_flow.specs.Views.{each}
+use Rattle.tv_strategy.specs.Origins.{plain}
+use Rattle.tv_model.specs.Meanings.{meaning}
+use Rattle.tv_model.specs.Totals as model
+use Rattle.tv_model.specs.TotalsViews.{totals_view}
+use Rattle.tv_model.specs.declared.totals.Totals.{Totals}
+
+-- the outputs and the totals of the document's meaning
+abbrev pub IsRun : Giving → Document → List (Name × Value) × Totals → Type 0
+IsRun gives d r = (each view r.0 ≡ map (λ o. (o.0, plain o.1)) (meaning gives d).outputs) × (totals_view r.1 ≡ model.totals (meaning gives d).jobs)

@@ -1,0 +1,124 @@
+//! One worker alone.
+ghost use Rattle.std.specs.Prelude.{◌≡◌, ◌≤◌, IfOk, OnErr, OnOk, true};
+ghost use Rattle.tv_board.specs.Calls.{NothingSettles, out_count};
+ghost use Rattle.tv_board.specs.Runs.{IsLegalRun};
+ghost use Rattle.tv_board.specs.Settlements.{IsSettling};
+ghost use Rattle.tv_work.specs.Wants.{IsNoRoom, IsNoTask};
+ghost use Rattle.tv_work.specs.Working.{GoesOn, IsFree, IsOnlyOut, IsTurn, IsWorkedOff};
+
+use std::alloc::Global;
+use tv_board::{Board, Refused, TaskFault, Ticket, ask_alone};
+use tv_gate::{Asker, Services};
+use tv_value::NoMemory;
+
+/// Works off a board on which nothing is out: settles all that can be settled, asks for the first try on offer, accepts its
+/// outcome, and so on until nothing is on offer. It ends with the run done. After `Err` one try may be out.
+///
+/// It makes as many calls of the asker as tries are left. The cost is that of the board's calls: each reads the whole history
+/// and, with each outcome, works the meaning out anew.
+pub fn run_alone<V: Services, A: Asker<Services = V>>(
+    alloc: Global,
+    board: &mut Board<V>,
+    asker: &mut A,
+) -> Result<(), NoMemory>
+    requires { out_count V.gives board.old ≡ 0 }
+    ensures goes_on { GoesOn board.old board.new }
+    ensures legal { IsLegalRun V.gives board.new }
+    ensures worked_off { OnOk result (IsWorkedOff V.gives board.new) }
+    ensures refused { OnErr result (out_count V.gives board.new ≤ 1) }
+{
+    board.is_lawful();
+    'turns: while turn(alloc, board, asker)? {}
+    Ok(())
+}
+
+/// Settles what can be settled, and has one try asked for and accepted: `false` where none is on offer.
+fn turn<V: Services, A: Asker<Services = V>>(
+    alloc: Global,
+    board: &mut Board<V>,
+    asker: &mut A,
+) -> Result<bool, NoMemory>
+    requires { IsFree V.gives board.old }
+    ensures goes_on { GoesOn board.old board.new }
+    ensures legal { IsLegalRun V.gives board.new }
+    ensures turned { IfOk result (λ more. IsTurn V.gives board.old board.new more) }
+    ensures refused { OnErr result (out_count V.gives board.new ≤ 1) }
+{
+    settle_all(board)?;
+    match board.hand_out() {
+        Some(ticket) => {
+            ask_for(alloc, board, asker, &ticket)?;
+            Ok(true)
+        }
+        None => Ok(false),
+    }
+}
+
+/// Settles all that can be settled.
+fn settle_all<V: Services>(board: &mut Board<V>) -> Result<(), NoMemory>
+    requires { IsFree V.gives board.old }
+    ensures goes_on { GoesOn board.old board.new }
+    ensures free { IsFree V.gives board.new }
+    ensures settled { OnOk result (NothingSettles V.gives board.new) }
+{
+    'settling: while settle(board)? {}
+    Ok(())
+}
+
+/// Settles one thing, and tells whether there was one.
+fn settle<V: Services>(board: &mut Board<V>) -> Result<bool, NoMemory>
+    ensures settled { IfOk result (λ more. IsSettling V.gives board.old board.new more) }
+    ensures refused { OnErr result (board.new ≡ board.old) }
+    ensures legal { IsLegalRun V.gives board.new }
+{
+    board.settle_one()
+}
+
+/// Asks for a try that was just handed out, and has the outcome accepted: the board never refuses it.
+fn ask_for<V: Services, A: Asker<Services = V>>(
+    alloc: Global,
+    board: &mut Board<V>,
+    asker: &mut A,
+    ticket: &Ticket,
+) -> Result<(), NoMemory>
+    requires legal { IsLegalRun V.gives board.old }
+    requires only { IsOnlyOut V.gives board.old ticket.now }
+    ensures goes_on { GoesOn board.old board.new }
+    ensures legal { IsLegalRun V.gives board.new }
+    ensures turned { OnOk result (IsTurn V.gives board.old board.new true) }
+    ensures refused { OnErr result (out_count V.gives board.new ≤ 1) }
+{
+    let task = match board.task(ticket) {
+        Ok(task) => task,
+        Err(fault) => return Err(no_task(fault)),
+    };
+    let answer = ask_alone(alloc, task, asker)?;
+    match board.accept(answer) {
+        Ok(_accepted) => Ok(()),
+        Err(refused) => Err(no_room(refused)),
+    }
+}
+
+/// A task is refused for want of memory, where its try is out.
+fn no_task(fault: TaskFault) -> NoMemory
+    requires { IsNoTask fault }
+{
+    match fault {
+        TaskFault::NoMemory => NoMemory,
+        TaskFault::NotOut(_) => unreachable!(),
+    }
+}
+
+/// An answer is refused for want of memory, where it is what its try asks.
+fn no_room<V: Services>(refused: Refused<V>) -> NoMemory
+    requires { IsNoRoom refused }
+{
+    match refused {
+        Refused::NoMemory { answer: _answer } => NoMemory,
+        Refused::NotOut {
+            answer: _answer,
+            state: _,
+        } => unreachable!(),
+        Refused::OtherInputs { answer: _answer } => unreachable!(),
+    }
+}

@@ -1,0 +1,13 @@
+//! Who works off a board.
+//!
+//! - `alone`: one worker, who asks for one try after another
+//! - `whole_run`: a board started, worked off, and its outputs and totals read
+//! - `laws`: that any calls of a board are legal, that it is never stuck, and why working it off comes to an end
+#![tactic(auto)]
+
+mod alone;
+pub mod laws;
+mod whole_run;
+
+pub use alone::run_alone;
+pub use whole_run::run_whole;
