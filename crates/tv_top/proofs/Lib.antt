@@ -1,4 +1,5 @@
 pub mod Bytes
 pub mod Plainly
 pub mod Given
+pub mod Openings
 mod Computed

@@ -24,9 +24,10 @@ use std::alloc::Global;
 use tv_check::{CheckFault, CheckRefused, CheckedRun, check};
 use tv_flow::{Document, FormFault, read_document};
 use tv_gate::Asker;
-use tv_plain::{is_chain, run_chain};
+use tv_plain::is_chain;
 use tv_report::{check_line, depth_lines, form_line, result_line};
 use tv_value::{NoMemory, Text};
+use tv_work::run_whole;
 
 /// The answer of a command to a document of at most 2^24 bytes.
 pub(crate) fn answer_to_bytes<A: Asker>(
@@ -122,13 +123,12 @@ fn answer_of_run<A: Asker>(alloc: Global, run: CheckedRun, asker: &mut A) -> Res
     }
 }
 
-/// The result line of a chain.
+/// The result line of a chain, which a board runs.
 fn line_of_run<A: Asker>(alloc: Global, run: CheckedRun, asker: &mut A) -> Result<Text, NoMemory>
     requires { is_chain (run_view run) ≡ true }
     ensures { IfOk result (λ t. t ≡ result_line (meaning A.Services.gives (run_view run))) }
 {
-    let ran = run_chain(alloc, &run, asker)?;
-    drop(run);
-    let line = result_line(alloc, &ran.outputs, &ran.totals)?;
+    let (outputs, totals) = run_whole(alloc, run, asker)?;
+    let line = result_line(alloc, &outputs, &totals)?;
     Ok(line)
 }

@@ -1,6 +1,7 @@
 //! The two top calls: words and a document in, text and a status out.
 //!
 //! `taverna_alone` does what the words ask for with one asker and always returns; `taverna` has a gate and threads besides.
+//! A run goes over a board (`tv_board`), which one worker works off (`run_whole` of `tv_work`).
 //! Their contracts are the headline: what is written is a function of the words and the document's bytes
 //! (`specs/Answers.antt`), each status has its cause and its line (`specs/Headline.antt`), and a document that is accepted
 //! and, for `run`, one that is built is never refused.
@@ -10,6 +11,8 @@
 //! - `answering`: from there to the text to print, or the refusal
 //! - `top`: the top calls
 //! - `laws`: the definitions computed on worked examples
+//!
+//! `Board` and `run_alone`, which works a board off, are passed on from `tv_board` and `tv_work`.
 #![tactic(auto)]
 
 mod answering;
@@ -24,3 +27,5 @@ mod words;
 
 pub use status::Status;
 pub use top::{taverna, taverna_alone};
+pub use tv_board::Board;
+pub use tv_work::run_alone;

@@ -25,8 +25,9 @@ const BYTE_LIMIT: usize = 1 << 24;
 /// `Done`, the status's line to `err`.
 ///
 /// The answer is a function of the words and the bytes, for the services of the asker's type. Nothing is written to
-/// `out` before all of it is made. Time and memory are linear in the document for what the services give in the time
-/// and memory that they take.
+/// `out` before all of it is made. `check` takes near linear time in the document. A run goes over a plain board
+/// (`tv_board`), which works out again and again where it stands: beside what the services take, its time grows with about
+/// the cube of its jobs.
 pub fn taverna_alone<S: Source, K: Sink, E: Sink, A: Asker>(
     alloc: Global,
     words: &[String],

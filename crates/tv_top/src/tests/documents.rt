@@ -244,6 +244,35 @@ fn each_text_is_asked_for_once(rt: HostRuntime) -> Result<(), Fail> {
     Ok(())
 }
 
+// Each element goes on to the next step before the list that it stands in is complete.
+#[test]
+fn each_element_goes_on_at_once(rt: HostRuntime) -> Result<(), Fail> {
+    let alloc = rt.alloc();
+    let words = words_of(alloc, &["run"])?;
+    let text = document(alloc, "{\"x\":1}", CHAIN, "q", "{\"x\":[\"a\",\"b\"]}")?;
+    let mut source = source_of(alloc, text.as_str().as_bytes(), SOUND)?;
+    let mut out = sink_of(alloc, SOUND.piece, 0)?;
+    let mut err = sink_of(alloc, SOUND.piece, 0)?;
+    let gate = LocalGate::new();
+    let mut asker = LoggedGate::new(alloc, &gate);
+    let status = taverna_alone(alloc, &words, &mut source, &mut out, &mut err, &mut asker);
+    assert_eq!(rt; status, Status::Done);
+    let calls = asker.calls();
+    let wanted = [
+        ("upper", "a"),
+        ("lower", "A"),
+        ("upper", "b"),
+        ("lower", "B"),
+    ];
+    assert_eq!(rt; calls.len(), 4);
+    for (call, (service, text)) in calls.iter().zip(wanted) {
+        assert_eq!(rt; call.service.as_str(), service);
+        assert_eq!(rt; call.attempt, 0);
+        assert!(rt; is_one_text(&call.inputs, text), "{text}");
+    }
+    Ok(())
+}
+
 // The check asks no service.
 #[test]
 fn the_check_asks_nothing(rt: HostRuntime) -> Result<(), Fail> {
