@@ -9,11 +9,14 @@ pub mod OfOffers
 pub mod Looks
 pub mod Standing
 pub mod OfFlat
+pub mod OfIdle
 pub mod OfSteps
 pub mod OfSettling
 pub mod OfOutputs
+pub mod OfDeclared
 pub mod OfTasks
 pub mod OfNumbers
+pub mod OfRight
 pub mod OfAccepting
 pub mod OfTotals
 pub mod OfBoards

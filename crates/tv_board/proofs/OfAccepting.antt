@@ -43,16 +43,18 @@ use Rattle.tv_state.specs.EventViews as events
 use Rattle.tv_state.specs.declared.events.Event.{Event}
 use Rattle.tv_board.specs.Answers.{Question}
 use Rattle.tv_board.specs.Calls.{IsTask, job_at, try_out}
+use Rattle.tv_board.specs.Flat.{opens_nothing}
 use Rattle.tv_board.specs.Kept.{IsBoard, IsKept, event_of, is_known_right, not_out, run_of}
 use Rattle.tv_board.specs.Numbering.{numbering}
 use Rattle.tv_board.specs.Refusals.{IsAccepting, WasAccepted, accepted_if, accepts, is_right, is_right_verdict, is_settled_job}
-use Rattle.tv_board.specs.Runs.{Run, past_of}
+use Rattle.tv_board.specs.Runs.{IsLegalRun, Run, past_of}
 use Rattle.tv_board.specs.Steps.{HasRoom}
 use Rattle.tv_board.specs.declared.accepting.Accepted.{Accepted}
 use Rattle.tv_board.specs.declared.entry.Entry.{Entry}
 use Rattle.tv_board.proofs.OfBoards.{board-made, events-appended, past-of_appended}
 use Rattle.tv_board.proofs.OfKept.{kept-after}
 use Rattle.tv_board.proofs.OfPasts.{told}
+use Rattle.tv_board.proofs.OfRight.{right-settles}
 use Rattle.tv_board.proofs.Same.{is-given, same_values-decide}
 
 -- ---- one known call more
@@ -275,9 +277,11 @@ is_right-told (Err why) = refl
 pub verdict-right : (v : Verdict) (good : Bool) (r : Result (List Value) (List ℕ)) → good ≡ is_right_verdict v → v ≡ verdict_of r → good ≡ is_ok r
 verdict-right v good r h k = h ∙ ap is_right_verdict k ∙ is_right-told r
 
-pub accepting : (gives : Giving) (old new : Run) (q : Question) (o : Outcome) (good : Bool) (a : Accepted) → WasAccepted gives old new q o good → a ≡ accepted_if (is_settled_job gives new q.ticket.job) good → IsAccepting gives old new q o a
-accepting gives old new q o good a w h = subst (IsAccepting gives old new q o) (sym h) (by (is_settled_job gives new q.ticket.job) refl)
+-- a right outcome settles its job
+pub accepting : (gives : Giving) (old new : Run) (q : Question) (o : Outcome) (good : Bool) (a : Accepted) → opens_nothing new.document ≡ true → IsLegalRun gives new → WasAccepted gives old new q o good → a ≡ accepted_if (is_settled_job gives new q.ticket.job) good → IsAccepting gives old new q o a
+accepting gives old new q o good a flat l w h = subst (IsAccepting gives old new q o) (sym h) (by (is_settled_job gives new q.ticket.job) refl good w)
   where
-    by : (b : Bool) → is_settled_job gives new q.ticket.job ≡ b → IsAccepting gives old new q o (accepted_if b good)
-    by true e = (w, e)
-    by false e = ((good, w), e)
+    by : (b : Bool) → is_settled_job gives new q.ticket.job ≡ b → (g : Bool) → WasAccepted gives old new q o g → IsAccepting gives old new q o (accepted_if b g)
+    by true e g v = (v, e)
+    by false e false v = (v, e)
+    by false e true v = absurd (true≠false (sym (right-settles gives new old.entries q.ticket l flat v.appends.entries) ∙ e))

@@ -1,4 +1,5 @@
--- Where no activity opens a flow, the meaning has the main instance alone, and no job opens anything.
+-- Where no activity opens a flow, the meaning has the main instance alone, each job is of a step of the main flow, and none opens
+-- anything.
 use Rattle.std.specs.List.{list_all, list_any}
 use Rattle.std.specs.Option.{option_map_or}
 use Rattle.std.specs.Prelude.{Bool, Err, List, None, Ok, Option, Result, Some, [], false, flat_map, if◌then◌else◌, is_some, length, map, refl, suc, true, ℕ, ◌++◌, ◌∷◌, ◌≡◌, ◌⊎◌}
@@ -14,11 +15,11 @@ use Rattle.tv_flow.specs.Flows.{Document, Flow, Step}
 use Rattle.tv_strategy.specs.Iterations.{Iteration, iteration, job, passed}
 use Rattle.tv_strategy.specs.Origins.{Origin, Traced, plain}
 use Rattle.tv_strategy.specs.Sources.{Each}
-use Rattle.tv_dispatch.specs.Jobs.{Ask, Fate, Taken, Try, ask, match_result, open_flow, opens, outcome_of, right, taken, tries, wrong}
+use Rattle.tv_dispatch.specs.Jobs.{Ask, Fate, Taken, Try, ask, error_results, match_result, open_flow, opens, outcome_of, right, taken, tries, wrong}
 use Rattle.tv_check.specs.Delivered.{Delivered, StepMeaning, ported}
-use Rattle.tv_check.specs.Steps.{bound_values, declared_depths, port_iteration, strategy_of}
+use Rattle.tv_check.specs.Steps.{bound_values, declared_depths, port_iteration, spot, strategy_of}
 use Rattle.tv_model.specs.Instances.{bounced_job, job_on, node_jobs, step_made, steps_made, tried_job, with_fate}
-use Rattle.tv_model.specs.Jobs.{Job}
+use Rattle.tv_model.specs.Jobs.{Ending, Job, failed_end, good_end}
 use Rattle.tv_model.specs.Made.{Made, Meaning, Opened, endings, feed_value}
 use Rattle.tv_model.specs.Members.{In}
 use Rattle.tv_check.specs.Ranks.{ranked}
@@ -26,8 +27,10 @@ use Rattle.tv_model.specs.Earlier.{given_of}
 use Rattle.tv_model.specs.Meanings.{flow_meaning, instance_meaning, jobs_with_inside, meaning, no_meaning, steps_inside}
 use Rattle.tv_model.proofs.Fed.{each-all, each-flat_map}
 use Rattle.tv_model.proofs.Members.{each_in, in_each, of-flat}
+use Rattle.tv_model.proofs.Order.{in-append}
 use Rattle.tv_model.proofs.Whole.{AnyNumber, rank-each}
 use Rattle.tv_model.proofs.Tests.{both_true, left_true, right_true, true≠false}
+use Rattle.tv_outcomes.proofs.Distinct.{attempts, no-flow, of-attempts, taken-in}
 use Rattle.tv_outcomes.proofs.Takes.{some-part}
 use Rattle.tv_board.specs.Flat.{is_service, only_services, opens_nothing}
 
@@ -46,6 +49,29 @@ tries-ask vs ds retries k (service s ∷ acts) h =
     ∙ both_true (list_all is_asking (map (λ n. ask (record { service = s; inputs = vs; outputs = ds; activity = k; attempt = n })) (range_with_len 0 (suc retries)))) (list_all is_asking (tries vs ds retries (suc k) acts)) (asks-ask (λ n. record { service = s; inputs = vs; outputs = ds; activity = k; attempt = n }) (range_with_len 0 (suc retries))) (tries-ask vs ds retries (suc k) acts h)
 tries-ask vs ds retries k (nested f ∷ acts) h = absurd (true≠false (sym h))
 
+-- tries ask for these depths
+tries-outputs : (vs : List Value) (ds : List ℕ) (retries k : ℕ) (acts : List Activity) (a : Ask) → In (ask a) (tries vs ds retries k acts) → a.outputs ≡ ds
+tries-outputs vs ds retries k [] a h = absurd h
+tries-outputs vs ds retries k (nested f ∷ acts) a (inl e) = absurd (no-flow a f e)
+tries-outputs vs ds retries k (nested f ∷ acts) a (inr i) = tries-outputs vs ds retries (suc k) acts a i
+tries-outputs vs ds retries k (service s ∷ acts) a h = by (in-append (ask a) (attempts vs ds retries s k) (tries vs ds retries (suc k) acts) h) (λ i. tries-outputs vs ds retries (suc k) acts a i)
+  where
+    by : In (ask a) (attempts vs ds retries s k) ⊎ In (ask a) (tries vs ds retries (suc k) acts) → (In (ask a) (tries vs ds retries (suc k) acts) → a.outputs ≡ ds) → a.outputs ≡ ds
+    by (inl i) rec = ap (λ (x : Ask). x.outputs) (of-attempts vs ds retries s k a i)
+    by (inr i) rec = rec i
+
+-- a job of a step of this list, which asks for the depths that the step declares
+pub record IsOfStep (instance : JobName) (all : List (Name × Step)) (j : Job) : Type 0 where
+  pub in_instance : j.instance ≡ instance
+  pub step : Step
+  pub among : In (j.step, step) all
+  pub place : Place
+  pub name : j.name ≡ spot instance j.step place
+  pub asked : (a : Ask) → In a j.asks → a.outputs ≡ declared_depths step
+
+of_step-ended : (instance : JobName) (all : List (Name × Step)) (j : Job) (e : Ending) (vs : List Value) → IsOfStep instance all j → IsOfStep instance all (record j { ending = e; result = vs })
+of_step-ended instance all j e vs i = record { in_instance = i.in_instance; step = i.step; among = i.among; place = i.place; name = i.name; asked = i.asked }
+
 abbrev pub opens_one : Fate → Bool
 opens_one (right vs) = false
 opens_one (opens f) = true
@@ -61,46 +87,47 @@ taken-opens gives why (ask a ∷ ts) h = by (outcome_of gives a) (λ w. taken-op
     by (Err w) rec = rec w
 
 module _ (gives : Giving) (inside : Name → JobName → List (Name × Value) → Meaning) (instance : JobName) where
-  -- a job that opens nothing
-  pub record IsAlone (o : Opened) : Type 0 where
+  -- a job of a step of this list that opens nothing
+  pub record IsAlone (all : List (Name × Step)) (o : Opened) : Type 0 where
     pub opens : o.job.opens ≡ None
     pub nothing : o.inside ≡ None
-    pub in_instance : o.job.instance ≡ instance
+    pub of_step : IsOfStep instance all o.job
 
-  fate-alone : (s : Step) (j : Job) (f : Fate) → j.opens ≡ None → j.instance ≡ instance → opens_one f ≡ false → IsAlone (with_fate gives inside instance s j f)
-  fate-alone s j (right vs) o i h = record { opens = o; nothing = refl; in_instance = i }
-  fate-alone s j (wrong why) o i h = record { opens = o; nothing = refl; in_instance = i }
-  fate-alone s j (opens f) o i h = absurd (true≠false h)
+  fate-alone : (all : List (Name × Step)) (s : Step) (j : Job) (f : Fate) → j.opens ≡ None → IsOfStep instance all j → opens_one f ≡ false → IsAlone all (with_fate gives inside instance s j f)
+  fate-alone all s j (right vs) o i h = record { opens = o; nothing = refl; of_step = of_step-ended instance all j good_end vs i }
+  fate-alone all s j (wrong why) o i h = record { opens = o; nothing = refl; of_step = of_step-ended instance all j failed_end (error_results j.name why [] (declared_depths s)) i }
+  fate-alone all s j (opens f) o i h = absurd (true≠false h)
 
-  on-alone : (n : Name) (s : Step) (waits : List Origin) (q : Place) (vs : List Traced) → list_all is_service s.activities ≡ true → IsAlone (job_on gives inside instance n s waits q vs)
-  on-alone n s waits q vs h = by (list_any (λ v. holds_fault v) vs)
+  on-alone : (all : List (Name × Step)) (n : Name) (s : Step) (waits : List Origin) (q : Place) (vs : List Traced) → list_all is_service s.activities ≡ true → In (n, s) all → IsAlone all (job_on gives inside instance n s waits q vs)
+  on-alone all n s waits q vs h i = by (list_any (λ v. holds_fault v) vs)
     where
-      bounced : Job
-      bounced = bounced_job gives inside instance n s waits q vs
+      ts : List Try
+      ts = tries (map plain vs) (declared_depths s) s.retries 0 s.activities
 
-      tried : IsAlone (tried_job gives inside instance s (bounced_job gives inside instance n s waits q vs))
-      tried =
-          let ts = tries (map plain vs) (declared_depths s) s.retries 0 s.activities in
-          fate-alone s (record (bounced_job gives inside instance n s waits q vs) { asks = (taken gives [] ts).asks }) (taken gives [] ts).fate refl refl (taken-opens gives [] ts (tries-ask (map plain vs) (declared_depths s) s.retries 0 s.activities h))
+      with_asks : IsOfStep instance all (record (bounced_job gives inside instance n s waits q vs) { asks = (taken gives [] (tries (map plain vs) (declared_depths s) s.retries 0 s.activities)).asks })
+      with_asks = record { in_instance = refl; step = s; among = i; place = q; name = refl; asked = λ a k. tries-outputs (map plain vs) (declared_depths s) s.retries 0 s.activities a (taken-in gives [] ts a k) }
 
-      by : (b : Bool) → IsAlone (if b then record { job = bounced_job gives inside instance n s waits q vs; inside = None } else tried_job gives inside instance s (bounced_job gives inside instance n s waits q vs))
-      by true = record { opens = refl; nothing = refl; in_instance = refl }
+      tried : IsAlone all (tried_job gives inside instance s (bounced_job gives inside instance n s waits q vs))
+      tried = fate-alone all s (record (bounced_job gives inside instance n s waits q vs) { asks = (taken gives [] ts).asks }) (taken gives [] ts).fate refl with_asks (taken-opens gives [] ts (tries-ask (map plain vs) (declared_depths s) s.retries 0 s.activities h))
+
+      by : (b : Bool) → IsAlone all (if b then record { job = bounced_job gives inside instance n s waits q vs; inside = None } else tried_job gives inside instance s (bounced_job gives inside instance n s waits q vs))
+      by true = record { opens = refl; nothing = refl; of_step = record { in_instance = refl; step = s; among = i; place = q; name = refl; asked = λ a k. absurd k } }
       by false = tried
 
-  node-alone : (n : Name) (s : Step) (ended : List Origin) → list_all is_service s.activities ≡ true → (x : Place × Iteration) → Each IsAlone (node_jobs gives inside instance n s ended x)
-  node-alone n s ended h (q, leaf r (job b)) = (on-alone n s (r ++ ended) q (bound_values s b) h, tt)
-  node-alone n s ended h (q, leaf r (passed m e)) = tt
-  node-alone n s ended h (q, list r ts) = tt
+  node-alone : (all : List (Name × Step)) (n : Name) (s : Step) (ended : List Origin) → list_all is_service s.activities ≡ true → In (n, s) all → (x : Place × Iteration) → Each (IsAlone all) (node_jobs gives inside instance n s ended x)
+  node-alone all n s ended h i (q, leaf r (job b)) = (on-alone all n s (r ++ ended) q (bound_values s b) h i, tt)
+  node-alone all n s ended h i (q, leaf r (passed m e)) = tt
+  node-alone all n s ended h i (q, list r ts) = tt
 
   -- a step of this list, whose jobs open nothing
   pub record IsMadeAlone (all : List (Name × Step)) (m : Made) : Type 0 where
-    pub jobs : Each IsAlone m.jobs
+    pub jobs : Each (IsAlone all) m.jobs
     pub in_instance : m.step.instance ≡ instance
     pub of_step : (s : Step) × In (m.step.step, s) all
 
   step-alone : (all : List (Name × Step)) (given : List (Name × Delivered)) (made : List Made) (n : Name) (s : Step) → list_all is_service s.activities ≡ true → In (n, s) all → IsMadeAlone all (step_made gives inside instance given made (n, s))
   step-alone all given made n s h i = record {
-    jobs = each-flat_map (λ x. Unit {0}) IsAlone (node_jobs gives inside instance n s (endings made s.after)) (λ x u. node-alone n s (endings made s.after) h x) (nodes it) (each-all (λ x. Unit {0}) (λ x. tt) (nodes it));
+    jobs = each-flat_map (λ x. Unit {0}) (IsAlone all) (node_jobs gives inside instance n s (endings made s.after)) (λ x u. node-alone all n s (endings made s.after) h i x) (nodes it) (each-all (λ x. Unit {0}) (λ x. tt) (nodes it));
     in_instance = refl;
     of_step = (s, i);
   }
@@ -114,18 +141,18 @@ module _ (gives : Giving) (inside : Name → JobName → List (Name × Value) �
 
   -- a meaning with this instance alone
   pub record IsFlat (all : List (Name × Step)) (m : Meaning) : Type 0 where
-    pub jobs : (j : Job) → In j m.jobs → j.opens ≡ None
+    pub jobs : (j : Job) → In j m.jobs → (j.opens ≡ None) × IsOfStep instance all j
     pub steps : (s : StepMeaning) → In s m.steps → (s.instance ≡ instance) × ((t : Step) × In (s.step, t) all)
 
-  job-flat : (o : Opened) → IsAlone o → (j : Job) → In j (jobs_with_inside o) → j.opens ≡ None
-  job-flat o a j i = by (subst (λ x. In j (o.job ∷ option_map_or (λ (m : Meaning). m.jobs) x [])) a.nothing i)
+  job-flat : (all : List (Name × Step)) (o : Opened) → IsAlone all o → (j : Job) → In j (jobs_with_inside o) → (j.opens ≡ None) × IsOfStep instance all j
+  job-flat all o a j i = by (subst (λ x. In j (o.job ∷ option_map_or (λ (m : Meaning). m.jobs) x [])) a.nothing i)
     where
-      by : In j (o.job ∷ []) → j.opens ≡ None
-      by (inl e) = ap (λ (k : Job). k.opens) e ∙ a.opens
+      by : In j (o.job ∷ []) → (j.opens ≡ None) × IsOfStep instance all j
+      by (inl e) = (ap (λ (k : Job). k.opens) e ∙ a.opens, subst (IsOfStep instance all) (sym e) a.of_step)
       by (inr k) = absurd k
 
-  steps-none : (o : Opened) → IsAlone o → (s : StepMeaning) → In s (steps_inside o) → ⊥
-  steps-none o a s i = subst (λ x. In s (option_map_or (λ (m : Meaning). m.steps) x [])) a.nothing i
+  steps-none : (all : List (Name × Step)) (o : Opened) → IsAlone all o → (s : StepMeaning) → In s (steps_inside o) → ⊥
+  steps-none all o a s i = subst (λ x. In s (option_map_or (λ (m : Meaning). m.steps) x [])) a.nothing i
 
   in-either : {A : Type 0} (x : A) (xs ys : List A) → In x (xs ++ ys) → In x xs ⊎ In x ys
   in-either x [] ys i = inr i
@@ -141,14 +168,14 @@ module _ (gives : Giving) (inside : Name → JobName → List (Name × Value) �
   of-steps all (m ∷ made) h s (inl e) = subst (λ (x : StepMeaning). (x.instance ≡ instance) × ((t : Step) × In (x.step, t) all)) (sym e) (h.0.in_instance, h.0.of_step)
   of-steps all (m ∷ made) h s (inr i) = of-steps all made h.1 s i
 
-  opened-alone : (all : List (Name × Step)) (made : List Made) → Each (IsMadeAlone all) made → (o : Opened) → In o (flat_map (λ (m : Made). m.jobs) made) → IsAlone o
+  opened-alone : (all : List (Name × Step)) (made : List Made) → Each (IsMadeAlone all) made → (o : Opened) → In o (flat_map (λ (m : Made). m.jobs) made) → IsAlone all o
   opened-alone all made h o i =
       let r = of-flat (λ (m : Made). m.jobs) o made i in
-      each_in IsAlone r.0.jobs (each_in (IsMadeAlone all) made h r.0 r.1).jobs o r.2
+      each_in (IsAlone all) r.0.jobs (each_in (IsMadeAlone all) made h r.0 r.1).jobs o r.2
 
   pub instance-flat : (flow : Flow) (vs : List (Name × Value)) → Each (λ s. (list_all is_service s.1.activities ≡ true) × In s flow.steps) flow.steps → IsFlat flow.steps (instance_meaning gives inside instance flow vs)
   instance-flat flow vs h = record {
-    jobs = λ j i. let r = of-flat jobs_with_inside j opened i in job-flat r.0 (opened-alone flow.steps made alone r.0 r.1) j r.2;
+    jobs = λ j i. let r = of-flat jobs_with_inside j opened i in job-flat flow.steps r.0 (opened-alone flow.steps made alone r.0 r.1) j r.2;
     steps = λ s i. by s (in-either s (map (λ (m : Made). m.step) made) (flat_map steps_inside opened) i);
   }
     where
@@ -163,11 +190,11 @@ module _ (gives : Giving) (inside : Name → JobName → List (Name × Value) �
 
       by : (s : StepMeaning) → In s (map (λ (m : Made). m.step) (steps_made gives inside instance (given_of flow vs) [] (ranked flow.steps))) ⊎ In s (flat_map steps_inside (flat_map (λ (m : Made). m.jobs) (steps_made gives inside instance (given_of flow vs) [] (ranked flow.steps)))) → (s.instance ≡ instance) × ((t : Step) × In (s.step, t) flow.steps)
       by s (inl k) = of-steps flow.steps (steps_made gives inside instance (given_of flow vs) [] (ranked flow.steps)) (steps-alone flow.steps (given_of flow vs) [] (ranked flow.steps) tt (rank-each gives AnyNumber (λ s. (list_all is_service s.1.activities ≡ true) × In s flow.steps) (length flow.steps) [] flow.steps h)) s k
-      by s (inr k) = let r = of-flat steps_inside s (flat_map (λ (m : Made). m.jobs) (steps_made gives inside instance (given_of flow vs) [] (ranked flow.steps))) k in absurd (steps-none r.0 (opened-alone flow.steps (steps_made gives inside instance (given_of flow vs) [] (ranked flow.steps)) (steps-alone flow.steps (given_of flow vs) [] (ranked flow.steps) tt (rank-each gives AnyNumber (λ s. (list_all is_service s.1.activities ≡ true) × In s flow.steps) (length flow.steps) [] flow.steps h)) r.0 r.1) s r.2)
+      by s (inr k) = let r = of-flat steps_inside s (flat_map (λ (m : Made). m.jobs) (steps_made gives inside instance (given_of flow vs) [] (ranked flow.steps))) k in absurd (steps-none flow.steps r.0 (opened-alone flow.steps (steps_made gives inside instance (given_of flow vs) [] (ranked flow.steps)) (steps-alone flow.steps (given_of flow vs) [] (ranked flow.steps) tt (rank-each gives AnyNumber (λ s. (list_all is_service s.1.activities ≡ true) × In s flow.steps) (length flow.steps) [] flow.steps h)) r.0 r.1) s r.2)
 
 -- ---- a document
 
-services-at : {A : Type 0} (p : A → Bool) (xs : List A) → list_all p xs ≡ true → (x : A) → In x xs → p x ≡ true
+pub services-at : {A : Type 0} (p : A → Bool) (xs : List A) → list_all p xs ≡ true → (x : A) → In x xs → p x ≡ true
 services-at p [] h x i = absurd i
 services-at p (y ∷ ys) h x (inl e) = ap p e ∙ left_true (p y) (list_all p ys) h
 services-at p (y ∷ ys) h x (inr k) = services-at p ys (right_true (p y) (list_all p ys) h) x k
@@ -193,4 +220,12 @@ module _ (gives : Giving) (d : Document) (flat : opens_nothing d ≡ true) where
     where
       by : (o : Option Flow) → named d.main d.flows ≡ o → In j (option_map_or (λ (flow : Flow). instance_meaning gives (flow_meaning gives d.flows 7) [] flow d.inputs) o no_meaning).jobs → j.opens ≡ None
       by None e k = absurd k
-      by (Some f) e k = (meaning-flat f e).jobs j i
+      by (Some f) e k = ((meaning-flat f e).jobs j i).0
+
+  -- each job is of a step of the main flow
+  pub of-main_flow : (j : Job) → In j (meaning gives d).jobs → (f : Flow) × (named d.main d.flows ≡ Some f) × IsOfStep [] f.steps j
+  of-main_flow j i = by (named d.main d.flows) refl i
+    where
+      by : (o : Option Flow) → named d.main d.flows ≡ o → In j (option_map_or (λ (flow : Flow). instance_meaning gives (flow_meaning gives d.flows 7) [] flow d.inputs) o no_meaning).jobs → (f : Flow) × (named d.main d.flows ≡ Some f) × IsOfStep [] f.steps j
+      by None e k = absurd k
+      by (Some f) e k = (f, e, ((meaning-flat f e).jobs j i).1)

@@ -1,6 +1,6 @@
 -- What a board keeps is so after each entry that is legal next, once the jobs that are ready then have numbers.
 use Rattle.std.specs.List.{list_all, list_any, range_with_len}
-use Rattle.std.specs.Prelude.{Bool, List, None, [], false, filter, filter_map, if◌then◌else◌, length, map, nat_lt, refl, reverse, suc, true, zero, ℕ, ◌&&◌, ◌++◌, ◌==◌, ◌||◌, ◌∷◌, ◌≡◌, ◌≤◌}
+use Rattle.std.specs.Prelude.{Bool, List, None, [], false, filter, filter_map, if◌then◌else◌, length, map, nat_lt, refl, reverse, true, ℕ, ◌&&◌, ◌++◌, ◌||◌, ◌∷◌, ◌≡◌, ◌≤◌}
 use Rattle.std.proofs.Common.{ap, arith, subst, sym, ◌∙◌}
 use Rattle.std.proofs.lemmas.Bool.{lt-ltb, ltb-true}
 use Rattle.std.proofs.lemmas.List.{append-nil, length-append}

@@ -1,5 +1,5 @@
 -- After a recall nothing is out.
-use Rattle.std.specs.Prelude.{Bool, List, [], cond, count_by, false, map, refl, reverse, ℕ, ◌+◌, ◌∷◌, ◌≡◌}
+use Rattle.std.specs.Prelude.{Bool, List, [], cond, count_by, map, refl, reverse, ℕ, ◌+◌, ◌∷◌, ◌≡◌}
 use Rattle.std.proofs.Common.{ap, ◌∙◌}
 use Rattle.std.proofs.lemmas.List.Sums.{sum_by-cons}
 use Rattle.tv_gate.specs.Outcomes.{Giving}

@@ -39,7 +39,7 @@ names-each v [] k = refl
 names-each v (s ∷ ss) zero = refl
 names-each v (s ∷ ss) (suc k) = names-each v ss k
 
-named-each : {A B : Type 0} (v : A → B) (n : Name) (xs : List (Name × A)) → named n (each v xs) ≡ option_map v (named n xs)
+pub named-each : {A B : Type 0} (v : A → B) (n : Name) (xs : List (Name × A)) → named n (each v xs) ≡ option_map v (named n xs)
 named-each v n [] = refl
 named-each v n (x ∷ xs) = cases (same_name n x.0) (named-each v n xs)
   where

@@ -1,13 +1,14 @@
 -- What a look at the state of a board says of its run.
 use Rattle.std.specs.List.{list_all, list_any}
 use Rattle.std.specs.Option.{option_map_or}
-use Rattle.std.specs.Prelude.{◌≡◌, ℕ, List, ◌&&◌, true, false, Some, map, option_and_then}
+use Rattle.std.specs.Prelude.{◌≡◌, ℕ, List, [], ◌&&◌, true, false, Some, None, is_some, map, option_and_then}
 use Rattle.std.proofs.Common.{sym, ap, subst, ◌∙◌}
 use Rattle.std.specs.Cmp.Lexicographic.{bytes_decides}
 use Rattle.tv_value.specs.Orders.{same_job, same_name}
 use Rattle.tv_value.specs.Values.{Name, Value}
 use Rattle.tv_value.specs.Views.{values_view}
 use Rattle.tv_gate.specs.Outcomes.{Giving}
+use Rattle.tv_flow.specs.Flows.{Document}
 use Rattle.tv_dispatch.specs.Jobs as dispatch
 use Rattle.tv_model.specs.Jobs.{Job}
 use Rattle.tv_model.proofs.Tests.{both_true, left_true, right_true, true≠false}
@@ -22,6 +23,7 @@ use Rattle.tv_state.specs.declared.state.State.{State}
 use Rattle.tv_whole.specs.Sameness.{same_values}
 use Rattle.tv_board.specs.Answers.{Question, question}
 use Rattle.tv_board.specs.Calls.{IsOther, IsTask, job_at, job_of, state_after, state_of, try_if_out, try_out}
+use Rattle.tv_board.specs.Declarations.{declared_for, declared_outputs}
 use Rattle.tv_board.specs.Looked.{HasFew, state_at}
 use Rattle.tv_board.specs.Refusals.{answers}
 use Rattle.tv_board.specs.Runs.{Run, meant, past_of}
@@ -29,6 +31,7 @@ use Rattle.tv_board.specs.States.{IsStateOf}
 use Rattle.tv_board.specs.declared.ticket.JobState.TheVariants as state
 use Rattle.tv_board.specs.declared.ticket.Task.{Task}
 use Rattle.tv_board.specs.declared.ticket.Ticket.{Ticket}
+use Rattle.tv_board.proofs.OfDeclared.{and-some, declared-there, depths-there}
 use Rattle.tv_board.proofs.OfStates.{state-same}
 use Rattle.tv_board.proofs.Same.{same_values-decide}
 use Rattle.tv_board.proofs.Standing.{settled-same, standing-same, try-same}
@@ -66,14 +69,29 @@ module _ (gives : Giving) (r : Run) (s : State) (i : IsStateOf gives r s) where
   pub few-there : HasFew (meaning_in s)
   few-there = subst HasFew (sym i.kept.worked_out) (λ j x a y. activities-few (known_gives i.known) r.document i.formed j x a y)
 
-  pub task-there : (t : Ticket) (task : Task) (ask : Ask) → Some (ask_view ask) ≡ option_and_then (try_out (known_gives i.known) (meaning_in s) (past_in s) t.activity t.attempt) (job_at (meaning_in s) s.names.now t.job) → (task.ticket ≡ t) × ((task.service ≡ ask.service) × ((values_view task.inputs ≡ values_view ask.inputs) × (task.outputs ≡ ask.outputs))) → IsTask gives r (question task.ticket task.service task.inputs task.outputs) × (task.ticket ≡ t)
-  task-there t task ask h e = (
+  -- the try is out, so its job is there
+  pub job-there : (t : Ticket) → is_some (try_if_out gives r t) ≡ true → is_some (job_of gives r t.job) ≡ true
+  job-there t = and-some (try_out gives (meant gives r) (past_of r) t.activity t.attempt) (job_of gives r t.job)
+
+  pub no-job : (t : Ticket) → is_some (try_if_out gives r t) ≡ true → None ≡ job_at (meaning_in s) s.names.now t.job → ⊥
+  no-job t h e = true≠false (sym (and-some (try_out (known_gives i.known) (meaning_in s) (past_in s) t.activity t.attempt) (job_at (meaning_in s) s.names.now t.job) (ap is_some (try-there t) ∙ h)) ∙ sym (ap is_some e))
+
+  -- its outputs are declared
+
+  pub declared-found : (t : Ticket) (j : Job) (d : Document) (os : List (Name × ℕ)) → is_some (try_if_out gives r t) ≡ true → d ≡ r.document → Some j ≡ job_at (meaning_in s) s.names.now t.job → Some os ≡ declared_outputs d [] j.step → declared_for gives r t.job ≡ Some os
+  declared-found t j d os out same h e = declared-there gives r s i t.job j h (job-there t out) ∙ ap (λ x. declared_outputs x [] j.step) (sym same) ∙ sym e
+
+  pub outputs-there : (t : Ticket) (task : Task) (os : List (Name × ℕ)) → declared_for gives r t.job ≡ Some os → task.ticket ≡ t → task.outputs ≡ os → declared_for gives r task.ticket.job ≡ Some task.outputs
+  outputs-there t task os d e f = ap (λ (u : Ticket). declared_for gives r u.job) e ∙ d ∙ ap (λ xs. Some xs) (sym f)
+
+  pub task-there : (t : Ticket) (task : Task) (ask : Ask) (os : List (Name × ℕ)) → Some (ask_view ask) ≡ option_and_then (try_out (known_gives i.known) (meaning_in s) (past_in s) t.activity t.attempt) (job_at (meaning_in s) s.names.now t.job) → declared_for gives r t.job ≡ Some os → (task.ticket ≡ t) × ((task.service ≡ ask.service) × ((values_view task.inputs ≡ values_view ask.inputs) × (task.outputs ≡ os))) → IsTask gives r (question task.ticket task.service task.inputs task.outputs) × (task.ticket ≡ t)
+  task-there t task ask os h d e = (
     record {
       asked = ask_view ask;
       out = subst (λ u. try_if_out gives r u ≡ Some (ask_view ask)) (sym e.0) (sym (h ∙ try-there t));
       service = e.1.0;
       inputs = e.1.1.0;
-      outputs = ap (map (λ o. o.1)) e.1.1.1;
+      outputs = ap (map (λ o. o.1)) e.1.1.1 ∙ depths-there gives r s i t.job t.activity t.attempt (ask_view ask) os h (job-there t (sym (ap is_some (h ∙ try-there t)))) d;
     },
     e.0,
   )

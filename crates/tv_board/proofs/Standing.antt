@@ -109,7 +109,7 @@ then-or f (Some x) = refl
 
 -- ---- by number
 
-found-any : (p : Job → Bool) (js : List Job) → list_any p js ≡ true → is_some (find p js) ≡ true
+pub found-any : (p : Job → Bool) (js : List Job) → list_any p js ≡ true → is_some (find p js) ≡ true
 found-any p [] h = absurd (true≠false (sym h))
 found-any p (j ∷ js) h = by (p j) h (found-any p js)
   where
@@ -117,7 +117,7 @@ found-any p (j ∷ js) h = by (p j) h (found-any p js)
     by true h rec = refl
     by false h rec = rec h
 
-all-at : (p : JobName → Bool) (ns : List JobName) → list_all p ns ≡ true → (k : ℕ) (n : JobName) → slice_get ns k ≡ Some n → p n ≡ true
+pub all-at : (p : JobName → Bool) (ns : List JobName) → list_all p ns ≡ true → (k : ℕ) (n : JobName) → slice_get ns k ≡ Some n → p n ≡ true
 all-at p [] h k n e = absurd (true≠false (sym (ap is_some e)))
 all-at p (x ∷ ns) h zero n e = subst (λ y. p y ≡ true) (some-part x n e) (left_true (p x) (list_all p ns) h)
 all-at p (x ∷ ns) h (suc k) n e = all-at p ns (right_true (p x) (list_all p ns) h) k n e

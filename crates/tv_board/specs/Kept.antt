@@ -1,6 +1,6 @@
 -- What a board keeps: the meaning by the known calls, and its run told twice, by entries and by events with names.
 use Rattle.std.specs.List.{list_all}
-use Rattle.std.specs.Prelude.{Bool, List, None, Vec, [], false, length, map, nat_lt, not, true, vec_capacity, ℕ, ◌+◌, ◌==◌, ◌≡◌, ◌≤◌}
+use Rattle.std.specs.Prelude.{Bool, List, None, Vec, [], false, length, map, nat_lt, not, true, vec_capacity, ℕ, ◌+◌, ◌≡◌, ◌≤◌}
 use Rattle.std.specs.Global.{Global}
 use Rattle.tv_value.specs.Values.{JobName}
 use Rattle.tv_value.specs.Views.{values_view}

@@ -8,6 +8,8 @@ pub mod Numbering
 pub mod Steps
 pub mod States
 pub mod Calls
+pub mod Declarations
+pub mod Idle
 pub mod Settlements
 pub mod Looked
 pub mod Refusals

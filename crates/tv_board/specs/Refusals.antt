@@ -68,8 +68,9 @@ accepted_if false good = accepted.Again
 abbrev pub is_settled_job : Giving → Run → ℕ → Bool
 is_settled_job gives r k = option_map_or (is_settled gives (meant gives r) (past_of r)) (job_of gives r k) false
 
+-- it goes on only where the outcome wasn't right
 abbrev pub IsAccepting : Giving → Run → Run → Question → Outcome → Accepted → Type 0
-IsAccepting gives old new q o accepted.Again = ((right : Bool) × WasAccepted gives old new q o right) × (is_settled_job gives new q.ticket.job ≡ false)
+IsAccepting gives old new q o accepted.Again = WasAccepted gives old new q o false × (is_settled_job gives new q.ticket.job ≡ false)
 IsAccepting gives old new q o (accepted.Settled good) = WasAccepted gives old new q o good × (is_settled_job gives new q.ticket.job ≡ true)
 
 -- ---- refusals

@@ -6,6 +6,7 @@ ghost use Rattle.tv_gate.specs.Views.{outcome_view};
 ghost use Rattle.tv_whole.specs.WholeViews.{ask_view};
 ghost use Rattle.tv_board.specs.Answers.{question};
 ghost use Rattle.tv_board.specs.Calls.{IsTask};
+ghost use Rattle.tv_board.specs.Flat.{opens_nothing};
 ghost use Rattle.tv_board.specs.Kept.{is_known_right};
 ghost use Rattle.tv_board.specs.Refusals.{IsAccepting, IsBack, IsRefused, IsTested, accepted_if, accepts, answered, answers, is_right, is_right_verdict, is_settled_job};
 ghost use Rattle.tv_board.specs.Runs.{Appends, IsLegalRun};
@@ -28,7 +29,7 @@ use tv_whole::{Ask, KnownCall, same_items};
 /// What became of a job whose outcome was accepted.
 #[derive(Clone, Copy, Debug, PartialEq, Eq)]
 pub enum Accepted {
-    /// It goes on.
+    /// It goes on: the outcome wasn't right, and there is a further try.
     Again,
     /// It is settled, by a right outcome or not.
     Settled { good: bool },
@@ -194,6 +195,7 @@ impl<V: Services> Board<V> {
     /// What became of a job whose outcome was accepted.
     fn after(&self, job: u64, right: bool) -> Accepted
         ensures after { result ≡ accepted_if (is_settled_job V.gives self.now job) right }
+        ensures flat { opens_nothing self.now.document ≡ true }
         ensures legal { IsLegalRun V.gives self.now }
     {
         if is_settled_at(&self.state(), job) {

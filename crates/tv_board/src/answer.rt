@@ -12,7 +12,8 @@ use std::marker::PhantomData;
 use tv_gate::{Asker, Gate, Outcome, Services};
 use tv_value::{Depths, Items, Name, NoMemory};
 
-/// The outcome of a task. Only the two calls that ask make one: its outcome is what the service gives.
+/// The outcome of a task. The two calls that ask make it, and what refuses it gives it back: its outcome is what the service
+/// gives.
 #[derive(Drop)]
 pub struct Answer<V: Services> {
     pub(crate) ticket: Ticket,

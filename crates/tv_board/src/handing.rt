@@ -5,6 +5,7 @@ ghost use Rattle.tv_history.specs.Histories.{next_ask};
 ghost use Rattle.tv_whole.specs.WholeViews.{job_view};
 ghost use Rattle.tv_state.specs.StateViews.{meaning_in, past_in};
 ghost use Rattle.tv_board.specs.Calls.{IsNothingOffered, hands_out, out_count};
+ghost use Rattle.tv_board.specs.Idle.{AreIdle};
 ghost use Rattle.tv_board.specs.Runs.{Appends, IsLegalRun, is_among};
 ghost use Rattle.tv_board.specs.Steps.{IsHandable, IsRecalled, IsTicketOf, recalls};
 
@@ -41,6 +42,7 @@ impl<V: Services> Board<V> {
     /// taken. Takes no memory.
     pub fn hand_out(&mut self) -> Option<Ticket>
         ensures ticket { MatchOption result ((self.new ≡ self.old) × IsNothingOffered V.gives self.old) (λ t. Appends self.old self.new (hands_out t)) }
+        ensures names { self.new.names ≡ self.old.names }
         ensures legal { IsLegalRun V.gives self.new }
     {
         match self.first_ticket() {
@@ -68,6 +70,7 @@ impl<V: Services> Board<V> {
     fn note(&mut self, ticket: Ticket)
         requires { IsHandable V.gives self.old ticket }
         ensures appended { Appends self.old self.new (hands_out ticket) }
+        ensures names { self.new.names ≡ self.old.names }
         ensures legal { IsLegalRun V.gives self.new }
     {
         let Ticket {
@@ -98,6 +101,8 @@ impl<V: Services> Board<V> {
     pub fn recall_all(&mut self) -> Result<u64, NoMemory>
         ensures count { IfOk result (λ n. n ≡ out_count V.gives self.old) }
         ensures recalled { IfOk result (λ n. IsRecalled self.old self.new n) }
+        ensures names { self.new.names ≡ self.old.names }
+        ensures idle { OnOk result (AreIdle V.gives self.old self.new) }
         ensures none_out { OnOk result (out_count V.gives self.new ≡ 0) }
         ensures quiet { out_count V.gives self.old ≡ 0 → IsOk result }
         ensures refused { OnErr result (self.new ≡ self.old) }
@@ -125,6 +130,8 @@ impl<V: Services> Board<V> {
         requires some { 0 < count }
         requires all { count ≡ out_count V.gives self.old }
         ensures appended { OnOk result (Appends self.old self.new (recalls count)) }
+        ensures names { self.new.names ≡ self.old.names }
+        ensures idle { OnOk result (AreIdle V.gives self.old self.new) }
         ensures refused { OnErr result (self.new ≡ self.old) }
         ensures legal { IsLegalRun V.gives self.new }
     {

@@ -12,17 +12,20 @@
 //! history is all that was done so far:
 //!
 //! - `history` is constant, `name_of` linear in the name, `is_done` linear in the history, `outputs` linear in them
-//! - `task` is linear in the jobs, the history and what is asked; `ask` and `ask_alone` cost the one call that they make
+//! - `task` is linear in the jobs, the history, what is asked, and the flows and the steps of the document; `ask` and
+//!   `ask_alone` cost the one call that they make
 //! - `totals` and `recall_all` cost the jobs times the history
 //! - `hand_out` goes through the jobs up to the first on offer: each costs the history, and what it waits for the jobs and the
 //!   history for each node; one that is ready where all places are taken costs the jobs times the history
 //! - `settle_one` goes through all jobs and then through the lists and passed faults, each with its nodes at that cost, and
-//!   where none of them can be settled through the jobs of each step
+//!   where none of them can be settled through the jobs of each step; where something was settled, each job is tested and
+//!   looked up as by `accept`
 //! - `accept` and `start` work the meaning out: every value and iteration is made anew, each try of a job is looked up among
 //!   all outcomes that are known, and each output of a step puts the results of its jobs into a map; then each job is tested as
 //!   by `hand_out`, and each that is ready is looked up among the names
 //!
-//! So where jobs wait for few nodes, a call costs about the square of the jobs, and a whole run about their cube.
+//! So where jobs wait for few nodes, a call costs about the square of the jobs, and a whole run by one worker about their cube.
+//! A `hand_out` that finds all places of a step taken costs the cube where many of its jobs are ready.
 //!
 //! - `board`: the type, its start, and what is read off it
 //! - `entry`, `ticket`: entries of the history; tickets, tasks and where jobs stand
@@ -35,6 +38,7 @@
 //! - `answer`, `accepting`: what is asked for a task, and an answer accepted
 //! - `knowing`: what is known once an outcome was accepted
 //! - `lawful`: what holds of every board
+//! - `flat`: whether a document opens no flow, so that a board can run it
 #![tactic(auto)]
 
 mod accepting;
@@ -42,6 +46,7 @@ mod answer;
 mod appending;
 mod board;
 mod entry;
+mod flat;
 mod handing;
 mod jobs;
 mod knowing;
@@ -57,5 +62,6 @@ pub use accepting::{Accepted, Refused};
 pub use answer::{Answer, ask, ask_alone};
 pub use board::Board;
 pub use entry::Entry;
+pub use flat::opens_nothing;
 pub use tasks::TaskFault;
 pub use ticket::{JobState, Task, Ticket};

@@ -5,3 +5,9 @@ pub mod OfEnds
 pub mod OfTurns
 pub mod OfWholes
 pub mod OfCalled
+pub mod OfNames
+pub mod OfByOne
+pub mod OfAsked
+pub mod OfAnswers
+pub mod OfTries
+pub mod OfOrders

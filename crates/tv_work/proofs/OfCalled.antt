@@ -48,7 +48,7 @@ accepted-made : (gives : Giving) (r s : Run) (q : Question) (o : Outcome) (good 
 accepted-made gives r s q o good w = by-one r s (accepts q.ticket (is_right q o)) (subst (λ b. Appends r s (accepts q.ticket b)) w.right w.appends)
 
 accept-made : (gives : Giving) (r s : Run) (q : Question) (o : Outcome) (a : Accepted) → IsAccepting gives r s q o a → Grows r s (accepts q.ticket (is_right q o) ∷ [])
-accept-made gives r s q o accepted.Again h = accepted-made gives r s q o h.0.0 h.0.1
+accept-made gives r s q o accepted.Again h = accepted-made gives r s q o false h.0
 accept-made gives r s q o (accepted.Settled good) h = accepted-made gives r s q o good h.0
 
 one-made : (gives : Giving) (r s : Run) (c : Call) → IsCall gives r s c → Made r s c

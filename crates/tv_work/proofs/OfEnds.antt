@@ -55,7 +55,7 @@ well-formed d h = record {
 }
 
 module _ (gives : Giving) (r : Run) (f : IsFree gives r) where
-  none-out : (j : Job) → In j (meant gives r).jobs → is_out (past_of r) j.name ≡ false
+  pub none-out : (j : Job) → In j (meant gives r).jobs → is_out (past_of r) j.name ≡ false
   none-out = none-pass (λ (j : Job). is_out (past_of r) j.name) (meant gives r).jobs (tally-counts (λ (j : Job). is_out (past_of r) j.name) (meant gives r).jobs ∙ f.none_out)
 
   -- nothing settles, hands out a try, or accepts one that is out

@@ -92,7 +92,7 @@ no-passes p (x ∷ xs) f = by (p x) (tally p xs) (f x (inl refl)) (no-passes p x
 
 -- ---- the history
 
-map-reverse : {A B : Type 0} (f : A → B) (xs : List A) → reverse (map f xs) ≡ map f (reverse xs)
+pub map-reverse : {A B : Type 0} (f : A → B) (xs : List A) → reverse (map f xs) ≡ map f (reverse xs)
 map-reverse f [] = refl
 map-reverse f (x ∷ xs) =
     reverse-append (f x ∷ []) (map f xs)

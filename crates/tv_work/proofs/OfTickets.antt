@@ -68,7 +68,7 @@ module _ (gives : Giving) (r s : Run) (t : Ticket) (l : IsLegalRun gives s) (a :
   older = before r s
 
   -- it was legal
-  handed : is_legal_after gives (meant gives s) older (history.handed_out (name_at s.names t.job) t.activity t.attempt) ≡ true
+  pub handed : is_legal_after gives (meant gives s) older (history.handed_out (name_at s.names t.job) t.activity t.attempt) ≡ true
   handed = right_true (is_legal gives (meant gives s) older) _ (subst (λ p. is_legal gives (meant gives s) p ≡ true) (newest r s (hands_out t) a) l.legal)
 
   -- so a job has the name, and this try is its next

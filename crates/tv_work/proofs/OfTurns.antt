@@ -1,5 +1,5 @@
 -- One turn of a worker: what it settles, hands out and has accepted.
-use Rattle.std.specs.Prelude.{Bool, is_some, true, unwrap_or, ℕ, ◌+◌, ◌-◌, ◌<◌, ◌≡◌, ◌≤◌}
+use Rattle.std.specs.Prelude.{Bool, false, is_some, true, unwrap_or, ℕ, ◌+◌, ◌-◌, ◌<◌, ◌≡◌, ◌≤◌}
 use Rattle.std.proofs.Common.{ap, arith, subst, sym, ◌∙◌}
 use Rattle.tv_gate.specs.Outcomes.{Giving, Outcome}
 use Rattle.tv_gate.specs.declared.services.Services.{Ghosts}
@@ -49,11 +49,11 @@ turn-from gives r s t u p q h = (h.0, by (progress r) (progress s) (progress t) 
 -- ---- accepting
 
 accepts-one : (gives : Giving) (s u : Run) (q : Question) (o : Outcome) (a : Accepted) → IsAccepting gives s u q o a → (right : Bool) × Appends s u (accepts q.ticket right)
-accepts-one gives s u q o accepted.Again h = (h.0.0, h.0.1.appends)
+accepts-one gives s u q o accepted.Again h = (false, h.0.appends)
 accepts-one gives s u q o (accepted.Settled good) h = (good, h.0.appends)
 
 module _ (gives : Giving) (s u : Run) (t : Ticket) (q : Question) (o : Outcome) (a : Accepted) (same : q.ticket ≡ t) (h : IsAccepting gives s u q o a) where
-  its-entry : (right : Bool) × Appends s u (accepts t right)
+  pub its-entry : (right : Bool) × Appends s u (accepts t right)
   its-entry = let r = accepts-one gives s u q o a h in (r.0, subst (λ k. Appends s u (accepts k r.0)) same r.1)
 
   pub accepted-goes_on : GoesOn s u

@@ -20,7 +20,7 @@ pub data Call : Type 0 where
   accept : Question → Outcome → Option Accepted → Call
   recall_all : Option ℕ → Call
 
--- what its contract says of the run before and after it
+-- what it appends or answers, as its contract says, by the run before and after it
 abbrev pub IsCall : Giving → Run → Run → Call → Type 0
 IsCall gives r s (settle_one (Some more)) = IsSettling gives r s more
 IsCall gives r s (settle_one None) = s ≡ r

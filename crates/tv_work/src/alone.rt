@@ -3,6 +3,8 @@ ghost use Rattle.std.specs.Prelude.{◌≡◌, ◌≤◌, IfOk, OnErr, OnOk, tru
 ghost use Rattle.tv_board.specs.Calls.{NothingSettles, out_count};
 ghost use Rattle.tv_board.specs.Runs.{IsLegalRun};
 ghost use Rattle.tv_board.specs.Settlements.{IsSettling};
+ghost use Rattle.tv_work.specs.Asked.{AsksAtMostOneMore, AsksEach, accepted_tries};
+ghost use Rattle.tv_work.specs.ByOne.{StaysByOne};
 ghost use Rattle.tv_work.specs.Wants.{IsNoRoom, IsNoTask};
 ghost use Rattle.tv_work.specs.Working.{GoesOn, IsFree, IsOnlyOut, IsTurn, IsWorkedOff};
 
@@ -14,8 +16,10 @@ use tv_value::NoMemory;
 /// Works off a board on which nothing is out: settles all that can be settled, asks for the first try on offer, accepts its
 /// outcome, and so on until nothing is on offer. It ends with the run done. After `Err` one try may be out.
 ///
-/// It makes as many calls of the asker as tries are left. The cost is that of the board's calls: each reads the whole history
-/// and, with each outcome, works the meaning out anew.
+/// It makes one call of the asker for each try whose outcome it has accepted, in that order, so as many as tries are left; after
+/// `Err` the answer to one more, which is still out, may be lost. Where the history so far is that of one worker it stays so: a
+/// try is handed out only where nothing can be settled and none is out, and none is taken back. The cost is that of the board's
+/// calls: each reads the whole history and, with each outcome, works the meaning out anew.
 pub fn run_alone<V: Services, A: Asker<Services = V>>(
     alloc: Global,
     board: &mut Board<V>,
@@ -26,6 +30,9 @@ pub fn run_alone<V: Services, A: Asker<Services = V>>(
     ensures legal { IsLegalRun V.gives board.new }
     ensures worked_off { OnOk result (IsWorkedOff V.gives board.new) }
     ensures refused { OnErr result (out_count V.gives board.new ≤ 1) }
+    ensures asked { OnOk result (AsksEach V.gives (A.calls asker.old) (A.calls asker.new) board.old board.new) }
+    ensures lost { OnErr result (AsksAtMostOneMore V.gives (A.calls asker.old) (A.calls asker.new) board.old board.new) }
+    ensures by_one { StaysByOne V.gives board.old board.new }
 {
     board.is_lawful();
     'turns: while turn(alloc, board, asker)? {}
@@ -43,6 +50,9 @@ fn turn<V: Services, A: Asker<Services = V>>(
     ensures legal { IsLegalRun V.gives board.new }
     ensures turned { IfOk result (λ more. IsTurn V.gives board.old board.new more) }
     ensures refused { OnErr result (out_count V.gives board.new ≤ 1) }
+    ensures asked { OnOk result (AsksEach V.gives (A.calls asker.old) (A.calls asker.new) board.old board.new) }
+    ensures lost { OnErr result (AsksAtMostOneMore V.gives (A.calls asker.old) (A.calls asker.new) board.old board.new) }
+    ensures by_one { StaysByOne V.gives board.old board.new }
 {
     settle_all(board)?;
     match board.hand_out() {
@@ -60,6 +70,8 @@ fn settle_all<V: Services>(board: &mut Board<V>) -> Result<(), NoMemory>
     ensures goes_on { GoesOn board.old board.new }
     ensures free { IsFree V.gives board.new }
     ensures settled { OnOk result (NothingSettles V.gives board.new) }
+    ensures none_accepted { accepted_tries board.new ≡ accepted_tries board.old }
+    ensures by_one { StaysByOne V.gives board.old board.new }
 {
     'settling: while settle(board)? {}
     Ok(())
@@ -87,6 +99,9 @@ fn ask_for<V: Services, A: Asker<Services = V>>(
     ensures legal { IsLegalRun V.gives board.new }
     ensures turned { OnOk result (IsTurn V.gives board.old board.new true) }
     ensures refused { OnErr result (out_count V.gives board.new ≤ 1) }
+    ensures asked { OnOk result (AsksEach V.gives (A.calls asker.old) (A.calls asker.new) board.old board.new) }
+    ensures lost { OnErr result (AsksAtMostOneMore V.gives (A.calls asker.old) (A.calls asker.new) board.old board.new) }
+    ensures by_one { StaysByOne V.gives board.old board.new }
 {
     let task = match board.task(ticket) {
         Ok(task) => task,

@@ -1,7 +1,7 @@
 //! Who works off a board.
 //!
-//! - `alone`: one worker, who asks for one try after another
-//! - `whole_run`: a board started, worked off, and its outputs and totals read
+//! - `alone`: one worker, who asks for one try after another: once for each that is accepted
+//! - `whole_run`: a board started, worked off, and its outputs and totals read: it asks in the order of one worker
 //! - `laws`: that any calls of a board are legal, that it is never stuck, and why working it off comes to an end
 #![tactic(auto)]
 

@@ -1,7 +1,8 @@
 //! A whole run by one worker.
-ghost use Rattle.std.specs.Prelude.{◌≡◌, IfOk, true};
+ghost use Rattle.std.specs.Prelude.{◌≡◌, IfOk, OnOk, true};
 ghost use Rattle.tv_check.specs.RunViews.{run_view};
 ghost use Rattle.tv_board.specs.Flat.{opens_nothing};
+ghost use Rattle.tv_work.specs.Asked.{AsksInOrder};
 ghost use Rattle.tv_work.specs.Ran.{IsRun};
 
 use crate::alone::run_alone;
@@ -13,16 +14,19 @@ use tv_model::Totals;
 use tv_value::{Name, NoMemory, Sequence, Value};
 
 /// The outputs and the totals of a document's meaning: starts a board, works it off with `run_alone`, and reads them off. The
-/// outputs come in the order of the flow's outputs. The cost is that of `run_alone`.
+/// outputs come in the order of the flow's outputs. After success it has made one call of the asker for each ask of the meaning,
+/// in the order of one worker, and no other. The cost is that of `run_alone`.
 pub fn run_whole<V: Services, A: Asker<Services = V>>(
     alloc: Global,
     run: CheckedRun,
     asker: &mut A,
 ) -> Result<(Sequence<(Name, Value)>, Totals), NoMemory>
     requires { opens_nothing (run_view run) ≡ true }
-    ensures { IfOk result (λ r. IsRun V.gives (run_view run) r) }
+    ensures run { IfOk result (λ r. IsRun V.gives (run_view run) r) }
+    ensures asked { OnOk result (AsksInOrder V.gives (run_view run) (A.calls asker.old) (A.calls asker.new)) }
 {
     let mut board = Board::start(alloc, run)?;
+    board.is_lawful();
     run_alone(alloc, &mut board, asker)?;
     let outputs = board.outputs()?;
     let totals = board.totals();

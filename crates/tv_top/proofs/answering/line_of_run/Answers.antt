@@ -14,6 +14,6 @@ pub returns : goal.returns
 returns g c =
     let m = meaning g.A.Services.Services.gives (run_view c.args.run) in
     c.in_ok-line.ensures
-    ∙ ap (λ os. line_of_result os (totals_view c.in_ok-outputs.totals)) c.in_ok-outputs.ensures.0
+    ∙ ap (λ os. line_of_result os (totals_view c.in_ok-outputs.totals)) c.in_ok-outputs.ensures.run.0
     ∙ line-plain m.outputs (totals_view c.in_ok-outputs.totals)
-    ∙ ap (line_of_result m.outputs) c.in_ok-outputs.ensures.1
+    ∙ ap (line_of_result m.outputs) c.in_ok-outputs.ensures.run.1

@@ -9,3 +9,9 @@ returns-then-is_settled_at-clause-after g c = ap (λ b. accepted_if b c.args.rig
 
 pub returns-else-is_settled_at-clause-after : goal.returns-else-is_settled_at-clause-after
 returns-else-is_settled_at-clause-after g c = ap (λ b. accepted_if b c.args.right) (c.if-is_settled_at.ensures (known_gives c.state.ensures.known) ∙ settled-there g.V.Services.gives c.args.self.now c.state.result c.state.ensures c.args.job)
+
+pub returns-then-is_settled_at-clause-flat : goal.returns-then-is_settled_at-clause-flat
+returns-then-is_settled_at-clause-flat g c = c.state.ensures.kept.flat
+
+pub returns-else-is_settled_at-clause-flat : goal.returns-else-is_settled_at-clause-flat
+returns-else-is_settled_at-clause-flat g c = c.state.ensures.kept.flat

@@ -1,9 +1,13 @@
 use Rattle.std.specs.Prelude.{vec_capacity, vec_len}
-use Rattle.std.proofs.Common.{[], ap, arith, refl, sym, ◌++◌, ◌+◌, ◌∙◌, ◌∷◌, ◌≤◌}
+use Rattle.std.proofs.Common.{[], ap, arith, refl, subst, sym, ◌++◌, ◌+◌, ◌∙◌, ◌∷◌, ◌≤◌}
+use Rattle.tv_check.specs.RunViews.{run_view}
 use Rattle.tv_state.specs.declared.events.Event.TheVariants as event
 use Rattle.tv_board.specs.Calls.{out_count}
+use Rattle.tv_board.specs.Idle.{AreIdle}
+use Rattle.tv_board.specs.Kept.{run_of}
 use Rattle.tv_board.specs.declared.entry.Entry.TheVariants as entry
 use Rattle.tv_board.proofs.OfBoards.{board-recalled, board-regrown}
+use Rattle.tv_board.proofs.OfIdle.{parts-idle}
 use Rattle.tv_board.proofs.board.Board.recall.Goals as goal
 
 pub invariant_of-self-in_err-reserve-2 : goal.invariant_of-self-in_err-reserve-2
@@ -21,3 +25,7 @@ invariant_of-self-2 g c =
 
 pub returns-clause-legal : goal.returns-clause-legal
 returns-clause-legal g c = (invariant_of-self-2 g c).kept.legal
+
+pub returns-clause-idle : goal.returns-clause-idle
+returns-clause-idle g c =
+    subst (λ r. AreIdle g.V.Services.gives r (run_of (run_view c.self.inside.run) c.self.inside.names.items c.push_within-2.new.items.items)) c.self.view_is (parts-idle g.V.Services.gives (run_view c.self.inside.run) _ _ _ c.args.count c.self.invariant.kept.flat (c.push_within-2.ensures.items ∙ ap (λ xs. xs ++ entry.Recalled c.args.count ∷ []) c.reserve-2.ensures.items))

@@ -1,0 +1,152 @@
+-- A call whose outcome was accepted is that of the try, which is one of its job.
+use Rattle.std.specs.Option.{option_map_or}
+use Rattle.std.specs.Prelude.{Bool, List, None, Option, Some, [], cond, false, find, if◌then◌else◌, is_some, length, option_and_then, refl, slice_get, suc, true, unwrap_or, zero, ℕ, ◌&&◌, ◌++◌, ◌<◌, ◌==◌, ◌∷◌, ◌≡◌}
+use Rattle.std.proofs.Common.{ap, arith, inl, inr, subst, sym, ◌∙◌}
+use Rattle.std.proofs.lemmas.Bool.{eqb-true, lt-ltb}
+use Rattle.tv_value.specs.Orders.{same_job}
+use Rattle.tv_value.specs.Values.{JobName}
+use Rattle.tv_gate.specs.Calls.{Call, IsCalled}
+use Rattle.tv_gate.specs.Outcomes.{Giving}
+use Rattle.tv_dispatch.specs.Jobs.{Ask}
+use Rattle.tv_model.specs.Jobs.{Job}
+use Rattle.tv_model.specs.Lists.{first_of_list, rest_of}
+use Rattle.tv_model.specs.Made.{Meaning}
+use Rattle.tv_model.specs.Meanings.{meaning}
+use Rattle.tv_model.specs.Members.{In}
+use Rattle.tv_model.proofs.Order.{some_in}
+use Rattle.tv_model.proofs.Tests.{left_true, right_true, same_job_decides, true≠false}
+use Rattle.tv_history.specs.Entries as history
+use Rattle.tv_history.specs.Entries.{History, is_accepted, is_out}
+use Rattle.tv_history.specs.Histories.{asks_left, is_ask, is_at, is_legal, is_legal_after, is_right, next_ask, same_bool}
+use Rattle.tv_history.specs.Tries.{key_of}
+use Rattle.tv_history.proofs.Running.{AreJobs}
+use Rattle.tv_state.specs.EventViews.{name_at}
+use Rattle.tv_board.specs.Answers.{Question}
+use Rattle.tv_board.specs.Calls.{IsTask, job_of, try_out}
+use Rattle.tv_board.specs.Refusals.{accepts}
+use Rattle.tv_board.specs.Runs.{Appends, IsLegalRun, Run, meant, past_of}
+use Rattle.tv_work.specs.Asked.{AsksEach, accepted_tries, call_of}
+use Rattle.tv_work.proofs.OfAsked.{tries-after}
+use Rattle.tv_work.proofs.OfNames.{one-newer}
+use Rattle.tv_work.proofs.OfRuns.{jobs-of, name-kept}
+
+-- ---- what is found
+
+find-in : {A : Type 0} (p : A → Bool) (x : A) (xs : List A) → find p xs ≡ Some x → In x xs × (p x ≡ true)
+find-in p x [] h = absurd (true≠false (sym (ap is_some h)))
+find-in {A = A} p x (y ∷ ys) h = by (p y) refl h (λ k. find-in p x ys k)
+  where
+    or_x : Option A → A
+    or_x None = x
+    or_x (Some z) = z
+
+    by : (b : Bool) → p y ≡ b → cond b (Some y) (find p ys) ≡ Some x → (find p ys ≡ Some x → In x ys × (p x ≡ true)) → In x (y ∷ ys) × (p x ≡ true)
+    by true e k rec = let same = sym (ap or_x k) in (inl same, ap p same ∙ e)
+    by false e k rec = let r = rec k in (inr r.0, r.1)
+
+some-of : {A B : Type 0} (f : A → Option B) (o : Option A) (y : B) → option_and_then f o ≡ Some y → (x : A) × (o ≡ Some x) × (f x ≡ Some y)
+some-of f None y h = absurd (true≠false (sym (ap is_some h)))
+some-of f (Some x) y h = (x, refl, h)
+
+some-if : {A : Type 0} (b : Bool) (o : Option A) (y : A) → (if b then o else None) ≡ Some y → (b ≡ true) × (o ≡ Some y)
+some-if true o y h = (refl, h)
+some-if false o y h = absurd (true≠false (sym (ap is_some h)))
+
+below-length : (ns : List JobName) (k : ℕ) (n : JobName) → slice_get ns k ≡ Some n → k < length ns
+below-length [] k n h = absurd (true≠false (sym (ap is_some h)))
+below-length (m ∷ ns) zero n h = omega arith
+below-length (m ∷ ns) (suc k) n h = let b = below-length ns k n h in omega arith
+
+first-in : {A : Type 0} (x : A) (xs : List A) → first_of_list xs ≡ Some x → In x xs
+first-in x [] h = absurd (true≠false (sym (ap is_some h)))
+first-in {A = A} x (y ∷ ys) h = inl (sym (ap or_x h))
+  where
+    or_x : Option A → A
+    or_x None = x
+    or_x (Some z) = z
+
+rest-in : {A : Type 0} (x : A) (xs : List A) → In x (rest_of xs) → In x xs
+rest-in x [] i = i
+rest-in x (y ∷ ys) i = inr i
+
+-- what is left of the asks is among them
+left-in : (past : History) (n : JobName) (asks : List Ask) (a : Ask) → In a (asks_left past n asks) → In a asks
+left-in [] n asks a i = i
+left-in (e ∷ past) n asks a i = by (is_accepted n e) i (λ k. left-in past n asks a k)
+  where
+    by : (b : Bool) → In a (if b then rest_of (asks_left past n asks) else asks_left past n asks) → (In a (asks_left past n asks) → In a asks) → In a asks
+    by true k rec = rec (rest-in a (asks_left past n asks) k)
+    by false k rec = rec k
+
+-- ---- an acceptance
+
+module _ (gives : Giving) (m : Meaning) (are : AreJobs gives m) (past : History) where
+  -- its right is that of the job's next ask
+  right-as : (n : JobName) (c t : ℕ) (b : Bool) → is_legal_after gives m past (history.accepted n c t b) ≡ true → (j : Job) → In j m.jobs → n ≡ j.name → (a : Ask) → next_ask gives m past j ≡ Some a → (c, t, b) ≡ key_of gives a
+  right-as n c t b l j i e a next = λ z. (eqb-true c a.activity (left_true (c == a.activity) (t == a.attempt) asks) z, eqb-true t a.attempt (right_true (c == a.activity) (t == a.attempt) asks) z, same b (is_right gives m a) (right_true (is_ask gives m c t a) (same_bool gives m b (is_right gives m a)) both) z)
+    where
+      found : (x : Job) × In x m.jobs × ((is_at gives m x n && option_map_or (λ k. is_ask gives m c t k && same_bool gives m b (is_right gives m k)) (next_ask gives m past x) false) ≡ true)
+      found = some_in (λ x. is_at gives m x n && option_map_or (λ k. is_ask gives m c t k && same_bool gives m b (is_right gives m k)) (next_ask gives m past x) false) m.jobs (right_true (is_out past n) _ l)
+
+      its-own : found.0 ≡ j
+      its-own = are.once found.0 j found.1 i (sym ((same_job_decides n found.0.name).0 (left_true (is_at gives m found.0 n) _ found.2)) ∙ e)
+
+      both : (is_ask gives m c t a && same_bool gives m b (is_right gives m a)) ≡ true
+      both =
+          subst (λ o. option_map_or (λ k. is_ask gives m c t k && same_bool gives m b (is_right gives m k)) o false ≡ true) (ap (next_ask gives m past) its-own ∙ next)
+          (right_true (is_at gives m found.0 n) (option_map_or (λ k. is_ask gives m c t k && same_bool gives m b (is_right gives m k)) (next_ask gives m past found.0) false) found.2)
+
+      asks : (c == a.activity && t == a.attempt) ≡ true
+      asks = left_true (is_ask gives m c t a) (same_bool gives m b (is_right gives m a)) both
+
+      same : (x y : Bool) → same_bool gives m x y ≡ true → x ≡ y
+      same true y h = sym h
+      same false true h = absurd (true≠false (sym h))
+      same false false h = refl
+
+module _ (gives : Giving) (s u : Run) (q : Question) (right : Bool) (l : IsLegalRun gives s) (lu : IsLegalRun gives u) (task : IsTask gives s q) (a : Appends s u (accepts q.ticket right)) where
+  -- the name of the ticket's job, the job, and its ask
+  its-name : (n : JobName) × (slice_get s.names q.ticket.job ≡ Some n) × (find (λ (j : Job). same_job n j.name) (meant gives s).jobs ≡ job_of gives s q.ticket.job)
+  its-name =
+      let j = some-of (try_out gives (meant gives s) (past_of s) q.ticket.activity q.ticket.attempt) (job_of gives s q.ticket.job) task.asked task.out in
+      let n = some-of (λ n. find (λ (k : Job). same_job n k.name) (meant gives s).jobs) (slice_get s.names q.ticket.job) j.0 j.1 in
+      (n.0, n.1, n.2 ∙ sym j.1)
+
+  its-job : (j : Job) × (job_of gives s q.ticket.job ≡ Some j) × (next_ask gives (meant gives s) (past_of s) j ≡ Some task.asked)
+  its-job =
+      let j = some-of (try_out gives (meant gives s) (past_of s) q.ticket.activity q.ticket.attempt) (job_of gives s q.ticket.job) task.asked task.out in
+      (j.0, j.1, (some-if (is_out (past_of s) j.0.name && option_map_or (is_ask gives (meant gives s) q.ticket.activity q.ticket.attempt) (next_ask gives (meant gives s) (past_of s) j.0) false) (next_ask gives (meant gives s) (past_of s) j.0) task.asked j.2).1)
+
+  found-job : In its-job.0 (meant gives s).jobs × (same_job its-name.0 its-job.0.name ≡ true)
+  found-job = find-in (λ (k : Job). same_job its-name.0 k.name) its-job.0 (meant gives s).jobs (its-name.2 ∙ its-job.1)
+
+  named-so : name_at u.names q.ticket.job ≡ its-job.0.name
+  named-so =
+      ap (λ ns. name_at ns q.ticket.job) a.names
+      ∙ name-kept s.names a.more q.ticket.job (lt-ltb q.ticket.job (length s.names) (below-length s.names q.ticket.job its-name.0 its-name.1))
+      ∙ ap (λ o. unwrap_or o []) its-name.1
+      ∙ (same_job_decides its-name.0 its-job.0.name).0 found-job.1
+
+  was-legal : is_legal_after gives (meant gives s) (past_of s) (history.accepted (name_at u.names q.ticket.job) q.ticket.activity q.ticket.attempt right) ≡ true
+  was-legal = by (meant gives u) (meant gives s) (past_of u) (past_of s) (history.accepted (name_at u.names q.ticket.job) q.ticket.activity q.ticket.attempt right) (ap (meaning gives) a.document) (one-newer gives s u (accepts q.ticket right) l a) lu.legal
+    where
+      by : (m k : Meaning) (now past : History) (e : history.Entry) → m ≡ k → now ≡ e ∷ past → is_legal gives m now ≡ true → is_legal_after gives k past e ≡ true
+      by m k now past e p w h = right_true (is_legal gives k past) (is_legal_after gives k past e) (sym (λ i. is_legal gives (p i) (w i)) ∙ h)
+
+  its-key : (q.ticket.activity, q.ticket.attempt, right) ≡ key_of gives task.asked
+  its-key = right-as gives (meant gives s) (jobs-of gives s.document) (past_of s) (name_at u.names q.ticket.job) q.ticket.activity q.ticket.attempt right was-legal its-job.0 found-job.0 named-so task.asked its-job.2
+
+  same-call : record { service = q.service; inputs = q.inputs; attempt = q.ticket.attempt } ≡ call_of (its-job.0.name, task.asked)
+  same-call = λ i. record { service = task.service i; inputs = task.inputs i; attempt = (its-key i).1 }
+
+  pub asks-one : (x y : Option (List Call)) → IsCalled x y (record { service = q.service; inputs = q.inputs; attempt = q.ticket.attempt }) → AsksEach gives x y s u
+  asks-one x y h calls b = (
+    (its-job.0.name, task.asked) ∷ [],
+    h calls b ∙ ap (λ c. Some (calls ++ c ∷ [])) same-call,
+    tries-after gives s u (accepts q.ticket right) l a ∙ (λ i. accepted_tries s ++ (named-so i, its-key i) ∷ []),
+    λ p i. by p i,
+  )
+    where
+      by : (p : JobName × Ask) → In p ((its-job.0.name, task.asked) ∷ []) → (j : Job) × In j (meant gives s).jobs × (p.0 ≡ j.name) × In p.1 j.asks
+      by p (inl e) = (its-job.0, found-job.0, ap (λ k. k.0) e, subst (λ z. In z its-job.0.asks) (sym (ap (λ k. k.1) e)) (left-in (past_of s) its-job.0.name its-job.0.asks task.asked (first-in task.asked (asks_left (past_of s) its-job.0.name its-job.0.asks) its-job.2)))
+      by p (inr e) = absurd e
