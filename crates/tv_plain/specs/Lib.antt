@@ -4,4 +4,3 @@ pub mod Answering
 pub mod Keeping
 pub mod Stated
 pub mod Ran
-pub mod Choosing

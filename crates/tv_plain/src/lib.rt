@@ -1,7 +1,8 @@
 //! Runs of chains of steps, by plain recursion over the value.
 //!
 //! `is_chain` tells which documents these are (`specs/Chains.antt`), and `run_chain` gives the outputs and totals of such
-//! a document's meaning (`specs/Ran.antt`). Its contract says nothing of the order in which services are asked.
+//! a document's meaning (`specs/Ran.antt`). Its contract says nothing of the order in which services are asked. The program
+//! runs over a board instead; `tv_compared` compares both.
 //!
 //! `specs/Recursion.antt` has what the steps of a chain give, by recursion over values: the law of `laws` says that this
 //! is what the document means, where the check accepts it, and the code gives the same.
@@ -23,8 +24,6 @@ pub mod laws;
 mod ran;
 mod running;
 mod steps;
-#[cfg(test)]
-mod tests;
 
 pub use chain::is_chain;
 pub use ran::{NamedValues, Ran};

@@ -4,7 +4,7 @@ ghost use Rattle.tv_value.specs.Nested.{tree, no_trees};
 ghost use Rattle.tv_value.specs.Values.{text_value, list_value, fault_value};
 ghost use Rattle.tv_value.specs.Views.{view};
 ghost use Rattle.tv_gate.specs.Outcomes.{good};
-ghost use Rattle.tv_plain.specs.Choosing.{is_b, chosen};
+ghost use Rattle.tv_compared.specs.Choosing.{is_b, chosen};
 
 use std::alloc::Global;
 use tv_gate::{Outcome, Script, Services};
