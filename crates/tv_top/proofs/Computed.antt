@@ -2,7 +2,7 @@
 use Rattle.std.specs.Prelude.{refl}
 use Rattle.std.specs.Fmt.{digits}
 use Rattle.json.specs.Print.{escape_byte}
-use Rattle.tv_top.specs.Worked.{RunsOneText, RunsChain, RunsFailure, RunsNoCross, ChecksCross, ChecksChain, RefusesCircle, RefusesNoDocument, RefusesNoJson, RefusesNoCommand, TellsCodes, TellsLines, RefusesDepth, TakesCommands, TakesNothingElse}
+use Rattle.tv_top.specs.Worked.{RunsOneText, RunsChain, RunsFailure, RunsNoCross, ChecksCross, ChecksChain, RefusesCircle, RefusesNoDocument, RefusesNoJson, RefusesNoCommand, TellsCodes, TellsLines, RefusesDepth, TakesCommands, TakesNothingElse, AsksChain, AsksFailure, AsksNoCross, AsksNoCheck}
 
 pub runs_one_text : RunsOneText
 unfolding digits escape_byte
@@ -61,3 +61,19 @@ takes_commands = (refl, refl)
 
 pub takes_nothing_else : TakesNothingElse
 takes_nothing_else = (refl, refl, refl, refl)
+
+pub asks_chain : AsksChain
+unfolding digits escape_byte
+asks_chain = refl
+
+pub asks_failure : AsksFailure
+unfolding digits escape_byte
+asks_failure = refl
+
+pub asks_no_cross : AsksNoCross
+unfolding digits escape_byte
+asks_no_cross = refl
+
+pub asks_no_check : AsksNoCheck
+unfolding digits escape_byte
+asks_no_check = refl

@@ -2,4 +2,5 @@ pub mod Bytes
 pub mod Plainly
 pub mod Given
 pub mod Openings
+pub mod Requests
 mod Computed

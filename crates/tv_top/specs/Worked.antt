@@ -1,15 +1,16 @@
 -- Worked examples: what each definition comes to on small documents and words.
 use Rattle.std.specs.Prelude.{◌≡◌, List, [], ◌∷◌, map, codes, Some, None}
-use Rattle.serde_json.specs.Data.{Data, object, no_members}
-use Rattle.tv_value.specs.Values.{Text, Value, text_value}
-use Rattle.tv_flow.specs.Flows.{Document, input, merge}
+use Rattle.serde_json.specs.Data.{object, no_members}
+use Rattle.tv_value.specs.Values.{Text, Name, Value, text_value}
+use Rattle.tv_gate.specs.Calls.{Call}
+use Rattle.tv_flow.specs.Flows.{Document}
 use Rattle.tv_json.specs.Documents.{document_json}
 use Rattle.tv_local.specs.LocalGives.{local_gives, local_knows}
-use Rattle.tv_model.specs.Writing.{a, asks, b, document, from_input, from_step, out, takes, takes_list, words, x, y}
+use Rattle.tv_model.specs.Writing.{a, asks, b, document, from_input, from_step, out, takes, words, x, y}
 use Rattle.tv_top.specs.Words.{Command, command_of, run, check}
 use Rattle.tv_top.specs.Answers.{Answer, printed, refused, answer_to_json, answer_to}
+use Rattle.tv_top.specs.Asking.{asks_to_json}
 use Rattle.tv_top.specs.Lines.{fault_line, code_of}
-use Rattle.tv_top.specs.declared.status.Status.{Status}
 use Rattle.tv_top.specs.declared.status.Status.TheVariants.{Done, Usage, ReadFault, TooLong, NotJson, Form, Check, NotBuilt, WriteFault, NoMemory}
 
 -- ---- documents
@@ -96,6 +97,30 @@ RefusesNoJson = answer_to_json local_gives local_knows run None ≡ refused NotJ
 
 abbrev pub RefusesNoCommand : Type 0
 RefusesNoCommand = answer_to local_gives local_knows None [] ≡ refused Usage (fault_line Usage)
+
+-- ---- asks
+
+abbrev pub asks_for : Command → Document → List Call
+asks_for command d = asks_to_json local_gives local_knows command (Some (document_json d))
+
+-- a first attempt on one text
+abbrev pub first_call : Name → Text → Call
+first_call s t = record { service = s; inputs = text_value t ∷ []; attempt = 0 }
+
+-- each text goes on to the next step before the next text is asked for
+abbrev pub AsksChain : Type 0
+AsksChain = asks_for run two_steps ≡ first_call (codes "upper") (codes "a") ∷ first_call (codes "lower") (codes "A") ∷ first_call (codes "upper") (codes "b") ∷ first_call (codes "lower") (codes "B") ∷ []
+
+-- the text that fails is asked for, and what bounces isn't
+abbrev pub AsksFailure : Type 0
+AsksFailure =
+    asks_for run one_failure ≡ first_call (codes "fail_if") (codes "no") ∷ first_call (codes "upper") (codes "no") ∷ first_call (codes "fail_if") (codes "true") ∷ first_call (codes "fail_if") (codes "no") ∷ first_call (codes "upper") (codes "no") ∷ []
+
+abbrev pub AsksNoCross : Type 0
+AsksNoCross = asks_for run two_ports ≡ []
+
+abbrev pub AsksNoCheck : Type 0
+AsksNoCheck = asks_for check two_steps ≡ []
 
 -- ---- words and statuses
 

@@ -1,5 +1,5 @@
 //! From bytes to the text to print, or the refusal.
-ghost use Rattle.std.specs.Prelude.{◌≡◌, ◌≤◌, ◌⊎◌, ◌^◌, length, IfOk, true, is_ok};
+ghost use Rattle.std.specs.Prelude.{◌≡◌, ◌≤◌, ◌⊎◌, ◌^◌, length, map, IfOk, OnOk, Some, true, is_ok};
 ghost use Rattle.serde_json.specs.View.{view as json_view};
 ghost use Rattle.tv_flow.specs.DocumentViews.{document_view};
 ghost use Rattle.tv_flow.specs.Forms.{form_of};
@@ -10,10 +10,12 @@ ghost use Rattle.tv_report.specs.CheckLines.{check_text};
 ghost use Rattle.tv_report.specs.FormLines.{is_form, line_of};
 ghost use Rattle.tv_top.specs.Answers.{answer_of_run, answer_to_accepted, answer_to_checked, answer_to_read, answer_to_bytes, byte_limit};
 ghost use Rattle.tv_top.specs.Asked.{GivesAnswer};
+ghost use Rattle.tv_top.specs.Asking.{asks_of_run, asks_to_accepted, asks_to_checked, asks_to_read, asks_to_bytes, AsksThese, GivesAsks, OnlyRunAsks};
 ghost use Rattle.tv_top.specs.CommandViews.{command_view};
 ghost use Rattle.tv_model.specs.Meanings.{meaning};
 ghost use Rattle.tv_model.specs.Results.{result_line};
 ghost use Rattle.tv_plain.specs.Chains.{is_chain};
+ghost use Rattle.tv_work.specs.Asked.{call_of};
 
 use crate::reading::json_of;
 use crate::refusal::Refusal;
@@ -37,7 +39,9 @@ pub(crate) fn answer_to_bytes<A: Asker>(
     asker: &mut A,
 ) -> Result<Text, Refusal>
     requires { length bytes.items ≤ byte_limit }
-    ensures { GivesAnswer result (answer_to_bytes A.Services.gives A.Services.knows (command_view command) bytes.items) }
+    ensures answer { GivesAnswer result (answer_to_bytes A.Services.gives A.Services.knows (command_view command) bytes.items) }
+    ensures asked { GivesAsks (A.calls asker.old) (A.calls asker.new) result (asks_to_bytes A.Services.gives A.Services.knows (command_view command) bytes.items) }
+    ensures unasked { OnlyRunAsks (Some (command_view command)) (A.calls asker.old) (A.calls asker.new) }
 {
     let json = json_of(alloc, &bytes)?;
     drop(bytes);
@@ -50,7 +54,9 @@ fn answer_to_json<A: Asker>(
     json: Json,
     asker: &mut A,
 ) -> Result<Text, Refusal>
-    ensures { GivesAnswer result (answer_to_read A.Services.gives A.Services.knows (command_view command) (form_of (json_view json))) }
+    ensures answer { GivesAnswer result (answer_to_read A.Services.gives A.Services.knows (command_view command) (form_of (json_view json))) }
+    ensures asked { GivesAsks (A.calls asker.old) (A.calls asker.new) result (asks_to_read A.Services.gives A.Services.knows (command_view command) (form_of (json_view json))) }
+    ensures unasked { OnlyRunAsks (Some (command_view command)) (A.calls asker.old) (A.calls asker.new) }
 {
     match read_document(alloc, &json) {
         Ok(document) => {
@@ -80,7 +86,9 @@ fn answer_to_document<A: Asker>(
     document: Document,
     asker: &mut A,
 ) -> Result<Text, Refusal>
-    ensures { GivesAnswer result (answer_to_checked A.Services.gives A.Services.knows (command_view command) (document_view document) (checked A.Services.knows (document_view document))) }
+    ensures answer { GivesAnswer result (answer_to_checked A.Services.gives A.Services.knows (command_view command) (document_view document) (checked A.Services.knows (document_view document))) }
+    ensures asked { GivesAsks (A.calls asker.old) (A.calls asker.new) result (asks_to_checked A.Services.gives A.Services.knows (command_view command) (document_view document) (checked A.Services.knows (document_view document))) }
+    ensures unasked { OnlyRunAsks (Some (command_view command)) (A.calls asker.old) (A.calls asker.new) }
 {
     match check::<A::Services>(alloc, document) {
         Ok(run) => answer_to_accepted(alloc, command, run, asker),
@@ -105,7 +113,9 @@ fn answer_to_accepted<A: Asker>(
     run: CheckedRun,
     asker: &mut A,
 ) -> Result<Text, Refusal>
-    ensures { GivesAnswer result (answer_to_accepted A.Services.gives A.Services.knows (command_view command) (run_view run)) }
+    ensures answer { GivesAnswer result (answer_to_accepted A.Services.gives A.Services.knows (command_view command) (run_view run)) }
+    ensures asked { GivesAsks (A.calls asker.old) (A.calls asker.new) result (asks_to_accepted A.Services.gives A.Services.knows (command_view command) (run_view run)) }
+    ensures unasked { OnlyRunAsks (Some (command_view command)) (A.calls asker.old) (A.calls asker.new) }
 {
     match command {
         Command::Run => answer_of_run(alloc, run, asker),
@@ -114,7 +124,8 @@ fn answer_to_accepted<A: Asker>(
 }
 
 fn answer_of_run<A: Asker>(alloc: Global, run: CheckedRun, asker: &mut A) -> Result<Text, Refusal>
-    ensures { GivesAnswer result (answer_of_run A.Services.gives A.Services.knows (run_view run)) }
+    ensures answer { GivesAnswer result (answer_of_run A.Services.gives A.Services.knows (run_view run)) }
+    ensures asked { GivesAsks (A.calls asker.old) (A.calls asker.new) result (asks_of_run A.Services.gives A.Services.knows (run_view run)) }
 {
     if is_chain(run.document()) {
         Ok(line_of_run(alloc, run, asker)?)
@@ -126,7 +137,8 @@ fn answer_of_run<A: Asker>(alloc: Global, run: CheckedRun, asker: &mut A) -> Res
 /// The result line of a chain, which a board runs.
 fn line_of_run<A: Asker>(alloc: Global, run: CheckedRun, asker: &mut A) -> Result<Text, NoMemory>
     requires { is_chain (run_view run) ≡ true }
-    ensures { IfOk result (λ t. t ≡ result_line (meaning A.Services.gives (run_view run))) }
+    ensures line { IfOk result (λ t. t ≡ result_line (meaning A.Services.gives (run_view run))) }
+    ensures asked { OnOk result (AsksThese (A.calls asker.old) (A.calls asker.new) (map call_of (meaning A.Services.gives (run_view run)).order)) }
 {
     let (outputs, totals) = run_whole(alloc, run, asker)?;
     let line = result_line(alloc, &outputs, &totals)?;

@@ -1,8 +1,10 @@
-//! The definitions computed on worked examples: each example is the clause of a function that does nothing, so a definition
-//! that comes to something else is refused.
+//! Laws of the definitions, and the definitions computed on worked examples: each is the clause of a function that does nothing,
+//! so a definition that comes to something else is refused.
 ghost use Rattle.tv_top.specs.Worked.{RunsOneText, RunsChain, RunsFailure, RunsNoCross, ChecksCross, ChecksChain};
 ghost use Rattle.tv_top.specs.Worked.{RefusesDepth, RefusesCircle, RefusesNoDocument, RefusesNoJson, RefusesNoCommand};
+ghost use Rattle.tv_top.specs.Worked.{AsksChain, AsksFailure, AsksNoCross, AsksNoCheck};
 ghost use Rattle.tv_top.specs.Worked.{TakesCommands, TakesNothingElse, TellsCodes, TellsLines};
+ghost use Rattle.tv_top.specs.Asking.{CheckAsksNothing, RefusalsAskNothing};
 
 /// What is printed for documents, byte by byte.
 pub fn worked_texts()
@@ -21,6 +23,20 @@ pub fn worked_refusals()
     ensures no_document { RefusesNoDocument }
     ensures no_json { RefusesNoJson }
     ensures no_command { RefusesNoCommand }
+{}
+
+/// What is asked of the services, call by call.
+pub fn worked_asks()
+    ensures chain { AsksChain }
+    ensures failure { AsksFailure }
+    ensures cross { AsksNoCross }
+    ensures checked { AsksNoCheck }
+{}
+
+/// Only a run that is answered asks for something.
+pub fn others_ask_nothing()
+    ensures check { CheckAsksNothing }
+    ensures refusals { RefusalsAskNothing }
 {}
 
 /// The words that give a command, and the lines and codes of the statuses.

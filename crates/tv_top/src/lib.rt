@@ -3,14 +3,14 @@
 //! `taverna_alone` does what the words ask for with one asker and always returns; `taverna` has a gate and threads besides.
 //! A run goes over a board (`tv_board`), which one worker works off (`run_whole` of `tv_work`).
 //! Their contracts are the headline: what is written is a function of the words and the document's bytes
-//! (`specs/Answers.antt`), each status has its cause and its line (`specs/Headline.antt`), and a document that is accepted
-//! and, for `run`, one that is built is never refused.
+//! (`specs/Answers.antt`), and so is what the services are asked (`specs/Asking.antt`), each status has its cause and its line
+//! (`specs/Headline.antt`), and a document that is accepted and, for `run`, one that is built is never refused.
 //!
 //! - `words`, `status`, `refusal`: what goes in and comes out besides bytes
 //! - `reading`: from bytes to a JSON tree
 //! - `answering`: from there to the text to print, or the refusal
 //! - `top`: the top calls
-//! - `laws`: the definitions computed on worked examples
+//! - `laws`: laws of the definitions, and the definitions computed on worked examples
 //!
 //! `Board` and `run_alone`, which works a board off, are passed on from `tv_board` and `tv_work`.
 #![tactic(auto)]

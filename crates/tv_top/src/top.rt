@@ -1,10 +1,11 @@
 //! The top calls.
-ghost use Rattle.std.specs.Prelude.{◌+◌, ◌≡◌, ◌≢◌, ◌≤◌, ◌↔◌, None, IfErr};
+ghost use Rattle.std.specs.Prelude.{◌+◌, ◌≡◌, ◌≢◌, ◌≤◌, ◌↔◌, Some, None, IfErr};
 ghost use Rattle.tv_io.specs.ReadOf.{TakesAtMost};
 ghost use Rattle.tv_top.specs.Words.{command_of as asked_for};
 ghost use Rattle.tv_top.specs.CommandViews.{command_view};
 ghost use Rattle.tv_top.specs.Answers.{answer_to, answer_to_bytes, byte_limit};
 ghost use Rattle.tv_top.specs.Asked.{texts_of, refusal_status, refusal_line, ended};
+ghost use Rattle.tv_top.specs.Asking.{asks_to, asks_to_bytes, IsAsked, IsAskedFor, OnlyRunAsks};
 ghost use Rattle.tv_top.specs.Headline.{IsAnswered, Cause, IsComplete, IsLine, IsReported, IsSaid};
 
 use crate::answering::answer_to_bytes;
@@ -53,6 +54,13 @@ pub fn taverna_alone<S: Source, K: Sink, E: Sink, A: Asker>(
     ensures said { result ≢ Status.Done → IsSaid (answer_to A.Services.gives A.Services.knows (asked_for (texts_of words.now)))
         (record { left = S.left source.old; left_after = S.left source.new; faults = S.faults source.old; faults_after = S.faults source.new })
         (record { sent = E.sent err.old; sent_after = E.sent err.new; faults = E.faults err.old; faults_after = E.faults err.new }) result }
+    // What the services were asked, where the asker tells its calls: all that the answer takes, in the order of one worker, and
+    // no more, whether or not it was written; nothing for a refusal.
+    ensures asked { IsAsked (asks_to A.Services.gives A.Services.knows (asked_for (texts_of words.now)))
+        (record { left = S.left source.old; left_after = S.left source.new; faults = S.faults source.old; faults_after = S.faults source.new })
+        (A.calls asker.old) (A.calls asker.new) result }
+    // Whatever the status, words that give no run ask nothing.
+    ensures unasked { OnlyRunAsks (asked_for (texts_of words.now)) (A.calls asker.old) (A.calls asker.new) }
 {
     let ended = carried_out(alloc, words, source, out, asker);
     match ended {
@@ -90,6 +98,10 @@ fn carried_out<S: Source, K: Sink, A: Asker>(
     ensures taken { TakesAtMost (byte_limit + 1) (S.left source.old) (S.left source.new) }
     ensures unread { ended result ≡ Status.Usage → source.new ≡ source.old }
     ensures silent { ended result ≢ Status.Done → ended result ≢ Status.WriteFault → out.new ≡ out.old }
+    ensures asked { IsAsked (asks_to A.Services.gives A.Services.knows (asked_for (texts_of words.now)))
+        (record { left = S.left source.old; left_after = S.left source.new; faults = S.faults source.old; faults_after = S.faults source.new })
+        (A.calls asker.old) (A.calls asker.new) (ended result) }
+    ensures unasked { OnlyRunAsks (asked_for (texts_of words.now)) (A.calls asker.old) (A.calls asker.new) }
 {
     let text = answered(alloc, words, source, asker)?;
     match write_all(out, text.as_str().as_bytes()) {
@@ -110,6 +122,10 @@ fn answered<S: Source, A: Asker>(
     ensures usage { (ended result ≡ Status.Usage) ↔ (asked_for (texts_of words.now) ≡ None) }
     ensures taken { TakesAtMost (byte_limit + 1) (S.left source.old) (S.left source.new) }
     ensures unread { ended result ≡ Status.Usage → source.new ≡ source.old }
+    ensures asked { IsAskedFor (asks_to A.Services.gives A.Services.knows (asked_for (texts_of words.now)))
+        (record { left = S.left source.old; left_after = S.left source.new; faults = S.faults source.old; faults_after = S.faults source.new })
+        (A.calls asker.old) (A.calls asker.new) result }
+    ensures unasked { OnlyRunAsks (asked_for (texts_of words.now)) (A.calls asker.old) (A.calls asker.new) }
 {
     match command_of(words) {
         Some(command) => read_and_answered(alloc, command, source, asker),
@@ -127,6 +143,10 @@ fn read_and_answered<S: Source, A: Asker>(
         (record { left = S.left source.old; left_after = S.left source.new; faults = S.faults source.old; faults_after = S.faults source.new }) result }
     ensures taken { TakesAtMost (byte_limit + 1) (S.left source.old) (S.left source.new) }
     ensures command { ended result ≢ Status.Usage }
+    ensures asked { IsAskedFor (asks_to_bytes A.Services.gives A.Services.knows (command_view command))
+        (record { left = S.left source.old; left_after = S.left source.new; faults = S.faults source.old; faults_after = S.faults source.new })
+        (A.calls asker.old) (A.calls asker.new) result }
+    ensures unasked { OnlyRunAsks (Some (command_view command)) (A.calls asker.old) (A.calls asker.new) }
 {
     match read_all(alloc, source, BYTE_LIMIT) {
         Ok(bytes) => answer_to_bytes(alloc, command, bytes, asker),
@@ -169,6 +189,10 @@ pub fn taverna<
     ensures said { result ≢ Status.Done → IsSaid (answer_to G.Services.gives G.Services.knows (asked_for (texts_of words.now)))
         (record { left = S.left source.old; left_after = S.left source.new; faults = S.faults source.old; faults_after = S.faults source.new })
         (record { sent = E.sent err.old; sent_after = E.sent err.new; faults = E.faults err.old; faults_after = E.faults err.new }) result }
+    ensures asked { IsAsked (asks_to G.Services.gives G.Services.knows (asked_for (texts_of words.now)))
+        (record { left = S.left source.old; left_after = S.left source.new; faults = S.faults source.old; faults_after = S.faults source.new })
+        (A.calls asker.old) (A.calls asker.new) result }
+    ensures unasked { OnlyRunAsks (asked_for (texts_of words.now)) (A.calls asker.old) (A.calls asker.new) }
 {
     taverna_alone(alloc, words, source, out, err, asker)
 }

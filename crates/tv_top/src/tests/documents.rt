@@ -7,6 +7,8 @@ use std::test::Fail;
 use tv_gate::LoggedGate;
 use tv_local::LocalGate;
 use tv_value::{Items, Value};
+use tv_worked::document;
+use tv_worked::steps::{CAPITALS, CHAIN, CROSS, DOT, FAILURES, MERGE};
 
 /// The document of a value whose depth is declared, and the line of its result.
 fn of_value(alloc: Global, depth: u32, value: &str) -> Result<String, Fail> {
@@ -72,46 +74,9 @@ fn values_run_to_their_lines(rt: HostRuntime) -> Result<(), Fail> {
     Ok(())
 }
 
-/// Capitals of the input x.
-const CAPITALS: &str =
-    "{\"u\":{\"inputs\":{\"a\":{\"depth\":0,\"from\":{\"input\":\"x\"}}},\"outputs\":{\"o\":0},\"activities\":[{\"service\":\"upper\"}]}}";
-
-/// Capitals, and small letters of them.
-const CHAIN: &str =
-    "{\"p\":{\"inputs\":{\"a\":{\"depth\":0,\"from\":{\"input\":\"x\"}}},\"outputs\":{\"o\":0},\"activities\":[{\"service\":\"upper\"}]},\"q\":{\"inputs\":{\"a\":{\"depth\":0,\"from\":{\"step\":\"p\",\"port\":\"o\"}}},\"outputs\":{\"o\":0},\"activities\":[{\"service\":\"lower\"}]}}";
-
-/// A failure where the text is true, and capitals of the rest.
-const FAILURES: &str =
-    "{\"f\":{\"inputs\":{\"a\":{\"depth\":0,\"from\":{\"input\":\"x\"}}},\"outputs\":{\"o\":0},\"activities\":[{\"service\":\"fail_if\"}]},\"u\":{\"inputs\":{\"a\":{\"depth\":0,\"from\":{\"step\":\"f\",\"port\":\"o\"}}},\"outputs\":{\"o\":0},\"activities\":[{\"service\":\"upper\"}]}}";
-
 /// Two steps that feed each other.
 const CIRCLE: &str =
     "{\"p\":{\"inputs\":{\"a\":{\"depth\":0,\"from\":{\"step\":\"q\",\"port\":\"o\"}}},\"outputs\":{\"o\":0},\"activities\":[{\"service\":\"upper\"}]},\"q\":{\"inputs\":{\"a\":{\"depth\":0,\"from\":{\"step\":\"p\",\"port\":\"o\"}}},\"outputs\":{\"o\":0},\"activities\":[{\"service\":\"lower\"}]}}";
-
-/// The inputs x and y, each text with each.
-const CROSS: &str =
-    "{\"c\":{\"inputs\":{\"a\":{\"depth\":0,\"from\":{\"input\":\"x\"}},\"b\":{\"depth\":0,\"from\":{\"input\":\"y\"}}},\"outputs\":{\"o\":0},\"activities\":[{\"service\":\"concat\"}]}}";
-
-/// The inputs x and y, in pairs.
-const DOT: &str =
-    "{\"c\":{\"inputs\":{\"a\":{\"depth\":0,\"from\":{\"input\":\"x\"}},\"b\":{\"depth\":0,\"from\":{\"input\":\"y\"}}},\"outputs\":{\"o\":0},\"strategy\":{\"dot\":[\"a\",\"b\"]},\"activities\":[{\"service\":\"concat\"}]}}";
-
-/// The inputs x and y, as one list.
-const MERGE: &str =
-    "{\"e\":{\"inputs\":{\"a\":{\"depth\":1,\"from\":{\"merge\":[{\"input\":\"x\"},{\"input\":\"y\"}]}}},\"outputs\":{\"o\":1},\"activities\":[{\"service\":\"echo\"}]}}";
-
-/// The document of these steps with one output, that of a step, on these values.
-fn document(
-    alloc: Global,
-    inputs: &str,
-    steps: &str,
-    last: &str,
-    values: &str,
-) -> Result<String, Fail> {
-    Ok(format!(in alloc;
-        "{{\"taverna\":1,\"main\":\"m\",\"flows\":{{\"m\":{{\"inputs\":{inputs},\"steps\":{steps},\"outputs\":{{\"out\":{{\"step\":\"{last}\",\"port\":\"o\"}}}}}}}},\"inputs\":{values}}}"
-    )?)
-}
 
 // Steps, the last one, the inputs with their values, the word, the status, the text and the line.
 #[test]

@@ -10,8 +10,8 @@ use Rattle.tv_top.proofs.answering.line_of_run.Goals as goal
 pub run_whole-requires : goal.run_whole-requires
 run_whole-requires g c = chain-opens-nothing (run_view c.args.run) c.requires
 
-pub returns : goal.returns
-returns g c =
+pub returns-clause-line : goal.returns-clause-line
+returns-clause-line g c =
     let m = meaning g.A.Services.Services.gives (run_view c.args.run) in
     c.in_ok-line.ensures
     ∙ ap (λ os. line_of_result os (totals_view c.in_ok-outputs.totals)) c.in_ok-outputs.ensures.run.0
