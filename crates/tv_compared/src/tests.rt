@@ -17,7 +17,7 @@ use std::alloc::Global;
 use std::process::Abort;
 use std::test::Fail;
 use tv_check::CheckedRun;
-use tv_gate::{Asker, Gate, GateAsker, Services};
+use tv_gate::{Gate, GateAsker, Services};
 use tv_plain::{is_chain, run_chain};
 use tv_report::result_line;
 use tv_value::Text;
