@@ -2,10 +2,8 @@
 use Rattle.std.specs.Prelude.{◌≡◌, List, [], ◌∷◌, ◌++◌, map, flat_map, refl}
 use Rattle.std.proofs.Common.{ap, ◌∙◌, sym, append_assoc}
 use Rattle.json.specs.Token.{key, string, end_array, end_object}
-use Rattle.serde_json.specs.Data.{Data}
 use Rattle.tv_value.specs.Nested.{trees_of}
-use Rattle.tv_value.specs.Values.{Text, Name, JobName}
-use Rattle.tv_value.specs.Values as spec
+use Rattle.tv_value.specs.Values.{Name, JobName}
 use Rattle.tv_value.specs.Printed.{json, all_json, job_text, members, strings}
 use Rattle.tv_value.specs.Views.{view}
 use Rattle.tv_value.specs.declared.value.Value.{Value}

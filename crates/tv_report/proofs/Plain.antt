@@ -1,6 +1,5 @@
 -- Paths have no floats.
-use Rattle.std.specs.Prelude.{◌≡◌, List, [], ◌∷◌, map, false, ◌||◌, refl}
-use Rattle.std.proofs.Common.{ap, ◌∙◌}
+use Rattle.std.specs.Prelude.{◌≡◌, List, [], ◌∷◌, map, false, refl}
 use Rattle.serde_json.specs.View.{items_of}
 use Rattle.serde_json.specs.Written.{has_float, items_have_float}
 use Rattle.tv_flow.specs.declared.faults.Part.{Part}

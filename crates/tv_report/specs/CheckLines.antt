@@ -1,5 +1,5 @@
 -- The line of a fault of the check.
-use Rattle.std.specs.Prelude.{ℕ, List, [], ◌∷◌, ◌++◌, codes, decimal, Bool, true, false, if◌then◌else◌}
+use Rattle.std.specs.Prelude.{ℕ, [], ◌∷◌, ◌++◌, codes, decimal, Bool, true, false, if◌then◌else◌}
 use Rattle.tv_value.specs.Values.{Name, Text}
 use Rattle.tv_check.specs.Faulty.{Kind, no_such_port, no_such_service, no_such_flow, flow_cycle, link_cycle, strategy_ports, dot_depths, merge_depths, nested_ports, too_deep, input_missing, input_unknown, input_depth, Where, at_main, at_flow, at_step, at_input, at_output, at_activity, at_after, at_flow_output, at_given, Complaint}
 

@@ -1,7 +1,7 @@
 -- The lines of `check`: what each port is declared and delivered.
 use Rattle.std.specs.Prelude.{ℕ, ◌+◌, [], ◌∷◌, ◌++◌, codes, decimal, flat_map}
 use Rattle.tv_value.specs.Values.{Text, Name}
-use Rattle.tv_flow.specs.Flows.{Feed, StepInput, Step, Flow, Document}
+use Rattle.tv_flow.specs.Flows.{Feed, Step, Flow, Document}
 use Rattle.tv_strategy.specs.Measures.{strategy_depth}
 use Rattle.tv_check.specs.Steps.{strategy_of}
 use Rattle.tv_check.specs.CheckedDepths.{feed_depth, port_depth, flow_depths}

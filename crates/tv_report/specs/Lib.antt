@@ -4,3 +4,5 @@ pub mod DepthLines
 pub mod PlanLines
 pub mod ResultLines
 pub mod Tokens
+pub mod TraceLines
+pub mod AskCounts

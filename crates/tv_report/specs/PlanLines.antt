@@ -1,8 +1,8 @@
 -- The lines of `check` as they are written: from the plans of flows.
-use Rattle.std.specs.Prelude.{ℕ, ◌+◌, ◌++◌, List, codes, flat_map}
+use Rattle.std.specs.Prelude.{ℕ, ◌+◌, ◌++◌, codes, flat_map}
 use Rattle.std.specs.List.{zip}
 use Rattle.tv_value.specs.Values.{Text, Name}
-use Rattle.tv_flow.specs.Flows.{StepInput, Step, Flow}
+use Rattle.tv_flow.specs.Flows.{StepInput, Step}
 use Rattle.tv_check.specs.Plans.{StepPlan, FlowPlan}
 use Rattle.tv_report.specs.DepthLines.{port_line, end_line}
 

@@ -5,6 +5,7 @@
 //! - `forms`, `checks`: the lines of faults of the form and of the check
 //! - `results`: the result line of a run
 //! - `depths`: the lines of `check`
+//! - `traces`: the lines of `trace`
 #![tactic(auto)]
 
 mod checks;
@@ -13,8 +14,10 @@ mod forms;
 mod results;
 #[cfg(test)]
 mod tests;
+mod traces;
 
 pub use checks::check_line;
 pub use depths::depth_lines;
 pub use forms::form_line;
 pub use results::{NamedValues, result_line};
+pub use traces::trace_lines;

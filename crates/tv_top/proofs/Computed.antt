@@ -2,7 +2,7 @@
 use Rattle.std.specs.Prelude.{refl}
 use Rattle.std.specs.Fmt.{digits}
 use Rattle.json.specs.Print.{escape_byte}
-use Rattle.tv_top.specs.Worked.{RunsOneText, RunsChain, RunsFailure, RunsNoCross, ChecksCross, ChecksChain, RefusesCircle, RefusesNoDocument, RefusesNoJson, RefusesNoCommand, TellsCodes, TellsLines, RefusesDepth, TakesCommands, TakesNothingElse, AsksChain, AsksFailure, AsksNoCross, AsksNoCheck}
+use Rattle.tv_top.specs.Worked.{RunsOneText, RunsChain, RunsFailure, RunsCross, ChecksCross, ChecksChain, RefusesCircle, RefusesNoDocument, RefusesNoJson, RefusesNoCommand, TellsCodes, TellsLines, RefusesDepth, TakesCommands, TakesNothingElse, AsksChain, AsksFailure, AsksAttempts, AsksNoCheck, AsksNoNestedFlow, RunsNoNestedFlow, TracesAttempts, TracesChain, TracesFailure}
 
 pub runs_one_text : RunsOneText
 unfolding digits escape_byte
@@ -16,9 +16,9 @@ pub runs_failure : RunsFailure
 unfolding digits escape_byte
 runs_failure = refl
 
-pub runs_no_cross : RunsNoCross
+pub runs_cross : RunsCross
 unfolding digits escape_byte
-runs_no_cross = refl
+runs_cross = refl
 
 pub checks_cross : ChecksCross
 unfolding digits escape_byte
@@ -57,7 +57,7 @@ unfolding digits escape_byte
 refuses_depth = (refl, refl)
 
 pub takes_commands : TakesCommands
-takes_commands = (refl, refl)
+takes_commands = (refl, refl, refl)
 
 pub takes_nothing_else : TakesNothingElse
 takes_nothing_else = (refl, refl, refl, refl)
@@ -70,10 +70,30 @@ pub asks_failure : AsksFailure
 unfolding digits escape_byte
 asks_failure = refl
 
-pub asks_no_cross : AsksNoCross
+pub asks_attempts : AsksAttempts
 unfolding digits escape_byte
-asks_no_cross = refl
+asks_attempts = refl
 
 pub asks_no_check : AsksNoCheck
 unfolding digits escape_byte
 asks_no_check = refl
+
+pub traces_attempts : TracesAttempts
+unfolding digits escape_byte
+traces_attempts = refl
+
+pub traces_chain : TracesChain
+unfolding digits escape_byte
+traces_chain = refl
+
+pub traces_failure : TracesFailure
+unfolding digits escape_byte
+traces_failure = refl
+
+pub runs_no_nested_flow : RunsNoNestedFlow
+unfolding digits escape_byte
+runs_no_nested_flow = (refl, refl)
+
+pub asks_no_nested_flow : AsksNoNestedFlow
+unfolding digits escape_byte
+asks_no_nested_flow = refl

@@ -1,6 +1,7 @@
 pub mod Bytes
 pub mod Plainly
 pub mod Given
-pub mod Openings
 pub mod Requests
 mod Computed
+pub mod Questions
+pub mod Traced

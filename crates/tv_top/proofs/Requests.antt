@@ -1,80 +1,97 @@
 -- Only a run that is answered asks for something.
-use Rattle.std.specs.Prelude.{◌≡◌, ℕ, List, [], length, Bool, true, false, nat_lt, Option, Some, None, Result, Ok, Err, if◌then◌else◌, map, refl}
-use Rattle.std.proofs.Common.{subst}
-use Rattle.serde_json.specs.Data.{Data}
-use Rattle.tv_value.specs.Values.{Name}
-use Rattle.tv_gate.specs.Calls.{Call}
+use Rattle.std.specs.Prelude.{◌≡◌, ◌≢◌, ℕ, List, [], ◌∷◌, ◌++◌, Bool, true, false, Option, Some, None, ◌⊎◌, Result, Ok, Err, if◌then◌else◌, map, refl}
+use Rattle.std.proofs.Common.{ap, sym, subst, ◌∙◌, true≢false, inl, inr}
+use Rattle.std.proofs.lemmas.List.{append-nil}
+use Rattle.tv_value.specs.Values.{Name, Text}
+use Rattle.tv_gate.specs.Calls.{Call, IsSameCalls}
 use Rattle.tv_gate.specs.Outcomes.{Giving}
-use Rattle.tv_flow.specs.Complaints as form
 use Rattle.tv_flow.specs.Flows.{Document}
-use Rattle.tv_flow.specs.Forms.{form_of}
-use Rattle.tv_check.specs.Faulty as checking
-use Rattle.tv_check.specs.Passes.{checked}
 use Rattle.tv_model.specs.Meanings.{meaning}
-use Rattle.tv_model.specs.Results.{result_line}
-use Rattle.tv_plain.specs.Chains.{is_chain}
+use Rattle.tv_board.specs.Flat.{opens_nothing}
 use Rattle.tv_work.specs.Asked.{call_of}
-use Rattle.tv_top.specs.Words.{Command, run, check}
-use Rattle.tv_top.specs.Answers.{Answer, printed, refused, refusal, byte_limit, json_of, answer_to_accepted, answer_to_checked, answer_to_read, answer_to_json, answer_to}
-use Rattle.tv_top.specs.Asking.{asks_to_accepted, asks_to_checked, asks_to_read, asks_to_json, asks_to, CheckAsksNothing, RefusalsAskNothing}
-use Rattle.tv_top.specs.declared.status.Status.TheVariants.{TooLong, NotBuilt}
-
-nothing-unless : (b : Bool) (cs : List Call) → cs ≡ [] → (if b then [] else cs) ≡ []
-nothing-unless true cs h = refl
-nothing-unless false cs h = h
+use Rattle.tv_top.specs.Words.{Command, run, check, trace}
+use Rattle.tv_top.specs.Answers.{Answer, Reading, StatusLine, always, answer_of, answer_to, answer_to_reading, reading_of}
+use Rattle.tv_top.specs.Asking.{AsksThese, BeginsThese, BeginsForDocument, IsAsked, OthersAreNotAsked, OthersAskNothing, RefusalsAskNothing, ToldCalls, asks_of, asks_to, asks_to_reading, is_run}
+use Rattle.tv_top.specs.Headline.{Source}
+use Rattle.tv_top.specs.declared.status.Status.{Status}
+use Rattle.tv_top.specs.declared.status.Status.TheVariants.{Done, Usage, ReadFault, TooLong, NotJson, Form, Check, NotBuilt, WriteFault, NoMemory}
 
 -- a refusal has no calls
 abbrev Fits : Answer → List Call → Type 0
-Fits (printed text) cs = Unit {0}
-Fits (refused status line) cs = cs ≡ []
+Fits (Ok text) cs = Unit {0}
+Fits (Err r) cs = cs ≡ []
 
-fits-either : (b : Bool) (x y : Answer) (cs ds : List Call) → Fits x cs → Fits y ds → Fits (if b then x else y) (if b then cs else ds)
-fits-either true x y cs ds h k = h
-fits-either false x y cs ds h k = k
+fits-built : (b : Bool) (text : Text) (r : StatusLine) (cs : List Call) → Fits (if b then Ok text else Err r) (if b then cs else [])
+fits-built true text r cs = tt
+fits-built false text r cs = refl
 
-module _ (gives : Giving) (knows : Name → Bool) where
-  check-checked : (d : Document) (o : Option checking.Complaint) → asks_to_checked gives knows check d o ≡ []
-  check-checked d None = refl
-  check-checked d (Some c) = refl
-
-  check-read : (r : Result Document form.Complaint) → asks_to_read gives knows check r ≡ []
-  check-read (Ok d) = check-checked d (checked knows d)
-  check-read (Err c) = refl
-
-  check-json : (o : Option Data) → asks_to_json gives knows check o ≡ []
-  check-json None = refl
-  check-json (Some d) = check-read (form_of d)
-
-  fits-accepted : (command : Command) (d : Document) → Fits (answer_to_accepted gives knows command d) (asks_to_accepted gives knows command d)
-  fits-accepted run d = fits-either (is_chain d) (printed (result_line (meaning gives d))) (refusal NotBuilt) (map call_of (meaning gives d).order) [] tt refl
+module _ (gives : Giving) where
+  fits-accepted : (command : Command) (d : Document) → Fits (answer_to gives command d) (asks_to gives command d)
+  fits-accepted run d = fits-built (opens_nothing d) _ (always NotBuilt) (map call_of (meaning gives d).order)
   fits-accepted check d = tt
+  fits-accepted trace d = fits-built (opens_nothing d) _ (always NotBuilt) (map call_of (meaning gives d).order)
 
-  fits-checked : (command : Command) (d : Document) (o : Option checking.Complaint) → Fits (answer_to_checked gives knows command d o) (asks_to_checked gives knows command d o)
-  fits-checked command d None = fits-accepted command d
-  fits-checked command d (Some c) = refl
+  fits-reading : (command : Command) (reading : Reading) → Fits (answer_to_reading gives command reading) (asks_to_reading gives command reading)
+  fits-reading command (Ok d) = fits-accepted command d
+  fits-reading command (Err r) = refl
 
-  fits-read : (command : Command) (r : Result Document form.Complaint) → Fits (answer_to_read gives knows command r) (asks_to_read gives knows command r)
-  fits-read command (Ok d) = fits-checked command d (checked knows d)
-  fits-read command (Err c) = refl
+  fits-words : (knows : Name → Bool) (words : Option Command) (bytes : List ℕ) → Fits (answer_of gives knows words bytes) (asks_of gives knows words bytes)
+  fits-words knows None bytes = refl
+  fits-words knows (Some command) bytes = fits-reading command (reading_of knows bytes)
 
-  fits-json : (command : Command) (o : Option Data) → Fits (answer_to_json gives knows command o) (asks_to_json gives knows command o)
-  fits-json command None = refl
-  fits-json command (Some d) = fits-read command (form_of d)
+  check-asks : (reading : Reading) → asks_to_reading gives check reading ≡ []
+  check-asks (Ok d) = refl
+  check-asks (Err r) = refl
 
-  fits-words : (words : Option Command) (bytes : List ℕ) → Fits (answer_to gives knows words bytes) (asks_to gives knows words bytes)
-  fits-words None bytes = refl
-  fits-words (Some command) bytes =
-      fits-either
-      (nat_lt byte_limit (length bytes))
-      (refusal TooLong)
-      (answer_to_json gives knows command (json_of bytes))
-      []
-      (asks_to_json gives knows command (json_of bytes))
-      refl
-      (fits-json command (json_of bytes))
-
-pub check-asks-nothing : CheckAsksNothing
-check-asks-nothing gives knows bytes = nothing-unless (nat_lt byte_limit (length bytes)) (asks_to_json gives knows check (json_of bytes)) (check-json gives knows (json_of bytes))
+pub others-ask-nothing : OthersAskNothing
+others-ask-nothing gives knows None bytes e = refl
+others-ask-nothing gives knows (Some run) bytes e = absurd (true≢false e)
+others-ask-nothing gives knows (Some check) bytes e = check-asks gives (reading_of knows bytes)
+others-ask-nothing gives knows (Some trace) bytes e = absurd (true≢false e)
 
 pub refusals-ask-nothing : RefusalsAskNothing
-refusals-ask-nothing gives knows words bytes status line h = subst (λ a. Fits a (asks_to gives knows words bytes)) h (fits-words gives knows words bytes)
+refusals-ask-nothing gives knows words bytes r h = subst (λ a. Fits a (asks_of gives knows words bytes)) h (fits-words gives knows words bytes)
+
+-- ---- calls
+
+none-more : (before after : ToldCalls) (more : List Call) → more ≡ [] → AsksThese before after more → IsSameCalls before after
+none-more before after more e h calls told = h calls told ∙ ap (λ cs. Some (calls ++ cs)) e ∙ ap Some (append-nil calls)
+
+-- a list of which a beginning is empty
+nothing-first : (xs ys more : List Call) → more ≡ [] → more ≡ xs ++ ys → xs ≡ []
+nothing-first [] ys more e h = refl
+nothing-first (x ∷ xs) ys more e h = absurd (cons-nil x (xs ++ ys) (sym h ∙ e))
+  where
+    cons-nil : (x : Call) (xs : List Call) → x ∷ xs ≡ [] → ⊥
+    cons-nil x xs h = cc h
+
+none-begun : (before after : ToldCalls) (more : List Call) → more ≡ [] → BeginsThese before after more → IsSameCalls before after
+none-begun before after more e h calls told =
+    let b = h calls told in
+    b.1 ∙ ap (λ cs. Some (calls ++ cs)) (nothing-first b.0 b.2.0 more e b.2.1) ∙ ap Some (append-nil calls)
+
+module _ (gives : Giving) (knows : Name → Bool) (words : Option Command) (s : Source) (before after : ToldCalls) (e : is_run words ≡ false) where
+  abbrev asks : List ℕ → List Call
+  asks bytes = asks_of gives knows words bytes
+
+  none : (bytes : List ℕ) → asks bytes ≡ []
+  none bytes = others-ask-nothing gives knows words bytes e
+
+  none-for : BeginsForDocument asks s before after → IsSameCalls before after
+  none-for (inl same) = same
+  none-for (inr begun) = none-begun before after (asks begun.0.0) (none begun.0.0) begun.0.1
+
+  not-asked : (status : Status) → IsAsked asks s before after status → IsSameCalls before after
+  not-asked Done h = none-more before after (asks h.0.0) (none h.0.0) h.0.1
+  not-asked Usage h = h
+  not-asked ReadFault h = h
+  not-asked TooLong h = h
+  not-asked NotJson h = h
+  not-asked Form h = h
+  not-asked Check h = h
+  not-asked NotBuilt h = h
+  not-asked WriteFault h = none-more before after (asks h.0.0) (none h.0.0) h.0.1
+  not-asked NoMemory h = none-for h
+
+pub others-not-asked : OthersAreNotAsked
+others-not-asked gives knows words s before after status e h = not-asked gives knows words s before after e status h

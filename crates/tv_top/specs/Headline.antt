@@ -2,8 +2,12 @@
 use Rattle.std.specs.Prelude.{◌≡◌, ℕ, List, [], Option, Some, ◌⊎◌, Result, Ok, Err}
 use Rattle.tv_value.specs.Values.{Text}
 use Rattle.tv_io.specs.Rising.{HasRisen}
+use Rattle.tv_io.specs.declared.source.Source.{Ghosts as SourceGhosts}
+use Rattle.tv_io.specs.declared.sink.Sink.{Ghosts as SinkGhosts}
 use Rattle.tv_io.specs.SentOf.{IsSentOf, IsCutShort}
-use Rattle.tv_top.specs.Answers.{Answer, printed, refused}
+use Rattle.tv_check.specs.RunViews.{run_view}
+use Rattle.tv_check.specs.declared.run.CheckedRun.{CheckedRun}
+use Rattle.tv_top.specs.Answers.{Answer, Reading, StatusLine}
 use Rattle.tv_top.specs.Lines.{fault_line}
 use Rattle.tv_top.specs.Asked.{refusal_status, refusal_line}
 use Rattle.tv_top.specs.declared.refusal.Refusal.{Refusal}
@@ -28,6 +32,14 @@ pub record Sink : Type 0 where
   pub faults : ℕ
   pub faults_after : ℕ
 
+-- of a value of a type that is a source, before and after
+abbrev pub source_told : {S : Type 0} → SourceGhosts S → S → S → Source
+source_told g old new = record { left = g.left old; left_after = g.left new; faults = g.faults old; faults_after = g.faults new }
+
+-- of a value of a type that is a sink, before and after
+abbrev pub sink_told : {K : Type 0} → SinkGhosts K → K → K → Sink
+sink_told g old new = record { sent = g.sent old; sent_after = g.sent new; faults = g.faults old; faults_after = g.faults new }
+
 -- the source counted a fault
 abbrev pub ReadFailed : Source → Type 0
 ReadFailed s = HasRisen s.faults s.faults_after
@@ -42,23 +54,23 @@ OfDocument s P = (bytes : List ℕ) → s.left ≡ Some bytes → P bytes
 
 -- the source was read to its end, and this text is the answer
 abbrev pub IsAnswer : (List ℕ → Answer) → Source → Text → Type 0
-IsAnswer answer s text = OfDocument s (λ bytes. (answer bytes ≡ printed text) × (s.left_after ≡ Some []))
+IsAnswer answer s text = OfDocument s (λ bytes. (answer bytes ≡ Ok text) × (s.left_after ≡ Some []))
 
 -- this refusal is the answer, whatever its line
-abbrev pub IsRefused : (List ℕ → Answer) → Status → List ℕ → Type 0
-IsRefused answer status bytes = (line : Text) × (answer bytes ≡ refused status line)
+abbrev pub IsRefused : {A : Type 0} → (List ℕ → Result A StatusLine) → Status → List ℕ → Type 0
+IsRefused answer status bytes = (line : Text) × (answer bytes ≡ Err (status, line))
 
-abbrev pub IsRefusal : (List ℕ → Answer) → Source → Status → Type 0
+abbrev pub IsRefusal : {A : Type 0} → (List ℕ → Result A StatusLine) → Source → Status → Type 0
 IsRefusal answer s status = OfDocument s (IsRefused answer status)
 
 -- the source was read to its end, and this refusal is the answer
-abbrev pub IsReadRefusal : (List ℕ → Answer) → Source → Status → Type 0
+abbrev pub IsReadRefusal : {A : Type 0} → (List ℕ → Result A StatusLine) → Source → Status → Type 0
 IsReadRefusal answer s status = OfDocument s (λ bytes. IsRefused answer status bytes × (s.left_after ≡ Some []))
 
 -- why a call ended with this status
 abbrev pub Cause : (List ℕ → Answer) → Source → Sink → Status → Type 0
 -- the document was read to its end, and its answer was written whole
-Cause answer s out Done = OfDocument s (λ bytes. (text : Text) × (answer bytes ≡ printed text) × (s.left_after ≡ Some []) × IsSentOf out.sent out.sent_after text)
+Cause answer s out Done = OfDocument s (λ bytes. (text : Text) × (answer bytes ≡ Ok text) × (s.left_after ≡ Some []) × IsSentOf out.sent out.sent_after text)
 Cause answer s out Usage = IsRefusal answer s Usage
 -- the source counted a fault
 Cause answer s out ReadFault = ReadFailed s
@@ -68,12 +80,12 @@ Cause answer s out Form = IsReadRefusal answer s Form
 Cause answer s out Check = IsReadRefusal answer s Check
 Cause answer s out NotBuilt = IsReadRefusal answer s NotBuilt
 -- the output counted a fault; the document was read to its end, and a beginning of its answer was written, not the whole
-Cause answer s out WriteFault = WriteFailed out × OfDocument s (λ bytes. (text : Text) × (answer bytes ≡ printed text) × (s.left_after ≡ Some []) × IsCutShort out.sent out.sent_after text)
+Cause answer s out WriteFault = WriteFailed out × OfDocument s (λ bytes. (text : Text) × (answer bytes ≡ Ok text) × (s.left_after ≡ Some []) × IsCutShort out.sent out.sent_after text)
 -- want of memory alone is free
 Cause answer s out NoMemory = Unit {0}
 
 -- why a call came to an end without a text to print
-abbrev pub RefusalCause : (List ℕ → Answer) → Source → Status → Type 0
+abbrev pub RefusalCause : {A : Type 0} → (List ℕ → Result A StatusLine) → Source → Status → Type 0
 RefusalCause answer s Done = ⊥
 RefusalCause answer s Usage = IsRefusal answer s Usage
 RefusalCause answer s ReadFault = ReadFailed s
@@ -87,8 +99,8 @@ RefusalCause answer s NoMemory = Unit {0}
 
 -- the status that an answer asks for
 abbrev pub status_of : Answer → Status
-status_of (printed text) = Done
-status_of (refused status line) = status
+status_of (Ok text) = Done
+status_of (Err r) = r.0
 
 -- where neither the source nor the output counted a fault, the status is that of the answer, or memory was wanting
 abbrev pub IsComplete : (List ℕ → Answer) → Source → Sink → Status → Type 0
@@ -96,12 +108,12 @@ IsComplete answer s out status =
     OfDocument s (λ bytes. (ReadFailed s → ⊥) → (WriteFailed out → ⊥) → (status ≡ status_of (answer bytes)) ⊎ (status ≡ NoMemory))
 
 -- the line of the answer to some bytes, and to those that the source had, where it tells them
-abbrev pub IsAnswersLine : (List ℕ → Answer) → Source → Status → Text → Type 0
+abbrev pub IsAnswersLine : {A : Type 0} → (List ℕ → Result A StatusLine) → Source → Status → Text → Type 0
 IsAnswersLine answer s status line =
-    ((bytes : List ℕ) × (answer bytes ≡ refused status line)) × OfDocument s (λ bytes. answer bytes ≡ refused status line)
+    ((bytes : List ℕ) × (answer bytes ≡ Err (status, line))) × OfDocument s (λ bytes. answer bytes ≡ Err (status, line))
 
 -- the line of a status: for a fault of the form or of the check that of the answer, else the one that the status always has
-abbrev pub IsLine : (List ℕ → Answer) → Source → Status → Text → Type 0
+abbrev pub IsLine : {A : Type 0} → (List ℕ → Result A StatusLine) → Source → Status → Text → Type 0
 IsLine answer s Done line = ⊥
 IsLine answer s Usage line = line ≡ fault_line Usage
 IsLine answer s ReadFault line = line ≡ fault_line ReadFault
@@ -113,10 +125,21 @@ IsLine answer s NotBuilt line = line ≡ fault_line NotBuilt
 IsLine answer s WriteFault line = line ≡ fault_line WriteFault
 IsLine answer s NoMemory line = line ≡ fault_line NoMemory
 
+-- a refusal has its cause and its line
+abbrev pub IsRefusedSo : {A : Type 0} → (List ℕ → Result A StatusLine) → Source → Refusal → Type 0
+IsRefusedSo answer s r = RefusalCause answer s (refusal_status r) × IsLine answer s (refusal_status r) (refusal_line r)
+
+-- the document that some bytes are, which are those that the source had, where it tells them, and it was read to its end
+abbrev pub IsRead : (List ℕ → Reading) → Source → Result CheckedRun Refusal → Type 0
+IsRead reading s (Ok run) =
+    ((bytes : List ℕ) × (reading bytes ≡ Ok (run_view run)))
+    × OfDocument s (λ bytes. (reading bytes ≡ Ok (run_view run)) × (s.left_after ≡ Some []))
+IsRead reading s (Err r) = IsRefusedSo reading s r
+
 -- a text to print is the answer, and a refusal has its cause and its line
 abbrev pub IsAnswered : (List ℕ → Answer) → Source → Result Text Refusal → Type 0
 IsAnswered answer s (Ok text) = IsAnswer answer s text
-IsAnswered answer s (Err r) = RefusalCause answer s (refusal_status r) × IsLine answer s (refusal_status r) (refusal_line r)
+IsAnswered answer s (Err r) = IsRefusedSo answer s r
 
 -- the line was written whole, or its sink counted a fault and a beginning of it was written, not the whole
 abbrev pub IsReported : Sink → Text → Type 0

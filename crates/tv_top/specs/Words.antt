@@ -8,9 +8,14 @@ pub data Command : Type 0 where
   run : Command
   -- read a document, check it, and write the depths
   check : Command
+  -- read a document, run it, and write which jobs asked how often
+  trace : Command
 
 -- a command is one word
 abbrev pub command_of : List Text → Option Command
 command_of [] = None
-command_of (w ∷ []) = if same_name w (codes "run") then Some run else (if same_name w (codes "check") then Some check else None)
+command_of (w ∷ []) =
+    if same_name w (codes "run") then Some run
+    else (if same_name w (codes "check") then Some check
+    else (if same_name w (codes "trace") then Some trace else None))
 command_of (w ∷ v ∷ ws) = None

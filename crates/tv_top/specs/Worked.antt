@@ -1,15 +1,16 @@
 -- Worked examples: what each definition comes to on small documents and words.
-use Rattle.std.specs.Prelude.{◌≡◌, List, [], ◌∷◌, map, codes, Some, None}
+use Rattle.std.specs.Prelude.{◌≡◌, List, [], ◌∷◌, map, codes, Some, None, Ok, Err}
 use Rattle.serde_json.specs.Data.{object, no_members}
 use Rattle.tv_value.specs.Values.{Text, Name, Value, text_value}
 use Rattle.tv_gate.specs.Calls.{Call}
 use Rattle.tv_flow.specs.Flows.{Document}
 use Rattle.tv_json.specs.Documents.{document_json}
 use Rattle.tv_local.specs.LocalGives.{local_gives, local_knows}
-use Rattle.tv_model.specs.Writing.{a, asks, b, document, from_input, from_step, out, takes, words, x, y}
-use Rattle.tv_top.specs.Words.{Command, command_of, run, check}
-use Rattle.tv_top.specs.Answers.{Answer, printed, refused, answer_to_json, answer_to}
-use Rattle.tv_top.specs.Asking.{asks_to_json}
+use Rattle.tv_model.specs.Writing.{a, asks, b, constant_text, document, from_input, from_step, out, takes, words, x, y}
+use Rattle.tv_model.specs.RowsOfFlows.{opening as nested_flow}
+use Rattle.tv_top.specs.Words.{Command, command_of, run, check, trace}
+use Rattle.tv_top.specs.Answers.{Answer, Reading, always, answer_of, answer_to_reading, reading_of_json}
+use Rattle.tv_top.specs.Asking.{asks_to_reading}
 use Rattle.tv_top.specs.Lines.{fault_line, code_of}
 use Rattle.tv_top.specs.declared.status.Status.TheVariants.{Done, Usage, ReadFault, TooLong, NotJson, Form, Check, NotBuilt, WriteFault, NoMemory}
 
@@ -46,6 +47,15 @@ two_ports =
     (out (codes "c"))
     ((x, words (codes "a" ∷ codes "b" ∷ [])) ∷ (y, words (codes "1" ∷ codes "2" ∷ [])) ∷ [])
 
+-- a service that answers at the third attempt, if it is asked so often
+abbrev pub third_attempt : Document
+third_attempt =
+    document
+    ((x, 0) ∷ [])
+    ((codes "f", record (asks (codes "flaky") (takes a (from_input x) ∷ takes (codes "n") (constant_text (codes "2")) ∷ [])) { retries = 2 }) ∷ [])
+    (out (codes "f"))
+    ((x, text_value (codes "t")) ∷ [])
+
 -- each step is fed by the other
 abbrev pub circle : Document
 circle =
@@ -57,51 +67,72 @@ circle =
 
 -- ---- answers
 
+-- for the local services
+abbrev pub read : Document → Reading
+read d = reading_of_json local_knows (Some (document_json d))
+
 abbrev pub answer : Command → Document → Answer
-answer command d = answer_to_json local_gives local_knows command (Some (document_json d))
+answer command d = answer_to_reading local_gives command (read d)
 
 abbrev pub RunsOneText : Type 0
-RunsOneText = answer run (one_step (text_value (codes "a"))) ≡ printed (codes "{\"outputs\":{\"out\":\"A\"},\"totals\":{\"attempts\":1,\"bounced\":0,\"failed\":0,\"jobs\":1}}\n")
+RunsOneText = answer run (one_step (text_value (codes "a"))) ≡ Ok (codes "{\"outputs\":{\"out\":\"A\"},\"totals\":{\"attempts\":1,\"bounced\":0,\"failed\":0,\"jobs\":1}}\n")
 
 abbrev pub RunsChain : Type 0
-RunsChain = answer run two_steps ≡ printed (codes "{\"outputs\":{\"out\":[\"a\",\"b\"]},\"totals\":{\"attempts\":4,\"bounced\":0,\"failed\":0,\"jobs\":4}}\n")
+RunsChain = answer run two_steps ≡ Ok (codes "{\"outputs\":{\"out\":[\"a\",\"b\"]},\"totals\":{\"attempts\":4,\"bounced\":0,\"failed\":0,\"jobs\":4}}\n")
 
 abbrev pub RunsFailure : Type 0
 RunsFailure =
     answer run one_failure
-    ≡ printed (codes "{\"outputs\":{\"out\":[\"NO\",{\"error\":{\"at\":\"u[1]\",\"depth\":0,\"from\":[\"f[1]\"],\"why\":\"bounced\"}},\"NO\"]},\"totals\":{\"attempts\":5,\"bounced\":1,\"failed\":1,\"jobs\":6}}\n")
+    ≡ Ok (codes "{\"outputs\":{\"out\":[\"NO\",{\"error\":{\"at\":\"u[1]\",\"depth\":0,\"from\":[\"f[1]\"],\"why\":\"bounced\"}},\"NO\"]},\"totals\":{\"attempts\":5,\"bounced\":1,\"failed\":1,\"jobs\":6}}\n")
 
-abbrev pub RunsNoCross : Type 0
-RunsNoCross = answer run two_ports ≡ refused NotBuilt (codes "taverna: not built\n")
+abbrev pub RunsCross : Type 0
+RunsCross = answer run two_ports ≡ Ok (codes "{\"outputs\":{\"out\":[[\"a1\",\"a2\"],[\"b1\",\"b2\"]]},\"totals\":{\"attempts\":4,\"bounced\":0,\"failed\":0,\"jobs\":4}}\n")
+
+-- a job asks as often as it needs to
+abbrev pub TracesAttempts : Type 0
+TracesAttempts = answer trace third_attempt ≡ Ok (codes "f[] 3\n")
+
+-- each text goes on to the next step before the next text is asked for
+abbrev pub TracesChain : Type 0
+TracesChain = answer trace two_steps ≡ Ok (codes "p[0] 1\nq[0] 1\np[1] 1\nq[1] 1\n")
+
+-- what bounces asks nothing
+abbrev pub TracesFailure : Type 0
+TracesFailure = answer trace one_failure ≡ Ok (codes "f[0] 1\nu[0] 1\nf[1] 1\nf[2] 1\nu[2] 1\n")
+
+-- what opens a flow isn't run yet, though it is checked
+abbrev pub RunsNoNestedFlow : Type 0
+RunsNoNestedFlow =
+    (answer run nested_flow ≡ Err (NotBuilt, codes "taverna: not built\n")) × (answer trace nested_flow ≡ Err (NotBuilt, codes "taverna: not built\n"))
 
 abbrev pub ChecksCross : Type 0
-ChecksCross = answer check two_ports ≡ printed (codes "in m c a 0 1\nin m c b 0 1\nout m c o 0 2\nflow m out 2\n")
+ChecksCross = answer check two_ports ≡ Ok (codes "in m c a 0 1\nin m c b 0 1\nout m c o 0 2\nflow m out 2\n")
 
 abbrev pub ChecksChain : Type 0
-ChecksChain = answer check two_steps ≡ printed (codes "in m p a 0 1\nout m p o 0 1\nin m q a 0 1\nout m q o 0 1\nflow m out 1\n")
+ChecksChain = answer check two_steps ≡ Ok (codes "in m p a 0 1\nout m p o 0 1\nin m q a 0 1\nout m q o 0 1\nflow m out 1\n")
 
 -- both commands refuse it, and in this order: the form, the check
 abbrev pub RefusesDepth : Type 0
 RefusesDepth =
-    (answer run (one_step (words (codes "a" ∷ []))) ≡ refused Check (codes "taverna: check fault 13 input depth at input x: 0 and 1\n"))
-    × (answer check (one_step (words (codes "a" ∷ []))) ≡ refused Check (codes "taverna: check fault 13 input depth at input x: 0 and 1\n"))
+    (answer run (one_step (words (codes "a" ∷ []))) ≡ Err (Check, codes "taverna: check fault 13 input depth at input x: 0 and 1\n"))
+    × (answer check (one_step (words (codes "a" ∷ []))) ≡ Err (Check, codes "taverna: check fault 13 input depth at input x: 0 and 1\n"))
 
 abbrev pub RefusesCircle : Type 0
-RefusesCircle = answer run circle ≡ refused Check (codes "taverna: check fault 5 link cycle at flow m step p\n")
+RefusesCircle = answer run circle ≡ Err (Check, codes "taverna: check fault 5 link cycle at flow m step p\n")
 
 abbrev pub RefusesNoDocument : Type 0
-RefusesNoDocument = answer_to_json local_gives local_knows check (Some (object no_members)) ≡ refused Form (codes "taverna: form fault 1 missing at [\"taverna\"]\n")
+RefusesNoDocument = answer_to_reading local_gives check (reading_of_json local_knows (Some (object no_members))) ≡ Err (Form, codes "taverna: form fault 1 missing at [\"taverna\"]\n")
 
 abbrev pub RefusesNoJson : Type 0
-RefusesNoJson = answer_to_json local_gives local_knows run None ≡ refused NotJson (codes "taverna: not JSON\n")
+RefusesNoJson = answer_to_reading local_gives run (reading_of_json local_knows None) ≡ Err (NotJson, codes "taverna: not JSON\n")
 
 abbrev pub RefusesNoCommand : Type 0
-RefusesNoCommand = answer_to local_gives local_knows None [] ≡ refused Usage (fault_line Usage)
+RefusesNoCommand = answer_of local_gives local_knows None [] ≡ Err (always Usage)
 
 -- ---- asks
 
 abbrev pub asks_for : Command → Document → List Call
-asks_for command d = asks_to_json local_gives local_knows command (Some (document_json d))
+asks_for command d = asks_to_reading local_gives command (read d)
 
 -- a first attempt on one text
 abbrev pub first_call : Name → Text → Call
@@ -116,8 +147,13 @@ abbrev pub AsksFailure : Type 0
 AsksFailure =
     asks_for run one_failure ≡ first_call (codes "fail_if") (codes "no") ∷ first_call (codes "upper") (codes "no") ∷ first_call (codes "fail_if") (codes "true") ∷ first_call (codes "fail_if") (codes "no") ∷ first_call (codes "upper") (codes "no") ∷ []
 
-abbrev pub AsksNoCross : Type 0
-AsksNoCross = asks_for run two_ports ≡ []
+-- `trace` asks what `run` asks: each attempt of a job before the next job
+abbrev pub AsksAttempts : Type 0
+AsksAttempts =
+    map (λ c. c.attempt) (asks_for trace third_attempt) ≡ 0 ∷ 1 ∷ 2 ∷ []
+
+abbrev pub AsksNoNestedFlow : Type 0
+AsksNoNestedFlow = asks_for run nested_flow ≡ []
 
 abbrev pub AsksNoCheck : Type 0
 AsksNoCheck = asks_for check two_steps ≡ []
@@ -125,11 +161,12 @@ AsksNoCheck = asks_for check two_steps ≡ []
 -- ---- words and statuses
 
 abbrev pub TakesCommands : Type 0
-TakesCommands = (command_of (codes "run" ∷ []) ≡ Some run) × (command_of (codes "check" ∷ []) ≡ Some check)
+TakesCommands =
+    (command_of (codes "run" ∷ []) ≡ Some run) × (command_of (codes "check" ∷ []) ≡ Some check) × (command_of (codes "trace" ∷ []) ≡ Some trace)
 
 abbrev pub TakesNothingElse : Type 0
 TakesNothingElse =
-    (command_of [] ≡ None) × (command_of (codes "Run" ∷ []) ≡ None) × (command_of (codes "trace" ∷ []) ≡ None) × (command_of (codes "run" ∷ codes "check" ∷ []) ≡ None)
+    (command_of [] ≡ None) × (command_of (codes "Run" ∷ []) ≡ None) × (command_of (codes "lineage" ∷ []) ≡ None) × (command_of (codes "run" ∷ codes "check" ∷ []) ≡ None)
 
 abbrev pub TellsCodes : Type 0
 TellsCodes =

@@ -1,23 +1,27 @@
 //! Laws of the definitions, and the definitions computed on worked examples: each is the clause of a function that does nothing,
 //! so a definition that comes to something else is refused.
-ghost use Rattle.tv_top.specs.Worked.{RunsOneText, RunsChain, RunsFailure, RunsNoCross, ChecksCross, ChecksChain};
-ghost use Rattle.tv_top.specs.Worked.{RefusesDepth, RefusesCircle, RefusesNoDocument, RefusesNoJson, RefusesNoCommand};
-ghost use Rattle.tv_top.specs.Worked.{AsksChain, AsksFailure, AsksNoCross, AsksNoCheck};
+ghost use Rattle.tv_top.specs.Worked.{RunsOneText, RunsChain, RunsFailure, RunsCross, ChecksCross, ChecksChain, TracesAttempts, TracesChain, TracesFailure};
+ghost use Rattle.tv_top.specs.Worked.{RunsNoNestedFlow, RefusesDepth, RefusesCircle, RefusesNoDocument, RefusesNoJson, RefusesNoCommand};
+ghost use Rattle.tv_top.specs.Worked.{AsksChain, AsksFailure, AsksAttempts, AsksNoNestedFlow, AsksNoCheck};
 ghost use Rattle.tv_top.specs.Worked.{TakesCommands, TakesNothingElse, TellsCodes, TellsLines};
-ghost use Rattle.tv_top.specs.Asking.{CheckAsksNothing, RefusalsAskNothing};
+ghost use Rattle.tv_top.specs.Asking.{OthersAreNotAsked, OthersAskNothing, RefusalsAskNothing};
 
 /// What is printed for documents, byte by byte.
 pub fn worked_texts()
     ensures one { RunsOneText }
     ensures chain { RunsChain }
     ensures failure { RunsFailure }
+    ensures cross { RunsCross }
+    ensures attempts { TracesAttempts }
+    ensures chain_trace { TracesChain }
+    ensures failure_trace { TracesFailure }
     ensures depths { ChecksCross }
     ensures chain_depths { ChecksChain }
 {}
 
 /// What is refused, with its line.
 pub fn worked_refusals()
-    ensures cross { RunsNoCross }
+    ensures nested { RunsNoNestedFlow }
     ensures depth { RefusesDepth }
     ensures circle { RefusesCircle }
     ensures no_document { RefusesNoDocument }
@@ -29,14 +33,16 @@ pub fn worked_refusals()
 pub fn worked_asks()
     ensures chain { AsksChain }
     ensures failure { AsksFailure }
-    ensures cross { AsksNoCross }
+    ensures attempts { AsksAttempts }
+    ensures nested { AsksNoNestedFlow }
     ensures checked { AsksNoCheck }
 {}
 
 /// Only a run that is answered asks for something.
 pub fn others_ask_nothing()
-    ensures check { CheckAsksNothing }
+    ensures others { OthersAskNothing }
     ensures refusals { RefusalsAskNothing }
+    ensures not_asked { OthersAreNotAsked }
 {}
 
 /// The words that give a command, and the lines and codes of the statuses.

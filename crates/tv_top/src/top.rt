@@ -3,19 +3,21 @@ ghost use Rattle.std.specs.Prelude.{◌+◌, ◌≡◌, ◌≢◌, ◌≤◌, �
 ghost use Rattle.tv_io.specs.ReadOf.{TakesAtMost};
 ghost use Rattle.tv_top.specs.Words.{command_of as asked_for};
 ghost use Rattle.tv_top.specs.CommandViews.{command_view};
-ghost use Rattle.tv_top.specs.Answers.{answer_to, answer_to_bytes, byte_limit};
+ghost use Rattle.tv_top.specs.Answers.{answer_of, byte_limit, reading_of};
 ghost use Rattle.tv_top.specs.Asked.{texts_of, refusal_status, refusal_line, ended};
-ghost use Rattle.tv_top.specs.Asking.{asks_to, asks_to_bytes, IsAsked, IsAskedFor, OnlyRunAsks};
-ghost use Rattle.tv_top.specs.Headline.{IsAnswered, Cause, IsComplete, IsLine, IsReported, IsSaid};
+ghost use Rattle.tv_top.specs.Asking.{asks_of, IsAsked, IsAskedFor};
+ghost use Rattle.tv_top.specs.Headline.{IsAnswered, Cause, IsComplete, IsLine, IsRead, IsReported, IsSaid, source_told, sink_told};
 
-use crate::answering::answer_to_bytes;
+use crate::answering::answer;
+use crate::reading::checked_run;
 use crate::refusal::Refusal;
 use crate::status::Status;
 use crate::words::{Command, command_of};
 use std::alloc::Global;
 use std::sync::Wait;
 use std::thread::Threads;
-use tv_gate::{Asker, Gate};
+use tv_check::CheckedRun;
+use tv_gate::{Asker, Gate, Services};
 use tv_io::{ReadAllFault, Sink, Source, read_all, write_all};
 use tv_value::Text;
 
@@ -38,12 +40,12 @@ pub fn taverna_alone<S: Source, K: Sink, E: Sink, A: Asker>(
     asker: &mut A,
 ) -> Status
     // Why the status came, by the bytes of the document and of the answer.
-    ensures cause { Cause (answer_to A.Services.gives A.Services.knows (asked_for (texts_of words.now)))
-        (record { left = S.left source.old; left_after = S.left source.new; faults = S.faults source.old; faults_after = S.faults source.new })
-        (record { sent = K.sent out.old; sent_after = K.sent out.new; faults = K.faults out.old; faults_after = K.faults out.new }) result }
-    ensures complete { IsComplete (answer_to A.Services.gives A.Services.knows (asked_for (texts_of words.now)))
-        (record { left = S.left source.old; left_after = S.left source.new; faults = S.faults source.old; faults_after = S.faults source.new })
-        (record { sent = K.sent out.old; sent_after = K.sent out.new; faults = K.faults out.old; faults_after = K.faults out.new }) result }
+    ensures cause { Cause (answer_of A.Services.gives A.Services.knows (asked_for (texts_of words.now)))
+        (source_told ⟦<S as Source>⟧ source.old source.new)
+        (sink_told ⟦<K as Sink>⟧ out.old out.new) result }
+    ensures complete { IsComplete (answer_of A.Services.gives A.Services.knows (asked_for (texts_of words.now)))
+        (source_told ⟦<S as Source>⟧ source.old source.new)
+        (sink_told ⟦<K as Sink>⟧ out.old out.new) result }
     // Words that give no command are told from them alone, and then nothing is read.
     ensures usage { (result ≡ Status.Usage) ↔ (asked_for (texts_of words.now) ≡ None) }
     ensures taken { TakesAtMost (byte_limit + 1) (S.left source.old) (S.left source.new) }
@@ -51,16 +53,14 @@ pub fn taverna_alone<S: Source, K: Sink, E: Sink, A: Asker>(
     // The output has nothing but an answer, and the line on `err` is the status's.
     ensures silent { result ≢ Status.Done → result ≢ Status.WriteFault → out.new ≡ out.old }
     ensures unsaid { result ≡ Status.Done → err.new ≡ err.old }
-    ensures said { result ≢ Status.Done → IsSaid (answer_to A.Services.gives A.Services.knows (asked_for (texts_of words.now)))
-        (record { left = S.left source.old; left_after = S.left source.new; faults = S.faults source.old; faults_after = S.faults source.new })
-        (record { sent = E.sent err.old; sent_after = E.sent err.new; faults = E.faults err.old; faults_after = E.faults err.new }) result }
+    ensures said { result ≢ Status.Done → IsSaid (answer_of A.Services.gives A.Services.knows (asked_for (texts_of words.now)))
+        (source_told ⟦<S as Source>⟧ source.old source.new)
+        (sink_told ⟦<E as Sink>⟧ err.old err.new) result }
     // What the services were asked, where the asker tells its calls: all that the answer takes, in the order of one worker, and
-    // no more, whether or not it was written; nothing for a refusal.
-    ensures asked { IsAsked (asks_to A.Services.gives A.Services.knows (asked_for (texts_of words.now)))
-        (record { left = S.left source.old; left_after = S.left source.new; faults = S.faults source.old; faults_after = S.faults source.new })
+    // no more, whether or not it was written; nothing for a refusal; a beginning of it where memory was wanting.
+    ensures asked { IsAsked (asks_of A.Services.gives A.Services.knows (asked_for (texts_of words.now)))
+        (source_told ⟦<S as Source>⟧ source.old source.new)
         (A.calls asker.old) (A.calls asker.new) result }
-    // Whatever the status, words that give no run ask nothing.
-    ensures unasked { OnlyRunAsks (asked_for (texts_of words.now)) (A.calls asker.old) (A.calls asker.new) }
 {
     let ended = carried_out(alloc, words, source, out, asker);
     match ended {
@@ -72,7 +72,7 @@ pub fn taverna_alone<S: Source, K: Sink, E: Sink, A: Asker>(
 /// Writes the line of a refusal, and gives its status.
 fn told<E: Sink>(refusal: &Refusal, err: &mut E) -> Status
     ensures status { result ≡ refusal_status refusal.now }
-    ensures said { IsReported (record { sent = E.sent err.old; sent_after = E.sent err.new; faults = E.faults err.old; faults_after = E.faults err.new }) (refusal_line refusal.now) }
+    ensures said { IsReported (sink_told ⟦<E as Sink>⟧ err.old err.new) (refusal_line refusal.now) }
 {
     match write_all(err, refusal.line().as_bytes()) {
         Ok(()) => {}
@@ -89,19 +89,18 @@ fn carried_out<S: Source, K: Sink, A: Asker>(
     out: &mut K,
     asker: &mut A,
 ) -> Result<(), Refusal>
-    ensures cause { Cause (answer_to A.Services.gives A.Services.knows (asked_for (texts_of words.now)))
-        (record { left = S.left source.old; left_after = S.left source.new; faults = S.faults source.old; faults_after = S.faults source.new })
-        (record { sent = K.sent out.old; sent_after = K.sent out.new; faults = K.faults out.old; faults_after = K.faults out.new }) (ended result) }
-    ensures line { IfErr result (λ r. IsLine (answer_to A.Services.gives A.Services.knows (asked_for (texts_of words.now)))
-        (record { left = S.left source.old; left_after = S.left source.new; faults = S.faults source.old; faults_after = S.faults source.new }) (refusal_status r) (refusal_line r)) }
+    ensures cause { Cause (answer_of A.Services.gives A.Services.knows (asked_for (texts_of words.now)))
+        (source_told ⟦<S as Source>⟧ source.old source.new)
+        (sink_told ⟦<K as Sink>⟧ out.old out.new) (ended result) }
+    ensures line { IfErr result (λ r. IsLine (answer_of A.Services.gives A.Services.knows (asked_for (texts_of words.now)))
+        (source_told ⟦<S as Source>⟧ source.old source.new) (refusal_status r) (refusal_line r)) }
     ensures usage { (ended result ≡ Status.Usage) ↔ (asked_for (texts_of words.now) ≡ None) }
     ensures taken { TakesAtMost (byte_limit + 1) (S.left source.old) (S.left source.new) }
     ensures unread { ended result ≡ Status.Usage → source.new ≡ source.old }
     ensures silent { ended result ≢ Status.Done → ended result ≢ Status.WriteFault → out.new ≡ out.old }
-    ensures asked { IsAsked (asks_to A.Services.gives A.Services.knows (asked_for (texts_of words.now)))
-        (record { left = S.left source.old; left_after = S.left source.new; faults = S.faults source.old; faults_after = S.faults source.new })
+    ensures asked { IsAsked (asks_of A.Services.gives A.Services.knows (asked_for (texts_of words.now)))
+        (source_told ⟦<S as Source>⟧ source.old source.new)
         (A.calls asker.old) (A.calls asker.new) (ended result) }
-    ensures unasked { OnlyRunAsks (asked_for (texts_of words.now)) (A.calls asker.old) (A.calls asker.new) }
 {
     let text = answered(alloc, words, source, asker)?;
     match write_all(out, text.as_str().as_bytes()) {
@@ -117,15 +116,14 @@ fn answered<S: Source, A: Asker>(
     source: &mut S,
     asker: &mut A,
 ) -> Result<Text, Refusal>
-    ensures answer { IsAnswered (answer_to A.Services.gives A.Services.knows (asked_for (texts_of words.now)))
-        (record { left = S.left source.old; left_after = S.left source.new; faults = S.faults source.old; faults_after = S.faults source.new }) result }
+    ensures answer { IsAnswered (answer_of A.Services.gives A.Services.knows (asked_for (texts_of words.now)))
+        (source_told ⟦<S as Source>⟧ source.old source.new) result }
     ensures usage { (ended result ≡ Status.Usage) ↔ (asked_for (texts_of words.now) ≡ None) }
     ensures taken { TakesAtMost (byte_limit + 1) (S.left source.old) (S.left source.new) }
     ensures unread { ended result ≡ Status.Usage → source.new ≡ source.old }
-    ensures asked { IsAskedFor (asks_to A.Services.gives A.Services.knows (asked_for (texts_of words.now)))
-        (record { left = S.left source.old; left_after = S.left source.new; faults = S.faults source.old; faults_after = S.faults source.new })
+    ensures asked { IsAskedFor (asks_of A.Services.gives A.Services.knows (asked_for (texts_of words.now)))
+        (source_told ⟦<S as Source>⟧ source.old source.new)
         (A.calls asker.old) (A.calls asker.new) result }
-    ensures unasked { OnlyRunAsks (asked_for (texts_of words.now)) (A.calls asker.old) (A.calls asker.new) }
 {
     match command_of(words) {
         Some(command) => read_and_answered(alloc, command, source, asker),
@@ -133,23 +131,32 @@ fn answered<S: Source, A: Asker>(
     }
 }
 
+/// The document is read and checked before the first service is asked.
 fn read_and_answered<S: Source, A: Asker>(
     alloc: Global,
     command: Command,
     source: &mut S,
     asker: &mut A,
 ) -> Result<Text, Refusal>
-    ensures answer { IsAnswered (answer_to_bytes A.Services.gives A.Services.knows (command_view command))
-        (record { left = S.left source.old; left_after = S.left source.new; faults = S.faults source.old; faults_after = S.faults source.new }) result }
+    ensures answer { IsAnswered (answer_of A.Services.gives A.Services.knows (Some (command_view command)))
+        (source_told ⟦<S as Source>⟧ source.old source.new) result }
     ensures taken { TakesAtMost (byte_limit + 1) (S.left source.old) (S.left source.new) }
     ensures command { ended result ≢ Status.Usage }
-    ensures asked { IsAskedFor (asks_to_bytes A.Services.gives A.Services.knows (command_view command))
-        (record { left = S.left source.old; left_after = S.left source.new; faults = S.faults source.old; faults_after = S.faults source.new })
-        (A.calls asker.old) (A.calls asker.new) result }
-    ensures unasked { OnlyRunAsks (Some (command_view command)) (A.calls asker.old) (A.calls asker.new) }
+    ensures asked { IsAskedFor (asks_of A.Services.gives A.Services.knows (Some (command_view command)))
+        (source_told ⟦<S as Source>⟧ source.old source.new) (A.calls asker.old) (A.calls asker.new) result }
+{
+    let run = run_read::<S, A::Services>(alloc, source)?;
+    answer(alloc, command, run, asker)
+}
+
+/// Reads a document to its end, and checks it.
+fn run_read<S: Source, V: Services>(alloc: Global, source: &mut S) -> Result<CheckedRun, Refusal>
+    ensures read { IsRead (reading_of V.knows) (source_told ⟦<S as Source>⟧ source.old source.new) result }
+    ensures taken { TakesAtMost (byte_limit + 1) (S.left source.old) (S.left source.new) }
+    ensures command { ended result ≢ Status.Usage }
 {
     match read_all(alloc, source, BYTE_LIMIT) {
-        Ok(bytes) => answer_to_bytes(alloc, command, bytes, asker),
+        Ok(bytes) => checked_run::<V>(alloc, bytes),
         Err(ReadAllFault::ReadFault) => Err(Refusal::Plain(Status::ReadFault)),
         Err(ReadAllFault::TooLong) => Err(Refusal::Plain(Status::TooLong)),
         Err(ReadAllFault::NoMemory) => Err(Refusal::Plain(Status::NoMemory)),
@@ -175,24 +182,23 @@ pub fn taverna<
     _gate: &G,
     asker: &mut A,
 ) -> Status
-    ensures cause { Cause (answer_to G.Services.gives G.Services.knows (asked_for (texts_of words.now)))
-        (record { left = S.left source.old; left_after = S.left source.new; faults = S.faults source.old; faults_after = S.faults source.new })
-        (record { sent = K.sent out.old; sent_after = K.sent out.new; faults = K.faults out.old; faults_after = K.faults out.new }) result }
-    ensures complete { IsComplete (answer_to G.Services.gives G.Services.knows (asked_for (texts_of words.now)))
-        (record { left = S.left source.old; left_after = S.left source.new; faults = S.faults source.old; faults_after = S.faults source.new })
-        (record { sent = K.sent out.old; sent_after = K.sent out.new; faults = K.faults out.old; faults_after = K.faults out.new }) result }
+    ensures cause { Cause (answer_of G.Services.gives G.Services.knows (asked_for (texts_of words.now)))
+        (source_told ⟦<S as Source>⟧ source.old source.new)
+        (sink_told ⟦<K as Sink>⟧ out.old out.new) result }
+    ensures complete { IsComplete (answer_of G.Services.gives G.Services.knows (asked_for (texts_of words.now)))
+        (source_told ⟦<S as Source>⟧ source.old source.new)
+        (sink_told ⟦<K as Sink>⟧ out.old out.new) result }
     ensures usage { (result ≡ Status.Usage) ↔ (asked_for (texts_of words.now) ≡ None) }
     ensures taken { TakesAtMost (byte_limit + 1) (S.left source.old) (S.left source.new) }
     ensures unread { result ≡ Status.Usage → source.new ≡ source.old }
     ensures silent { result ≢ Status.Done → result ≢ Status.WriteFault → out.new ≡ out.old }
     ensures unsaid { result ≡ Status.Done → err.new ≡ err.old }
-    ensures said { result ≢ Status.Done → IsSaid (answer_to G.Services.gives G.Services.knows (asked_for (texts_of words.now)))
-        (record { left = S.left source.old; left_after = S.left source.new; faults = S.faults source.old; faults_after = S.faults source.new })
-        (record { sent = E.sent err.old; sent_after = E.sent err.new; faults = E.faults err.old; faults_after = E.faults err.new }) result }
-    ensures asked { IsAsked (asks_to G.Services.gives G.Services.knows (asked_for (texts_of words.now)))
-        (record { left = S.left source.old; left_after = S.left source.new; faults = S.faults source.old; faults_after = S.faults source.new })
+    ensures said { result ≢ Status.Done → IsSaid (answer_of G.Services.gives G.Services.knows (asked_for (texts_of words.now)))
+        (source_told ⟦<S as Source>⟧ source.old source.new)
+        (sink_told ⟦<E as Sink>⟧ err.old err.new) result }
+    ensures asked { IsAsked (asks_of G.Services.gives G.Services.knows (asked_for (texts_of words.now)))
+        (source_told ⟦<S as Source>⟧ source.old source.new)
         (A.calls asker.old) (A.calls asker.new) result }
-    ensures unasked { OnlyRunAsks (asked_for (texts_of words.now)) (A.calls asker.old) (A.calls asker.new) }
 {
     taverna_alone(alloc, words, source, out, err, asker)
 }

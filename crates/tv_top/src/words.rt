@@ -11,6 +11,8 @@ pub(crate) enum Command {
     Run,
     /// Read a document, check it, and write the depths.
     Check,
+    /// Read a document, run it, and write which jobs asked how often.
+    Trace,
 }
 
 /// The command that the words give, or `None` where they give none.
@@ -30,6 +32,8 @@ fn command_of_word(word: &str) -> Option<Command>
         Some(Command::Run)
     } else if word == "check" {
         Some(Command::Check)
+    } else if word == "trace" {
+        Some(Command::Trace)
     } else {
         None
     }

@@ -10,4 +10,6 @@ pub mod OfByOne
 pub mod OfAsked
 pub mod OfAnswers
 pub mod OfTries
+pub mod OfStarts
 pub mod OfOrders
+pub mod OfReadings

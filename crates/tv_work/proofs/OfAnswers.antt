@@ -25,7 +25,7 @@ use Rattle.tv_board.specs.Answers.{Question}
 use Rattle.tv_board.specs.Calls.{IsTask, job_of, try_out}
 use Rattle.tv_board.specs.Refusals.{accepts}
 use Rattle.tv_board.specs.Runs.{Appends, IsLegalRun, Run, meant, past_of}
-use Rattle.tv_work.specs.Asked.{AsksEach, accepted_tries, call_of}
+use Rattle.tv_work.specs.Asked.{AsksEach, accepted_tries, call_for, call_of}
 use Rattle.tv_work.proofs.OfAsked.{tries-after}
 use Rattle.tv_work.proofs.OfNames.{one-newer}
 use Rattle.tv_work.proofs.OfRuns.{jobs-of, name-kept}
@@ -78,6 +78,49 @@ left-in (e ∷ past) n asks a i = by (is_accepted n e) i (λ k. left-in past n a
     by true k rec = rec (rest-in a (asks_left past n asks) k)
     by false k rec = rec k
 
+-- ---- a task
+
+-- the job of a task's try, which is out
+pub record IsTryOf (gives : Giving) (s : Run) (q : Question) (a : Ask) : Type 0 where
+  pub job : Job
+  pub name : JobName
+  pub number : slice_get s.names q.ticket.job ≡ Some name
+  pub named : name ≡ job.name
+  pub among : In job (meant gives s).jobs
+  pub out : is_out (past_of s) job.name ≡ true
+  pub next : next_ask gives (meant gives s) (past_of s) job ≡ Some a
+  pub its_own : In a job.asks
+  pub activity : q.ticket.activity ≡ a.activity
+  pub attempt : q.ticket.attempt ≡ a.attempt
+
+module _ (gives : Giving) (s : Run) (q : Question) (task : IsTask gives s q) where
+  abbrev is_it : Job → Bool
+  is_it j = option_map_or (is_ask gives (meant gives s) q.ticket.activity q.ticket.attempt) (next_ask gives (meant gives s) (past_of s) j) false
+
+  pub try-of : IsTryOf gives s q task.asked
+  try-of =
+      let j = some-of (try_out gives (meant gives s) (past_of s) q.ticket.activity q.ticket.attempt) (job_of gives s q.ticket.job) task.asked task.out in
+      let n = some-of (λ n. find (λ (k : Job). same_job n k.name) (meant gives s).jobs) (slice_get s.names q.ticket.job) j.0 j.1 in
+      let found = find-in (λ (k : Job). same_job n.0 k.name) j.0 (meant gives s).jobs n.2 in
+      let tried = some-if (is_out (past_of s) j.0.name && is_it j.0) (next_ask gives (meant gives s) (past_of s) j.0) task.asked j.2 in
+      let same = subst (λ o. option_map_or (is_ask gives (meant gives s) q.ticket.activity q.ticket.attempt) o false ≡ true) tried.1 (right_true (is_out (past_of s) j.0.name) (is_it j.0) tried.0) in
+      record {
+        job = j.0;
+        name = n.0;
+        number = n.1;
+        named = (same_job_decides n.0 j.0.name).0 found.1;
+        among = found.0;
+        out = left_true (is_out (past_of s) j.0.name) (is_it j.0) tried.0;
+        next = tried.1;
+        its_own = left-in (past_of s) j.0.name j.0.asks task.asked (first-in task.asked (asks_left (past_of s) j.0.name j.0.asks) tried.1);
+        activity = eqb-true q.ticket.activity task.asked.activity (left_true (q.ticket.activity == task.asked.activity) (q.ticket.attempt == task.asked.attempt) same);
+        attempt = eqb-true q.ticket.attempt task.asked.attempt (right_true (q.ticket.activity == task.asked.activity) (q.ticket.attempt == task.asked.attempt) same);
+      }
+
+  -- its call is that of the ask
+  pub same-call : call_for q ≡ call_of (try-of.job.name, task.asked)
+  same-call = λ i. record { service = task.service i; inputs = task.inputs i; attempt = try-of.attempt i }
+
 -- ---- an acceptance
 
 module _ (gives : Giving) (m : Meaning) (are : AreJobs gives m) (past : History) where
@@ -105,27 +148,15 @@ module _ (gives : Giving) (m : Meaning) (are : AreJobs gives m) (past : History)
       same false false h = refl
 
 module _ (gives : Giving) (s u : Run) (q : Question) (right : Bool) (l : IsLegalRun gives s) (lu : IsLegalRun gives u) (task : IsTask gives s q) (a : Appends s u (accepts q.ticket right)) where
-  -- the name of the ticket's job, the job, and its ask
-  its-name : (n : JobName) × (slice_get s.names q.ticket.job ≡ Some n) × (find (λ (j : Job). same_job n j.name) (meant gives s).jobs ≡ job_of gives s q.ticket.job)
-  its-name =
-      let j = some-of (try_out gives (meant gives s) (past_of s) q.ticket.activity q.ticket.attempt) (job_of gives s q.ticket.job) task.asked task.out in
-      let n = some-of (λ n. find (λ (k : Job). same_job n k.name) (meant gives s).jobs) (slice_get s.names q.ticket.job) j.0 j.1 in
-      (n.0, n.1, n.2 ∙ sym j.1)
+  abbrev its : IsTryOf gives s q task.asked
+  its = try-of gives s q task
 
-  its-job : (j : Job) × (job_of gives s q.ticket.job ≡ Some j) × (next_ask gives (meant gives s) (past_of s) j ≡ Some task.asked)
-  its-job =
-      let j = some-of (try_out gives (meant gives s) (past_of s) q.ticket.activity q.ticket.attempt) (job_of gives s q.ticket.job) task.asked task.out in
-      (j.0, j.1, (some-if (is_out (past_of s) j.0.name && option_map_or (is_ask gives (meant gives s) q.ticket.activity q.ticket.attempt) (next_ask gives (meant gives s) (past_of s) j.0) false) (next_ask gives (meant gives s) (past_of s) j.0) task.asked j.2).1)
-
-  found-job : In its-job.0 (meant gives s).jobs × (same_job its-name.0 its-job.0.name ≡ true)
-  found-job = find-in (λ (k : Job). same_job its-name.0 k.name) its-job.0 (meant gives s).jobs (its-name.2 ∙ its-job.1)
-
-  named-so : name_at u.names q.ticket.job ≡ its-job.0.name
+  named-so : name_at u.names q.ticket.job ≡ its.job.name
   named-so =
       ap (λ ns. name_at ns q.ticket.job) a.names
-      ∙ name-kept s.names a.more q.ticket.job (lt-ltb q.ticket.job (length s.names) (below-length s.names q.ticket.job its-name.0 its-name.1))
-      ∙ ap (λ o. unwrap_or o []) its-name.1
-      ∙ (same_job_decides its-name.0 its-job.0.name).0 found-job.1
+      ∙ name-kept s.names a.more q.ticket.job (lt-ltb q.ticket.job (length s.names) (below-length s.names q.ticket.job its.name its.number))
+      ∙ ap (λ o. unwrap_or o []) its.number
+      ∙ its.named
 
   was-legal : is_legal_after gives (meant gives s) (past_of s) (history.accepted (name_at u.names q.ticket.job) q.ticket.activity q.ticket.attempt right) ≡ true
   was-legal = by (meant gives u) (meant gives s) (past_of u) (past_of s) (history.accepted (name_at u.names q.ticket.job) q.ticket.activity q.ticket.attempt right) (ap (meaning gives) a.document) (one-newer gives s u (accepts q.ticket right) l a) lu.legal
@@ -134,19 +165,16 @@ module _ (gives : Giving) (s u : Run) (q : Question) (right : Bool) (l : IsLegal
       by m k now past e p w h = right_true (is_legal gives k past) (is_legal_after gives k past e) (sym (λ i. is_legal gives (p i) (w i)) ∙ h)
 
   its-key : (q.ticket.activity, q.ticket.attempt, right) ≡ key_of gives task.asked
-  its-key = right-as gives (meant gives s) (jobs-of gives s.document) (past_of s) (name_at u.names q.ticket.job) q.ticket.activity q.ticket.attempt right was-legal its-job.0 found-job.0 named-so task.asked its-job.2
+  its-key = right-as gives (meant gives s) (jobs-of gives s.document) (past_of s) (name_at u.names q.ticket.job) q.ticket.activity q.ticket.attempt right was-legal its.job its.among named-so task.asked its.next
 
-  same-call : record { service = q.service; inputs = q.inputs; attempt = q.ticket.attempt } ≡ call_of (its-job.0.name, task.asked)
-  same-call = λ i. record { service = task.service i; inputs = task.inputs i; attempt = (its-key i).1 }
-
-  pub asks-one : (x y : Option (List Call)) → IsCalled x y (record { service = q.service; inputs = q.inputs; attempt = q.ticket.attempt }) → AsksEach gives x y s u
+  pub asks-one : (x y : Option (List Call)) → IsCalled x y (call_for q) → AsksEach gives x y s u
   asks-one x y h calls b = (
-    (its-job.0.name, task.asked) ∷ [],
-    h calls b ∙ ap (λ c. Some (calls ++ c ∷ [])) same-call,
+    (its.job.name, task.asked) ∷ [],
+    h calls b ∙ ap (λ c. Some (calls ++ c ∷ [])) (same-call gives s q task),
     tries-after gives s u (accepts q.ticket right) l a ∙ (λ i. accepted_tries s ++ (named-so i, its-key i) ∷ []),
     λ p i. by p i,
   )
     where
-      by : (p : JobName × Ask) → In p ((its-job.0.name, task.asked) ∷ []) → (j : Job) × In j (meant gives s).jobs × (p.0 ≡ j.name) × In p.1 j.asks
-      by p (inl e) = (its-job.0, found-job.0, ap (λ k. k.0) e, subst (λ z. In z its-job.0.asks) (sym (ap (λ k. k.1) e)) (left-in (past_of s) its-job.0.name its-job.0.asks task.asked (first-in task.asked (asks_left (past_of s) its-job.0.name its-job.0.asks) its-job.2)))
+      by : (p : JobName × Ask) → In p ((its.job.name, task.asked) ∷ []) → (j : Job) × In j (meant gives s).jobs × (p.0 ≡ j.name) × In p.1 j.asks
+      by p (inl e) = (its.job, its.among, ap (λ k. k.0) e, subst (λ z. In z its.job.asks) (sym (ap (λ k. k.1) e)) its.its_own)
       by p (inr e) = absurd e

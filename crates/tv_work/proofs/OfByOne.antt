@@ -43,7 +43,7 @@ none-passes p xs f = by (list_any p xs) refl
     by false e = e
     by true e = let r = some_in p xs e in absurd (f r.0 r.1 r.2)
 
-all-fail : {A : Type 0} (p : A → Bool) (xs : List A) → ((x : A) → In x xs → p x ≡ false) → list_all (λ x. not (p x)) xs ≡ true
+pub all-fail : {A : Type 0} (p : A → Bool) (xs : List A) → ((x : A) → In x xs → p x ≡ false) → list_all (λ x. not (p x)) xs ≡ true
 all-fail p [] f = refl
 all-fail p (x ∷ xs) f = both_true (not (p x)) (list_all (λ y. not (p y)) xs) (ap not (f x (inl refl))) (all-fail p xs (λ y i. f y (inr i)))
 

@@ -27,7 +27,7 @@ use Rattle.tv_work.proofs.OfRuns.{before, jobs-of, name-kept, newest, no-passes,
 
 -- ---- what is found
 
-find-it : {A : Type 0} (p : A → Bool) (x : A) (xs : List A) → In x xs → p x ≡ true → ((y : A) → In y xs → p y ≡ true → y ≡ x) → find p xs ≡ Some x
+pub find-it : {A : Type 0} (p : A → Bool) (x : A) (xs : List A) → In x xs → p x ≡ true → ((y : A) → In y xs → p y ≡ true → y ≡ x) → find p xs ≡ Some x
 find-it p x [] i h one = absurd i
 find-it {A = A} p x (y ∷ ys) i h one = by (p y) refl i (λ k. find-it p x ys k h (λ z j g. one z (inr j) g))
   where

@@ -8,6 +8,7 @@ use Rattle.tv_flow.specs.Flows.{Document}
 use Rattle.tv_model.specs.Jobs.{Job}
 use Rattle.tv_model.specs.Meanings.{meaning}
 use Rattle.tv_model.specs.Members.{In}
+use Rattle.tv_history.specs.Alone.{IsFirstPart}
 use Rattle.tv_history.specs.Tries.{NamedTry, all_tries, ask_try}
 use Rattle.tv_board.specs.Answers.{Question}
 use Rattle.tv_board.specs.Calls.{IsTask}
@@ -42,3 +43,8 @@ AsksAtMostOneMore gives before after r s =
 -- the calls of the order of one worker, in that order, and no others
 abbrev pub AsksInOrder : Giving → Document → Option (List Call) → Option (List Call) → Type 0
 AsksInOrder gives d before after = (calls : List Call) → before ≡ Some calls → after ≡ Some (calls ++ map call_of (meaning gives d).order)
+
+-- the first calls of that order, as many as there are, and no others
+abbrev pub AsksABeginning : Giving → Document → Option (List Call) → Option (List Call) → Type 0
+AsksABeginning gives d before after =
+    (calls : List Call) → before ≡ Some calls → (asked : List Call) × (after ≡ Some (calls ++ asked)) × IsFirstPart asked (map call_of (meaning gives d).order)

@@ -1,6 +1,7 @@
 pub mod Progress
 pub mod Working
 pub mod Asked
+pub mod InOrder
 pub mod ByOne
 pub mod Wants
 pub mod Ran

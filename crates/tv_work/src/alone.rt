@@ -3,8 +3,9 @@ ghost use Rattle.std.specs.Prelude.{◌≡◌, ◌≤◌, IfOk, OnErr, OnOk, tru
 ghost use Rattle.tv_board.specs.Calls.{NothingSettles, out_count};
 ghost use Rattle.tv_board.specs.Runs.{IsLegalRun};
 ghost use Rattle.tv_board.specs.Settlements.{IsSettling};
-ghost use Rattle.tv_work.specs.Asked.{AsksAtMostOneMore, AsksEach, accepted_tries};
+ghost use Rattle.tv_work.specs.Asked.{AsksABeginning, AsksAtMostOneMore, AsksEach, AsksInOrder, accepted_tries};
 ghost use Rattle.tv_work.specs.ByOne.{StaysByOne};
+ghost use Rattle.tv_work.specs.InOrder.{AcceptsABeginning, AcceptsInOrder, HasOnlySettled};
 ghost use Rattle.tv_work.specs.Wants.{IsNoRoom, IsNoTask};
 ghost use Rattle.tv_work.specs.Working.{GoesOn, IsFree, IsOnlyOut, IsTurn, IsWorkedOff};
 
@@ -18,8 +19,9 @@ use tv_value::NoMemory;
 ///
 /// It makes one call of the asker for each try whose outcome it has accepted, in that order, so as many as tries are left; after
 /// `Err` the answer to one more, which is still out, may be lost. Where the history so far is that of one worker it stays so: a
-/// try is handed out only where nothing can be settled and none is out, and none is taken back. The cost is that of the board's
-/// calls: each reads the whole history and, with each outcome, works the meaning out anew.
+/// try is handed out only where nothing can be settled and none is out, and none is taken back. So from a board that has only
+/// settled things it asks, and accepts, in the order of one worker: the whole of it, or after `Err` a beginning. The cost is that
+/// of the board's calls: each reads the whole history and, with each outcome, works the meaning out anew.
 pub fn run_alone<V: Services, A: Asker<Services = V>>(
     alloc: Global,
     board: &mut Board<V>,
@@ -33,6 +35,10 @@ pub fn run_alone<V: Services, A: Asker<Services = V>>(
     ensures asked { OnOk result (AsksEach V.gives (A.calls asker.old) (A.calls asker.new) board.old board.new) }
     ensures lost { OnErr result (AsksAtMostOneMore V.gives (A.calls asker.old) (A.calls asker.new) board.old board.new) }
     ensures by_one { StaysByOne V.gives board.old board.new }
+    ensures in_order { OnOk result (HasOnlySettled board.old → AsksInOrder V.gives board.old.document (A.calls asker.old) (A.calls asker.new)) }
+    ensures beginning { OnErr result (HasOnlySettled board.old → AsksABeginning V.gives board.old.document (A.calls asker.old) (A.calls asker.new)) }
+    ensures accepted_in_order { OnOk result (HasOnlySettled board.old → AcceptsInOrder V.gives board.new) }
+    ensures accepted_beginning { OnErr result (HasOnlySettled board.old → AcceptsABeginning V.gives board.new) }
 {
     board.is_lawful();
     'turns: while turn(alloc, board, asker)? {}

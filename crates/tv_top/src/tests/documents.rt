@@ -159,9 +159,19 @@ fn worked_documents_end_so(rt: HostRuntime) -> Result<(), Fail> {
             "{\"x\":1,\"y\":1}",
             "{\"x\":[\"a\",\"b\"],\"y\":[\"1\",\"2\"]}",
             "run",
-            Status::NotBuilt,
+            Status::Done,
+            "{\"outputs\":{\"out\":[[\"a1\",\"a2\"],[\"b1\",\"b2\"]]},\"totals\":{\"attempts\":4,\"bounced\":0,\"failed\":0,\"jobs\":4}}\n",
             "",
-            "taverna: not built\n",
+        ),
+        (
+            FAILURES,
+            "u",
+            "{\"x\":1}",
+            "{\"x\":[\"no\",\"true\",\"no\"]}",
+            "trace",
+            Status::Done,
+            "f[0] 1\nu[0] 1\nf[1] 1\nf[2] 1\nu[2] 1\n",
+            "",
         ),
     ];
     for (index, (steps, last, inputs, values, word, status, out, err)) in table
@@ -175,6 +185,59 @@ fn worked_documents_end_so(rt: HostRuntime) -> Result<(), Fail> {
         let ran = by_gate(&rt, rt.alloc(), &[word], bytes, SOUND)?;
         assert!(rt; ran.is(status, out, err), "by gate: {index}");
     }
+    Ok(())
+}
+
+// One change each of the document of two texts: another flow that nobody opens, a constant, a merge, retries, failover.
+#[test]
+fn changed_documents_run(rt: HostRuntime) -> Result<(), Fail> {
+    let alloc = rt.alloc();
+    let table = [
+        (
+            "\"flows\":{",
+            "\"flows\":{\"n\":{\"outputs\":{}},",
+            "[\"A\",\"B\"]",
+            2,
+        ),
+        ("{\"input\":\"x\"}", "{\"constant\":\"a\"}", "\"A\"", 1),
+        (
+            "{\"input\":\"x\"}",
+            "{\"merge\":[{\"input\":\"x\"}]}",
+            "[[\"A\",\"B\"]]",
+            2,
+        ),
+        (
+            "[{\"service\"",
+            "[{\"service\":\"upper\"},{\"service\"",
+            "[\"A\",\"B\"]",
+            2,
+        ),
+    ];
+    for (old, new, value, jobs) in table {
+        let text = changed(alloc, old, new)?;
+        let line = line_of(alloc, value, jobs)?;
+        let ran = alone(alloc, &["run"], text.as_str().as_bytes(), SOUND)?;
+        assert!(rt; ran.is(Status::Done, line.as_str(), ""), "{new}");
+    }
+    Ok(())
+}
+
+/// A flow that one step opens.
+const NESTED: &str =
+    "{\"taverna\":1,\"main\":\"m\",\"flows\":{\"m\":{\"steps\":{\"n\":{\"activities\":[{\"flow\":\"s\"}]}},\"outputs\":{}},\"s\":{\"outputs\":{}}}}";
+
+// It is checked, and neither run nor traced.
+#[test]
+fn what_opens_a_flow_is_not_built(rt: HostRuntime) -> Result<(), Fail> {
+    for word in ["run", "trace"] {
+        let ran = alone(rt.alloc(), &[word], NESTED.as_bytes(), SOUND)?;
+        assert!(rt;
+            ran.is(Status::NotBuilt, "", "taverna: not built\n"),
+            "{word}"
+        );
+    }
+    let ran = alone(rt.alloc(), &["check"], NESTED.as_bytes(), SOUND)?;
+    assert!(rt; ran.is(Status::Done, "", ""));
     Ok(())
 }
 

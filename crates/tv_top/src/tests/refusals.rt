@@ -23,7 +23,7 @@ fn other_words_are_told_the_usage(rt: HostRuntime) -> Result<(), Fail> {
         &["run", "--of", "out[]"],
         &["--help"],
         &["check", ""],
-        &["trace"],
+        &["trace", ""],
         &["gen", "1"],
         &["lineage", "--of", "out[]"],
     ];
@@ -36,7 +36,7 @@ fn other_words_are_told_the_usage(rt: HostRuntime) -> Result<(), Fail> {
     Ok(())
 }
 
-// One change each of a document that is built: the code of its status, and what is told of the fault.
+// One change each of a document that runs: the code of its status, and what is told of the fault.
 #[test]
 fn changed_documents_end_so(rt: HostRuntime) -> Result<(), Fail> {
     let alloc = rt.alloc();
@@ -180,35 +180,12 @@ fn changed_documents_end_so(rt: HostRuntime) -> Result<(), Fail> {
             7,
             "13 input depth at input x: 2 and 1",
         ),
-        ("\"flows\":{", "\"flows\":{\"n\":{\"outputs\":{}},", 11, ""),
-        ("{\"input\":\"x\"}", "{\"constant\":\"a\"}", 11, ""),
-        (
-            "{\"input\":\"x\"}",
-            "{\"merge\":[{\"input\":\"x\"}]}",
-            11,
-            "",
-        ),
-        ("\"depth\":0", "\"depth\":1", 11, ""),
-        ("\"outputs\":{\"o\":0}", "\"outputs\":{\"o\":1}", 11, ""),
-        (
-            "\"outputs\":{\"o\":0}",
-            "\"retries\":1,\"outputs\":{\"o\":0}",
-            11,
-            "",
-        ),
-        (
-            "[{\"service\"",
-            "[{\"service\":\"upper\"},{\"service\"",
-            11,
-            "",
-        ),
     ];
     for (old, new, code, fault) in table {
         let document = changed(alloc, old, new)?;
         let line = match code {
             6 => format!(in alloc; "taverna: form fault {fault}\n")?,
-            7 => format!(in alloc; "taverna: check fault {fault}\n")?,
-            _ => String::from_str(alloc, "taverna: not built\n")?,
+            _ => format!(in alloc; "taverna: check fault {fault}\n")?,
         };
         let ran = alone(alloc, &["run"], document.as_str().as_bytes(), SOUND)?;
         assert!(rt;

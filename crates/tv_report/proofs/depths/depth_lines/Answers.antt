@@ -1,4 +1,4 @@
-use Rattle.std.proofs.Common.{◌≡◌, ◌<◌, ap, sym, ◌∙◌, length, get_or, subst, string_bytes}
+use Rattle.std.proofs.Common.{◌≡◌, ◌<◌, ap, sym, ◌∙◌, get_or, subst, string_bytes}
 use Rattle.std.proofs.Math.ListN.{get_or-map}
 use Rattle.tv_value.specs.Values.{Name}
 use Rattle.tv_flow.specs.Flows as spec

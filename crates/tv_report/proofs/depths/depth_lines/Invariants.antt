@@ -1,4 +1,4 @@
-use Rattle.std.proofs.Common.{◌≡◌, map, take, string_bytes}
+use Rattle.std.proofs.Common.{◌≡◌, take, string_bytes}
 use Rattle.std.specs.Prelude.{flat_map}
 use Rattle.tv_check.specs.RunViews.{run_view}
 use Rattle.tv_report.specs.DepthLines.{flow_lines}

@@ -1,4 +1,4 @@
-use Rattle.tv_top.proofs.Computed.{runs_one_text, runs_chain, runs_failure, checks_cross, checks_chain}
+use Rattle.tv_top.proofs.Computed.{runs_one_text, runs_chain, runs_failure, checks_cross, checks_chain, runs_cross, traces_attempts, traces_chain, traces_failure}
 use Rattle.tv_top.proofs.laws.worked_texts.Goals as goal
 
 pub returns-clause-one : goal.returns-clause-one
@@ -15,3 +15,15 @@ returns-clause-depths c = checks_cross
 
 pub returns-clause-chain_depths : goal.returns-clause-chain_depths
 returns-clause-chain_depths c = checks_chain
+
+pub returns-clause-cross : goal.returns-clause-cross
+returns-clause-cross c = runs_cross
+
+pub returns-clause-attempts : goal.returns-clause-attempts
+returns-clause-attempts c = traces_attempts
+
+pub returns-clause-chain_trace : goal.returns-clause-chain_trace
+returns-clause-chain_trace c = traces_chain
+
+pub returns-clause-failure_trace : goal.returns-clause-failure_trace
+returns-clause-failure_trace c = traces_failure

@@ -1,9 +1,15 @@
-use Rattle.std.proofs.Common.{ap, sym, refl}
-use Rattle.tv_top.specs.Answers.{answer_to}
+use Rattle.std.proofs.Common.{ap, sym, refl, subst}
+use Rattle.tv_top.specs.Answers.{answer_of}
+use Rattle.tv_top.specs.Asking.{IsAskedFor, asks_of}
+use Rattle.tv_top.specs.Headline.{source_told}
 use Rattle.tv_top.specs.Lines.{fault_line}
 use Rattle.tv_top.specs.declared.status.Status.TheVariants.{Usage}
 use Rattle.tv_top.proofs.top.answered.Goals as goal
 
 pub returns-in-None-clause-answer : goal.returns-in-None-clause-answer
 returns-in-None-clause-answer g c =
-    (λ bytes e. (fault_line Usage, ap (λ o. answer_to g.A.Services.Services.gives g.A.Services.Services.knows o bytes) (sym c.in-None.ensures)), refl)
+    (λ bytes e. (fault_line Usage, ap (λ o. answer_of g.A.Services.Services.gives g.A.Services.Services.knows o bytes) (sym c.in-None.ensures)), refl)
+
+pub returns-in-Some-clause-asked : goal.returns-in-Some-clause-asked
+returns-in-Some-clause-asked g c =
+    subst (λ o. IsAskedFor (asks_of g.A.Services.Services.gives g.A.Services.Services.knows o) (source_told g.S.Source c.args.source.now c.read_and_answered.new.source) (g.A.Asker.calls c.args.asker.now) (g.A.Asker.calls c.read_and_answered.new.asker) c.read_and_answered.result) c.in-Some.ensures c.read_and_answered.ensures.asked

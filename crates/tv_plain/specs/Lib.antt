@@ -1,6 +1,0 @@
-pub mod Chains
-pub mod Recursion
-pub mod Answering
-pub mod Keeping
-pub mod Stated
-pub mod Ran

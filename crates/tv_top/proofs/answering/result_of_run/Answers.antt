@@ -1,0 +1,23 @@
+use Rattle.std.proofs.Common.{ap, map, ◌∙◌}
+use Rattle.tv_check.specs.RunViews.{run_view}
+use Rattle.tv_model.specs.Meanings.{meaning}
+use Rattle.tv_model.specs.TotalsViews.{totals_view}
+use Rattle.tv_report.specs.ResultLines.{line_of_result}
+use Rattle.tv_top.proofs.Plainly.{line-plain}
+use Rattle.tv_work.specs.Asked.{call_of}
+use Rattle.tv_work.proofs.OfAsked.{on-err}
+use Rattle.tv_top.proofs.Questions.{all-begin}
+use Rattle.tv_top.proofs.answering.result_of_run.Goals as goal
+
+pub returns-clause-line : goal.returns-clause-line
+returns-clause-line g c =
+    let m = meaning g.A.Services.Services.gives (run_view c.args.run) in
+    c.in_ok-line.ensures
+    ∙ ap (λ os. line_of_result os (totals_view c.in_ok-outputs.totals)) c.in_ok-outputs.ensures.run.0
+    ∙ line-plain m.outputs (totals_view c.in_ok-outputs.totals)
+    ∙ ap (line_of_result m.outputs) c.in_ok-outputs.ensures.run.1
+
+-- all was asked, and the text found no memory
+pub returns-in_err-line-clause-begun : goal.returns-in_err-line-clause-begun
+returns-in_err-line-clause-begun g c =
+    on-err c.from_residual-in_err-line.result (all-begin (g.A.Asker.calls c.args.asker.now) (g.A.Asker.calls c.run_whole.new.asker) (map call_of (meaning g.A.Services.Services.gives (run_view c.args.run)).order) c.in_ok-outputs.ensures.asked)
