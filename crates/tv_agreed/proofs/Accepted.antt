@@ -1,5 +1,5 @@
 -- An accepted document agrees in its depths.
-use Rattle.std.specs.Prelude.{◌≡◌, refl, ℕ, zero, suc, ◌+◌, ◌-◌, ◌<◌, ◌≤◌, ◌^◌, List, [], ◌∷◌, ◌++◌, map, length, find, filter, flat_map, filter_map, Bool, true, false, not, ◌&&◌, ◌||◌, ◌==◌, nat_lt, nat_le, count_by, Option, Some, None, is_some, unwrap_or, if◌then◌else◌}
+use Rattle.std.specs.Prelude.{◌≡◌, refl, ℕ, zero, suc, ◌+◌, ◌<◌, ◌≤◌, ◌^◌, List, [], ◌∷◌, ◌++◌, map, length, find, filter, flat_map, filter_map, Bool, true, false, not, ◌&&◌, ◌||◌, ◌==◌, nat_lt, count_by, Option, Some, None, is_some, unwrap_or, if◌then◌else◌}
 use Rattle.std.specs.List.{list_all, list_any}
 use Rattle.std.specs.Option.{option_map_or, is_none}
 use Rattle.std.proofs.Common.{arith, sym, ap, subst, ◌∙◌, cond, eqb-true}
@@ -14,27 +14,27 @@ use Rattle.tv_value.specs.Orders.{same_name, named}
 use Rattle.tv_value.specs.Activities.{Activity, service, nested}
 use Rattle.tv_value.specs.Strategies.{Strategy, port, cross, dot, Strategies, no_strategies, strategy}
 use Rattle.tv_value.proofs.OfDepths.{test-decides}
-use Rattle.tv_flow.specs.Flows.{Link, Feed, link, merge, constant, StepInput, Step, Flow, Document}
+use Rattle.tv_flow.specs.Flows.{Feed, link, merge, constant, StepInput, Step, Flow, Document}
 use Rattle.tv_flow.specs.Forms.{is_name}
-use Rattle.tv_flow.specs.Formed.{is_ascending, is_value, is_feed, is_depth, is_step_input, is_step, is_flow, is_formed}
-use Rattle.tv_strategy.specs.Measures.{Difference, first_difference, strategy_depth, DotsAgree, leaf_names, all_leaf_names}
+use Rattle.tv_flow.specs.Formed.{is_value, is_feed, is_depth, is_step_input, is_step, is_flow, is_formed}
+use Rattle.tv_strategy.specs.Measures.{Difference, first_difference, strategy_depth, leaf_names, all_leaf_names}
 use Rattle.tv_strategy.proofs.OfLaws.{agree-exactly}
-use Rattle.tv_naming.specs.Faulty.{Where, Complaint, plainly, with_numbers, too_deep, no_such_flow, at_main, at_flow, merge_depths, dot_depths, nested_ports, input_missing, input_unknown, input_depth, at_given, at_input, at_step, at_output, at_activity, at_flow_output, first_of}
-use Rattle.tv_naming.specs.Naming.{has_name, complain_if, fits_ports, are_the_same, numbered, naming_complaints}
-use Rattle.tv_naming.specs.Inputs.{main_inputs, missing_against, unknown_against, depth_against, given_against, given_complaints}
+use Rattle.tv_naming.specs.Faulty.{Where, Complaint, plainly, with_numbers, too_deep, no_such_flow, at_main, at_flow, merge_depths, input_depth, at_given, at_input, at_step, at_output, at_flow_output, first_of}
+use Rattle.tv_naming.specs.Naming.{has_name, complain_if, fits_ports, numbered, naming_complaints}
+use Rattle.tv_naming.specs.Inputs.{missing_against, unknown_against, depth_against, given_against, given_complaints}
 use Rattle.tv_naming.proofs.OfLists.{both, Each, map-map}
-use Rattle.tv_naming.proofs.ByPosition.{names_of, same_name-is}
-use Rattle.tv_naming.proofs.OfForms.{flows-named, steps-named}
-use Rattle.tv_naming.proofs.FormedParts.{all-pass, ascending, named-passes, document-flows, flow-inputs, flow-steps, flow-outputs, step-inputs}
+use Rattle.tv_naming.proofs.ByPosition.{same_name-is}
+use Rattle.tv_naming.proofs.OfForms.{flows-named}
+use Rattle.tv_naming.proofs.FormedParts.{all-pass, ascending, document-flows, flow-inputs, flow-steps, flow-outputs, step-inputs}
 use Rattle.tv_depths.specs.Ranks.{ranked}
 use Rattle.tv_depths.specs.Steps.{strategy_of, ports_of, declared_depths}
 use Rattle.tv_depths.specs.CheckedDepths.{StepDepths, link_depth, feed_depth, port_depth, step_depths, flow_depths, output_depths, measured_outputs}
 use Rattle.tv_depths.specs.Cycles.{nesting, opened_flow, opened_flows, cycle_complaints, nesting_complaints, link_cycle_complaints, nesting_limit}
-use Rattle.tv_depths.specs.Depthwise.{past_limit, merge_difference, feed_depths, fed_complaints, same_ports, fits_flow, nested_complaints, dot_complaints, step_complaints, steps_complaints, flow_complaints, by_nesting, depth_complaints}
+use Rattle.tv_depths.specs.Depthwise.{past_limit, merge_difference, fed_complaints, same_ports, fits_flow, nested_complaints, dot_complaints, step_complaints, steps_complaints, flow_complaints, by_nesting, depth_complaints}
 use Rattle.tv_depths.specs.Measured.{flow_nesting, opens_lower}
 use Rattle.tv_depths.specs.Tables.{has_fitting}
 use Rattle.tv_check.specs.Passes.{complaints, checked}
-use Rattle.tv_check.specs.Plans.{is_accepted, IsAccepted}
+use Rattle.tv_check.specs.Plans.{IsAccepted}
 use Rattle.tv_check.specs.NamedGraphs.{leads_inside, links_inside}
 use Rattle.tv_check.proofs.Accepting.{first-none}
 use Rattle.tv_check.proofs.Inside.{nil-parts, nil-each, each-all, each-by, silent, names-inside}

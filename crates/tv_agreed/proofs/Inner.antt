@@ -1,5 +1,5 @@
 -- What a job hands to the flow that it opens has the depths of this flow's inputs.
-use Rattle.std.specs.Prelude.{◌≡◌, refl, ℕ, zero, suc, List, [], ◌∷◌, Bool, true, false, map, Option, Some, None, unwrap_or, if◌then◌else◌}
+use Rattle.std.specs.Prelude.{◌≡◌, ℕ, zero, suc, List, [], ◌∷◌, Bool, true, false, map, Some, unwrap_or, if◌then◌else◌}
 use Rattle.std.proofs.Common.{sym, ap, subst}
 use Rattle.tv_value.specs.Activities.{Activity, nested, service}
 use Rattle.tv_value.specs.Nested.{leaf, list, map_trees, no_trees, tree, Trees}

@@ -15,7 +15,7 @@ use Rattle.tv_depths.specs.Ranks.{ranked}
 use Rattle.tv_depths.proofs.OfRanked.{IsOrdered, ranked-ordered}
 use Rattle.tv_model.specs.Agreeing.{ActivitiesNest, FeedsAgree, FlowAgrees, InputsHave, NestsWithin, StepsAgree, StepsNest}
 use Rattle.tv_model.specs.Earlier.{given_of}
-use Rattle.tv_model.specs.Fitting.{AreRight, HaveDepths, IsRight}
+use Rattle.tv_model.specs.Fitting.{AreRight, HaveDepths}
 use Rattle.tv_model.specs.Instances.{step_made, steps_made}
 use Rattle.tv_model.specs.Made.{Made, Meaning, feed_value}
 use Rattle.tv_model.specs.Meanings.{flow_meaning, instance_meaning, no_meaning}

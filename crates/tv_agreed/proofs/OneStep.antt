@@ -1,7 +1,6 @@
 -- One step of an instance, made after those before it: its ports, outputs and jobs.
-use Rattle.std.specs.Prelude.{◌≡◌, refl, ℕ, suc, ◌+◌, List, [], ◌∷◌, ◌++◌, map, Some, unwrap_or, is_some}
-use Rattle.std.specs.List.{list_all}
-use Rattle.std.proofs.Common.{sym, ap, subst, ◌∙◌, inl, inr}
+use Rattle.std.specs.Prelude.{◌≡◌, refl, ℕ, suc, ◌+◌, List, [], ◌∷◌, map, Some}
+use Rattle.std.proofs.Common.{sym, ap, subst, ◌∙◌}
 use Rattle.tv_value.specs.Orders.{named}
 use Rattle.tv_value.specs.Values.{HasDepth, JobName, Name, Value}
 use Rattle.tv_value.specs.Nested.{Place, nodes}
@@ -17,7 +16,6 @@ use Rattle.tv_model.specs.Agreeing.{ActivitiesAgree, ActivitiesNest, FindThemsel
 use Rattle.tv_model.specs.Fitting.{AreRight}
 use Rattle.tv_model.specs.Instances.{node_jobs, step_made}
 use Rattle.tv_model.specs.Made.{Made, Meaning, Opened, delivered_outputs, endings, feed_value}
-use Rattle.tv_model.specs.Members.{In}
 use Rattle.tv_model.proofs.Tests.{Each}
 use Rattle.tv_model.proofs.Turns.{each-map}
 use Rattle.tv_model.proofs.Members.{each_in, in_each, of-flat}

@@ -1,18 +1,14 @@
 -- The meaning of every accepted document is as planned: instance by instance, each inside the job that opened it.
-use Rattle.std.specs.Prelude.{◌≡◌, refl, ℕ, zero, suc, ◌⊎◌, ◌&&◌, List, [], ◌∷◌, ◌++◌, Bool, true, false, map, flat_map, find, Option, Some, None, is_some, option_and_then, unwrap_or, if◌then◌else◌}
-use Rattle.std.specs.List.{list_all}
+use Rattle.std.specs.Prelude.{◌≡◌, refl, ℕ, zero, suc, ◌⊎◌, ◌&&◌, List, [], ◌∷◌, Bool, true, false, map, flat_map, find, Option, Some, None, option_and_then, if◌then◌else◌}
 use Rattle.std.specs.Option.{option_map_or}
 use Rattle.std.proofs.Common.{sym, ap, subst, ◌∙◌, inl, inr}
-use Rattle.tv_value.specs.Activities.{Activity, nested, service}
-use Rattle.tv_value.specs.Nested.{list, no_trees}
-use Rattle.tv_value.specs.Orders.{named, same_job, same_name}
-use Rattle.tv_value.specs.Values.{HasDepth, JobName, Name, Value}
-use Rattle.tv_flow.specs.Flows.{Document, Flow, Step, StepInput}
+use Rattle.tv_value.specs.Orders.{named, same_job}
+use Rattle.tv_value.specs.Values.{JobName, Name, Value}
+use Rattle.tv_flow.specs.Flows.{Document, Flow, Step}
 use Rattle.tv_flow.specs.Formed.{is_flow, is_formed}
 use Rattle.tv_flow.specs.Forms.{is_name}
 use Rattle.tv_naming.proofs.FormedParts.{all-pass, document-flows, steps-ascend}
 use Rattle.tv_naming.proofs.OfLists.{both}
-use Rattle.tv_strategy.specs.Origins.{Traced, plain}
 use Rattle.tv_gate.specs.Outcomes.{Giving}
 use Rattle.tv_depths.specs.CheckedDepths.{flow_depths, measured_outputs}
 use Rattle.tv_depths.specs.Delivered.{StepMeaning}
@@ -20,7 +16,7 @@ use Rattle.tv_depths.specs.Steps.{declared_depths}
 use Rattle.tv_check.specs.Plans.{IsAccepted, step_plan}
 use Rattle.tv_check.proofs.Inside.{each-by}
 use Rattle.tv_check.proofs.OfCycles.{IsThere, each-there}
-use Rattle.tv_model.specs.Agreeing.{ActivitiesAgree, ActivitiesNest, ActivityAgrees, Agrees, FindThemselves, InputsHave, NestsWithin, StepsNest}
+use Rattle.tv_model.specs.Agreeing.{Agrees, InputsHave, NestsWithin, StepsNest}
 use Rattle.tv_model.specs.Earlier.{job_list}
 use Rattle.tv_model.specs.Fitting.{HaveDepths}
 use Rattle.tv_model.specs.Instances.{zip_names}
@@ -28,11 +24,10 @@ use Rattle.tv_model.specs.Jobs.{Job}
 use Rattle.tv_model.specs.Made.{Made, Meaning, Opened}
 use Rattle.tv_model.specs.Meanings.{flow_meaning, instance_meaning, jobs_with_inside, meaning, most_nesting, no_meaning, steps_inside}
 use Rattle.tv_model.specs.Members.{In}
-use Rattle.tv_model.proofs.Tests.{Each, same_job_decides, true≠false}
+use Rattle.tv_model.proofs.Tests.{Each, same_job_decides}
 use Rattle.tv_model.proofs.Fed.{each-all}
 use Rattle.tv_model.proofs.Members.{Apart, each_in, in-flat, in_each, no-nil, of-flat}
 use Rattle.tv_model.proofs.Order.{in-append, of-map}
-use Rattle.tv_model.proofs.Results.{IsFit, some_or}
 use Rattle.tv_model.proofs.Whole.{AnyNumber, StepsHave, meaning-whole}
 use Rattle.tv_agreed.specs.InstanceFlows.{StandsIn, instance_flow}
 use Rattle.tv_agreed.specs.Opening.{first_nested}

@@ -1,5 +1,5 @@
 -- The depths that a step sees when it is taken by rank are those that it sees once all steps are taken.
-use Rattle.std.specs.Prelude.{◌≡◌, refl, ℕ, zero, suc, ◌-◌, ◌≤◌, List, [], ◌∷◌, ◌++◌, flat_map, Bool, true, false, ◌||◌, None, Some, slice_get}
+use Rattle.std.specs.Prelude.{◌≡◌, refl, ℕ, suc, ◌-◌, ◌≤◌, List, [], ◌∷◌, ◌++◌, flat_map, Bool, true, false, ◌||◌, None, Some, slice_get}
 use Rattle.std.proofs.Common.{arith, sym, ap, subst, ◌∙◌, inl, inr, append-nil}
 use Rattle.tv_value.specs.Values.{Name}
 use Rattle.tv_flow.specs.Flows.{Feed, Step, StepInput}

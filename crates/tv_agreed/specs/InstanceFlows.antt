@@ -1,5 +1,5 @@
 -- Which flow an instance of a meaning is of, and which step of it a name stands for.
-use Rattle.std.specs.Prelude.{List, Option, Some, [], find, option_and_then, ◌∷◌, ◌≡◌}
+use Rattle.std.specs.Prelude.{Option, Some, [], find, option_and_then, ◌∷◌, ◌≡◌}
 use Rattle.tv_value.specs.Orders.{named, same_job}
 use Rattle.tv_value.specs.Values.{JobName, Name}
 use Rattle.tv_flow.specs.Flows.{Document, Flow, Step}

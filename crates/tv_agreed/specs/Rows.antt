@@ -1,7 +1,7 @@
 -- A worked document with a nested flow: the flow of each instance, and the depths of its ports.
-use Rattle.std.specs.Prelude.{None, Some, [], codes, map, true, ◌∷◌, ◌≡◌}
+use Rattle.std.specs.Prelude.{None, Some, [], codes, true, ◌∷◌, ◌≡◌}
 use Rattle.tv_flow.specs.Formed.{is_formed}
-use Rattle.tv_check.specs.Plans.{IsAccepted, flow_plan}
+use Rattle.tv_check.specs.Plans.{IsAccepted}
 use Rattle.tv_model.specs.RowsOfFlows.{gene_names, opening}
 use Rattle.tv_model.specs.Writing.{meant}
 use Rattle.tv_agreed.specs.InstanceFlows.{instance_flow}

@@ -1,5 +1,4 @@
 use Rattle.tv_agreed.proofs.Accepted.{accepted-agrees}
-use Rattle.tv_agreed.proofs.OneStep.{AnyMeaning}
 use Rattle.tv_agreed.proofs.accepted_documents_agree.Goals as goal
 
 pub returns : goal.returns

@@ -1,0 +1,53 @@
+//! What holds of the definitions alone: each law is the clause of a function that does nothing.
+ghost use Rattle.tv_order.specs.Rows.{OffersKeepInstancesOpen, WalksIntoOpenInstance};
+ghost use Rattle.tv_order.specs.Stated.{ChainIsShort, FewAreEntered, FewAreStill, FirstGoingIsFound, FirstGoingIsOffered, FirstOfferedIsFound, GoingIsInside, GoingIsPlain, InstancesAreInOrder, JobsAreInOrder, MainIsInstance, NothingGoesOnAtEnd, OpenersRun, OpenIsBusy, OpenIsOneChain, OrderIsStrict, OwnAreHeld, PartsAreInstances, StepsHaveOneLimit, StepsKeepLimits};
+
+/// The jobs of a meaning stand in job order, which is strict.
+pub fn job_order()
+    ensures ordered { JobsAreInOrder }
+    ensures strict { OrderIsStrict }
+    ensures instances { InstancesAreInOrder }
+{}
+
+/// Walking down from the main instance finds the first ask that is offered, and the first job that goes on.
+pub fn first_in_order()
+    ensures offered { FirstOfferedIsFound }
+    ensures going { FirstGoingIsFound }
+    ensures plain { GoingIsPlain }
+    ensures handing { FirstGoingIsOffered }
+    ensures held { OwnAreHeld }
+    ensures row { WalksIntoOpenInstance }
+{}
+
+/// Where jobs go on, and that a job whose flow is open doesn't.
+pub fn open_instances()
+    ensures openers { OpenersRun }
+    ensures inside { GoingIsInside }
+    ensures ended { NothingGoesOnAtEnd }
+{}
+
+/// Of a step at most as many jobs run in an instance as the step says.
+pub fn limits()
+    ensures kept { StepsKeepLimits }
+    ensures one { StepsHaveOneLimit }
+{}
+
+/// With one worker the open instances are one chain of nested jobs.
+pub fn one_chain()
+    ensures nested { OpenIsOneChain }
+    ensures short { ChainIsShort }
+{}
+
+/// Open instances in which nothing goes on are few.
+pub fn few_are_still()
+    ensures busy { OpenIsBusy }
+    ensures few { FewAreStill }
+    ensures entered { FewAreEntered }
+    ensures row { OffersKeepInstancesOpen }
+{}
+
+/// Each instance inside a meaning is that of a flow on inputs.
+pub fn parts()
+    ensures main { MainIsInstance }
+    ensures opened { PartsAreInstances }
+{}
