@@ -132,7 +132,7 @@ module _ (gives : Giving) (flows : List (Name × Flow)) (inside : Name → JobNa
     instance-outputs =
         subst (λ x. Deliver x (steps_depths x [] (ranked flow.steps))) given_are
         (subst (Deliver (depths_of (given_of flow vs))) (forget-steps (given_of flow vs) [] (ranked flow.steps))
-            (outputs-have (given_of flow vs) (made_in flow vs) (given-right vs flow.inputs have) (made-right flow.steps (depths_of (given_of flow vs)) (steps_depths (depths_of (given_of flow vs)) [] (ranked flow.steps)) (made_in flow vs) all-made) flow.outputs))
+        (outputs-have (given_of flow vs) (made_in flow vs) (given-right vs flow.inputs have) (made-right flow.steps (depths_of (given_of flow vs)) (steps_depths (depths_of (given_of flow vs)) [] (ranked flow.steps)) (made_in flow vs) all-made) flow.outputs))
         agree.outputs
 
     pub instance-delivers : HaveDepths (output_depths flow) (map (λ o. o.1) (instance_meaning gives inside I flow vs).outputs)
@@ -156,6 +156,8 @@ steps-nest flows k f flow e n = subst (λ (w : Flow). StepsNest (NestsWithin flo
 pub flow-delivers : (gives : Giving) (flows : List (Name × Flow)) → AllSound flows → (k : ℕ) → Delivers flows AnyMeaning (flow_meaning gives flows k) k
 flow-delivers gives flows sound zero f flow e n I vs h = absurd n
 flow-delivers gives flows sound (suc k) f flow e n I vs h =
-    let s = sound f flow e in
-    (tt, subst (λ o. HaveDepths (output_depths flow) (map (λ x. x.1) (option_map_or (λ w. instance_meaning gives (flow_meaning gives flows k) I w vs) o no_meaning).outputs)) (sym e)
-        (instance-delivers gives flows (flow_meaning gives flows k) k (flow-delivers gives flows sound k) I flow s.0 s.1 (steps-nest flows k f flow e n) vs h))
+    let s = sound f flow e in (
+      tt,
+      subst (λ o. HaveDepths (output_depths flow) (map (λ x. x.1) (option_map_or (λ w. instance_meaning gives (flow_meaning gives flows k) I w vs) o no_meaning).outputs)) (sym e)
+          (instance-delivers gives flows (flow_meaning gives flows k) k (flow-delivers gives flows sound k) I flow s.0 s.1 (steps-nest flows k f flow e n) vs h),
+    )

@@ -23,7 +23,7 @@ use Rattle.tv_model.proofs.Fed.{step_iteration, step_ports}
 use Rattle.tv_model.proofs.Results.{Delivers, IsFit}
 use Rattle.tv_model.proofs.Delivers.{depths_of, feed-depth, feed-right, forget, mismatches, ported-depth}
 use Rattle.tv_model.proofs.OfDepths.{Fit, Gives, Takes, all-bind, all-fit, all-levels, all-there, outputs-right}
-use Rattle.tv_agreed.specs.PlannedDepths.{OutputsGive, PortsTake} 
+use Rattle.tv_agreed.specs.PlannedDepths.{OutputsGive, PortsTake}
 use Rattle.tv_agreed.proofs.Opening.{IsAt, node_job-is}
 use Rattle.tv_agreed.proofs.Settled.{Feeds, ports-settled, step-settled}
 

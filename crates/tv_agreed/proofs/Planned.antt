@@ -32,7 +32,8 @@ use Rattle.tv_model.proofs.Whole.{AnyNumber, StepsHave, meaning-whole}
 use Rattle.tv_agreed.specs.InstanceFlows.{StandsIn, instance_flow}
 use Rattle.tv_agreed.specs.Opening.{first_nested}
 use Rattle.tv_agreed.specs.PlannedDepths.{IsAsPlanned, JobIsPlanned, NamedHave, OutputsGive, PortsTake, StepIsPlanned}
-use Rattle.tv_agreed.proofs.Accepted.{accepted-agrees, all-each, named-each}
+use Rattle.tv_agreed.proofs.Accepted.{accepted-agrees}
+use Rattle.tv_agreed.proofs.Lists.{all-each, named-each}
 use Rattle.tv_agreed.proofs.Opening.{InsideAt}
 use Rattle.tv_agreed.proofs.Inner.{first-nests, handed-have}
 use Rattle.tv_agreed.proofs.OneStep.{JobIs, MadeIs}
@@ -135,8 +136,7 @@ module _ (gives : Giving) (flows : List (Name × Flow)) (sound : AllSound flows)
         let us = zip_names w.step.inputs o.job.inputs in
         let a = first-nests flows w.step (NestsWithin flows k) t.0 w.step.activities t.1 w.activities w.nests in
         let inputs = subst (λ l. InputsHave l us) (sym a.0.2) (handed-have w.step.inputs o.job.inputs j.fit.inputs w.step.inputs w.once) in
-        let all = rec t.0 a.0.0 a.0.1 a.1 o.job.name us inputs (λ y i. sub y (subst (λ (z : Meaning). In y z.jobs) (sym t.3) i)) in
-        (
+        let all = rec t.0 a.0.0 a.0.1 a.1 o.job.name us inputs (λ y i. sub y (subst (λ (z : Meaning). In y z.jobs) (sym t.3) i)) in (
           λ s i. wider-step I o.job.name f t.0 o.job own refl t.2 s (all.0 s (subst (λ (z : Meaning). In s z.steps) t.3 i)),
           λ y i. wider-job I o.job.name f t.0 o.job own refl t.2 y (all.1 y (subst (λ (z : Meaning). In y z.jobs) t.3 i)),
         )

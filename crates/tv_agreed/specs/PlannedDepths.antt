@@ -23,13 +23,21 @@ pub record Takes (declared delivered : ℕ) (p : Ported) : Type 0 where
 -- the ports of a step, each by the delivered depth that the plan states for it
 abbrev pub PortsTake : List (Name × ℕ) → List (Name × StepInput) → List (Name × Ported) → Type 0
 PortsTake [] [] [] = Unit {0}
-PortsTake (k ∷ ks) (i ∷ is) (p ∷ ps) = (k.0 ≡ i.0) × (p.0 ≡ i.0) × Takes i.1.depth k.1 p.1 × PortsTake ks is ps
+PortsTake (k ∷ ks) (i ∷ is) (p ∷ ps) =
+    (k.0 ≡ i.0)
+    × (p.0 ≡ i.0)
+    × Takes i.1.depth k.1 p.1
+    × PortsTake ks is ps
 PortsTake ks is ps = ⊥
 
 -- each output of a step whose strategy has so many levels: a value of its delivered depth
 abbrev pub OutputsGive : ℕ → List (Name × ℕ) → List (Name × Delivered) → Type 0
 OutputsGive levels [] [] = Unit {0}
-OutputsGive levels (o ∷ os) (d ∷ ds) = (d.0 ≡ o.0) × (d.1.depth ≡ levels + o.1) × HasDepth d.1.value d.1.depth × OutputsGive levels os ds
+OutputsGive levels (o ∷ os) (d ∷ ds) =
+    (d.0 ≡ o.0)
+    × (d.1.depth ≡ levels + o.1)
+    × HasDepth d.1.value d.1.depth
+    × OutputsGive levels os ds
 OutputsGive levels os ds = ⊥
 
 -- values by name, each of its depth

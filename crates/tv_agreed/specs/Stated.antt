@@ -12,7 +12,8 @@ use Rattle.tv_agreed.specs.PlannedDepths.{IsAsPlanned}
 abbrev pub AcceptedDocumentsAgree : Type 0
 AcceptedDocumentsAgree = (d : Document) → is_formed d ≡ true → IsAccepted d → Agrees d
 
--- in its meaning each value at a port has the depth that the check's plan states for this port of this step of this flow, whatever the services give
+-- in its meaning each value at a port has the depth that the check's plan states for this port of
+-- this step of this flow, whatever the services give
 abbrev pub MeaningsAreAsPlanned : Type 0
 MeaningsAreAsPlanned =
     (gives : Giving) (d : Document) → is_formed d ≡ true → IsAccepted d → IsAsPlanned d (meaning gives d)
