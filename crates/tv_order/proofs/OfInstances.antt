@@ -14,7 +14,7 @@ use Rattle.tv_model.proofs.Tests.{true≠false}
 use Rattle.tv_model.proofs.Turns.{In}
 use Rattle.tv_model.proofs.Sound.{cancel, first_of}
 use Rattle.tv_history.proofs.OneWorker.{Before, one-first}
-use Rattle.tv_order.specs.JobOrder.{job_before, names_before, opened_flow, same_spot, spot_before, steps_at, steps_in}
+use Rattle.tv_order.specs.JobOrder.{job_before, names_before, step_flow, same_spot, spot_before, steps_at, steps_in}
 use Rattle.tv_order.proofs.OfOrder.{jobs-in_order}
 use Rattle.tv_order.proofs.OfStrict.{pair-before, same-spots, spot-itself, spot-strict}
 
@@ -23,7 +23,7 @@ spots-of : (flows : List (Name × Flow)) (k : ℕ) (f : Name) (I : JobName) (x y
 spots-of flows zero f I x y h = absurd (true≠false (sym h))
 spots-of flows (suc k) f I x y h = by (named f flows) h I refl (λ g J e. spots-of flows k g J x y e)
   where
-    own : (steps : List (Name × Step)) (b : Bool) → same_spot x y ≡ b → (if b then option_map_or (λ g. job_before flows k g [] []) (opened_flow steps x.0) false else spot_before steps x y) ≡ true → (x ≡ y) ⊎ (spot_before steps x y ≡ true)
+    own : (steps : List (Name × Step)) (b : Bool) → same_spot x y ≡ b → (if b then option_map_or (λ g. job_before flows k g [] []) (step_flow steps x.0) false else spot_before steps x y) ≡ true → (x ≡ y) ⊎ (spot_before steps x y ≡ true)
     own steps true e q = inl (same-spots x y e)
     own steps false e q = inr q
 
@@ -31,7 +31,7 @@ spots-of flows (suc k) f I x y h = by (named f flows) h I refl (λ g J e. spots-
     inner J None q rec = absurd (true≠false (sym q))
     inner J (Some g) q rec = rec g J q
 
-    deeper : (steps : List (Name × Step)) (z : Name × Place) (J : JobName) (b : Bool) → b ≡ true → (if b then option_map_or (λ g. job_before flows k g (J ++ x ∷ []) (J ++ y ∷ [])) (opened_flow steps z.0) false else spot_before steps z z) ≡ true → option_map_or (λ g. job_before flows k g (J ++ x ∷ []) (J ++ y ∷ [])) (opened_flow steps z.0) false ≡ true
+    deeper : (steps : List (Name × Step)) (z : Name × Place) (J : JobName) (b : Bool) → b ≡ true → (if b then option_map_or (λ g. job_before flows k g (J ++ x ∷ []) (J ++ y ∷ [])) (step_flow steps z.0) false else spot_before steps z z) ≡ true → option_map_or (λ g. job_before flows k g (J ++ x ∷ []) (J ++ y ∷ [])) (step_flow steps z.0) false ≡ true
     deeper steps z J true e q = q
     deeper steps z J false e q = absurd (true≠false (sym e))
 
@@ -40,7 +40,7 @@ spots-of flows (suc k) f I x y h = by (named f flows) h I refl (λ g J e. spots-
     by (Some fl) q [] e rec = subst (λ l. (x ≡ y) ⊎ (spot_before (steps_in (steps_at flows k) (ranked fl.steps) l) x y ≡ true)) (sym e) (own (ranked fl.steps) (same_spot x y) refl (subst (λ l. names_before (job_before flows k) (ranked fl.steps) (l ++ x ∷ []) (l ++ y ∷ []) ≡ true) e q))
     by (Some fl) q (z ∷ J) e rec =
         subst (λ l. (x ≡ y) ⊎ (spot_before (steps_in (steps_at flows k) (ranked fl.steps) l) x y ≡ true)) (sym e)
-        (inner J (opened_flow (ranked fl.steps) z.0) (deeper (ranked fl.steps) z J (same_spot z z) (spot-itself z) (subst (λ l. names_before (job_before flows k) (ranked fl.steps) (l ++ x ∷ []) (l ++ y ∷ []) ≡ true) e q)) rec)
+        (inner J (step_flow (ranked fl.steps) z.0) (deeper (ranked fl.steps) z J (same_spot z z) (spot-itself z) (subst (λ l. names_before (job_before flows k) (ranked fl.steps) (l ++ x ∷ []) (l ++ y ∷ []) ≡ true) e q)) rec)
 
 -- ORDER IN AN INSTANCE
 pub instance-order : (gives : Giving) (d : Document) (I : JobName) (j k : Job) → In j (meaning gives d).jobs → In k (meaning gives d).jobs → (x y : Name × Place) → j.name ≡ I ++ x ∷ [] → k.name ≡ I ++ y ∷ [] → spot_before (steps_at d.flows most_nesting d.main I) x y ≡ true → Before j k (meaning gives d).jobs

@@ -1,6 +1,5 @@
 -- The jobs of a meaning stand in job order.
-use Rattle.std.specs.Prelude.{◌≡◌, refl, ℕ, zero, suc, ◌+◌, ◌<◌, ◌≤◌, ◌⊎◌, List, [], ◌∷◌, ◌++◌, map, length, Bool, true, false, ◌&&◌, ◌==◌, if◌then◌else◌, nat_lt, Option, Some, None, is_some, option_and_then, flat_map, Result, Ok, Err}
-use Rattle.std.specs.List.{list_any, range_with_len}
+use Rattle.std.specs.Prelude.{◌≡◌, refl, ℕ, zero, suc, ◌+◌, ◌<◌, ◌≤◌, ◌⊎◌, List, [], ◌∷◌, ◌++◌, length, Bool, true, false, ◌&&◌, ◌==◌, if◌then◌else◌, nat_lt, Option, Some, None, is_some, option_and_then, flat_map}
 use Rattle.std.specs.Option.{option_map_or}
 use Rattle.std.specs.Cmp.Lexicographic.{bytes_decides}
 use Rattle.std.proofs.Common.{arith, sym, ap, subst, ◌∙◌, inl, inr, append_assoc, append-nil, eq-eqb, ne_eqb, length-append}
@@ -8,30 +7,30 @@ use Rattle.std.proofs.lemmas.Bool.{lt-ltb}
 use Rattle.tv_value.specs.Activities.{Activity, nested, service}
 use Rattle.tv_value.specs.Nested.{leaf, list, no_trees, tree, Place, nodes, nodes_below, nodes_from}
 use Rattle.tv_value.specs.Orders.{named, same_name}
-use Rattle.tv_value.specs.Values.{JobName, Name, Text, Value, holds_fault}
+use Rattle.tv_value.specs.Values.{JobName, Name, Value}
 use Rattle.tv_flow.specs.Flows.{Document, Flow, Step}
 use Rattle.tv_strategy.specs.Iterations.{Iteration, Iterations, job, passed}
-use Rattle.tv_strategy.specs.Origins.{Origin, Traced, plain}
+use Rattle.tv_strategy.specs.Origins.{Origin}
 use Rattle.tv_gate.specs.Outcomes.{Giving}
-use Rattle.tv_dispatch.specs.Jobs.{Ask, Fate, Taken, Try, ask, match_result, open_flow, opens, outcome_of, right, taken, tries, wrong}
 use Rattle.tv_depths.specs.Delivered.{Delivered}
 use Rattle.tv_depths.specs.Ranks.{is_among, ranked}
-use Rattle.tv_depths.specs.Steps.{bound_values, declared_depths, spot}
-use Rattle.tv_model.specs.Instances.{bounced_job, job_on, node_jobs, step_made, steps_made, tried_job, with_fate, zip_names}
+use Rattle.tv_depths.specs.Steps.{spot}
+use Rattle.tv_model.specs.Instances.{node_jobs, step_made, steps_made, zip_names}
 use Rattle.tv_model.specs.Jobs.{Job}
 use Rattle.tv_model.specs.Made.{Made, Meaning, Opened, endings}
 use Rattle.tv_model.specs.Meanings.{flow_meaning, instance_meaning, jobs_with_inside, meaning, most_nesting, no_meaning}
 use Rattle.tv_model.proofs.Tests.{Each, true≠false, both_true, or_right}
 use Rattle.tv_model.proofs.Turns.{In, each-map, or_left}
 use Rattle.tv_model.proofs.Order.{in-append}
-use Rattle.tv_model.proofs.Fed.{either}
 use Rattle.tv_model.proofs.Sound.{FreshNames}
 use Rattle.tv_model.proofs.Members.{each_in, in_each, of-flat}
 use Rattle.tv_model.proofs.Instances.{given_of, ranked-fresh, steps_of}
 use Rattle.tv_strategy.proofs.OfSources.{each-append}
 use Rattle.tv_model.specs.Agreeing.{ActivitiesNest, NestsWithin, StepsNest}
 use Rattle.tv_model.proofs.Whole.{rank-each}
-use Rattle.tv_order.specs.JobOrder.{AllPairs, first_nested, job_before, limit_at, limit_in, names_before, opened_flow, place_before, rank_in, same_spot, spot_before}
+use Rattle.tv_agreed.proofs.Opening as opening
+use Rattle.tv_agreed.specs.Opening.{first_nested}
+use Rattle.tv_order.specs.JobOrder.{AllPairs, job_before, limit_at, limit_in, names_before, step_flow, place_before, rank_in, same_spot, spot_before}
 
 -- ---- pairs
 
@@ -122,37 +121,6 @@ mutual
 pub nodes-ordered : (t : Iteration) → AllPairs NodeBefore (nodes t)
 nodes-ordered t = below-ordered t []
 
--- ---- which flow a job opens
-
-abbrev first_open : List Try → Option Name
-first_open [] = None
-first_open (open_flow f ∷ ts) = Some f
-first_open (ask a ∷ ts) = first_open ts
-
-abbrev FateIs : (Name → Type 0) → Fate → Type 0
-FateIs Q (right vs) = Unit {0}
-FateIs Q (opens f) = Q f
-FateIs Q (wrong why) = Unit {0}
-
-taken-opens : (gives : Giving) (why : Text) (ts : List Try) → FateIs (λ f. first_open ts ≡ Some f) (taken gives why ts).fate
-taken-opens gives why [] = tt
-taken-opens gives why (open_flow f ∷ ts) = refl
-taken-opens gives why (ask a ∷ ts) = by (outcome_of gives a) (λ w. taken-opens gives w ts)
-  where
-    by : (r : Result (List Value) Text) → ((w : Text) → FateIs (λ f. first_open ts ≡ Some f) (taken gives w ts).fate) → FateIs (λ f. first_open ts ≡ Some f) (match_result {C = Taken} r (λ vs. record { asks = a ∷ []; fate = right vs }) (λ reason. record { asks = a ∷ (taken gives reason ts).asks; fate = (taken gives reason ts).fate })).fate
-    by (Ok vs) rec = tt
-    by (Err w) rec = rec w
-
-asks-open : (f : ℕ → Ask) (ns : List ℕ) (ts : List Try) → first_open (map (λ n. ask (f n)) ns ++ ts) ≡ first_open ts
-asks-open f [] ts = refl
-asks-open f (n ∷ ns) ts = asks-open f ns ts
-
-tries-open : (vs : List Value) (ds : List ℕ) (retries k : ℕ) (as' : List Activity) → first_open (tries vs ds retries k as') ≡ first_nested as'
-tries-open vs ds retries k [] = refl
-tries-open vs ds retries k (service s ∷ as') =
-    asks-open (λ n. record { service = s; inputs = vs; outputs = ds; activity = k; attempt = n }) (range_with_len 0 (suc retries)) (tries vs ds retries (suc k) as') ∙ tries-open vs ds retries (suc k) as'
-tries-open vs ds retries k (nested f ∷ as') = refl
-
 -- ---- one job
 
 -- the name within the instance I of a job inside a job of it, or of one of its own
@@ -169,30 +137,16 @@ module _ (gives : Giving) (inside : Name → JobName → List (Name × Value) �
     pub limit : o.job.limit ≡ s.jobs
     pub inside_it : InsideAt s o.job o.inside
 
-  module _ (n : Name) (s : Step) (w : List Origin) (q : Place) (vs : List Traced) where
-    fate-is : (as' : List Ask) (f : Fate) → FateIs (λ g. first_nested s.activities ≡ Some g) f → IsAt n s q (with_fate gives inside I s (record (bounced_job gives inside I n s w q vs) { asks = as' }) f)
-    fate-is as' (right rs) h = record { name = refl; in_instance = refl; step = refl; limit = refl; inside_it = refl }
-    fate-is as' (wrong why) h = record { name = refl; in_instance = refl; step = refl; limit = refl; inside_it = refl }
-    fate-is as' (opens f) h = record { name = refl; in_instance = refl; step = refl; limit = refl; inside_it = (f, h, inside_is f (spot I n q) _, refl, refl, refl) }
-
-    job-is : IsAt n s q (job_on gives inside I n s w q vs)
-    job-is =
-        let j = bounced_job gives inside I n s w q vs in
-        let ts = tries (map plain j.inputs) (declared_depths s) s.retries 0 s.activities in
-        either (IsAt n s q) (list_any (λ v. holds_fault v) vs) (record { job = j; inside = None }) (tried_job gives inside I s j)
-        (record { name = refl; in_instance = refl; step = refl; limit = refl; inside_it = refl })
-        (fate-is (taken gives [] ts).asks (taken gives [] ts).fate (fated (taken gives [] ts).fate (taken-opens gives [] ts)))
-      where
-        fated : (f : Fate) → FateIs (λ g. first_open (tries (map plain (bounced_job gives inside I n s w q vs).inputs) (declared_depths s) s.retries 0 s.activities) ≡ Some g) f → FateIs (λ g. first_nested s.activities ≡ Some g) f
-        fated (right vs) h = tt
-        fated (wrong why) h = tt
-        fated (opens g) h = sym (tries-open (map plain (bounced_job gives inside I n s w q vs).inputs) (declared_depths s) s.retries 0 s.activities) ∙ h
+  -- a job at a place, with what P says of the meaning inside
+  with-inside : (n : Name) (s : Step) (q : Place) (o : Opened) → opening.IsAt gives inside I n s q o → IsAt n s q o
+  with-inside n s q o w = record { name = w.name; in_instance = w.in_instance; step = w.step; limit = w.limit; inside_it = by o.inside w.inside_it }
+    where
+      by : (p : Option Meaning) → opening.InsideAt gives inside I s o.job p → InsideAt s o.job p
+      by None h = ap is_some h
+      by (Some m) h = (h.0, h.1, subst (λ x. P h.0 x o.job.name) (sym h.3) (inside_is h.0 o.job.name (zip_names s.inputs o.job.inputs)), ap is_some h.2, h.2, h.3)
 
   node_job-is : (n : Name) (s : Step) (before : List Origin) (x : Node) (o : Opened) → In o (node_jobs gives inside I n s before x) → IsAt n s x.0 o
-  node_job-is n s before (q, leaf r (job b)) o (inl e) = subst (λ p. IsAt n s q p) (sym e) (job-is n s (r ++ before) q (bound_values s b))
-  node_job-is n s before (q, leaf r (job b)) o (inr h) = absurd h
-  node_job-is n s before (q, leaf r (passed m e)) o h = absurd h
-  node_job-is n s before (q, list r ts) o h = absurd h
+  node_job-is n s before x o h = with-inside n s x.0 o (opening.node_job-is gives inside I n s before x o h)
 
   -- ---- the steps of an instance
 
@@ -380,13 +334,13 @@ module _ (gives : Giving) (flows : List (Name × Flow)) where
 
     deeper : (x : Name × Place) (s : Step) (g : Name) (a b : JobName) → named x.0 all ≡ Some s → first_nested s.activities ≡ Some g → job_before flows k g a b ≡ true → job_before flows (suc k) f (x ∷ a) (x ∷ b) ≡ true
     deeper x s g a b e h p =
-        at-flow (x ∷ a) (x ∷ b) (if-true (same_spot x x) (option_map_or (λ h. job_before flows k h a b) (opened_flow all x.0) false) (spot_before all x x) (same-spot x) ∙ ap (λ o. option_map_or (λ h. job_before flows k h a b) o false) (opens-it (named x.0 all) e) ∙ p)
+        at-flow (x ∷ a) (x ∷ b) (if-true (same_spot x x) (option_map_or (λ h. job_before flows k h a b) (step_flow all x.0) false) (spot_before all x x) (same-spot x) ∙ ap (λ o. option_map_or (λ h. job_before flows k h a b) o false) (opens-it (named x.0 all) e) ∙ p)
       where
         opens-it : (o : Option Step) → o ≡ Some s → option_and_then (λ (s : Step). first_nested s.activities) o ≡ Some g
         opens-it o q = ap (λ o. option_and_then (λ (s : Step). first_nested s.activities) o) q ∙ h
 
     apart : (x y : Name × Place) (a b : JobName) → same_spot x y ≡ false → spot_before all x y ≡ true → job_before flows (suc k) f (x ∷ a) (y ∷ b) ≡ true
-    apart x y a b e h = at-flow (x ∷ a) (y ∷ b) (if-false (same_spot x y) (option_map_or (λ h. job_before flows k h a b) (opened_flow all x.0) false) (spot_before all x y) e ∙ h)
+    apart x y a b e h = at-flow (x ∷ a) (y ∷ b) (if-false (same_spot x y) (option_map_or (λ h. job_before flows k h a b) (step_flow all x.0) false) (spot_before all x y) e ∙ h)
 
     -- a job of a block: the job itself, or one inside it
     block-name : (o : Opened) → Own o → (x : Name × Place) → o.job.name ≡ I ++ x ∷ [] → (j : Job) → In j (jobs_with_inside o) → (r : JobName) × (j.name ≡ I ++ x ∷ r) × (length r < suc k)

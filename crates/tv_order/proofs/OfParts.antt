@@ -23,7 +23,7 @@ use Rattle.tv_model.proofs.Members.{Apart, in-flat, of-flat, once-of_apart}
 use Rattle.tv_model.proofs.Formed.{none-formed, own-apart, steps-formed}
 use Rattle.tv_model.proofs.Instances.{all-sound, given-free, ranked-fresh}
 use Rattle.tv_model.proofs.Whole.{AnyNumber, IsWhole, StepsHave, flow-whole, not-longer, rank-each, same-head}
-use Rattle.tv_order.specs.JobOrder.{first_nested}
+use Rattle.tv_agreed.specs.Opening.{first_nested}
 use Rattle.tv_order.specs.Parts.{IsInstance, made_of, steps_of_made}
 use Rattle.tv_order.proofs.OfOrder.{IsOf, InsideAt, deeper-nests, flow-orderly, made-all, steps-each}
 

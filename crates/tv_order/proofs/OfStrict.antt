@@ -15,7 +15,7 @@ use Rattle.tv_model.proofs.Turns.{In}
 use Rattle.tv_model.proofs.Members.{each_in}
 use Rattle.tv_model.proofs.Whole.{not-longer}
 use Rattle.tv_history.proofs.OneWorker.{Before, one-first}
-use Rattle.tv_order.specs.JobOrder.{AllPairs, job_before, names_before, opened_flow, place_before, rank_in, same_spot, spot_before}
+use Rattle.tv_order.specs.JobOrder.{AllPairs, job_before, names_before, step_flow, place_before, rank_in, same_spot, spot_before}
 use Rattle.tv_order.proofs.OfOrder.{Within}
 
 both-less : (i j : ℕ) → nat_lt i j ≡ true → nat_lt j i ≡ true → ⊥
@@ -70,8 +70,8 @@ names-strict deeper steps r a [] h k = true≠false (sym h)
 names-strict deeper steps r [] (y ∷ b) h k = true≠false (sym k)
 names-strict deeper steps r (x ∷ a) (y ∷ b) h k = by (same_spot x y) (same_spot y x) refl refl h k
   where
-    by : (c d : Bool) → same_spot x y ≡ c → same_spot y x ≡ d → (if c then option_map_or (λ g. deeper g a b) (opened_flow steps x.0) false else spot_before steps x y) ≡ true → (if d then option_map_or (λ g. deeper g b a) (opened_flow steps y.0) false else spot_before steps y x) ≡ true → ⊥
-    by true true e f u v = option-strict (opened_flow steps x.0) (λ g. deeper g a b) (λ g. deeper g b a) (λ g p q. r g a b p q) u (subst (λ (z : Name × Place). option_map_or (λ g. deeper g b a) (opened_flow steps z.0) false ≡ true) (sym (same-spots x y e)) v)
+    by : (c d : Bool) → same_spot x y ≡ c → same_spot y x ≡ d → (if c then option_map_or (λ g. deeper g a b) (step_flow steps x.0) false else spot_before steps x y) ≡ true → (if d then option_map_or (λ g. deeper g b a) (step_flow steps y.0) false else spot_before steps y x) ≡ true → ⊥
+    by true true e f u v = option-strict (step_flow steps x.0) (λ g. deeper g a b) (λ g. deeper g b a) (λ g p q. r g a b p q) u (subst (λ (z : Name × Place). option_map_or (λ g. deeper g b a) (step_flow steps z.0) false ≡ true) (sym (same-spots x y e)) v)
     by true false e f u v = true≠false (sym (spot-swap x y e) ∙ f)
     by false true e f u v = true≠false (sym (spot-swap y x f) ∙ e)
     by false false e f u v = spot-strict steps x y u v
@@ -95,8 +95,8 @@ names-longer deeper steps h (x ∷ a) c r e = by (same_spot x x) (spot-itself x)
     none None k = true≠false (sym k)
     none (Some g) k = h g a c r k
 
-    by : (b : Bool) → b ≡ true → (if b then option_map_or (λ g. deeper g (a ++ c ∷ r) a) (opened_flow steps x.0) false else spot_before steps x x) ≡ true → ⊥
-    by true f k = none (opened_flow steps x.0) k
+    by : (b : Bool) → b ≡ true → (if b then option_map_or (λ g. deeper g (a ++ c ∷ r) a) (step_flow steps x.0) false else spot_before steps x x) ≡ true → ⊥
+    by true f k = none (step_flow steps x.0) k
     by false f k = true≠false (sym f)
 
 pub job-longer : (flows : List (Name × Flow)) (k : ℕ) (f : Name) (a : JobName) (c : Name × Place) (r : JobName) → job_before flows k f (a ++ c ∷ r) a ≡ true → ⊥

@@ -1,7 +1,6 @@
 -- One more entry of one worker keeps that at most one job of an instance runs and the others wait, from whatever history it began.
-use Rattle.std.specs.Prelude.{◌≡◌, refl, ℕ, zero, suc, ◌+◌, ◌⊎◌, List, [], ◌∷◌, ◌++◌, length, Bool, true, false, not, ◌&&◌, ◌||◌, if◌then◌else◌, cond, Some, is_some, is_none, find}
-use Rattle.std.specs.List.{list_any, list_all}
-use Rattle.std.specs.Option.{option_map_or}
+use Rattle.std.specs.Prelude.{◌≡◌, refl, ℕ, zero, suc, ◌+◌, ◌⊎◌, List, [], ◌∷◌, ◌++◌, length, Bool, true, false, not, ◌&&◌, ◌||◌}
+use Rattle.std.specs.List.{list_all}
 use Rattle.std.proofs.Common.{arith, sym, ap, subst, ◌∙◌, inl, inr, append-nil, length-append}
 use Rattle.tv_value.specs.Values.{JobName}
 use Rattle.tv_value.specs.Orders.{same_job, same_name}
@@ -10,23 +9,18 @@ use Rattle.tv_gate.specs.Outcomes.{Giving}
 use Rattle.tv_model.specs.Jobs.{Job, job_needs}
 use Rattle.tv_model.specs.Made.{Meaning}
 use Rattle.tv_model.specs.Turns.{is_bounced}
-use Rattle.tv_history.specs.Entries.{Entry, handed_out, accepted, bounced, closed, fault_passed, opened, ended, recalled, History, is_accepted, is_bounced_entry, is_opened_entry, is_ended_entry, is_begun_entry, is_out}
+use Rattle.tv_history.specs.Entries.{Entry, handed_out, accepted, bounced, closed, fault_passed, opened, ended, recalled, History, is_begun_entry}
 use Rattle.tv_model.specs.Levels.{levels}
-use Rattle.tv_model.specs.Lists.{first_of_list, rest_of}
-use Rattle.tv_history.specs.Histories.{asks_left, next_ask, is_settled, is_settled_name, all_known, is_open, is_running, is_idle, is_ready, has_place, may_go_on, is_offered, can_open, can_settle_more, is_at, is_legal, is_legal_after}
+use Rattle.tv_history.specs.Histories.{is_settled, is_settled_name, all_known, is_open, is_running, is_idle, is_ready, has_place, is_legal, is_legal_after}
 use Rattle.tv_model.proofs.Tests.{Each, true≠false, left_true, right_true, both_true, or_right, same_job_decides}
-use Rattle.tv_history.proofs.Needs.{stays_settled}
 use Rattle.tv_model.proofs.Turns.{In}
 use Rattle.tv_model.proofs.Fed.{each-flat_map}
-use Rattle.tv_history.proofs.Running.{true_of, not_true, all_in, any_weaken, opened_begins, out-begun, settled_of_name, idle_begun, going_on, ready-needs, begins}
-use Rattle.tv_model.proofs.Members.{each_in, Apart}
+use Rattle.tv_history.proofs.Running.{true_of, not_true, all_in, settled_of_name, idle_begun, going_on, ready-needs}
+use Rattle.tv_model.proofs.Members.{each_in}
 use Rattle.tv_model.proofs.Grounds.{GroundedBy}
 use Rattle.tv_model.proofs.Whole.{GroundedIn, IsWhole}
 use Rattle.tv_history.proofs.Ready.{all-sound, are-jobs, no-bounce, waits-known}
 use Rattle.tv_history.proofs.Stuck.{AtLeastOne, fails_in, full, settled-name, goes, running-within}
-use Rattle.tv_history.proofs.Done.{ends-it}
-use Rattle.tv_history.proofs.Sums.{bounces-it}
-use Rattle.tv_history.proofs.Bounded.{ready-parts}
 use Rattle.tv_history.specs.Alone.{is_by_one_after}
 use Rattle.tv_history.proofs.OneWorker.{Before, IsLaidOut, not-both, one-first}
 use Rattle.tv_history.proofs.OneWorker as lone
@@ -70,7 +64,6 @@ module _ (gives : Giving) (m : Meaning) where
 
     job-needs-in : (j : Job) → In j m.jobs → Each (NeedIn j.instance) (job_needs j)
     job-needs-in j i = let g = (w.jobs j i).waits in each-flat_map (GroundedIn gives AtLeastOne m j.instance g.0) (NeedIn j.instance) (λ (s : Origin). s.needs) (need-in j.instance g.0) j.waits g.1
-
 
     abbrev Begins : History → Job → Type 0
     Begins past j = lone.Begins gives m w laid past j

@@ -1,12 +1,16 @@
 //! What holds of the definitions alone: each law is the clause of a function that does nothing.
-ghost use Rattle.tv_order.specs.Rows.{OffersKeepInstancesOpen, WalksIntoOpenInstance};
-ghost use Rattle.tv_order.specs.Stated.{ChainIsShort, FewAreEntered, FewAreStill, FirstGoingIsFound, FirstGoingIsOffered, FirstOfferedIsFound, GoingIsInside, GoingIsPlain, InstancesAreInOrder, JobsAreInOrder, MainIsInstance, NothingGoesOnAtEnd, OpenersRun, OpenIsBusy, OpenIsOneChain, OrderIsStrict, OwnAreHeld, PartsAreInstances, StepsHaveOneLimit, StepsKeepLimits};
+ghost use Rattle.tv_order.specs.OpenLaws.{ChainIsShort, FewAreStill, GoingIsInside, OpenersRun, OpenIsBusy, OpenIsOneChain, StepsHaveOneLimit, StepsKeepLimits};
+ghost use Rattle.tv_order.specs.OrderLaws.{InstancesAreInOrder, JobsAreInOrder, OrderIsStrict};
+ghost use Rattle.tv_order.specs.PartLaws.{MainIsInstance, PartsAreInstances};
+ghost use Rattle.tv_order.specs.Rows.{OffersKeepInstancesOpen, OrderOfRows, WalksIntoOpenInstance};
+ghost use Rattle.tv_order.specs.WalkLaws.{FewAreEntered, FirstGoingIsFound, FirstGoingIsOffered, FirstOfferedIsFound, GoingIsPlain, NothingGoesOnAtEnd, OwnAreHeld};
 
-/// The jobs of a meaning stand in job order, which is strict.
+/// The jobs of a meaning, and those of each instance, stand in job order, which is strict.
 pub fn job_order()
     ensures ordered { JobsAreInOrder }
     ensures strict { OrderIsStrict }
     ensures instances { InstancesAreInOrder }
+    ensures rows { OrderOfRows }
 {}
 
 /// Walking down from the main instance finds the first ask that is offered, and the first job that goes on.
@@ -38,7 +42,8 @@ pub fn one_chain()
     ensures short { ChainIsShort }
 {}
 
-/// Open instances in which nothing goes on are few.
+/// Open instances in which nothing goes on are few, and so are those that the walk enters. It isn't so that the open
+/// instances are few for each try that is out: the worked row has three of them and no try.
 pub fn few_are_still()
     ensures busy { OpenIsBusy }
     ensures few { FewAreStill }
