@@ -12,3 +12,4 @@ pub mod OfInstances
 pub mod OfHanding
 pub mod OfParts
 pub mod OfHeld
+pub mod OfClosings

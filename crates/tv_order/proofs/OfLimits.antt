@@ -50,6 +50,13 @@ module _ (gives : Giving) (d : Document) where
           let t = (bytes_decides k.step j.step).0 (right_true (same_job k.instance j.instance) (same_name k.step j.step) e) in
           b.4 ∙ ap (λ n. limit_at d.flows most_nesting d.main n k.step) (sym b.2 ∙ s ∙ a.2) ∙ ap (λ n. limit_at d.flows most_nesting d.main a.0 n) t ∙ sym a.4
 
+  -- it is the one that the document states
+  pub stated-limit : (j : Job) → In j m.jobs → j.limit ≡ limit_at d.flows most_nesting d.main j.instance j.step
+  stated-limit j h = by (orderly gives d).plain
+    where
+      by : ((z : Job) → In z m.jobs → IsPlainJob gives d.flows most_nesting d.main [] z) → j.limit ≡ limit_at d.flows most_nesting d.main j.instance j.step
+      by f = let a = f j h in a.4 ∙ ap (λ n. limit_at d.flows most_nesting d.main n j.step) (sym a.2)
+
   -- to run at the same step is to run at the same step
   same-count : (past : History) (j k : Job) → of_step j k ≡ true → tally (runs past j) m.jobs ≤ tally (runs past k) m.jobs
   same-count past j k e = tally-weaken (runs past j) (runs past k) m.jobs (λ x i h. step x h)

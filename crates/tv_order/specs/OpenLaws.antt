@@ -12,7 +12,7 @@ use Rattle.tv_history.specs.Entries.{History, is_out}
 use Rattle.tv_history.specs.Going.{IsWellFormed}
 use Rattle.tv_history.specs.Histories.{instances, may_go_on}
 use Rattle.tv_order.specs.Chains.{AreNested, is_by_one_from, is_inside}
-use Rattle.tv_order.specs.JobOrder.{Apart}
+use Rattle.tv_order.specs.JobOrder.{Apart, limit_at}
 use Rattle.tv_order.specs.Moments.{IsJob, IsLegal, IsOpen, IsQuiet, all_jobs, goes_on, has_open, is_beside, runs, tries_out}
 
 -- ---- where they are
@@ -66,6 +66,13 @@ StepsHaveOneLimit =
     → IsJob gives d k
     → is_beside j k ≡ true
     → k.limit ≡ j.limit
+
+-- it is the one that the document says of the step to which the instance's name leads
+abbrev pub LimitsAreStated : Type 0
+LimitsAreStated =
+    (gives : Giving) (d : Document) (j : Job)
+    → IsJob gives d j
+    → j.limit ≡ limit_at d.flows most_nesting d.main j.instance j.step
 
 -- ---- one worker
 

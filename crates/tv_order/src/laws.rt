@@ -1,8 +1,10 @@
 //! What holds of the definitions alone: each law is the clause of a function that does nothing.
-ghost use Rattle.tv_order.specs.OpenLaws.{ChainIsShort, FewAreStill, GoingIsInside, OpenersRun, OpenIsBusy, OpenIsOneChain, StepsHaveOneLimit, StepsKeepLimits};
+ghost use Rattle.tv_order.specs.Closings.{OffersReadNoClosing};
+ghost use Rattle.tv_order.specs.OpenLaws.{ChainIsShort, FewAreStill, GoingIsInside, LimitsAreStated, OpenersRun, OpenIsBusy, OpenIsOneChain, StepsHaveOneLimit, StepsKeepLimits};
 ghost use Rattle.tv_order.specs.OrderLaws.{InstancesAreInOrder, JobsAreInOrder, OrderIsStrict};
 ghost use Rattle.tv_order.specs.PartLaws.{MainIsInstance, PartsAreInstances};
 ghost use Rattle.tv_order.specs.Rows.{OffersKeepInstancesOpen, OrderOfRows, WalksIntoOpenInstance};
+ghost use Rattle.tv_order.specs.RowsOfRoom.{KeepsResultOfFirstJob, KeepsResultsOfOpenInstances};
 ghost use Rattle.tv_order.specs.WalkLaws.{FewAreEntered, FirstGoingIsFound, FirstGoingIsOffered, FirstOfferedIsFound, GoingIsPlain, NothingGoesOnAtEnd, OwnAreHeld};
 
 /// The jobs of a meaning, and those of each instance, stand in job order, which is strict.
@@ -30,10 +32,11 @@ pub fn open_instances()
     ensures ended { NothingGoesOnAtEnd }
 {}
 
-/// Of a step at most as many jobs run in an instance as the step says.
+/// Of a step at most as many jobs run in an instance as the step says, and at most as many have an open flow.
 pub fn limits()
     ensures kept { StepsKeepLimits }
     ensures one { StepsHaveOneLimit }
+    ensures stated { LimitsAreStated }
 {}
 
 /// With one worker the open instances are one chain of nested jobs.
@@ -55,4 +58,16 @@ pub fn few_are_still()
 pub fn parts()
     ensures main { MainIsInstance }
     ensures opened { PartsAreInstances }
+{}
+
+/// What the meaning offers reads no closing: the history without the lists that were closed and the faults that were
+/// passed offers the same.
+pub fn offers_read_no_closing()
+    ensures { OffersReadNoClosing }
+{}
+
+/// The results that a run keeps and the nodes for which it has room, on worked histories with tries out and flows open.
+pub fn rows_of_room()
+    ensures steps { KeepsResultOfFirstJob }
+    ensures instances { KeepsResultsOfOpenInstances }
 {}
