@@ -147,7 +147,7 @@ module _ (gives : Giving) (d : Document) (f : IsWellFormed d) (past : History) (
   facts (suc k) I o i J (inl e) = (([], e ∙ sym (append-nil I)), subst (λ n. is_open gives m past n ≡ true) (sym e) o, subst (λ n. In n (instances gives m)) (sym e) i)
   facts (suc k) I o i J (inr h) =
       let r = of-among k (held I) J h in
-      let g = are.of_instance I o r.0 r.1 in
+      let g = (are I o).of_instance r.0 r.1 in
       let b = facts k r.0.name (right_true (is_some r.0.opens) (is_open gives m past r.0.name) r.2) (opener-in r.0 g.0 r.2) J r.3 in
       (((w.jobs r.0 g.0).key ∷ b.0.0, b.0.1 ∙ ap (λ n. n ++ b.0.0) ((w.jobs r.0 g.0).named ∙ ap (λ n. n ++ (w.jobs r.0 g.0).key ∷ []) g.1) ∙ append_assoc I ((w.jobs r.0 g.0).key ∷ []) b.0.0), b.1, b.2)
 
@@ -184,10 +184,10 @@ module _ (gives : Giving) (d : Document) (f : IsWellFormed d) (past : History) (
   apart zero I o i = tt
   apart (suc k) I o i = (
     λ J h e. let r = of-among k (held I) J h in
-        let g = are.of_instance I o r.0 r.1 in
+        let g = (are I o).of_instance r.0 r.1 in
         let b = facts k r.0.name (right_true (is_some r.0.opens) (is_open gives m past r.0.name) r.2) (opener-in r.0 g.0 r.2) J r.3 in
         not-longer I (w.jobs r.0 g.0).key b.0.0 (sym e ∙ b.0.1 ∙ ap (λ n. n ++ b.0.0) ((w.jobs r.0 g.0).named ∙ ap (λ n. n ++ (w.jobs r.0 g.0).key ∷ []) g.1) ∙ append_assoc I ((w.jobs r.0 g.0).key ∷ []) b.0.0),
-    apart-among k I (held I) (are.of_instance I o) (are.in_order I o) (λ j h e. apart k j.name (right_true (is_some j.opens) (is_open gives m past j.name) e) (opener-in j (are.of_instance I o j h).0 e)) (λ j h e J u. (facts k j.name (right_true (is_some j.opens) (is_open gives m past j.name) e) (opener-in j (are.of_instance I o j h).0 e) J u).0),
+    apart-among k I (held I) ((are I o).of_instance) ((are I o).in_order) (λ j h e. apart k j.name (right_true (is_some j.opens) (is_open gives m past j.name) e) (opener-in j ((are I o).of_instance j h).0 e)) (λ j h e J u. (facts k j.name (right_true (is_some j.opens) (is_open gives m past j.name) e) (opener-in j ((are I o).of_instance j h).0 e) J u).0),
   )
 
   -- ---- still ones
@@ -213,7 +213,7 @@ module _ (gives : Giving) (d : Document) (f : IsWellFormed d) (past : History) (
     where
       none : 0 ≤ 0
       none = omega arith
-  at-most (suc k) I o i b = one (not (still I)) (tally (λ J. not (still J)) (among k (held I))) k (rest (held I) (are.of_instance I o) (λ j h e. at-most k j.name (right_true (is_some j.opens) (is_open gives m past j.name) e) (opener-in j (are.of_instance I o j h).0 e) (shorter j (are.of_instance I o j h))))
+  at-most (suc k) I o i b = one (not (still I)) (tally (λ J. not (still J)) (among k (held I))) k (rest (held I) ((are I o).of_instance) (λ j h e. at-most k j.name (right_true (is_some j.opens) (is_open gives m past j.name) e) (opener-in j ((are I o).of_instance j h).0 e) (shorter j ((are I o).of_instance j h))))
     where
       one : (c : Bool) (a k : ℕ) → a ≤ k → bit c + a ≤ suc k
       one true a k h = more a k h

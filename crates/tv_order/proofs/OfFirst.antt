@@ -310,7 +310,7 @@ module _ (gives : Giving) (D : ℕ → Type 0) (m : Meaning) (w : IsWhole gives 
     covered : (I : JobName) → is_open gives m past I ≡ true → (y : Job) → In y m.jobs → Under I y → passes y ≡ true → InOneOf (held I) y
     covered I o y i u p =
         let h = has-own I u.0 u.1 y i u.2 (passes-open y i p) in
-        (h.own, are.all_there I o h.own h.mine h.in_instance (there h.own h.itself_or_open), (h.rest, h.inside_it))
+        (h.own, (are I o).all_there h.own h.mine h.in_instance (there h.own h.itself_or_open), (h.rest, h.inside_it))
       where
         there : (z : Job) → (y ≡ z) ⊎ (has_open_instance gives m past z ≡ true) → (has_open_instance gives m past z || passes z) ≡ true
         there z (inl q) = or_right (has_open_instance gives m past z) (passes z) (subst (λ x. passes x ≡ true) q p)
@@ -322,11 +322,11 @@ module _ (gives : Giving) (D : ℕ → Type 0) (m : Meaning) (w : IsWhole gives 
       where
         too_long : (a r l : ℕ) → l ≡ a + suc r → l ≤ a + 0 → ⊥
         too_long a r l p q = omega arith
-    walked (suc k) I o b = from (first_among held into passes (first_in held into passes k) (held I)) (among (first_in held into passes k) I (held I) (are.of_instance I o) (are.in_order I o) (deeper (λ J q c. walked k J q c)))
+    walked (suc k) I o b = from (first_among held into passes (first_in held into passes k) (held I)) (among (first_in held into passes k) I (held I) ((are I o).of_instance) ((are I o).in_order) (deeper (λ J q c. walked k J q c)))
       where
         deeper : ((J : JobName) → is_open gives m past J ≡ true → ((y : Job) → In y m.jobs → length y.name ≤ length J + k) → FirstOf (Under J) (first_in held into passes k J)) → (j : Job) → In j (held I) → into j ≡ true → FirstOf (Under j.name) (first_in held into passes k j.name)
         deeper rec j h q =
-            let f = are.of_instance I o j h in
+            let f = (are I o).of_instance j h in
             rec j.name (right_true (is_some j.opens) (is_open gives m past j.name) q) (λ y i. more (length j.name) (length I) (length y.name) k (ap (λ (l : JobName). length l) ((w.jobs j f.0).named ∙ ap (λ n. n ++ (w.jobs j f.0).key ∷ []) f.1) ∙ length-append I ((w.jobs j f.0).key ∷ [])) (b y i))
           where
             more : (a c l k : ℕ) → a ≡ c + 1 → l ≤ c + suc k → l ≤ a + k
@@ -342,7 +342,7 @@ module _ (gives : Giving) (D : ℕ → Type 0) (m : Meaning) (w : IsWhole gives 
           where
             under : Under I x
             under =
-                let f = are.of_instance I o g.1.0 g.1.1 in
+                let f = (are I o).of_instance g.1.0 g.1.1 in
                 ((w.jobs g.1.0 f.0).key, g.1.2.0, g.1.2.1 ∙ ap (λ n. n ++ g.1.2.0) ((w.jobs g.1.0 f.0).named ∙ ap (λ n. n ++ (w.jobs g.1.0 f.0).key ∷ []) f.1) ∙ append_assoc I ((w.jobs g.1.0 f.0).key ∷ []) g.1.2.0)
 
     under-main : (y : Job) → In y m.jobs → Under [] y

@@ -46,8 +46,8 @@ to-filter {A = A} p y (x ∷ xs) h e = by (p x) refl h (λ k. to-filter p y xs k
     by false q (inr k) rec = rec k
 
 pub own-held : (gives : Giving) (m : Meaning) (past : History) (passes : Job → Bool) → AreHeld gives m past (own_jobs m) passes
-own-held gives m past passes = record {
-  of_instance = λ I o j h. let r = of-filter (λ (j : Job). same_job j.instance I) j m.jobs h in (r.0, (same_job_decides j.instance I).0 r.1);
-  in_order = λ I o. pairs-filter (λ j k. Before j k m.jobs) (λ (j : Job). same_job j.instance I) m.jobs (pairs-self m.jobs);
-  all_there = λ I o j h e g. to-filter (λ (j : Job). same_job j.instance I) j m.jobs h ((same_job_decides j.instance I).1 e);
+own-held gives m past passes I o = record {
+  of_instance = λ j h. let r = of-filter (λ (j : Job). same_job j.instance I) j m.jobs h in (r.0, (same_job_decides j.instance I).0 r.1);
+  in_order = pairs-filter (λ j k. Before j k m.jobs) (λ (j : Job). same_job j.instance I) m.jobs (pairs-self m.jobs);
+  all_there = λ j h e g. to-filter (λ (j : Job). same_job j.instance I) j m.jobs h ((same_job_decides j.instance I).1 e);
 }

@@ -1,4 +1,5 @@
--- The first job that passes a test, found by walking down from an instance: its jobs in order, and into those whose flow is open.
+-- The first job that passes a test, found by walking down from an instance: its jobs in order, and into those
+-- whose flow is open.
 use Rattle.std.specs.Option.{option_or}
 use Rattle.std.specs.Prelude.{Bool, List, None, Option, Some, [], filter, if◌then◌else◌, is_some, suc, true, zero, ℕ, ◌++◌, ◌||◌, ◌∷◌, ◌≡◌, ◌⊎◌}
 use Rattle.tv_value.specs.Orders.{same_job}
@@ -39,11 +40,20 @@ module _ (held : JobName → List Job) (walks_into passes : Job → Bool) where
   entered_in zero instance = []
   entered_in (suc levels) instance = instance ∷ entered_among (first_in levels) (entered_in levels) (held instance)
 
--- of each open instance the list has jobs of it alone, in the order of the meaning, and among them each that passes or has an open instance
-pub record AreHeld (gives : Giving) (m : Meaning) (past : History) (held : JobName → List Job) (passes : Job → Bool) : Type 0 where
-  pub of_instance : (I : JobName) → is_open gives m past I ≡ true → (j : Job) → In j (held I) → In j m.jobs × (j.instance ≡ I)
-  pub in_order : (I : JobName) → is_open gives m past I ≡ true → AllPairs (λ j k. StandsBefore j k m.jobs) (held I)
-  pub all_there : (I : JobName) → is_open gives m past I ≡ true → (j : Job) → In j m.jobs → j.instance ≡ I → (has_open_instance gives m past j || passes j) ≡ true → In j (held I)
+-- of each open instance the list has jobs of it alone, in the order of the meaning, and among them each that passes
+-- or has an open instance
+pub record IsHeld (gives : Giving) (m : Meaning) (past : History) (passes : Job → Bool) (I : JobName) (js : List Job) : Type 0 where
+  pub of_instance : (j : Job) → In j js → In j m.jobs × (j.instance ≡ I)
+  pub in_order : AllPairs (λ j k. StandsBefore j k m.jobs) js
+  pub all_there :
+      (j : Job)
+      → In j m.jobs
+      → j.instance ≡ I
+      → (has_open_instance gives m past j || passes j) ≡ true
+      → In j js
+
+abbrev pub AreHeld : Giving → Meaning → History → (JobName → List Job) → (Job → Bool) → Type 0
+AreHeld gives m past held passes = (I : JobName) → is_open gives m past I ≡ true → IsHeld gives m past passes I (held I)
 
 -- the plainest that can be held: all jobs of an instance
 abbrev pub own_jobs : Meaning → JobName → List Job

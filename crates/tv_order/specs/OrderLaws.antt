@@ -13,7 +13,8 @@ use Rattle.tv_order.specs.Moments.{IsJob, StandsAt, all_jobs}
 -- the jobs of a meaning stand in job order
 abbrev pub JobsAreInOrder : Type 0
 JobsAreInOrder =
-    (gives : Giving) (d : Document) → AllPairs (λ j k. job_before d.flows most_nesting d.main j.name k.name ≡ true) (all_jobs gives d)
+    (gives : Giving) (d : Document)
+    → AllPairs (λ j k. job_before d.flows most_nesting d.main j.name k.name ≡ true) (all_jobs gives d)
 
 -- no two names stand before each other
 abbrev pub OrderIsStrict : Type 0

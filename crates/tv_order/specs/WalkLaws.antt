@@ -71,4 +71,5 @@ FewAreEntered =
     → IsOpen gives d past []
     → (held : JobName → List Job)
     → AreHeld gives (meaning gives d) past held (goes_on gives d past)
-    → length (entered_in held (has_open gives d past) (goes_on gives d past) most_nesting []) ≤ most_nesting * suc (tries_out gives d past)
+    → length (entered_in held (has_open gives d past) (goes_on gives d past) most_nesting [])
+    ≤ most_nesting * suc (tries_out gives d past)
