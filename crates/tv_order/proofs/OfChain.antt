@@ -106,7 +106,7 @@ module _ (gives : Giving) (m : Meaning) (w : IsWhole gives AnyNumber m []) (past
           less : (a c n : ℕ) → a ≡ suc c → a ≤ n → c < n
           less a c n e h = omega arith
 
--- ---- ONE CHAIN
+-- ---- one chain
 
 module _ (gives : Giving) (d : Document) (f : IsWellFormed d) (base : History) (none : (j : Job) → In j (meaning gives d).jobs → is_running gives (meaning gives d) base j ≡ false) (es : History) (legal : is_legal gives (meaning gives d) (es ++ base) ≡ true) (by_one : is_by_one_from gives (meaning gives d) base es ≡ true) where
   one-runs : OneRuns gives (meaning gives d) (es ++ base)

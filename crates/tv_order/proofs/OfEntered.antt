@@ -266,7 +266,7 @@ module _ (gives : Giving) (d : Document) (f : IsWellFormed d) (past : History) (
           by false e h = stop (goes j) h
           by true e h = subst (λ n. n ≤ k) (sym (tally-append (λ J. not (still J)) (entered k j.name) (if is_some (first_of k j.name) then [] else among k js))) (inner e (first_of k j.name) refl h)
 
-  -- ENTERED: from the main instance the walk enters at most eight instances, and eight for each try that is out
+  -- from the main instance the walk enters at most eight instances, and eight for each try that is out
   pub few-entered : is_open gives m past [] ≡ true → length (entered_in held (has_open_instance gives m past) (λ j. is_offered gives m past j || can_open gives m past j) most_nesting []) ≤ most_nesting * suc (count_by (λ k. is_out past k.name) m.jobs)
   few-entered o =
       sums (length (entered most_nesting [])) (tally still (entered most_nesting [])) (tally (λ J. not (still J)) (entered most_nesting [])) (count_by (λ k. is_out past k.name) m.jobs) (halves still (entered most_nesting [])) stills (at-most most_nesting [] o (inl refl) (λ y h. add (length y.name) most_nesting (name-length gives d y h)))

@@ -348,7 +348,7 @@ module _ (gives : Giving) (D : ℕ → Type 0) (m : Meaning) (w : IsWhole gives 
     under-main : (y : Job) → In y m.jobs → Under [] y
     under-main y i = let c = (are-jobs gives D m [] w).has_name y i in (c.0, c.1, c.2)
 
-    -- FIRST: the walk from the main instance finds the first
+    -- the walk from the main instance finds the first
     pub first-found : (k : ℕ) → is_open gives m past [] ≡ true → ((y : Job) → In y m.jobs → length y.name ≤ k) → first_in held into passes k [] ≡ find passes m.jobs
     first-found k o b = by (first_in held into passes k []) (walked k [] o (λ y i. add (length y.name) k (b y i)))
       where

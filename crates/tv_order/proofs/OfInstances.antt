@@ -42,7 +42,7 @@ spots-of flows (suc k) f I x y h = by (named f flows) h I refl (λ g J e. spots-
         subst (λ l. (x ≡ y) ⊎ (spot_before (steps_in (steps_at flows k) (ranked fl.steps) l) x y ≡ true)) (sym e)
         (inner J (step_flow (ranked fl.steps) z.0) (deeper (ranked fl.steps) z J (same_spot z z) (spot-itself z) (subst (λ l. names_before (job_before flows k) (ranked fl.steps) (l ++ x ∷ []) (l ++ y ∷ []) ≡ true) e q)) rec)
 
--- ORDER IN AN INSTANCE
+-- the order in an instance
 pub instance-order : (gives : Giving) (d : Document) (I : JobName) (j k : Job) → In j (meaning gives d).jobs → In k (meaning gives d).jobs → (x y : Name × Place) → j.name ≡ I ++ x ∷ [] → k.name ≡ I ++ y ∷ [] → spot_before (steps_at d.flows most_nesting d.main I) x y ≡ true → Before j k (meaning gives d).jobs
 instance-order gives d I j k i h x y e f b = by (one-first (meaning gives d).jobs j k i h)
   where

@@ -165,7 +165,7 @@ module _ (gives : Giving) (d : Document) where
       by true f h = let k = some_in (begins-at e past j) m.jobs f in one-more k.0 k.1 k.2
       by false f h = through (tally (runs (e ∷ past) j) m.jobs) (tally (runs past j) m.jobs) j.limit (tally-weaken (runs (e ∷ past) j) (runs past j) m.jobs (as-before f)) h
 
-  -- LIMIT: of a step at most its limit run in an instance
+  -- of a step at most its limit run in an instance
   pub running-limit : (past : History) → is_legal gives m past ≡ true → (j : Job) → In j m.jobs → count_by (λ k. same_job k.instance j.instance && same_name k.step j.step && is_running gives m past k) m.jobs ≤ j.limit
   running-limit past l j i = subst (λ n. n ≤ j.limit) (sym (count-tally (runs past j) m.jobs)) (within past l j i)
 

@@ -464,7 +464,7 @@ module _ (gives : Giving) (flows : List (Name × Flow)) where
       by None e rec = none-orderly (suc depth) f I
       by (Some flow) e rec = instance-orderly depth f flow e (flow_meaning gives flows depth) rec I vs
 
--- JOB ORDER: the jobs of a meaning stand in job order
+-- the jobs of a meaning stand in job order
 pub jobs-in_order : (gives : Giving) (d : Document) → AllPairs (λ j k. job_before d.flows most_nesting d.main j.name k.name ≡ true) (meaning gives d).jobs
 jobs-in_order gives d =
     pairs-map (Within [] (job_before d.flows most_nesting d.main)) (λ j k. job_before d.flows most_nesting d.main j.name k.name ≡ true) (λ j k h. subst (λ a. job_before d.flows most_nesting d.main a k.name ≡ true) (sym h.2) (subst (λ b. job_before d.flows most_nesting d.main h.0 b ≡ true) (sym h.3) h.4)) (meaning gives d).jobs (flow-orderly gives d.flows most_nesting d.main [] d.inputs).ordered

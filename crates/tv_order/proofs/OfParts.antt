@@ -24,7 +24,7 @@ use Rattle.tv_model.proofs.Formed.{none-formed, own-apart, steps-formed}
 use Rattle.tv_model.proofs.Instances.{all-sound, given-free, ranked-fresh}
 use Rattle.tv_model.proofs.Whole.{AnyNumber, IsWhole, StepsHave, flow-whole, not-longer, rank-each, same-head}
 use Rattle.tv_agreed.specs.Opening.{first_nested}
-use Rattle.tv_order.specs.Parts.{IsInstance, made_of, steps_of_made}
+use Rattle.tv_order.specs.Parts.{IsInstance, OwnPart, made_of, steps_of_made}
 use Rattle.tv_order.proofs.OfOrder.{IsOf, InsideAt, deeper-nests, flow-orderly, made-all, steps-each}
 
 module _ (gives : Giving) (flows : List (Name × Flow)) where
@@ -151,7 +151,7 @@ module _ (gives : Giving) (flows : List (Name × Flow)) where
 
   -- the instance that a job of m opens
   abbrev pub PartOf : Meaning → Job → Name → Type 0
-  PartOf m j g = (s : Step) × (first_nested s.activities ≡ Some g) × (l : ℕ) × (flow : Flow) × (named g flows ≡ Some flow) × IsInstance gives flows m j.name l flow (zip_names s.inputs j.inputs)
+  PartOf m j g = (s : Step) × (first_nested s.activities ≡ Some g) × (l : ℕ) × (flow : Flow) × (named g flows ≡ Some flow) × IsInstance gives flows m j.name l flow (zip_names s.inputs j.inputs) × OwnPart gives flows m j s
 
   abbrev name_or : Name → Option Name → Name
   name_or d None = d
@@ -163,14 +163,20 @@ module _ (gives : Giving) (flows : List (Name × Flow)) where
   opened-instance (suc k) g h n us = (k, h.0, h.1, main-instance k g h.0 h.1 n us)
 
   module _ (k : ℕ) (f : Name) (flow : Flow) (found : named f flows ≡ Some flow) (nests : NestsWithin flows (suc k) f) (I : JobName) (vs : List (Name × Value)) (rec : (g : Name) → NestsWithin flows k g → (J : JobName) (us : List (Name × Value)) (j : Job) → In j (flow_meaning gives flows k g J us).jobs → (h : Name) → j.opens ≡ Some h → PartOf (flow_meaning gives flows k g J us) j h) where
-    lift-part : (o : Opened) → In o (os k flow I vs) → (m : Meaning) → o.inside ≡ Some m → (j : Job) (r : JobName) → j.name ≡ o.job.name ++ r → (g : Name) → PartOf m j g → PartOf (n k flow I vs) j g
-    lift-part o h m e j r q g p = (p.0, p.1, p.2, p.3, p.4, lifted k flow I vs o h m e j.name r q p.2 p.3 (zip_names p.0.inputs j.inputs) p.5)
+    lift-part : (o : Opened) → In o (os k flow I vs) → (m : Meaning) → o.inside ≡ Some m → (j : Job) (r : JobName) → j.name ≡ o.job.name ++ r → (t : JobName) → j.instance ≡ o.job.name ++ t → (g : Name) → PartOf m j g → PartOf (n k flow I vs) j g
+    lift-part o h m e j r q t u g p = (p.0, p.1, p.2, p.3, p.4, lifted k flow I vs o h m e j.name r q p.2 p.3 (zip_names p.0.inputs j.inputs) p.5, own p.6)
+      where
+        own : OwnPart gives flows m j p.0 → OwnPart gives flows (n k flow I vs) j p.0
+        own w = record { levels = w.levels; flow = w.flow; inputs = w.inputs; part = lifted k flow I vs o h m e j.instance t u w.levels w.flow w.inputs w.part; is_step = w.is_step }
 
     block-part : (o : Opened) → In o (os k flow I vs) → (j : Job) → In j (jobs_with_inside o) → (g : Name) → j.opens ≡ Some g → PartOf (n k flow I vs) j g
     block-part o h j i g q = by o.inside refl i
       where
         w : Own k flow I vs o
         w = own k flow I vs o h
+
+        own-part : OwnPart gives flows (n k flow I vs) o.job w.1
+        own-part = record { levels = k; flow = flow; inputs = vs; part = subst (λ J. IsInstance gives flows (n k flow I vs) J k flow vs) (sym w.4.in_instance) (itself k flow I vs); is_step = subst (λ x. named x (ranked flow.steps) ≡ Some w.1) (sym w.4.step) w.3 }
 
         by : (p : Option Meaning) → o.inside ≡ p → In j (o.job ∷ option_map_or (λ (x : Meaning). x.jobs) p []) → PartOf (n k flow I vs) j g
         by None e (inl x) = absurd (true≠false (sym (ap is_some (ap (λ (z : Job). z.opens) (sym x) ∙ q)) ∙ subst (λ p. InsideAt gives (inside k flow I vs) I (λ g m n. IsMeant k g m n) (meant k flow I vs) w.1 o.job p) e w.4.inside_it))
@@ -179,16 +185,16 @@ module _ (gives : Giving) (flows : List (Name × Flow)) where
             let t = subst (λ p. InsideAt gives (inside k flow I vs) I (λ g m n. IsMeant k g m n) (meant k flow I vs) w.1 o.job p) e w.4.inside_it in
             let z = opened-instance k t.0 (deeper-nests gives flows k f flow found (flow_meaning gives flows k) (λ g n us. flow-orderly gives flows k g n us) I vs nests w.0 w.1 t.0 w.3 t.1) o.job.name (zip_names w.1.inputs o.job.inputs) in
             let same = ap (name_or g) (sym t.4 ∙ ap (λ (z : Job). z.opens) (sym x) ∙ q) in
-            subst (λ u. PartOf (n k flow I vs) u g) (sym x) (subst (λ u. PartOf (n k flow I vs) o.job u) same (w.1, t.1, z.0, z.1, z.2, lifted k flow I vs o h m e o.job.name [] (sym (append-nil o.job.name)) z.0 z.1 (zip_names w.1.inputs o.job.inputs) (subst (λ u. IsInstance gives flows u o.job.name z.0 z.1 (zip_names w.1.inputs o.job.inputs)) (sym t.5) z.3)))
+            subst (λ u. PartOf (n k flow I vs) u g) (sym x) (subst (λ u. PartOf (n k flow I vs) o.job u) same (w.1, t.1, z.0, z.1, z.2, lifted k flow I vs o h m e o.job.name [] (sym (append-nil o.job.name)) z.0 z.1 (zip_names w.1.inputs o.job.inputs) (subst (λ u. IsInstance gives flows u o.job.name z.0 z.1 (zip_names w.1.inputs o.job.inputs)) (sym t.5) z.3), own-part))
         by (Some m) e (inr x) =
             let t = subst (λ p. InsideAt gives (inside k flow I vs) I (λ g m n. IsMeant k g m n) (meant k flow I vs) w.1 o.job p) e w.4.inside_it in
             let nest = deeper-nests gives flows k f flow found (flow_meaning gives flows k) (λ g n us. flow-orderly gives flows k g n us) I vs nests w.0 w.1 t.0 w.3 t.1 in
             let us = zip_names w.1.inputs o.job.inputs in
             let whole = whole-of k t.0 m o.job.name (us, t.5) in
             let b = (whole.jobs j x).below in
-            lift-part o h m e j (b.0 ++ (whole.jobs j x).key ∷ []) ((whole.jobs j x).named ∙ ap (λ l. l ++ (whole.jobs j x).key ∷ []) b.1 ∙ append_assoc o.job.name b.0 ((whole.jobs j x).key ∷ [])) g (subst (λ u. PartOf u j g) (sym t.5) (rec t.0 nest o.job.name us j (subst (λ (u : Meaning). In j u.jobs) t.5 x) g q))
+            lift-part o h m e j (b.0 ++ (whole.jobs j x).key ∷ []) ((whole.jobs j x).named ∙ ap (λ l. l ++ (whole.jobs j x).key ∷ []) b.1 ∙ append_assoc o.job.name b.0 ((whole.jobs j x).key ∷ [])) b.0 b.1 g (subst (λ u. PartOf u j g) (sym t.5) (rec t.0 nest o.job.name us j (subst (λ (u : Meaning). In j u.jobs) t.5 x) g q))
 
-  -- PARTS: what a job opens is the instance of its step's flow on its inputs, at any depth
+  -- what a job opens is the instance of its step's flow on its inputs, at any depth
   pub parts : (k : ℕ) (f : Name) → NestsWithin flows k f → (I : JobName) (vs : List (Name × Value)) (j : Job) → In j (flow_meaning gives flows k f I vs).jobs → (g : Name) → j.opens ≡ Some g → PartOf (flow_meaning gives flows k f I vs) j g
   parts zero f h I vs j i g q = absurd h
   parts (suc k) f h I vs j i g q =

@@ -251,7 +251,7 @@ module _ (gives : Giving) (d : Document) (f : IsWellFormed d) (past : History) (
       by true c e h = absurd (true≠false e)
       by false c e h = h
 
-  -- FEW: the open instances in which nothing goes on are at most as many as tries are out, times the levels
+  -- the open instances in which nothing goes on are at most as many as tries are out, times the levels
   pub few-still : (Js : List JobName) → Apart (λ J. J) Js → ((J : JobName) → In J Js → (is_open gives m past J ≡ true) × In J (instances gives m) × IsStill J) → length Js ≤ most_nesting * count_by (λ k. is_out past k.name) m.jobs
   few-still Js a are =
       through (length Js) (total (λ J. 1) Js) (most_nesting * tally (λ k. is_out past k.name) m.jobs) (most_nesting * count_by (λ k. is_out past k.name) m.jobs) (ones Js) (few-by (λ J k. is_inside J k.name && is_out past k.name) (λ k. is_out past k.name) most_nesting Js m.jobs (λ J h. let r = are J h in still-out J r.0 r.1 r.2) (λ k h. (most k h, none k))) (ap (λ n. most_nesting * n) (sym (count-tally (λ k. is_out past k.name) m.jobs)))

@@ -80,7 +80,7 @@ flow-strict : (o : Option Flow) (r s : Flow → Bool) → ((f : Flow) → r f �
 flow-strict None r s g h k = true≠false (sym h)
 flow-strict (Some f) r s g h k = g f h k
 
--- STRICT: no two names stand before each other
+-- no two names stand before each other
 pub job-strict : (flows : List (Name × Flow)) (k : ℕ) (f : Name) (a b : JobName) → job_before flows k f a b ≡ true → job_before flows k f b a ≡ true → ⊥
 job-strict flows zero f a b h g = true≠false (sym h)
 job-strict flows (suc k) f a b h g =

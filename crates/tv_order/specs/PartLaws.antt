@@ -10,7 +10,7 @@ use Rattle.tv_model.specs.Jobs.{Job}
 use Rattle.tv_model.specs.Meanings.{meaning, most_nesting}
 use Rattle.tv_agreed.specs.Opening.{first_nested}
 use Rattle.tv_order.specs.Moments.{IsJob}
-use Rattle.tv_order.specs.Parts.{IsInstance}
+use Rattle.tv_order.specs.Parts.{IsInstance, OwnPart}
 
 -- the main instance is that of the main flow on the document's inputs
 abbrev pub MainIsInstance : Type 0
@@ -19,9 +19,11 @@ MainIsInstance =
     → named d.main d.flows ≡ Some flow
     → IsInstance gives d.flows (meaning gives d) [] 7 flow d.inputs
 
--- the instance that a job opens: that of the first flow that its step nests, on the job's inputs
+-- the instance that a job opens: that of the first flow that its step nests, on the job's inputs; its step is the one of
+-- its name in the flow of its own instance
 pub record OpenedPart (gives : Giving) (d : Document) (j : Job) (g : Name) : Type 0 where
   pub step : Step
+  pub own : OwnPart gives d.flows (meaning gives d) j step
   pub nested_first : first_nested step.activities ≡ Some g
   pub levels : ℕ
   pub flow : Flow
