@@ -1,0 +1,10 @@
+pub mod Lists
+pub mod FlowsAgree
+pub mod Nests
+pub mod Accepted
+pub mod Opening
+pub mod Inner
+pub mod Settled
+pub mod OneStep
+pub mod OneInstance
+pub mod Planned

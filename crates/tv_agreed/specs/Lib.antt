@@ -1,0 +1,5 @@
+pub mod Opening
+pub mod InstanceFlows
+pub mod PlannedDepths
+pub mod Stated
+pub mod Rows

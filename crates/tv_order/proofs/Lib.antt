@@ -1,0 +1,15 @@
+pub mod OneMore
+pub mod OfOrder
+pub mod OfStrict
+pub mod OfFirst
+pub mod OfDocuments
+pub mod OfTallies
+pub mod OfLimits
+pub mod OfChain
+pub mod OfStill
+pub mod OfEntered
+pub mod OfInstances
+pub mod OfHanding
+pub mod OfParts
+pub mod OfHeld
+pub mod OfClosings

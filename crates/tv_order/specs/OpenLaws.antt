@@ -1,0 +1,148 @@
+-- The laws of open instances, for every document, all services and every legal history.
+use Rattle.std.specs.Prelude.{List, count_by, false, length, suc, true, ◌&&◌, ◌*◌, ◌++◌, ◌||◌, ◌∷◌, ◌≡◌, ◌≤◌}
+use Rattle.tv_value.specs.Nested.{Place}
+use Rattle.tv_value.specs.Values.{JobName, Name}
+use Rattle.tv_gate.specs.Outcomes.{Giving}
+use Rattle.tv_flow.specs.Flows.{Document}
+use Rattle.tv_model.specs.Agreeing.{NestsWithin}
+use Rattle.tv_model.specs.Jobs.{Job}
+use Rattle.tv_model.specs.Meanings.{meaning, most_nesting}
+use Rattle.tv_model.specs.Members.{In}
+use Rattle.tv_history.specs.Entries.{History, is_out}
+use Rattle.tv_history.specs.Going.{IsWellFormed}
+use Rattle.tv_history.specs.Histories.{instances, may_go_on}
+use Rattle.tv_order.specs.Chains.{AreNested, is_by_one_from, is_inside}
+use Rattle.tv_order.specs.JobOrder.{Apart, limit_at}
+use Rattle.tv_order.specs.Moments.{IsJob, IsLegal, IsOpen, IsQuiet, all_jobs, goes_on, has_open, is_beside, runs, tries_out}
+
+-- ---- where they are
+
+-- a job whose flow is open
+pub record Opener (gives : Giving) (d : Document) (past : History) (j : Job) : Type 0 where
+  pub in_open : IsOpen gives d past j.instance
+  pub running : runs gives d past j ≡ true
+  pub waits : may_go_on gives (meaning gives d) past j ≡ false
+
+-- the instance round an open one is open, and the job that opened it runs and doesn't go on itself
+abbrev pub OpenersRun : Type 0
+OpenersRun =
+    (gives : Giving) (d : Document) (past : History)
+    → IsLegal gives d past
+    → (j : Job)
+    → IsJob gives d j
+    → has_open gives d past j ≡ true
+    → Opener gives d past j
+
+-- what goes on stands in an open instance
+abbrev pub GoingIsInside : Type 0
+GoingIsInside =
+    (gives : Giving) (d : Document) (past : History)
+    → IsLegal gives d past
+    → (j : Job)
+    → IsJob gives d j
+    → may_go_on gives (meaning gives d) past j ≡ true
+    → IsOpen gives d past j.instance
+
+-- ---- limits of steps
+
+-- of the jobs beside j at most its limit run, and as many at most have an open instance
+pub record Limits (gives : Giving) (d : Document) (past : History) (j : Job) : Type 0 where
+  pub running : count_by (λ k. is_beside j k && runs gives d past k) (all_jobs gives d) ≤ j.limit
+  pub open_within : count_by (λ k. is_beside j k && has_open gives d past k) (all_jobs gives d) ≤ j.limit
+
+abbrev pub StepsKeepLimits : Type 0
+StepsKeepLimits =
+    (gives : Giving) (d : Document) (past : History)
+    → IsLegal gives d past
+    → (j : Job)
+    → IsJob gives d j
+    → Limits gives d past j
+
+-- jobs of one step in one instance have one limit
+abbrev pub StepsHaveOneLimit : Type 0
+StepsHaveOneLimit =
+    (gives : Giving) (d : Document) (j k : Job)
+    → IsJob gives d j
+    → IsJob gives d k
+    → is_beside j k ≡ true
+    → k.limit ≡ j.limit
+
+-- it is the one that the document says of the step to which the instance's name leads
+abbrev pub LimitsAreStated : Type 0
+LimitsAreStated =
+    (gives : Giving) (d : Document) (j : Job)
+    → IsJob gives d j
+    → j.limit ≡ limit_at d.flows most_nesting d.main j.instance j.step
+
+-- ---- one worker
+
+-- a legal history: what one worker appended to one in which no job runs
+pub record IsAlone (gives : Giving) (d : Document) (base es : History) : Type 0 where
+  pub idle : (j : Job) → IsJob gives d j → runs gives d base j ≡ false
+  pub legal : IsLegal gives d (es ++ base)
+  pub by_one : is_by_one_from gives (meaning gives d) base es ≡ true
+
+-- of two open instances one stands in the other
+abbrev pub OpenIsOneChain : Type 0
+OpenIsOneChain =
+    (gives : Giving) (d : Document)
+    → IsWellFormed d
+    → (base es : History)
+    → IsAlone gives d base es
+    → (j k : Job)
+    → IsJob gives d j
+    → IsJob gives d k
+    → has_open gives d (es ++ base) j ≡ true
+    → has_open gives d (es ++ base) k ≡ true
+    → AreNested j.name k.name
+
+-- at most eight are open, with the main one
+abbrev pub ChainIsShort : Type 0
+ChainIsShort =
+    (gives : Giving) (d : Document)
+    → IsWellFormed d
+    → NestsWithin d.flows most_nesting d.main
+    → (base es : History)
+    → IsAlone gives d base es
+    → suc (count_by (has_open gives d (es ++ base)) (all_jobs gives d)) ≤ most_nesting
+
+-- ---- many workers
+
+-- a job inside the instance J that goes on, or has a try out
+pub record BusyJob (gives : Giving) (d : Document) (past : History) (J : JobName) : Type 0 where
+  pub job : Job
+  pub is_job : IsJob gives d job
+  pub within : (c : Name × Place) × (r : JobName) × (job.name ≡ J ++ c ∷ r)
+  pub busy : (goes_on gives d past job || is_out past job.name) ≡ true
+
+-- where nothing can be settled, each open instance has one inside
+abbrev pub OpenIsBusy : Type 0
+OpenIsBusy =
+    (gives : Giving) (d : Document)
+    → IsWellFormed d
+    → (past : History)
+    → IsLegal gives d past
+    → IsQuiet gives d past
+    → (J : JobName)
+    → IsOpen gives d past J
+    → In J (instances gives (meaning gives d))
+    → BusyJob gives d past J
+
+-- an open instance inside which nothing goes on
+pub record IsStill (gives : Giving) (d : Document) (past : History) (J : JobName) : Type 0 where
+  pub is_open : IsOpen gives d past J
+  pub is_instance : In J (instances gives (meaning gives d))
+  pub still : (k : Job) → IsJob gives d k → is_inside J k.name ≡ true → goes_on gives d past k ≡ false
+
+-- where nothing can be settled, they are at most eight for each try that is out
+abbrev pub FewAreStill : Type 0
+FewAreStill =
+    (gives : Giving) (d : Document)
+    → IsWellFormed d
+    → (past : History)
+    → IsLegal gives d past
+    → IsQuiet gives d past
+    → (Js : List JobName)
+    → Apart (λ J. J) Js
+    → ((J : JobName) → In J Js → IsStill gives d past J)
+    → length Js ≤ most_nesting * tries_out gives d past
