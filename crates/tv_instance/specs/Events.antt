@@ -31,6 +31,13 @@ event_place (closed s q n) = q
 event_place (fault_set s q e) = q
 event_place (took s q) = q
 
+-- it makes something known: a job that is taken doesn't
+abbrev pub is_telling : Event → Bool
+is_telling (gave s q vs) = true
+is_telling (closed s q n) = true
+is_telling (fault_set s q e) = true
+is_telling (took s q) = false
+
 -- the newest first
 abbrev pub Events : Type 0
 Events = List Event

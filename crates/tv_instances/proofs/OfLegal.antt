@@ -12,7 +12,7 @@ use Rattle.tv_depths.specs.Steps.{spot}
 use Rattle.tv_model.proofs.Tests.{same_job_decides}
 use Rattle.tv_instance.specs.Events as events
 use Rattle.tv_instance.specs.ByResults.{InstanceStep, Results}
-use Rattle.tv_instance.specs.Events.{Event, Events, Extends, event_place, event_step, fault_set, gave, has_level, has_result, is_known_by, is_of, is_spot, known_by, took}
+use Rattle.tv_instance.specs.Events.{Event, Events, Extends, event_place, event_step, fault_set, gave, has_level, has_result, is_known_by, is_of, is_spot, is_telling, known_by, took}
 use Rattle.tv_instance.specs.Fitting.{FitStep, FitsNode}
 use Rattle.tv_instance.specs.Legality.{AreLegal, IsFresh, node_of}
 use Rattle.tv_instance.specs.Wholeness.{origin_at}
@@ -32,13 +32,6 @@ module _ (instance : JobName) (fs : List InstanceStep) (f : InstanceStep) (self 
   legal-fit (e ∷ es) h = (λ s. subst (FitsNode e) (node-here e s) h.0.fits, legal-fit es h.1)
 
 -- ---- an event makes its node known, which wasn't before
-
--- it tells something of a node
-abbrev pub is_telling : Event → Bool
-is_telling (gave s q vs) = true
-is_telling (events.closed s q n) = true
-is_telling (fault_set s q e) = true
-is_telling (took s q) = false
 
 module _ (instance : JobName) where
   own-name : (s : Name) (q : Place) → same_job (spot instance s q) (spot instance s q) ≡ true
