@@ -1,6 +1,6 @@
 -- When all nodes of a step's iteration at and below a place are known. One tree of counters serves all outputs of the step, all that
 -- they are bound to, and the step's ending.
-use Rattle.std.specs.Prelude.{ℕ, zero, suc, ◌+◌, Bool, true, false, not, ◌&&◌, List, [], ◌∷◌, ◌++◌, None}
+use Rattle.std.specs.Prelude.{ℕ, zero, suc, ◌+◌, Bool, true, false, not, ◌&&◌, [], ◌∷◌, ◌++◌, None}
 use Rattle.tv_value.specs.Nested.{leaf, list, no_trees, tree, Place}
 use Rattle.tv_value.specs.Values.{JobName}
 use Rattle.tv_strategy.specs.Origins.{Origin, from_job, from_level}

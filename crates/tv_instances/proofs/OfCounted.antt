@@ -6,7 +6,7 @@ use Rattle.tv_flow.specs.Flows.{Step}
 use Rattle.tv_strategy.specs.Sources.{Each}
 use Rattle.tv_depths.specs.Delivered.{Delivered}
 use Rattle.tv_depths.specs.Ranks.{is_among}
-use Rattle.tv_instance.specs.ByResults.{InstanceStep, Results, last_first, step_by, steps_by, steps_from_last}
+use Rattle.tv_instance.specs.ByResults.{Results, last_first, step_by, steps_by, steps_from_last}
 use Rattle.tv_instance.specs.Counting.{have_ended_by}
 use Rattle.tv_instance.specs.Endings.{have_ended}
 use Rattle.tv_instance.specs.Events.{Events, known_by}

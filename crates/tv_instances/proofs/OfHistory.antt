@@ -1,5 +1,5 @@
 -- How an entry of a history becomes an event of an instance, or none.
-use Rattle.std.specs.Prelude.{◌≡◌, refl, ℕ, List, [], ◌∷◌, Bool, true, false, cond, ◌||◌, Some, find, is_none, is_some, if◌then◌else◌}
+use Rattle.std.specs.Prelude.{◌≡◌, refl, List, [], ◌∷◌, Bool, true, false, cond, ◌||◌, Some, find, is_none, is_some, if◌then◌else◌}
 use Rattle.std.specs.List.{list_any}
 use Rattle.std.specs.Option.{option_map_or}
 use Rattle.std.specs.Cmp.Lexicographic.{bytes_decides}
@@ -7,19 +7,18 @@ use Rattle.std.proofs.Common.{sym, ap, ap₂, subst, ◌∙◌}
 use Rattle.std.proofs.lemmas.Bool.{and_parts}
 use Rattle.tv_value.specs.Nested.{Place}
 use Rattle.tv_value.specs.Orders.{same_job, same_name}
-use Rattle.tv_value.specs.Values.{ErrorDoc, JobName, Name, Value}
+use Rattle.tv_value.specs.Values.{JobName, Name}
 use Rattle.tv_gate.specs.Outcomes.{Giving}
 use Rattle.tv_depths.specs.Steps.{spot}
 use Rattle.tv_model.specs.Jobs.{Job}
 use Rattle.tv_model.specs.Lists.{first_of_list, rest_of}
 use Rattle.tv_model.specs.Made.{Meaning}
 use Rattle.tv_model.specs.Turns.{is_bounced}
-use Rattle.tv_history.specs.Entries.{Entry, History, closed, fault_passed, handed_out, is_accepted, is_begun_entry, is_bounced_entry, is_ended_entry, is_level_entry, opened, recalled}
+use Rattle.tv_history.specs.Entries.{Entry, History, closed, fault_passed, handed_out, is_accepted, is_begun_entry, is_bounced_entry, is_ended_entry, opened, recalled}
 use Rattle.tv_history.specs.Histories.{asks_left, has_entry, is_settled, is_settled_name}
 use Rattle.tv_model.proofs.Tests.{same_job_decides}
-use Rattle.tv_instance.specs.Events as events
-use Rattle.tv_instance.specs.Events.{Events, fault_set, gave, has_level, has_result, is_spot, is_taken, took}
-use Rattle.tv_instances.specs.InHistory.{IsOfNoLevel, IsPartOf, Settles, SettlesNot, StaysSettled, TellsNothing}
+use Rattle.tv_instance.specs.Events.{has_level, has_result, is_spot, is_taken}
+use Rattle.tv_instances.specs.InHistory.{SettlesNot, StaysSettled}
 use Rattle.tv_instances.specs.Stated.{ClosedIsEvent, HandedOutIsEvent, OpenedIsEvent, OthersStaySettled, PartStays, PassedIsEvent, RecalledIsNone, SettledIsEvent}
 use Rattle.tv_instances.proofs.OfEvents.{spot-test}
 

@@ -1,6 +1,5 @@
 -- The laws as they are stated.
 use Rattle.std.specs.Prelude.{[], refl}
-use Rattle.tv_strategy.specs.Origins.{Origin}
 use Rattle.tv_instance.specs.Endings.{IsOwn}
 use Rattle.tv_instances.specs.Stated.{EndedIsByEvents, EndingIsByEvents, EventsRise, LegalEventsFit, NodesAreOwn, ReadyIsByEvents, SettlingIsByEvents, WholeIsByEvents}
 use Rattle.tv_instances.proofs.OfCounted.{ended-by_events}

@@ -1,5 +1,5 @@
 -- The steps of an instance have the levels and depths that its flow tells.
-use Rattle.std.specs.Prelude.{◌≡◌, refl, ℕ, List, [], ◌∷◌}
+use Rattle.std.specs.Prelude.{ℕ, List, [], ◌∷◌}
 use Rattle.std.proofs.Common.{sym, subst}
 use Rattle.tv_value.specs.Values.{JobName, Name}
 use Rattle.tv_flow.specs.Flows.{Flow, Step}

@@ -1,6 +1,6 @@
 -- What is so of every node of what an instance is given, and of every job, list and passed fault by its step and place, is so of
 -- all nodes that its steps have and wait for.
-use Rattle.std.specs.Prelude.{◌≡◌, refl, ℕ, zero, suc, List, [], ◌∷◌, ◌++◌, Option, None, map, unwrap_or, if◌then◌else◌}
+use Rattle.std.specs.Prelude.{ℕ, zero, suc, List, [], ◌∷◌, ◌++◌, Option, None, map, unwrap_or, if◌then◌else◌}
 use Rattle.tv_value.specs.Nested.{leaf, list, tree, no_trees, Place, nodes, trees_of}
 use Rattle.tv_value.specs.Values.{JobName, Name, Value}
 use Rattle.tv_value.specs.Orders.{same_name, named}

@@ -4,7 +4,7 @@ use Rattle.std.specs.List.{list_all, list_any}
 use Rattle.std.specs.Option.{option_map_or}
 use Rattle.std.specs.Cmp.Lexicographic.{bytes_decides}
 use Rattle.std.proofs.Common.{arith, eq-eqb, sym, ap, subst, ◌∙◌, append_assoc, append-nil, inl, inr}
-use Rattle.std.proofs.lemmas.Bool.{not-true, and_from, and_parts, true≢false}
+use Rattle.std.proofs.lemmas.Bool.{not-true, and_from, and_parts}
 use Rattle.std.proofs.lemmas.Option.{none-some, same_Some}
 use Rattle.std.proofs.lemmas.Bool.{or_right}
 use Rattle.tv_value.specs.Nested.{leaf, list, no_trees, tree, Place, at, count, item_at, nodes, note}
