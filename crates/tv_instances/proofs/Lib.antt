@@ -9,4 +9,5 @@ pub mod OfLegal
 pub mod OfSettling
 pub mod InDepth
 pub mod OfLevels
+pub mod OfMeant
 pub mod OfLaws

@@ -1,5 +1,5 @@
 -- How an entry of a history becomes an event of an instance, or none.
-use Rattle.std.specs.Prelude.{◌≡◌, refl, List, [], ◌∷◌, Bool, true, false, cond, ◌||◌, Some, find, is_none, is_some, if◌then◌else◌}
+use Rattle.std.specs.Prelude.{◌≡◌, refl, ℕ, List, [], ◌∷◌, Bool, true, false, cond, ◌||◌, Some, find, is_none, is_some, if◌then◌else◌}
 use Rattle.std.specs.List.{list_any}
 use Rattle.std.specs.Option.{option_map_or}
 use Rattle.std.specs.Cmp.Lexicographic.{bytes_decides}
@@ -7,7 +7,7 @@ use Rattle.std.proofs.Common.{sym, ap, ap₂, subst, ◌∙◌}
 use Rattle.std.proofs.lemmas.Bool.{and_parts}
 use Rattle.tv_value.specs.Nested.{Place}
 use Rattle.tv_value.specs.Orders.{same_job, same_name}
-use Rattle.tv_value.specs.Values.{JobName, Name}
+use Rattle.tv_value.specs.Values.{ErrorDoc, JobName, Name, Value}
 use Rattle.tv_gate.specs.Outcomes.{Giving}
 use Rattle.tv_depths.specs.Steps.{spot}
 use Rattle.tv_model.specs.Jobs.{Job}
@@ -17,9 +17,10 @@ use Rattle.tv_model.specs.Turns.{is_bounced}
 use Rattle.tv_history.specs.Entries.{Entry, History, closed, fault_passed, handed_out, is_accepted, is_begun_entry, is_bounced_entry, is_ended_entry, opened, recalled}
 use Rattle.tv_history.specs.Histories.{asks_left, has_entry, is_settled, is_settled_name}
 use Rattle.tv_model.proofs.Tests.{same_job_decides}
-use Rattle.tv_instance.specs.Events.{has_level, has_result, is_spot, is_taken}
-use Rattle.tv_instances.specs.InHistory.{SettlesNot, StaysSettled}
-use Rattle.tv_instances.specs.Stated.{ClosedIsEvent, HandedOutIsEvent, OpenedIsEvent, OthersStaySettled, PartStays, PassedIsEvent, RecalledIsNone, SettledIsEvent}
+use Rattle.tv_instance.specs.Events as events
+use Rattle.tv_instance.specs.Events.{Events, fault_set, gave, has_level, has_result, is_spot, is_taken, took}
+use Rattle.tv_instances.specs.InHistory.{IsPartOf, Settles, SettlesNot, StaysSettled, TellsNothing}
+use Rattle.tv_instances.specs.Stated.{EntriesAreEvents, OthersStaySettled, RecalledIsNone}
 use Rattle.tv_instances.proofs.OfEvents.{spot-test}
 
 -- ---- a job that an entry doesn't settle stays as it was
@@ -59,7 +60,7 @@ recalled-is_none gives m past instance k = record {
 
 -- ---- the events after an entry
 
-pub part-stays : PartStays
+part-stays : (gives : Giving) (m : Meaning) (past : History) (instance : JobName) (es : Events) (e : Entry) → IsPartOf gives m past instance es → TellsNothing gives m past e instance → IsPartOf gives m (e ∷ past) instance es
 part-stays gives m past instance es e part h = record {
   results = λ s q. h.jobs s q ∙ part.results s q;
   levels = λ s q. ap (λ b. b || has_entry gives m past (spot instance s q)) (h.rest.levels s q) ∙ part.levels s q;
@@ -70,28 +71,28 @@ part-stays gives m past instance es e part h = record {
 now-there : (instance : JobName) (s t : Name) (q r : Place) (a b : Bool) → a ≡ b → (same_job (spot instance t r) (spot instance s q) || a) ≡ (is_spot t r s q || b)
 now-there instance s t q r a b e = ap₂ (λ x y. x || y) (sym (spot-test instance t s r q)) e
 
-pub closed-is_event : ClosedIsEvent
+closed-is_event : (gives : Giving) (m : Meaning) (past : History) (instance : JobName) (es : Events) → IsPartOf gives m past instance es → (s : Name) (q : Place) (n : ℕ) → IsPartOf gives m (closed (spot instance s q) n ∷ past) instance (events.closed s q n ∷ es)
 closed-is_event gives m past instance es part s q n = record {
   results = λ t r. none-settle gives m past (closed (spot instance s q) n) instance (λ k. refl) (λ k. refl) (λ k. refl) t r ∙ part.results t r;
   levels = λ t r. now-there instance s t q r (has_entry gives m past (spot instance t r)) (has_level es t r) (part.levels t r);
   taken = λ t r. part.taken t r;
 }
 
-pub passed-is_event : PassedIsEvent
+passed-is_event : (gives : Giving) (m : Meaning) (past : History) (instance : JobName) (es : Events) → IsPartOf gives m past instance es → (s : Name) (q : Place) (d : ErrorDoc) → IsPartOf gives m (fault_passed (spot instance s q) ∷ past) instance (fault_set s q d ∷ es)
 passed-is_event gives m past instance es part s q d = record {
   results = λ t r. none-settle gives m past (fault_passed (spot instance s q)) instance (λ k. refl) (λ k. refl) (λ k. refl) t r ∙ part.results t r;
   levels = λ t r. now-there instance s t q r (has_entry gives m past (spot instance t r)) (has_level es t r) (part.levels t r);
   taken = λ t r. part.taken t r;
 }
 
-pub handed_out-is_event : HandedOutIsEvent
+handed_out-is_event : (gives : Giving) (m : Meaning) (past : History) (instance : JobName) (es : Events) → IsPartOf gives m past instance es → (s : Name) (q : Place) (a t : ℕ) → IsPartOf gives m (handed_out (spot instance s q) a t ∷ past) instance (took s q ∷ es)
 handed_out-is_event gives m past instance es part s q a b = record {
   results = λ t r. none-settle gives m past (handed_out (spot instance s q) a b) instance (λ k. refl) (λ k. refl) (λ k. refl) t r ∙ part.results t r;
   levels = λ t r. part.levels t r;
   taken = λ t r. now-there instance s t q r (list_any (is_begun_entry (spot instance t r)) past) (is_taken es t r) (part.taken t r);
 }
 
-pub opened-is_event : OpenedIsEvent
+opened-is_event : (gives : Giving) (m : Meaning) (past : History) (instance : JobName) (es : Events) → IsPartOf gives m past instance es → (s : Name) (q : Place) → IsPartOf gives m (opened (spot instance s q) ∷ past) instance (took s q ∷ es)
 opened-is_event gives m past instance es part s q = record {
   results = λ t r. none-settle gives m past (opened (spot instance s q)) instance (λ k. refl) (λ k. refl) (λ k. refl) t r ∙ part.results t r;
   levels = λ t r. part.levels t r;
@@ -103,7 +104,7 @@ spot-same s t q r h =
     let p = and_parts (same_name s t) (same_name q r) h in
     ((bytes_decides s t).0 p.0, (bytes_decides q r).0 p.1)
 
-pub settled-is_event : SettledIsEvent
+settled-is_event : (gives : Giving) (m : Meaning) (past : History) (instance : JobName) (es : Events) → IsPartOf gives m past instance es → (e : Entry) (s : Name) (q : Place) (vs : List Value) → Settles gives m past e instance s q → IsPartOf gives m (e ∷ past) instance (gave s q vs ∷ es)
 settled-is_event gives m past instance es part e s q vs h = record {
   results = λ t r. given t r (is_spot t r s q) refl;
   levels = λ t r. ap (λ b. b || has_entry gives m past (spot instance t r)) (h.rest.levels t r) ∙ part.levels t r;
@@ -115,3 +116,13 @@ settled-is_event gives m past instance es part e s q vs h = record {
         let x = spot-same t s r q k in
         ap₂ (λ a b. is_settled_name gives m (e ∷ past) (spot instance a b)) x.0 x.1 ∙ h.now ∙ sym (ap (λ b. b || has_result es t r) k)
     given t r false k = h.others t r k ∙ part.results t r ∙ sym (ap (λ b. b || has_result es t r) k)
+
+pub entries-are_events : EntriesAreEvents
+entries-are_events gives m past instance es part = record {
+  stays = λ e h. part-stays gives m past instance es e part h;
+  closed = λ s q n. closed-is_event gives m past instance es part s q n;
+  passed = λ s q d. passed-is_event gives m past instance es part s q d;
+  handed_out = λ s q a t. handed_out-is_event gives m past instance es part s q a t;
+  opened = λ s q. opened-is_event gives m past instance es part s q;
+  settled = λ e s q vs h. settled-is_event gives m past instance es part e s q vs h;
+}

@@ -1,7 +1,7 @@
 -- The laws as they are stated.
 use Rattle.std.specs.Prelude.{[], refl}
 use Rattle.tv_instance.specs.Endings.{IsOwn}
-use Rattle.tv_instances.specs.Stated.{EndedIsByEvents, EndingIsByEvents, EventsRise, LegalEventsFit, NodesAreOwn, ReadyIsByEvents, SettlingIsByEvents, WholeIsByEvents}
+use Rattle.tv_instances.specs.Stated.{EndedIsByEvents, EventsRise, LegalEventsFit, NodesAreOwn, OpenInstancesAreToldByEvents, WholeIsByEvents}
 use Rattle.tv_instances.proofs.OfCounted.{ended-by_events}
 use Rattle.tv_instances.proofs.OfCounting.{step-whole_by}
 use Rattle.tv_instances.proofs.OfEvents.{hits, one-more, own-spot}
@@ -26,12 +26,9 @@ ended-is_by_events instance results given es levels ss ns h = ended-by_events in
 pub legal_events-fit : LegalEventsFit
 legal_events-fit instance fs f first es h = legal-fit instance fs f first es h
 
-pub ready-is_by_events : ReadyIsByEvents
-ready-is_by_events gives m past instance es part now fs j s q sources after h =
-    ready-by_events gives m past instance es part now fs j s q sources after h
-
-pub settling-is_by_events : SettlingIsByEvents
-settling-is_by_events gives m past instance es part now l s q h = settling-by_events gives m past instance es part now l s q h
-
-pub ending-is_by_events : EndingIsByEvents
-ending-is_by_events gives m past instance es part now fs h = ending-by_events gives m past instance es part now fs h
+pub open_instances-are_told : OpenInstancesAreToldByEvents
+open_instances-are_told gives m past instance es part now = record {
+  ready = λ fs j s q sources after h. ready-by_events gives m past instance es part now fs j s q sources after h;
+  settles = λ l s q h. settling-by_events gives m past instance es part now l s q h;
+  ends = λ fs h. ending-by_events gives m past instance es part now fs h;
+}

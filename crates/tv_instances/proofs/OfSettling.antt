@@ -34,7 +34,7 @@ use Rattle.tv_instance.specs.Legality.{HasSources, IsLegalNext, node_of}
 use Rattle.tv_instances.proofs.OfLegal.{node-here}
 use Rattle.tv_instances.proofs.OfReadiness.{settling-by_events}
 use Rattle.tv_instances.specs.InHistory.{Finds, IsPartOf}
-use Rattle.tv_instances.specs.Stated.{ClosingIsLegal, PassingIsLegal, SettlingIsNew}
+use Rattle.tv_instances.specs.Stated.{SettlementsAreLegal}
 
 -- ---- what holds of all nodes holds of the one at a place
 
@@ -148,11 +148,9 @@ module _ (gives : Giving) (m : Meaning) (past : History) (instance : JobName) (e
   settling-known q (leaf r (passed x g)) l h e k = known-parts q (leaf r (passed x g)) l h (ap (λ o. (or_l l o).name) e) (ap (λ o. (or_l l o).instance) e) (ap (λ o. (or_l l o).sources) e) k
   settling-known q (list r ts) l h e k = known-parts q (list r ts) l h (ap (λ o. (or_l l o).name) e) (ap (λ o. (or_l l o).instance) e) (ap (λ o. (or_l l o).sources) e) k
 
-pub closing-is_legal : ClosingIsLegal
-closing-is_legal gives m past instance es part now fs f w q n h = closing-legal gives m past instance es part now fs f w.first w.listed w.here w.own q n h
-
-pub passing-is_legal : PassingIsLegal
-passing-is_legal gives m past instance es part now fs f w q d h = passing-legal gives m past instance es part now fs f w.first w.listed w.here w.own q d h
-
-pub settling-is_new : SettlingIsNew
-settling-is_new gives m past instance es part now fs f w q u l e h k = settling-known gives m past instance es part now fs f w.first w.listed w.here w.own q u l e h k
+pub settlements-are_legal : SettlementsAreLegal
+settlements-are_legal gives m past instance es part now fs f w = record {
+  closing = λ q n h. closing-legal gives m past instance es part now fs f w.first w.listed w.here w.own q n h;
+  passing = λ q d h. passing-legal gives m past instance es part now fs f w.first w.listed w.here w.own q d h;
+  new = λ q u l e h k. settling-known gives m past instance es part now fs f w.first w.listed w.here w.own q u l e h k;
+}

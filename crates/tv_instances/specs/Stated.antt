@@ -34,7 +34,7 @@ use Rattle.tv_history.specs.Entries.{Entry, History, closed, fault_passed, hande
 use Rattle.tv_history.specs.Histories.{can_end, can_settle, is_legal_after, is_open, is_ready}
 use Rattle.tv_instances.specs.InHistory.{AreStepsOf, Finds, IsJobAt, IsLevelAt, IsPartOf, IsStepHere, Settles, SettlesNot, StaysSettled, TellsNothing}
 use Rattle.tv_instances.specs.OwnNodes.{NodesHave}
-use Rattle.tv_instances.specs.OwnResults.{outside_by_results, outside_of_made, results_of}
+use Rattle.tv_instances.specs.OwnResults.{AllMadeGive, outside_by_results, outside_of_made, results_of}
 
 -- ---- instances of a meaning
 
@@ -47,6 +47,14 @@ StepsAreByOwnResults =
     let results = results_of instance made in
     map outside_of_made made
     ≡ map (outside_by_results instance) (steps_by instance results (given_of flow vs) [] (ranked flow.steps))
+
+-- these results are of the declared depths, where the jobs as they are made give values of these
+abbrev pub OwnResultsAreOfDepth : Type 0
+OwnResultsAreOfDepth =
+    (gives : Giving) (inside : Name → JobName → List (Name × Value) → Meaning) (instance : JobName) (flow : Flow)
+    (vs : List (Name × Value)) → AllMadeGive gives inside instance (given_of flow vs) [] (ranked flow.steps)
+    → let made = steps_made gives inside instance (given_of flow vs) [] (ranked flow.steps) in
+    AllJobsGive instance (results_of instance made) (given_of flow vs) [] (ranked flow.steps)
 
 -- every node that its steps have or wait for is the instance's own, or known from the start, where those that it is given are
 abbrev pub NodesAreOwn : Type 0
@@ -106,103 +114,80 @@ LegalEventsFit =
 
 -- ---- what a history says of one of its open instances
 
--- a job is ready where it is by the instance's events
-abbrev pub ReadyIsByEvents : Type 0
-ReadyIsByEvents =
-    (gives : Giving) (m : Meaning) (past : History) (instance : JobName) (es : Events)
-    → IsPartOf gives m past instance es → is_open gives m past instance ≡ true
-    → (fs : List InstanceStep) (j : Job) (s : Name) (q : Place) (sources : List Origin) (after : List Name)
-    → IsJobAt gives m past instance es fs j s q sources after
-    → is_ready gives m past j ≡ ready_by instance es fs after s q sources
+-- by the instance's events it is told which of its jobs are ready, which lists and faults can be settled, and whether it can end
+pub record IsToldByEvents (gives : Giving) (m : Meaning) (past : History) (instance : JobName) (es : Events) : Type 0 where
+  pub ready :
+      (fs : List InstanceStep) (j : Job) (s : Name) (q : Place) (sources : List Origin) (after : List Name)
+      → IsJobAt gives m past instance es fs j s q sources after
+      → is_ready gives m past j ≡ ready_by instance es fs after s q sources
+  pub settles :
+      (l : Level) (s : Name) (q : Place) → IsLevelAt instance l s q
+      → can_settle gives m past l ≡ settles_by instance es s q l.sources
+  pub ends : (fs : List InstanceStep) → AreStepsOf m instance fs → can_end gives m past instance ≡ ends_by instance es fs
 
--- a list or fault can be settled where it can by the instance's events
-abbrev pub SettlingIsByEvents : Type 0
-SettlingIsByEvents =
+abbrev pub OpenInstancesAreToldByEvents : Type 0
+OpenInstancesAreToldByEvents =
     (gives : Giving) (m : Meaning) (past : History) (instance : JobName) (es : Events)
     → IsPartOf gives m past instance es → is_open gives m past instance ≡ true
-    → (l : Level) (s : Name) (q : Place) → IsLevelAt instance l s q
-    → can_settle gives m past l ≡ settles_by instance es s q l.sources
+    → IsToldByEvents gives m past instance es
 
--- and the instance can end where it can by its events
-abbrev pub EndingIsByEvents : Type 0
-EndingIsByEvents =
-    (gives : Giving) (m : Meaning) (past : History) (instance : JobName) (es : Events)
-    → IsPartOf gives m past instance es → is_open gives m past instance ≡ true
-    → (fs : List InstanceStep) → AreStepsOf m instance fs → can_end gives m past instance ≡ ends_by instance es fs
+-- a list of the step that may be closed by the instance's events may be closed in the history, and so may a fault be passed; and what
+-- the history lets settle at a node of the step has known sources, and nothing was told of it
+pub record SettlesLegally (gives : Giving) (m : Meaning) (past : History) (instance : JobName) (es : Events)
+    (fs : List InstanceStep) (f : InstanceStep) : Type 0 where
+  pub closing :
+      (q : Place) (n : ℕ) → IsLegalNext instance fs es (events.closed f.step.step q n)
+      → is_legal_after gives m past (closed (spot instance f.step.step q) n) ≡ true
+  pub passing :
+      (q : Place) (d : ErrorDoc) → IsLegalNext instance fs es (fault_set f.step.step q d)
+      → is_legal_after gives m past (fault_passed (spot instance f.step.step q)) ≡ true
+  pub new :
+      (q : Place) (u : Iteration) (l : Level)
+      → at f.step.iteration q ≡ Some u → level_at f.step (q, u) ≡ Some l → can_settle gives m past l ≡ true
+      → (list_all (known_by instance es) (note u) ≡ true) × (has_level es f.step.step q ≡ false)
 
--- a list that may be closed by the instance's events may be closed in the history, and so may a fault be passed
-abbrev pub ClosingIsLegal : Type 0
-ClosingIsLegal =
+abbrev pub SettlementsAreLegal : Type 0
+SettlementsAreLegal =
     (gives : Giving) (m : Meaning) (past : History) (instance : JobName) (es : Events)
     → IsPartOf gives m past instance es → is_open gives m past instance ≡ true
-    → (fs : List InstanceStep) (f : InstanceStep) → IsStepHere m instance fs f → (q : Place) (n : ℕ)
-    → IsLegalNext instance fs es (events.closed f.step.step q n)
-    → is_legal_after gives m past (closed (spot instance f.step.step q) n) ≡ true
-
-abbrev pub PassingIsLegal : Type 0
-PassingIsLegal =
-    (gives : Giving) (m : Meaning) (past : History) (instance : JobName) (es : Events)
-    → IsPartOf gives m past instance es → is_open gives m past instance ≡ true
-    → (fs : List InstanceStep) (f : InstanceStep) → IsStepHere m instance fs f → (q : Place) (d : ErrorDoc)
-    → IsLegalNext instance fs es (fault_set f.step.step q d)
-    → is_legal_after gives m past (fault_passed (spot instance f.step.step q)) ≡ true
-
--- what a history lets settle at a node of the step has known sources, and nothing was told of it
-abbrev pub SettlingIsNew : Type 0
-SettlingIsNew =
-    (gives : Giving) (m : Meaning) (past : History) (instance : JobName) (es : Events)
-    → IsPartOf gives m past instance es → is_open gives m past instance ≡ true
-    → (fs : List InstanceStep) (f : InstanceStep) → IsStepHere m instance fs f → (q : Place) (u : Iteration) (l : Level)
-    → at f.step.iteration q ≡ Some u → level_at f.step (q, u) ≡ Some l → can_settle gives m past l ≡ true
-    → (list_all (known_by instance es) (note u) ≡ true) × (has_level es f.step.step q ≡ false)
+    → (fs : List InstanceStep) (f : InstanceStep) → IsStepHere m instance fs f
+    → SettlesLegally gives m past instance es fs f
 
 -- ---- an entry more
 
--- the events stay the instance's part after an entry that tells nothing of it
-abbrev pub PartStays : Type 0
-PartStays =
-    (gives : Giving) (m : Meaning) (past : History) (instance : JobName) (es : Events) (e : Entry)
-    → IsPartOf gives m past instance es → TellsNothing gives m past e instance → IsPartOf gives m (e ∷ past) instance es
+-- the events that are the instance's part of a history after one entry more
+pub record PartGoesOn (gives : Giving) (m : Meaning) (past : History) (instance : JobName) (es : Events) : Type 0 where
+  -- those before, where the entry tells nothing of the instance
+  pub stays : (e : Entry) → TellsNothing gives m past e instance → IsPartOf gives m (e ∷ past) instance es
+  pub closed :
+      (s : Name) (q : Place) (n : ℕ)
+      → IsPartOf gives m (closed (spot instance s q) n ∷ past) instance (events.closed s q n ∷ es)
+  pub passed :
+      (s : Name) (q : Place) (d : ErrorDoc)
+      → IsPartOf gives m (fault_passed (spot instance s q) ∷ past) instance (fault_set s q d ∷ es)
+  -- a job is taken with its first try, or where it opens its flow
+  pub handed_out :
+      (s : Name) (q : Place) (a t : ℕ)
+      → IsPartOf gives m (handed_out (spot instance s q) a t ∷ past) instance (took s q ∷ es)
+  pub opened : (s : Name) (q : Place) → IsPartOf gives m (opened (spot instance s q) ∷ past) instance (took s q ∷ es)
+  -- an entry with which a job is settled is the event that it gave, with whatever values
+  pub settled :
+      (e : Entry) (s : Name) (q : Place) (vs : List Value) → Settles gives m past e instance s q
+      → IsPartOf gives m (e ∷ past) instance (gave s q vs ∷ es)
 
--- a closed list and a passed fault are events of their instance
-abbrev pub ClosedIsEvent : Type 0
-ClosedIsEvent =
-    (gives : Giving) (m : Meaning) (past : History) (instance : JobName) (es : Events) → IsPartOf gives m past instance es
-    → (s : Name) (q : Place) (n : ℕ)
-    → IsPartOf gives m (closed (spot instance s q) n ∷ past) instance (events.closed s q n ∷ es)
+abbrev pub EntriesAreEvents : Type 0
+EntriesAreEvents =
+    (gives : Giving) (m : Meaning) (past : History) (instance : JobName) (es : Events)
+    → IsPartOf gives m past instance es → PartGoesOn gives m past instance es
 
-abbrev pub PassedIsEvent : Type 0
-PassedIsEvent =
-    (gives : Giving) (m : Meaning) (past : History) (instance : JobName) (es : Events) → IsPartOf gives m past instance es
-    → (s : Name) (q : Place) (d : ErrorDoc)
-    → IsPartOf gives m (fault_passed (spot instance s q) ∷ past) instance (fault_set s q d ∷ es)
-
--- a job is taken with its first try, or where it opens its flow
-abbrev pub HandedOutIsEvent : Type 0
-HandedOutIsEvent =
-    (gives : Giving) (m : Meaning) (past : History) (instance : JobName) (es : Events) → IsPartOf gives m past instance es
-    → (s : Name) (q : Place) (a t : ℕ)
-    → IsPartOf gives m (handed_out (spot instance s q) a t ∷ past) instance (took s q ∷ es)
-
-abbrev pub OpenedIsEvent : Type 0
-OpenedIsEvent =
-    (gives : Giving) (m : Meaning) (past : History) (instance : JobName) (es : Events) → IsPartOf gives m past instance es
-    → (s : Name) (q : Place) → IsPartOf gives m (opened (spot instance s q) ∷ past) instance (took s q ∷ es)
-
--- a recall tells nothing of any instance, nor does an entry of another job settle one
+-- a recall tells nothing of any instance
 abbrev pub RecalledIsNone : Type 0
 RecalledIsNone =
     (gives : Giving) (m : Meaning) (past : History) (instance : JobName) (k : ℕ)
     → TellsNothing gives m past (recalled k) instance
 
+-- nor does an entry of another job settle one
 abbrev pub OthersStaySettled : Type 0
 OthersStaySettled =
     (gives : Giving) (m : Meaning) (past : History) (e : Entry) (n : JobName)
     → SettlesNot e n → StaysSettled gives m past e n
-
--- an entry with which a job is settled is the event that it gave, with whatever values
-abbrev pub SettledIsEvent : Type 0
-SettledIsEvent =
-    (gives : Giving) (m : Meaning) (past : History) (instance : JobName) (es : Events) → IsPartOf gives m past instance es
-    → (e : Entry) (s : Name) (q : Place) (vs : List Value) → Settles gives m past e instance s q
-    → IsPartOf gives m (e ∷ past) instance (gave s q vs ∷ es)

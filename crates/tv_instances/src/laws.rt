@@ -1,9 +1,11 @@
 //! What holds of the instances of every meaning and of every history: each law is the clause of a function that does nothing.
-ghost use Rattle.tv_instances.specs.Stated.{ClosedIsEvent, ClosingIsLegal, EndedIsByEvents, EndingIsByEvents, EventsRise, HandedOutIsEvent, LegalEventsFit, NodesAreOwn, OpenedIsEvent, OthersStaySettled, PartStays, PassedIsEvent, PassingIsLegal, ReadyIsByEvents, RecalledIsNone, SettledIsEvent, SettlingIsByEvents, SettlingIsNew, StepsAreByOwnResults, StepsHaveTheirLevels, WholeIsByEvents};
+ghost use Rattle.tv_instances.specs.Stated.{EndedIsByEvents, EntriesAreEvents, EventsRise, LegalEventsFit, NodesAreOwn, OpenInstancesAreToldByEvents, OthersStaySettled, OwnResultsAreOfDepth, RecalledIsNone, SettlementsAreLegal, StepsAreByOwnResults, StepsHaveTheirLevels, WholeIsByEvents};
 
-/// The steps and jobs of every instance of a meaning are those by the results of its own jobs.
+/// The steps and jobs of every instance of a meaning are those by the results of its own jobs, which are of the declared
+/// depths where its jobs give values of these.
 pub fn instances_are_by_results()
-    ensures { StepsAreByOwnResults }
+    ensures steps { StepsAreByOwnResults }
+    ensures depths { OwnResultsAreOfDepth }
 {}
 
 /// Every node of an instance is its own; and its steps have the levels, and its outputs the depths, that its flow tells.
@@ -20,32 +22,16 @@ pub fn events_tell()
     ensures ended { EndedIsByEvents }
 {}
 
-/// In a history, an open instance is ready, settles and ends by its events.
-pub fn readiness_by_events()
-    ensures ready { ReadyIsByEvents }
-    ensures settling { SettlingIsByEvents }
-    ensures ending { EndingIsByEvents }
+/// What a history says of one of its open instances, by the instance's events: which jobs are ready, what can be settled and
+/// whether it can end; and that settlements are legal in the one exactly where they are in the other.
+pub fn open_instances()
+    ensures told { OpenInstancesAreToldByEvents }
+    ensures settlements { SettlementsAreLegal }
 {}
 
-/// What may be settled by an instance's events may be settled in the history, and what the history lets settle is new.
-pub fn settlements_are_legal()
-    ensures closing { ClosingIsLegal }
-    ensures passing { PassingIsLegal }
-    ensures new { SettlingIsNew }
-{}
-
-/// Which entry of a history is which event of an instance.
+/// Which entry of a history is which event of an instance, and which is none.
 pub fn entries_are_events()
-    ensures stays { PartStays }
-    ensures closed { ClosedIsEvent }
-    ensures passed { PassedIsEvent }
-    ensures handed_out { HandedOutIsEvent }
-    ensures opened { OpenedIsEvent }
-    ensures settled { SettledIsEvent }
-{}
-
-/// Entries that tell nothing of an instance's jobs.
-pub fn entries_elsewhere()
+    ensures events { EntriesAreEvents }
     ensures recalled { RecalledIsNone }
     ensures others { OthersStaySettled }
 {}
