@@ -7,6 +7,7 @@ use Rattle.std.proofs.Math.Bool.{and-true}
 use Rattle.std.proofs.lemmas.Bool.{or_right, true≢false}
 use Rattle.std.proofs.lemmas.List.{map-append}
 use Rattle.std.proofs.lemmas.Option.{none-some, same_Some}
+use Rattle.std.proofs.lemmas.List.{append_cancel_left}
 use Rattle.tv_value.specs.Nested.{leaf, list, Trees, no_trees, tree, Place, count, at, item_at, notes, all_notes, nodes_below, nodes_from, map_trees}
 use Rattle.tv_value.specs.Values.{JobName, Scalar, Value}
 use Rattle.tv_strategy.specs.Origins.{Origin, Traced, traced, from_job, from_level}
@@ -192,16 +193,8 @@ module _ (named : Place → JobName) (known after hits : Origin → Bool) (with 
       head [] = m
       head (x ∷ xs) = x
 
-  cancelled : (q a b : Place) → q ++ a ≡ q ++ b → a ≡ b
-  cancelled [] a b e = e
-  cancelled (i ∷ q) a b e = cancelled q a b (ap rest e)
-    where
-      rest : Place → Place
-      rest [] = []
-      rest (x ∷ xs) = xs
-
   off-other : (q : Place) (m : ℕ) (s : Place) → p ≡ q ++ m ∷ s → (j : ℕ) → (m ≡ j → ⊥) → Off p (q ++ j ∷ [])
-  off-other q m s e j f r g = f (parts m j s r (cancelled q (m ∷ s) (j ∷ r) (sym e ∙ g ∙ append_assoc q (j ∷ []) r)))
+  off-other q m s e j f r g = f (parts m j s r (append_cancel_left q (m ∷ s) (j ∷ r) (sym e ∙ g ∙ append_assoc q (j ∷ []) r)))
 
   off-later : (ts : Iterations) (q : Place) (i m : ℕ) (s : Place) → p ≡ q ++ m ∷ s → suc m ≤ i → whole_items named after q i ts ≡ whole_items named known q i ts
   off-later no_trees q i m s e l = refl

@@ -7,7 +7,7 @@ use Rattle.tv_value.specs.Nested.{leaf, list, no_trees, tree, Place, nodes}
 use Rattle.tv_value.specs.Orders.{same_job}
 use Rattle.tv_value.specs.Values.{HasDepth, JobName, Name, Value}
 use Rattle.tv_gate.specs.Outcomes.{Giving}
-use Rattle.tv_flow.specs.Flows.{Flow, Step}
+use Rattle.tv_flow.specs.Flows.{Step}
 use Rattle.tv_strategy.specs.Iterations.{Binding, Iteration, Iterations, job, passed}
 use Rattle.tv_strategy.specs.Origins.{Origin}
 use Rattle.tv_strategy.specs.Sources.{Each, JobsStand, JobsStandFrom}
