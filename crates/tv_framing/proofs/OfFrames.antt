@@ -19,7 +19,7 @@ use Rattle.tv_depths.specs.Ranks.{is_among, ranked}
 use Rattle.tv_model.proofs.Instances.{ranked-fresh}
 use Rattle.tv_model.proofs.Sound.{FreshNames}
 use Rattle.tv_model.specs.Earlier.{given_of}
-use Rattle.tv_matching.specs.Items.{Bound, Item, Kind, Node, Stopped, all_known, closes, ends, if_so, item, within, kind_of, known_items, node_at, passes}
+use Rattle.tv_matching.specs.Items.{Bound, Item, Kind, Node, Stopped, all_known, closes, ends, item, within, kind_of, known_items, node_at, passes}
 use Rattle.tv_matching.specs.Members.{In}
 use Rattle.tv_matching.proofs.Nodes.{in-known, node-in, of-known}
 use Rattle.tv_matching.proofs.OfLaws.{nodes-stand}

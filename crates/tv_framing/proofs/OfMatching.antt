@@ -1,6 +1,6 @@
 -- What a step's matcher holds after these events: by the laws of matching, and what it is told at the start.
 use Rattle.std.specs.Prelude.{◌≡◌, refl, ℕ, zero, suc, List, [], ◌∷◌, ◌++◌, Bool, true, false, ◌&&◌, map, IsPermutation}
-use Rattle.std.proofs.Common.{ap, ap₂, subst}
+use Rattle.std.proofs.Common.{ap, ap₂}
 use Rattle.tv_value.specs.Nested.{leaf, list, Trees, no_trees, tree, all_notes, notes}
 use Rattle.tv_value.specs.Values.{JobName, Name, Scalar}
 use Rattle.tv_flow.specs.Flows.{Step}

@@ -43,19 +43,25 @@ abbrev pub CanSettle : View → Event → Type 0
 CanSettle v e = (is_settlement e ≡ true) × InAll v (λ instance results fs. IsLegalNext instance fs v.events e)
 
 abbrev pub NothingSettles : View → Type 0
-NothingSettles v = (e : Event) → is_settlement e ≡ true → InAll v (λ instance results fs. IsLegalNext instance fs v.events e → ⊥)
+NothingSettles v =
+    (e : Event) → is_settlement e ≡ true → InAll v (λ instance results fs. IsLegalNext instance fs v.events e → ⊥)
 
 -- ---- values
+
+-- where k is job j, it binds these values
+abbrev pub AreInputsOf : Name × Place → List Value → PlacedJob → Type 0
+AreInputsOf j vs k = k.step ≡ j.0 → k.place ≡ j.1 → vs ≡ map plain k.inputs
 
 -- the values that a known job binds
 abbrev pub AreInputs : View → Name × Place → List Value → Type 0
 AreInputs v j vs =
-    InAll v (λ instance results fs. Each (λ (f : InstanceStep). Each (λ (k : PlacedJob). k.step ≡ j.0 → k.place ≡ j.1 → vs ≡ map plain k.inputs) f.jobs) fs)
+    InAll v (λ instance results fs. Each (λ (f : InstanceStep). Each (AreInputsOf j vs) f.jobs) fs)
 
 -- the values of the flow's outputs
 abbrev pub AreOutputs : View → List Value → Type 0
 AreOutputs v vs =
-    InAll v (λ instance results fs. vs ≡ map (λ o. plain (feed_delivers step_of (given_of v.flow v.inputs) fs o.1).value) v.flow.outputs)
+    InAll v (λ instance results fs.
+    vs ≡ map (λ o. plain (feed_delivers step_of (given_of v.flow v.inputs) fs o.1).value) v.flow.outputs)
 
 -- ---- ready jobs and endings, with the levels of the plan
 

@@ -25,7 +25,8 @@ job_places s x = by_kind x.kind
 
 -- the jobs whose sources are known
 abbrev pub known_jobs : (Origin → Bool) → List InstanceStep → List (Name × Place)
-known_jobs known fs = flat_map (λ (f : InstanceStep). flat_map (job_places f.step.step) (known_items known f.step.iteration)) fs
+known_jobs known fs =
+    flat_map (λ (f : InstanceStep). flat_map (job_places f.step.step) (known_items known f.step.iteration)) fs
 
 -- those that become known
 abbrev pub new_jobs : (Origin → Bool) → (Origin → Bool) → List InstanceStep → List (Name × Place)
@@ -47,7 +48,8 @@ with_event v e new = record v { events = e ∷ v.events; jobs = v.jobs ++ new }
 -- these are the jobs that become known with the event, whatever isn't told
 abbrev pub AreNewWith : View → Event → List (Name × Place) → Type 0
 AreNewWith v e new =
-    InAll (with_event v e new) (λ instance results fs. IsPermutation new (new_jobs (known_by instance v.events) (known_by instance (e ∷ v.events)) fs))
+    InAll (with_event v e new) (λ instance results fs.
+    IsPermutation new (new_jobs (known_by instance v.events) (known_by instance (e ∷ v.events)) fs))
 
 -- w is the frame v after one more event, with so many more jobs
 pub record Comes (v w : View) (e : Event) (more : ℕ) : Type 0 where

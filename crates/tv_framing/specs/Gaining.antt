@@ -40,7 +40,8 @@ module _ (known after : Origin → Bool) where
     abbrev mutual
       pub on_way : Place → ℕ → ℕ → Iteration → Place → List (Item Bound Stopped)
       on_way q zero d t r =
-          if_so (is_new (is_whole named known q t) (is_whole named after q t)) (here (ends ((p, output_below named made declared q d t) ∷ [])))
+          if_so (is_new (is_whole named known q t) (is_whole named after q t))
+          (here (ends ((p, output_below named made declared q d t) ∷ [])))
       on_way q (suc k) d (leaf s (job b)) r = all_items (walk p (suc k) (traced (from_job (named q)) (made q)))
       on_way q (suc k) d (leaf s (passed m e)) r = here (passes (m, record e { depth = d + declared })) ∷ []
       on_way q (suc k) d (list s ts) [] = here (closes (count ts)) ∷ []

@@ -49,7 +49,8 @@ Delivers f values = Each (λ d. values d.0 ≡ d.1.value) f.step.inputs
 abbrev pub AreToldKnown : View → Insides → JobName → InstanceStep → Type 0
 AreToldKnown v i instance f =
     (values : Name → Traced) → Delivers f values → (p : Name)
-    → IsPermutation (map (seen values) (told_to (i.told f.step.step) p)) (known_items (known_by instance v.events) (port_iteration f.step.inputs p))
+    → IsPermutation (map (seen values) (told_to (i.told f.step.step) p))
+    (known_items (known_by instance v.events) (port_iteration f.step.inputs p))
 
 -- `levels` and `declared` are the plan's: the levels of each step's iteration, and the depth of its k-th output; `steps` are its steps,
 -- the last by rank first

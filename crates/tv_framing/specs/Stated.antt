@@ -175,12 +175,17 @@ pub record IsOfDepths (flows : List (Name × Flow)) (levels : Name → ℕ) (v :
   pub inputs : InputsHave v.flow.inputs v.inputs
   pub levels_are : AreLevels levels v.flow.inputs [] (ranked v.flow.steps)
 
+-- the step is whole where it is by counting events
+abbrev pub IsWholeByEvents : (Name → ℕ) → View → JobName → InstanceStep → Type 0
+IsWholeByEvents levels v instance f =
+    is_whole (spot instance f.step.step) (known_by instance v.events) [] f.step.iteration
+    ≡ whole_by v.events f.step.step (levels f.step.step) []
+
 -- which steps are whole
 abbrev pub WholeIsTold : Type 0
 WholeIsTold =
     (flows : List (Name × Flow)) (levels : Name → ℕ) (v : View) → IsFrame v → IsOfDepths flows levels v
-    → InAll v (λ instance results fs.
-    Each (λ (f : InstanceStep). is_whole (spot instance f.step.step) (known_by instance v.events) [] f.step.iteration ≡ whole_by v.events f.step.step (levels f.step.step) []) fs)
+    → InAll v (λ instance results fs. Each (IsWholeByEvents levels v instance) fs)
 
 -- whether the steps that are named have ended
 abbrev pub EndedIsTold : Type 0
