@@ -1,0 +1,11 @@
+pub mod OfGaining
+pub mod OfPorts
+pub mod OfArriving
+pub mod OfTellings
+pub mod OfPortTellings
+pub mod OfMatching
+pub mod OfFrames
+pub mod OfPossible
+pub mod OfEndings
+pub mod OfLaws
+pub mod Computed

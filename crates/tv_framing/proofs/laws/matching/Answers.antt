@@ -1,0 +1,5 @@
+use Rattle.tv_framing.proofs.OfLaws.{matched-is_known}
+use Rattle.tv_framing.proofs.laws.matching.Goals as goal
+
+pub returns : goal.returns
+returns c = matched-is_known

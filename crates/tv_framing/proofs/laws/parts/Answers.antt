@@ -1,0 +1,5 @@
+use Rattle.tv_framing.proofs.OfLaws.{parts-are_below}
+use Rattle.tv_framing.proofs.laws.parts.Goals as goal
+
+pub returns : goal.returns
+returns c = parts-are_below

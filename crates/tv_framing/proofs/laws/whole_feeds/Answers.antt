@@ -1,0 +1,5 @@
+use Rattle.tv_framing.proofs.OfLaws.{feeds-are_known_whole, wrapping-is_known}
+use Rattle.tv_framing.proofs.laws.whole_feeds.Goals as goal
+
+pub returns : goal.returns
+returns c = record { feeds = feeds-are_known_whole; wrapping = wrapping-is_known }

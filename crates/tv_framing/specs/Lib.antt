@@ -1,0 +1,10 @@
+pub mod Gaining
+pub mod Arriving
+pub mod PortTellings
+pub mod Feeding
+pub mod Views
+pub mod Frames
+pub mod Answers
+pub mod Insides
+pub mod Stated
+pub mod Worked

@@ -1,0 +1,5 @@
+pub mod OfWholeness
+pub mod OfRising
+pub mod OfEndings
+pub mod OfLaws
+pub mod Computed

@@ -1,0 +1,12 @@
+pub mod ByResults
+pub mod Events
+pub mod Wholeness
+pub mod Counting
+pub mod Endings
+pub mod Fitting
+pub mod Legality
+pub mod OwnDepths
+pub mod Readiness
+pub mod OneEvent
+pub mod Stated
+pub mod Worked

@@ -1,0 +1,13 @@
+pub mod OfResults
+pub mod OfEvents
+pub mod OfCounting
+pub mod OfCounted
+pub mod OfNodes
+pub mod OfReadiness
+pub mod OfHistory
+pub mod OfLegal
+pub mod OfSettling
+pub mod InDepth
+pub mod OfLevels
+pub mod OfMeant
+pub mod OfLaws

@@ -1,0 +1,4 @@
+pub mod OwnResults
+pub mod InHistory
+pub mod OwnNodes
+pub mod Stated
