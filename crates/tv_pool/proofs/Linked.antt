@@ -1,12 +1,12 @@
 -- Where a link leads in the pool's memory, and what a write there makes of what the pool shows.
-use Rattle.std.proofs.Common.{◌≡◌, ◌≢◌, ◌⊎◌, ℕ, zero, suc, ◌-◌, List, [], ◌∷◌, ◌++◌, get_or, set, map, eqb, if◌then◌else◌, Option, Some, None, refl, sym, ap, ◌∙◌, subst, inl, inr}
+use Rattle.std.proofs.Common.{◌≡◌, ◌≢◌, ℕ, zero, suc, ◌-◌, List, [], ◌∷◌, ◌++◌, get_or, set, map, if◌then◌else◌, Option, Some, None, refl, sym, ap, ◌∙◌, subst, inl, inr}
 use Rattle.std.specs.Option.{IsSomeAnd, option_map}
-use Rattle.std.specs.List.{range_with_len, slice_get}
+use Rattle.std.specs.List.{range_with_len}
 use Rattle.std.proofs.lemmas.Bool.{cases_eq, eq-eqb, ne_eqb}
 use Rattle.std.proofs.lemmas.List.{get_or-set_same, get_or-set_other, map-append}
 use Rattle.std.proofs.lemmas.Option.{same_Some, slice_get-map}
 use Rattle.slab.specs.Slab.{Slab, get, slab_len, with_value}
-use Rattle.tv_pool.specs.Pool.{Pool, Contents, Stored, stored_in, item_in, with_lying, contents_written, with_linked, IsLinked, lies_at}
+use Rattle.tv_pool.specs.Pool.{Pool, Contents, Stored, stored_in, item_in, with_lying, contents_written, with_linked, lies_at}
 use Rattle.tv_pool.specs.Layout.{chain_items, find_from, contents_of, contents_at, regions_of, IsLaidOut}
 use Rattle.tv_pool.specs.declared.layout.Placed.{Placed}
 use Rattle.tv_pool.specs.declared.layout.Chain.{Chain}

@@ -1,6 +1,5 @@
-use Rattle.std.proofs.Common.{Some, refl, sym, ap, ◌∙◌}
+use Rattle.std.proofs.Common.{refl, sym, ap, ◌∙◌}
 use Rattle.std.proofs.lemmas.Option.{same_Some}
-use Rattle.tv_pool.specs.Pool.{IsLinked}
 use Rattle.tv_pool.specs.declared.layout.Placed.{Placed}
 use Rattle.tv_pool.proofs.Linked.{linked-item}
 use Rattle.tv_pool.proofs.Pool.at.Goals as goal

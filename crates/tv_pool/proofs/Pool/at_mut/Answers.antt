@@ -1,7 +1,5 @@
-use Rattle.std.proofs.Common.{◌≡◌, Some, refl, sym, ap, ◌∙◌, subst}
+use Rattle.std.proofs.Common.{refl, sym, ap, ◌∙◌}
 use Rattle.std.proofs.lemmas.Option.{same_Some}
-use Rattle.slab.specs.Slab.{with_value}
-use Rattle.tv_pool.specs.Pool.{with_linked, IsLinked}
 use Rattle.tv_pool.specs.declared.layout.Placed.{Placed}
 use Rattle.tv_pool.proofs.Linked.{linked-item, linked-laid, linked-view}
 use Rattle.tv_pool.proofs.Pool.at_mut.Goals as goal

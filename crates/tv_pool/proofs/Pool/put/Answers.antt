@@ -1,6 +1,6 @@
 use Rattle.std.proofs.Common.{◌≡◌, refl, sym, ap, ◌∙◌, arith, add-one, get_or, None}
 use Rattle.std.proofs.lemmas.Option.{same_Some}
-use Rattle.slab.specs.Slab.{Slab, get}
+use Rattle.slab.specs.Slab.{Slab}
 use Rattle.slab.proofs.SlabLemmas.{Updates-with_value}
 use Rattle.tv_pool.specs.Layout.{regions_of}
 use Rattle.tv_pool.specs.declared.layout.Placed.{Placed}
