@@ -1,8 +1,9 @@
 -- What a contract sees of a pool and of its handles.
-use Rattle.std.specs.Prelude.{◌≡◌, ◌≢◌, ℕ, List, length, [], ◌∷◌, ◌++◌, map, Option, Some, None, IsSomeAnd, slice_get, slice_index_or, slice_set}
+use Rattle.std.specs.Prelude.{◌≡◌, ◌≢◌, ℕ, List, length, [], ◌∷◌, ◌++◌, map, Option, Some, None, IsSomeAnd, slice_get, slice_index_or, slice_set, eqb, if◌then◌else◌, ◌^◌, ◌-◌}
 use Rattle.std.specs.List.{sum_by}
 use Rattle.tv_pool.specs.declared.handles.Region.{Region}
 use Rattle.tv_pool.specs.declared.handles.Node.{Node}
+use Rattle.tv_pool.specs.declared.handles.Link.{Link}
 
 -- an item of a region, and the slot of the pool's memory that holds it
 pub record Stored (T : Type 0) : Type 0 where
@@ -30,6 +31,17 @@ region_of node = node.region
 
 abbrev pub position_of : Node → ℕ
 position_of node = node.position
+
+-- where a node's item lies in the pool's memory, and where a link leads
+abbrev pub slot_of : Node → ℕ
+slot_of node = node.slot
+
+abbrev pub lies_at : Link → ℕ
+lies_at link = link.slot
+
+-- where nothing ever lies
+abbrev pub nowhere : ℕ
+nowhere = 2 ^ 64 - 1
 
 module _ {T : Type 0} where
   -- what stands under a number: nothing before it was given, and once its region was released
@@ -59,6 +71,33 @@ module _ {T : Type 0} where
   -- the item at a node's position in its region's list
   abbrev pub item_at : Pool T → Node → Option T
   item_at pool node = slice_get (items_of pool node.region) node.position
+
+  -- the item that lies in a slot
+  abbrev pub lying_in : List (Stored T) → ℕ → Option T
+  lying_in [] slot = None
+  lying_in (s ∷ ss) slot = if eqb s.slot slot then Some s.item else lying_in ss slot
+
+  -- what a region has in a slot
+  abbrev pub item_in : Pool T → ℕ → ℕ → Option T
+  item_in pool number slot = lying_in (stored_in (region_at pool number)) slot
+
+  -- the link leads to an item of a live region
+  pub record IsLinked (pool : Pool T) (link : Link) : Type 0 where
+    pub number : ℕ
+    pub item : T
+    pub lies : item_in pool number (lies_at link) ≡ Some item
+
+  -- with this in place of what lies where the link leads
+  abbrev pub with_lying : ℕ → T → Stored T → Stored T
+  with_lying slot item s = record { item = if eqb s.slot slot then item else s.item; slot = s.slot }
+
+  abbrev pub contents_written : ℕ → T → Option (Contents T) → Option (Contents T)
+  contents_written slot item None = None
+  contents_written slot item (Some c) = Some (record { entry = c.entry; stored = map (with_lying slot item) c.stored })
+
+  abbrev pub with_linked : Pool T → Link → T → Pool T
+  with_linked pool link item =
+      record pool { regions = map (contents_written (lies_at link) item) pool.regions }
 
   -- how many items live regions have
   abbrev pub live_count : List (Option (Contents T)) → ℕ

@@ -1,4 +1,6 @@
 //! The handles that a pool gives out.
+ghost use Rattle.std.specs.Prelude.{◌≡◌, ◌==◌};
+ghost use Rattle.tv_pool.specs.Pool.{number_of, slot_of, lies_at, nowhere};
 
 /// A region of a pool, which is filled by `Pool::put` and goes by `Pool::release`.
 ///
@@ -21,4 +23,48 @@ pub struct Node {
     pub(crate) position: u64,
     // Where the pool's memory has the item.
     pub(crate) slot: usize,
+}
+
+impl Region {
+    /// The number of the region, which no other region of its pool ever has.
+    pub fn number(&self) -> u64
+        ensures { result ≡ number_of self.now }
+    {
+        self.number
+    }
+}
+
+impl Node {
+    /// The short handle of the item.
+    pub fn link(self) -> Link
+        ensures { lies_at result ≡ slot_of self }
+    {
+        Link { slot: self.slot }
+    }
+}
+
+/// A short handle of an item, for links among the items of one region: where the item lies, or nowhere.
+///
+/// It takes a third of a node's memory. It doesn't name its region, so it stands for an item only while this region is
+/// live, and a caller keeps the links of each region apart.
+#[derive(Clone, Copy, Debug, PartialEq, Eq)]
+pub struct Link {
+    // Where the pool's memory has the item, or the greatest number, where no item lies.
+    pub(crate) slot: usize,
+}
+
+impl Link {
+    /// The link to no item.
+    pub fn none() -> Link
+        ensures { lies_at result ≡ nowhere }
+    {
+        Link { slot: usize::MAX }
+    }
+
+    /// Whether it is the link to no item.
+    pub fn is_none(self) -> bool
+        ensures { result ≡ (lies_at self == nowhere) }
+    {
+        self.slot == usize::MAX
+    }
 }

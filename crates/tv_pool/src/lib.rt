@@ -14,6 +14,11 @@
 //! answers the same. That every item is dropped once, when its region is released or with the pool,
 //! is tested and in no contract.
 //!
+//! **Links.** A `Link` is a short handle of an item, or the link to none: it has where the item lies and not its region or
+//! position, and is meant for the links of lists, trees and graphs within one region. A contract sees it as the slot in which
+//! the item lies (`lies_at`), and a region as what lies in each slot (`item_in`). `put` takes a slot in which nothing of the
+//! region lay.
+//!
 //! **Handles.** `Region` and `Node` also hold where in the pool's memory they lie, so that no call
 //! searches. A handle of another pool may stand for the same number and spot; the conditions
 //! `IsLive` and `Holds` speak only of numbers and spots, so a caller keeps each pool's handles
@@ -26,9 +31,9 @@
 //! the memory shows it, and `proofs/PoolLemmas.antt` lemmas for callers.
 #![tactic(auto)]
 
-ghost use Rattle.std.specs.Prelude.{◌≡◌, ◌++◌, ◌∷◌, ℕ, ◌+◌, ◌<◌, ◌≤◌, Some, None, [], length, OnOk, OnErr, IfOk, IfErr, IsOk};
+ghost use Rattle.std.specs.Prelude.{◌≡◌, ◌≢◌, ◌++◌, ◌∷◌, ℕ, ◌+◌, ◌<◌, ◌≤◌, Some, None, [], length, OnOk, OnErr, IfOk, IfErr, IsOk};
 ghost use Rattle.std.specs.Borrow.{sem};
-ghost use Rattle.tv_pool.specs.Pool.{IsLive, Holds, item_at, live_count, Begins, Puts, Keeps, KeepsOthers, regions_with, number_of, items_of};
+ghost use Rattle.tv_pool.specs.Pool.{IsLive, Holds, item_at, live_count, Begins, Puts, Keeps, KeepsOthers, regions_with, number_of, items_of, slot_of, lies_at, nowhere, item_in, IsLinked};
 
 mod faults;
 mod handles;
@@ -37,7 +42,7 @@ mod layout;
 mod tests;
 
 pub use faults::{NoMemory, PutRefused};
-pub use handles::{Node, Region};
+pub use handles::{Link, Node, Region};
 use layout::{Chain, Placed};
 use slab::Slab;
 use std::alloc::Global;
@@ -67,7 +72,7 @@ impl<T> Model for Pool<T> {
 }
 
 impl<T> Pool<T> {
-    ghost use Rattle.tv_pool.specs.Lends.{lends_item};
+    ghost use Rattle.tv_pool.specs.Lends.{lends_item, lends_linked};
 
     /// A pool with no region, which grows by this allocator. It takes no memory yet.
     pub fn new(alloc: Global) -> Pool<T>
@@ -137,6 +142,8 @@ impl<T> Pool<T> {
         ensures last { OnOk result (items_of self.new (number_of region.now) ≡ items_of self.old (number_of region.now) ++ item ∷ []) }
         ensures holds { IfOk result (Holds self.new) }
         ensures item { IfOk result (λ node. item_at self.new node ≡ Some item) }
+        ensures fresh { IfOk result (λ node. item_in self.old (number_of region.now) (slot_of node) ≡ None) }
+        ensures lies { IfOk result (λ node. slot_of node ≢ nowhere) }
         ensures kept { Keeps self.old self.new }
         ensures refused { IfErr result (λ refused. refused.item ≡ item) }
         ensures unchanged { OnErr result (self.new.regions ≡ self.old.regions) }
@@ -178,6 +185,23 @@ impl<T> Pool<T> {
         ensures value { item_at self.old node ≡ Some result.now }
     {
         self.nodes[node.slot].item_mut()
+    }
+
+    /// The item that a link leads to, by one access of the memory.
+    pub fn at(&self, link: Link) -> &T
+        requires { IsLinked self.now link }
+        ensures { (number : ℕ) (item : T) → item_in self.now number (lies_at link) ≡ Some item → result.now ≡ item }
+    {
+        &self.nodes[link.slot].item
+    }
+
+    /// The item that a link leads to, for writing, by one access of the memory.
+    pub fn at_mut(&mut self, link: Link) -> &mut T
+        requires { IsLinked self.old link }
+        ensures* writes_back { sem 𝓛 (lends_linked T.row self.entry link result) }
+        ensures value { (number : ℕ) (item : T) → item_in self.old number (lies_at link) ≡ Some item → result.now ≡ item }
+    {
+        self.nodes[link.slot].item_mut()
     }
 
     /// Drops the items of a region, from the last to the first, and ends the region.

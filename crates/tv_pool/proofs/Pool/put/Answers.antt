@@ -1,4 +1,4 @@
-use Rattle.std.proofs.Common.{◌≡◌, refl, sym, ap, ◌∙◌, arith, add-one}
+use Rattle.std.proofs.Common.{◌≡◌, refl, sym, ap, ◌∙◌, arith, add-one, get_or, None}
 use Rattle.std.proofs.lemmas.Option.{same_Some}
 use Rattle.slab.specs.Slab.{Slab}
 use Rattle.slab.proofs.SlabLemmas.{Updates-with_value}
@@ -6,6 +6,7 @@ use Rattle.tv_pool.specs.Layout.{regions_of}
 use Rattle.tv_pool.specs.declared.layout.Placed.{Placed}
 use Rattle.tv_pool.specs.declared.layout.Chain.{Chain}
 use Rattle.tv_pool.proofs.PoolLemmas.{Holds-put, item_at-put, items_of-put, Keeps-put, Puts-regions}
+use Rattle.tv_pool.proofs.Linked.{vacant-lies}
 use Rattle.tv_pool.proofs.Steps.{live_chain, LiveChain-contains, count-le, IsLaidOut-room, IsLaidOut-put, put-view, shown}
 use Rattle.tv_pool.proofs.Pool.put.Goals as goal
 
@@ -49,3 +50,8 @@ returns-clause-kept g c = Keeps-put _ _ _ _ _ c.requires (returns-clause-ok g c)
 
 pub returns-clause-last : goal.returns-clause-last
 returns-clause-last g c = items_of-put _ _ _ _ _ c.requires (returns-clause-ok g c)
+
+pub returns-clause-fresh : goal.returns-clause-fresh
+returns-clause-fresh g c =
+    let slots = ap (λ (s : Slab (Placed _)). s.slots) c.reserve.ensures.rest_kept in
+    rw (← c.self.view_is) (vacant-lies c.self.inside.nodes c.self.inside.regions c.self.inside.begun c.self.invariant c.args.region.now.number c.insert_reserved-slot.result (ap (λ xs. get_or xs c.insert_reserved-slot.result None) (sym slots) ∙ c.insert_reserved-slot.ensures.was_vacant))

@@ -1,0 +1,9 @@
+use Rattle.std.specs.Prelude.{refl}
+use Rattle.tv_parts.proofs.laws.worked.Goals as goal
+
+pub returns : goal.returns
+returns c = record {
+  order = (refl, refl, refl, refl, refl);
+  over = (refl, refl, refl);
+  first = (refl, refl);
+}

@@ -1,0 +1,5 @@
+pub mod Partials
+pub mod Below
+pub mod Changes
+pub mod Stated
+pub mod Worked
