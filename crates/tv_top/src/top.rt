@@ -30,7 +30,7 @@ const BYTE_LIMIT: usize = 1 << 24;
 /// The answer is a function of the words and the bytes, for the services of the asker's type. Nothing is written to
 /// `out` before all of it is made. `check` takes near linear time in the document. A run goes over a plain board
 /// (`tv_board`), which works out again and again where it stands: beside what the services take, its time grows with about
-/// the cube of its jobs.
+/// the cube of its jobs, and with the size of the values.
 pub fn taverna_alone<S: Source, K: Sink, E: Sink, A: Asker>(
     alloc: Global,
     words: &[String],

@@ -1,7 +1,7 @@
 //! Worked documents: what they print, and what they ask.
 use crate::status::Status;
 use crate::tests::{SOUND, TWO_TEXTS, alone, by_gate, changed, sink_of, source_of, words_of};
-use crate::top::taverna_alone;
+use crate::top::{taverna, taverna_alone};
 use std::alloc::Global;
 use std::test::Fail;
 use tv_gate::LoggedGate;
@@ -207,7 +207,16 @@ fn each_element_goes_on_at_once(rt: HostRuntime) -> Result<(), Fail> {
     let mut err = sink_of(alloc, SOUND.piece, 0)?;
     let gate = LocalGate::new();
     let mut asker = LoggedGate::new(alloc, &gate);
-    let status = taverna_alone(alloc, &words, &mut source, &mut out, &mut err, &mut asker);
+    let status = taverna(
+        &rt,
+        alloc,
+        &words,
+        &mut source,
+        &mut out,
+        &mut err,
+        &gate,
+        &mut asker,
+    );
     assert_eq!(rt; status, Status::Done);
     let calls = asker.calls();
     let wanted = [
