@@ -20,7 +20,7 @@ own_number i j e = eq-eqb i j e
 
 -- ---- parts of groups made before
 
-before-later : (m n : ℕ) (p : Part) → m ≤ n → IsBefore m p → IsBefore n p
+pub before-later : (m n : ℕ) (p : Part) → m ≤ n → IsBefore m p → IsBefore n p
 before-later m n (element x q) w h = tt
 before-later m n (result j) w h = tt
 before-later m n (group i) w h = more i m n w h

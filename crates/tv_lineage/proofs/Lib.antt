@@ -4,5 +4,7 @@ pub mod Closing
 pub mod Keeping
 pub mod Searching
 pub mod Tabling
+pub mod Seeing
+pub mod Holding
 pub mod OfLaws
 pub mod Computed

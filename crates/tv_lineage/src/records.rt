@@ -85,13 +85,11 @@ impl Records {
             job: Some(job),
             parts: used,
         })?;
-        match self.numbers.insert(key, number) {
-            Ok(_) => Ok(()),
-            Err(_) => {
-                self.entries.pop();
-                Err(NoMemory)
-            }
+        if self.numbers.insert(key, number).is_err() {
+            self.entries.truncate(number);
+            return Err(NoMemory);
         }
+        Ok(())
     }
 
     /// One part that stands for all of these from now on. Its cost is constant.
