@@ -6,5 +6,7 @@ pub mod Searching
 pub mod Tabling
 pub mod Seeing
 pub mod Holding
+pub mod Placing
+pub mod Passing
 pub mod OfLaws
 pub mod Computed

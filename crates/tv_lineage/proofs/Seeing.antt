@@ -31,7 +31,7 @@ last x xs = in-right x xs (x ∷ []) (inl refl)
 
 -- ---- bits
 
-decided : (i j : ℕ) → (i ≡ j) ⊎ (i ≡ j → ⊥)
+pub decided : (i j : ℕ) → (i ≡ j) ⊎ (i ≡ j → ⊥)
 decided i j = by (i == j) refl
   where
     by : (b : Bool) → (i == j) ≡ b → (i ≡ j) ⊎ (i ≡ j → ⊥)

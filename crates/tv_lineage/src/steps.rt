@@ -2,7 +2,7 @@
 ghost use Rattle.std.specs.Prelude.{◌≡◌, map, filter_map, IfOk, option_map, option_and_then};
 ghost use Rattle.tv_value.specs.Orders.{in_order, place_cmp};
 ghost use Rattle.tv_lineage.specs.Lineages as spec;
-ghost use Rattle.tv_lineage.specs.Views.{place_in};
+ghost use Rattle.tv_lineage.specs.Views as views;
 
 use crate::records::Entry;
 use std::alloc::Global;
@@ -19,20 +19,28 @@ fn place_at<'a>(step: &Name, name: &'a JobName) -> Option<&'a Place>
     }
 }
 
+/// The place of an entry, if it is a job of the main flow's step.
+fn place_in<'a>(step: &Name, entry: &'a Entry) -> Option<&'a Place>
+    ensures { option_map (λ q. q.now) result ≡ views.place_in step.now entry.now }
+{
+    match &entry.job {
+        Some(name) => place_at(step, name),
+        None => None,
+    }
+}
+
 /// The places of the main flow's jobs of the step.
 pub(crate) fn places_of(
     alloc: Global,
     entries: &[Entry],
     step: &Name,
 ) -> Result<BTreeSet<Place>, NoMemory>
-    ensures { IfOk result (λ qs. qs.keys ≡ in_order place_cmp (filter_map (place_in step.now) entries.now)) }
+    ensures { IfOk result (λ qs. qs.keys ≡ in_order place_cmp (filter_map (views.place_in step.now) entries.now)) }
 {
     let mut places = BTreeSet::new(alloc);
     for entry in entries {
-        if let Some(name) = &entry.job {
-            if let Some(place) = place_at(step, name) {
-                places.insert(place.copy(alloc)?)?;
-            }
+        if let Some(place) = place_in(step, entry) {
+            places.insert(place.copy(alloc)?)?;
         }
     }
     Ok(places)
