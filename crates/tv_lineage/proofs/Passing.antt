@@ -7,7 +7,10 @@ use Rattle.tv_value.specs.Values.{Name}
 use Rattle.tv_lineage.specs.Kept.{Kept, Part, group, parts_in}
 use Rattle.tv_lineage.specs.Reaching.{Numbers, is_met, unmet}
 use Rattle.tv_lineage.specs.Tables.{AreClosed, AreTouched, IsPass, IsTouched, in_table}
-use Rattle.tv_lineage.specs.Views.{IsKept}
+use Rattle.tv_lineage.specs.Views.{IsKept, kept_of, part_view}
+use Rattle.tv_lineage.specs.declared.mark.Part as mark
+use Rattle.tv_lineage.specs.declared.records.Entry.{Entry}
+use Rattle.tv_lineage.proofs.Holding.{parts-at}
 use Rattle.tv_lineage.proofs.OfMembers.{in-map, true≠false}
 use Rattle.tv_lineage.proofs.Seeing.{decided, in-get, of-set, unmet-set}
 use Rattle.tv_lineage.proofs.Tabling.{any-in, grows}
@@ -56,3 +59,17 @@ module _ (ns : Numbers) (k : Kept) (h : IsKept ns k) (x : Name) (q : Place) (n :
       closer : (b : Bool) → unmet cs + (if b then 1 else 0) ≤ unmet bs → unmet (set cs n true) + 1 ≤ unmet bs
       closer true w = omega (arith, w, unmet-set cs n short off)
       closer false w = omega (arith, w, unmet-set cs n short off)
+
+pub pass-as : (ns : Numbers) (k : Kept) (x : Name) (q : Place) (n : ℕ) (bs cs ds : List Bool) (b d : Bool) → ds ≡ cs → d ≡ b → IsPass ns k x q n bs cs b → IsPass ns k x q n bs ds d
+pass-as ns k x q n bs cs ds b d e f p = subst (λ es. IsPass ns k x q n bs es d) (sym e) (subst (λ c. IsPass ns k x q n bs cs c) (sym f) p)
+
+-- ---- as the code has it
+
+pub short : (n l m o : ℕ) → n < o → l ≡ m → m ≡ o → suc n ≤ l
+short n l m o h e f = omega arith
+
+-- what was told of the parts of an entry
+pub told : (ns : Numbers) (x : Name) (q : Place) (es : List Entry) (n : ℕ) (e : Entry) → n < length es → e ≡ get_or es n e → (as' cs : List Bool) → as' ≡ cs → (ps : List mark.Part) → ps ≡ e.parts → (r : Bool) → r ≡ list_any (in_table ns x q as') (map part_view ps) → list_any (in_table ns x q cs) (parts_in (kept_of es).groups n) ≡ r
+told ns x q es n e h is as' cs f ps g r t =
+    ap (list_any (in_table ns x q cs)) (parts-at es n e h is ∙ ap (map part_view) (sym g))
+    ∙ ap (λ ds. list_any (in_table ns x q ds) (map part_view ps)) (sym f) ∙ sym t
