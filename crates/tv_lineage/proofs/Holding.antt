@@ -1,15 +1,14 @@
 -- What the code keeps stands for what is kept: look-ups, and what a new job or group changes.
-use Rattle.std.specs.List.{cons_option, list_any}
-use Rattle.std.specs.Prelude.{Bool, IfSome, List, None, Option, Some, [], false, filter_map, flat_map, if◌then◌else◌, length, map, option_map, refl, reverse, suc, true, zero, ℕ, ◌+◌, ◌++◌, ◌<◌, ◌==◌, ◌||◌, ◌≡◌, ◌≤◌, ◌⊎◌, ◌∷◌}
+use Rattle.std.specs.List.{list_any}
+use Rattle.std.specs.Prelude.{Bool, IfSome, List, None, Option, Some, [], false, filter_map, if◌then◌else◌, length, map, refl, reverse, suc, true, zero, ℕ, ◌+◌, ◌++◌, ◌<◌, ◌==◌, ◌||◌, ◌≡◌, ◌≤◌, ◌⊎◌, ◌∷◌}
 use Rattle.std.proofs.Common.{ap, arith, append-nil, get_or, inl, inr, length-append, subst, sym, ◌∙◌}
 use Rattle.std.proofs.lemmas.List.Elements.{filter_map-append}
 use Rattle.std.proofs.lemmas.List.Concat.{flat_map-append}
 use Rattle.std.proofs.lemmas.List.{length-map, length-reverse, map-append, reverse-append}
 use Rattle.tv_value.specs.Orders.{same_job}
-use Rattle.tv_value.specs.Values.{JobName, Name}
+use Rattle.tv_value.specs.Values.{JobName}
 use Rattle.tv_lineage.specs.Kept as kept
 use Rattle.tv_lineage.specs.Kept.{AreBefore, Groups, IsBefore, Kept, KeptRecord, all_marks, element, group, marks_of, parts_by, parts_in, record_kept, records_of, result}
-use Rattle.tv_lineage.specs.Lineages.{Record}
 use Rattle.tv_lineage.specs.Members.{Each, In}
 use Rattle.tv_lineage.specs.Reaching.{AreInside, AreNumbers, IsNumber, Numbers, number_of}
 use Rattle.tv_lineage.specs.Touching as touching
@@ -20,7 +19,7 @@ use Rattle.tv_lineage.specs.declared.mark.Part.{Part}
 use Rattle.tv_lineage.specs.declared.records.Entry.{Entry}
 use Rattle.tv_lineage.proofs.Closing.{same_job_decides}
 use Rattle.tv_lineage.proofs.Keeping.{before-later, before-same, own_number, parts-before, same_number}
-use Rattle.tv_lineage.proofs.OfMembers.{each_in, in-append, in_each, of-map, true≠false}
+use Rattle.tv_lineage.proofs.OfMembers.{each_in, in-append, true≠false}
 
 -- ---- entries
 

@@ -8,5 +8,6 @@ pub mod Seeing
 pub mod Holding
 pub mod Placing
 pub mod Passing
+pub mod Calling
 pub mod OfLaws
 pub mod Computed

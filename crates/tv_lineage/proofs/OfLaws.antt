@@ -1,16 +1,16 @@
 -- The laws as they are stated.
-use Rattle.std.specs.Prelude.{◌≡◌, refl, zero, List, [], ◌∷◌, map, filter_map, Bool, true, false, if◌then◌else◌, Option, Some, None}
+use Rattle.std.specs.Prelude.{◌≡◌, refl, List, [], ◌∷◌, map, filter_map, Bool, true, false, if◌then◌else◌, Option, Some, None}
 use Rattle.std.specs.Cmp.Lexicographic.{bytes_decides}
 use Rattle.std.specs.List.{list_any}
-use Rattle.std.proofs.Common.{sym, ap, subst, ◌∙◌, inl}
+use Rattle.std.proofs.Common.{sym, ap, subst, ◌∙◌}
 use Rattle.std.proofs.lemmas.Cmp.{nat_list_cmp_total}
 use Rattle.std.proofs.lemmas.Map.Lookups.{exact_bytes}
 use Rattle.tv_value.specs.Nested.{Place}
 use Rattle.tv_value.specs.Values.{Name, JobName}
 use Rattle.tv_value.specs.Orders.{in_order, place_cmp, same_name}
 use Rattle.tv_lineage.specs.Members.{In}
-use Rattle.tv_lineage.specs.Touching.{Label, label_cmp, touches, given}
-use Rattle.tv_lineage.specs.Lineages.{Record, backward, by_step, place_at, job_at, is_made_from}
+use Rattle.tv_lineage.specs.Touching.{Label, label_cmp, touches}
+use Rattle.tv_lineage.specs.Lineages.{Record, backward, by_step, place_at, job_at}
 use Rattle.tv_lineage.specs.Kept.{Kept}
 use Rattle.tv_lineage.specs.Stated.{BackwardIsClosure, BackwardIsOnlyOne, OrderIsOfNoAccount, ForwardInAnyOrder, ByStepInAnyOrder, MadeFromIsReached, ByStepHasJobs, ByStepInOrder, GroupIsItsParts, SearchBegins, SearchGoesOn, SearchFindsAll, TableMayGrow, TableIsWhole, TableTells}
 use Rattle.tv_lineage.specs.Reaching.{Numbers}

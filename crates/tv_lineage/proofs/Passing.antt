@@ -1,12 +1,12 @@
 -- One pass over all groups.
 use Rattle.std.specs.List.{list_any}
-use Rattle.std.specs.Prelude.{Bool, List, [], false, if◌then◌else◌, length, map, refl, suc, true, zero, ℕ, ◌+◌, ◌<◌, ◌≡◌, ◌≤◌, ◌⊎◌, ◌∷◌}
+use Rattle.std.specs.Prelude.{Bool, List, false, if◌then◌else◌, length, map, suc, true, ℕ, ◌+◌, ◌<◌, ◌≡◌, ◌≤◌, ◌⊎◌}
 use Rattle.std.proofs.Common.{ap, arith, get_or, inl, inr, length-set, set, subst, sym, ◌∙◌}
 use Rattle.tv_value.specs.Nested.{Place}
 use Rattle.tv_value.specs.Values.{Name}
 use Rattle.tv_lineage.specs.Kept.{Kept, Part, group, parts_in}
 use Rattle.tv_lineage.specs.Reaching.{Numbers, is_met, unmet}
-use Rattle.tv_lineage.specs.Tables.{AreClosed, AreTouched, IsPass, IsTouched, in_table}
+use Rattle.tv_lineage.specs.Tables.{AreTouched, IsPass, IsTouched, in_table}
 use Rattle.tv_lineage.specs.Views.{IsKept, kept_of, part_view}
 use Rattle.tv_lineage.specs.declared.mark.Part as mark
 use Rattle.tv_lineage.specs.declared.records.Entry.{Entry}

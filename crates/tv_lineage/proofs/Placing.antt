@@ -2,12 +2,12 @@
 use Rattle.std.specs.BTreeSet.{insert_key}
 use Rattle.std.specs.List.{cons_option}
 use Rattle.std.specs.Prelude.{List, None, Option, Some, [], filter_map, length, map, option_and_then, option_map, refl, suc, take, zero, ℕ, ◌+◌, ◌++◌, ◌<◌, ◌≡◌, ◌≤◌, ◌⊎◌, ◌∷◌}
-use Rattle.std.proofs.Common.{ap, append-nil, arith, get_or, inl, inr, subst, sym, ◌∙◌}
+use Rattle.std.proofs.Common.{ap, arith, get_or, inl, inr, subst, sym, ◌∙◌}
 use Rattle.std.proofs.lemmas.Cmp.{nat_list_cmp_total}
 use Rattle.std.proofs.lemmas.List.{take_all}
 use Rattle.std.proofs.lemmas.Map.Lookups.{exact_bytes}
 use Rattle.tv_value.specs.Nested.{Place}
-use Rattle.tv_value.specs.Orders.{in_order, place_cmp, put_in_order}
+use Rattle.tv_value.specs.Orders.{in_order, place_cmp}
 use Rattle.tv_value.specs.Values.{JobName, Name}
 use Rattle.tv_value.proofs.OfFaults.{put-as-key}
 use Rattle.tv_lineage.specs.Kept.{KeptRecord, Groups, Part, record_kept, records_of}

@@ -1,15 +1,13 @@
 -- Steps of a search: what seeing a group, an element or a job does.
 use Rattle.std.specs.Prelude.{Bool, IfSome, List, None, Option, Some, [], false, length, map, refl, suc, take, true, zero, ℕ, ◌+◌, ◌++◌, ◌<◌, ◌==◌, ◌≡◌, ◌≤◌, ◌⊎◌, ◌∷◌}
 use Rattle.std.specs.BTreeSet.{insert_key}
-use Rattle.std.specs.Ordering.{match_ordering}
-use Rattle.std.specs.declared.cmp.Ordering.{Ordering}
-use Rattle.std.proofs.Common.{Equal, Greater, Less, ap, arith, get_or, get_or-set_other, get_or-set_same, inl, inr, length-append, length-set, set, subst, sym, ◌∙◌}
+use Rattle.std.proofs.Common.{ap, arith, get_or, get_or-set_other, get_or-set_same, inl, inr, length-append, length-set, set, subst, sym, ◌∙◌}
 use Rattle.tv_value.specs.Nested.{Place}
-use Rattle.tv_value.specs.Orders.{in_order, put_in_order}
+use Rattle.tv_value.specs.Orders.{put_in_order}
 use Rattle.tv_value.specs.Values.{JobName, Name}
 use Rattle.tv_value.proofs.OfFaults.{put-as-key}
 use Rattle.tv_lineage.specs.Kept.{Part, element, group, result}
-use Rattle.tv_lineage.specs.Members.{In, Rises}
+use Rattle.tv_lineage.specs.Members.{In}
 use Rattle.tv_lineage.specs.Reaching.{AreInside, IsMet, IsSeen, Numbers, Search, Sees, is_met, number_of, unmet}
 use Rattle.tv_lineage.specs.Touching.{Label, label_cmp}
 use Rattle.tv_lineage.specs.Views.{mark_part, part_view}

@@ -1,10 +1,10 @@
 -- Tables tell what was made from an element.
 use Rattle.std.specs.List.{list_any}
-use Rattle.std.specs.Prelude.{Bool, List, None, Option, Some, [], false, length, refl, suc, true, zero, ℕ, ◌==◌, ◌||◌, ◌≡◌, ◌≤◌, ◌⊎◌, ◌∷◌}
-use Rattle.std.proofs.Common.{ap, arith, inl, inr, subst, sym, ◌∙◌}
+use Rattle.std.specs.Prelude.{Bool, List, None, Option, Some, [], false, refl, true, zero, ℕ, ◌||◌, ◌≡◌, ◌∷◌}
+use Rattle.std.proofs.Common.{ap, inl, inr, sym, ◌∙◌}
 use Rattle.tv_value.specs.Nested.{Place}
 use Rattle.tv_value.specs.Values.{JobName, Name}
-use Rattle.tv_lineage.specs.Kept.{AreBefore, Groups, Kept, Part, all_marks, element, group, group_marks, marks_of, parts_by, parts_in, parts_next, records_of, result}
+use Rattle.tv_lineage.specs.Kept.{AreBefore, Kept, Part, all_marks, element, group, marks_of, parts_by, parts_in, parts_next, records_of, result}
 use Rattle.tv_lineage.specs.Lineages.{IsReached, Record, backward, is_made_from}
 use Rattle.tv_lineage.specs.Members.{In}
 use Rattle.tv_lineage.specs.Reaching.{AreNumbers, IsNumber, Numbers, is_met}

@@ -2,7 +2,7 @@
 use Rattle.std.specs.List.{list_any}
 use Rattle.std.specs.Prelude.{Bool, List, None, Option, Some, false, if◌then◌else◌, length, suc, true, ℕ, ◌+◌, ◌≡◌, ◌≤◌}
 use Rattle.tv_value.specs.Nested.{Place}
-use Rattle.tv_value.specs.Values.{JobName, Name}
+use Rattle.tv_value.specs.Values.{Name}
 use Rattle.tv_lineage.specs.Kept.{Groups, Kept, Part, element, group, marks_of, parts_in, parts_next, records_of, result}
 use Rattle.tv_lineage.specs.Lineages.{IsReached}
 use Rattle.tv_lineage.specs.Reaching.{Numbers, is_met, unmet}

@@ -1,6 +1,6 @@
 -- What the types of the code stand for.
 use Rattle.std.specs.List.{list_any}
-use Rattle.std.specs.Prelude.{Bool, List, None, Option, [], filter_map, length, map, option_and_then, option_map, reverse, ◌++◌, ◌∷◌}
+use Rattle.std.specs.Prelude.{Bool, List, Option, [], filter_map, length, map, option_and_then, option_map, reverse, ◌++◌, ◌∷◌}
 use Rattle.tv_value.specs.Nested.{Place}
 use Rattle.tv_value.specs.Orders.{same_job}
 use Rattle.tv_value.specs.Values.{JobName, Name}

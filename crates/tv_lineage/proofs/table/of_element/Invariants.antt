@@ -1,4 +1,4 @@
-use Rattle.std.proofs.Common.{Bool, false, if◌then◌else◌, length, ◌+◌, ◌≡◌}
+use Rattle.std.proofs.Common.{false, if◌then◌else◌, length, ◌+◌, ◌≡◌}
 use Rattle.std.specs.BTreeMap.{get}
 use Rattle.tv_value.specs.Orders.{job_name_cmp}
 use Rattle.tv_lineage.specs.Reaching.{unmet}

@@ -1,4 +1,4 @@
-use Rattle.std.proofs.Common.{ap, inl, inr, refl, sym, ◌∙◌}
+use Rattle.std.proofs.Common.{ap, inl, inr, ◌∙◌}
 use Rattle.std.specs.BTreeMap.{get}
 use Rattle.tv_value.specs.Orders.{job_name_cmp}
 use Rattle.tv_lineage.specs.Views.{kept_of}

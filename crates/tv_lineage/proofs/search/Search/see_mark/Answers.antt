@@ -1,4 +1,4 @@
-use Rattle.std.proofs.Common.{OnOk, [], map, subst, sym, ◌∷◌}
+use Rattle.std.proofs.Common.{[], subst, sym, ◌∷◌}
 use Rattle.std.specs.BTreeMap.{get}
 use Rattle.tv_value.specs.Orders.{job_name_cmp}
 use Rattle.tv_lineage.specs.Reaching.{Sees}
