@@ -5,11 +5,12 @@ use Rattle.std.specs.List.{cons_option, list_any}
 use Rattle.std.specs.Map.{lookup}
 use Rattle.std.specs.Ordering.{is_eq, ordering_then}
 use Rattle.std.specs.Prelude.{Bool, IfOk, IfSome, List, None, OnErr, OnOk, Some, [], false, filter_map, if◌then◌else◌, length, map, refl, suc, take, true, zero, ℕ, ◌&&◌, ◌+◌, ◌++◌, ◌<◌, ◌≡◌, ◌≤◌, ◌∷◌}
+use Rattle.std.specs.Option.{is_some}
 use Rattle.std.specs.Result.{is_err}
 use Rattle.std.specs.declared.cmp.Ordering.{Ordering}
 use Rattle.std.specs.declared.result.Result.TheVariants.{Err, Ok}
 use Rattle.std.specs.declared.result.Result.{Result}
-use Rattle.std.proofs.Common.{Equal, Greater, Less, ap, append-nil, arith, get_or, subst, sym, ◌∙◌}
+use Rattle.std.proofs.Common.{Option, Equal, Greater, Less, ap, append-nil, arith, get_or, subst, sym, ◌∙◌}
 use Rattle.std.proofs.lemmas.List.Elements.{filter_map-append}
 use Rattle.std.proofs.lemmas.List.{map_more}
 use Rattle.std.proofs.Math.Seq.{take-append_seam}
@@ -17,10 +18,10 @@ use Rattle.tv_value.specs.Nested.{Place}
 use Rattle.tv_value.specs.Orders.{job_name_cmp, name_cmp, place_cmp, same_job, same_name}
 use Rattle.tv_value.specs.Values.{JobName, Name}
 use Rattle.tv_lineage.specs.Kept as kept
-use Rattle.tv_lineage.specs.Kept.{Kept, all_marks, parts_in, records_of}
+use Rattle.tv_lineage.specs.Kept.{Kept, all_marks, is_noted, parts_in, records_of}
 use Rattle.tv_lineage.specs.Lineages.{Record, backward, is_made_from, leaf_label}
 use Rattle.tv_lineage.specs.Members.{In}
-use Rattle.tv_lineage.specs.Reaching.{AreInside, Begins, IsSearch, Numbers, Search, Sees, is_met, number_of}
+use Rattle.tv_lineage.specs.Reaching.{AreInside, Begins, IsNumber, IsSearch, Numbers, Search, Sees, is_met, number_of}
 use Rattle.tv_lineage.specs.Tables.{IsWhole, in_table}
 use Rattle.tv_lineage.specs.Touching.{Label}
 use Rattle.tv_lineage.specs.Views.{IsKept, kept_of, leaf_view, mark_part, mark_view, part_view}
@@ -67,6 +68,11 @@ module _ (s t : BTreeMap JobName ℕ) (key n : JobName) (same : key ≡ n) (i : 
       off : (b : Bool) → same_job key m ≡ b → b ≡ false
       off true e = absurd (true≠false (sym ((same_job_decides m n).1 (sym ((same_job_decides key m).0 e) ∙ same)) ∙ f))
       off false e = refl
+
+-- a number stands there exactly for a noted job
+pub noted-told : (k : Kept) (n : JobName) (o : Option ℕ) → IsNumber k n o → is_some o ≡ is_noted n k
+noted-told k n None e = sym e
+noted-told k n (Some i) e = sym e.2
 
 -- what was taken back is as it was
 pub cut : {A : Type 0} (xs ys zs : List A) (i : ℕ) → i ≡ length xs → ys ≡ take i zs → (z : A) → zs ≡ xs ++ z ∷ [] → ys ≡ xs

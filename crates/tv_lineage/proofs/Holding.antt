@@ -8,18 +8,18 @@ use Rattle.std.proofs.lemmas.List.{length-map, length-reverse, map-append, rever
 use Rattle.tv_value.specs.Orders.{same_job}
 use Rattle.tv_value.specs.Values.{JobName}
 use Rattle.tv_lineage.specs.Kept as kept
-use Rattle.tv_lineage.specs.Kept.{AreBefore, Groups, IsBefore, Kept, KeptRecord, all_marks, element, group, marks_of, parts_by, parts_in, record_kept, records_of, result}
+use Rattle.tv_lineage.specs.Kept.{AreBefore, Groups, IsBefore, Kept, KeptRecord, all_marks, element, group, is_noted, marks_of, parts_by, parts_in, record_kept, records_of, result}
 use Rattle.tv_lineage.specs.Members.{Each, In}
 use Rattle.tv_lineage.specs.Reaching.{AreInside, AreNumbers, IsNumber, Numbers, number_of}
 use Rattle.tv_lineage.specs.Touching as touching
-use Rattle.tv_lineage.specs.Views.{IsKept, is_noted, job_view, kept_of, mark_part, mark_view, part_view, parts_view, with_group, with_job}
+use Rattle.tv_lineage.specs.Views.{IsKept, job_view, kept_of, mark_part, mark_view, part_view, parts_view, with_group, with_job}
 use Rattle.tv_lineage.specs.declared.mark.Mark.TheVariants.{Given, Made}
 use Rattle.tv_lineage.specs.declared.mark.Mark.{Mark}
 use Rattle.tv_lineage.specs.declared.mark.Part.{Part}
 use Rattle.tv_lineage.specs.declared.records.Entry.{Entry}
 use Rattle.tv_lineage.proofs.Closing.{same_job_decides}
-use Rattle.tv_lineage.proofs.Keeping.{before-later, before-same, own_number, parts-before, same_number}
-use Rattle.tv_lineage.proofs.OfMembers.{each_in, in-append, true≠false}
+use Rattle.tv_lineage.proofs.Keeping.{before-later, before-same, none-noted, own_number, parts-before, same_number}
+use Rattle.tv_lineage.proofs.OfMembers.{each_in, in-append}
 
 -- ---- entries
 
@@ -100,6 +100,22 @@ parts-at (d ∷ es) (suc i) e h g = ap (λ hs. parts_in hs (suc i)) (turned d es
 
 -- ---- what stays true
 
+any-more : {A : Type 0} (p : A → Bool) (xs : List A) (y : A) → list_any p (xs ++ y ∷ []) ≡ (list_any p xs || p y)
+any-more p [] y = or-false (p y)
+  where
+    or-false : (b : Bool) → (b || false) ≡ b
+    or-false true = refl
+    or-false false = refl
+any-more p (x ∷ xs) y = by (p x) (any-more p xs y)
+  where
+    by : (b : Bool) → list_any p (xs ++ y ∷ []) ≡ (list_any p xs || p y) → (b || list_any p (xs ++ y ∷ [])) ≡ ((b || list_any p xs) || p y)
+    by true e = refl
+    by false e = e
+
+or-true : (b : Bool) → (b || true) ≡ true
+or-true true = refl
+or-true false = refl
+
 module _ (ns : Numbers) (k : Kept) (h : IsKept ns k) (ps : List kept.Part) (before : Each (IsBefore (length k.groups)) ps) where
   up : (i : ℕ) → suc i ≤ length k.groups → suc i ≤ suc (length k.groups)
   up i w = omega arith
@@ -128,7 +144,7 @@ module _ (ns : Numbers) (k : Kept) (h : IsKept ns k) (ps : List kept.Part) (befo
 
   stay : (n : JobName) (o : Option ℕ) → IsNumber k n o → IsNumber (with_group ps k) n o
   stay n None e = e
-  stay n (Some i) e = (up i e.0, e.1 ∙ sym (parts-stay i e.0))
+  stay n (Some i) e = (up i e.0, e.1 ∙ sym (parts-stay i e.0), e.2)
 
   pub kept-group : IsKept ns (with_group ps k)
   kept-group = record { before = (before, h.before); jobs = λ r i p j. later p (h.jobs r i p j); numbers = λ n. stay n (ns n) (h.numbers n) }
@@ -136,29 +152,24 @@ module _ (ns : Numbers) (k : Kept) (h : IsKept ns k) (ps : List kept.Part) (befo
   -- ---- with a new job
 
   module _ (m : JobName) (new : is_noted m k ≡ false) where
-    none-noted : (js : List KeptRecord) → list_any (λ (r : KeptRecord). same_job m r.job) js ≡ false → parts_by m js ≡ []
-    none-noted [] e = refl
-    none-noted (r ∷ js) e = by (same_job m r.job) e (λ f. none-noted js f)
-      where
-        by : (b : Bool) → (b || list_any (λ (r : KeptRecord). same_job m r.job) js) ≡ false → (list_any (λ (r : KeptRecord). same_job m r.job) js ≡ false → parts_by m js ≡ []) → (if b then r.parts else []) ++ parts_by m js ≡ []
-        by true f rec = absurd (true≠false f)
-        by false f rec = rec f
-
     abbrev this : KeptRecord
     this = record { job = m; parts = ps }
 
     own : (n : JobName) (b : Bool) → same_job n m ≡ b → parts_by n (k.jobs ++ this ∷ []) ≡ parts_by n k.jobs ++ (if b then ps else [])
     own n b e = flat_map-append (λ r. if same_job n r.job then r.parts else []) k.jobs (this ∷ []) ∙ ap (λ qs. parts_by n k.jobs ++ qs) (append-nil (if same_job n m then ps else []) ∙ ap (λ c. if c then ps else []) e)
 
+    noted-more : (n : JobName) (b : Bool) → same_job n m ≡ b → is_noted n (with_job m ps k) ≡ (is_noted n k || b)
+    noted-more n b e = any-more (λ (r : KeptRecord). same_job n r.job) k.jobs this ∙ ap (λ c. is_noted n k || c) e
+
     mine : (n : JobName) → n ≡ m → parts_by n (k.jobs ++ this ∷ []) ≡ ps
-    mine n e = own n true ((same_job_decides n m).1 e) ∙ ap (λ qs. qs ++ ps) (ap (λ j. parts_by j k.jobs) e ∙ none-noted k.jobs new)
+    mine n e = own n true ((same_job_decides n m).1 e) ∙ ap (λ qs. qs ++ ps) (ap (λ j. parts_by j k.jobs) e ∙ none-noted m k.jobs new)
 
     other : (n : JobName) → same_job n m ≡ false → parts_by n (k.jobs ++ this ∷ []) ≡ parts_by n k.jobs
     other n e = own n false e ∙ append-nil (parts_by n k.jobs)
 
     with-this : (n : JobName) (o : Option ℕ) → same_job n m ≡ false → IsNumber k n o → IsNumber (with_job m ps k) n o
-    with-this n None e f = other n e ∙ f
-    with-this n (Some i) e f = (up i f.0, other n e ∙ f.1 ∙ sym (parts-stay i f.0))
+    with-this n None e f = noted-more n false e ∙ ap (λ b. b || false) f
+    with-this n (Some i) e f = (up i f.0, other n e ∙ f.1 ∙ sym (parts-stay i f.0), noted-more n false e ∙ ap (λ b. b || false) f.2)
 
     numbered : (ms : Numbers) → ((n : JobName) → n ≡ m → ms n ≡ Some (length k.groups)) → ((n : JobName) → same_job n m ≡ false → ms n ≡ ns n) → AreNumbers ms (with_job m ps k)
     numbered ms here there n = by (same_job n m) refl
@@ -169,7 +180,7 @@ module _ (ns : Numbers) (k : Kept) (h : IsKept ns k) (ps : List kept.Part) (befo
         by : (b : Bool) → same_job n m ≡ b → IsNumber (with_job m ps k) n (ms n)
         by true e =
             let same = (same_job_decides n m).0 e in
-            subst (IsNumber (with_job m ps k) n) (sym (here n same)) (itself (length k.groups), mine n same ∙ sym parts-last)
+            subst (IsNumber (with_job m ps k) n) (sym (here n same)) (itself (length k.groups), mine n same ∙ sym parts-last, noted-more n true e ∙ or-true (is_noted n k))
         by false e = subst (IsNumber (with_job m ps k) n) (sym (there n e)) (with-this n (ns n) e (h.numbers n))
 
     pub kept-job : (ms : Numbers) → ((n : JobName) → n ≡ m → ms n ≡ Some (length k.groups)) → ((n : JobName) → same_job n m ≡ false → ms n ≡ ns n) → IsKept ms (with_job m ps k)

@@ -1,5 +1,6 @@
 -- What is kept of records in parts stands for the records; groups and look-ups.
-use Rattle.std.specs.Prelude.{◌≡◌, refl, ℕ, zero, suc, ◌≤◌, List, [], ◌∷◌, length, flat_map, Bool, true, false, ◌==◌, if◌then◌else◌}
+use Rattle.std.specs.List.{list_any}
+use Rattle.std.specs.Prelude.{◌++◌, ◌||◌, ◌≡◌, refl, ℕ, zero, suc, ◌≤◌, List, [], ◌∷◌, length, flat_map, Bool, true, false, ◌==◌, if◌then◌else◌}
 use Rattle.std.proofs.Common.{arith, sym, ap, subst, ◌∙◌, inl, inr}
 use Rattle.std.proofs.lemmas.Bool.{eq-eqb, eqb-true}
 use Rattle.tv_value.specs.Nested.{Place}
@@ -110,6 +111,15 @@ of-parts n rs p h = let w = of-flat (λ r. if same_job n r.job then r.parts else
     by : (r : KeptRecord) → In r rs → (b : Bool) → same_job n r.job ≡ b → In p (if b then r.parts else []) → (r : KeptRecord) × In r rs × (r.job ≡ n) × In p r.parts
     by r i true e u = (r, i, sym ((same_job_decides n r.job).0 e), u)
     by r i false e u = absurd u
+
+-- a job that wasn't noted has none
+pub none-noted : (m : JobName) (js : List KeptRecord) → list_any (λ (r : KeptRecord). same_job m r.job) js ≡ false → parts_by m js ≡ []
+none-noted m [] e = refl
+none-noted m (r ∷ js) e = by (same_job m r.job) e (λ f. none-noted m js f)
+  where
+    by : (b : Bool) → (b || list_any (λ (r : KeptRecord). same_job m r.job) js) ≡ false → (list_any (λ (r : KeptRecord). same_job m r.job) js ≡ false → parts_by m js ≡ []) → (if b then r.parts else []) ++ parts_by m js ≡ []
+    by true f rec = absurd (true≠false f)
+    by false f rec = rec f
 
 -- ---- what leads on
 

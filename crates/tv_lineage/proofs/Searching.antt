@@ -8,7 +8,7 @@ use Rattle.tv_lineage.specs.Members.{In, Rises}
 use Rattle.tv_lineage.specs.Reaching.{AreNumbers, Begins, IsMet, IsNumber, IsSearch, IsSeen, Numbers, Search, Sees, looks_left, number_of}
 use Rattle.tv_lineage.specs.Touching.{Label, given, label_cmp}
 use Rattle.tv_lineage.proofs.Closing.{in-backward, label_same, label_total, of-backward, rises-backward}
-use Rattle.tv_lineage.proofs.Keeping.{all-reached, next-reached, of-group, reached-so}
+use Rattle.tv_lineage.proofs.Keeping.{all-reached, next-reached, none-noted, of-group, reached-so}
 use Rattle.tv_lineage.proofs.OfMembers.{in-append, of-flat}
 use Rattle.tv_lineage.proofs.Rising.{only-one}
 
@@ -84,15 +84,18 @@ module _ (ns : Numbers) (k : Kept) (a : AreBefore k.groups) (h : AreNumbers ns k
       due i (inr m) = m
 
   pub goes-on : (used : List Part) (s t : Search) (rest : List ℕ) (i : ℕ) → s.pending ≡ rest ++ i ∷ [] → IsSearch ns k used s → Sees ns (parts_in k.groups i) (record s { pending = rest }) t → IsSearch ns k used t × (looks_left s ≡ suc (looks_left t))
-  goes-on used s t rest i e g w = (record {
-    found = still-found used (parts_in k.groups i) (record s { pending = rest }) t w next g.found g.met;
-    met = still-met used (parts_in k.groups i) (record s { pending = rest }) t w next g.found g.met;
-    began = λ p j. still p (g.began p j);
-    goes_on = λ j m. on j (w.met j m);
-    due = λ j m. due j (w.due j m);
-    rises = w.rises g.rises;
-    size = w.size ∙ g.size;
-  }, left)
+  goes-on used s t rest i e g w = (
+    record {
+      found = still-found used (parts_in k.groups i) (record s { pending = rest }) t w next g.found g.met;
+      met = still-met used (parts_in k.groups i) (record s { pending = rest }) t w next g.found g.met;
+      began = λ p j. still p (g.began p j);
+      goes_on = λ j m. on j (w.met j m);
+      due = λ j m. due j (w.due j m);
+      rises = w.rises g.rises;
+      size = w.size ∙ g.size;
+    },
+    left,
+  )
     where
       in_all : (j : ℕ) → In j (rest ++ i ∷ []) → In j s.pending
       in_all j m = subst (λ is. In j is) (sym e) m
@@ -152,7 +155,7 @@ module _ (ns : Numbers) (k : Kept) (a : AreBefore k.groups) (h : AreNumbers ns k
           by (inr f) = f
 
       of_job : (n : JobName) (o : Option ℕ) → IsNumber k n o → IfSome o (IsMet s) → (p : Part) → In p (parts_by n k.jobs) → IsSeen ns s p
-      of_job n None e m p j = absurd (subst (λ ps. In p ps) e j)
+      of_job n None e m p j = absurd (subst (λ ps. In p ps) (none-noted n k.jobs e) j)
       of_job n (Some i) e m p j = all_seen i m p (subst (λ ps. In p ps) e.1 j)
 
       next : (p : Part) → IsSeen ns s p → (n : Part) → In n (parts_next k p) → IsSeen ns s n

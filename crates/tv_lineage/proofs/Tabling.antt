@@ -11,7 +11,7 @@ use Rattle.tv_lineage.specs.Reaching.{AreNumbers, IsNumber, Numbers, is_met}
 use Rattle.tv_lineage.specs.Tables.{AreTouched, IsTable, IsTouched, IsWhole, in_table, is_met_by}
 use Rattle.tv_lineage.specs.Touching.{Label, Mark, given, touches}
 use Rattle.tv_lineage.proofs.Closing.{in-backward, of-backward}
-use Rattle.tv_lineage.proofs.Keeping.{all-reached, next-reached, reached-so, parts-shorter}
+use Rattle.tv_lineage.proofs.Keeping.{all-reached, next-reached, none-noted, reached-so, parts-shorter}
 use Rattle.tv_lineage.proofs.OfMembers.{of-flat, true≠false}
 use Rattle.tv_lineage.proofs.Searching.{number-reached}
 
@@ -69,7 +69,7 @@ module _ (ns : Numbers) (k : Kept) (a : AreBefore k.groups) (h : AreNumbers ns k
           w.closed i (parts-shorter k.groups i m.0 m.1) e
 
       on-job : (n : JobName) (o : Option ℕ) → IsNumber k n o → list_any (in_table ns x q bs) (parts_by n k.jobs) ≡ true → is_met_by bs o ≡ true
-      on-job n None g e = absurd (true≠false (sym e ∙ ap (list_any (in_table ns x q bs)) g))
+      on-job n None g e = absurd (true≠false (sym e ∙ ap (list_any (in_table ns x q bs)) (none-noted n k.jobs g)))
       on-job n (Some i) g e = on-group i (ap (list_any (in_table ns x q bs)) (sym g.1) ∙ e)
 
       on : (p : Part) → list_any (in_table ns x q bs) (parts_next k p) ≡ true → in_table ns x q bs p ≡ true

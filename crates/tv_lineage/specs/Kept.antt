@@ -1,5 +1,6 @@
 -- What is kept of records: parts in place of marks, so that what many jobs used together is kept once.
-use Rattle.std.specs.Prelude.{List, [], flat_map, if◌then◌else◌, length, map, suc, ℕ, ◌==◌, ◌≤◌, ◌∷◌}
+use Rattle.std.specs.List.{list_any}
+use Rattle.std.specs.Prelude.{Bool, List, [], flat_map, if◌then◌else◌, length, map, suc, ℕ, ◌==◌, ◌≤◌, ◌∷◌}
 use Rattle.tv_value.specs.Nested.{Place}
 use Rattle.tv_value.specs.Orders.{same_job}
 use Rattle.tv_value.specs.Values.{JobName, Name}
@@ -51,6 +52,9 @@ abbrev pub records_of : Kept → List Record
 records_of k = map (record_kept k.groups) k.jobs
 
 -- ---- look-ups
+
+abbrev pub is_noted : JobName → Kept → Bool
+is_noted n k = list_any (λ (r : KeptRecord). same_job n r.job) k.jobs
 
 abbrev pub parts_by : JobName → List KeptRecord → List Part
 parts_by n rs = flat_map (λ r. if same_job n r.job then r.parts else []) rs

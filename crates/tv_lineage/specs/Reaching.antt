@@ -1,7 +1,7 @@
 -- How what is kept is searched, so that each group is looked at once.
 use Rattle.std.specs.Prelude.{Bool, IfSome, List, None, Option, Some, [], false, length, slice_index_or, suc, true, ℕ, ◌+◌, ◌≡◌, ◌≤◌, ◌⊎◌, ◌∷◌}
 use Rattle.tv_value.specs.Values.{JobName}
-use Rattle.tv_lineage.specs.Kept.{Kept, Part, all_marks, element, group, group_marks, parts_by, parts_in, records_of, result}
+use Rattle.tv_lineage.specs.Kept.{Kept, Part, all_marks, element, group, group_marks, is_noted, parts_by, parts_in, records_of, result}
 use Rattle.tv_lineage.specs.Lineages.{IsReached}
 use Rattle.tv_lineage.specs.Members.{In, Rises}
 use Rattle.tv_lineage.specs.Touching.{Label, label_cmp}
@@ -13,8 +13,8 @@ abbrev pub Numbers : Type 0
 Numbers = JobName → Option ℕ
 
 abbrev pub IsNumber : Kept → JobName → Option ℕ → Type 0
-IsNumber k n None = parts_by n k.jobs ≡ []
-IsNumber k n (Some i) = (suc i ≤ length k.groups) × (parts_by n k.jobs ≡ parts_in k.groups i)
+IsNumber k n None = is_noted n k ≡ false
+IsNumber k n (Some i) = (suc i ≤ length k.groups) × (parts_by n k.jobs ≡ parts_in k.groups i) × (is_noted n k ≡ true)
 
 -- the numbers are those of what is kept
 abbrev pub AreNumbers : Numbers → Kept → Type 0

@@ -1,8 +1,6 @@
 -- What the types of the code stand for.
-use Rattle.std.specs.List.{list_any}
-use Rattle.std.specs.Prelude.{Bool, List, Option, [], filter_map, length, map, option_and_then, option_map, reverse, ◌++◌, ◌∷◌}
+use Rattle.std.specs.Prelude.{List, Option, [], filter_map, length, map, option_and_then, option_map, reverse, ◌++◌, ◌∷◌}
 use Rattle.tv_value.specs.Nested.{Place}
-use Rattle.tv_value.specs.Orders.{same_job}
 use Rattle.tv_value.specs.Values.{JobName, Name}
 use Rattle.tv_lineage.specs.Kept as kept
 use Rattle.tv_lineage.specs.Kept.{AreBefore, IsBefore, Kept, KeptRecord}
@@ -46,9 +44,6 @@ with_group ps k = record { jobs = k.jobs; groups = ps ∷ k.groups }
 -- with a new job, whose parts are a group too
 abbrev pub with_job : JobName → List kept.Part → Kept → Kept
 with_job n ps k = record { jobs = k.jobs ++ record { job = n; parts = ps } ∷ []; groups = ps ∷ k.groups }
-
-abbrev pub is_noted : JobName → Kept → Bool
-is_noted n k = list_any (λ (r : KeptRecord). same_job n r.job) k.jobs
 
 abbrev pub parts_view : Entry → List kept.Part
 parts_view e = map part_view e.parts

@@ -1,9 +1,9 @@
 //! What is kept of settled jobs.
 ghost use Rattle.std.specs.Prelude.{◌≡◌, ◌++◌, ◌∷◌, [], false, length, map, IfOk, OnOk, OnErr};
-ghost use Rattle.tv_lineage.specs.Kept.{IsBefore, all_marks, marks_of, records_of};
+ghost use Rattle.tv_lineage.specs.Kept.{IsBefore, all_marks, is_noted, marks_of, records_of};
 ghost use Rattle.tv_lineage.specs.Lineages.{backward, by_step, forward};
 ghost use Rattle.tv_lineage.specs.Members.{Each};
-ghost use Rattle.tv_lineage.specs.Views.{is_noted, leaf_view, mark_part, mark_view, none_kept, part_view, with_group, with_job};
+ghost use Rattle.tv_lineage.specs.Views.{leaf_view, mark_part, mark_view, none_kept, part_view, with_group, with_job};
 
 use crate::mark::{Labels, Leaves, Marks, OutPlaces, Part, Parts};
 use crate::search::Search;
@@ -53,14 +53,19 @@ impl Records {
         })
     }
 
+    /// Whether the job was noted. It costs a look-up.
+    pub fn has(&self, job: &JobName) -> bool
+        ensures { result ≡ is_noted job.now self.now }
+    {
+        self.numbers.contains_key(job)
+    }
+
     /// Notes what a settled job used. Linear in the marks, and a look-up.
     pub fn note(&mut self, alloc: Global, job: JobName, used: Marks) -> Result<(), NoMemory>
         requires new { is_noted job self.old ≡ false }
         ensures ok { OnOk result (self.new ≡ with_job job (map mark_part used) self.old) }
-        ensures records {
-            OnOk result (records_of self.new
-                ≡ records_of self.old ++ record { job = job; used = map mark_view used } ∷ [])
-        }
+        ensures records { OnOk result (records_of self.new
+            ≡ records_of self.old ++ record { job = job; used = map mark_view used } ∷ []) }
         ensures refused { OnErr result (self.new ≡ self.old) }
     {
         let parts = parts_of(alloc, used)?;
@@ -72,11 +77,9 @@ impl Records {
         requires new { is_noted job self.old ≡ false }
         requires before { Each (IsBefore (length self.old.groups)) (map part_view used) }
         ensures ok { OnOk result (self.new ≡ with_job job (map part_view used) self.old) }
-        ensures records {
-            OnOk result (records_of self.new
-                ≡ records_of self.old
-                    ++ record { job = job; used = all_marks self.old.groups (map part_view used) } ∷ [])
-        }
+        ensures records { OnOk result (records_of self.new
+            ≡ records_of self.old
+            ++ record { job = job; used = all_marks self.old.groups (map part_view used) } ∷ []) }
         ensures refused { OnErr result (self.new ≡ self.old) }
     {
         let number = self.entries.len();
@@ -95,10 +98,8 @@ impl Records {
     /// One part that stands for all of these from now on. Its cost is constant.
     pub fn share(&mut self, parts: Parts) -> Result<Part, NoMemory>
         requires before { Each (IsBefore (length self.old.groups)) (map part_view parts) }
-        ensures part {
-            IfOk result (λ p. marks_of self.new.groups (part_view p)
-                ≡ all_marks self.old.groups (map part_view parts))
-        }
+        ensures part { IfOk result (λ p. marks_of self.new.groups (part_view p)
+            ≡ all_marks self.old.groups (map part_view parts)) }
         ensures number { IfOk result (λ p. IsBefore (length self.new.groups) (part_view p)) }
         ensures ok { OnOk result (self.new ≡ with_group (map part_view parts) self.old) }
         ensures records { records_of self.new ≡ records_of self.old }
@@ -135,9 +136,7 @@ impl Records {
         port: &Name,
         place: &Place,
     ) -> Result<OutPlaces, NoMemory>
-        ensures {
-            IfOk result (λ ls. ls ≡ forward (records_of self.now) (map leaf_view leaves.now) port.now place.now)
-        }
+        ensures { IfOk result (λ ls. ls ≡ forward (records_of self.now) (map leaf_view leaves.now) port.now place.now) }
     {
         let entries = self.entries.as_slice();
         let made = table::of_element(alloc, entries, &self.numbers, port, place)?;

@@ -71,9 +71,7 @@ pub(crate) fn has_any_mark(
     made: &[bool],
     marks: &[Mark],
 ) -> bool
-    ensures {
-        result ≡ list_any (in_table (get job_name_cmp numbers.now) port.now place.now made.now) (map mark_part marks.now)
-    }
+    ensures { result ≡ list_any (in_table (get job_name_cmp numbers.now) port.now place.now made.now) (map mark_part marks.now) }
 {
     for mark in marks {
         if has_mark(numbers, port, place, made, mark) {
@@ -91,9 +89,7 @@ fn has_any_part(
     made: &[bool],
     parts: &[Part],
 ) -> bool
-    ensures {
-        result ≡ list_any (in_table (get job_name_cmp numbers.now) port.now place.now made.now) (map part_view parts.now)
-    }
+    ensures { result ≡ list_any (in_table (get job_name_cmp numbers.now) port.now place.now made.now) (map part_view parts.now) }
 {
     for part in parts {
         if has_part(numbers, port, place, made, part) {
@@ -114,14 +110,18 @@ fn pass(
 ) -> bool
     requires kept { IsKept (get job_name_cmp numbers.now) (kept_of entries.now) }
     requires size { length made.old.items ≡ length entries.now }
-    ensures {
-        IsPass (get job_name_cmp numbers.now) (kept_of entries.now) port.now place.now (length entries.now) made.old.items made.new.items result
-    }
+    ensures { IsPass (get job_name_cmp numbers.now) (kept_of entries.now) port.now place.now (length entries.now) made.old.items made.new.items result }
 {
     let mut added = false;
     for (number, entry) in entries.iter().enumerate() {
         if !made[number]
-            && has_any_part(numbers, port, place, made.as_slice(), entry.parts.as_slice())
+            && has_any_part(
+                numbers,
+                port,
+                place,
+                made.as_slice(),
+                entry.parts.as_slice(),
+            )
         {
             made[number] = true;
             added = true;
@@ -139,9 +139,7 @@ pub(crate) fn of_element(
     place: &Place,
 ) -> Result<Vec<bool>, NoMemory>
     requires kept { IsKept (get job_name_cmp numbers.now) (kept_of entries.now) }
-    ensures {
-        IfOk result (λ bs. IsWhole (get job_name_cmp numbers.now) (kept_of entries.now) port.now place.now bs.items)
-    }
+    ensures { IfOk result (λ bs. IsWhole (get job_name_cmp numbers.now) (kept_of entries.now) port.now place.now bs.items) }
 {
     let mut made = vec![in alloc; false; entries.len()]?;
     let mut added = true;

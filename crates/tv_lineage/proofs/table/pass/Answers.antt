@@ -24,8 +24,8 @@ loop-number-preserved c =
     elim c.if-not-index.branch [
       | then-not-index+then-has_any_part w ↦ pass-as ns k x q _ bs _ _ _ _ (ap (λ v. v.items) w.made-is) w.added-is (pass-adds ns k c.requires.kept x q n bs cs c.loop-number.added c.loop-number.invariant fits (bit ∙ w.if-not-index.true) (told ns x q es n e c.loop-number-test.true is _ cs w.as_slice.ensures.value _ w.as_slice-then-not-index.ensures _ w.has_any_part.ensures ∙ w.if-has_any_part.true))
       | else-not-index w ↦
-        elim w.else-not-index.branch [
-          | else-not-index-via-then-not-index+else-has_any_part v ↦ pass-as ns k x q _ bs _ _ _ _ (ap (λ v. v.items) w.made-is) w.added-is (pass-goes ns k c.requires.kept x q n bs cs c.loop-number.added c.loop-number.invariant (inr (told ns x q es n e c.loop-number-test.true is _ cs v.as_slice.ensures.value _ v.as_slice-then-not-index.ensures _ v.has_any_part.ensures ∙ v.if-has_any_part.false)))
-          | else-not-index-via-else-not-index v ↦ pass-as ns k x q _ bs _ _ _ _ (ap (λ v. v.items) w.made-is) w.added-is (pass-goes ns k c.requires.kept x q n bs cs c.loop-number.added c.loop-number.invariant (inl (bit ∙ v.if-not-index.false)))
-        ]
+          elim w.else-not-index.branch [
+            | else-not-index-via-then-not-index+else-has_any_part v ↦ pass-as ns k x q _ bs _ _ _ _ (ap (λ v. v.items) w.made-is) w.added-is (pass-goes ns k c.requires.kept x q n bs cs c.loop-number.added c.loop-number.invariant (inr (told ns x q es n e c.loop-number-test.true is _ cs v.as_slice.ensures.value _ v.as_slice-then-not-index.ensures _ v.has_any_part.ensures ∙ v.if-has_any_part.false)))
+            | else-not-index-via-else-not-index v ↦ pass-as ns k x q _ bs _ _ _ _ (ap (λ v. v.items) w.made-is) w.added-is (pass-goes ns k c.requires.kept x q n bs cs c.loop-number.added c.loop-number.invariant (inl (bit ∙ v.if-not-index.false)))
+          ]
     ]
