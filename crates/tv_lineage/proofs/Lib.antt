@@ -1,0 +1,13 @@
+pub mod OfMembers
+pub mod Rising
+pub mod Closing
+pub mod Keeping
+pub mod Searching
+pub mod Tabling
+pub mod Seeing
+pub mod Holding
+pub mod Placing
+pub mod Passing
+pub mod Calling
+pub mod OfLaws
+pub mod Computed

@@ -1,0 +1,10 @@
+pub mod Members
+pub mod Touching
+pub mod Lineages
+pub mod Kept
+pub mod Reaching
+pub mod Tables
+pub mod Views
+pub mod SearchViews
+pub mod Stated
+pub mod Worked
