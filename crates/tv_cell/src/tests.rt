@@ -1,5 +1,5 @@
 use crate::cell::Cell;
-use crate::piece::Piece;
+use crate::piece::{Piece, Pieces};
 use crate::row::Row;
 use crate::{assemble, same_value};
 use std::alloc::Global;
@@ -37,22 +37,54 @@ fn part(alloc: Global, cell: &Cell, index: u32) -> Result<Piece, NoMemory> {
     Ok(Piece::Part(cell.share()?, Place::of(alloc, &[index])?))
 }
 
-// The items of a cell's list the other way round, through two owners.
-fn turned(alloc: Global, cell: &Cell) -> Result<Piece, NoMemory> {
+// The two items of a cell's list the other way round, through two owners.
+fn turned(alloc: Global, cell: &Cell) -> Result<Pieces, NoMemory> {
     let shared = cell.share()?;
     let mut pieces = Vec::new(alloc);
     pieces.push(part(alloc, cell, 1)?)?;
     pieces.push(part(alloc, &shared, 0)?)?;
-    Ok(Piece::List(Row::of(pieces)))
+    Ok(Row::of(pieces))
+}
+
+fn is(alloc: Global, piece: &Piece, value: &Value) -> Result<bool, NoMemory> {
+    let made = assemble(alloc, piece)?;
+    Ok(same_value(&made, value))
 }
 
 #[test]
 fn items_of_a_cell_the_other_way_round(rt: HostRuntime) -> Result<(), Fail> {
     let alloc = rt.alloc();
     let cell = Cell::put(alloc, pair(alloc, text(alloc, "a")?, text(alloc, "b")?)?)?;
-    let piece = turned(alloc, &cell)?;
-    let expected = pair(alloc, text(alloc, "b")?, text(alloc, "a")?)?;
-    assert!(rt; same_value(&assemble(alloc, &piece)?, &expected));
+    let piece = Piece::List(turned(alloc, &cell)?);
+    assert!(rt; is(alloc, &piece, &pair(alloc, text(alloc, "b")?, text(alloc, "a")?)?)?);
     assert!(rt; piece.copy(alloc)?.same(&piece));
+    assert!(rt; is(alloc, &piece.part(alloc, &[1])?, &text(alloc, "a")?)?);
+    assert!(rt; !piece.holds_fault());
+    assert!(rt; piece.length() == Some(2));
+    Ok(())
+}
+
+#[test]
+fn fault_of_another_depth(rt: HostRuntime) -> Result<(), Fail> {
+    let alloc = rt.alloc();
+    let cell = Cell::put(alloc, fault(alloc, 1)?)?;
+    let piece = Piece::Fault(cell.share()?, Place::top(alloc), 0);
+    assert!(rt; is(alloc, &piece, &fault(alloc, 0)?)?);
+    assert!(rt; !piece.same(&Piece::Part(cell, Place::top(alloc))));
+    assert!(rt; piece.holds_fault());
+    assert!(rt; piece.length() == None);
+    Ok(())
+}
+
+// A row is copied through its bound.
+#[test]
+fn rows_are_copied_whole(rt: HostRuntime) -> Result<(), Fail> {
+    let alloc = rt.alloc();
+    let cell = Cell::put(alloc, pair(alloc, text(alloc, "a")?, text(alloc, "b")?)?)?;
+    let copy = turned(alloc, &cell)?.copy(alloc)?.into_vec();
+    assert!(rt; copy.len() == 2);
+    let empty: Pieces = Row::empty(alloc);
+    assert!(rt; empty.as_slice().is_empty());
+    assert!(rt; same_value(cell.read(), &assemble(alloc, &Piece::Part(cell.share()?, Place::top(alloc)))?));
     Ok(())
 }
