@@ -11,7 +11,7 @@ use Rattle.tv_value.specs.declared.value.Value.TheViews as held
 use Rattle.tv_cell.specs.declared.piece.Piece.{Piece}
 use Rattle.tv_cell.specs.declared.piece.Piece.TheVariants as plain
 use Rattle.tv_cell.specs.declared.piece.Piece.TheViews as code
-use Rattle.tv_cell.specs.Found.{found}
+use Rattle.tv_cell.specs.Found.{found_value}
 use Rattle.tv_cell.specs.PieceValues.{piece_value, piece_values}
 use Rattle.tv_cell.specs.Sameness.{same_value, same_values}
 use Rattle.tv_cell.proofs.OfPieces.{list-value, list-view, part-value}
@@ -30,6 +30,6 @@ lists-same p ps qs o rs ss e f g h =
     ∙ (λ i. same_value (sym (ap piece_value e ∙ list-value ps) i) (sym (ap piece_value g ∙ list-value rs) i))
 
 -- a part against another piece, which was asked whether it stands for the part's value
-pub part-stands : (p : Piece) (c : Value) (q : Place) (o : Piece) (v : spec.Value) → p ≡ plain.Part c q → v ≡ found (at (view c) q) → same_value (piece_value o) v ≡ same_value (piece_value p) (piece_value o)
+pub part-stands : (p : Piece) (c : Value) (q : Place) (o : Piece) (v : spec.Value) → p ≡ plain.Part c q → v ≡ found_value (at (view c) q) → same_value (piece_value o) v ≡ same_value (piece_value p) (piece_value o)
 part-stands p c q o v e f =
     same_value-turned (piece_value o) v ∙ ap (λ w. same_value w (piece_value o)) (f ∙ sym (ap piece_value e ∙ part-value c q))

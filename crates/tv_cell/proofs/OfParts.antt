@@ -11,7 +11,7 @@ use Rattle.tv_value.proofs.Looking.{item_at-each}
 use Rattle.tv_cell.specs.declared.piece.Piece.{Piece}
 use Rattle.tv_cell.specs.declared.piece.Piece.TheVariants as plain
 use Rattle.tv_cell.specs.declared.piece.Piece.TheViews as code
-use Rattle.tv_cell.specs.Found.{found, document_of, with_depth}
+use Rattle.tv_cell.specs.Found.{found_value, document_of, with_depth}
 use Rattle.tv_cell.specs.PieceValues.{piece_value, piece_values}
 use Rattle.tv_cell.specs.Soundness.{IsSound, is_sound}
 use Rattle.tv_cell.proofs.OfPieces.{fault-value, list-value, part-sound, part-value, piece-sound, pieces-sound}
@@ -61,16 +61,16 @@ at-joined : (v : spec.Value) (s q : Place) → at v (s ++ q) ≡ option_and_then
 at-joined v [] q = refl
 at-joined v (i ∷ s) q = joined-step s q (item_at (children v) i) (λ u. at-joined u s q)
 
-some-found : (o : Option spec.Value) → is_some o ≡ true → o ≡ Some (found o)
+some-found : (o : Option spec.Value) → is_some o ≡ true → o ≡ Some (found_value o)
 some-found (Some v) h = refl
 some-found None h = absurd (true≢false (sym h))
 
-found-joined : (o : Option spec.Value) (q : Place) → Stands (found o) q → at (found o) q ≡ Some (found (option_and_then (λ w. at w q) o))
+found-joined : (o : Option spec.Value) (q : Place) → Stands (found_value o) q → at (found_value o) q ≡ Some (found_value (option_and_then (λ w. at w q) o))
 found-joined (Some u) q h = some-found (at u q) h
 found-joined None [] h = refl
 found-joined None (i ∷ q) h = absurd (true≢false (sym h))
 
-found-stands : (o : Option spec.Value) (q : Place) → is_some o ≡ true → Stands (found o) q → is_some (option_and_then (λ w. at w q) o) ≡ true
+found-stands : (o : Option spec.Value) (q : Place) → is_some o ≡ true → Stands (found_value o) q → is_some (option_and_then (λ w. at w q) o) ≡ true
 found-stands (Some u) q s h = h
 found-stands None q s h = absurd (true≢false (sym s))
 
@@ -83,7 +83,7 @@ part-joined p c c' s q r j d e f g h =
     let whole = ap piece_value d ∙ part-value c s in
     ap (λ v. at v q) whole
     ∙ found-joined (at (view c) s) q (ap (λ v. is_some (at v q)) (sym whole) ∙ h)
-    ∙ ap (λ o. Some (found o)) (sym (joined-at c c' s q r j e f g))
+    ∙ ap (λ o. Some (found_value o)) (sym (joined-at c c' s q r j e f g))
     ∙ ap Some (sym (part-value c' j))
 
 pub part-joined-sound : (p : Piece) (c c' : Value) (s q r j : Place) → p ≡ plain.Part c s → c' ≡ c → r ≡ q → j ≡ s ++ r → Stands (piece_value p) q → IsSound p → IsSound (plain.Part c' j)
@@ -101,5 +101,5 @@ alone e (i ∷ q) h = absurd (true≢false (sym h))
 pub fault-alone : (p : Piece) (c : Value) (s : Place) (d : ℕ) (q : Place) → p ≡ plain.Fault c s d → Stands (piece_value p) q → at (piece_value p) q ≡ Some (piece_value p)
 fault-alone p c s d q e h =
     let whole = ap piece_value e ∙ fault-value c s d in
-    let document = with_depth d (document_of (found (at (view c) s))) in
+    let document = with_depth d (document_of (found_value (at (view c) s))) in
     ap (λ v. at v q) whole ∙ alone document q (ap (λ v. is_some (at v q)) (sym whole) ∙ h) ∙ ap Some (sym whole)

@@ -19,7 +19,7 @@ use Rattle.tv_cell.specs.declared.piece.Piece.TheVariants as plain
 use Rattle.tv_cell.specs.declared.piece.Piece.TheViews as code
 use Rattle.tv_cell.specs.declared.piece.Piece.TheFolds.{fold-roll-Piece}
 use Rattle.tv_cell.specs.declared.piece.Piece.TheOpen.{Piece-F}
-use Rattle.tv_cell.specs.Found.{found, document_of, with_depth}
+use Rattle.tv_cell.specs.Found.{found_value, document_of, with_depth}
 use Rattle.tv_cell.specs.PieceValues as meant
 use Rattle.tv_cell.specs.PieceValues.{piece_value, piece_values, list_length}
 use Rattle.tv_cell.specs.Soundness.{AreSound, IsSound, is_sound, is_yes, sound_step}
@@ -27,13 +27,13 @@ use Rattle.tv_cell.proofs.OfSameness.{left, right}
 
 -- ---- values
 
-pub part-value : (c : Value) (q : Place) → piece_value (plain.Part c q) ≡ found (at (view c) q)
+pub part-value : (c : Value) (q : Place) → piece_value (plain.Part c q) ≡ found_value (at (view c) q)
 part-value c q = ap piece_value (sym (plain.rolls-Part c q)) ∙ fold-roll-Piece _ meant.value_step (Piece-F.Part c q)
 
 pub list-value : (ps : List Piece) → piece_value (code.List ps) ≡ list_value (trees_of (piece_values ps))
 list-value ps = ap piece_value (sym (code.rolls-List ps)) ∙ fold-roll-Piece _ meant.value_step (Piece-F.List ps)
 
-pub fault-value : (c : Value) (q : Place) (d : ℕ) → piece_value (plain.Fault c q d) ≡ fault_value (with_depth d (document_of (found (at (view c) q))))
+pub fault-value : (c : Value) (q : Place) (d : ℕ) → piece_value (plain.Fault c q d) ≡ fault_value (with_depth d (document_of (found_value (at (view c) q))))
 fault-value c q d = ap piece_value (sym (plain.rolls-Fault c q d)) ∙ fold-roll-Piece _ meant.value_step (Piece-F.Fault c q d)
 
 -- the view of a list of values

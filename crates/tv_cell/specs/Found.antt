@@ -4,9 +4,9 @@ use Rattle.tv_value.specs.Nested.{leaf, list}
 use Rattle.tv_value.specs.Values.{ErrorDoc, Value, is_fault, text, fault, text_value}
 
 -- what was found at a place; where nothing stands, an empty text, of which a sound piece makes no use
-abbrev pub found : Option Value → Value
-found (Some v) = v
-found None = text_value []
+abbrev pub found_value : Option Value → Value
+found_value (Some v) = v
+found_value None = text_value []
 
 -- whether an error document was found
 abbrev pub is_document : Option Value → Bool

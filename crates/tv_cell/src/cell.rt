@@ -1,7 +1,7 @@
 ghost use Rattle.std.specs.Prelude.{◌≡◌, IfOk, IsTrue, is_some};
 ghost use Rattle.tv_value.specs.Nested.{at};
 ghost use Rattle.tv_value.specs.Views.{error_view, view};
-ghost use Rattle.tv_cell.specs.Found.{document_of, found, is_document};
+ghost use Rattle.tv_cell.specs.Found.{document_of, found_value, is_document};
 
 use std::alloc::Global;
 use std::marker::Model;
@@ -52,9 +52,9 @@ impl Cell {
     }
 
     /// What stands at a place of the value. Linear in the place.
-    pub(crate) fn found(&self, place: &Place) -> &Value
+    pub(crate) fn value_at(&self, place: &Place) -> &Value
         requires { IsTrue (is_some (at (view self.now) place.now)) }
-        ensures { view result.now ≡ found (at (view self.now) place.now) }
+        ensures { view result.now ≡ found_value (at (view self.now) place.now) }
     {
         match self.read().at(place) {
             Some(value) => value,
@@ -63,9 +63,9 @@ impl Cell {
     }
 
     /// The error document that stands at a place of the value. Linear in the place.
-    pub(crate) fn document(&self, place: &Place) -> &ErrorDoc
+    pub(crate) fn document_at(&self, place: &Place) -> &ErrorDoc
         requires { IsTrue (is_document (at (view self.now) place.now)) }
-        ensures { error_view result.now ≡ document_of (found (at (view self.now) place.now)) }
+        ensures { error_view result.now ≡ document_of (found_value (at (view self.now) place.now)) }
     {
         match self.read().at(place) {
             Some(Value::Fault(error)) => error,

@@ -14,13 +14,13 @@
 //! - `cell`: a value that never changes
 //! - `row`: lists that may hold the type that holds them (`specs/formers/row/Row.antt` says how they hold their things)
 //! - `piece`: a value as a tree of cells, its copies and parts
-//! - `assembled`: the value that a piece stands for
+//! - `assembly`: the value that a piece stands for
 //! - `same`: whether two values, or two pieces, are the same
 //! - `threads`: both may cross threads
 //! - `laws`: what holds of the definitions alone
 #![tactic(auto)]
 
-mod assembled;
+mod assembly;
 mod cell;
 pub mod laws;
 mod piece;
@@ -30,7 +30,7 @@ mod same;
 mod tests;
 mod threads;
 
-pub use assembled::assemble;
+pub use assembly::assemble;
 pub use cell::Cell;
 pub use piece::{Piece, Pieces};
 pub use row::Row;

@@ -78,17 +78,17 @@ impl Piece {
         ensures { result ≡ same_value (piece_value self.now) (piece_value other.now) }
     {
         match self {
-            Piece::Part(cell, place) => other.stands_for(cell.found(place)),
+            Piece::Part(cell, place) => other.stands_for(cell.value_at(place)),
             Piece::List(pieces) => match other {
-                Piece::Part(cell, place) => self.stands_for(cell.found(place)),
+                Piece::Part(cell, place) => self.stands_for(cell.value_at(place)),
                 Piece::List(others) => same_pieces(pieces.as_slice(), others.as_slice()),
                 Piece::Fault(_, _, _) => false,
             },
             Piece::Fault(cell, place, depth) => match other {
-                Piece::Part(cell, place) => self.stands_for(cell.found(place)),
+                Piece::Part(cell, place) => self.stands_for(cell.value_at(place)),
                 Piece::List(_) => false,
-                Piece::Fault(cell_2, place_2, depth_2) => *depth == *depth_2
-                    && same_document(cell.document(place), cell_2.document(place_2)),
+                Piece::Fault(other_cell, other_place, other_depth) => *depth == *other_depth
+                    && same_document(cell.document_at(place), other_cell.document_at(other_place)),
             },
         }
     }
@@ -100,7 +100,7 @@ impl Piece {
         ensures { result ≡ same_value (piece_value self.now) (view value.now) }
     {
         match self {
-            Piece::Part(cell, place) => same_value(cell.found(place), value),
+            Piece::Part(cell, place) => same_value(cell.value_at(place), value),
             Piece::List(pieces) => match value {
                 Value::Text(_) => false,
                 Value::List(items) => stand_for(pieces.as_slice(), items.as_slice()),
@@ -110,7 +110,7 @@ impl Piece {
                 Value::Text(_) => false,
                 Value::List(_) => false,
                 Value::Fault(error) => *depth == error.depth
-                    && same_document(cell.document(place), error),
+                    && same_document(cell.document_at(place), error),
             },
         }
     }

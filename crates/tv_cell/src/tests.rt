@@ -56,7 +56,13 @@ fn items_of_a_cell_the_other_way_round(rt: HostRuntime) -> Result<(), Fail> {
     let alloc = rt.alloc();
     let cell = Cell::put(alloc, pair(alloc, text(alloc, "a")?, text(alloc, "b")?)?)?;
     let piece = Piece::List(turned(alloc, &cell)?);
-    assert!(rt; is(alloc, &piece, &pair(alloc, text(alloc, "b")?, text(alloc, "a")?)?)?);
+    assert!(rt;
+        is(
+            alloc,
+            &piece,
+            &pair(alloc, text(alloc, "b")?, text(alloc, "a")?)?
+        )?
+    );
     assert!(rt; piece.copy(alloc)?.same(&piece));
     assert!(rt; is(alloc, &piece.part(alloc, &[1])?, &text(alloc, "a")?)?);
     assert!(rt; !piece.holds_fault());
@@ -85,6 +91,11 @@ fn rows_are_copied_whole(rt: HostRuntime) -> Result<(), Fail> {
     assert!(rt; copy.len() == 2);
     let empty: Pieces = Row::empty(alloc);
     assert!(rt; empty.as_slice().is_empty());
-    assert!(rt; same_value(cell.read(), &assemble(alloc, &Piece::Part(cell.share()?, Place::top(alloc)))?));
+    assert!(rt;
+        same_value(
+            cell.read(),
+            &assemble(alloc, &Piece::Part(cell.share()?, Place::top(alloc)))?
+        )
+    );
     Ok(())
 }

@@ -16,7 +16,7 @@ piece::Piece::is_same-same_pieces-requires t c = (
 
 pub piece::Piece::is_same-returns-in-Part : goal.piece::Piece::is_same-returns-in-Part
 piece::Piece::is_same-returns-in-Part t c =
-    c.stands_for.ensures ∙ part-stands c.args.self.now c.in-Part.cell c.in-Part.place c.args.other.now (view c.found.result.now) c.in-Part.is c.found.ensures
+    c.stands_for.ensures ∙ part-stands c.args.self.now c.in-Part.cell c.in-Part.place c.args.other.now (view c.value_at.result.now) c.in-Part.is c.value_at.ensures
 
 pub piece::Piece::is_same-returns-in-List-other : goal.piece::Piece::is_same-returns-in-List-other
 piece::Piece::is_same-returns-in-List-other t c =

@@ -2,7 +2,7 @@ use Rattle.std.proofs.Common.{◌≡◌, take, map}
 use Rattle.tv_value.specs.Views.{view}
 use Rattle.tv_cell.specs.PieceValues.{piece_values}
 use Rattle.tv_cell.proofs.OfSizes.{size, sizes}
-use Rattle.tv_cell.proofs.assembled.+assemble.Given as goal
+use Rattle.tv_cell.proofs.assembly.+assemble.Given as goal
 
 abbrev pub decreases-assemble : goal.decreases-assemble
 decreases-assemble l = size l.piece.now

@@ -16,12 +16,12 @@ pub fn assemble(alloc: Global, piece: &Piece) -> Result<Value, NoMemory>
     ensures { IfOk result (λ v. view v ≡ piece_value piece.now) }
 {
     match piece {
-        Piece::Part(cell, place) => cell.found(place).copy(alloc),
+        Piece::Part(cell, place) => cell.value_at(place).copy(alloc),
         Piece::List(pieces) => {
             let values = values_of(alloc, pieces.as_slice())?;
             Ok(Value::List(Items::of(values)))
         }
-        Piece::Fault(cell, place, depth) => fault_of(alloc, cell.document(place), *depth),
+        Piece::Fault(cell, place, depth) => fault_of(alloc, cell.document_at(place), *depth),
     }
 }
 
