@@ -1,10 +1,10 @@
 -- What stands inside a piece.
-use Rattle.std.specs.Prelude.{◌≡◌, ℕ, zero, suc, ◌-◌, ◌<◌, ◌≤◌, List, [], ◌∷◌, ◌++◌, length, take, drop, refl, true, Option, Some, None, is_some, option_and_then}
-use Rattle.std.proofs.Common.{arith, ap, sym, ◌∙◌, get_or, true≢false}
+use Rattle.std.specs.Prelude.{◌≡◌, ℕ, zero, suc, ◌-◌, ◌<◌, ◌≤◌, List, [], ◌∷◌, ◌++◌, length, take, drop, refl, true, Option, Some, None, is_some, option_and_then, ◌==◌, map, option_map, slice_get}
+use Rattle.std.proofs.Common.{arith, ap, sym, ◌∙◌, get_or, ne_eqb, true≢false}
 use Rattle.std.proofs.lemmas.List.{take_all}
-use Rattle.tv_value.specs.Nested.{Place, at, children, item_at, trees_of}
+use Rattle.tv_value.specs.Nested.{Place, at, children, item_at, leaf, trees_of}
 use Rattle.tv_value.specs.Values as spec
-use Rattle.tv_value.specs.Values.{ErrorDoc, fault_value, list_value}
+use Rattle.tv_value.specs.Values.{ErrorDoc, Scalar, fault_value, list_value}
 use Rattle.tv_value.specs.Views.{view}
 use Rattle.tv_value.specs.declared.value.Value.{Value}
 use Rattle.tv_value.proofs.Looking.{item_at-each}
@@ -103,3 +103,28 @@ fault-alone p c s d q e h =
     let whole = ap piece_value e ∙ fault-value c s d in
     let document = with_depth d (document_of (found_value (at (view c) s))) in
     ap (λ v. at v q) whole ∙ alone document q (ap (λ v. is_some (at v q)) (sym whole) ∙ h) ∙ ap Some (sym whole)
+
+-- ---- whether something stands there
+
+got : {X : Type 0} (f : X → spec.Value) (xs : List X) (i : ℕ) → item_at (trees_of (map f xs)) i ≡ option_map f (slice_get xs i)
+got f [] i = refl
+got f (x ∷ xs) zero = refl
+got f (x ∷ xs) (suc i) = got f xs i
+
+inside : {X : Type 0} (f : X → spec.Value) (r : Place) (o : Option X) → option_and_then (λ u. at u r) (option_map f o) ≡ option_and_then (λ x. at (f x) r) o
+inside f r None = refl
+inside f r (Some x) = refl
+
+-- what stands in a list stands in the item of the first index
+pub first-stands : {X : Type 0} (f : X → spec.Value) (t : spec.Value) (xs : List X) (q : Place) (o : Option X) → t ≡ list_value (trees_of (map f xs)) → 1 ≤ length q → o ≡ slice_get xs (get_or q 0 0) → is_some (option_and_then (λ x. at (f x) (take (length q - 1) (drop 1 q))) o) ≡ is_some (at t q)
+first-stands f t xs [] o e n g = absurd (omega arith)
+first-stands f t xs (i ∷ r) o e n g =
+    (λ k. is_some (option_and_then (λ x. at (f x) (rest-is i r k)) (g k)))
+    ∙ sym (ap is_some (inside f r (slice_get xs i)))
+    ∙ sym (ap (λ p. is_some (option_and_then (λ u. at u r) p)) (got f xs i))
+    ∙ sym (ap (λ v. is_some (at v (i ∷ r))) e)
+
+-- nothing stands inside a text or a fault
+pub leaf-stands : (t : spec.Value) (a : Scalar) (q : Place) → t ≡ leaf tt a → (length q == 0) ≡ is_some (at t q)
+leaf-stands t a [] e = ap (λ v. is_some (at v [])) (sym e)
+leaf-stands t a (i ∷ q) e = ne_eqb (length (i ∷ q)) 0 (λ h. omega (arith, h)) ∙ ap (λ v. is_some (at v (i ∷ q))) (sym e)

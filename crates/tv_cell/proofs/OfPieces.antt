@@ -50,6 +50,9 @@ list-sound ps =
     ap is_sound (sym (code.rolls-List ps)) ∙ fold-roll-Piece _ sound_step (Piece-F.List ps)
     ∙ (λ i. nat_lt (length-map ps is_sound i) length_limit && list_all-map is_yes is_sound ps i)
 
+pub list-told : (p : Piece) (ps qs : List Piece) → p ≡ code.List ps → qs ≡ ps → (nat_lt (length qs) length_limit && list_all is_sound qs) ≡ is_sound p
+list-told p ps qs e f = ap (λ xs. nat_lt (length xs) length_limit && list_all is_sound xs) f ∙ sym (ap is_sound e ∙ list-sound ps)
+
 -- the pieces of a sound list are sound
 pub pieces-sound : (p : Piece) (ps qs : List Piece) → p ≡ code.List ps → qs ≡ ps → IsSound p → AreSound qs
 pieces-sound p ps qs e f h =

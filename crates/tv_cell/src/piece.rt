@@ -1,10 +1,13 @@
-ghost use Rattle.std.specs.Prelude.{◌≡◌, IfOk, IsTrue, Some, is_some};
-ghost use Rattle.std.specs.List.{list_any};
+ghost use Rattle.std.specs.Prelude.{◌≡◌, ◌&&◌, IfOk, IsTrue, Some, is_some, length, nat_lt, slice_get};
+ghost use Rattle.std.specs.Option.{option_copied};
+ghost use Rattle.std.specs.List.{list_all, list_any};
 ghost use Rattle.tv_value.specs.Nested.{at};
+ghost use Rattle.tv_value.specs.Readings.{length_limit};
 ghost use Rattle.tv_value.specs.Values.{holds_fault};
 ghost use Rattle.tv_value.specs.Views.{view};
+ghost use Rattle.tv_cell.specs.Found.{is_document};
 ghost use Rattle.tv_cell.specs.PieceValues.{list_length, piece_value};
-ghost use Rattle.tv_cell.specs.Soundness.{IsSound};
+ghost use Rattle.tv_cell.specs.Soundness.{IsSound, is_sound};
 
 use crate::cell::Cell;
 use crate::row::Row;
@@ -63,6 +66,42 @@ impl Piece {
                 [first, rest @ ..] => pieces.as_slice()[*first as usize].part(alloc, rest),
             },
             Piece::Fault(_, _, _) => self.copy(alloc),
+        }
+    }
+
+    /// Whether something stands inside, at a place. Linear in the place. Takes no memory.
+    pub fn has(&self, place: &[u32]) -> bool
+        ensures { result ≡ is_some (at (piece_value self.now) place.now) }
+    {
+        match self {
+            Piece::Part(cell, start) => match cell.read().at(start) {
+                Some(value) => value_has(value, place),
+                None => place.is_empty(),
+            },
+            Piece::List(pieces) => match place {
+                [] => true,
+                [first, rest @ ..] => match thing_at(pieces.as_slice(), *first) {
+                    Some(piece) => piece.has(rest),
+                    None => false,
+                },
+            },
+            Piece::Fault(_, _, _) => place.is_empty(),
+        }
+    }
+
+    /// Whether the piece points at something throughout, and no list has 2^32 pieces or more. Linear in the number of
+    /// pieces and in their places. Takes no memory.
+    #[cycle(is_sound)]
+    pub fn is_sound(&self) -> bool
+        ensures { result ≡ is_sound self.now }
+    {
+        match self {
+            Piece::Part(cell, place) => cell.read().at(place).is_some(),
+            Piece::List(pieces) => are_sound(pieces.as_slice()),
+            Piece::Fault(cell, place, _) => match cell.read().at(place) {
+                Some(value) => is_fault(value),
+                None => false,
+            },
         }
     }
 
@@ -134,4 +173,61 @@ fn items_in(value: &Value) -> Option<usize>
         Value::List(items) => Some(items.as_slice().len()),
         _ => None,
     }
+}
+
+/// Whether something stands at a place of a value.
+fn value_has(value: &Value, place: &[u32]) -> bool
+    ensures { result ≡ is_some (at (view value.now) place.now) }
+{
+    match place {
+        [] => true,
+        [first, rest @ ..] => match value {
+            Value::List(items) => match thing_at(items.as_slice(), *first) {
+                Some(item) => value_has(item, rest),
+                None => false,
+            },
+            _ => false,
+        },
+    }
+}
+
+#[cycle(is_sound)]
+fn are_sound(pieces: &[Piece]) -> bool
+    ensures { result ≡ (nat_lt (length pieces.now) length_limit && list_all is_sound pieces.now) }
+{
+    are_few(pieces) && all_sound(pieces)
+}
+
+/// Whether a list of pieces has fewer than 2^32.
+fn are_few(pieces: &[Piece]) -> bool
+    ensures { result ≡ nat_lt (length pieces.now) length_limit }
+{
+    pieces.len() < 1 << 32
+}
+
+#[cycle(is_sound)]
+fn all_sound(pieces: &[Piece]) -> bool
+    ensures { result ≡ list_all is_sound pieces.now }
+{
+    for piece in pieces {
+        if !piece.is_sound() {
+            return false;
+        }
+    }
+    true
+}
+
+fn is_fault(value: &Value) -> bool
+    ensures { result ≡ is_document (Some (view value.now)) }
+{
+    match value {
+        Value::Fault(_) => true,
+        _ => false,
+    }
+}
+
+fn thing_at<T>(things: &[T], index: u32) -> Option<&T>
+    ensures { option_copied result ≡ slice_get things.now index }
+{
+    things.get(index as usize)
 }

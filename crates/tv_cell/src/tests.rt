@@ -47,8 +47,15 @@ fn turned(alloc: Global, cell: &Cell) -> Result<Pieces, NoMemory> {
 }
 
 fn is(alloc: Global, piece: &Piece, value: &Value) -> Result<bool, NoMemory> {
+    if !piece.is_sound() {
+        return Ok(false);
+    }
     let made = assemble(alloc, piece)?;
     Ok(same_value(&made, value))
+}
+
+fn are_same(piece: &Piece, other: &Piece) -> bool {
+    piece.is_sound() && other.is_sound() && piece.same(other)
 }
 
 #[test]
@@ -63,8 +70,10 @@ fn items_of_a_cell_the_other_way_round(rt: HostRuntime) -> Result<(), Fail> {
             &pair(alloc, text(alloc, "b")?, text(alloc, "a")?)?
         )?
     );
-    assert!(rt; piece.copy(alloc)?.same(&piece));
+    assert!(rt; are_same(&piece.copy(alloc)?, &piece));
+    assert!(rt; piece.has(&[1]));
     assert!(rt; is(alloc, &piece.part(alloc, &[1])?, &text(alloc, "a")?)?);
+    assert!(rt; !piece.has(&[2]));
     assert!(rt; !piece.holds_fault());
     assert!(rt; piece.length() == Some(2));
     Ok(())
@@ -76,7 +85,7 @@ fn fault_of_another_depth(rt: HostRuntime) -> Result<(), Fail> {
     let cell = Cell::put(alloc, fault(alloc, 1)?)?;
     let piece = Piece::Fault(cell.share()?, Place::top(alloc), 0);
     assert!(rt; is(alloc, &piece, &fault(alloc, 0)?)?);
-    assert!(rt; !piece.same(&Piece::Part(cell, Place::top(alloc))));
+    assert!(rt; !are_same(&piece, &Piece::Part(cell, Place::top(alloc))));
     assert!(rt; piece.holds_fault());
     assert!(rt; piece.length() == None);
     Ok(())
