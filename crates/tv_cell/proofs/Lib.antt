@@ -1,0 +1,5 @@
+pub mod OfSameness
+pub mod OfPieces
+pub mod OfParts
+pub mod OfSizes
+pub mod Compared

@@ -1,0 +1,16 @@
+use Rattle.std.proofs.Common.{◌∙◌, ap, sym, Some, None}
+use Rattle.tv_value.specs.Values.{list_value}
+use Rattle.tv_value.specs.Views.{view}
+use Rattle.tv_cell.proofs.OfParts.{first-stands}
+use Rattle.tv_cell.proofs.OfPieces.{list-view}
+use Rattle.tv_cell.proofs.piece.+value_has.Goals as goal
+
+pub returns-in-Some : goal.returns-in-Some
+returns-in-Some t c =
+    let listed = ap view c.in-List.is ∙ list-view c.in-List.items ∙ ap list_value (sym c.as_slice.ensures) in
+    c.value_has.ensures ∙ first-stands view (view c.args.value.now) c.as_slice.result.now c.args.place.now (Some c.in-Some.item.now) listed c.in-len1-up.len_at_least c.in-Some.ensures
+
+pub returns-in-None : goal.returns-in-None
+returns-in-None t c =
+    let listed = ap view c.in-List.is ∙ list-view c.in-List.items ∙ ap list_value (sym c.as_slice.ensures) in
+    first-stands view (view c.args.value.now) c.as_slice.result.now c.args.place.now None listed c.in-len1-up.len_at_least c.in-None.ensures

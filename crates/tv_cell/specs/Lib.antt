@@ -1,0 +1,6 @@
+pub mod Found
+pub mod PieceValues
+pub mod Soundness
+pub mod Sameness
+pub mod Laws
+pub mod formers

@@ -1,0 +1,75 @@
+ghost use Rattle.std.specs.Prelude.{◌≡◌, IfOk, IsTrue, is_some};
+ghost use Rattle.tv_value.specs.Nested.{at};
+ghost use Rattle.tv_value.specs.Views.{error_view, view};
+ghost use Rattle.tv_cell.specs.Found.{document_of, found_value, is_document};
+
+use std::alloc::Global;
+use std::marker::Model;
+use std::sync::Arc;
+use tv_value::{ErrorDoc, NoMemory, Place, Value};
+
+/// A value that never changes, with any number of owners in any threads. The last owner drops it.
+#[derive(Drop)]
+pub struct Cell {
+    inside: Arc<Value, Global>,
+}
+
+impl Model for Cell {
+    ghost use Rattle.tv_value.specs.declared.value.Value.{Value as Held};
+    ghost use Rattle.tv_value.specs.contracts.value.Value as held;
+    ghost use Rattle.std.specs.Coded.{codes};
+
+    ghost Value = { Held };
+
+    ghost coded = { Prim.hlevel (codes, held.the_row.coded) };
+
+    ghost view = { λ c. c.inside.value };
+}
+
+impl Cell {
+    /// A cell of that value, moved there as it is. Where memory is wanting the value is dropped. The cost is constant.
+    pub fn put(alloc: Global, value: Value) -> Result<Cell, NoMemory>
+        ensures { IfOk result (λ c. c ≡ value) }
+    {
+        let inside = Arc::new(alloc, value)?;
+        Ok(Cell { inside })
+    }
+
+    /// The value. Takes no memory, and the cost is constant.
+    pub fn read(&self) -> &Value
+        ensures { result.now ≡ self.now }
+    {
+        &*self.inside
+    }
+
+    /// One more owner of the same value, which is not copied. It is refused only where the count of owners is full. The
+    /// cost is constant.
+    pub fn share(&self) -> Result<Cell, NoMemory>
+        ensures { IfOk result (λ c. c ≡ self.now) }
+    {
+        let inside = Arc::try_clone(&self.inside)?;
+        Ok(Cell { inside })
+    }
+
+    /// What stands at a place of the value. Linear in the place.
+    pub(crate) fn value_at(&self, place: &Place) -> &Value
+        requires { IsTrue (is_some (at (view self.now) place.now)) }
+        ensures { view result.now ≡ found_value (at (view self.now) place.now) }
+    {
+        match self.read().at(place) {
+            Some(value) => value,
+            None => unreachable!(),
+        }
+    }
+
+    /// The error document that stands at a place of the value. Linear in the place.
+    pub(crate) fn document_at(&self, place: &Place) -> &ErrorDoc
+        requires { IsTrue (is_document (at (view self.now) place.now)) }
+        ensures { error_view result.now ≡ document_of (found_value (at (view self.now) place.now)) }
+    {
+        match self.read().at(place) {
+            Some(Value::Fault(error)) => error,
+            _ => unreachable!(),
+        }
+    }
+}

@@ -1,0 +1,38 @@
+//! Values that never change and are shared: cells, and pieces that are made of them.
+//!
+//! An engine hands the same values to many jobs, in any threads, and takes them apart and together again. Here a value
+//! is put once into a `Cell`; what stands for it, for a part of it, or for a list of such parts is a `Piece`, which copies
+//! no value. A contract sees a cell as the very value that was put, and a piece as a tree of such values and of places
+//! in them. `specs/PieceValues.antt` says which value a piece stands for, and `specs/Soundness.antt` when it points at
+//! something throughout.
+//!
+//! The crate promises that a cell reads as the value that was put, wherever it was shared; that a copy of a piece is equal
+//! to it; that the part of a piece stands for the part of its value; that `same` tells exactly whether two pieces stand
+//! for one value; and that `assemble` makes exactly the value that a piece stands for. Want of memory is the one refusal.
+//! Cells and pieces may be sent to other threads and shared by them (`threads`).
+//!
+//! - `cell`: a value that never changes
+//! - `row`: lists that may hold the type that holds them (`specs/formers/row/Row.antt` says how they hold their things)
+//! - `piece`: a value as a tree of cells, its copies and parts
+//! - `assembly`: the value that a piece stands for
+//! - `same`: whether two values, or two pieces, are the same
+//! - `threads`: both may cross threads
+//! - `laws`: what holds of the definitions alone
+#![tactic(auto)]
+
+mod assembly;
+mod cell;
+pub mod laws;
+mod piece;
+mod row;
+mod same;
+#[cfg(test)]
+mod tests;
+mod threads;
+
+pub use assembly::assemble;
+pub use cell::Cell;
+pub use piece::{Piece, Pieces};
+pub use row::Row;
+pub use same::same_value;
+pub use threads::SentAndShared;

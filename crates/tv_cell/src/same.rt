@@ -1,0 +1,151 @@
+ghost use Rattle.std.specs.Prelude.{◌≡◌, ◌↔◌, IsTrue, map};
+ghost use Rattle.tv_value.specs.Views.{error_view, items_view, view};
+ghost use Rattle.tv_cell.specs.PieceValues.{piece_value, piece_values};
+ghost use Rattle.tv_cell.specs.Sameness.{same_document, same_trees, same_value, same_values};
+ghost use Rattle.tv_cell.specs.Soundness.{AreSound, IsSound};
+
+use crate::piece::Piece;
+use tv_value::{ErrorDoc, Items, Value};
+
+/// Whether two values are the same. Linear in what they have in common. Takes no memory.
+#[cycle(same_value)]
+pub fn same_value(first: &Value, second: &Value) -> bool
+    ensures { result ≡ same_value (view first.now) (view second.now) }
+{
+    match first {
+        Value::Text(text) => match second {
+            Value::Text(other) => text == other,
+            Value::List(_) => false,
+            Value::Fault(_) => false,
+        },
+        Value::List(items) => match second {
+            Value::Text(_) => false,
+            Value::List(others) => same_lists(items, others),
+            Value::Fault(_) => false,
+        },
+        Value::Fault(error) => match second {
+            Value::Text(_) => false,
+            Value::List(_) => false,
+            Value::Fault(other) => error.depth == other.depth && same_document(error, other),
+        },
+    }
+}
+
+#[cycle(same_value)]
+fn same_lists(first: &Items, second: &Items) -> bool
+    ensures { result ≡ same_trees (items_view first.now) (items_view second.now) }
+{
+    same_items(first.values.as_slice(), second.values.as_slice())
+}
+
+#[cycle(same_value)]
+fn same_items(first: &[Value], second: &[Value]) -> bool
+    ensures { result ≡ same_values (map view first.now) (map view second.now) }
+{
+    if first.len() != second.len() {
+        return false;
+    }
+    for (index, value) in first.iter().enumerate() {
+        if !same_value(value, &second[index]) {
+            return false;
+        }
+    }
+    true
+}
+
+/// Whether two error documents are the same but for their depths.
+fn same_document(first: &ErrorDoc, second: &ErrorDoc) -> bool
+    ensures { result ≡ same_document (error_view first.now) (error_view second.now) }
+{
+    first.at == second.at && (first.why == second.why && first.from == second.from)
+}
+
+impl Piece {
+    /// Whether both stand for one value. Linear in what the two values have in common, also where both are parts of one
+    /// cell at one place. Takes no memory.
+    pub fn same(&self, other: &Piece) -> bool
+        requires first { IsSound self.now }
+        requires second { IsSound other.now }
+        ensures { IsTrue result ↔ (piece_value self.now ≡ piece_value other.now) }
+    {
+        self.is_same(other)
+    }
+
+    #[cycle(is_same)]
+    fn is_same(&self, other: &Piece) -> bool
+        requires first { IsSound self.now }
+        requires second { IsSound other.now }
+        ensures { result ≡ same_value (piece_value self.now) (piece_value other.now) }
+    {
+        match self {
+            Piece::Part(cell, place) => other.stands_for(cell.value_at(place)),
+            Piece::List(pieces) => match other {
+                Piece::Part(cell, place) => self.stands_for(cell.value_at(place)),
+                Piece::List(others) => same_pieces(pieces.as_slice(), others.as_slice()),
+                Piece::Fault(_, _, _) => false,
+            },
+            Piece::Fault(cell, place, depth) => match other {
+                Piece::Part(cell, place) => self.stands_for(cell.value_at(place)),
+                Piece::List(_) => false,
+                Piece::Fault(other_cell, other_place, other_depth) => *depth == *other_depth
+                    && same_document(cell.document_at(place), other_cell.document_at(other_place)),
+            },
+        }
+    }
+
+    /// Whether the piece stands for that value.
+    #[cycle(stands_for)]
+    fn stands_for(&self, value: &Value) -> bool
+        requires { IsSound self.now }
+        ensures { result ≡ same_value (piece_value self.now) (view value.now) }
+    {
+        match self {
+            Piece::Part(cell, place) => same_value(cell.value_at(place), value),
+            Piece::List(pieces) => match value {
+                Value::Text(_) => false,
+                Value::List(items) => stand_for(pieces.as_slice(), items.as_slice()),
+                Value::Fault(_) => false,
+            },
+            Piece::Fault(cell, place, depth) => match value {
+                Value::Text(_) => false,
+                Value::List(_) => false,
+                Value::Fault(error) => *depth == error.depth
+                    && same_document(cell.document_at(place), error),
+            },
+        }
+    }
+}
+
+#[cycle(is_same)]
+fn same_pieces(first: &[Piece], second: &[Piece]) -> bool
+    requires first { AreSound first.now }
+    requires second { AreSound second.now }
+    ensures { result ≡ same_values (piece_values first.now) (piece_values second.now) }
+{
+    if first.len() != second.len() {
+        return false;
+    }
+    for (index, piece) in first.iter().enumerate() {
+        if !piece.is_same(&second[index]) {
+            return false;
+        }
+    }
+    true
+}
+
+/// Whether each piece stands for the value of its position.
+#[cycle(stands_for)]
+fn stand_for(pieces: &[Piece], values: &[Value]) -> bool
+    requires { AreSound pieces.now }
+    ensures { result ≡ same_values (piece_values pieces.now) (map view values.now) }
+{
+    if pieces.len() != values.len() {
+        return false;
+    }
+    for (index, piece) in pieces.iter().enumerate() {
+        if !piece.stands_for(&values[index]) {
+            return false;
+        }
+    }
+    true
+}
