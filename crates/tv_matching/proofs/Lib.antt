@@ -1,0 +1,17 @@
+pub mod Lists
+pub mod FromScratch
+pub mod Permutes
+pub mod Gains
+pub mod OfMembers
+pub mod Nodes
+pub mod Onces
+pub mod Matches
+pub mod Natural
+pub mod Heard
+pub mod Computed
+pub mod Lookups
+pub mod OfLaws
+pub mod Prefixed
+pub mod OfStores
+pub mod OfMatchers
+pub mod Bared

@@ -1,0 +1,10 @@
+pub mod Items
+pub mod Members
+pub mod Levels
+pub mod Matched
+pub mod Tellings
+pub mod Told
+pub mod Worked
+pub mod Stores
+pub mod Matchers
+pub mod Stated
