@@ -12,6 +12,7 @@ use Rattle.tv_strategy.proofs.OfPlaces.{same-equal, same-itself}
 use Rattle.tv_matching.specs.Items.{Kind, ends, closes, passes, Item, item, if_so}
 use Rattle.tv_matching.specs.Members.{at_place}
 use Rattle.tv_matching.specs.Matched.{below, replaced, replaced_below, crossed_items, below_jobs, met, meet, joined_items, same, matched, matched_cross, matched_dot, gained, gained_cross, gained_dot}
+use Rattle.tv_matching.specs.Stores.{met_with}
 use Rattle.tv_matching.specs.Tellings.{Telling, told_of}
 use Rattle.tv_matching.specs.Told.{some}
 use Rattle.tv_matching.proofs.Lists.{flat-same, map-flat, flat-none, flat-nothing, map-if, each-all}
@@ -30,9 +31,6 @@ same-flips q r = by (same_place q r) (same_place r q) refl refl
         clash false i j = absurd (cc)
 
 module _ {X F : Type 0} where
-  abbrev pub met_with : Item X F → Item X F → Item X F
-  met_with x y = item y.place (met x.kind y.kind)
-
   meet-if : (x y : Item X F) → meet same x y ≡ map (met_with x) (if_so (same_place x.place y.place) y)
   meet-if x y = sym (map-if (met_with x) (same_place x.place y.place) y)
 

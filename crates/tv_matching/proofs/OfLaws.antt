@@ -16,10 +16,11 @@ use Rattle.tv_matching.specs.Levels.{KindAt, AreLeveled}
 use Rattle.tv_matching.specs.Members.{at_place}
 use Rattle.tv_matching.specs.Tellings.{told_of, after, room_for}
 use Rattle.tv_matching.specs.Told.{Spot, Told, arrival, close, told_leaf, told_place, told_kind, telling, tellings, told_to, matched_after, added_after, IsFit, labelled}
-use Rattle.tv_matching.specs.Stated.{MatchesKnown, MatchesOnlyKnown, MatchesAllKnown, NodesStand, PlacesHaveNodes, MatchesWhatWasTold, MatchesOnce, NewIsOnce, TellingsAdd, TellingsCount, TellingsInAnyOrder, StoreIsMatched, StoreCanBeMade, StoreGrows, StoreRoom, CrossOfOne}
+use Rattle.tv_matching.specs.Stated.{MatchesKnown, MatchesOnlyKnown, MatchesAllKnown, NodesStand, PlacesHaveNodes, MatchesWhatWasTold, MatchesOnce, NewIsOnce, TellingsAdd, TellingsCount, TellingsInAnyOrder, StoreIsMatched, StoreStarts, StoreGrows, StoreWorks, CrossOfOne, CrossesNest}
 use Rattle.tv_matching.proofs.Lists.{map-append, flat-append, each-append}
 use Rattle.tv_matching.proofs.Gains.{told-append, after-more, after-counts, room-parts, after-permutes}
-use Rattle.tv_matching.proofs.OfStores.{stored-matched, filled-is, grown-is, gain-parts, cross-of_one}
+use Rattle.tv_matching.proofs.OfStores.{items-for, for-empty, empty-is, grown-is, items-gain, worked-is, worked-permutes, cross-of_one, crossed-thrice}
+use Rattle.tv_matching.specs.Stores.{store_for}
 use Rattle.tv_matching.proofs.Nodes.{IsNodeOf, node-stands, node-in}
 use Rattle.tv_matching.proofs.Onces.{matched-once, matched-leveled}
 use Rattle.tv_matching.proofs.Matches.{matched-known, matched-sound, matched-complete}
@@ -115,16 +116,19 @@ tellings-in_any_order s ts others h = after-permutes s (tellings ts) (tellings o
 -- ---- what a matcher keeps
 
 pub store-is_matched : StoreIsMatched
-store-is_matched told s st h = stored-matched told s st h
+store-is_matched told named s none h = items-for told named none 0 s h
 
-pub store-can_be_made : StoreCanBeMade
-store-can_be_made told s = filled-is told s
+pub store-starts : StoreStarts
+store-starts s = empty-is (store_for 0 s) (for-empty (Unit {0}) ℕ 0 s)
 
 pub store-grows : StoreGrows
-store-grows told new s st h = grown-is told new s st h
+store-grows told new st h = (grown-is told new st h, items-gain told new st h)
 
-pub store-room : StoreRoom
-store-room told new more s st h = gain-parts told new more s st h
+pub store-works : StoreWorks
+store-works told st ns h = (worked-is told st ns h, worked-permutes told st ns h)
 
 pub cross-of_one_child : CrossOfOne
 cross-of_one_child told c = cross-of_one told c
+
+pub crosses-nest : CrossesNest
+crosses-nest xs ys zs = crossed-thrice xs ys zs

@@ -11,11 +11,12 @@ use Rattle.tv_matching.specs.Items.{Kind, ends, closes, passes, Item, item, if_s
 use Rattle.tv_matching.specs.Levels.{KindAt, AreLeveled}
 use Rattle.tv_matching.specs.Members.{at_place, Once}
 use Rattle.tv_matching.specs.Matched.{bound, met, meet, joined_items}
+use Rattle.tv_matching.specs.Stores.{met_with}
 use Rattle.tv_matching.proofs.Lists.{each-weaken, flat-same, map-flat, map-if}
 use Rattle.tv_matching.proofs.FromScratch.{paired-known}
 use Rattle.tv_matching.proofs.Gains.{joined-gains}
 use Rattle.tv_matching.proofs.Onces.{joined-once, each-flat}
-use Rattle.tv_matching.proofs.Lookups.{met_with, same-flips}
+use Rattle.tv_matching.proofs.Lookups.{same-flips}
 
 shorter : (p d : ℕ) (q r : Place) → p ≤ d → q ≡ take p r → length q < p → length r < d
 shorter p d q r l e h = by p r l (subst (λ s. length s < p) e h)

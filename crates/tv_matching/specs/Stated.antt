@@ -1,18 +1,19 @@
 -- The laws of matching. `known` says of an origin whether it is known; what was told of a leaf is what stands in the walk of its value with all its sources known.
-use Rattle.std.specs.Prelude.{◌≡◌, ℕ, ◌+◌, Bool, true, List, [], ◌∷◌, ◌++◌, map, length, IsPermutation, Some}
+use Rattle.std.specs.Prelude.{◌≡◌, ℕ, ◌+◌, Bool, true, List, [], ◌∷◌, ◌++◌, map, length, IsPermutation, Option, Some, None}
 use Rattle.tv_value.specs.Nested.{Place, at}
 use Rattle.tv_value.specs.Values.{Name, Value, HasDepth}
 use Rattle.tv_value.specs.Strategies.{Strategy, cross, no_strategies, strategy}
 use Rattle.tv_strategy.specs.Origins.{Origin}
 use Rattle.tv_strategy.specs.Iterations.{Iteration, iteration, walks}
-use Rattle.tv_strategy.specs.Measures.{DotsAgree, strategy_depth}
+use Rattle.tv_strategy.specs.Measures.{DotsAgree, strategy_depth, leaf_names}
 use Rattle.tv_strategy.specs.Levels.{HasLevels}
 use Rattle.tv_strategy.specs.Sources.{Each}
 use Rattle.tv_matching.specs.Items.{Item, Bound, Stopped, Node, node_at, nodes_of, all_known, known_items}
 use Rattle.tv_matching.specs.Members.{In, Once}
 use Rattle.tv_matching.specs.Levels.{AreLeveled}
-use Rattle.tv_matching.specs.Matched.{matched}
-use Rattle.tv_matching.specs.Stores.{Store, stored, IsStoreOf, gain, grown, filled_store}
+use Rattle.tv_matching.specs.Matched.{crossed_items, one_end, matched}
+use Rattle.tv_matching.specs.Stores.{Store, store_for, AreNumbered, items, IsStoreOf, gain, grown, News, told_by_all, worked, worked_items}
+use Rattle.tv_matching.specs.Matchers.{Kept}
 use Rattle.tv_matching.specs.Told.{Spot, Told, told_to, matched_after, added_after, count_of_added, IsFit, IsNew, seen, labelled, IsTrueOf, node_told}
 
 -- ---- against the iteration
@@ -76,22 +77,41 @@ TellingsInAnyOrder = (s : Strategy) (ts others : List Told) → IsPermutation ts
 
 -- ---- what a matcher keeps
 
--- what stands at the top of a store is what is matched
+-- where the leaves of a strategy's store are told what its ports are told, what stands there is what is matched
 abbrev pub StoreIsMatched : Type 0
-StoreIsMatched = (told : Name → List (Item Spot Spot)) (s : Strategy) (st : Store Spot Spot) → IsStoreOf told s st → IsPermutation (stored st) (matched told s)
+StoreIsMatched =
+    (told : Option ℕ → List Kept) (named : Name → List Kept) (s : Strategy)
+    → told None ≡ one_end
+    → AreNumbered told named 0 (leaf_names s)
+    → items told (store_for 0 s) ≡ matched named s
 
--- a store can be made, and grows with what each of its nodes gains
-abbrev pub StoreCanBeMade : Type 0
-StoreCanBeMade = (told : Name → List (Item Spot Spot)) (s : Strategy) → IsStoreOf told s (filled_store told s)
+-- it keeps nothing before anything is told
+abbrev pub StoreStarts : Type 0
+StoreStarts = (s : Strategy) → IsStoreOf {X = Unit {0}} {F = ℕ} (λ l. []) (store_for 0 s)
 
+-- and grows by what each node gains
 abbrev pub StoreGrows : Type 0
-StoreGrows = (told new : Name → List (Item Spot Spot)) (s : Strategy) (st : Store Spot Spot) → IsStoreOf told s st → IsStoreOf (λ p. told p ++ new p) s (grown new st)
+StoreGrows =
+    (told new : Option ℕ → List Kept) (st : Store (Unit {0}) ℕ)
+    → IsStoreOf told st
+    → IsStoreOf (λ l. told l ++ new l) (grown new st)
+    × IsPermutation (items (λ l. told l ++ new l) st) (items told st ++ gain new st)
 
--- the room that a node needs for all is what it needs for the first part and then for the rest
-abbrev pub StoreRoom : Type 0
-StoreRoom =
-    (told new more : Name → List (Item Spot Spot)) (s : Strategy) (st : Store Spot Spot) → IsStoreOf told s st → length (gain (λ p. new p ++ more p) st) ≡ length (gain new st) + length (gain more (grown new st))
+-- also by one item after the other
+abbrev pub StoreWorks : Type 0
+StoreWorks =
+    (told : Option ℕ → List Kept) (st : Store (Unit {0}) ℕ) (ns : List (News (Unit {0}) ℕ))
+    → IsStoreOf told st
+    → IsStoreOf (λ l. told l ++ told_by_all ns l) (worked st ns)
+    × IsPermutation (items (λ l. told l ++ told_by_all ns l) st) (items told st ++ worked_items st ns)
 
--- a cross of one child is that child
+-- a cross of one child is that child, and crosses may be nested either way
 abbrev pub CrossOfOne : Type 0
-CrossOfOne = (told : Name → List (Item Spot Spot)) (c : Strategy) → matched told (cross (strategy c no_strategies)) ≡ matched told c
+CrossOfOne =
+    (told : Name → List (Item Spot Spot)) (c : Strategy)
+    → matched told (cross (strategy c no_strategies)) ≡ matched told c
+
+abbrev pub CrossesNest : Type 0
+CrossesNest =
+    (xs ys zs : List (Item Spot Spot))
+    → crossed_items (crossed_items xs ys) zs ≡ crossed_items xs (crossed_items ys zs)

@@ -1,5 +1,5 @@
 //! What holds of the definitions alone: each law is the clause of a function that does nothing.
-ghost use Rattle.tv_matching.specs.Stated.{MatchesKnown, MatchesOnlyKnown, MatchesAllKnown, NodesStand, PlacesHaveNodes, MatchesWhatWasTold, MatchesOnce, NewIsOnce, TellingsAdd, TellingsCount, TellingsInAnyOrder, StoreIsMatched, StoreCanBeMade, StoreGrows, StoreRoom, CrossOfOne};
+ghost use Rattle.tv_matching.specs.Stated.{MatchesKnown, MatchesOnlyKnown, MatchesAllKnown, NodesStand, PlacesHaveNodes, MatchesWhatWasTold, MatchesOnce, NewIsOnce, TellingsAdd, TellingsCount, TellingsInAnyOrder, StoreIsMatched, StoreStarts, StoreGrows, StoreWorks, CrossOfOne, CrossesNest};
 ghost use Rattle.tv_matching.specs.Matchers.{OutIsKnown, KeptIsEnough, KeptGains, StartIsMatching, TellingIsMatching, GivesOnlyRest};
 ghost use Rattle.tv_matching.specs.Worked.{MatchesNestedLists, CrossesWhatWasTold, PairsUnlikeLists, PairsFaults, CrossesFaults, MatchesNoPort, PairsWholeValues};
 
@@ -44,10 +44,11 @@ pub fn worked()
 /// What a matcher keeps for each node of its strategy.
 pub fn stores()
     ensures matched { StoreIsMatched }
-    ensures made { StoreCanBeMade }
+    ensures starts { StoreStarts }
     ensures grows { StoreGrows }
-    ensures room { StoreRoom }
+    ensures works { StoreWorks }
     ensures one { CrossOfOne }
+    ensures nest { CrossesNest }
 {}
 
 /// What a contract sees of a matcher stays true, and what comes out is what is known of the iteration.
