@@ -1,2 +1,5 @@
 pub mod Laying
 pub mod Fronts
+pub mod Putting
+pub mod Meeting
+pub mod Latest

@@ -1,9 +1,10 @@
 -- The items that are kept, each with the number of the telling that brought it.
-use Rattle.std.specs.Prelude.{◌≡◌, ℕ, ◌<◌, Bool, true, false, List, [], ◌∷◌, ◌++◌, map, get_or, nat_lt}
+use Rattle.std.specs.Prelude.{◌≡◌, ℕ, ◌<◌, Bool, true, false, List, [], ◌∷◌, ◌++◌, map, take, get_or, nat_lt}
 use Rattle.tv_value.specs.Nested.{Place}
 use Rattle.tv_strategy.specs.Sources.{Each}
 use Rattle.tv_matching.specs.Items as items
 use Rattle.tv_matching.specs.Items.{ends, closes, passes, item}
+use Rattle.tv_matching.specs.Stores.{latest_at}
 use Rattle.tv_matching.specs.Matchers.{Kept}
 use Rattle.tv_match.specs.declared.kinds.Kind as code
 
@@ -51,3 +52,9 @@ pub record AreMore (n : ℕ) (old new : List Entry) : Type 0 where
   pub more : List Entry
   pub new_is : new ≡ old ++ more
   pub are_of : Each (λ e. e.number ≡ n) more
+
+-- the item at i is the last before `before` that stands at the place
+pub record FoundBefore (q : Place) (es : List Entry) (before i : ℕ) : Type 0 where
+  pub is_before : i < before
+  pub is_there : (entry_at es i).place ≡ q
+  pub is_last : latest_at q (kepts (take before es)) ≡ kept_entry (entry_at es i) ∷ latest_at q (kepts (take i es))

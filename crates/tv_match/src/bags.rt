@@ -133,6 +133,14 @@ impl Bag {
         }
         count
     }
+
+    /// Takes away the items at the end that a telling with a greater number brought. Takes no memory.
+    pub fn cut(&mut self, number: usize)
+        ensures { self.new ≡ front number self.old }
+    {
+        let count = self.front_len(number);
+        self.truncate(count);
+    }
 }
 
 /// Puts indices at the end, and then others. Where memory is wanting the list stays as it was.

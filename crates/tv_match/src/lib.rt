@@ -2,8 +2,10 @@
 #![tactic(auto)]
 
 mod bags;
+mod found;
 mod joins;
 mod kinds;
+mod stores;
 
 pub use bags::Bag;
 pub use kinds::Kind;
