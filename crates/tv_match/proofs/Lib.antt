@@ -3,3 +3,4 @@ pub mod Fronts
 pub mod Putting
 pub mod Meeting
 pub mod Latest
+pub mod Filing
