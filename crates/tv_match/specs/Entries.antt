@@ -1,5 +1,5 @@
 -- The items that are kept, each with the number of the telling that brought it.
-use Rattle.std.specs.Prelude.{◌≡◌, ℕ, ◌<◌, Bool, true, false, List, [], ◌∷◌, ◌++◌, map, take, get_or, nat_lt}
+use Rattle.std.specs.Prelude.{◌≡◌, ℕ, ◌<◌, ◌≤◌, Bool, true, false, List, [], ◌∷◌, ◌++◌, map, take, get_or, nat_lt}
 use Rattle.tv_value.specs.Nested.{Place}
 use Rattle.tv_strategy.specs.Sources.{Each}
 use Rattle.tv_matching.specs.Items as items
@@ -58,3 +58,8 @@ pub record FoundBefore (q : Place) (es : List Entry) (before i : ℕ) : Type 0 w
   pub is_before : i < before
   pub is_there : (entry_at es i).place ≡ q
   pub is_last : latest_at q (kepts (take before es)) ≡ kept_entry (entry_at es i) ∷ latest_at q (kepts (take i es))
+
+-- no item has a smaller number than one before it
+abbrev pub Rise : List Entry → Type 0
+Rise [] = Unit {0}
+Rise (e ∷ es) = Each (λ f. e.number ≤ f.number) es × Rise es
