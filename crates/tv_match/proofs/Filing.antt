@@ -101,3 +101,7 @@ module _ (new : Option ℕ → List Kept) (F R F' R' : spec.Store (Unit {0}) ℕ
         ∙ ap (λ l. dot_store (xs ++ gain new F) l F' R') (b ∙ ap (λ l. ys ++ l) y)
         ∙ ap (λ s. dot_store (xs ++ gain new F) (ys ++ gain new R) s R') p
         ∙ ap (λ s. dot_store (xs ++ gain new F) (ys ++ gain new R) (grown new F) s) q
+
+pub on-both : {A E : Type 0} (r : Result A E) (P Q R : Type 0) → (P → Q → R) → OnOk r P → OnOk r Q → OnOk r R
+on-both (Ok x) P Q R f h k = f h k
+on-both (Err e) P Q R f h k = h

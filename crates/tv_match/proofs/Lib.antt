@@ -4,3 +4,5 @@ pub mod Putting
 pub mod Meeting
 pub mod Latest
 pub mod Filing
+pub mod Working
+pub mod Seeing

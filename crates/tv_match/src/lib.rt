@@ -5,7 +5,11 @@ mod bags;
 mod found;
 mod joins;
 mod kinds;
+mod matchers;
+mod steps;
 mod stores;
+mod told;
 
-pub use bags::Bag;
 pub use kinds::Kind;
+pub use matchers::Matcher;
+pub use told::{Matched, Told, Tolds};

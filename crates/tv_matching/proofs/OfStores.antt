@@ -121,7 +121,7 @@ module _ {X F : Type 0} where
   IsUntold (cross_store es ys f r) = (es ≡ []) × (ys ≡ []) × IsUntold f × IsUntold r
   IsUntold (dot_store xs ys f r) = (xs ≡ []) × (ys ≡ []) × IsUntold f × IsUntold r
 
-  items-none : (st : Store X F) → items nothing st ≡ []
+  pub items-none : (st : Store X F) → items nothing st ≡ []
   items-none (leaf_store l) = refl
   items-none (cross_store es ys f r) = ap (λ xs. crossed_items xs (items nothing r)) (items-none f)
   items-none (dot_store xs ys f r) = ap (λ zs. joined_items same zs (items nothing r)) (items-none f)

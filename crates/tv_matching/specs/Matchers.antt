@@ -118,6 +118,14 @@ pub record IsTold (t : Told) (m n : Matching) : Type 0 where
   pub told_is : IsPermutation n.told (m.told ++ t ∷ [])
   pub given_is : n.given ≡ m.given
 
+-- a refusal changes nothing, and holds no room
+pub record IsFreed (m n : Matching) : Type 0 where
+  pub strategy_is : n.strategy ≡ m.strategy
+  pub mismatch_is : n.mismatch ≡ m.mismatch
+  pub told_is : n.told ≡ m.told
+  pub held_is : n.held ≡ []
+  pub given_is : n.given ≡ m.given
+
 pub record Gives (o : Outcome) (m n : Matching) : Type 0 where
   pub strategy_is : n.strategy ≡ m.strategy
   pub mismatch_is : n.mismatch ≡ m.mismatch

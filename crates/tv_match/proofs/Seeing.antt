@@ -1,0 +1,166 @@
+-- What has come out of a matcher, and what is still to come, is what is matched.
+use Rattle.std.proofs.Common.{◌≡◌, ◌⊎◌, inl, inr, refl, ℕ, zero, suc, ◌+◌, ◌<◌, ◌≤◌, Bool, true, false, ◌==◌, List, [], ◌∷◌, ◌++◌, map, flat_map, length, take, drop, get_or, Option, Some, None, sym, ap, subst, ◌∙◌, arith, append-nil, eq-eqb}
+use Rattle.std.specs.Prelude.{IsPermutation, if◌then◌else◌}
+use Rattle.std.proofs.lemmas.Bool.{eqb-true}
+use Rattle.std.proofs.lemmas.List.{take-append-drop}
+use Rattle.std.proofs.lemmas.List.Sorted.{IsPermutation-refl, IsPermutation-sym, IsPermutation-trans, IsPermutation-map}
+use Rattle.tv_value.specs.Values.{Name}
+use Rattle.tv_value.specs.Orders.{same_name}
+use Rattle.tv_value.specs.Strategies.{Strategy}
+use Rattle.tv_strategy.specs.Conditions.{times, EachOnce, Suits}
+use Rattle.tv_strategy.specs.Measures.{leaf_names}
+use Rattle.tv_strategy.specs.Sources.{Each}
+use Rattle.tv_strategy.proofs.OfPlaces.{same-equal, same-itself}
+use Rattle.tv_matching.specs.Items.{item, if_so}
+use Rattle.tv_matching.specs.Matched.{matched, one_end}
+use Rattle.tv_matching.specs.Told.{Told, telling, told_to, matched_after}
+use Rattle.tv_matching.specs.Matchers.{Outcome, Kept, kept, kept_of, kept_out, leaf_name, out}
+use Rattle.tv_matching.specs.Stores.{store_for, AreNumbered, items, told_by_all, worked_items}
+use Rattle.tv_matching.proofs.Lists.{map-append, map-if}
+use Rattle.tv_matching.proofs.OfStores.{items-none}
+use Rattle.tv_matching.proofs.OfLaws.{store-is_matched, store-starts, store-works}
+use Rattle.tv_matching.proofs.Bared.{kept-is_enough}
+use Rattle.tv_match.specs.declared.kinds.Kind as kinds
+use Rattle.tv_match.specs.Entries.{Entry, kept_entry, kepts, kind_view}
+use Rattle.tv_match.specs.Working.{unit_news, news_of, news_to}
+use Rattle.tv_match.specs.Seen.{telling_kind, telling_of, outcome_of, outcome_kind, IsProper}
+
+-- ---- the names of leaves differ
+
+counted : (n m : Name) (ns : List Name) (b : Bool) → same_name n m ≡ b → times n (m ∷ ns) ≡ (if b then suc (times n ns) else times n ns)
+counted n m ns b f = ap (λ c. if c then suc (times n ns) else times n ns) f
+
+grows : (n m : Name) (ns : List Name) (k : ℕ) → k ≤ times n ns → k ≤ times n (m ∷ ns)
+grows n m ns k h = by (same_name n m) refl
+  where
+    by : (b : Bool) → same_name n m ≡ b → k ≤ times n (m ∷ ns)
+    by true f = subst (λ j. k ≤ j) (sym (counted n m ns true f)) (omega (arith, h))
+    by false f = subst (λ j. k ≤ j) (sym (counted n m ns false f)) h
+
+no-less : (i : ℕ) → i < 0 → ⊥
+no-less i h = omega arith
+
+often : (n : Name) (ns : List Name) (j : ℕ) → j < length ns → same_name n (get_or ns j []) ≡ true → 1 ≤ times n ns
+often n [] j h e = absurd (no-less j h)
+often n (m ∷ ns) zero h e = subst (λ k. 1 ≤ k) (sym (counted n m ns true e)) (omega arith)
+often n (m ∷ ns) (suc j) h e = grows n m ns 1 (often n ns j (omega (arith, h)) e)
+
+twice : (n : Name) (ns : List Name) (i j : ℕ) → i < j → j < length ns → same_name n (get_or ns i []) ≡ true → same_name n (get_or ns j []) ≡ true → 2 ≤ times n ns
+twice n [] i j l h e f = absurd (no-less j h)
+twice n (m ∷ ns) i zero l h e f = absurd (no-less i l)
+twice n (m ∷ ns) zero (suc j) l h e f = let o = often n ns j (omega (arith, h)) f in subst (λ k. 2 ≤ k) (sym (counted n m ns true e)) (omega (arith, o))
+twice n (m ∷ ns) (suc i) (suc j) l h e f = grows n m ns 2 (twice n ns i j (omega (arith, l)) (omega (arith, h)) e f)
+
+once-at : (all ns : List Name) (i : ℕ) → EachOnce ns all → i < length ns → times (get_or ns i []) all ≡ 1
+once-at all [] i h l = absurd (no-less i l)
+once-at all (n ∷ ns) zero h l = h.0
+once-at all (n ∷ ns) (suc i) h l = once-at all ns i h.1 (omega (arith, l))
+
+order : (i j : ℕ) → (i < j) ⊎ ((j < i) ⊎ (i ≡ j))
+order zero zero = inr (inr refl)
+order zero (suc j) = inl (omega arith)
+order (suc i) zero = inr (inl (omega arith))
+order (suc i) (suc j) = by (order i j)
+  where
+    by : (i < j) ⊎ ((j < i) ⊎ (i ≡ j)) → (suc i < suc j) ⊎ ((suc j < suc i) ⊎ (suc i ≡ suc j))
+    by (inl h) = inl (omega (arith, h))
+    by (inr (inl h)) = inr (inl (omega (arith, h)))
+    by (inr (inr h)) = inr (inr (ap suc h))
+
+pub names-apart : (ns : List Name) (i j : ℕ) → EachOnce ns ns → i < length ns → j < length ns → same_name (get_or ns i []) (get_or ns j []) ≡ (j == i)
+names-apart ns i j h a b = by (order i j)
+  where
+    one : times (get_or ns i []) ns ≡ 1
+    one = once-at ns ns i h a
+
+    clash : (n : ℕ) → n ≡ 1 → 2 ≤ n → ⊥
+    clash n e k = omega arith
+
+    unlike : (j ≡ i → ⊥) → (j == i) ≡ false
+    unlike n = test (j == i) refl
+      where
+        test : (c : Bool) → (j == i) ≡ c → (j == i) ≡ false
+        test false e = e
+        test true e = absurd (n (eqb-true j i e))
+
+    apart : (same_name (get_or ns i []) (get_or ns j []) ≡ true → ⊥) → (j ≡ i → ⊥) → same_name (get_or ns i []) (get_or ns j []) ≡ (j == i)
+    apart n m = test (same_name (get_or ns i []) (get_or ns j [])) refl
+      where
+        test : (c : Bool) → same_name (get_or ns i []) (get_or ns j []) ≡ c → same_name (get_or ns i []) (get_or ns j []) ≡ (j == i)
+        test false e = e ∙ sym (unlike m)
+        test true e = absurd (n e)
+
+    by : (i < j) ⊎ ((j < i) ⊎ (i ≡ j)) → same_name (get_or ns i []) (get_or ns j []) ≡ (j == i)
+    by (inl l) = apart (λ e. clash (times (get_or ns i []) ns) one (twice (get_or ns i []) ns i j l b (same-itself (get_or ns i [])) e)) (λ e. no-less 0 (omega (arith, e, l)))
+    by (inr (inl l)) = apart (λ e. clash (times (get_or ns i []) ns) one (twice (get_or ns i []) ns j i l a e (same-itself (get_or ns i [])))) (λ e. no-less 0 (omega (arith, e, l)))
+    by (inr (inr e)) = ap (λ k. same_name (get_or ns i []) (get_or ns k [])) (sym e) ∙ same-itself (get_or ns i []) ∙ sym (ap (λ k. k == i) (sym e) ∙ eq-eqb i i refl)
+
+-- ---- what each leaf is told
+
+leaf-there : (p : Name) (q : _) (k : kinds.Kind) → (telling (telling_kind p q k)).leaf ≡ p
+leaf-there p q kinds.Kind.Job = refl
+leaf-there p q (kinds.Kind.Closed n) = refl
+leaf-there p q (kinds.Kind.Passed l) = refl
+
+module _ (s : Strategy) (apart : EachOnce (leaf_names s) (leaf_names s)) where
+  told-leaf : (i : ℕ) → i < length (leaf_names s) → (es : List Entry) → Each (IsProper s) es → told_by_all (map news_of es) (Some i) ≡ kept_of s (map (telling_of s) es) (leaf_name s i)
+  told-leaf i l [] h = refl
+  told-leaf i l (e ∷ es) h =
+      ap (λ r. if_so (e.number == i) (kept_entry e) ++ r) (told-leaf i l es h.1)
+      ∙ ap (λ r. r ++ kept_of s (map (telling_of s) es) (leaf_name s i)) here-too
+      ∙ sym (map-append (kept s) (if_so (same_name (leaf_name s i) (telling (telling_of s e)).leaf) (telling (telling_of s e)).item) (told_to (map (telling_of s) es) (leaf_name s i)))
+    where
+      here-too : if_so (e.number == i) (kept_entry e) ≡ map (kept s) (if_so (same_name (leaf_name s i) (telling (telling_of s e)).leaf) (telling (telling_of s e)).item)
+      here-too =
+          ap (λ b. if_so b (kept_entry e)) (sym (names-apart (leaf_names s) i e.number apart l h.0.0) ∙ ap (same_name (leaf_name s i)) (sym (leaf-there (leaf_name s e.number) e.place e.kind)))
+          ∙ ap (if_so (same_name (leaf_name s i) (telling (telling_of s e)).leaf)) (sym h.0.1)
+          ∙ sym (map-if (kept s) (same_name (leaf_name s i) (telling (telling_of s e)).leaf) (telling (telling_of s e)).item)
+
+  none-told : (es : List Entry) → told_by_all (map news_of es) None ≡ []
+  none-told [] = refl
+  none-told (e ∷ es) = none-told es
+
+  numbered : (told : Option ℕ → List Kept) (named : Name → List Kept) (i : ℕ) (ns : List Name) → ((j : ℕ) → j < length ns → told (Some (i + j)) ≡ named (get_or ns j [])) → AreNumbered told named i ns
+  numbered told named i [] h = tt
+  numbered told named i (n ∷ ns) h = (ap (λ k. told (Some k)) (plus i) ∙ h 0 (omega arith), numbered told named (suc i) ns (λ j l. ap (λ k. told (Some k)) (next i j) ∙ h (suc j) (omega (arith, l))))
+    where
+      plus : (i : ℕ) → i ≡ i + 0
+      plus i = omega arith
+
+      next : (i j : ℕ) → suc i + j ≡ i + suc j
+      next i j = omega arith
+
+  pub worked-matched : (es : List Entry) → Each (IsProper s) es → IsPermutation (worked_items (store_for 0 s) (unit_news ∷ map news_of es)) (matched (kept_of s (map (telling_of s) es)) s)
+  worked-matched es h =
+      let ns = unit_news ∷ map news_of es in
+      let told = told_by_all ns in
+      let works = (store-works (λ l. []) (store_for 0 s) ns (store-starts s)).1 in
+      subst (IsPermutation (worked_items (store_for 0 s) ns)) (store-is_matched told (kept_of s (map (telling_of s) es)) s none (numbered told (kept_of s (map (telling_of s) es)) 0 (leaf_names s) each))
+      (IsPermutation-sym _ _ (subst (λ l. IsPermutation (items told (store_for 0 s)) (l ++ worked_items (store_for 0 s) ns)) (items-none (store_for 0 s)) works))
+    where
+      none : told_by_all (unit_news ∷ map news_of es) None ≡ one_end
+      none = ap (λ l. one_end ++ l) (none-told es)
+
+      zero-plus : (j : ℕ) → 0 + j ≡ j
+      zero-plus j = omega arith
+
+      each : (j : ℕ) → j < length (leaf_names s) → told_by_all (unit_news ∷ map news_of es) (Some (0 + j)) ≡ kept_of s (map (telling_of s) es) (get_or (leaf_names s) j [])
+      each j l = ap (λ k. told_by_all (unit_news ∷ map news_of es) (Some k)) (zero-plus j) ∙ told-leaf j l es h
+
+  -- ---- as outcomes
+
+  outs : (es : List Entry) → map outcome_of es ≡ map kept_out (kepts es)
+  outs [] = refl
+  outs (e ∷ es) = ap (λ o. o ∷ map outcome_of es) (one e.place e.kind) ∙ ap (λ l. kept_out (kept_entry e) ∷ l) (outs es)
+    where
+      one : (q : _) (k : kinds.Kind) → outcome_kind q k ≡ kept_out (item q (kind_view k))
+      one q kinds.Kind.Job = refl
+      one q (kinds.Kind.Closed n) = refl
+      one q (kinds.Kind.Passed l) = refl
+
+  -- the items of what was told come out
+  pub out-all : (es xs : List Entry) → Each (IsProper s) es → kepts xs ≡ worked_items (store_for 0 s) (unit_news ∷ map news_of es) → IsPermutation (map outcome_of xs) (map (out s) (matched_after s (map (telling_of s) es)))
+  out-all es xs h e =
+      subst (λ l. IsPermutation l (map (out s) (matched_after s (map (telling_of s) es)))) (sym (outs xs ∙ ap (map kept_out) e))
+      (subst (IsPermutation (map kept_out (worked_items (store_for 0 s) (unit_news ∷ map news_of es)))) (kept-is_enough s (map (telling_of s) es)).1
+      (IsPermutation-map kept_out (worked_items (store_for 0 s) (unit_news ∷ map news_of es)) (matched (kept_of s (map (telling_of s) es)) s) (worked-matched es h)))

@@ -1,0 +1,82 @@
+-- What a contract sees of a matcher, and what is so of its fields.
+use Rattle.std.specs.Prelude.{◌≡◌, ℕ, ◌<◌, ◌≤◌, Bool, true, false, List, map, length, take, drop}
+use Rattle.tv_value.specs.Nested.{Place}
+use Rattle.tv_value.specs.Values.{Name}
+use Rattle.tv_value.specs.Strategies.{Strategy}
+use Rattle.tv_value.specs.Views.{strategy_view}
+use Rattle.tv_strategy.specs.Conditions.{Suits, number_of}
+use Rattle.tv_strategy.specs.Measures.{DotsAgree, leaf_names}
+use Rattle.tv_strategy.specs.Sources.{Each}
+use Rattle.tv_matching.specs.Members.{Once}
+use Rattle.tv_matching.specs.Told.{arrival, close, telling, told_to, IsFit}
+use Rattle.tv_matching.specs.Told as spec
+use Rattle.tv_matching.specs.Matchers.{Outcome, job_at, list_at, fault_at, Matching, leaf_name, kept}
+use Rattle.tv_match.specs.declared.kinds.Kind as kinds
+use Rattle.tv_match.specs.declared.told.Told as code
+use Rattle.tv_match.specs.declared.told.Matched as coded
+use Rattle.tv_match.specs.declared.matchers.Matcher.{Matcher}
+use Rattle.tv_match.specs.Entries.{Entry, kept_entry, front}
+use Rattle.tv_match.specs.Filed.{filed}
+use Rattle.tv_match.specs.Working.{IsDone}
+
+abbrev pub telling_kind : Name → Place → kinds.Kind → spec.Told
+telling_kind p q kinds.Kind.Job = arrival p q false
+telling_kind p q (kinds.Kind.Closed n) = close p q n
+telling_kind p q (kinds.Kind.Passed l) = arrival p q true
+
+-- a listed telling, of the leaf whose number it has
+abbrev pub telling_of : Strategy → Entry → spec.Told
+telling_of s e = telling_kind (leaf_name s e.number) e.place e.kind
+
+abbrev pub outcome_kind : Place → kinds.Kind → Outcome
+outcome_kind q kinds.Kind.Job = job_at q
+outcome_kind q (kinds.Kind.Closed n) = list_at q n
+outcome_kind q (kinds.Kind.Passed l) = fault_at q l
+
+abbrev pub outcome_of : Entry → Outcome
+outcome_of e = outcome_kind e.place e.kind
+
+abbrev pub matched_view : coded.Matched → Outcome
+matched_view (coded.Matched.Job q) = job_at q
+matched_view (coded.Matched.Closed q n) = list_at q n
+matched_view (coded.Matched.Passed q l) = fault_at q l
+
+abbrev pub told_view : Strategy → code.Told → spec.Told
+told_view s (code.Told.Arrival l q f) = arrival (leaf_name s l) q f
+told_view s (code.Told.Close l q n) = close (leaf_name s l) q n
+
+abbrev pub leaf_of : code.Told → ℕ
+leaf_of (code.Told.Arrival l q f) = l
+leaf_of (code.Told.Close l q n) = l
+
+-- each names a leaf of the strategy
+abbrev pub NameLeaves : Strategy → List code.Told → Type 0
+NameLeaves s ts = Each (λ t. leaf_of t < length (leaf_names s)) ts
+
+-- a listed telling names a leaf, and is kept as what it tells
+abbrev pub IsProper : Strategy → Entry → Type 0
+IsProper s e = (e.number < length (leaf_names s)) × (kept s (telling (telling_of s e)).item ≡ kept_entry e)
+
+abbrev pub told_list : Matcher → List spec.Told
+told_list m = map (telling_of (strategy_view m.tree)) (take m.told m.log)
+
+abbrev pub matching : Matcher → Matching
+matching m =
+    record {
+      strategy = strategy_view m.tree;
+      mismatch = m.mismatch;
+      told = told_list m;
+      held = map (telling_of (strategy_view m.tree)) (drop m.told m.log);
+      given = map outcome_of (take m.given m.out);
+    }
+
+-- what is so of every matcher between calls
+pub record IsSound (m : Matcher) : Type 0 where
+  pub suits : Suits m.mismatch (strategy_view m.tree)
+  pub agree : DotsAgree (number_of m.mismatch) (strategy_view m.tree)
+  pub fit : Each (IsFit (number_of m.mismatch)) (told_list m)
+  pub once : (p : Name) → Once (told_to (told_list m) p)
+  pub proper : Each (IsProper (strategy_view m.tree)) m.log
+  pub done : IsDone (strategy_view m.tree) (filed m.root) m.log m.out
+  pub told_within : m.told ≤ length m.log
+  pub given_within : m.given ≤ length (front m.told m.out)
