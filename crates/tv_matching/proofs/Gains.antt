@@ -109,7 +109,7 @@ module _ {X F : Type 0} where
   pub told-append : (tellings more : List (Telling X F)) (p : Name) → told_of (tellings ++ more) p ≡ told_of tellings p ++ told_of more p
   told-append tellings more p = flat-append (λ t. if_so (same_name p t.leaf) t.item) tellings more
 
-  -- INCREMENT: what is matched after further tellings is what was matched before, and what they add
+  -- what is matched after further tellings is what was matched before, and what they add
   pub after-more : (s : Strategy) (tellings more : List (Telling X F)) → IsPermutation (after s (tellings ++ more)) (after s tellings ++ added_by s tellings more)
   after-more s tellings more =
       IsPermutation-trans _ _ _ (matched-permutes (told_of (tellings ++ more)) (λ p. told_of tellings p ++ told_of more p) (λ p. perm-from (told_of (tellings ++ more) p) (told_of tellings p ++ told_of more p) (told-append tellings more p)) s)
@@ -129,6 +129,6 @@ module _ {X F : Type 0} where
       numbers : (a b c x y z : ℕ) → c ≡ a + x → b ≡ a + y → c ≡ b + z → x ≡ y + z
       numbers a b c x y z e f g = omega arith
 
-  -- ORDER-FREE
+  -- in whatever order
   pub after-permutes : (s : Strategy) (tellings others : List (Telling X F)) → IsPermutation tellings others → IsPermutation (after s tellings) (after s others)
   after-permutes s tellings others h = matched-permutes (told_of tellings) (told_of others) (λ p. flat-permutes (λ t. if_so (same_name p t.leaf) t.item) tellings others h) s

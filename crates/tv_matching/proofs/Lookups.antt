@@ -9,9 +9,9 @@ use Rattle.tv_strategy.specs.Measures.{leaf_names, all_leaf_names}
 use Rattle.tv_strategy.specs.Splits.{same_place}
 use Rattle.tv_strategy.specs.Sources.{Each}
 use Rattle.tv_strategy.proofs.OfPlaces.{same-equal, same-itself}
-use Rattle.tv_matching.specs.Items.{Kind, ends, closes, passes, Item, item, if_so}
+use Rattle.tv_matching.specs.Items.{Kind, ends, closes, passes, Item, if_so}
 use Rattle.tv_matching.specs.Members.{at_place}
-use Rattle.tv_matching.specs.Matched.{below, replaced, replaced_below, crossed_items, below_jobs, met, meet, joined_items, same, matched, matched_cross, matched_dot, gained, gained_cross, gained_dot}
+use Rattle.tv_matching.specs.Matched.{below, replaced, replaced_below, crossed_items, below_jobs, meet, joined_items, same, matched, matched_cross, matched_dot, gained, gained_cross, gained_dot}
 use Rattle.tv_matching.specs.Stores.{met_with}
 use Rattle.tv_matching.specs.Tellings.{Telling, told_of}
 use Rattle.tv_matching.specs.Told.{some}

@@ -1,5 +1,5 @@
 -- What a matcher keeps is what its children have, and stays so as more is told; what stands at the top is what is matched.
-use Rattle.std.specs.Prelude.{◌≡◌, refl, ℕ, suc, ◌+◌, Bool, true, false, List, [], ◌∷◌, ◌++◌, map, flat_map, length, Option, Some, None, IsPermutation}
+use Rattle.std.specs.Prelude.{◌≡◌, refl, ℕ, suc, ◌+◌, List, [], ◌∷◌, ◌++◌, map, flat_map, length, Option, None, IsPermutation}
 use Rattle.std.proofs.Common.{arith, sym, ap, subst, ◌∙◌, append_assoc, append-nil}
 use Rattle.std.proofs.lemmas.List.Sorted.{IsPermutation-refl, IsPermutation-sym, IsPermutation-trans, IsPermutation-append, IsPermutation-append_left, IsPermutation-append_right, IsPermutation-append_comm, IsPermutation-map}
 use Rattle.tv_value.specs.Nested.{Place}
@@ -9,10 +9,10 @@ use Rattle.tv_strategy.specs.Measures.{leaf_names, all_leaf_names}
 use Rattle.tv_strategy.specs.Splits.{same_place}
 use Rattle.tv_matching.specs.Items.{Kind, ends, closes, passes, Item, item, if_so}
 use Rattle.tv_matching.specs.Members.{at_place}
-use Rattle.tv_matching.specs.Matched.{bound, below, replaced, replaced_below, one_end, crossed_items, below_jobs, met, meet, joined_items, same, matched, matched_cross, matched_dot}
+use Rattle.tv_matching.specs.Matched.{bound, below, replaced, replaced_below, one_end, crossed_items, below_jobs, meet, joined_items, same, matched, matched_cross, matched_dot}
 use Rattle.tv_matching.specs.Stores.{Store, leaf_store, cross_store, dot_store, store_for, store_for_cross, crossed_with, store_for_dot, AreNumbered, is_job, only_jobs, items, IsStoreOf, latest_at, met_with, met_by_first, met_by_second, gain, grown, News, told_by, told_by_all, worked, worked_items}
-use Rattle.tv_matching.proofs.Lists.{map-append, map-same, map-both, flat-append, flat-none, flat-same, flat-map, map-flat, flat-single, map-if}
-use Rattle.tv_matching.proofs.Permutes.{perm-from, front, two-parts, flat-each_permutes, flat-permutes}
+use Rattle.tv_matching.proofs.Lists.{map-same, map-both, flat-append, flat-none, flat-same, flat-map, map-flat, flat-single, map-if}
+use Rattle.tv_matching.proofs.Permutes.{perm-from, two-parts, flat-each_permutes, flat-permutes}
 use Rattle.tv_matching.proofs.Gains.{crossed-permutes, joined-permutes, crossed-gains, joined-gains}
 use Rattle.tv_matching.proofs.Onces.{flat-flat}
 use Rattle.tv_matching.proofs.Lookups.{same-flips}

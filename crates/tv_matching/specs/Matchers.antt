@@ -158,7 +158,10 @@ node_out s x = kind_of_node s x.place x.kind
 -- for all values of which what was told is true, what has come out and what is still to come are the ends, lists and passed faults of their iteration whose sources were told
 abbrev pub OutIsKnown : Type 0
 OutIsKnown =
-    (m : Matching) (h : IsMatching m) (values : Name → Value) → ((p : Name) → (d : ℕ) × HasDepth (values p) (number_of m.mismatch p + d)) → Each (IsTrueOf (labelled values) (number_of m.mismatch)) m.told → IsPermutation (m.given ++ h.rest) (map (node_out m.strategy) (known_items (node_told (number_of m.mismatch) m.told) (iteration (walks (number_of m.mismatch) (labelled values)) m.strategy)))
+    (m : Matching) (h : IsMatching m) (values : Name → Value)
+    → ((p : Name) → (d : ℕ) × HasDepth (values p) (number_of m.mismatch p + d))
+    → Each (IsTrueOf (labelled values) (number_of m.mismatch)) m.told
+    → IsPermutation (m.given ++ h.rest) (map (node_out m.strategy) (known_items (node_told (number_of m.mismatch) m.told) (iteration (walks (number_of m.mismatch) (labelled values)) m.strategy)))
 
 -- what is matched of the kept items is what would be kept of all that is matched, and tells what comes out
 abbrev pub KeptIsEnough : Type 0

@@ -25,17 +25,40 @@ AgreeWith known ports told = (p : Name) → IsPermutation (told p) (known_items 
 -- what is matched is what is known of the whole iteration
 abbrev pub MatchesKnown : Type 0
 MatchesKnown =
-    (known : Origin → Bool) (ports : Name → Iteration) (mismatch : Name → ℕ) → ((p : Name) → HasLevels (ports p) (mismatch p)) → (told : Name → List (Item Bound Stopped)) → AgreeWith known ports told → (s : Strategy) → DotsAgree mismatch s → IsPermutation (matched told s) (known_items known (iteration ports s))
+    (known : Origin → Bool) (ports : Name → Iteration) (mismatch : Name → ℕ)
+    → ((p : Name) → HasLevels (ports p) (mismatch p))
+    → (told : Name → List (Item Bound Stopped))
+    → AgreeWith known ports told
+    → (s : Strategy)
+    → DotsAgree mismatch s
+    → IsPermutation (matched told s) (known_items known (iteration ports s))
 
 -- every matched item stands in the iteration, and its sources are known
 abbrev pub MatchesOnlyKnown : Type 0
 MatchesOnlyKnown =
-    (known : Origin → Bool) (ports : Name → Iteration) (mismatch : Name → ℕ) → ((p : Name) → HasLevels (ports p) (mismatch p)) → (told : Name → List (Item Bound Stopped)) → AgreeWith known ports told → (s : Strategy) → DotsAgree mismatch s → (x : Item Bound Stopped) → In x (matched told s) → (n : Node) × In n (nodes_of (iteration ports s)) × (n.item ≡ x) × (all_known known n.sources ≡ true)
+    (known : Origin → Bool) (ports : Name → Iteration) (mismatch : Name → ℕ)
+    → ((p : Name) → HasLevels (ports p) (mismatch p))
+    → (told : Name → List (Item Bound Stopped))
+    → AgreeWith known ports told
+    → (s : Strategy)
+    → DotsAgree mismatch s
+    → (x : Item Bound Stopped)
+    → In x (matched told s)
+    → (n : Node) × In n (nodes_of (iteration ports s)) × (n.item ≡ x) × (all_known known n.sources ≡ true)
 
 -- whatever stands in the iteration with its sources known is matched
 abbrev pub MatchesAllKnown : Type 0
 MatchesAllKnown =
-    (known : Origin → Bool) (ports : Name → Iteration) (mismatch : Name → ℕ) → ((p : Name) → HasLevels (ports p) (mismatch p)) → (told : Name → List (Item Bound Stopped)) → AgreeWith known ports told → (s : Strategy) → DotsAgree mismatch s → (n : Node) → In n (nodes_of (iteration ports s)) → all_known known n.sources ≡ true → In n.item (matched told s)
+    (known : Origin → Bool) (ports : Name → Iteration) (mismatch : Name → ℕ)
+    → ((p : Name) → HasLevels (ports p) (mismatch p))
+    → (told : Name → List (Item Bound Stopped))
+    → AgreeWith known ports told
+    → (s : Strategy)
+    → DotsAgree mismatch s
+    → (n : Node)
+    → In n (nodes_of (iteration ports s))
+    → all_known known n.sources ≡ true
+    → In n.item (matched told s)
 
 -- the nodes of an iteration are what stands at its places
 abbrev pub NodesStand : Type 0
@@ -49,14 +72,26 @@ PlacesHaveNodes = (t : Iteration) (q : Place) (u : Iteration) → at t q ≡ Som
 -- where what was told is true of the values, what is matched is what stands in their iteration with all its sources told
 abbrev pub MatchesWhatWasTold : Type 0
 MatchesWhatWasTold =
-    (values : Name → Value) (mismatch : Name → ℕ) → ((p : Name) → (d : ℕ) × HasDepth (values p) (mismatch p + d)) → (ts : List Told) → Each (IsTrueOf (labelled values) mismatch) ts → ((p : Name) → Once (told_to ts p)) → (s : Strategy) → DotsAgree mismatch s → IsPermutation (map (seen (labelled values)) (matched_after s ts)) (known_items (node_told mismatch ts) (iteration (walks mismatch (labelled values)) s))
+    (values : Name → Value) (mismatch : Name → ℕ)
+    → ((p : Name) → (d : ℕ) × HasDepth (values p) (mismatch p + d))
+    → (ts : List Told)
+    → Each (IsTrueOf (labelled values) mismatch) ts
+    → ((p : Name) → Once (told_to ts p))
+    → (s : Strategy)
+    → DotsAgree mismatch s
+    → IsPermutation (map (seen (labelled values)) (matched_after s ts)) (known_items (node_told mismatch ts) (iteration (walks mismatch (labelled values)) s))
 
 -- ---- without values
 
 -- no place twice, where no place of a leaf was told twice
 abbrev pub MatchesOnce : Type 0
 MatchesOnce =
-    (mismatch : Name → ℕ) (ts : List Told) → Each (IsFit mismatch) ts → ((p : Name) → Once (told_to ts p)) → (s : Strategy) → DotsAgree mismatch s → Once (matched_after s ts) × AreLeveled (strategy_depth mismatch s) (matched_after s ts)
+    (mismatch : Name → ℕ) (ts : List Told)
+    → Each (IsFit mismatch) ts
+    → ((p : Name) → Once (told_to ts p))
+    → (s : Strategy)
+    → DotsAgree mismatch s
+    → Once (matched_after s ts) × AreLeveled (strategy_depth mismatch s) (matched_after s ts)
 
 -- and so it stays with a telling of another place
 abbrev pub NewIsOnce : Type 0
@@ -69,7 +104,8 @@ TellingsAdd = (s : Strategy) (ts more : List Told) → IsPermutation (matched_af
 -- and so many, told at once or one after the other
 abbrev pub TellingsCount : Type 0
 TellingsCount =
-    (s : Strategy) (ts more rest : List Told) → (length (matched_after s (ts ++ more)) ≡ length (matched_after s ts) + count_of_added s ts more) × (count_of_added s ts (more ++ rest) ≡ count_of_added s ts more + count_of_added s (ts ++ more) rest)
+    (s : Strategy) (ts more rest : List Told)
+    → (length (matched_after s (ts ++ more)) ≡ length (matched_after s ts) + count_of_added s ts more) × (count_of_added s ts (more ++ rest) ≡ count_of_added s ts more + count_of_added s (ts ++ more) rest)
 
 -- in whatever order
 abbrev pub TellingsInAnyOrder : Type 0

@@ -3,7 +3,7 @@ use Rattle.std.specs.Prelude.{◌≡◌, ℕ, true, false, List, [], ◌∷◌, 
 use Rattle.tv_value.specs.Nested.{Place}
 use Rattle.tv_value.specs.Values.{Name}
 use Rattle.tv_value.specs.Strategies.{Strategy, cross, no_strategies}
-use Rattle.tv_strategy.specs.Worked.{a, b, one, crossing, pairing, levels, both, texts, no_list}
+use Rattle.tv_strategy.specs.Worked.{a, b, one, crossing, pairing, levels, both, texts}
 use Rattle.tv_strategy.specs.Iterations.{iteration, walks}
 use Rattle.tv_strategy.specs.Origins.{Traced}
 use Rattle.tv_matching.specs.Items.{Kind, ends, closes, passes, Item, item, known_items}

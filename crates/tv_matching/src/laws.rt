@@ -1,7 +1,11 @@
 //! What holds of the definitions alone: each law is the clause of a function that does nothing.
-ghost use Rattle.tv_matching.specs.Stated.{MatchesKnown, MatchesOnlyKnown, MatchesAllKnown, NodesStand, PlacesHaveNodes, MatchesWhatWasTold, MatchesOnce, NewIsOnce, TellingsAdd, TellingsCount, TellingsInAnyOrder, StoreIsMatched, StoreStarts, StoreGrows, StoreWorks, CrossOfOne, CrossesNest};
+ghost use Rattle.tv_matching.specs.Stated.{MatchesKnown, MatchesOnlyKnown, MatchesAllKnown, NodesStand};
+ghost use Rattle.tv_matching.specs.Stated.{PlacesHaveNodes, MatchesWhatWasTold, MatchesOnce, NewIsOnce, TellingsAdd};
+ghost use Rattle.tv_matching.specs.Stated.{TellingsCount, TellingsInAnyOrder, StoreIsMatched, StoreStarts, StoreGrows};
+ghost use Rattle.tv_matching.specs.Stated.{StoreWorks, CrossOfOne, CrossesNest};
 ghost use Rattle.tv_matching.specs.Matchers.{OutIsKnown, KeptIsEnough, KeptGains, StartIsMatching, TellingIsMatching, GivesOnlyRest};
-ghost use Rattle.tv_matching.specs.Worked.{MatchesNestedLists, CrossesWhatWasTold, PairsUnlikeLists, PairsFaults, CrossesFaults, MatchesNoPort, PairsWholeValues};
+ghost use Rattle.tv_matching.specs.Worked.{MatchesNestedLists, CrossesWhatWasTold, PairsUnlikeLists, PairsFaults};
+ghost use Rattle.tv_matching.specs.Worked.{CrossesFaults, MatchesNoPort, PairsWholeValues};
 
 /// What is matched is what stands in the iteration with all its sources known, where of each leaf was told what is known of its walk.
 pub fn matches_iteration()
