@@ -173,3 +173,6 @@ front-rise n (e ∷ es) r = by (front n es) (nat_lt n e.number) refl (front-rise
     by [] true h r i = (tt, tt)
     by [] false h r i = ((tt, tt), (not-late e.number h, tt))
     by (f ∷ fs) b h r i = ((i, r.0), (omega (arith, i.0, r.1.0), r.1))
+
+pub front-longer : (k n : ℕ) → k ≤ n → (es : List Entry) → length (front k es) ≤ length (front n es)
+front-longer k n h es = let e = ap length (front-less k n h es) in let l = front-short k (front n es) in omega (arith, e, l)

@@ -6,3 +6,4 @@ pub mod Latest
 pub mod Filing
 pub mod Working
 pub mod Seeing
+pub mod Calls

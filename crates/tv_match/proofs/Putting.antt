@@ -35,20 +35,26 @@ pub record Puts (n : ℕ) (f : Kept → List Kept) (xs : List Entry) (i : ℕ) (
   pub items : kepts new ++ flat_map f (kepts (drop i xs)) ≡ kepts old ++ flat_map f (kepts xs)
   pub more : AreMore n old new
 
+pub from-next : (xs : List Entry) (i : ℕ) → i < length xs → drop i xs ≡ entry_at xs i ∷ drop (i + 1) xs
+from-next [] i h = absurd (none i h)
+  where
+    none : (i : ℕ) → i < 0 → ⊥
+    none i h = omega arith
+from-next (x ∷ xs) zero h = refl
+from-next (x ∷ xs) (suc i) h = from-next xs i (omega (arith, h)) ∙ ap (λ j. entry_at xs i ∷ drop j (x ∷ xs)) (plus i)
+  where
+    plus : (i : ℕ) → suc (i + 1) ≡ suc i + 1
+    plus i = omega arith
+
+pub past : (xs : List Entry) (i : ℕ) → length xs ≤ i → drop i xs ≡ []
+past [] zero h = refl
+past [] (suc i) h = refl
+past (x ∷ xs) zero h = absurd (omega (arith, h))
+past (x ∷ xs) (suc i) h = past xs i (omega (arith, h))
+
 module _ (n : ℕ) (f : Kept → List Kept) (xs : List Entry) where
   pub puts-start : (es : List Entry) → Puts n f xs 0 es es
   puts-start es = record { items = refl; more = more-none n es }
-
-  from-next : (xs : List Entry) (i : ℕ) → i < length xs → drop i xs ≡ entry_at xs i ∷ drop (i + 1) xs
-  from-next [] i h = absurd (none i h)
-    where
-      none : (i : ℕ) → i < 0 → ⊥
-      none i h = omega arith
-  from-next (x ∷ xs) zero h = refl
-  from-next (x ∷ xs) (suc i) h = from-next xs i (omega (arith, h)) ∙ ap (λ j. entry_at xs i ∷ drop j (x ∷ xs)) (plus i)
-    where
-      plus : (i : ℕ) → suc (i + 1) ≡ suc i + 1
-      plus i = omega arith
 
   pub puts-next : (i : ℕ) (old mid new : List Entry) → Puts n f xs i old mid → i < length xs → kepts new ≡ kepts mid ++ flat_map f (kept_entry (entry_at xs i) ∷ []) → AreMore n mid new → Puts n f xs (i + 1) old new
   puts-next i old mid new h l e k =
@@ -61,12 +67,6 @@ module _ (n : ℕ) (f : Kept → List Kept) (xs : List Entry) where
             ∙ h.items;
         more = more-then n old mid new h.more k;
       }
-
-  past : (xs : List Entry) (i : ℕ) → length xs ≤ i → drop i xs ≡ []
-  past [] zero h = refl
-  past [] (suc i) h = refl
-  past (x ∷ xs) zero h = absurd (omega (arith, h))
-  past (x ∷ xs) (suc i) h = past xs i (omega (arith, h))
 
   pub puts-end : (i : ℕ) (old new : List Entry) → Puts n f xs i old new → length xs ≤ i → kepts new ≡ kepts old ++ flat_map f (kepts xs)
   puts-end i old new h l = sym (append-nil (kepts new)) ∙ ap (λ ys. kepts new ++ flat_map f (kepts ys)) (sym (past xs i l)) ∙ h.items

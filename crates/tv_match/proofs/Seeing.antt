@@ -4,6 +4,7 @@ use Rattle.std.specs.Prelude.{IsPermutation, if◌then◌else◌}
 use Rattle.std.proofs.lemmas.Bool.{eqb-true}
 use Rattle.std.proofs.lemmas.List.{take-append-drop}
 use Rattle.std.proofs.lemmas.List.Sorted.{IsPermutation-refl, IsPermutation-sym, IsPermutation-trans, IsPermutation-map}
+use Rattle.tv_value.specs.Nested.{Place}
 use Rattle.tv_value.specs.Values.{Name}
 use Rattle.tv_value.specs.Orders.{same_name}
 use Rattle.tv_value.specs.Strategies.{Strategy}
@@ -11,17 +12,17 @@ use Rattle.tv_strategy.specs.Conditions.{times, EachOnce, Suits}
 use Rattle.tv_strategy.specs.Measures.{leaf_names}
 use Rattle.tv_strategy.specs.Sources.{Each}
 use Rattle.tv_strategy.proofs.OfPlaces.{same-equal, same-itself}
-use Rattle.tv_matching.specs.Items.{item, if_so}
+use Rattle.tv_matching.specs.Items.{item, if_so, passes}
 use Rattle.tv_matching.specs.Matched.{matched, one_end}
 use Rattle.tv_matching.specs.Told.{Told, telling, told_to, matched_after}
-use Rattle.tv_matching.specs.Matchers.{Outcome, Kept, kept, kept_of, kept_out, leaf_name, out}
+use Rattle.tv_matching.specs.Matchers.{Outcome, Kept, kept, kept_of, kept_out, leaf_name, leaf_number, out}
 use Rattle.tv_matching.specs.Stores.{store_for, AreNumbered, items, told_by_all, worked_items}
 use Rattle.tv_matching.proofs.Lists.{map-append, map-if}
 use Rattle.tv_matching.proofs.OfStores.{items-none}
 use Rattle.tv_matching.proofs.OfLaws.{store-is_matched, store-starts, store-works}
 use Rattle.tv_matching.proofs.Bared.{kept-is_enough}
 use Rattle.tv_match.specs.declared.kinds.Kind as kinds
-use Rattle.tv_match.specs.Entries.{Entry, kept_entry, kepts, kind_view}
+use Rattle.tv_match.specs.Entries.{Entry, entry, kept_entry, kepts, kind_view}
 use Rattle.tv_match.specs.Working.{unit_news, news_of, news_to}
 use Rattle.tv_match.specs.Seen.{telling_kind, telling_of, outcome_of, outcome_kind, IsProper}
 
@@ -164,3 +165,83 @@ module _ (s : Strategy) (apart : EachOnce (leaf_names s) (leaf_names s)) where
       subst (λ l. IsPermutation l (map (out s) (matched_after s (map (telling_of s) es)))) (sym (outs xs ∙ ap (map kept_out) e))
       (subst (IsPermutation (map kept_out (worked_items (store_for 0 s) (unit_news ∷ map news_of es)))) (kept-is_enough s (map (telling_of s) es)).1
       (IsPermutation-map kept_out (worked_items (store_for 0 s) (unit_news ∷ map news_of es)) (matched (kept_of s (map (telling_of s) es)) s) (worked-matched es h)))
+
+-- ---- one telling for one entry
+
+pred-same : (j i : ℕ) → (suc j == suc i) ≡ (j == i)
+pred-same j i = by (j == i) refl
+  where
+    by : (b : Bool) → (j == i) ≡ b → (suc j == suc i) ≡ (j == i)
+    by true e = eq-eqb (suc j) (suc i) (ap suc (eqb-true j i e)) ∙ sym e
+    by false e = test (suc j == suc i) refl
+      where
+        clash : (c : Bool) → c ≡ false → c ≡ true → ⊥
+        clash true f g = absurd (cc)
+        clash false f g = absurd (cc)
+
+        back : suc j ≡ suc i → j ≡ i
+        back f = omega arith
+
+        test : (c : Bool) → (suc j == suc i) ≡ c → (suc j == suc i) ≡ (j == i)
+        test false f = f ∙ sym e
+        test true f = absurd (clash (j == i) e (eq-eqb j i (back (eqb-true (suc j) (suc i) f))))
+
+zero-suc : (i : ℕ) → (0 == suc i) ≡ false
+zero-suc i = test (0 == suc i) refl
+  where
+    none : 0 ≡ suc i → ⊥
+    none e = omega arith
+
+    test : (c : Bool) → (0 == suc i) ≡ c → (0 == suc i) ≡ false
+    test false e = e
+    test true e = absurd (none (eqb-true 0 (suc i) e))
+
+number-there : (ns : List Name) (p : Name) (i : ℕ) → i < length ns → ((j : ℕ) → j < length ns → same_name p (get_or ns j []) ≡ (j == i)) → leaf_number ns p ≡ i
+number-there [] p i l h = absurd (no-less i l)
+number-there (n ∷ ns) p zero l h = ap (λ b. if b then 0 else suc (leaf_number ns p)) (h 0 (omega arith))
+number-there (n ∷ ns) p (suc i) l h =
+    ap (λ b. if b then 0 else suc (leaf_number ns p)) (h 0 (omega arith) ∙ zero-suc i)
+    ∙ ap suc (number-there ns p i (omega (arith, l)) (λ j k. h (suc j) (omega (arith, k)) ∙ pred-same j i))
+
+module _ (s : Strategy) (apart : EachOnce (leaf_names s) (leaf_names s)) where
+  pub number-of_leaf : (i : ℕ) → i < length (leaf_names s) → leaf_number (leaf_names s) (leaf_name s i) ≡ i
+  number-of_leaf i l = number-there (leaf_names s) (leaf_name s i) i l (λ j k. names-apart (leaf_names s) i j apart l k)
+
+  same-number : (i j : ℕ) → i < length (leaf_names s) → j < length (leaf_names s) → leaf_name s i ≡ leaf_name s j → i ≡ j
+  same-number i j l k e = sym (number-of_leaf i l) ∙ ap (leaf_number (leaf_names s)) e ∙ number-of_leaf j k
+
+  entries-same : (i j : ℕ) (q r : Place) (k l : kinds.Kind) → i < length (leaf_names s) → j < length (leaf_names s) → leaf_name s i ≡ leaf_name s j → q ≡ r → k ≡ l → entry i q k ≡ entry j r l
+  entries-same i j q r k l a b n p m = ap (λ x. entry x q k) (same-number i j a b n) ∙ ap (λ x. entry j x k) p ∙ ap (entry j r) m
+
+  passed-leaf : (p : Name) (q : Place) (l : ℕ) → kept s (telling (telling_kind p q (kinds.Kind.Passed l))).item ≡ item q (kind_view (kinds.Kind.Passed l)) → leaf_number (leaf_names s) p ≡ l
+  passed-leaf p q l h = from (ap (λ (x : Kept). x.kind) h)
+    where
+      from : passes (leaf_number (leaf_names s) p) ≡ passes l → leaf_number (leaf_names s) p ≡ l
+      from e = cc
+
+  tellings-same : (i j : ℕ) (q r : Place) (k l : kinds.Kind) → IsProper s (entry i q k) → IsProper s (entry j r l) → telling_kind (leaf_name s i) q k ≡ telling_kind (leaf_name s j) r l → entry i q k ≡ entry j r l
+  tellings-same i j q r kinds.Kind.Job kinds.Kind.Job a b e = let n : leaf_name s i ≡ leaf_name s j = cc in let p : q ≡ r = cc in entries-same i j q r kinds.Kind.Job kinds.Kind.Job a.0 b.0 n p refl
+  tellings-same i j q r kinds.Kind.Job (kinds.Kind.Closed m) a b e = absurd (cc)
+  tellings-same i j q r kinds.Kind.Job (kinds.Kind.Passed m) a b e = let f : false ≡ true = cc in absurd (cc)
+  tellings-same i j q r (kinds.Kind.Closed n) kinds.Kind.Job a b e = absurd (cc)
+  tellings-same i j q r (kinds.Kind.Closed n) (kinds.Kind.Closed m) a b e =
+      let x : leaf_name s i ≡ leaf_name s j = cc in let p : q ≡ r = cc in let y : n ≡ m = cc in entries-same i j q r (kinds.Kind.Closed n) (kinds.Kind.Closed m) a.0 b.0 x p (ap kinds.Kind.Closed y)
+  tellings-same i j q r (kinds.Kind.Closed n) (kinds.Kind.Passed m) a b e = absurd (cc)
+  tellings-same i j q r (kinds.Kind.Passed n) kinds.Kind.Job a b e = let f : true ≡ false = cc in absurd (cc)
+  tellings-same i j q r (kinds.Kind.Passed n) (kinds.Kind.Closed m) a b e = absurd (cc)
+  tellings-same i j q r (kinds.Kind.Passed n) (kinds.Kind.Passed m) a b e =
+      let x : leaf_name s i ≡ leaf_name s j = cc in let p : q ≡ r = cc in
+      entries-same i j q r (kinds.Kind.Passed n) (kinds.Kind.Passed m) a.0 b.0 x p (ap kinds.Kind.Passed (sym (passed-leaf (leaf_name s i) q n a.1) ∙ ap (leaf_number (leaf_names s)) x ∙ passed-leaf (leaf_name s j) r m b.1))
+
+  pub telling-same : (e f : Entry) → IsProper s e → IsProper s f → telling_of s e ≡ telling_of s f → e ≡ f
+  telling-same e f a b h = tellings-same e.number f.number e.place f.place e.kind f.kind a b h
+
+  -- what the calls list
+  pub bound-proper : (i : ℕ) (q : Place) → i < length (leaf_names s) → IsProper s (entry i q kinds.Kind.Job)
+  bound-proper i q l = (l, refl)
+
+  pub closed-proper : (i : ℕ) (q : Place) (n : ℕ) → i < length (leaf_names s) → IsProper s (entry i q (kinds.Kind.Closed n))
+  closed-proper i q n l = (l, refl)
+
+  pub fault-proper : (i : ℕ) (q : Place) → i < length (leaf_names s) → IsProper s (entry i q (kinds.Kind.Passed i))
+  fault-proper i q l = (l, ap (λ k. item q (passes k)) (number-of_leaf i l))

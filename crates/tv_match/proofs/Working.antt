@@ -93,7 +93,7 @@ items-last : (st : spec.Store (Unit {0}) ℕ) (ns : List (News (Unit {0}) ℕ)) 
 items-last st [] n = append-nil (gain (told_by n) st)
 items-last st (m ∷ ns) n = ap (λ l. gain (told_by m) st ++ l) (items-last (grown (told_by m) st) ns n) ∙ sym (append_assoc (gain (told_by m) st) (worked_items (grown (told_by m) st) ns) (gain (told_by n) (worked (grown (told_by m) st) ns)))
 
-take-within : {A : Type 0} (k : ℕ) (xs ys : List A) → k ≤ length xs → take k (xs ++ ys) ≡ take k xs
+pub take-within : {A : Type 0} (k : ℕ) (xs ys : List A) → k ≤ length xs → take k (xs ++ ys) ≡ take k xs
 take-within zero xs ys h = refl
 take-within (suc k) [] ys h = absurd (omega (arith, h))
 take-within (suc k) (x ∷ xs) ys h = ap (λ l. x ∷ l) (take-within k xs ys (omega (arith, h)))

@@ -15,8 +15,8 @@ use Rattle.tv_match.specs.declared.kinds.Kind as kinds
 use Rattle.tv_match.specs.declared.told.Told as code
 use Rattle.tv_match.specs.declared.told.Matched as coded
 use Rattle.tv_match.specs.declared.matchers.Matcher.{Matcher}
-use Rattle.tv_match.specs.Entries.{Entry, kept_entry, front}
-use Rattle.tv_match.specs.Filed.{filed}
+use Rattle.tv_match.specs.Entries.{Entry, entry_at, kept_entry, front}
+use Rattle.tv_match.specs.Filed.{Filed, filed}
 use Rattle.tv_match.specs.Working.{IsDone}
 
 abbrev pub telling_kind : Name → Place → kinds.Kind → spec.Told
@@ -57,26 +57,37 @@ NameLeaves s ts = Each (λ t. leaf_of t < length (leaf_names s)) ts
 abbrev pub IsProper : Strategy → Entry → Type 0
 IsProper s e = (e.number < length (leaf_names s)) × (kept s (telling (telling_of s e)).item ≡ kept_entry e)
 
-abbrev pub told_list : Matcher → List spec.Told
-told_list m = map (telling_of (strategy_view m.tree)) (take m.told m.log)
+abbrev pub tellings_of : Strategy → List Entry → List spec.Told
+tellings_of s es = map (telling_of s) es
 
-abbrev pub matching : Matcher → Matching
-matching m =
+-- the first n of the listed tellings were made and the others are held; the first g items have come out
+abbrev pub seen_as : Strategy → List (Name × ℕ) → List Entry → List Entry → ℕ → ℕ → Matching
+seen_as s mismatch log out n g =
     record {
-      strategy = strategy_view m.tree;
-      mismatch = m.mismatch;
-      told = told_list m;
-      held = map (telling_of (strategy_view m.tree)) (drop m.told m.log);
-      given = map outcome_of (take m.given m.out);
+      strategy = s;
+      mismatch = mismatch;
+      told = tellings_of s (take n log);
+      held = tellings_of s (drop n log);
+      given = map outcome_of (take g out);
     }
 
 -- what is so of every matcher between calls
-pub record IsSound (m : Matcher) : Type 0 where
-  pub suits : Suits m.mismatch (strategy_view m.tree)
-  pub agree : DotsAgree (number_of m.mismatch) (strategy_view m.tree)
-  pub fit : Each (IsFit (number_of m.mismatch)) (told_list m)
-  pub once : (p : Name) → Once (told_to (told_list m) p)
-  pub proper : Each (IsProper (strategy_view m.tree)) m.log
-  pub done : IsDone (strategy_view m.tree) (filed m.root) m.log m.out
-  pub told_within : m.told ≤ length m.log
-  pub given_within : m.given ≤ length (front m.told m.out)
+pub record AreSound (s : Strategy) (mismatch : List (Name × ℕ)) (root : Filed) (log out : List Entry) (n g : ℕ) : Type 0 where
+  pub suits : Suits mismatch s
+  pub agree : DotsAgree (number_of mismatch) s
+  pub fit : Each (IsFit (number_of mismatch)) (tellings_of s (take n log))
+  pub once : (p : Name) → Once (told_to (tellings_of s (take n log)) p)
+  pub proper : Each (IsProper s) log
+  pub done : IsDone s root log out
+  pub told_within : n ≤ length log
+  pub given_within : g ≤ length (front n out)
+
+abbrev pub matching : Matcher → Matching
+matching m = seen_as (strategy_view m.tree) m.mismatch m.log m.out m.told m.given
+
+abbrev pub IsSound : Matcher → Type 0
+IsSound m = AreSound (strategy_view m.tree) m.mismatch (filed m.root) m.log m.out m.told m.given
+
+-- the next held telling is this one
+abbrev pub IsNext : Matcher → Entry → Type 0
+IsNext m e = (m.told < length m.log) × (entry_at m.log m.told ≡ e)

@@ -1,17 +1,14 @@
-ghost use Rattle.std.specs.Prelude.{◌≡◌, ℕ, ◌<◌, ◌∷◌, [], length, map, IfOk, OnOk, OnErr, IfSome, IsNone, IsOk, List};
-ghost use Rattle.tv_value.specs.Views.{strategy_view};
-ghost use Rattle.tv_strategy.specs.Measures.{DotsAgree, leaf_names};
-ghost use Rattle.tv_strategy.specs.Conditions.{Suits, number_of};
-ghost use Rattle.tv_matching.specs.Told.{Told as Telling, arrival, close, count_of_added};
-ghost use Rattle.tv_matching.specs.Matchers.{Matching, IsMatching, HasGivenAll, CanTell, CanTellAll, Starts, IsTold, Gives, Holds, IsFreed, leaf_name};
+ghost use Rattle.std.specs.Prelude.{◌≡◌, ℕ, ◌<◌, ◌∷◌, [], length, OnOk, OnErr, IfSome, IsNone, IsOk, IsTrue, List};
+ghost use Rattle.tv_strategy.specs.Measures.{leaf_names};
+ghost use Rattle.tv_matching.specs.Told.{Told as Telling, arrival, close};
+ghost use Rattle.tv_matching.specs.Matchers.{HasGivenAll, CanTell, IsTold, Gives, IsFreed, leaf_name};
+ghost use Rattle.tv_match.specs.Entries.{entry};
 
 use crate::bags::Bag;
 use crate::kinds::Kind;
 use crate::steps::{take_back, work};
 use crate::stores::Store;
-use crate::told::{Matched, Told, Tolds};
-use std::alloc::Global;
-use tv_value::{Copied, Depths, NoMemory, Place, Tree};
+use tv_value::{Depths, NoMemory, Place, Tree};
 
 /// The iteration of a strategy, as far as its leaves were told.
 #[derive(Drop)]
@@ -30,10 +27,60 @@ pub struct Matcher {
 }
 
 impl Matcher {
-    ghost use Rattle.tv_match.specs.Seen.{matching, IsSound, matched_view, told_view, NameLeaves};
+    ghost use Rattle.tv_value.specs.Views.{strategy_view};
+    ghost use Rattle.tv_match.specs.Seen.{matching, IsSound, IsProper, IsNext, telling_of, outcome_kind};
+
+    /// A bound value has arrived, or a fault on the way there.
+    ///
+    /// Linear in what is new at the nodes of the strategy, and in the strategy; constant for the next held telling.
+    pub fn on_arrival(&mut self, leaf: u32, place: &Place, fault: bool) -> Result<(), NoMemory>
+        requires sound { IsSound self.old }
+        requires leaf { leaf < length (leaf_names (matching self.old).strategy) }
+        requires new { CanTell (matching self.old) (arrival (leaf_name (matching self.old).strategy leaf) place.now fault) }
+        ensures ok { OnOk result (IsTold (arrival (leaf_name (matching self.old).strategy leaf) place.now fault) (matching self.old) (matching self.new)) }
+        ensures refused { OnErr result (IsFreed (matching self.old) (matching self.new)) }
+        ensures held { (rest : List Telling) → (matching self.old).held ≡ arrival (leaf_name (matching self.old).strategy leaf) place.now fault ∷ rest → IsOk result × ((matching self.new).held ≡ rest) }
+        ensures sound { IsSound self.new }
+    {
+        if fault {
+            self.tell(leaf, place.as_slice(), Kind::Passed(leaf))
+        } else {
+            self.tell(leaf, place.as_slice(), Kind::Job)
+        }
+    }
+
+    /// A list on the way is closed.
+    ///
+    /// Linear in what is new at the nodes of the strategy, and in the strategy; constant for the next held telling.
+    pub fn on_close(&mut self, leaf: u32, place: &Place, length: u32) -> Result<(), NoMemory>
+        requires sound { IsSound self.old }
+        requires leaf { leaf < Rattle.std.specs.Prelude.length (leaf_names (matching self.old).strategy) }
+        requires new { CanTell (matching self.old) (close (leaf_name (matching self.old).strategy leaf) place.now length) }
+        ensures ok { OnOk result (IsTold (close (leaf_name (matching self.old).strategy leaf) place.now length) (matching self.old) (matching self.new)) }
+        ensures refused { OnErr result (IsFreed (matching self.old) (matching self.new)) }
+        ensures held { (rest : List Telling) → (matching self.old).held ≡ close (leaf_name (matching self.old).strategy leaf) place.now length ∷ rest → IsOk result × ((matching self.new).held ≡ rest) }
+        ensures sound { IsSound self.new }
+    {
+        self.tell(leaf, place.as_slice(), Kind::Closed(length))
+    }
+
+    /// The next thing that has not come out yet: its place and its kind. Takes no memory.
+    pub fn first(&self) -> Option<(&[u32], Kind)>
+        requires { IsSound self.now }
+        ensures none { IsNone result → HasGivenAll (matching self.now) }
+    {
+        if self.given < self.out.len() && self.out.number(self.given) <= self.told {
+            Some((self.out.place(self.given), self.out.kind(self.given)))
+        } else {
+            None
+        }
+    }
 
     /// Whether the next held telling is this one.
-    fn is_next(&self, leaf: u32, place: &[u32], kind: Kind) -> bool {
+    fn is_next(&self, leaf: u32, place: &[u32], kind: Kind) -> bool
+        ensures yes { IsTrue result → IsNext self.now (entry leaf place.now kind) }
+        ensures no { IsNext self.now (entry leaf place.now kind) → IsTrue result }
+    {
         self.told < self.log.len()
             && self.log.number(self.told) == leaf as usize
             && self.log.kind(self.told) == kind
@@ -41,7 +88,15 @@ impl Matcher {
     }
 
     /// Tells a leaf.
-    fn tell(&mut self, leaf: u32, place: &[u32], kind: Kind) -> Result<(), NoMemory> {
+    fn tell(&mut self, leaf: u32, place: &[u32], kind: Kind) -> Result<(), NoMemory>
+        requires sound { IsSound self.old }
+        requires proper { IsProper (strategy_view self.old.tree) (entry leaf place.now kind) }
+        requires new { CanTell (matching self.old) (telling_of (strategy_view self.old.tree) (entry leaf place.now kind)) }
+        ensures ok { OnOk result (IsTold (telling_of (strategy_view self.old.tree) (entry leaf place.now kind)) (matching self.old) (matching self.new)) }
+        ensures refused { OnErr result (IsFreed (matching self.old) (matching self.new)) }
+        ensures held { (rest : List Telling) → (matching self.old).held ≡ telling_of (strategy_view self.old.tree) (entry leaf place.now kind) ∷ rest → IsOk result × ((matching self.new).held ≡ rest) }
+        ensures sound { IsSound self.new }
+    {
         if self.is_next(leaf, place, kind) {
             self.told += 1;
             return Ok(());

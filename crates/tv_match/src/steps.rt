@@ -1,6 +1,6 @@
-ghost use Rattle.std.specs.Prelude.{◌≡◌, ℕ, ◌≤◌, ◌++◌, ◌∷◌, [], length, take, OnOk};
+ghost use Rattle.std.specs.Prelude.{◌≡◌, ℕ, ◌+◌, ◌≤◌, ◌++◌, ◌∷◌, [], length, take, OnOk};
 ghost use Rattle.tv_value.specs.Strategies.{Strategy};
-ghost use Rattle.tv_match.specs.Entries.{entry, front, Rise};
+ghost use Rattle.tv_match.specs.Entries.{entry, front, Rise, AreMore};
 ghost use Rattle.tv_match.specs.Filed.{filed};
 ghost use Rattle.tv_match.specs.Working.{IsWorked, IsDone};
 
@@ -25,7 +25,7 @@ pub fn work(
     ensures done { OnOk result ((s : Strategy) → IsDone s (filed root.old) log.old out.old → IsDone s (filed root.new) log.new out.new) }
     ensures still { (s : Strategy) → IsDone s (filed root.old) log.old out.old → IsWorked s (length log.old) (filed root.new) log.new out.new × Rise out.new }
     ensures listed { take (length log.old) log.new ≡ log.old }
-    ensures front { take (length out.old) out.new ≡ out.old }
+    ensures more { AreMore (length log.old + 1) out.old out.new }
 {
     log.push(&[], place, kind, leaf as usize)?;
     let news = News {
