@@ -1,6 +1,6 @@
 -- What the calls of a matcher leave.
 use Rattle.std.specs.Prelude.{IsPermutation}
-use Rattle.std.proofs.Common.{◌≡◌, refl, ℕ, zero, suc, ◌+◌, ◌<◌, ◌≤◌, List, [], ◌∷◌, ◌++◌, map, length, take, drop, get_or, sym, ap, subst, ◌∙◌, arith, take-suc, length-append}
+use Rattle.std.proofs.Common.{◌≡◌, ◌⊎◌, inl, inr, refl, ℕ, zero, suc, ◌+◌, ◌<◌, ◌≤◌, List, [], ◌∷◌, ◌++◌, map, length, take, drop, get_or, sym, ap, subst, ◌∙◌, arith, take-suc, length-append}
 use Rattle.tv_value.specs.Values.{Name}
 use Rattle.tv_value.specs.Strategies.{Strategy}
 use Rattle.tv_strategy.specs.Conditions.{number_of}
@@ -17,6 +17,7 @@ use Rattle.tv_match.specs.Working.{IsWorked, IsDone}
 use Rattle.tv_match.specs.Seen.{telling_of, tellings_of, outcome_of, seen_as, AreSound, IsProper}
 use Rattle.tv_match.proofs.Fronts.{front-first, front-short, front-again, front-longer, more-late}
 use Rattle.tv_match.proofs.Putting.{from-next, past}
+use Rattle.tv_match.proofs.Seeing.{telling-same}
 use Rattle.tv_match.proofs.Working.{take-less, take-length, take-within}
 
 each-take : {A : Type 0} (P : A → Type 0) (n : ℕ) (xs : List A) → Each P xs → Each P (take n xs)
@@ -141,3 +142,113 @@ module _ (s : Strategy) (mm : List (Name × ℕ)) where
       where
         front-within : (n : ℕ) (es : List Entry) → length (front n es) ≤ length es
         front-within n es = front-short n es
+
+-- ---- a telling that is not the next held one
+
+module _ (s : Strategy) (mm : List (Name × ℕ)) (root : Filed) (log out : List Entry) (n g : ℕ) (e : Entry) (a : AreSound s mm root log out n g) (p : IsProper s e) where
+  -- it isn't the first that is held
+  pub not-held : ((n < length log) × (entry_at log n ≡ e) → ⊥) → (rest : List Told) → tellings_of s (drop n log) ≡ telling_of s e ∷ rest → ⊥
+  not-held no rest h = by (lt_or n (length log))
+    where
+      lt_or : (i j : ℕ) → (i < j) ⊎ (j ≤ i)
+      lt_or zero zero = inr (omega arith)
+      lt_or zero (suc j) = inl (omega arith)
+      lt_or (suc i) zero = inr (omega arith)
+      lt_or (suc i) (suc j) = next (lt_or i j)
+        where
+          next : (i < j) ⊎ (j ≤ i) → (suc i < suc j) ⊎ (suc j ≤ suc i)
+          next (inl k) = inl (omega (arith, k))
+          next (inr k) = inr (omega (arith, k))
+
+      proper-at : (es : List Entry) (i : ℕ) → Each (IsProper s) es → i < length es → IsProper s (entry_at es i)
+      proper-at [] i h l = absurd (none i l)
+        where
+          none : (i : ℕ) → i < 0 → ⊥
+          none i h = omega arith
+      proper-at (f ∷ es) zero h l = h.0
+      proper-at (f ∷ es) (suc i) h l = proper-at es i h.1 (omega (arith, l))
+
+      by : (n < length log) ⊎ (length log ≤ n) → ⊥
+      by (inl l) = no (l, telling-same s a.suits.leaves_differ (entry_at log n) e (proper-at log n a.proper l) p (held-head s mm log n (telling_of s e) rest l h))
+      by (inr l) = held-there s mm log n (telling_of s e) rest l h
+
+  module _ (one : Filed) (d : IsDone s one (take n log) (front n out)) where
+    long : n ≡ length (take n log)
+    long = sym (take-length n log a.told_within)
+
+    back : AreSound s mm one (take n log) (front n out) n g
+    back = back-sound s mm root one log out n g a d
+
+    -- it is worked, and made
+    module _ (two : Filed) (more outs : List Entry) (m : more ≡ take n log ++ e ∷ []) (b : AreMore (length (take n log) + 1) (front n out) outs) (done : IsDone s two more outs) (c : CanTell (seen_as s mm log out n g) (telling_of s e)) where
+      listed : AreSound s mm two more outs n g
+      listed = listed-sound s mm one two (take n log) more (front n out) outs n g e back long m b p done
+
+      told-same : tellings_of s (take n more) ≡ tellings_of s (take n log)
+      told-same = listed-told s mm one two (take n log) more (front n out) outs n g e back long m b ∙ (back-freed s mm root one log out n g a).told_is
+
+      here : n < length more
+      here = let k = ap length m in let j = length-append (take n log) (e ∷ []) in let l = long in omega (arith, k, j, l)
+
+      at-end : entry_at more n ≡ e
+      at-end = ap (λ es. entry_at es n) m ∙ ap (entry_at (take n log ++ e ∷ [])) long ∙ last (take n log)
+        where
+          last : (es : List Entry) → entry_at (es ++ e ∷ []) (length es) ≡ e
+          last [] = refl
+          last (f ∷ es) = last es
+
+      can : CanTell (seen_as s mm more outs n g) (telling_of s e)
+      can = (c.0, subst (λ l. IsNew l (telling_of s e)) (sym told-same) c.1)
+
+      pub made-sound : AreSound s mm two more outs (n + 1) g
+      made-sound = next-sound s mm two more outs n g e listed here at-end can
+
+      pub made-told : IsTold (telling_of s e) (seen_as s mm log out n g) (seen_as s mm more outs (n + 1) g)
+      made-told =
+          told-from (telling_of s e) (seen_as s mm log out n g) (seen_as s mm more outs n g) (seen_as s mm more outs (n + 1) g) refl refl told-same
+          (listed-given s mm one two (take n log) more (front n out) outs n g e back long m b ∙ (back-freed s mm root one log out n g a).given_is)
+          (next-told s mm two more outs n g e listed here at-end)
+
+    -- or memory was wanting, and what there is of it is taken back
+    module _ (two three : Filed) (more outs log' out' : List Entry) (b : AreMore (length (take n log) + 1) (front n out) outs) (l : take (length (take n log)) more ≡ take n log) (k : log' ≡ take n more) (o : out' ≡ front n outs) (w : IsDone s three log' out') where
+      log-same : log' ≡ take n log
+      log-same = k ∙ ap (λ i. take i more) long ∙ l
+
+      out-same : out' ≡ front n out
+      out-same = o ∙ more-late n (length (take n log) + 1) (front n out) outs (let i = long in omega (arith, i)) b ∙ front-again n out
+
+      pub failed-sound : AreSound s mm three log' out' n g
+      failed-sound =
+          subst (λ x. AreSound s mm three x out' n g) (sym log-same)
+          (subst (λ x. AreSound s mm three (take n log) x n g) (sym out-same)
+          (back-sound s mm root three log out n g a (subst (λ x. IsDone s three x (front n out)) log-same (subst (λ x. IsDone s three log' x) out-same w))))
+
+      pub failed-freed : IsFreed (seen_as s mm log out n g) (seen_as s mm log' out' n g)
+      failed-freed =
+          subst (λ x. IsFreed (seen_as s mm log out n g) (seen_as s mm x out' n g)) (sym log-same)
+          (subst (λ x. IsFreed (seen_as s mm log out n g) (seen_as s mm (take n log) x n g)) (sym out-same) (back-freed s mm root three log out n g a))
+
+-- ---- facts of calls, at equal lists
+
+pub done-at : (s : Strategy) (one : Filed) (a b c d : List Entry) → a ≡ c → b ≡ d → IsDone s one a b → IsDone s one c d
+done-at s one a b c d e f h = subst (λ x. IsDone s one x d) e (subst (λ x. IsDone s one a x) f h)
+
+pub more-at : (a b c d outs : List Entry) → a ≡ c → b ≡ d → AreMore (length a + 1) b outs → AreMore (length c + 1) d outs
+more-at a b c d outs e f h = subst (λ x. AreMore (length x + 1) d outs) e (subst (λ x. AreMore (length a + 1) x outs) f h)
+
+pub listed-at : (a c more : List Entry) → a ≡ c → take (length a) more ≡ a → take (length c) more ≡ c
+listed-at a c more e h = subst (λ x. take (length x) more ≡ x) e h
+
+pub listed-long : (a more : List Entry) → take (length a) more ≡ a → length a ≤ length more
+listed-long a more h = let k = ap length h in let l = short (length a) more in omega (arith, k, l)
+  where
+    short : (n : ℕ) (xs : List Entry) → length (take n xs) ≤ length xs
+    short zero xs = omega arith
+    short (suc n) [] = omega arith
+    short (suc n) (x ∷ xs) = let r = short n xs in omega (arith, r)
+
+pub first-long : (n : ℕ) (a log : List Entry) → n ≤ length log → a ≡ take n log → n ≤ length a
+first-long n a log h e = let k = ap length e in let l = take-length n log h in omega (arith, k, l)
+
+pub listed-count : (n : ℕ) (log more : List Entry) (e : Entry) → n ≤ length log → more ≡ take n log ++ e ∷ [] → length more ≡ n + 1
+listed-count n log more e h m = let k = ap length m in let j = length-append (take n log) (e ∷ []) in let l = take-length n log h in omega (arith, k, j, l)

@@ -7,3 +7,4 @@ pub mod Filing
 pub mod Working
 pub mod Seeing
 pub mod Calls
+

@@ -203,6 +203,9 @@ number-there (n ∷ ns) p (suc i) l h =
     ap (λ b. if b then 0 else suc (leaf_number ns p)) (h 0 (omega arith) ∙ zero-suc i)
     ∙ ap suc (number-there ns p i (omega (arith, l)) (λ j k. h (suc j) (omega (arith, k)) ∙ pred-same j i))
 
+passed-same : (i j : ℕ) → passes {X = Unit {0}} i ≡ passes j → i ≡ j
+passed-same i j e = cc
+
 module _ (s : Strategy) (apart : EachOnce (leaf_names s) (leaf_names s)) where
   pub number-of_leaf : (i : ℕ) → i < length (leaf_names s) → leaf_number (leaf_names s) (leaf_name s i) ≡ i
   number-of_leaf i l = number-there (leaf_names s) (leaf_name s i) i l (λ j k. names-apart (leaf_names s) i j apart l k)
@@ -214,10 +217,7 @@ module _ (s : Strategy) (apart : EachOnce (leaf_names s) (leaf_names s)) where
   entries-same i j q r k l a b n p m = ap (λ x. entry x q k) (same-number i j a b n) ∙ ap (λ x. entry j x k) p ∙ ap (entry j r) m
 
   passed-leaf : (p : Name) (q : Place) (l : ℕ) → kept s (telling (telling_kind p q (kinds.Kind.Passed l))).item ≡ item q (kind_view (kinds.Kind.Passed l)) → leaf_number (leaf_names s) p ≡ l
-  passed-leaf p q l h = from (ap (λ (x : Kept). x.kind) h)
-    where
-      from : passes (leaf_number (leaf_names s) p) ≡ passes l → leaf_number (leaf_names s) p ≡ l
-      from e = cc
+  passed-leaf p q l h = passed-same (leaf_number (leaf_names s) p) l (ap (λ (x : Kept). x.kind) h)
 
   tellings-same : (i j : ℕ) (q r : Place) (k l : kinds.Kind) → IsProper s (entry i q k) → IsProper s (entry j r l) → telling_kind (leaf_name s i) q k ≡ telling_kind (leaf_name s j) r l → entry i q k ≡ entry j r l
   tellings-same i j q r kinds.Kind.Job kinds.Kind.Job a b e = let n : leaf_name s i ≡ leaf_name s j = cc in let p : q ≡ r = cc in entries-same i j q r kinds.Kind.Job kinds.Kind.Job a.0 b.0 n p refl

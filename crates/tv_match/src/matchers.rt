@@ -1,4 +1,4 @@
-ghost use Rattle.std.specs.Prelude.{◌≡◌, ℕ, ◌<◌, ◌∷◌, [], length, OnOk, OnErr, IfSome, IsNone, IsOk, IsTrue, List};
+ghost use Rattle.std.specs.Prelude.{◌≡◌, ℕ, ◌+◌, ◌^◌, ◌<◌, ◌∷◌, [], length, OnOk, OnErr, IfSome, IsNone, IsOk, IsTrue, List};
 ghost use Rattle.tv_strategy.specs.Measures.{leaf_names};
 ghost use Rattle.tv_matching.specs.Told.{Told as Telling, arrival, close};
 ghost use Rattle.tv_matching.specs.Matchers.{HasGivenAll, CanTell, IsTold, Gives, IsFreed, leaf_name};
@@ -80,6 +80,7 @@ impl Matcher {
     fn is_next(&self, leaf: u32, place: &[u32], kind: Kind) -> bool
         ensures yes { IsTrue result → IsNext self.now (entry leaf place.now kind) }
         ensures no { IsNext self.now (entry leaf place.now kind) → IsTrue result }
+        ensures fits { IsTrue result → self.now.told + 1 < 2 ^ 64 }
     {
         self.told < self.log.len()
             && self.log.number(self.told) == leaf as usize
@@ -104,7 +105,7 @@ impl Matcher {
         take_back(&mut self.root, &mut self.log, &mut self.out, self.told);
         match work(&mut self.root, &mut self.log, &mut self.out, leaf, place, kind) {
             Ok(()) => {
-                self.told += 1;
+                self.told = self.log.len();
                 Ok(())
             }
             Err(error) => {
