@@ -1,13 +1,13 @@
 -- What the calls of a matcher leave.
 use Rattle.std.specs.Prelude.{IsPermutation}
-use Rattle.std.proofs.Common.{◌≡◌, ◌⊎◌, inl, inr, refl, ℕ, zero, suc, ◌+◌, ◌<◌, ◌≤◌, List, [], ◌∷◌, ◌++◌, map, length, take, drop, get_or, sym, ap, subst, ◌∙◌, arith, take-suc, length-append}
+use Rattle.std.proofs.Common.{◌≡◌, ◌⊎◌, inl, inr, refl, Bool, true, false, ℕ, zero, suc, ◌+◌, ◌<◌, ◌≤◌, List, [], ◌∷◌, ◌++◌, map, length, take, drop, get_or, sym, ap, subst, ◌∙◌, arith, take-suc, length-append}
 use Rattle.tv_value.specs.Values.{Name}
 use Rattle.tv_value.specs.Strategies.{Strategy}
 use Rattle.tv_strategy.specs.Conditions.{number_of}
 use Rattle.tv_strategy.specs.Sources.{Each}
 use Rattle.tv_matching.specs.Members.{Once}
-use Rattle.tv_matching.specs.Told.{Told, told_to, IsFit, IsNew}
-use Rattle.tv_matching.specs.Matchers.{Matching, CanTell, IsTold, IsFreed}
+use Rattle.tv_matching.specs.Told.{Told, told_to, matched_after, IsFit, IsNew}
+use Rattle.tv_matching.specs.Matchers.{Matching, Outcome, out as out_of, CanTell, IsTold, IsFreed, Gives}
 use Rattle.tv_matching.proofs.Lists.{map-append, each-append}
 use Rattle.tv_matching.proofs.Permutes.{perm-from}
 use Rattle.tv_matching.proofs.OfLaws.{new-is_once}
@@ -15,9 +15,9 @@ use Rattle.tv_match.specs.Entries.{Entry, no_entry, entry_at, front, AreMore, Ri
 use Rattle.tv_match.specs.Filed.{Filed}
 use Rattle.tv_match.specs.Working.{IsWorked, IsDone}
 use Rattle.tv_match.specs.Seen.{telling_of, tellings_of, outcome_of, seen_as, AreSound, IsProper}
-use Rattle.tv_match.proofs.Fronts.{front-first, front-short, front-again, front-longer, more-late}
+use Rattle.tv_match.proofs.Fronts.{early-in_front, front-first, front-short, front-again, front-longer, more-late}
 use Rattle.tv_match.proofs.Putting.{from-next, past}
-use Rattle.tv_match.proofs.Seeing.{telling-same}
+use Rattle.tv_match.proofs.Seeing.{telling-same, out-all}
 use Rattle.tv_match.proofs.Working.{take-less, take-length, take-within}
 
 each-take : {A : Type 0} (P : A → Type 0) (n : ℕ) (xs : List A) → Each P xs → Each P (take n xs)
@@ -148,7 +148,7 @@ module _ (s : Strategy) (mm : List (Name × ℕ)) where
 module _ (s : Strategy) (mm : List (Name × ℕ)) (root : Filed) (log out : List Entry) (n g : ℕ) (e : Entry) (a : AreSound s mm root log out n g) (p : IsProper s e) where
   -- it isn't the first that is held
   pub not-held : ((n < length log) × (entry_at log n ≡ e) → ⊥) → (rest : List Told) → tellings_of s (drop n log) ≡ telling_of s e ∷ rest → ⊥
-  not-held no rest h = by (lt_or n (length log))
+  not-held other rest h = by (lt_or n (length log))
     where
       lt_or : (i j : ℕ) → (i < j) ⊎ (j ≤ i)
       lt_or zero zero = inr (omega arith)
@@ -169,7 +169,7 @@ module _ (s : Strategy) (mm : List (Name × ℕ)) (root : Filed) (log out : List
       proper-at (f ∷ es) (suc i) h l = proper-at es i h.1 (omega (arith, l))
 
       by : (n < length log) ⊎ (length log ≤ n) → ⊥
-      by (inl l) = no (l, telling-same s a.suits.leaves_differ (entry_at log n) e (proper-at log n a.proper l) p (held-head s mm log n (telling_of s e) rest l h))
+      by (inl l) = other (l, telling-same s a.suits.leaves_differ (entry_at log n) e (proper-at log n a.proper l) p (held-head s mm log n (telling_of s e) rest l h))
       by (inr l) = held-there s mm log n (telling_of s e) rest l h
 
   module _ (one : Filed) (d : IsDone s one (take n log) (front n out)) where
@@ -252,3 +252,44 @@ first-long n a log h e = let k = ap length e in let l = take-length n log h in o
 
 pub listed-count : (n : ℕ) (log more : List Entry) (e : Entry) → n ≤ length log → more ≡ take n log ++ e ∷ [] → length more ≡ n + 1
 listed-count n log more e h m = let k = ap length m in let j = length-append (take n log) (e ∷ []) in let l = take-length n log h in omega (arith, k, j, l)
+
+pub clash : (b : Bool) → b ≡ true → b ≡ false → ⊥
+clash true e f = absurd (cc)
+clash false e f = absurd (cc)
+
+-- ---- what has come out
+
+module _ (s : Strategy) (mm : List (Name × ℕ)) (root : Filed) (log out : List Entry) (n g : ℕ) (a : AreSound s mm root log out n g) where
+  pub gave-all : length (front n out) ≤ g → IsPermutation (map outcome_of (take g out)) (map (out_of s) (matched_after s (tellings_of s (take n log))))
+  gave-all h =
+      let l = a.given_within in
+      let e : g ≡ length (front n out) = omega (arith, h, l) in
+      subst (λ xs. IsPermutation (map outcome_of xs) (map (out_of s) (matched_after s (tellings_of s (take n log))))) (sym (ap (λ k. take k out) e ∙ front-first n out))
+      (out-all s a.suits.leaves_differ (take n log) (front n out) (each-take (IsProper s) n log a.proper) (a.done.worked.items n a.told_within))
+
+  -- the next one comes out
+  pub given-sound : g < length out → (entry_at out g).number ≤ n → AreSound s mm root log out n (g + 1)
+  given-sound h k =
+      record {
+        suits = a.suits;
+        agree = a.agree;
+        fit = a.fit;
+        once = a.once;
+        proper = a.proper;
+        done = a.done;
+        told_within = a.told_within;
+        given_within = let l = early-in_front n out g h k in omega (arith, l);
+      }
+
+  pub given-next : (o : Outcome) → g < length out → outcome_of (entry_at out g) ≡ o → Gives o (seen_as s mm log out n g) (seen_as s mm log out n (g + 1))
+  given-next o h e = record { strategy_is = refl; mismatch_is = refl; told_is = refl; held_is = refl; given_is = one-more-out }
+    where
+      plus : (i : ℕ) → i + 1 ≡ suc i
+      plus i = omega arith
+
+      one-more-out : map outcome_of (take (g + 1) out) ≡ map outcome_of (take g out) ++ o ∷ []
+      one-more-out =
+          ap (λ k. map outcome_of (take k out)) (plus g)
+          ∙ ap (map outcome_of) (take-suc out g no_entry h)
+          ∙ map-append outcome_of (take g out) (entry_at out g ∷ [])
+          ∙ ap (λ x. map outcome_of (take g out) ++ x ∷ []) e

@@ -12,7 +12,7 @@ use Rattle.tv_strategy.specs.Conditions.{times, EachOnce, Suits}
 use Rattle.tv_strategy.specs.Measures.{leaf_names}
 use Rattle.tv_strategy.specs.Sources.{Each}
 use Rattle.tv_strategy.proofs.OfPlaces.{same-equal, same-itself}
-use Rattle.tv_matching.specs.Items.{item, if_so, passes}
+use Rattle.tv_matching.specs.Items.{Kind, item, if_so, passes}
 use Rattle.tv_matching.specs.Matched.{matched, one_end}
 use Rattle.tv_matching.specs.Told.{Told, telling, told_to, matched_after}
 use Rattle.tv_matching.specs.Matchers.{Outcome, Kept, kept, kept_of, kept_out, leaf_name, leaf_number, out}
@@ -203,7 +203,10 @@ number-there (n ∷ ns) p (suc i) l h =
     ap (λ b. if b then 0 else suc (leaf_number ns p)) (h 0 (omega arith) ∙ zero-suc i)
     ∙ ap suc (number-there ns p i (omega (arith, l)) (λ j k. h (suc j) (omega (arith, k)) ∙ pred-same j i))
 
-passed-same : (i j : ℕ) → passes {X = Unit {0}} i ≡ passes j → i ≡ j
+abbrev passed : ℕ → Kind (Unit {0}) ℕ
+passed n = passes n
+
+passed-same : (i j : ℕ) → passed i ≡ passed j → i ≡ j
 passed-same i j e = cc
 
 module _ (s : Strategy) (apart : EachOnce (leaf_names s) (leaf_names s)) where

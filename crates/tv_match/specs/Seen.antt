@@ -91,3 +91,10 @@ IsSound m = AreSound (strategy_view m.tree) m.mismatch (filed m.root) m.log m.ou
 -- the next held telling is this one
 abbrev pub IsNext : Matcher → Entry → Type 0
 IsNext m e = (m.told < length m.log) × (entry_at m.log m.told ≡ e)
+
+-- something has not come out yet, and this is next
+abbrev pub HasMore : Matcher → Type 0
+HasMore m = (m.given < length m.out) × ((entry_at m.out m.given).number ≤ m.told)
+
+abbrev pub next_out : Matcher → Outcome
+next_out m = outcome_of (entry_at m.out m.given)

@@ -28,7 +28,7 @@ pub struct Matcher {
 
 impl Matcher {
     ghost use Rattle.tv_value.specs.Views.{strategy_view};
-    ghost use Rattle.tv_match.specs.Seen.{matching, IsSound, IsProper, IsNext, telling_of, outcome_kind};
+    ghost use Rattle.tv_match.specs.Seen.{matching, IsSound, IsProper, IsNext, HasMore, telling_of, outcome_kind, next_out};
 
     /// A bound value has arrived, or a fault on the way there.
     ///
@@ -64,15 +64,28 @@ impl Matcher {
         self.tell(leaf, place.as_slice(), Kind::Closed(length))
     }
 
-    /// The next thing that has not come out yet: its place and its kind. Takes no memory.
+    /// The place and the kind of what comes out next, if something has not come out yet. Takes no memory.
     pub fn first(&self) -> Option<(&[u32], Kind)>
         requires { IsSound self.now }
+        ensures some { IfSome result (λ x. HasMore self.now × (next_out self.now ≡ outcome_kind x.0.now x.1)) }
         ensures none { IsNone result → HasGivenAll (matching self.now) }
     {
         if self.given < self.out.len() && self.out.number(self.given) <= self.told {
             Some((self.out.place(self.given), self.out.kind(self.given)))
         } else {
             None
+        }
+    }
+
+    /// Takes out what comes out next, as `first` tells it. Takes no memory.
+    pub fn pass(&mut self)
+        requires sound { IsSound self.old }
+        requires more { HasMore self.old }
+        ensures gives { Gives (next_out self.old) (matching self.old) (matching self.new) }
+        ensures sound { IsSound self.new }
+    {
+        if self.given < self.out.len() {
+            self.given += 1;
         }
     }
 

@@ -5,11 +5,11 @@ use Rattle.tv_match.specs.Entries.{entry, entry_at, front, AreMore}
 use Rattle.tv_match.specs.Filed.{filed}
 use Rattle.tv_match.specs.Seen.{telling_of, seen_as, AreSound}
 use Rattle.tv_match.specs.Working.{IsDone}
-use Rattle.tv_match.proofs.Calls.{next-sound, not-held, made-sound, made-told, failed-sound, failed-freed, done-at, more-at, listed-at, listed-long, first-long, listed-count}
+use Rattle.tv_match.proofs.Calls.{next-sound, not-held, made-sound, made-told, failed-sound, failed-freed, done-at, more-at, listed-at, listed-long, first-long, listed-count, clash}
 use Rattle.tv_match.proofs.matchers.Matcher.tell.Goals as goal
 
 pub overflow_add-self : goal.overflow_add-self
-overflow_add-self c = c.is_next.ensures.fits c.if-is_next.true
+overflow_add-self c = let h = c.is_next.ensures.fits c.if-is_next.true in omega (arith, h)
 
 pub returns-then-is_next-clause-sound : goal.returns-then-is_next-clause-sound
 returns-then-is_next-clause-sound c =
@@ -31,7 +31,7 @@ returns-in-Ok-clause-ok c =
     let b = more-at mid.log mid.out (take m.told m.log) (front m.told m.out) c.work.new.out lg og c.work.ensures.more in
     let k : c.work.new.log ≡ take m.told m.log ++ e ∷ [] = c.in-Ok.ensures.log ∙ ap (λ l. l ++ e ∷ []) lg in
     let done : IsDone s (filed c.work.new.root) c.work.new.log c.work.new.out = c.in-Ok.ensures.done s d0 in
-    let count = c.len.ensures ∙ listed-count m.told m.log c.work.new.log e a.told_within k in
+    let count = c.len-self.ensures ∙ listed-count m.told m.log c.work.new.log e a.told_within k in
     subst (λ j. IsTold (telling_of s e) (seen_as s m.mismatch m.log m.out m.told m.given) (seen_as s m.mismatch c.work.new.log c.work.new.out j m.given)) (sym count)
     (made-told s m.mismatch (filed m.root) m.log m.out m.told m.given e a c.requires.proper (filed mid.root) d (filed c.work.new.root) c.work.new.log c.work.new.out k b done c.requires.new)
 
@@ -49,14 +49,14 @@ returns-in-Ok-clause-sound c =
     let b = more-at mid.log mid.out (take m.told m.log) (front m.told m.out) c.work.new.out lg og c.work.ensures.more in
     let k : c.work.new.log ≡ take m.told m.log ++ e ∷ [] = c.in-Ok.ensures.log ∙ ap (λ l. l ++ e ∷ []) lg in
     let done : IsDone s (filed c.work.new.root) c.work.new.log c.work.new.out = c.in-Ok.ensures.done s d0 in
-    let count = c.len.ensures ∙ listed-count m.told m.log c.work.new.log e a.told_within k in
+    let count = c.len-self.ensures ∙ listed-count m.told m.log c.work.new.log e a.told_within k in
     subst (λ j. AreSound s m.mismatch (filed c.work.new.root) c.work.new.log c.work.new.out j m.given) (sym count)
     (made-sound s m.mismatch (filed m.root) m.log m.out m.told m.given e a c.requires.proper (filed mid.root) d (filed c.work.new.root) c.work.new.log c.work.new.out k b done c.requires.new)
 
 pub returns-in-Ok-clause-held : goal.returns-in-Ok-clause-held
 returns-in-Ok-clause-held c rest h =
     let m = c.args.self.now in
-    absurd (not-held (strategy_view m.tree) m.mismatch (filed m.root) m.log m.out m.told m.given (entry c.args.leaf c.args.place.now c.args.kind) c.requires.sound c.requires.proper ? rest h)
+    absurd (not-held (strategy_view m.tree) m.mismatch (filed m.root) m.log m.out m.told m.given (entry c.args.leaf c.args.place.now c.args.kind) c.requires.sound c.requires.proper (λ x. clash c.is_next.result (c.is_next.ensures.no x) c.if-is_next.false) rest h)
 
 pub returns-in-Err-clause-refused : goal.returns-in-Err-clause-refused
 returns-in-Err-clause-refused c =
@@ -95,4 +95,4 @@ returns-in-Err-clause-sound c =
 pub returns-in-Err-clause-held : goal.returns-in-Err-clause-held
 returns-in-Err-clause-held c rest h =
     let m = c.args.self.now in
-    absurd (not-held (strategy_view m.tree) m.mismatch (filed m.root) m.log m.out m.told m.given (entry c.args.leaf c.args.place.now c.args.kind) c.requires.sound c.requires.proper ? rest h)
+    absurd (not-held (strategy_view m.tree) m.mismatch (filed m.root) m.log m.out m.told m.given (entry c.args.leaf c.args.place.now c.args.kind) c.requires.sound c.requires.proper (λ x. clash c.is_next.result (c.is_next.ensures.no x) c.if-is_next.false) rest h)
