@@ -15,7 +15,7 @@ use Rattle.tv_match.specs.declared.kinds.Kind as kinds
 use Rattle.tv_match.specs.declared.told.Told as code
 use Rattle.tv_match.specs.declared.told.Matched as coded
 use Rattle.tv_match.specs.declared.matchers.Matcher.{Matcher}
-use Rattle.tv_match.specs.Entries.{Entry, entry_at, kept_entry, front}
+use Rattle.tv_match.specs.Entries.{Entry, entry, entry_at, kept_entry, front}
 use Rattle.tv_match.specs.Filed.{Filed, filed}
 use Rattle.tv_match.specs.Working.{IsDone}
 
@@ -98,3 +98,9 @@ HasMore m = (m.given < length m.out) × ((entry_at m.out m.given).number ≤ m.t
 
 abbrev pub next_out : Matcher → Outcome
 next_out m = outcome_of (entry_at m.out m.given)
+
+-- how a telling is listed
+abbrev pub entry_of : code.Told → Entry
+entry_of (code.Told.Arrival l q false) = entry l q kinds.Kind.Job
+entry_of (code.Told.Arrival l q true) = entry l q (kinds.Kind.Passed l)
+entry_of (code.Told.Close l q n) = entry l q (kinds.Kind.Closed n)

@@ -2,9 +2,11 @@
 #![tactic(auto)]
 
 mod bags;
+mod building;
 mod found;
 mod joins;
 mod kinds;
+mod listing;
 mod matchers;
 mod steps;
 mod stores;
