@@ -20,7 +20,7 @@ use Rattle.tv_match.proofs.Putting.{from-next, past}
 use Rattle.tv_match.proofs.Seeing.{telling-same, out-all}
 use Rattle.tv_match.proofs.Working.{take-less, take-length, take-within}
 
-each-take : {A : Type 0} (P : A → Type 0) (n : ℕ) (xs : List A) → Each P xs → Each P (take n xs)
+pub each-take : {A : Type 0} (P : A → Type 0) (n : ℕ) (xs : List A) → Each P xs → Each P (take n xs)
 each-take P zero xs h = tt
 each-take P (suc n) [] h = tt
 each-take P (suc n) (x ∷ xs) h = (h.0, each-take P n xs h.1)

@@ -7,4 +7,7 @@ pub mod Filing
 pub mod Working
 pub mod Seeing
 pub mod Calls
-
+pub mod Builds
+pub mod Ahead
+pub mod Reserves
+pub mod Begins

@@ -38,3 +38,23 @@ fn work_told(
         } => work(root, log, out, *leaf, place.as_slice(), Kind::Closed(*length)),
     }
 }
+
+/// Works tellings, one after the other. Where memory is wanting some of them are worked.
+pub fn work_all(
+    root: &mut Store,
+    log: &mut Bag,
+    out: &mut Bag,
+    tolds: &[Told],
+) -> Result<(), NoMemory>
+    ensures log { OnOk result (log.new ≡ log.old ++ map entry_of tolds.now) }
+    ensures done { OnOk result ((s : Strategy) → IsDone s (filed root.old) log.old out.old → IsDone s (filed root.new) log.new out.new) }
+    ensures still { (s : Strategy) → IsDone s (filed root.old) log.old out.old → IsWorked s (length log.old) (filed root.new) log.new out.new × Rise out.new }
+    ensures listed { take (length log.old) log.new ≡ log.old }
+    ensures front { (k : ℕ) → k ≤ length log.old → front k out.new ≡ front k out.old }
+    ensures grows { length out.old ≤ length out.new }
+{
+    for told in tolds {
+        work_told(root, log, out, told)?;
+    }
+    Ok(())
+}

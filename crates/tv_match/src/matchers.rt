@@ -1,14 +1,19 @@
-ghost use Rattle.std.specs.Prelude.{◌≡◌, ℕ, ◌+◌, ◌^◌, ◌<◌, ◌∷◌, [], length, OnOk, OnErr, IfSome, IsNone, IsOk, IsTrue, List};
-ghost use Rattle.tv_strategy.specs.Measures.{leaf_names};
-ghost use Rattle.tv_matching.specs.Told.{Told as Telling, arrival, close};
-ghost use Rattle.tv_matching.specs.Matchers.{HasGivenAll, CanTell, IsTold, Gives, IsFreed, leaf_name};
+ghost use Rattle.std.specs.Prelude.{◌≡◌, ℕ, ◌+◌, ◌^◌, ◌<◌, ◌∷◌, [], length, map, IfOk, OnOk, OnErr, IfSome, IsNone, IsOk, IsTrue, List};
+ghost use Rattle.tv_strategy.specs.Measures.{DotsAgree, leaf_names};
+ghost use Rattle.tv_strategy.specs.Conditions.{Suits, number_of};
+ghost use Rattle.tv_matching.specs.Told.{Told as Telling, arrival, close, count_of_added};
+ghost use Rattle.tv_matching.specs.Matchers.{HasGivenAll, CanTell, CanTellAll, Starts, Holds, IsTold, Gives, IsFreed, leaf_name};
 ghost use Rattle.tv_match.specs.Entries.{entry};
 
 use crate::bags::Bag;
+use crate::building::build;
 use crate::kinds::Kind;
+use crate::listing::work_all;
 use crate::steps::{take_back, work};
-use crate::stores::Store;
-use tv_value::{Depths, NoMemory, Place, Tree};
+use crate::stores::{News, Store};
+use crate::told::Tolds;
+use std::alloc::Global;
+use tv_value::{Copied, Depths, NoMemory, Place, Tree};
 
 /// The iteration of a strategy, as far as its leaves were told.
 #[derive(Drop)]
@@ -28,7 +33,60 @@ pub struct Matcher {
 
 impl Matcher {
     ghost use Rattle.tv_value.specs.Views.{strategy_view};
-    ghost use Rattle.tv_match.specs.Seen.{matching, IsSound, IsProper, IsNext, HasMore, telling_of, outcome_kind, next_out};
+    ghost use Rattle.tv_match.specs.Seen.{told_view, NameLeaves, matching, IsSound, IsProper, IsNext, HasMore, telling_of, outcome_kind, next_out};
+
+    /// A matcher that was told nothing. What follows from nothing, a job where the strategy has no leaf, is still to come out.
+    ///
+    /// Linear in the strategy and the numbers.
+    pub fn start(alloc: Global, tree: &Tree, mismatch: &Depths) -> Result<Matcher, NoMemory>
+        requires suits { Suits mismatch.now (strategy_view tree.now) }
+        requires agree { DotsAgree (number_of mismatch.now) (strategy_view tree.now) }
+        ensures ok { IfOk result (λ m. Starts (strategy_view tree.now) mismatch.now (matching m)) }
+        ensures sound { IfOk result (λ m. IsSound m) }
+    {
+        let built = build(alloc, tree, 0)?;
+        let mut root = built.store;
+        let mut out = Bag::new(alloc);
+        let news = News {
+            leaf: None,
+            place: &[],
+            kind: Kind::Job,
+            number: 0,
+        };
+        root.tell(&news, &mut out)?;
+        Ok(Matcher {
+            tree: tree.copy(alloc)?,
+            mismatch: mismatch.copy(alloc)?,
+            root,
+            log: Bag::new(alloc),
+            out,
+            told: 0,
+            given: 0,
+        })
+    }
+
+    /// Takes all the room that these tellings need, and answers how many things will come out for them.
+    ///
+    /// It works them ahead, so that each is then made in constant time. What was held before is let go.
+    pub fn reserve(&mut self, told: &Tolds) -> Result<u64, NoMemory>
+        requires sound { IsSound self.old }
+        requires leaves { NameLeaves (matching self.old).strategy told.now }
+        requires new { CanTellAll (matching self.old) (map (told_view (matching self.old).strategy) told.now) }
+        ensures ok { OnOk result (Holds (map (told_view (matching self.old).strategy) told.now) (matching self.old) (matching self.new)) }
+        ensures count { IfOk result (λ n. n ≡ count_of_added (matching self.old).strategy (matching self.old).told (map (told_view (matching self.old).strategy) told.now)) }
+        ensures refused { OnErr result (IsFreed (matching self.old) (matching self.new)) }
+        ensures sound { IsSound self.new }
+    {
+        take_back(&mut self.root, &mut self.log, &mut self.out, self.told);
+        let before = self.out.len();
+        match work_all(&mut self.root, &mut self.log, &mut self.out, told.as_slice()) {
+            Ok(()) => Ok((self.out.len() - before) as u64),
+            Err(error) => {
+                take_back(&mut self.root, &mut self.log, &mut self.out, self.told);
+                Err(error)
+            }
+        }
+    }
 
     /// A bound value has arrived, or a fault on the way there.
     ///
