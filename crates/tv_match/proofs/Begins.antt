@@ -47,3 +47,10 @@ module _ (s : Strategy) (mm : List (Name × ℕ)) (empty root : Filed) (out : Li
 
   pub start-starts : Starts s mm (seen_as s mm [] out 0 0)
   start-starts = record { strategy_is = refl; mismatch_is = refl; told_is = refl; held_is = refl; given_is = refl }
+
+pub sound-at : (s t : Strategy) (mm nn : List (Name × ℕ)) (root : Filed) (log out : List Entry) → t ≡ s → nn ≡ mm → log ≡ [] → AreSound s mm root [] out 0 0 → AreSound t nn root log out 0 0
+sound-at s t mm nn root log out e f g h =
+    subst (λ x. AreSound x nn root log out 0 0) (sym e) (subst (λ x. AreSound s x root log out 0 0) (sym f) (subst (λ x. AreSound s mm root x out 0 0) (sym g) h))
+
+pub more-of : (xs out : List Entry) → xs ≡ [] → AreMore 0 xs out → AreMore 0 [] out
+more-of xs out e h = subst (λ x. AreMore 0 x out) e h

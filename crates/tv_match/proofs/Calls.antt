@@ -293,3 +293,16 @@ module _ (s : Strategy) (mm : List (Name × ℕ)) (root : Filed) (log out : List
           ∙ ap (map outcome_of) (take-suc out g no_entry h)
           ∙ map-append outcome_of (take g out) (entry_at out g ∷ [])
           ∙ ap (λ x. map outcome_of (take g out) ++ x ∷ []) e
+
+-- ---- where what was held is let go
+
+pub freed-at : (s : Strategy) (mm : List (Name × ℕ)) (root : Filed) (log out log' out' : List Entry) (n g : ℕ) → AreSound s mm root log out n g → log' ≡ take n log → out' ≡ front n out → IsFreed (seen_as s mm log out n g) (seen_as s mm log' out' n g)
+freed-at s mm root log out log' out' n g a k o =
+    subst (λ x. IsFreed (seen_as s mm log out n g) (seen_as s mm x out' n g)) (sym k)
+    (subst (λ x. IsFreed (seen_as s mm log out n g) (seen_as s mm (take n log) x n g)) (sym o) (back-freed s mm root root log out n g a))
+
+pub back-log : (n : ℕ) (log mid more : List Entry) → n ≤ length log → mid ≡ take n log → take (length mid) more ≡ mid → take n more ≡ take n log
+back-log n log mid more h e l = ap (λ i. take i more) (sym (ap length e ∙ take-length n log h)) ∙ l ∙ e
+
+pub back-out : (n : ℕ) (out mid outs : List Entry) → mid ≡ front n out → front n outs ≡ front n mid → front n outs ≡ front n out
+back-out n out mid outs e f = f ∙ ap (front n) e ∙ front-again n out
