@@ -150,11 +150,10 @@ rise-both [] fs r s h = s
 rise-both (e ∷ es) fs r s h = (each-append (λ f. e.number ≤ f.number) es fs r.0 h.0, rise-both es fs r.1 s h.1)
 
 pub more-rise : (n : ℕ) (es fs : List Entry) → Rise es → Each (λ e. e.number ≤ n) es → AreMore n es fs → Rise fs × Each (λ e. e.number ≤ n) fs
-more-rise n es fs r h m =
-    (
-      subst Rise (sym m.new_is) (rise-both es m.more r (rise-of n m.more m.are_of) (each-weaken (λ e. e.number ≤ n) (λ e. Each (λ f. e.number ≤ f.number) m.more) (λ e i. each-weaken (λ f. f.number ≡ n) (λ f. e.number ≤ f.number) (λ f j. omega (arith, i, j)) m.more m.are_of) es h)),
-      subst (Each (λ e. e.number ≤ n)) (sym m.new_is) (each-append (λ e. e.number ≤ n) es m.more h (each-weaken (λ f. f.number ≡ n) (λ f. f.number ≤ n) (λ f j. omega (arith, j)) m.more m.are_of)),
-    )
+more-rise n es fs r h m = (
+  subst Rise (sym m.new_is) (rise-both es m.more r (rise-of n m.more m.are_of) (each-weaken (λ e. e.number ≤ n) (λ e. Each (λ f. e.number ≤ f.number) m.more) (λ e i. each-weaken (λ f. f.number ≡ n) (λ f. e.number ≤ f.number) (λ f j. omega (arith, i, j)) m.more m.are_of) es h)),
+  subst (Each (λ e. e.number ≤ n)) (sym m.new_is) (each-append (λ e. e.number ≤ n) es m.more h (each-weaken (λ f. f.number ≡ n) (λ f. f.number ≤ n) (λ f j. omega (arith, j)) m.more m.are_of)),
+)
 
 -- a front of numbers that rise has early ones alone
 pub front-rise : (n : ℕ) (es : List Entry) → Rise es → Rise (front n es) × Each (λ e. e.number ≤ n) (front n es)

@@ -13,12 +13,7 @@ use crate::told::Told;
 use tv_value::NoMemory;
 
 /// Works a telling.
-fn work_told(
-    root: &mut Store,
-    log: &mut Bag,
-    out: &mut Bag,
-    told: &Told,
-) -> Result<(), NoMemory>
+fn work_told(root: &mut Store, log: &mut Bag, out: &mut Bag, told: &Told) -> Result<(), NoMemory>
     ensures log { OnOk result (log.new ≡ log.old ++ entry_of told.now ∷ []) }
     ensures done { OnOk result ((s : Strategy) → IsDone s (filed root.old) log.old out.old → IsDone s (filed root.new) log.new out.new) }
     ensures still { (s : Strategy) → IsDone s (filed root.old) log.old out.old → IsWorked s (length log.old) (filed root.new) log.new out.new × Rise out.new }
@@ -28,14 +23,25 @@ fn work_told(
 {
     match told {
         Told::Arrival { leaf, place, fault } => {
-            let kind = if *fault { Kind::Passed(*leaf) } else { Kind::Job };
+            let kind = if *fault {
+                Kind::Passed(*leaf)
+            } else {
+                Kind::Job
+            };
             work(root, log, out, *leaf, place.as_slice(), kind)
         }
         Told::Close {
             leaf,
             place,
             length,
-        } => work(root, log, out, *leaf, place.as_slice(), Kind::Closed(*length)),
+        } => work(
+            root,
+            log,
+            out,
+            *leaf,
+            place.as_slice(),
+            Kind::Closed(*length),
+        ),
     }
 }
 

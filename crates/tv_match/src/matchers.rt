@@ -79,7 +79,12 @@ impl Matcher {
     {
         take_back(&mut self.root, &mut self.log, &mut self.out, self.told);
         let before = self.out.len();
-        match work_all(&mut self.root, &mut self.log, &mut self.out, told.as_slice()) {
+        match work_all(
+            &mut self.root,
+            &mut self.log,
+            &mut self.out,
+            told.as_slice(),
+        ) {
             Ok(()) => Ok((self.out.len() - before) as u64),
             Err(error) => {
                 take_back(&mut self.root, &mut self.log, &mut self.out, self.told);
@@ -174,7 +179,14 @@ impl Matcher {
             return Ok(());
         }
         take_back(&mut self.root, &mut self.log, &mut self.out, self.told);
-        match work(&mut self.root, &mut self.log, &mut self.out, leaf, place, kind) {
+        match work(
+            &mut self.root,
+            &mut self.log,
+            &mut self.out,
+            leaf,
+            place,
+            kind,
+        ) {
             Ok(()) => {
                 self.told = self.log.len();
                 Ok(())

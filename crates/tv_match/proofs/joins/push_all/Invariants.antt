@@ -1,5 +1,4 @@
 use Rattle.std.proofs.Common.{[], ◌∷◌}
-
 use Rattle.tv_match.proofs.Putting.{Puts}
 use Rattle.tv_match.proofs.joins.push_all.Given as goal
 
