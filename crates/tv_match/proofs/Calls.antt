@@ -4,6 +4,7 @@ use Rattle.std.proofs.Common.{◌≡◌, ◌⊎◌, inl, inr, refl, Bool, true, 
 use Rattle.tv_value.specs.Values.{Name}
 use Rattle.tv_value.specs.Strategies.{Strategy}
 use Rattle.tv_strategy.specs.Conditions.{number_of}
+use Rattle.tv_strategy.specs.Measures.{strategy_depth}
 use Rattle.tv_strategy.specs.Sources.{Each}
 use Rattle.tv_matching.specs.Members.{Once}
 use Rattle.tv_matching.specs.Told.{Told, told_to, matched_after, IsFit, IsNew}
@@ -17,7 +18,7 @@ use Rattle.tv_match.specs.Working.{IsWorked, IsDone}
 use Rattle.tv_match.specs.Seen.{telling_of, tellings_of, outcome_of, seen_as, AreSound, IsProper}
 use Rattle.tv_match.proofs.Fronts.{early-in_front, front-first, front-short, front-again, front-longer, more-late}
 use Rattle.tv_match.proofs.Putting.{from-next, past}
-use Rattle.tv_match.proofs.Seeing.{telling-same, out-all}
+use Rattle.tv_match.proofs.Seeing.{telling-same, out-all, places-short}
 use Rattle.tv_match.proofs.Working.{take-less, take-length, take-within}
 
 pub each-take : {A : Type 0} (P : A → Type 0) (n : ℕ) (xs : List A) → Each P xs → Each P (take n xs)
@@ -306,3 +307,22 @@ back-log n log mid more h e l = ap (λ i. take i more) (sym (ap length e ∙ tak
 
 pub back-out : (n : ℕ) (out mid outs : List Entry) → mid ≡ front n out → front n outs ≡ front n mid → front n outs ≡ front n out
 back-out n out mid outs e f = f ∙ ap (front n) e ∙ front-again n out
+
+-- ---- the place of what comes out
+
+module _ (s : Strategy) (mm : List (Name × ℕ)) (root : Filed) (log out : List Entry) (n g : ℕ) (a : AreSound s mm root log out n g) where
+  taken-at : (k : ℕ) (es : List Entry) (i : ℕ) → i < k → entry_at (take k es) i ≡ entry_at es i
+  taken-at zero es i h = absurd (none i h)
+    where
+      none : (i : ℕ) → i < 0 → ⊥
+      none i h = omega arith
+  taken-at (suc k) [] i h = refl
+  taken-at (suc k) (e ∷ es) zero h = refl
+  taken-at (suc k) (e ∷ es) (suc i) h = taken-at k es i (omega (arith, h))
+
+  pub next-short : g < length out → (entry_at out g).number ≤ n → length (entry_at out g).place ≤ strategy_depth (number_of mm) s
+  next-short h k =
+      let l = early-in_front n out g h k in
+      let at : entry_at (front n out) g ≡ entry_at out g = ap (λ es. entry_at es g) (sym (front-first n out)) ∙ taken-at (length (front n out)) out g l in
+      subst (λ (e : Entry). length e.place ≤ strategy_depth (number_of mm) s) at
+      (places-short s (number_of mm) a.suits.leaves_differ (take n log) (front n out) (each-take (IsProper s) n log a.proper) a.fit a.once a.agree (a.done.worked.items n a.told_within) g l)

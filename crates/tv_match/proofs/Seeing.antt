@@ -9,20 +9,23 @@ use Rattle.tv_value.specs.Values.{Name}
 use Rattle.tv_value.specs.Orders.{same_name}
 use Rattle.tv_value.specs.Strategies.{Strategy}
 use Rattle.tv_strategy.specs.Conditions.{times, EachOnce, Suits}
-use Rattle.tv_strategy.specs.Measures.{leaf_names}
+use Rattle.tv_strategy.specs.Measures.{DotsAgree, leaf_names, strategy_depth}
 use Rattle.tv_strategy.specs.Sources.{Each}
 use Rattle.tv_strategy.proofs.OfPlaces.{same-equal, same-itself}
-use Rattle.tv_matching.specs.Items.{Kind, item, if_so, passes}
+use Rattle.tv_matching.specs.Items.{Kind, Item, ends, closes, passes, item, if_so}
+use Rattle.tv_matching.specs.Levels.{KindAt}
+use Rattle.tv_matching.specs.Members.{Once}
 use Rattle.tv_matching.specs.Matched.{matched, one_end}
-use Rattle.tv_matching.specs.Told.{Told, telling, told_to, matched_after}
+use Rattle.tv_matching.specs.Told.{Spot, Told, telling, told_to, matched_after, IsFit}
 use Rattle.tv_matching.specs.Matchers.{Outcome, Kept, kept, kept_of, kept_out, leaf_name, leaf_number, out}
 use Rattle.tv_matching.specs.Stores.{store_for, AreNumbered, items, told_by_all, worked_items}
-use Rattle.tv_matching.proofs.Lists.{map-append, map-if}
+use Rattle.tv_matching.proofs.Lists.{map-append, map-if, each-map, each-weaken}
+use Rattle.tv_matching.proofs.OfMembers.{each-permutes}
 use Rattle.tv_matching.proofs.OfStores.{items-none}
-use Rattle.tv_matching.proofs.OfLaws.{store-is_matched, store-starts, store-works}
+use Rattle.tv_matching.proofs.OfLaws.{matches-once, store-is_matched, store-starts, store-works}
 use Rattle.tv_matching.proofs.Bared.{kept-is_enough}
 use Rattle.tv_match.specs.declared.kinds.Kind as kinds
-use Rattle.tv_match.specs.Entries.{Entry, entry, kept_entry, kepts, kind_view}
+use Rattle.tv_match.specs.Entries.{Entry, entry, entry_at, kept_entry, kepts, kind_view}
 use Rattle.tv_match.specs.Working.{unit_news, news_of, news_to}
 use Rattle.tv_match.specs.Seen.{telling_kind, telling_of, outcome_of, outcome_kind, IsProper}
 
@@ -248,3 +251,29 @@ module _ (s : Strategy) (apart : EachOnce (leaf_names s) (leaf_names s)) where
 
   pub fault-proper : (i : ℕ) (q : Place) → i < length (leaf_names s) → IsProper s (entry i q (kinds.Kind.Passed i))
   fault-proper i q l = (l, ap (λ k. item q (passes k)) (number-of_leaf i l))
+
+-- ---- no place is longer than the strategy is deep
+
+kind-short : (d : ℕ) (x : Item Spot Spot) → KindAt d x.place x.kind → length x.place ≤ d
+kind-short d x h = by x.kind h
+  where
+    by : (k : Kind Spot Spot) → KindAt d x.place k → length x.place ≤ d
+    by (ends b) h = omega (arith, h)
+    by (closes n) h = omega (arith, h)
+    by (passes f) h = omega (arith, h)
+
+entry-of : (P : Kept → Type 0) (es : List Entry) (i : ℕ) → Each P (kepts es) → i < length es → P (kept_entry (entry_at es i))
+entry-of P [] i h l = absurd (no-less i l)
+entry-of P (e ∷ es) zero h l = h.0
+entry-of P (e ∷ es) (suc i) h l = entry-of P es i h.1 (omega (arith, l))
+
+pub places-short : (s : Strategy) (mismatch : Name → ℕ) (apart : EachOnce (leaf_names s) (leaf_names s)) (es xs : List Entry) → Each (IsProper s) es → Each (IsFit mismatch) (map (telling_of s) es) → ((p : Name) → Once (told_to (map (telling_of s) es) p)) → DotsAgree mismatch s → kepts xs ≡ worked_items (store_for 0 s) (unit_news ∷ map news_of es) → (i : ℕ) → i < length xs → length (entry_at xs i).place ≤ strategy_depth mismatch s
+places-short s mismatch apart es xs proper fit once agree e i l =
+    let d = strategy_depth mismatch s in
+    let short : Kept → Type 0 = λ y. length y.place ≤ d in
+    let ts = map (telling_of s) es in
+    let leveled = (matches-once mismatch ts fit once s agree).1 in
+    let there : Each (λ (x : Item Spot Spot). length x.place ≤ d) (matched_after s ts) = each-weaken (λ (x : Item Spot Spot). KindAt d x.place x.kind) (λ (x : Item Spot Spot). length x.place ≤ d) (kind-short d) (matched_after s ts) leveled in
+    let kept_there : Each short (matched (kept_of s ts) s) = subst (Each short) (sym (kept-is_enough s ts).0) (each-map short (kept s) (matched_after s ts) there) in
+    let all : Each short (worked_items (store_for 0 s) (unit_news ∷ map news_of es)) = each-permutes short (matched (kept_of s ts) s) _ (IsPermutation-sym _ _ (worked-matched s apart es proper)) kept_there in
+    entry-of short xs i (subst (Each short) (sym e) all) l

@@ -13,6 +13,7 @@ use Rattle.tv_matching.specs.Told as spec
 use Rattle.tv_matching.specs.Matchers.{Outcome, job_at, list_at, fault_at, Matching, leaf_name, kept}
 use Rattle.tv_match.specs.declared.kinds.Kind as kinds
 use Rattle.tv_match.specs.declared.told.Told as code
+use Rattle.tv_match.specs.declared.told.Matched as coded
 use Rattle.tv_match.specs.declared.matchers.Matcher.{Matcher}
 use Rattle.tv_match.specs.Entries.{Entry, entry, entry_at, kept_entry, front}
 use Rattle.tv_match.specs.Filed.{Filed, filed}
@@ -34,6 +35,11 @@ outcome_kind q (kinds.Kind.Passed l) = fault_at q l
 
 abbrev pub outcome_of : Entry → Outcome
 outcome_of e = outcome_kind e.place e.kind
+
+abbrev pub matched_view : coded.Matched → Outcome
+matched_view (coded.Matched.Job q) = job_at q
+matched_view (coded.Matched.Closed q n) = list_at q n
+matched_view (coded.Matched.Passed q l) = fault_at q l
 
 abbrev pub told_view : Strategy → code.Told → spec.Told
 told_view s (code.Told.Arrival l q f) = arrival (leaf_name s l) q f
@@ -98,3 +104,6 @@ abbrev pub entry_of : code.Told → Entry
 entry_of (code.Told.Arrival l q false) = entry l q kinds.Kind.Job
 entry_of (code.Told.Arrival l q true) = entry l q (kinds.Kind.Passed l)
 entry_of (code.Told.Close l q n) = entry l q (kinds.Kind.Closed n)
+
+abbrev pub next_place : Matcher → Place
+next_place m = (entry_at m.out m.given).place

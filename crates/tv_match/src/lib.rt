@@ -32,4 +32,4 @@ mod told;
 
 pub use kinds::Kind;
 pub use matchers::Matcher;
-pub use told::{Told, Tolds};
+pub use told::{Matched, Told, Tolds};

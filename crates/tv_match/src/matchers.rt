@@ -1,9 +1,10 @@
-ghost use Rattle.std.specs.Prelude.{◌≡◌, ℕ, ◌+◌, ◌^◌, ◌<◌, ◌∷◌, [], length, map, IfOk, OnOk, OnErr, IfSome, IsNone, IsOk, IsTrue, List};
-ghost use Rattle.tv_strategy.specs.Measures.{DotsAgree, leaf_names};
+ghost use Rattle.std.specs.Prelude.{◌≡◌, ℕ, ◌+◌, ◌^◌, ◌<◌, ◌≤◌, ◌∷◌, [], length, map, IfOk, OnOk, OnErr, IfSome, IsNone, IsOk, IsTrue, List};
+ghost use Rattle.tv_strategy.specs.Measures.{DotsAgree, leaf_names, strategy_depth};
 ghost use Rattle.tv_strategy.specs.Conditions.{Suits, number_of};
 ghost use Rattle.tv_matching.specs.Told.{Told as Telling, arrival, close, count_of_added};
 ghost use Rattle.tv_matching.specs.Matchers.{HasGivenAll, CanTell, CanTellAll, Starts, Holds, IsTold, Gives, IsFreed, leaf_name};
 ghost use Rattle.tv_match.specs.Entries.{entry};
+ghost use Rattle.tv_match.specs.Seen.{matched_view, outcome_kind};
 
 use crate::bags::Bag;
 use crate::building::build;
@@ -11,13 +12,15 @@ use crate::kinds::Kind;
 use crate::listing::work_all;
 use crate::steps::{take_back, work};
 use crate::stores::{News, Store};
-use crate::told::Tolds;
+use crate::told::{Matched, Tolds};
 use std::alloc::Global;
 use tv_value::{Copied, Depths, NoMemory, Place, Tree};
 
 /// The iteration of a strategy, as far as its leaves were told.
 #[derive(Drop)]
 pub struct Matcher {
+    // What makes the places that come out.
+    alloc: Global,
     tree: Tree,
     mismatch: Depths,
     root: Store,
@@ -33,7 +36,7 @@ pub struct Matcher {
 
 impl Matcher {
     ghost use Rattle.tv_value.specs.Views.{strategy_view};
-    ghost use Rattle.tv_match.specs.Seen.{told_view, NameLeaves, matching, IsSound, IsProper, IsNext, HasMore, telling_of, outcome_kind, next_out};
+    ghost use Rattle.tv_match.specs.Seen.{told_view, NameLeaves, next_place, matching, IsSound, IsProper, IsNext, HasMore, telling_of, next_out};
 
     /// A matcher that was told nothing. What follows from nothing, a job where the strategy has no leaf, is still to come out.
     ///
@@ -55,6 +58,7 @@ impl Matcher {
         };
         root.tell(&news, &mut out)?;
         Ok(Matcher {
+            alloc,
             tree: tree.copy(alloc)?,
             mismatch: mismatch.copy(alloc)?,
             root,
@@ -127,10 +131,29 @@ impl Matcher {
         self.tell(leaf, place.as_slice(), Kind::Closed(length))
     }
 
+    /// The next thing that has not come out yet. Takes no memory: no place is longer than 32.
+    ///
+    /// `first` and `pass` have no such condition, and copy no place.
+    pub fn next(&mut self) -> Option<Matched>
+        requires sound { IsSound self.old }
+        requires shallow { strategy_depth (number_of (matching self.old).mismatch) (matching self.old).strategy ≤ 32 }
+        ensures some { IfSome result (λ x. Gives (matched_view x) (matching self.old) (matching self.new)) }
+        ensures none { IsNone result → HasGivenAll (matching self.old) × (matching self.new ≡ matching self.old) }
+        ensures sound { IsSound self.new }
+    {
+        let next = match self.first() {
+            Some((place, kind)) => owned(self.alloc, place, kind),
+            None => return None,
+        };
+        self.pass();
+        Some(next)
+    }
+
     /// The place and the kind of what comes out next, if something has not come out yet. Takes no memory.
     pub fn first(&self) -> Option<(&[u32], Kind)>
         requires { IsSound self.now }
         ensures some { IfSome result (λ x. HasMore self.now × (next_out self.now ≡ outcome_kind x.0.now x.1)) }
+        ensures place { IfSome result (λ x. x.0.now ≡ next_place self.now) }
         ensures none { IsNone result → HasGivenAll (matching self.now) }
     {
         if self.given < self.out.len() && self.out.number(self.given) <= self.told {
@@ -196,5 +219,20 @@ impl Matcher {
                 Err(error)
             }
         }
+    }
+}
+
+/// What stands at a place, with a place of its own.
+fn owned(alloc: Global, place: &[u32], kind: Kind) -> Matched
+    requires { length place.now ≤ 32 }
+    ensures { matched_view result ≡ outcome_kind place.now kind }
+{
+    let Ok(place) = Place::of(alloc, place) else {
+        unreachable!()
+    };
+    match kind {
+        Kind::Job => Matched::Job(place),
+        Kind::Closed(length) => Matched::Closed(place, length),
+        Kind::Passed(leaf) => Matched::Passed(place, leaf),
     }
 }

@@ -19,3 +19,14 @@ pub enum Told {
 
 /// Tellings, in their order.
 pub type Tolds = Sequence<Told>;
+
+/// What comes out.
+#[derive(Debug, Drop)]
+pub enum Matched {
+    /// A job, with its place.
+    Job(Place),
+    /// A list, with its place and its length.
+    Closed(Place, u32),
+    /// A passed fault, with its place and the number of the leaf whose fault stands there.
+    Passed(Place, u32),
+}
