@@ -1,0 +1,56 @@
+-- A matcher that was told nothing.
+use Rattle.std.proofs.Common.{◌≡◌, refl, ℕ, zero, suc, ◌+◌, ◌≤◌, List, [], ◌∷◌, ◌++◌, map, length, take, sym, ap, subst, ◌∙◌, arith, append-nil}
+use Rattle.tv_value.specs.Values.{Name}
+use Rattle.tv_value.specs.Strategies.{Strategy}
+use Rattle.tv_strategy.specs.Conditions.{Suits, number_of}
+use Rattle.tv_strategy.specs.Measures.{DotsAgree}
+use Rattle.tv_matching.specs.Matchers.{Starts}
+use Rattle.tv_matching.specs.Stores.{store_for, gain, grown, told_by, worked, worked_items}
+use Rattle.tv_match.specs.Entries.{Entry, kepts, front, AreMore}
+use Rattle.tv_match.specs.Filed.{Filed, kept_store, Adds}
+use Rattle.tv_match.specs.Seen.{seen_as, AreSound}
+use Rattle.tv_match.specs.Working.{unit_news, news_of, news_to, IsFull, IsWorked, IsDone}
+use Rattle.tv_match.proofs.Fronts.{more-early, more-rise}
+use Rattle.tv_match.proofs.Working.{adds-full, full-kept}
+
+module _ (s : Strategy) (mm : List (Name × ℕ)) (empty root : Filed) (out : List Entry) (k : kept_store kepts empty ≡ store_for 0 s) (f : IsFull 0 empty) (a : Adds 0 empty root) (b : AreMore 0 [] out) (g : kept_store kepts root ≡ grown (told_by unit_news) (kept_store kepts empty)) (h : kepts out ≡ gain (told_by unit_news) (kept_store kepts empty)) where
+  full : IsFull 0 root
+  full = adds-full 0 0 empty root (omega arith) f a
+
+  out-full : front 0 out ≡ out
+  out-full = more-early 0 0 [] out (omega arith) refl b
+
+  stored : kept_store (λ es. kepts (front 0 es)) root ≡ worked (store_for 0 s) (unit_news ∷ [])
+  stored = full-kept 0 root full ∙ g ∙ ap (grown (told_by unit_news)) k
+
+  put : kepts (front 0 out) ≡ worked_items (store_for 0 s) (unit_news ∷ [])
+  put = ap kepts out-full ∙ h ∙ ap (gain (told_by unit_news)) k ∙ sym (append-nil (gain (told_by unit_news) (store_for 0 s)))
+
+  none : (j : ℕ) → j ≤ 0 → 0 ≡ j
+  none j i = omega arith
+
+  begun : IsDone s root [] out
+  begun =
+      record {
+        worked = record {
+          store = λ j i. subst (λ n. kept_store (λ es. kepts (front n es)) root ≡ worked (store_for 0 s) (news_to n [])) (none j i) stored;
+          items = λ j i. subst (λ n. kepts (front n out) ≡ worked_items (store_for 0 s) (news_to n [])) (none j i) put;
+        };
+        full = full;
+        out_full = out-full;
+        rise = (more-rise 0 [] out tt tt b).0;
+        at_most = (more-rise 0 [] out tt tt b).1;
+      }
+
+  pub start-sound : Suits mm s → DotsAgree (number_of mm) s → AreSound s mm root [] out 0 0
+  start-sound suits agree = record { suits = suits; agree = agree; fit = tt; once = λ p q. omega arith; proper = tt; done = begun; told_within = omega arith; given_within = omega arith }
+
+  pub start-starts : Starts s mm (seen_as s mm [] out 0 0)
+  start-starts = record { strategy_is = refl; mismatch_is = refl; told_is = refl; held_is = refl; given_is = refl }
+
+pub sound-at : (s t : Strategy) (mm nn : List (Name × ℕ)) (root : Filed) (log out : List Entry) → t ≡ s → nn ≡ mm → log ≡ [] → AreSound s mm root [] out 0 0 → AreSound t nn root log out 0 0
+sound-at s t mm nn root log out e f g h =
+    subst (λ x. AreSound x nn root log out 0 0) (sym e) (subst (λ x. AreSound s x root log out 0 0) (sym f) (subst (λ x. AreSound s mm root x out 0 0) (sym g) h))
+
+pub more-of : (xs out : List Entry) → xs ≡ [] → AreMore 0 xs out → AreMore 0 [] out
+more-of xs out e h = subst (λ x. AreMore 0 x out) e h

@@ -1,0 +1,13 @@
+pub mod Laying
+pub mod Fronts
+pub mod Putting
+pub mod Meeting
+pub mod Latest
+pub mod Filing
+pub mod Working
+pub mod Seeing
+pub mod Calls
+pub mod Builds
+pub mod Ahead
+pub mod Reserves
+pub mod Begins

@@ -1,0 +1,5 @@
+pub mod Entries
+pub mod Slots
+pub mod Filed
+pub mod Working
+pub mod Seen

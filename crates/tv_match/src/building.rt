@@ -1,0 +1,126 @@
+ghost use Rattle.std.specs.Prelude.{◌≡◌, ◌+◌, [], length, IfOk};
+ghost use Rattle.tv_value.specs.Views.{strategy_view};
+ghost use Rattle.tv_strategy.specs.Measures.{leaf_names, all_leaf_names};
+ghost use Rattle.tv_strategy.specs.Views.{children_view};
+ghost use Rattle.tv_matching.specs.Stores.{store_for, store_for_cross, store_for_dot, crossed_with};
+ghost use Rattle.tv_match.specs.Entries.{kepts};
+ghost use Rattle.tv_match.specs.Filed.{filed, filed_cross, filed_dot, kept_store};
+ghost use Rattle.tv_match.specs.Working.{IsFull};
+
+use crate::bags::Bag;
+use crate::found::Found;
+use crate::stores::Store;
+use std::alloc::Global;
+use tv_value::{NoMemory, Tree};
+
+/// The store of a strategy that was told nothing, with the number of the leaf after its own.
+#[derive(Drop)]
+pub struct Built {
+    pub store: Store,
+    pub next: u32,
+}
+
+/// The store of a strategy whose leaves are numbered from `from`. Linear in the strategy.
+#[cycle(build)]
+pub fn build(alloc: Global, tree: &Tree, from: u32) -> Result<Built, NoMemory>
+    ensures store { IfOk result (λ b. kept_store kepts (filed b.store) ≡ store_for from (strategy_view tree.now)) }
+    ensures full { IfOk result (λ b. IsFull 0 (filed b.store)) }
+    ensures next { IfOk result (λ b. b.next ≡ from + length (leaf_names (strategy_view tree.now))) }
+{
+    match tree {
+        Tree::Leaf(_) => {
+            let next = from.checked_add(1).ok_or(NoMemory)?;
+            Ok(Built {
+                store: Store::Leaf(Some(from)),
+                next,
+            })
+        }
+        Tree::Cross(trees) => build_cross(alloc, trees.as_slice(), from),
+        Tree::Dot(trees) => build_dot(alloc, trees.as_slice(), from),
+    }
+}
+
+/// The store of a cross.
+#[cycle(build)]
+fn build_cross(alloc: Global, trees: &[Tree], from: u32) -> Result<Built, NoMemory>
+    ensures store { IfOk result (λ b. kept_store kepts (filed b.store) ≡ store_for_cross from (children_view trees.now)) }
+    ensures full { IfOk result (λ b. IsFull 0 (filed b.store)) }
+    ensures next { IfOk result (λ b. b.next ≡ from + length (all_leaf_names (children_view trees.now))) }
+{
+    match trees.split_first() {
+        None => Ok(Built {
+            store: Store::Leaf(None),
+            next: from,
+        }),
+        Some((first, others)) => {
+            let front = build(alloc, first, from)?;
+            build_crossed(alloc, front, others)
+        }
+    }
+}
+
+/// The store of a cross of what stands in front and these children.
+#[cycle(build)]
+fn build_crossed(alloc: Global, front: Built, trees: &[Tree]) -> Result<Built, NoMemory>
+    ensures store { IfOk result (λ b. kept_store kepts (filed b.store) ≡ crossed_with front.next (kept_store kepts (filed front.store)) (children_view trees.now)) }
+    ensures full { IfOk result (λ b. IsFull 0 (filed front.store) → IsFull 0 (filed b.store)) }
+    ensures next { IfOk result (λ b. b.next ≡ front.next + length (all_leaf_names (children_view trees.now))) }
+{
+    match trees.split_first() {
+        None => Ok(front),
+        Some((first, others)) => {
+            let second = build(alloc, first, front.next)?;
+            let store = crossed(alloc, front.store, second.store)?;
+            let both = Built {
+                store,
+                next: second.next,
+            };
+            build_crossed(alloc, both, others)
+        }
+    }
+}
+
+/// The store of a dot.
+#[cycle(build)]
+fn build_dot(alloc: Global, trees: &[Tree], from: u32) -> Result<Built, NoMemory>
+    ensures store { IfOk result (λ b. kept_store kepts (filed b.store) ≡ store_for_dot from (children_view trees.now)) }
+    ensures full { IfOk result (λ b. IsFull 0 (filed b.store)) }
+    ensures next { IfOk result (λ b. b.next ≡ from + length (all_leaf_names (children_view trees.now))) }
+{
+    match trees.split_first() {
+        None => Ok(Built {
+            store: Store::Leaf(None),
+            next: from,
+        }),
+        Some((first, others)) => {
+            let front = build(alloc, first, from)?;
+            if others.is_empty() {
+                return Ok(front);
+            }
+            let back = build_dot(alloc, others, front.next)?;
+            let store = dotted(alloc, front.store, back.store)?;
+            Ok(Built {
+                store,
+                next: back.next,
+            })
+        }
+    }
+}
+
+fn crossed(alloc: Global, first: Store, rest: Store) -> Result<Store, NoMemory>
+    ensures { IfOk result (λ st. filed st ≡ filed_cross [] [] (filed first) (filed rest)) }
+{
+    let first = Box::new(alloc, first)?;
+    let rest = Box::new(alloc, rest)?;
+    let (ends, rests, fresh) = (Bag::new(alloc), Bag::new(alloc), Bag::new(alloc));
+    Ok(Store::Cross(ends, rests, fresh, first, rest))
+}
+
+fn dotted(alloc: Global, first: Store, rest: Store) -> Result<Store, NoMemory>
+    ensures { IfOk result (λ st. filed st ≡ filed_dot [] [] (filed first) (filed rest)) }
+{
+    let first = Box::new(alloc, first)?;
+    let rest = Box::new(alloc, rest)?;
+    let (firsts, rests, fresh) = (Found::new(alloc), Found::new(alloc), Bag::new(alloc));
+    Ok(Store::Dot(firsts, rests, fresh, first, rest))
+}

@@ -1,0 +1,35 @@
+//! Incremental cross and dot: a matcher is told what a step's ports have, in any order, and gives out each job, list and
+//! passed fault as soon as all that it waits for was told.
+//!
+//! **What it promises.** A contract sees of a matcher a `Matching` (`tv_matching`, `specs/Matchers.antt`): what it was told,
+//! for which tellings it holds room, and what has come out. Each outcome comes once, and nothing is left exactly where all
+//! that follows from what was told has come out. A refused telling, or a refused reservation, changes nothing but that no
+//! room is held; after `reserve` the listed tellings are not refused, and its number is exact. Want of memory is the one
+//! refusal.
+//!
+//! **How it is laid out.** For each cross and dot a `Store` keeps what is needed of its two children, the first ones taken
+//! together before the later ones. A telling goes to its leaf, and what is new at a child is joined with what is kept of the
+//! other. `reserve` works its tellings ahead: each item has the number of the telling that brought it, a telling that is held
+//! is made by counting on, and what is held is taken back by cutting the lists at a number (`specs/Working.antt`).
+//!
+//! - `kinds`, `told`: what the calls speak of
+//! - `bags`: lists of items, their places in one list of indices; `found`: bags that are searched by place
+//! - `joins`, `stores`: what is new in a cross or dot, and what is kept of a strategy; `building` makes it
+//! - `steps`, `listing`: one telling, or several, worked and taken back
+//! - `matchers`: the calls
+#![tactic(auto)]
+
+mod bags;
+mod building;
+mod found;
+mod joins;
+mod kinds;
+mod listing;
+mod matchers;
+mod steps;
+mod stores;
+mod told;
+
+pub use kinds::Kind;
+pub use matchers::Matcher;
+pub use told::{Matched, Told, Tolds};

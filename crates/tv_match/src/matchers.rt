@@ -1,0 +1,238 @@
+ghost use Rattle.std.specs.Prelude.{◌≡◌, ℕ, ◌+◌, ◌^◌, ◌<◌, ◌≤◌, ◌∷◌, [], length, map, IfOk, OnOk, OnErr, IfSome, IsNone, IsOk, IsTrue, List};
+ghost use Rattle.tv_strategy.specs.Measures.{DotsAgree, leaf_names, strategy_depth};
+ghost use Rattle.tv_strategy.specs.Conditions.{Suits, number_of};
+ghost use Rattle.tv_matching.specs.Told.{Told as Telling, arrival, close, count_of_added};
+ghost use Rattle.tv_matching.specs.Matchers.{HasGivenAll, CanTell, CanTellAll, Starts, Holds, IsTold, Gives, IsFreed, leaf_name};
+ghost use Rattle.tv_match.specs.Entries.{entry};
+ghost use Rattle.tv_match.specs.Seen.{matched_view, outcome_kind};
+
+use crate::bags::Bag;
+use crate::building::build;
+use crate::kinds::Kind;
+use crate::listing::work_all;
+use crate::steps::{take_back, work};
+use crate::stores::{News, Store};
+use crate::told::{Matched, Tolds};
+use std::alloc::Global;
+use tv_value::{Copied, Depths, NoMemory, Place, Tree};
+
+/// The iteration of a strategy, as far as its leaves were told.
+#[derive(Drop)]
+pub struct Matcher {
+    // What makes the places that come out.
+    alloc: Global,
+    tree: Tree,
+    mismatch: Depths,
+    root: Store,
+    // What was told and what is held, in order, each with the number of its leaf.
+    log: Bag,
+    // What follows of all that is listed, each with the number of the telling that brought it.
+    out: Bag,
+    // How many of the listed tellings were made.
+    told: usize,
+    // How many items have come out.
+    given: usize,
+}
+
+impl Matcher {
+    ghost use Rattle.tv_value.specs.Views.{strategy_view};
+    ghost use Rattle.tv_match.specs.Seen.{told_view, NameLeaves, next_place, matching, IsSound, IsProper, IsNext, HasMore, telling_of, next_out};
+
+    /// A matcher that was told nothing. What follows from nothing, a job where the strategy has no leaf, is still to come out.
+    ///
+    /// Linear in the strategy and the numbers.
+    pub fn start(alloc: Global, tree: &Tree, mismatch: &Depths) -> Result<Matcher, NoMemory>
+        requires suits { Suits mismatch.now (strategy_view tree.now) }
+        requires agree { DotsAgree (number_of mismatch.now) (strategy_view tree.now) }
+        ensures ok { IfOk result (λ m. Starts (strategy_view tree.now) mismatch.now (matching m)) }
+        ensures sound { IfOk result (λ m. IsSound m) }
+    {
+        let built = build(alloc, tree, 0)?;
+        let mut root = built.store;
+        let mut out = Bag::new(alloc);
+        let news = News {
+            leaf: None,
+            place: &[],
+            kind: Kind::Job,
+            number: 0,
+        };
+        root.tell(&news, &mut out)?;
+        Ok(Matcher {
+            alloc,
+            tree: tree.copy(alloc)?,
+            mismatch: mismatch.copy(alloc)?,
+            root,
+            log: Bag::new(alloc),
+            out,
+            told: 0,
+            given: 0,
+        })
+    }
+
+    /// Takes all the room that these tellings need, and answers how many things will come out for them.
+    ///
+    /// It works them ahead, so that each is then made in constant time. What was held before is let go.
+    pub fn reserve(&mut self, told: &Tolds) -> Result<u64, NoMemory>
+        requires sound { IsSound self.old }
+        requires leaves { NameLeaves (matching self.old).strategy told.now }
+        requires new { CanTellAll (matching self.old) (map (told_view (matching self.old).strategy) told.now) }
+        ensures ok { OnOk result (Holds (map (told_view (matching self.old).strategy) told.now) (matching self.old) (matching self.new)) }
+        ensures count { IfOk result (λ n. n ≡ count_of_added (matching self.old).strategy (matching self.old).told (map (told_view (matching self.old).strategy) told.now)) }
+        ensures refused { OnErr result (IsFreed (matching self.old) (matching self.new)) }
+        ensures sound { IsSound self.new }
+    {
+        take_back(&mut self.root, &mut self.log, &mut self.out, self.told);
+        let before = self.out.len();
+        match work_all(
+            &mut self.root,
+            &mut self.log,
+            &mut self.out,
+            told.as_slice(),
+        ) {
+            Ok(()) => Ok((self.out.len() - before) as u64),
+            Err(error) => {
+                take_back(&mut self.root, &mut self.log, &mut self.out, self.told);
+                Err(error)
+            }
+        }
+    }
+
+    /// A bound value has arrived, or a fault on the way there.
+    ///
+    /// Linear in what is new at the nodes of the strategy, and in the strategy; constant for the next held telling.
+    pub fn on_arrival(&mut self, leaf: u32, place: &Place, fault: bool) -> Result<(), NoMemory>
+        requires sound { IsSound self.old }
+        requires leaf { leaf < length (leaf_names (matching self.old).strategy) }
+        requires new { CanTell (matching self.old) (arrival (leaf_name (matching self.old).strategy leaf) place.now fault) }
+        ensures ok { OnOk result (IsTold (arrival (leaf_name (matching self.old).strategy leaf) place.now fault) (matching self.old) (matching self.new)) }
+        ensures refused { OnErr result (IsFreed (matching self.old) (matching self.new)) }
+        ensures held { (rest : List Telling) → (matching self.old).held ≡ arrival (leaf_name (matching self.old).strategy leaf) place.now fault ∷ rest → IsOk result × ((matching self.new).held ≡ rest) }
+        ensures sound { IsSound self.new }
+    {
+        if fault {
+            self.tell(leaf, place.as_slice(), Kind::Passed(leaf))
+        } else {
+            self.tell(leaf, place.as_slice(), Kind::Job)
+        }
+    }
+
+    /// A list on the way is closed.
+    ///
+    /// Linear in what is new at the nodes of the strategy, and in the strategy; constant for the next held telling.
+    pub fn on_close(&mut self, leaf: u32, place: &Place, length: u32) -> Result<(), NoMemory>
+        requires sound { IsSound self.old }
+        requires leaf { leaf < Rattle.std.specs.Prelude.length (leaf_names (matching self.old).strategy) }
+        requires new { CanTell (matching self.old) (close (leaf_name (matching self.old).strategy leaf) place.now length) }
+        ensures ok { OnOk result (IsTold (close (leaf_name (matching self.old).strategy leaf) place.now length) (matching self.old) (matching self.new)) }
+        ensures refused { OnErr result (IsFreed (matching self.old) (matching self.new)) }
+        ensures held { (rest : List Telling) → (matching self.old).held ≡ close (leaf_name (matching self.old).strategy leaf) place.now length ∷ rest → IsOk result × ((matching self.new).held ≡ rest) }
+        ensures sound { IsSound self.new }
+    {
+        self.tell(leaf, place.as_slice(), Kind::Closed(length))
+    }
+
+    /// The next thing that has not come out yet. Takes no memory: no place is longer than 32.
+    ///
+    /// `first` and `pass` have no such condition, and copy no place.
+    pub fn next(&mut self) -> Option<Matched>
+        requires sound { IsSound self.old }
+        requires shallow { strategy_depth (number_of (matching self.old).mismatch) (matching self.old).strategy ≤ 32 }
+        ensures some { IfSome result (λ x. Gives (matched_view x) (matching self.old) (matching self.new)) }
+        ensures none { IsNone result → HasGivenAll (matching self.old) × (matching self.new ≡ matching self.old) }
+        ensures sound { IsSound self.new }
+    {
+        let next = match self.first() {
+            Some((place, kind)) => owned(self.alloc, place, kind),
+            None => return None,
+        };
+        self.pass();
+        Some(next)
+    }
+
+    /// The place and the kind of what comes out next, if something has not come out yet. Takes no memory.
+    pub fn first(&self) -> Option<(&[u32], Kind)>
+        requires { IsSound self.now }
+        ensures some { IfSome result (λ x. HasMore self.now × (next_out self.now ≡ outcome_kind x.0.now x.1)) }
+        ensures place { IfSome result (λ x. x.0.now ≡ next_place self.now) }
+        ensures none { IsNone result → HasGivenAll (matching self.now) }
+    {
+        if self.given < self.out.len() && self.out.number(self.given) <= self.told {
+            Some((self.out.place(self.given), self.out.kind(self.given)))
+        } else {
+            None
+        }
+    }
+
+    /// Takes out what comes out next, as `first` tells it. Takes no memory.
+    pub fn pass(&mut self)
+        requires sound { IsSound self.old }
+        requires more { HasMore self.old }
+        ensures gives { Gives (next_out self.old) (matching self.old) (matching self.new) }
+        ensures sound { IsSound self.new }
+    {
+        if self.given < self.out.len() {
+            self.given += 1;
+        }
+    }
+
+    /// Whether the next held telling is this one.
+    fn is_next(&self, leaf: u32, place: &[u32], kind: Kind) -> bool
+        ensures yes { IsTrue result → IsNext self.now (entry leaf place.now kind) }
+        ensures no { IsNext self.now (entry leaf place.now kind) → IsTrue result }
+        ensures fits { IsTrue result → self.now.told + 1 < 2 ^ 64 }
+    {
+        self.told < self.log.len()
+            && self.log.number(self.told) == leaf as usize
+            && self.log.kind(self.told) == kind
+            && self.log.place(self.told) == place
+    }
+
+    /// Tells a leaf.
+    fn tell(&mut self, leaf: u32, place: &[u32], kind: Kind) -> Result<(), NoMemory>
+        requires sound { IsSound self.old }
+        requires proper { IsProper (strategy_view self.old.tree) (entry leaf place.now kind) }
+        requires new { CanTell (matching self.old) (telling_of (strategy_view self.old.tree) (entry leaf place.now kind)) }
+        ensures ok { OnOk result (IsTold (telling_of (strategy_view self.old.tree) (entry leaf place.now kind)) (matching self.old) (matching self.new)) }
+        ensures refused { OnErr result (IsFreed (matching self.old) (matching self.new)) }
+        ensures held { (rest : List Telling) → (matching self.old).held ≡ telling_of (strategy_view self.old.tree) (entry leaf place.now kind) ∷ rest → IsOk result × ((matching self.new).held ≡ rest) }
+        ensures sound { IsSound self.new }
+    {
+        if self.is_next(leaf, place, kind) {
+            self.told += 1;
+            return Ok(());
+        }
+        take_back(&mut self.root, &mut self.log, &mut self.out, self.told);
+        match work(
+            &mut self.root,
+            &mut self.log,
+            &mut self.out,
+            leaf,
+            place,
+            kind,
+        ) {
+            Ok(()) => {
+                self.told = self.log.len();
+                Ok(())
+            }
+            Err(error) => {
+                take_back(&mut self.root, &mut self.log, &mut self.out, self.told);
+                Err(error)
+            }
+        }
+    }
+}
+
+/// What stands at a place, with a place of its own.
+fn owned(alloc: Global, place: &[u32], kind: Kind) -> Matched
+    requires { length place.now ≤ 32 }
+    ensures { matched_view result ≡ outcome_kind place.now kind }
+{
+    let Ok(place) = Place::of(alloc, place) else {
+        unreachable!()
+    };
+    match kind {
+        Kind::Job => Matched::Job(place),
+        Kind::Closed(length) => Matched::Closed(place, length),
+        Kind::Passed(leaf) => Matched::Passed(place, leaf),
+    }
+}

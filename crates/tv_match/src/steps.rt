@@ -1,0 +1,49 @@
+ghost use Rattle.std.specs.Prelude.{◌≡◌, ℕ, ◌+◌, ◌≤◌, ◌++◌, ◌∷◌, [], length, take, OnOk};
+ghost use Rattle.tv_value.specs.Strategies.{Strategy};
+ghost use Rattle.tv_match.specs.Entries.{entry, front, Rise, AreMore};
+ghost use Rattle.tv_match.specs.Filed.{filed};
+ghost use Rattle.tv_match.specs.Working.{IsWorked, IsDone};
+
+use crate::bags::Bag;
+use crate::kinds::Kind;
+use crate::stores::{News, Store};
+use tv_value::NoMemory;
+
+/// Works one more telling of a leaf: it is listed, and what follows is put behind `out`.
+///
+/// Linear in what is new at the nodes of the strategy, and in the strategy. Where memory is wanting some of it is there,
+/// and `take_back` undoes it.
+pub fn work(
+    root: &mut Store,
+    log: &mut Bag,
+    out: &mut Bag,
+    leaf: u32,
+    place: &[u32],
+    kind: Kind,
+) -> Result<(), NoMemory>
+    ensures log { OnOk result (log.new ≡ log.old ++ entry leaf place.now kind ∷ []) }
+    ensures done { OnOk result ((s : Strategy) → IsDone s (filed root.old) log.old out.old → IsDone s (filed root.new) log.new out.new) }
+    ensures still { (s : Strategy) → IsDone s (filed root.old) log.old out.old → IsWorked s (length log.old) (filed root.new) log.new out.new × Rise out.new }
+    ensures listed { take (length log.old) log.new ≡ log.old }
+    ensures more { AreMore (length log.old + 1) out.old out.new }
+{
+    log.push(&[], place, kind, leaf as usize)?;
+    let news = News {
+        leaf: Some(leaf),
+        place,
+        kind,
+        number: log.len(),
+    };
+    root.tell(&news, out)
+}
+
+/// Undoes all tellings but the first ones. Takes no memory. Linear in what it undoes, and in the strategy.
+pub fn take_back(root: &mut Store, log: &mut Bag, out: &mut Bag, told: usize)
+    ensures log { log.new ≡ take told log.old }
+    ensures out { out.new ≡ front told out.old }
+    ensures done { (s : Strategy) (m : ℕ) → told ≤ m → m ≤ length log.old → IsWorked s m (filed root.old) log.old out.old → Rise out.old → IsDone s (filed root.new) log.new out.new }
+{
+    root.cut(told);
+    log.truncate(told);
+    out.cut(told);
+}

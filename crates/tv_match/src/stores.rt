@@ -1,0 +1,178 @@
+ghost use Rattle.std.specs.Prelude.{◌≡◌, ◌++◌, OnOk};
+ghost use Rattle.tv_matching.specs.Matched.{crossed_items, below_jobs};
+ghost use Rattle.tv_matching.specs.Stores.{gain, grown, told_by, same_leaf, only_jobs, met_by_first, met_by_second};
+ghost use Rattle.tv_match.specs.Entries.{kepts, AreMore};
+ghost use Rattle.tv_match.specs.Filed.{filed, kept_store, fronted, Adds, news_view};
+
+use crate::bags::Bag;
+use crate::found::Found;
+use crate::joins::{
+    find_all, push_all, push_all_met_first, push_all_met_second, push_below_jobs, push_crossed,
+    push_jobs,
+};
+use crate::kinds::Kind;
+use tv_value::NoMemory;
+
+/// An item that a leaf is told, with the number of the telling.
+#[derive(Clone, Copy)]
+pub struct News<'a> {
+    pub leaf: Option<u32>,
+    pub place: &'a [u32],
+    pub kind: Kind,
+    pub number: usize,
+}
+
+/// What is kept of a strategy: for a cross the jobs of its first child and all that the second has, for a dot what both have.
+///
+/// Each has room for what is new in a child.
+#[derive(Drop)]
+#[cycle(store)]
+pub enum Store {
+    /// A leaf with its number, or a strategy without children.
+    Leaf(Option<u32>),
+    Cross(Bag, Bag, Bag, Box<Store>, Box<Store>),
+    Dot(Found, Found, Bag, Box<Store>, Box<Store>),
+}
+
+impl Store {
+    /// Tells a leaf one item, and puts what is new at the top behind `out`.
+    ///
+    /// Linear in what is new at the nodes, and in the strategy. Where memory is wanting some of it is there, all with this number.
+    pub fn tell(&mut self, news: &News, out: &mut Bag) -> Result<(), NoMemory>
+        ensures store { OnOk result (kept_store kepts (filed self.new) ≡ grown (told_by (news_view news.now)) (kept_store kepts (filed self.old))) }
+        ensures items { OnOk result (kepts out.new ≡ kepts out.old ++ gain (told_by (news_view news.now)) (kept_store kepts (filed self.old))) }
+        ensures more { AreMore news.now.number out.old out.new }
+        ensures adds { Adds news.now.number (filed self.old) (filed self.new) }
+    {
+        match self {
+            Store::Leaf(leaf) => tell_leaf(*leaf, news, out),
+            Store::Cross(ends, rests, fresh, first, rest) => {
+                fresh.truncate(0);
+                first.tell(news, fresh)?;
+                cross_first(fresh, rests, news.number, ends, out)?;
+                fresh.truncate(0);
+                rest.tell(news, fresh)?;
+                cross_rest(ends, fresh, news.number, rests, out)
+            }
+            Store::Dot(firsts, rests, fresh, first, rest) => {
+                fresh.truncate(0);
+                first.tell(news, fresh)?;
+                dot_first(fresh, rests, news.number, firsts, out)?;
+                fresh.truncate(0);
+                rest.tell(news, fresh)?;
+                dot_rest(firsts, fresh, news.number, rests, out)
+            }
+        }
+    }
+
+    /// Takes away what tellings with greater numbers brought. Takes no memory. Linear in what goes, and in the strategy.
+    pub fn cut(&mut self, number: usize)
+        ensures { filed self.new ≡ fronted number (filed self.old) }
+    {
+        match self {
+            Store::Leaf(_) => {}
+            Store::Cross(ends, rests, _, first, rest) => {
+                ends.cut(number);
+                rests.cut(number);
+                first.cut(number);
+                rest.cut(number);
+            }
+            Store::Dot(firsts, rests, _, first, rest) => {
+                firsts.cut(number);
+                rests.cut(number);
+                first.cut(number);
+                rest.cut(number);
+            }
+        }
+    }
+}
+
+/// Puts the item if it is for this leaf.
+fn tell_leaf(leaf: Option<u32>, news: &News, out: &mut Bag) -> Result<(), NoMemory>
+    ensures items { OnOk result (kepts out.new ≡ kepts out.old ++ told_by (news_view news.now) leaf) }
+    ensures more { AreMore news.now.number out.old out.new }
+{
+    if is_for(news.leaf, leaf) {
+        out.push(news.place, &[], news.kind, news.number)
+    } else {
+        Ok(())
+    }
+}
+
+fn is_for(told: Option<u32>, leaf: Option<u32>) -> bool
+    ensures { result ≡ same_leaf told leaf }
+{
+    match (told, leaf) {
+        (None, None) => true,
+        (Some(told), Some(leaf)) => told == leaf,
+        _ => false,
+    }
+}
+
+/// Puts what a cross gains by the first child's new items, and keeps the jobs among these.
+fn cross_first(
+    fresh: &Bag,
+    rests: &Bag,
+    number: usize,
+    ends: &mut Bag,
+    out: &mut Bag,
+) -> Result<(), NoMemory>
+    ensures items { OnOk result (kepts out.new ≡ kepts out.old ++ crossed_items (kepts fresh.now) (kepts rests.now)) }
+    ensures keeps { OnOk result (kepts ends.new ≡ kepts ends.old ++ only_jobs (kepts fresh.now)) }
+    ensures more { AreMore number out.old out.new }
+    ensures more_ends { AreMore number ends.old ends.new }
+{
+    push_crossed(fresh, rests, number, out)?;
+    push_jobs(fresh, number, ends)
+}
+
+/// Puts what a cross gains by the second child's new items, and keeps these.
+fn cross_rest(
+    ends: &Bag,
+    fresh: &Bag,
+    number: usize,
+    rests: &mut Bag,
+    out: &mut Bag,
+) -> Result<(), NoMemory>
+    ensures items { OnOk result (kepts out.new ≡ kepts out.old ++ below_jobs (kepts ends.now) (kepts fresh.now)) }
+    ensures keeps { OnOk result (kepts rests.new ≡ kepts rests.old ++ kepts fresh.now) }
+    ensures more { AreMore number out.old out.new }
+    ensures more_rests { AreMore number rests.old rests.new }
+{
+    push_below_jobs(ends, fresh, number, out)?;
+    push_all(fresh, number, rests)
+}
+
+/// Puts what a dot gains by the first child's new items, and keeps these.
+fn dot_first(
+    fresh: &Bag,
+    rests: &Found,
+    number: usize,
+    firsts: &mut Found,
+    out: &mut Bag,
+) -> Result<(), NoMemory>
+    ensures items { OnOk result (kepts out.new ≡ kepts out.old ++ met_by_first (kepts fresh.now) (kepts rests.now)) }
+    ensures keeps { OnOk result (kepts firsts.new ≡ kepts firsts.old ++ kepts fresh.now) }
+    ensures more { AreMore number out.old out.new }
+    ensures more_firsts { AreMore number firsts.old firsts.new }
+{
+    push_all_met_first(fresh, rests, number, out)?;
+    find_all(fresh, number, firsts)
+}
+
+/// Puts what a dot gains by the second child's new items, and keeps these.
+fn dot_rest(
+    firsts: &Found,
+    fresh: &Bag,
+    number: usize,
+    rests: &mut Found,
+    out: &mut Bag,
+) -> Result<(), NoMemory>
+    ensures items { OnOk result (kepts out.new ≡ kepts out.old ++ met_by_second (kepts firsts.now) (kepts fresh.now)) }
+    ensures keeps { OnOk result (kepts rests.new ≡ kepts rests.old ++ kepts fresh.now) }
+    ensures more { AreMore number out.old out.new }
+    ensures more_rests { AreMore number rests.old rests.new }
+{
+    push_all_met_second(firsts, fresh, number, out)?;
+    find_all(fresh, number, rests)
+}
