@@ -129,7 +129,7 @@ fn met(first: Kind, second: Kind) -> Kind
     }
 }
 
-/// Puts what an item of the first child of a dot meets in the second. A look-up, and then linear in what it puts.
+/// Puts what an item of the first child of a dot meets in the second. It looks through the other, and is then linear in what it puts.
 fn push_met_first(
     xs: &Bag,
     at: usize,
@@ -151,7 +151,7 @@ fn push_met_first(
     Ok(())
 }
 
-/// Puts what an item of the second child of a dot meets in the first. A look-up, and then linear in what it puts.
+/// Puts what an item of the second child of a dot meets in the first. It looks through the other, and is then linear in what it puts.
 fn push_met_second(
     xs: &Found,
     ys: &Bag,

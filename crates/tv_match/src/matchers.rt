@@ -71,7 +71,8 @@ impl Matcher {
 
     /// Takes all the room that these tellings need, and answers how many things will come out for them.
     ///
-    /// It works them ahead, so that each is then made in constant time. What was held before is let go.
+    /// It works them ahead, at the cost of telling them, so that each is then made in constant time. What was held before is
+    /// let go.
     pub fn reserve(&mut self, told: &Tolds) -> Result<u64, NoMemory>
         requires sound { IsSound self.old }
         requires leaves { NameLeaves (matching self.old).strategy told.now }
@@ -99,7 +100,8 @@ impl Matcher {
 
     /// A bound value has arrived, or a fault on the way there.
     ///
-    /// Linear in what is new at the nodes of the strategy, and in the strategy; constant for the next held telling.
+    /// Linear in what is new at the nodes of the strategy, and in the strategy; a dot looks through all that it keeps for each
+    /// item. Constant for the next held telling.
     pub fn on_arrival(&mut self, leaf: u32, place: &Place, fault: bool) -> Result<(), NoMemory>
         requires sound { IsSound self.old }
         requires leaf { leaf < length (leaf_names (matching self.old).strategy) }
@@ -118,7 +120,8 @@ impl Matcher {
 
     /// A list on the way is closed.
     ///
-    /// Linear in what is new at the nodes of the strategy, and in the strategy; constant for the next held telling.
+    /// Linear in what is new at the nodes of the strategy, and in the strategy; a dot looks through all that it keeps for each
+    /// item. Constant for the next held telling.
     pub fn on_close(&mut self, leaf: u32, place: &Place, length: u32) -> Result<(), NoMemory>
         requires sound { IsSound self.old }
         requires leaf { leaf < Rattle.std.specs.Prelude.length (leaf_names (matching self.old).strategy) }
