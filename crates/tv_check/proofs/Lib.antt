@@ -9,4 +9,5 @@ pub mod AllRanked
 pub mod Prepared
 pub mod OfPlans
 pub mod ToPlan
+pub mod Wired
 pub use Rattle.tv_naming.proofs.OfForms

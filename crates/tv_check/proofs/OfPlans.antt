@@ -13,6 +13,8 @@ use Rattle.tv_depths.specs.CheckedDepths.{feed_depth, port_depth, flow_depths, m
 use Rattle.tv_depths.specs.Ranks.{ranked}
 use Rattle.tv_depths.specs.Steps.{strategy_of, ports_of}
 use Rattle.tv_naming.specs.Numbers.{position}
+use Rattle.tv_wires.specs.Wirings.{wiring}
+use Rattle.tv_wires.specs.declared.wiring.Wiring.{Wiring}
 use Rattle.tv_check.specs.Plans as plan
 use Rattle.tv_check.specs.Planned.{planned, IsPlanned}
 use Rattle.tv_depths.specs.Tables.{known, IsMeasured, step_level, Agree}
@@ -58,10 +60,10 @@ module _ (f : Flow) (ls : List (Option ℕ)) (os : List (Name × ℕ)) (rs : Lis
       let d : depth ≡ strategy_depth (port_depth f.inputs (flow_depths f) s.1) (strategy_of s.1) = let p : Some depth ≡ Some (strategy_depth (port_depth f.inputs (flow_depths f) s.1) (strategy_of s.1)) = sym e ∙ level-at in cc in
       planned-is f ls h.measured.agree s (get_or rs j 0) depth rank-at d
 
-pub plan-made : (f g : Flow) (ps : List plan.StepPlan) (os : List (Name × ℕ)) → g ≡ f → ps ≡ map (plan.step_plan f) f.steps → os ≡ measured_outputs f → let made : plan.FlowPlan = record { flow = g; steps = ps; outputs = os } in made ≡ plan.flow_plan g
-plan-made f g ps os e p o =
-    let made : Flow → List plan.StepPlan → List (Name × ℕ) → plan.FlowPlan = λ x y z. record { flow = x; steps = y; outputs = z } in
-    subst (λ x. made x ps os ≡ plan.flow_plan x) (sym e) (ap (λ y. made f y os) p ∙ ap (made f (map (plan.step_plan f) f.steps)) o)
+pub plan-made : (f g : Flow) (ps : List plan.StepPlan) (os : List (Name × ℕ)) (w : Wiring) → g ≡ f → ps ≡ map (plan.step_plan f) f.steps → os ≡ measured_outputs f → w ≡ wiring f → let made : plan.FlowPlan = record { flow = g; steps = ps; outputs = os; wiring = w } in made ≡ plan.flow_plan g
+plan-made f g ps os w e p o h =
+    let made : Flow → List plan.StepPlan → List (Name × ℕ) → Wiring → plan.FlowPlan = λ x y z u. record { flow = x; steps = y; outputs = z; wiring = u } in
+    subst (λ x. made x ps os w ≡ plan.flow_plan x) (sym e) (ap (λ y. made f y os w) p ∙ ap (λ z. made f (map (plan.step_plan f) f.steps) z w) o ∙ ap (made f (map (plan.step_plan f) f.steps) (measured_outputs f)) h)
 
 -- ---- a measured flow all of whose steps have a rank
 

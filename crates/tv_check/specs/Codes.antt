@@ -8,6 +8,8 @@ use Rattle.tv_value.specs.Values.{Name, ErrorDoc, JobName, Text, Scalar, text, f
 use Rattle.tv_value.specs.Strategies.{Strategy, port, cross, dot, Strategies, no_strategies, strategy}
 use Rattle.tv_value.specs.Activities.{Activity, service, nested}
 use Rattle.tv_flow.specs.Flows.{Link, input, output, Feed, link, merge, constant, StepInput, Step, Flow}
+use Rattle.tv_wires.specs.Codes.{coded_wiring}
+use Rattle.tv_wires.specs.declared.wiring.Wiring.{Wiring}
 use Rattle.tv_check.specs.Plans as plan
 
 -- ---- trees: each node in the order of reading, a list with the number of its items
@@ -226,4 +228,7 @@ coded_step_plan =
 
 abbrev pub coded_flow_plan : Coded plan.FlowPlan
 coded_flow_plan =
-    code_by (Flow × (List plan.StepPlan × List (Name × ℕ))) (coded× coded_flow (coded× (coded_list coded_step_plan) (coded_named coded_ℕ))) (λ f. (f.flow, (f.steps, f.outputs))) (λ p. record { flow = p.0; steps = p.1.0; outputs = p.1.1 }) (λ _. refl)
+    code_by (Flow × (List plan.StepPlan × (List (Name × ℕ) × Wiring))) (coded× coded_flow (coded× (coded_list coded_step_plan) (coded× (coded_named coded_ℕ) coded_wiring)))
+    (λ f. (f.flow, (f.steps, (f.outputs, f.wiring))))
+    (λ p. record { flow = p.0; steps = p.1.0; outputs = p.1.1.0; wiring = p.1.1.1 })
+    (λ _. refl)

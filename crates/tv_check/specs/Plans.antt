@@ -10,6 +10,8 @@ use Rattle.tv_depths.specs.Steps.{strategy_of}
 use Rattle.tv_depths.specs.CheckedDepths.{feed_depth, port_depth, flow_depths, measured_outputs}
 use Rattle.tv_check.specs.Passes.{checked}
 use Rattle.tv_naming.specs.Numbers.{position}
+use Rattle.tv_wires.specs.Wirings.{wiring}
+use Rattle.tv_wires.specs.declared.wiring.Wiring.{Wiring}
 
 pub record StepPlan : Type 0 where
   pub rank : ℕ
@@ -27,13 +29,15 @@ pub record FlowPlan : Type 0 where
   pub steps : List StepPlan
   -- the delivered depth of each output
   pub outputs : List (Name × ℕ)
+  -- what feeds each port and output, and what waits for each step, by numbers
+  pub wiring : Wiring
 
 abbrev pub step_plan : Flow → Name × Step → StepPlan
 step_plan f (n, s) =
     record { rank = position n (ranked f.steps); tree = strategy_of s; depth = strategy_depth (port_depth f.inputs (flow_depths f) s) (strategy_of s); delivered = map (λ i. (i.0, feed_depth f.inputs (flow_depths f) i.1.from)) s.inputs; mismatch = map (λ i. (i.0, feed_depth f.inputs (flow_depths f) i.1.from - i.1.depth)) s.inputs }
 
 abbrev pub flow_plan : Flow → FlowPlan
-flow_plan f = record { flow = f; steps = map (step_plan f) f.steps; outputs = measured_outputs f }
+flow_plan f = record { flow = f; steps = map (step_plan f) f.steps; outputs = measured_outputs f; wiring = wiring f }
 
 -- the plans of all flows, in their order
 abbrev pub flow_plans : Document → List FlowPlan

@@ -29,6 +29,8 @@ mod reading;
 mod run;
 #[cfg(test)]
 mod tests;
+#[cfg(test)]
+mod wiring_tests;
 
 pub use checking::check;
 pub use cycles::steps_by_rank;

@@ -1,14 +1,15 @@
 //! The plans of flows that were measured.
-ghost use Rattle.std.specs.Prelude.{◌≡◌, map, IfOk, IsSome, Some};
+ghost use Rattle.std.specs.Prelude.{◌≡◌, map, IfOk, IsSome, Some, true};
 ghost use Rattle.tv_value.specs.Strategies.{cross, dot};
 ghost use Rattle.tv_value.specs.Views.{strategy_view, strategies_view};
-ghost use Rattle.tv_flow.specs.Formed.{is_step};
+ghost use Rattle.tv_flow.specs.Formed.{is_flow};
 ghost use Rattle.tv_flow.specs.Views.{each, flow_view, step_view, step_input_view};
 ghost use Rattle.tv_depths.specs.Steps.{strategy_of, ports_of};
 ghost use Rattle.tv_depths.specs.Tables.{IsTable, table_depth, table_mismatch};
 ghost use Rattle.tv_check.specs.PlanViews.{step_plan_view, IsOfDocument};
 ghost use Rattle.tv_check.specs.FlowPlanViews.{flow_plan_view};
 ghost use Rattle.tv_check.specs.Plans.{flow_plan, step_plan};
+ghost use Rattle.tv_wires.specs.Ports.{ports_of as wired_ports};
 ghost use Rattle.tv_check.specs.Planned.{planned, IsPlanned};
 
 use crate::plans::{FlowPlan, StepPlan, StepPlans};
@@ -16,6 +17,7 @@ use std::alloc::Global;
 use tv_depths::{Measured, feed_depth, mismatches};
 use tv_flow::{Flow, Step, StepInputs};
 use tv_value::{Copied, Depths, NoMemory, Sequence, Tree, Trees};
+use tv_wires::{PortsBySteps, wiring_of};
 
 /// The plan of a flow of an accepted document, by what was measured of it and the ranks of its steps. Linear in the flow, with
 /// a look-up for each link.
@@ -31,12 +33,31 @@ pub(crate) fn flow_plan(
 {
     let steps = step_plans(alloc, flow, ranks, measured)?;
     let outputs = measured.outputs.copy(alloc)?;
+    let ports = ports_by_steps(alloc, flow, steps.as_slice())?;
+    let wiring = wiring_of(alloc, flow, ports)?;
     let flow = flow.copy(alloc)?;
     Ok(FlowPlan {
         flow,
         steps,
         outputs,
+        wiring,
     })
+}
+
+/// The input ports of all steps, from their plans. Takes a look-up for each link.
+fn ports_by_steps(alloc: Global, flow: &Flow, plans: &[StepPlan]) -> Result<PortsBySteps, NoMemory>
+    requires formed { is_flow (flow_view flow.now) ≡ true }
+    requires accepted { IsOfDocument (flow_view flow.now) }
+    requires plans { map step_plan_view plans.now ≡ map (step_plan (flow_view flow.now)) (flow_view flow.now).steps }
+    ensures { IfOk result (λ ps. ps ≡ map (λ s. wired_ports (flow_view flow.now) s.1) (flow_view flow.now).steps) }
+{
+    let steps = flow.steps.as_slice();
+    let mut ports = Vec::with_capacity(alloc, steps.len())?;
+    for (number, step) in steps.iter().enumerate() {
+        let plan = &plans[number];
+        ports.push(tv_wires::ports_of(alloc, flow, &step.1, &plan.tree, &plan.mismatch)?)?;
+    }
+    Ok(Sequence::of(ports))
 }
 
 fn step_plans(

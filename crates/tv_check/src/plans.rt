@@ -5,6 +5,7 @@ ghost use Rattle.tv_check.specs.PlanViews.{step_plan_view, IsFlowPlan, IsFlowPla
 
 use tv_flow::Flow;
 use tv_value::{Depths, Sequence, Tree};
+use tv_wires::Wiring;
 
 /// The plans of a document's flows, in the order of the flows.
 pub type FlowPlans = Sequence<FlowPlan>;
@@ -37,5 +38,7 @@ pub struct FlowPlan {
     pub steps: StepPlans,
     /// The depth that each output is delivered.
     pub outputs: Depths,
-    pub ghost kept: { IsFlowPlan (record { flow = flow_view flow; steps = map step_plan_view steps; outputs = outputs }) } by { IsFlowPlan-prop (record { flow = flow_view flow; steps = map step_plan_view steps; outputs = outputs }) },
+    /// What feeds each port and each output, and which ports and steps wait for each step, by numbers.
+    pub wiring: Wiring,
+    pub ghost kept: { IsFlowPlan (record { flow = flow_view flow; steps = map step_plan_view steps; outputs = outputs; wiring = wiring }) } by { IsFlowPlan-prop (record { flow = flow_view flow; steps = map step_plan_view steps; outputs = outputs; wiring = wiring }) },
 }

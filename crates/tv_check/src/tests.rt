@@ -9,7 +9,7 @@ use tv_flow::{FormFault, read_document};
 use tv_gate::Services;
 
 /// Services of every name but `none`.
-struct Known;
+pub(crate) struct Known;
 
 impl Services for Known {
     ghost use Rattle.std.specs.Prelude.{not, codes};

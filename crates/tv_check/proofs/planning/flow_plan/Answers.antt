@@ -9,7 +9,7 @@ invariant_of-result c =
     let same = c.in_ok-flow.ensures in
     record {
       kept = (
-        plan-made (flow_view c.args.flow.now) (flow_view c.in_ok-flow.flow) (map step_plan_view c.in_ok-steps.steps) c.in_ok-outputs.outputs same c.in_ok-steps.ensures (c.in_ok-outputs.ensures ∙ c.requires.planned.measured.outputs_are),
+        plan-made (flow_view c.args.flow.now) (flow_view c.in_ok-flow.flow) (map step_plan_view c.in_ok-steps.steps) c.in_ok-outputs.outputs c.in_ok-wiring.wiring same c.in_ok-steps.ensures (c.in_ok-outputs.ensures ∙ c.requires.planned.measured.outputs_are) c.in_ok-wiring.ensures,
         subst IsOfDocument (sym same) c.requires.accepted,
       );
     }

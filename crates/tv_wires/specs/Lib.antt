@@ -1,0 +1,5 @@
+pub mod Feeds
+pub mod Ports
+pub mod Turned
+pub mod Wirings
+pub mod Codes
