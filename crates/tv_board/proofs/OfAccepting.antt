@@ -4,10 +4,12 @@ use Rattle.std.specs.List.{list_all, list_any}
 use Rattle.std.specs.Option.{option_map_or}
 use Rattle.std.specs.Prelude.{◌≡◌, refl, ℕ, ◌+◌, ◌<◌, ◌≤◌, List, [], ◌∷◌, ◌++◌, Bool, true, false, ◌&&◌, ◌||◌, ◌==◌, if◌then◌else◌, Option, Some, None, Result, Ok, Err, Vec, find, is_ok, is_some, length, map, nat_lt, option_and_then, slice_get, suc, unwrap_or, vec_capacity, vec_len, zero}
 use Rattle.std.specs.Cmp.Lexicographic.{bytes_decides}
-use Rattle.std.proofs.Common.{arith, sym, ap, subst, ◌∙◌, inl, inr, eqb-true, eq-eqb}
+use Rattle.std.proofs.Common.{arith, sym, ap, subst, ◌∙◌, eqb-true, eq-eqb}
 use Rattle.std.proofs.lemmas.Bool.{lt-ltb}
 use Rattle.std.proofs.lemmas.List.{length-append, length-map}
 use Rattle.std.proofs.lemmas.List.Folds.{list_all-append}
+use Rattle.std.proofs.lemmas.Option.{same_Some}
+use Rattle.tv_history.proofs.Tests.{find-passes}
 use Rattle.tv_value.specs.Orders.{same_job, same_name}
 use Rattle.tv_value.specs.Values.{JobName, Name, Value}
 use Rattle.tv_value.specs.Views.{values_view}
@@ -19,9 +21,9 @@ use Rattle.tv_dispatch.specs.Jobs.{Ask, judged}
 use Rattle.tv_dispatch.specs.Verdicts.{verdict_of}
 use Rattle.tv_dispatch.specs.declared.judgment.Verdict.{Verdict}
 use Rattle.tv_model.specs.Jobs.{Job}
-use Rattle.tv_model.specs.Meanings.{meaning, most_nesting}
+use Rattle.tv_model.specs.Meanings.{meaning, nesting_limit}
 use Rattle.tv_model.specs.Members.{In}
-use Rattle.tv_model.proofs.Members.{snoc-parts}
+use Rattle.tv_model.proofs.Members.{snoc-parts, any-in}
 use Rattle.tv_model.proofs.Tests.{both_true, left_true, right_true, same_job_decides, true≠false}
 use Rattle.tv_model.proofs.Whole.{AnyNumber}
 use Rattle.tv_history.specs.Entries as history
@@ -32,13 +34,12 @@ use Rattle.tv_history.proofs.Ready.{are-jobs}
 use Rattle.tv_outcomes.specs.Agreed.{AgreeNext, AgreeOn, ready}
 use Rattle.tv_outcomes.proofs.Decided.{agreement-grows}
 use Rattle.tv_outcomes.proofs.Instances.{any-whole}
-use Rattle.tv_outcomes.proofs.Takes.{some-part}
 use Rattle.tv_whole.specs.Known.{is_call, known_gives}
 use Rattle.tv_whole.specs.Sameness.{same_values}
 use Rattle.tv_whole.specs.WholeViews.{IsWhole, whole_view}
 use Rattle.tv_known.specs.declared.known.KnownCall.{KnownCall}
 use Rattle.tv_known.specs.declared.parts.Whole.{Whole}
-use Rattle.tv_state.specs.EventViews.{entry_of, name_at}
+use Rattle.tv_state.specs.EventViews.{name_at}
 use Rattle.tv_state.specs.EventViews as events
 use Rattle.tv_state.specs.declared.events.Event.{Event}
 use Rattle.tv_board.specs.Answers.{Question}
@@ -110,23 +111,6 @@ module _ (gives : Giving) where
 
 -- ---- a try that is out
 
-any-in : {A : Type 0} (p : A → Bool) (xs : List A) (x : A) → In x xs → p x ≡ true → list_any p xs ≡ true
-any-in p [] x i h = absurd i
-any-in p (y ∷ ys) x (inl e) h = subst (λ b. (b || list_any p ys) ≡ true) (sym (ap p (sym e) ∙ h)) refl
-any-in p (y ∷ ys) x (inr i) h = by (p y) (any-in p ys x i h)
-  where
-    by : (b : Bool) → list_any p ys ≡ true → (b || list_any p ys) ≡ true
-    by true k = refl
-    by false k = k
-
-find-passes : {A : Type 0} (p : A → Bool) (xs : List A) (x : A) → find p xs ≡ Some x → In x xs × (p x ≡ true)
-find-passes p [] x e = absurd (true≠false (sym (ap is_some e)))
-find-passes {A = A} p (y ∷ ys) x e = by (p y) refl e (find-passes p ys x)
-  where
-    by : (b : Bool) → p y ≡ b → (if b then Some y else find p ys) ≡ Some x → (find p ys ≡ Some x → In x ys × (p x ≡ true)) → In x (y ∷ ys) × (p x ≡ true)
-    by true h k rec = let same = some-part y x k in (inl (sym same), ap p (sym same) ∙ h)
-    by false h k rec = let r = rec k in (inr r.0, r.1)
-
 below : {A : Type 0} (xs : List A) (k : ℕ) (x : A) → slice_get xs k ≡ Some x → k < length xs
 below [] k x e = absurd (true≠false (sym (ap is_some e)))
 below (y ∷ ys) zero x e = omega arith
@@ -148,41 +132,41 @@ module _ (gives : Giving) (d : Document) (names : List JobName) (past : History)
     named : same_job name job.name ≡ true
     out : is_out past job.name ≡ true
     asks : (a == asked.activity && t == asked.attempt) ≡ true
-    next : next_ask gives (meaning gives d) past job ≡ Some asked
+    next : next_ask past job ≡ Some asked
 
-  of-job : (n : JobName) → slice_get names k ≡ Some n → (j : Job) → In j (meaning gives d).jobs × (same_job n j.name ≡ true) → try_out gives (meaning gives d) past a t j ≡ Some asked → IsOut
-  of-job n e j f h = by (is_out past j.name) refl (next_ask gives (meaning gives d) past j) refl h
+  of-job : (n : JobName) → slice_get names k ≡ Some n → (j : Job) → In j (meaning gives d).jobs × (same_job n j.name ≡ true) → try_out (meaning gives d) past a t j ≡ Some asked → IsOut
+  of-job n e j f h = by (is_out past j.name) refl (next_ask past j) refl h
     where
       no : (b : Bool) (o : Option Ask) → o ≡ None → (if b then o else None) ≡ Some asked → ⊥
       no true o p q = true≠false (sym (ap is_some q) ∙ ap is_some p)
       no false o p q = true≠false (sym (ap is_some q))
 
-      found : (x : Ask) → is_out past j.name ≡ true → next_ask gives (meaning gives d) past j ≡ Some x → (b : Bool) → (a == x.activity && t == x.attempt) ≡ b → (if b then Some x else None) ≡ Some asked → IsOut
-      found x o p true q r = let same = some-part x asked r in record { name = n; there = e; job = j; mine = f.0; named = f.1; out = o; asks = subst (λ y. (a == y.activity && t == y.attempt) ≡ true) same q; next = p ∙ r }
+      found : (x : Ask) → is_out past j.name ≡ true → next_ask past j ≡ Some x → (b : Bool) → (a == x.activity && t == x.attempt) ≡ b → (if b then Some x else None) ≡ Some asked → IsOut
+      found x o p true q r = let same = same_Some x asked r in record { name = n; there = e; job = j; mine = f.0; named = f.1; out = o; asks = subst (λ y. (a == y.activity && t == y.attempt) ≡ true) same q; next = p ∙ r }
       found x o p false q r = absurd (true≠false (sym (ap is_some r)))
 
-      by : (b : Bool) → is_out past j.name ≡ b → (o : Option Ask) → next_ask gives (meaning gives d) past j ≡ o → (if b && option_map_or (is_ask gives (meaning gives d) a t) o false then o else None) ≡ Some asked → IsOut
+      by : (b : Bool) → is_out past j.name ≡ b → (o : Option Ask) → next_ask past j ≡ o → (if b && option_map_or (is_ask a t) o false then o else None) ≡ Some asked → IsOut
       by false p o q r = absurd (true≠false (sym (ap is_some r)))
       by true p None q r = absurd (true≠false (sym (ap is_some r)))
       by true p (Some x) q r = found x p q (a == x.activity && t == x.attempt) refl r
 
-  is-out : option_and_then (try_out gives (meaning gives d) past a t) (job_at (meaning gives d) names k) ≡ Some asked → IsOut
+  is-out : option_and_then (try_out (meaning gives d) past a t) (job_at (meaning gives d) names k) ≡ Some asked → IsOut
   is-out h = by (slice_get names k) refl h
     where
-      with_name : (n : JobName) → slice_get names k ≡ Some n → (o : Option Job) → find (λ (j : Job). same_job n j.name) (meaning gives d).jobs ≡ o → option_and_then (try_out gives (meaning gives d) past a t) o ≡ Some asked → IsOut
+      with_name : (n : JobName) → slice_get names k ≡ Some n → (o : Option Job) → find (λ (j : Job). same_job n j.name) (meaning gives d).jobs ≡ o → option_and_then (try_out (meaning gives d) past a t) o ≡ Some asked → IsOut
       with_name n e None p q = absurd (true≠false (sym (ap is_some q)))
       with_name n e (Some j) p q = of-job n e j (find-passes (λ (x : Job). same_job n x.name) (meaning gives d).jobs j p) q
 
-      by : (o : Option JobName) → slice_get names k ≡ o → option_and_then (try_out gives (meaning gives d) past a t) (option_and_then (λ n. find (λ (j : Job). same_job n j.name) (meaning gives d).jobs) o) ≡ Some asked → IsOut
+      by : (o : Option JobName) → slice_get names k ≡ o → option_and_then (try_out (meaning gives d) past a t) (option_and_then (λ n. find (λ (j : Job). same_job n j.name) (meaning gives d).jobs) o) ≡ Some asked → IsOut
       by None p q = absurd (true≠false (sym (ap is_some q)))
       by (Some n) p q = with_name n p (find (λ (j : Job). same_job n j.name) (meaning gives d).jobs) refl q
 
 -- ---- its acceptance
 
-same-bool : (g : Giving) (d : Document) (b c : Bool) → b ≡ c → same_bool g (meaning g d) b c ≡ true
-same-bool g d b c e = subst (λ x. same_bool g (meaning g d) b x ≡ true) e (itself b)
+same-bool : (d : Document) (b c : Bool) → b ≡ c → same_bool b c ≡ true
+same-bool d b c e = subst (λ x. same_bool b x ≡ true) e (itself b)
   where
-    itself : (x : Bool) → same_bool g (meaning g d) x x ≡ true
+    itself : (x : Bool) → same_bool x x ≡ true
     itself true = refl
     itself false = refl
 
@@ -192,19 +176,19 @@ module _ (gives : Giving) (d : Document) (names : List JobName) (past : History)
 
   accepted-legal : good ≡ is_ok (judged asked.outputs (gives asked.service asked.inputs asked.attempt)) → is_legal_after gives (meaning gives d) past (history.accepted (name_at names k) a t good) ≡ true
   accepted-legal e =
-      both_true (is_out past (name_at names k)) (list_any (λ j. is_at gives (meaning gives d) j (name_at names k) && option_map_or (λ x. is_ask gives (meaning gives d) a t x && same_bool gives (meaning gives d) good (histories.is_right gives (meaning gives d) x)) (next_ask gives (meaning gives d) past j) false) (meaning gives d).jobs)
+      both_true (is_out past (name_at names k)) (list_any (λ j. is_at j (name_at names k) && option_map_or (λ x. is_ask a t x && same_bool good (histories.is_right gives x)) (next_ask past j) false) (meaning gives d).jobs)
       (ap (is_out past) name-is ∙ o.out)
-      (any-in (λ j. is_at gives (meaning gives d) j (name_at names k) && option_map_or (λ x. is_ask gives (meaning gives d) a t x && same_bool gives (meaning gives d) good (histories.is_right gives (meaning gives d) x)) (next_ask gives (meaning gives d) past j) false) (meaning gives d).jobs o.job o.mine
-      (both_true (is_at gives (meaning gives d) o.job (name_at names k)) (option_map_or (λ x. is_ask gives (meaning gives d) a t x && same_bool gives (meaning gives d) good (histories.is_right gives (meaning gives d) x)) (next_ask gives (meaning gives d) past o.job) false)
+      (any-in (λ j. is_at j (name_at names k) && option_map_or (λ x. is_ask a t x && same_bool good (histories.is_right gives x)) (next_ask past j) false) o.job (meaning gives d).jobs o.mine
+      (both_true (is_at o.job (name_at names k)) (option_map_or (λ x. is_ask a t x && same_bool good (histories.is_right gives x)) (next_ask past o.job) false)
       ((same_job_decides (name_at names k) o.job.name).1 name-is)
-      (ap (λ x. option_map_or (λ x. is_ask gives (meaning gives d) a t x && same_bool gives (meaning gives d) good (histories.is_right gives (meaning gives d) x)) x false) o.next ∙ both_true (a == asked.activity && t == asked.attempt) (same_bool gives (meaning gives d) good (histories.is_right gives (meaning gives d) asked)) o.asks (same-bool gives d good (histories.is_right gives (meaning gives d) asked) e))))
+      (ap (λ x. option_map_or (λ x. is_ask a t x && same_bool good (histories.is_right gives x)) x false) o.next ∙ both_true (a == asked.activity && t == asked.attempt) (same_bool good (histories.is_right gives asked)) o.asks (same-bool d good (histories.is_right gives asked) e))))
 
   -- its job has that try next, and no other
   accepted-agreed : (other : Giving) → gives asked.service asked.inputs asked.attempt ≡ other asked.service asked.inputs asked.attempt → AgreeNext gives other (meaning gives d) past (history.accepted (name_at names k) a t good)
   accepted-agreed other e j i n x h =
-      let once = (are-jobs gives AnyNumber (meaning gives d) [] (any-whole gives d.flows most_nesting d.main [] d.inputs)).once in
+      let once = (are-jobs gives AnyNumber (meaning gives d) [] (any-whole gives d.flows nesting_limit d.main [] d.inputs)).once in
       let same : j ≡ o.job = once j o.job i o.mine (n ∙ name-is) in
-      let ask_is : asked ≡ x = some-part asked x (sym o.next ∙ ap (next_ask gives (meaning gives d) past) (sym same) ∙ h) in
+      let ask_is : asked ≡ x = same_Some asked x (sym o.next ∙ ap (next_ask past) (sym same) ∙ h) in
       subst (λ (y : Ask). gives y.service y.inputs y.attempt ≡ other y.service y.inputs y.attempt) ask_is e
 
 -- ---- the board
@@ -222,10 +206,10 @@ board-back gives d known known' whole names names' evs evs' es es' b k n v e cv 
     more_room p q = omega (arith, p, q)
 
 -- after the acceptance of a task's outcome
-pub kept-accepted : (gives : Giving) (d : Document) (known : List KnownCall) (call : KnownCall) (whole whole' : Whole) (names more : List JobName) (es : List Entry) (evs : List Event) (q : Question) (good : Bool) → is_formed d ≡ true → IsKept gives d known whole names es → evs ≡ map (event_of d) es → IsTask gives (run_of d names es) q → is_known_right gives call ≡ true → (q.service ≡ call.service) × (q.inputs ≡ values_view call.inputs) × (q.ticket.attempt ≡ call.attempt) → good ≡ is_right q (outcome_view call.outcome) → IsWhole (meaning (known_gives (known ++ call ∷ [])) d) whole' → ((g : Giving) → names ++ more ≡ numbering names (ready g (whole_view whole') (events.past_of names (evs ++ event_of d (accepts q.ticket good) ∷ [])))) → IsKept gives d (known ++ call ∷ []) whole' (names ++ more) (es ++ accepts q.ticket good ∷ [])
+pub kept-accepted : (gives : Giving) (d : Document) (known : List KnownCall) (call : KnownCall) (whole whole' : Whole) (names more : List JobName) (es : List Entry) (evs : List Event) (q : Question) (good : Bool) → is_formed d ≡ true → IsKept gives d known whole names es → evs ≡ map (event_of d) es → IsTask gives (run_of d names es) q → is_known_right gives call ≡ true → (q.service ≡ call.service) × (q.inputs ≡ values_view call.inputs) × (q.ticket.attempt ≡ call.attempt) → good ≡ is_right q (outcome_view call.outcome) → IsWhole (meaning (known_gives (known ++ call ∷ [])) d) whole' → (names ++ more ≡ numbering names (ready (whole_view whole') (events.past_of names (evs ++ event_of d (accepts q.ticket good) ∷ [])))) → IsKept gives d (known ++ call ∷ []) whole' (names ++ more) (es ++ accepts q.ticket good ∷ [])
 kept-accepted gives d known call whole whole' names more es evs q good f kept h task r c g w numbers =
     kept-after gives d known (known ++ call ∷ []) whole whole' names more es (accepts q.ticket good) f kept (at-below names q.ticket.job out.name out.there) legal (all-right gives known call kept.known_right r) agrees w
-    (numbers (known_gives (known ++ call ∷ [])) ∙ ap (λ p. numbering names (ready (known_gives (known ++ call ∷ [])) (whole_view whole') p)) (past-of_appended gives d known whole names es (accepts q.ticket good) evs (event_of d (accepts q.ticket good)) kept h refl))
+    (numbers ∙ ap (λ p. numbering names (ready (whole_view whole') p)) (past-of_appended gives d known whole names es (accepts q.ticket good) evs (event_of d (accepts q.ticket good)) kept h refl))
   where
     past : History
     past = past_of (run_of d names es)
@@ -254,7 +238,7 @@ kept-accepted gives d known call whole whole' names more es evs q good f kept h 
         (accepted-agreed gives d names past q.ticket.job q.ticket.activity q.ticket.attempt asked out good (known_gives (known ++ call ∷ [])) (now-known gives known call kept.known_right r asked.service asked.inputs asked.attempt is_call_of))
 
 -- the board then
-pub board-taken : (gives : Giving) (d : Document) (known known' : List KnownCall) (call : KnownCall) (whole whole' : Whole) (names names₁ names' : Vec JobName Global) (evs evs₁ : Vec Event Global) (es es₁ es' : Vec Entry Global) (more : Vec JobName Global) (q : Question) (good : Bool) → known' ≡ known ++ call ∷ [] → is_formed d ≡ true → IsBoard gives d known whole names evs es → IsTask gives (run_of d names.items es.items) q → is_known_right gives call ≡ true → (q.service ≡ call.service) × (q.inputs ≡ values_view call.inputs) × (q.ticket.attempt ≡ call.attempt) → good ≡ is_right q (outcome_view call.outcome) → IsWhole (meaning (known_gives known') d) whole' → ((g : Giving) → names.items ++ more.items ≡ numbering names.items (ready g (whole_view whole') (events.past_of names.items (evs.items ++ event_of d (accepts q.ticket good) ∷ [])))) → HasRoom names₁ evs₁ es₁ (vec_len more) → names₁.items ≡ names.items → es₁.items ≡ es.items → evs₁.items ≡ evs.items ++ event_of d (accepts q.ticket good) ∷ [] → names'.items ≡ names₁.items ++ more.items → es'.items ≡ es₁.items ++ accepts q.ticket good ∷ [] → vec_capacity es₁ ≤ vec_capacity es' → IsBoard gives d known' whole' names' evs₁ es'
+pub board-taken : (gives : Giving) (d : Document) (known known' : List KnownCall) (call : KnownCall) (whole whole' : Whole) (names names₁ names' : Vec JobName Global) (evs evs₁ : Vec Event Global) (es es₁ es' : Vec Entry Global) (more : Vec JobName Global) (q : Question) (good : Bool) → known' ≡ known ++ call ∷ [] → is_formed d ≡ true → IsBoard gives d known whole names evs es → IsTask gives (run_of d names.items es.items) q → is_known_right gives call ≡ true → (q.service ≡ call.service) × (q.inputs ≡ values_view call.inputs) × (q.ticket.attempt ≡ call.attempt) → good ≡ is_right q (outcome_view call.outcome) → IsWhole (meaning (known_gives known') d) whole' → (names.items ++ more.items ≡ numbering names.items (ready (whole_view whole') (events.past_of names.items (evs.items ++ event_of d (accepts q.ticket good) ∷ [])))) → HasRoom names₁ evs₁ es₁ (vec_len more) → names₁.items ≡ names.items → es₁.items ≡ es.items → evs₁.items ≡ evs.items ++ event_of d (accepts q.ticket good) ∷ [] → names'.items ≡ names₁.items ++ more.items → es'.items ≡ es₁.items ++ accepts q.ticket good ∷ [] → vec_capacity es₁ ≤ vec_capacity es' → IsBoard gives d known' whole' names' evs₁ es'
 board-taken gives d known known' call whole whole' names names₁ names' evs evs₁ es es₁ es' more q good k f b task r c g w numbers room n₁ e₁ ev₁ n₂ e₂ cap =
     let e : Entry = accepts q.ticket good in
     let ln : length (names.items ++ more.items) ≡ length names₁.items + length more.items = length-append names.items more.items ∙ ap (λ x. x + length more.items) (ap length (sym n₁)) in

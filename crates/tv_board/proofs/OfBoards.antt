@@ -4,6 +4,7 @@ use Rattle.std.specs.Global.{Global}
 use Rattle.std.proofs.Common.{ap, arith, eq-eqb, subst, sym, ◌∙◌}
 use Rattle.std.proofs.lemmas.Bool.{lt-ltb, ltb-true}
 use Rattle.std.proofs.lemmas.List.{append-nil, length-append, length-map, map-append}
+use Rattle.std.proofs.lemmas.List.Sums.{count_by-le-length}
 use Rattle.tv_value.specs.Values.{JobName}
 use Rattle.tv_gate.specs.Outcomes.{Giving}
 use Rattle.tv_flow.specs.Flows.{Document}
@@ -14,7 +15,7 @@ use Rattle.tv_model.proofs.Tests.{both_true, same_job_decides}
 use Rattle.tv_history.specs.Entries as history
 use Rattle.tv_history.specs.Entries.{History, is_out}
 use Rattle.tv_history.specs.Histories.{is_legal_after}
-use Rattle.tv_history.specs.Tallies.{bit, tally}
+use Rattle.tv_history.proofs.Counts.{bit, tally, count-tally}
 use Rattle.tv_outcomes.specs.Agreed.{AgreeNext, AgreeOn, ready}
 use Rattle.tv_outcomes.proofs.Decided.{agreement-grows}
 use Rattle.tv_whole.specs.Known.{known_gives}
@@ -37,20 +38,12 @@ use Rattle.tv_board.specs.declared.entry.Entry.TheVariants as entry
 use Rattle.tv_board.proofs.OfKept.{kept-after, kept-quiet, kept-start, past-appended}
 use Rattle.tv_board.proofs.OfPasts.{events-told, past-told, reverse-one_more, told}
 
-pub tally-most : {A : Type 0} (p : A → Bool) (xs : List A) → tally p xs ≤ length xs
-tally-most p [] = omega arith
-tally-most p (x ∷ xs) = by (p x) (tally-most p xs)
-  where
-    by : (b : Bool) → tally p xs ≤ length xs → bit b + tally p xs ≤ length (x ∷ xs)
-    by true l = omega arith
-    by false l = omega arith
-
 module _ (gives : Giving) (d : Document) (known : List KnownCall) (whole : Whole) where
   -- with room for all jobs
   pub board-made : (names : Vec JobName Global) (evs : Vec Event Global) (entries : Vec Entry Global) (ns : List JobName) (es : List Entry) → IsKept gives d known whole ns es → names.items ≡ ns → entries.items ≡ es → evs.items ≡ map (event_of d) es → length es + length ns ≤ vec_capacity entries → length es + length ns ≤ vec_capacity evs → IsBoard gives d known whole names evs entries
   board-made names evs entries ns es kept en ee ev l k =
       let past : History = past_of (run_of d names.items entries.items) in
-      let most : not_out names.items past ≤ length names.items = tally-most (λ n. not (is_out past n)) names.items in
+      let most : not_out names.items past ≤ length names.items = count_by-le-length (λ n. not (is_out past n)) names.items in
       let ln : length names.items ≡ length ns = ap length en in
       let le : length entries.items ≡ length es = ap length ee in
       record {
@@ -60,9 +53,9 @@ module _ (gives : Giving) (d : Document) (known : List KnownCall) (whole : Whole
         room_of_events = omega (arith, most, ln, le, k);
       }
 
-  pub board-start : (names : Vec JobName Global) (evs : Vec Event Global) (entries : Vec Entry Global) → is_formed d ≡ true → opens_nothing d ≡ true → known ≡ [] → IsWhole (meaning (known_gives known) d) whole → names.items ≡ numbering [] (ready (known_gives known) (whole_view whole) []) → entries.items ≡ [] → evs.items ≡ [] → length names.items ≤ vec_capacity entries → length names.items ≤ vec_capacity evs → IsBoard gives d known whole names evs entries
+  pub board-start : (names : Vec JobName Global) (evs : Vec Event Global) (entries : Vec Entry Global) → is_formed d ≡ true → opens_nothing d ≡ true → known ≡ [] → IsWhole (meaning (known_gives known) d) whole → names.items ≡ numbering [] (ready (whole_view whole) []) → entries.items ≡ [] → evs.items ≡ [] → length names.items ≤ vec_capacity entries → length names.items ≤ vec_capacity evs → IsBoard gives d known whole names evs entries
   board-start names evs entries f flat ek w en ee ev l k =
-      let kept : IsKept gives d known whole names.items [] = subst (λ ks. IsKept gives d ks whole names.items []) (sym ek) (kept-start gives d whole names.items f flat (subst (λ ks. IsWhole (meaning (known_gives ks) d) whole) ek w) (subst (λ ks. names.items ≡ numbering [] (ready (known_gives ks) (whole_view whole) [])) ek en)) in
+      let kept : IsKept gives d known whole names.items [] = subst (λ ks. IsKept gives d ks whole names.items []) (sym ek) (kept-start gives d whole names.items f flat (subst (λ ks. IsWhole (meaning (known_gives ks) d) whole) ek w) (subst (λ ks. names.items ≡ numbering [] (ready (whole_view whole) [])) ek en)) in
       board-made names evs entries names.items [] kept (λ i. names.items) ee ev (omega arith) (omega arith)
 
   -- where only room has grown
@@ -89,22 +82,16 @@ module _ (gives : Giving) (d : Document) (known : List KnownCall) (whole : Whole
       ∙ ap (λ p. told d ns e ∷ p) (sym (past-told d ns _ es kept.within))
 
   agree-next : (ns : List JobName) (past : History) (e : Entry) → IsNoOutcome e → AgreeNext gives (known_gives known) (meaning gives d) past (told d ns e)
-  agree-next ns past (entry.HandedOut k a t) n = tt
   agree-next ns past (entry.Accepted k a t r) n = absurd n
-  agree-next ns past (entry.Bounced k) n = tt
-  agree-next ns past (entry.Closed i s q c) n = tt
-  agree-next ns past (entry.Passed i s q) n = tt
-  agree-next ns past (entry.Opened k i) n = tt
-  agree-next ns past (entry.Ended i) n = tt
-  agree-next ns past (entry.Recalled c) n = tt
+  agree-next ns past e n = tt
 
   -- an entry that accepts nothing, and the numbers of the jobs that are ready then
-  pub kept-next : (ns more : List JobName) (es : List Entry) (e : Entry) (evs : List Event) (event : Event) → is_formed d ≡ true → IsKept gives d known whole ns es → evs ≡ map (event_of d) es → IsNext gives (run_of d ns es) event e → ((g : Giving) → ns ++ more ≡ numbering ns (ready g (whole_view whole) (events.past_of ns (evs ++ event ∷ [])))) → IsKept gives d known whole (ns ++ more) (es ++ e ∷ [])
+  pub kept-next : (ns more : List JobName) (es : List Entry) (e : Entry) (evs : List Event) (event : Event) → is_formed d ≡ true → IsKept gives d known whole ns es → evs ≡ map (event_of d) es → IsNext gives (run_of d ns es) event e → (ns ++ more ≡ numbering ns (ready (whole_view whole) (events.past_of ns (evs ++ event ∷ [])))) → IsKept gives d known whole (ns ++ more) (es ++ e ∷ [])
   kept-next ns more es e evs event f kept h next numbers =
       let agrees : AgreeOn gives (known_gives known) (meaning gives d) (told d ns e ∷ past_of (run_of d ns es)) = agreement-grows gives (known_gives known) d (past_of (run_of d ns es)) (told d ns e) next.legal kept.agrees (agree-next ns (past_of (run_of d ns es)) e next.no_outcome) in
-      kept-after gives d known known whole whole ns more es e f kept next.within next.legal kept.known_right agrees kept.worked_out (numbers (known_gives known) ∙ ap (λ p. numbering ns (ready (known_gives known) (whole_view whole) p)) (past-of_appended ns es e evs event kept h next.same))
+      kept-after gives d known known whole whole ns more es e f kept next.within next.legal kept.known_right agrees kept.worked_out (numbers ∙ ap (λ p. numbering ns (ready (whole_view whole) p)) (past-of_appended ns es e evs event kept h next.same))
 
-  pub board-after : (names names₁ names' : Vec JobName Global) (evs evs₁ : Vec Event Global) (entries entries₁ entries' : Vec Entry Global) (more : Vec JobName Global) (event : Event) (e : Entry) → is_formed d ≡ true → IsBoard gives d known whole names evs entries → IsNext gives (run_of d names.items entries.items) event e → ((g : Giving) → names.items ++ more.items ≡ numbering names.items (ready g (whole_view whole) (events.past_of names.items (evs.items ++ event ∷ [])))) → HasRoom names₁ evs₁ entries₁ (vec_len more) → names₁.items ≡ names.items → entries₁.items ≡ entries.items → evs₁.items ≡ evs.items ++ event ∷ [] → names'.items ≡ names₁.items ++ more.items → entries'.items ≡ entries₁.items ++ e ∷ [] → vec_capacity entries₁ ≤ vec_capacity entries' → IsBoard gives d known whole names' evs₁ entries'
+  pub board-after : (names names₁ names' : Vec JobName Global) (evs evs₁ : Vec Event Global) (entries entries₁ entries' : Vec Entry Global) (more : Vec JobName Global) (event : Event) (e : Entry) → is_formed d ≡ true → IsBoard gives d known whole names evs entries → IsNext gives (run_of d names.items entries.items) event e → (names.items ++ more.items ≡ numbering names.items (ready (whole_view whole) (events.past_of names.items (evs.items ++ event ∷ [])))) → HasRoom names₁ evs₁ entries₁ (vec_len more) → names₁.items ≡ names.items → entries₁.items ≡ entries.items → evs₁.items ≡ evs.items ++ event ∷ [] → names'.items ≡ names₁.items ++ more.items → entries'.items ≡ entries₁.items ++ e ∷ [] → vec_capacity entries₁ ≤ vec_capacity entries' → IsBoard gives d known whole names' evs₁ entries'
   board-after names names₁ names' evs evs₁ entries entries₁ entries' more event e f b next numbers room n₁ e₁ ev₁ n₂ e₂ cap =
       let ln : length (names.items ++ more.items) ≡ length names₁.items + length more.items = length-append names.items more.items ∙ ap (λ k. k + length more.items) (ap length (sym n₁)) in
       let le : length (entries.items ++ e ∷ []) ≡ length entries₁.items + length (e ∷ []) = length-append entries.items (e ∷ []) ∙ ap (λ k. k + length (e ∷ [])) (ap length (sym e₁)) in
@@ -122,19 +109,26 @@ module _ (gives : Giving) (d : Document) (known : List KnownCall) (whole : Whole
       by false true = omega arith
       by false false = omega arith
 
-  no-more : (past : History) (n : JobName) (a t : ℕ) (ns : List JobName) → not_out ns (history.handed_out n a t ∷ past) ≤ not_out ns past
+  -- as proofs go through it
+  abbrev resting : List JobName → History → ℕ
+  resting ns past = tally (λ n. not (is_out past n)) ns
+
+  no-more : (past : History) (n : JobName) (a t : ℕ) (ns : List JobName) → resting ns (history.handed_out n a t ∷ past) ≤ resting ns past
   no-more past n a t [] = omega arith
   no-more past n a t (x ∷ xs) = let l = less past n x a t in let k = no-more past n a t xs in omega (arith, l, k)
 
-  -- one fewer isn't out
-  pub one-fewer : (past : History) (a t : ℕ) (ns : List JobName) (k : ℕ) (n : JobName) → k < length ns → name_at ns k ≡ n → is_out past n ≡ false → not_out ns (history.handed_out n a t ∷ past) + 1 ≤ not_out ns past
-  one-fewer past a t [] k n h e o = absurd (omega arith)
-  one-fewer past a t (x ∷ xs) zero n h e o =
+  one-less : (past : History) (a t : ℕ) (ns : List JobName) (k : ℕ) (n : JobName) → k < length ns → name_at ns k ≡ n → is_out past n ≡ false → resting ns (history.handed_out n a t ∷ past) + 1 ≤ resting ns past
+  one-less past a t [] k n h e o = absurd (omega arith)
+  one-less past a t (x ∷ xs) zero n h e o =
       let after : bit (not (is_out (history.handed_out n a t ∷ past) x)) ≡ 0 = ap (λ b. bit (not (if b then true else is_out past x))) ((same_job_decides x n).1 e) in
       let before : bit (not (is_out past x)) ≡ 1 = ap (λ b. bit (not b)) (ap (is_out past) e ∙ o) in
       let l = no-more past n a t xs in
       omega (arith, after, before, l)
-  one-fewer past a t (x ∷ xs) (suc k) n h e o = let l = less past n x a t in let i = one-fewer past a t xs k n (omega arith) e o in omega (arith, l, i)
+  one-less past a t (x ∷ xs) (suc k) n h e o = let l = less past n x a t in let i = one-less past a t xs k n (omega arith) e o in omega (arith, l, i)
+
+  -- one fewer isn't out
+  pub one-fewer : (past : History) (a t : ℕ) (ns : List JobName) (k : ℕ) (n : JobName) → k < length ns → name_at ns k ≡ n → is_out past n ≡ false → not_out ns (history.handed_out n a t ∷ past) + 1 ≤ not_out ns past
+  one-fewer past a t ns k n h e o = omega (arith, one-less past a t ns k n h e o, count-tally (λ x. not (is_out (history.handed_out n a t ∷ past) x)) ns, count-tally (λ x. not (is_out past x)) ns)
 
   pub room-to_hand : (names : Vec JobName Global) (evs : Vec Event Global) (entries : Vec Entry Global) (t : Ticket) → IsBoard gives d known whole names evs entries → IsHandable gives (run_of d names.items entries.items) t → (vec_len evs < vec_capacity evs) × (vec_len entries < vec_capacity entries)
   room-to_hand names evs entries t b h =

@@ -6,6 +6,9 @@ use Rattle.std.specs.Prelude.{Bool, Err, List, None, Ok, Option, Result, Some, [
 use Rattle.std.specs.List.{range_with_len}
 use Rattle.std.proofs.Common.{ap, inl, inr, subst, sym, ◌∙◌}
 use Rattle.std.proofs.lemmas.List.Folds.{list_all-append}
+use Rattle.std.proofs.lemmas.Option.{same_Some}
+use Rattle.tv_history.proofs.Tests.{all_in}
+use Rattle.tv_lemmas.proofs.Cases.{on_either}
 use Rattle.tv_value.specs.Activities.{Activity, nested, service}
 use Rattle.tv_value.specs.Nested.{Place, leaf, list, nodes}
 use Rattle.tv_value.specs.Orders.{named, same_name}
@@ -15,23 +18,22 @@ use Rattle.tv_flow.specs.Flows.{Document, Flow, Step}
 use Rattle.tv_strategy.specs.Iterations.{Iteration, iteration, job, passed}
 use Rattle.tv_strategy.specs.Origins.{Origin, Traced, plain}
 use Rattle.tv_strategy.specs.Sources.{Each}
-use Rattle.tv_dispatch.specs.Jobs.{Ask, Fate, Taken, Try, ask, error_results, match_result, open_flow, opens, outcome_of, right, taken, tries, wrong}
-use Rattle.tv_check.specs.Delivered.{Delivered, StepMeaning, ported}
+use Rattle.tv_dispatch.specs.Jobs.{Ask, Fate, Try, ask, error_results, open_flow, opens, outcome_of, right, taken, tries, wrong}
+use Rattle.tv_check.specs.Delivered.{Delivered, ported}
 use Rattle.tv_check.specs.Steps.{bound_values, declared_depths, port_iteration, spot, strategy_of}
 use Rattle.tv_model.specs.Instances.{bounced_job, job_on, node_jobs, step_made, steps_made, tried_job, with_fate}
 use Rattle.tv_model.specs.Jobs.{Ending, Job, failed_end, good_end}
 use Rattle.tv_model.specs.Made.{Made, Meaning, Opened, endings, feed_value}
 use Rattle.tv_model.specs.Members.{In}
 use Rattle.tv_check.specs.Ranks.{ranked}
-use Rattle.tv_model.specs.Earlier.{given_of}
-use Rattle.tv_model.specs.Meanings.{flow_meaning, instance_meaning, jobs_with_inside, meaning, no_meaning, steps_inside}
+use Rattle.tv_model.specs.Instances.{given_of}
+use Rattle.tv_model.specs.Meanings.{flow_meaning, instance_meaning, jobs_with_inside, meaning, no_meaning}
 use Rattle.tv_model.proofs.Fed.{each-all, each-flat_map}
 use Rattle.tv_model.proofs.Members.{each_in, in_each, of-flat}
 use Rattle.tv_model.proofs.Order.{in-append}
 use Rattle.tv_model.proofs.Whole.{AnyNumber, rank-each}
 use Rattle.tv_model.proofs.Tests.{both_true, left_true, right_true, true≠false}
-use Rattle.tv_outcomes.proofs.Distinct.{attempts, no-flow, of-attempts, taken-in}
-use Rattle.tv_outcomes.proofs.Takes.{some-part}
+use Rattle.tv_outcomes.proofs.Distinct.{taken_by, attempts, no-flow, of-attempts, taken-in}
 use Rattle.tv_board.specs.Flat.{is_service, only_services, opens_nothing}
 
 abbrev pub is_asking : Try → Bool
@@ -54,11 +56,7 @@ tries-outputs : (vs : List Value) (ds : List ℕ) (retries k : ℕ) (acts : List
 tries-outputs vs ds retries k [] a h = absurd h
 tries-outputs vs ds retries k (nested f ∷ acts) a (inl e) = absurd (no-flow a f e)
 tries-outputs vs ds retries k (nested f ∷ acts) a (inr i) = tries-outputs vs ds retries (suc k) acts a i
-tries-outputs vs ds retries k (service s ∷ acts) a h = by (in-append (ask a) (attempts vs ds retries s k) (tries vs ds retries (suc k) acts) h) (λ i. tries-outputs vs ds retries (suc k) acts a i)
-  where
-    by : In (ask a) (attempts vs ds retries s k) ⊎ In (ask a) (tries vs ds retries (suc k) acts) → (In (ask a) (tries vs ds retries (suc k) acts) → a.outputs ≡ ds) → a.outputs ≡ ds
-    by (inl i) rec = ap (λ (x : Ask). x.outputs) (of-attempts vs ds retries s k a i)
-    by (inr i) rec = rec i
+tries-outputs vs ds retries k (service s ∷ acts) a h = on_either (in-append (ask a) (attempts vs ds retries s k) (tries vs ds retries (suc k) acts) h) (λ q. ap (λ (x : Ask). x.outputs) (of-attempts vs ds retries s k a q)) (λ q. tries-outputs vs ds retries (suc k) acts a q)
 
 -- a job of a step of this list, which asks for the depths that the step declares
 pub record IsOfStep (instance : JobName) (all : List (Name × Step)) (j : Job) : Type 0 where
@@ -82,7 +80,7 @@ taken-opens gives why [] h = refl
 taken-opens gives why (open_flow f ∷ ts) h = absurd (true≠false (sym h))
 taken-opens gives why (ask a ∷ ts) h = by (outcome_of gives a) (λ w. taken-opens gives w ts h)
   where
-    by : (o : Result (List Value) Text) → ((w : Text) → opens_one (taken gives w ts).fate ≡ false) → opens_one (match_result {C = Taken} o (λ vs. record { asks = a ∷ []; fate = right vs }) (λ reason. record { asks = a ∷ (taken gives reason ts).asks; fate = (taken gives reason ts).fate })).fate ≡ false
+    by : (o : Result (List Value) Text) → ((w : Text) → opens_one (taken gives w ts).fate ≡ false) → opens_one (taken_by gives a ts o).fate ≡ false
     by (Ok vs) rec = refl
     by (Err w) rec = rec w
 
@@ -119,30 +117,24 @@ module _ (gives : Giving) (inside : Name → JobName → List (Name × Value) �
   node-alone all n s ended h i (q, leaf r (passed m e)) = tt
   node-alone all n s ended h i (q, list r ts) = tt
 
-  -- a step of this list, whose jobs open nothing
-  pub record IsMadeAlone (all : List (Name × Step)) (m : Made) : Type 0 where
-    pub jobs : Each (IsAlone all) m.jobs
-    pub in_instance : m.step.instance ≡ instance
-    pub of_step : (s : Step) × In (m.step.step, s) all
+  -- a step whose jobs open nothing
+  abbrev IsMadeAlone : List (Name × Step) → Made → Type 0
+  IsMadeAlone all m = Each (IsAlone all) m.jobs
 
   step-alone : (all : List (Name × Step)) (given : List (Name × Delivered)) (made : List Made) (n : Name) (s : Step) → list_all is_service s.activities ≡ true → In (n, s) all → IsMadeAlone all (step_made gives inside instance given made (n, s))
-  step-alone all given made n s h i = record {
-    jobs = each-flat_map (λ x. Unit {0}) (IsAlone all) (node_jobs gives inside instance n s (endings made s.after)) (λ x u. node-alone all n s (endings made s.after) h i x) (nodes it) (each-all (λ x. Unit {0}) (λ x. tt) (nodes it));
-    in_instance = refl;
-    of_step = (s, i);
-  }
+  step-alone all given made n s h i =
+      each-flat_map (λ x. Unit {0}) (IsAlone all) (node_jobs gives inside instance n s (endings made s.after)) (λ x u. node-alone all n s (endings made s.after) h i x) (nodes it) (each-all (λ x. Unit {0}) (λ x. tt) (nodes it))
     where
       it : Iteration
       it = iteration (port_iteration (map (λ i. (i.0, ported i.1.depth (feed_value given made i.1.from))) s.inputs)) (strategy_of s)
 
-  pub steps-alone : (all : List (Name × Step)) (given : List (Name × Delivered)) (made : List Made) (ss : List (Name × Step)) → Each (IsMadeAlone all) made → Each (λ s. (list_all is_service s.1.activities ≡ true) × In s all) ss → Each (IsMadeAlone all) (steps_made gives inside instance given made ss)
+  steps-alone : (all : List (Name × Step)) (given : List (Name × Delivered)) (made : List Made) (ss : List (Name × Step)) → Each (IsMadeAlone all) made → Each (λ s. (list_all is_service s.1.activities ≡ true) × In s all) ss → Each (IsMadeAlone all) (steps_made gives inside instance given made ss)
   steps-alone all given made [] m h = m
   steps-alone all given made (s ∷ ss) m h = steps-alone all given (step_made gives inside instance given made s ∷ made) ss (step-alone all given made s.0 s.1 h.0.0 h.0.1, m) h.1
 
-  -- a meaning with this instance alone
-  pub record IsFlat (all : List (Name × Step)) (m : Meaning) : Type 0 where
-    pub jobs : (j : Job) → In j m.jobs → (j.opens ≡ None) × IsOfStep instance all j
-    pub steps : (s : StepMeaning) → In s m.steps → (s.instance ≡ instance) × ((t : Step) × In (s.step, t) all)
+  -- the jobs of a meaning with this instance alone
+  abbrev pub IsFlat : List (Name × Step) → Meaning → Type 0
+  IsFlat all m = (j : Job) → In j m.jobs → (j.opens ≡ None) × IsOfStep instance all j
 
   job-flat : (all : List (Name × Step)) (o : Opened) → IsAlone all o → (j : Job) → In j (jobs_with_inside o) → (j.opens ≡ None) × IsOfStep instance all j
   job-flat all o a j i = by (subst (λ x. In j (o.job ∷ option_map_or (λ (m : Meaning). m.jobs) x [])) a.nothing i)
@@ -151,68 +143,30 @@ module _ (gives : Giving) (inside : Name → JobName → List (Name × Value) �
       by (inl e) = (ap (λ (k : Job). k.opens) e ∙ a.opens, subst (IsOfStep instance all) (sym e) a.of_step)
       by (inr k) = absurd k
 
-  steps-none : (all : List (Name × Step)) (o : Opened) → IsAlone all o → (s : StepMeaning) → In s (steps_inside o) → ⊥
-  steps-none all o a s i = subst (λ x. In s (option_map_or (λ (m : Meaning). m.steps) x [])) a.nothing i
-
-  in-either : {A : Type 0} (x : A) (xs ys : List A) → In x (xs ++ ys) → In x xs ⊎ In x ys
-  in-either x [] ys i = inr i
-  in-either x (y ∷ xs) ys (inl e) = inl (inl e)
-  in-either x (y ∷ xs) ys (inr i) = by (in-either x xs ys i)
-    where
-      by : In x xs ⊎ In x ys → ((x ≡ y) ⊎ In x xs) ⊎ In x ys
-      by (inl k) = inl (inr k)
-      by (inr k) = inr k
-
-  of-steps : (all : List (Name × Step)) (made : List Made) → Each (IsMadeAlone all) made → (s : StepMeaning) → In s (map (λ (m : Made). m.step) made) → (s.instance ≡ instance) × ((t : Step) × In (s.step, t) all)
-  of-steps all [] h s i = absurd i
-  of-steps all (m ∷ made) h s (inl e) = subst (λ (x : StepMeaning). (x.instance ≡ instance) × ((t : Step) × In (x.step, t) all)) (sym e) (h.0.in_instance, h.0.of_step)
-  of-steps all (m ∷ made) h s (inr i) = of-steps all made h.1 s i
-
-  opened-alone : (all : List (Name × Step)) (made : List Made) → Each (IsMadeAlone all) made → (o : Opened) → In o (flat_map (λ (m : Made). m.jobs) made) → IsAlone all o
-  opened-alone all made h o i =
-      let r = of-flat (λ (m : Made). m.jobs) o made i in
-      each_in (IsAlone all) r.0.jobs (each_in (IsMadeAlone all) made h r.0 r.1).jobs o r.2
-
   pub instance-flat : (flow : Flow) (vs : List (Name × Value)) → Each (λ s. (list_all is_service s.1.activities ≡ true) × In s flow.steps) flow.steps → IsFlat flow.steps (instance_meaning gives inside instance flow vs)
-  instance-flat flow vs h = record {
-    jobs = λ j i. let r = of-flat jobs_with_inside j opened i in job-flat flow.steps r.0 (opened-alone flow.steps made alone r.0 r.1) j r.2;
-    steps = λ s i. by s (in-either s (map (λ (m : Made). m.step) made) (flat_map steps_inside opened) i);
-  }
-    where
-      made : List Made
-      made = steps_made gives inside instance (given_of flow vs) [] (ranked flow.steps)
-
-      opened : List Opened
-      opened = flat_map (λ (m : Made). m.jobs) (steps_made gives inside instance (given_of flow vs) [] (ranked flow.steps))
-
-      alone : Each (IsMadeAlone flow.steps) (steps_made gives inside instance (given_of flow vs) [] (ranked flow.steps))
-      alone = steps-alone flow.steps (given_of flow vs) [] (ranked flow.steps) tt (rank-each gives AnyNumber (λ s. (list_all is_service s.1.activities ≡ true) × In s flow.steps) (length flow.steps) [] flow.steps h)
-
-      by : (s : StepMeaning) → In s (map (λ (m : Made). m.step) (steps_made gives inside instance (given_of flow vs) [] (ranked flow.steps))) ⊎ In s (flat_map steps_inside (flat_map (λ (m : Made). m.jobs) (steps_made gives inside instance (given_of flow vs) [] (ranked flow.steps)))) → (s.instance ≡ instance) × ((t : Step) × In (s.step, t) flow.steps)
-      by s (inl k) = of-steps flow.steps (steps_made gives inside instance (given_of flow vs) [] (ranked flow.steps)) (steps-alone flow.steps (given_of flow vs) [] (ranked flow.steps) tt (rank-each gives AnyNumber (λ s. (list_all is_service s.1.activities ≡ true) × In s flow.steps) (length flow.steps) [] flow.steps h)) s k
-      by s (inr k) = let r = of-flat steps_inside s (flat_map (λ (m : Made). m.jobs) (steps_made gives inside instance (given_of flow vs) [] (ranked flow.steps))) k in absurd (steps-none flow.steps r.0 (opened-alone flow.steps (steps_made gives inside instance (given_of flow vs) [] (ranked flow.steps)) (steps-alone flow.steps (given_of flow vs) [] (ranked flow.steps) tt (rank-each gives AnyNumber (λ s. (list_all is_service s.1.activities ≡ true) × In s flow.steps) (length flow.steps) [] flow.steps h)) r.0 r.1) s r.2)
+  instance-flat flow vs h j i =
+      let made = steps_made gives inside instance (given_of flow vs) [] (ranked flow.steps) in
+      let alone = steps-alone flow.steps (given_of flow vs) [] (ranked flow.steps) tt (rank-each gives AnyNumber (λ s. (list_all is_service s.1.activities ≡ true) × In s flow.steps) (length flow.steps) [] flow.steps h) in
+      let o = of-flat jobs_with_inside j (flat_map (λ (m : Made). m.jobs) made) i in
+      let m = of-flat (λ (m : Made). m.jobs) o.0 made o.1 in
+      job-flat flow.steps o.0 (each_in (IsAlone flow.steps) m.0.jobs (each_in (IsMadeAlone flow.steps) made alone m.0 m.1) o.0 m.2) j o.2
 
 -- ---- a document
-
-pub services-at : {A : Type 0} (p : A → Bool) (xs : List A) → list_all p xs ≡ true → (x : A) → In x xs → p x ≡ true
-services-at p [] h x i = absurd i
-services-at p (y ∷ ys) h x (inl e) = ap p e ∙ left_true (p y) (list_all p ys) h
-services-at p (y ∷ ys) h x (inr k) = services-at p ys (right_true (p y) (list_all p ys) h) x k
 
 named-services : (n : Name) (fs : List (Name × Flow)) → list_all only_services fs ≡ true → (f : Flow) → named n fs ≡ Some f → list_all (λ s. list_all is_service s.1.activities) f.steps ≡ true
 named-services n [] h f e = absurd (true≠false (sym (ap is_some e)))
 named-services n (g ∷ gs) h f e = by (same_name n g.0) e (named-services n gs (right_true (only_services g) (list_all only_services gs) h) f)
   where
     by : (b : Bool) → (if b then Some g.1 else named n gs) ≡ Some f → (named n gs ≡ Some f → list_all (λ s. list_all is_service s.1.activities) f.steps ≡ true) → list_all (λ s. list_all is_service s.1.activities) f.steps ≡ true
-    by true k rec = subst (λ (x : Flow). list_all (λ s. list_all is_service s.1.activities) x.steps ≡ true) (some-part g.1 f k) (left_true (only_services g) (list_all only_services gs) h)
+    by true k rec = subst (λ (x : Flow). list_all (λ s. list_all is_service s.1.activities) x.steps ≡ true) (same_Some g.1 f k) (left_true (only_services g) (list_all only_services gs) h)
     by false k rec = rec k
 
 module _ (gives : Giving) (d : Document) (flat : opens_nothing d ≡ true) where
-  -- the meaning has the main instance alone, and its steps
+  -- the meaning has the main instance alone
   pub meaning-flat : (f : Flow) → named d.main d.flows ≡ Some f → IsFlat gives (flow_meaning gives d.flows 7) [] f.steps (meaning gives d)
   meaning-flat f e =
       subst (λ o. IsFlat gives (flow_meaning gives d.flows 7) [] f.steps (option_map_or (λ (flow : Flow). instance_meaning gives (flow_meaning gives d.flows 7) [] flow d.inputs) o no_meaning)) (sym e)
-      (instance-flat gives (flow_meaning gives d.flows 7) [] f d.inputs (in_each (λ s. (list_all is_service s.1.activities ≡ true) × In s f.steps) f.steps (λ s i. (services-at (λ x. list_all is_service x.1.activities) f.steps (named-services d.main d.flows flat f e) s i, i))))
+      (instance-flat gives (flow_meaning gives d.flows 7) [] f d.inputs (in_each (λ s. (list_all is_service s.1.activities ≡ true) × In s f.steps) f.steps (λ s i. (all_in (λ x. list_all is_service x.1.activities) f.steps (named-services d.main d.flows flat f e) s i, i))))
 
   -- no job opens anything
   pub none-opens : (j : Job) → In j (meaning gives d).jobs → j.opens ≡ None
@@ -220,7 +174,7 @@ module _ (gives : Giving) (d : Document) (flat : opens_nothing d ≡ true) where
     where
       by : (o : Option Flow) → named d.main d.flows ≡ o → In j (option_map_or (λ (flow : Flow). instance_meaning gives (flow_meaning gives d.flows 7) [] flow d.inputs) o no_meaning).jobs → j.opens ≡ None
       by None e k = absurd k
-      by (Some f) e k = ((meaning-flat f e).jobs j i).0
+      by (Some f) e k = (meaning-flat f e j i).0
 
   -- each job is of a step of the main flow
   pub of-main_flow : (j : Job) → In j (meaning gives d).jobs → (f : Flow) × (named d.main d.flows ≡ Some f) × IsOfStep [] f.steps j
@@ -228,4 +182,4 @@ module _ (gives : Giving) (d : Document) (flat : opens_nothing d ≡ true) where
     where
       by : (o : Option Flow) → named d.main d.flows ≡ o → In j (option_map_or (λ (flow : Flow). instance_meaning gives (flow_meaning gives d.flows 7) [] flow d.inputs) o no_meaning).jobs → (f : Flow) × (named d.main d.flows ≡ Some f) × IsOfStep [] f.steps j
       by None e k = absurd k
-      by (Some f) e k = (f, e, ((meaning-flat f e).jobs j i).1)
+      by (Some f) e k = (f, e, (meaning-flat f e j i).1)

@@ -20,6 +20,7 @@ use Rattle.tv_history.specs.Entries as history
 use Rattle.tv_history.specs.Entries.{History, is_begun_entry, is_out}
 use Rattle.tv_history.specs.Histories.{has_open_instance, is_open, is_ready, is_running, is_settled, next_ask}
 use Rattle.tv_history.proofs.Running.{out-begun}
+use Rattle.tv_history.proofs.Tests.{find-passes}
 use Rattle.tv_board.specs.Calls.{idle_state, job_at, last_activity, out_count, out_state, state_after}
 use Rattle.tv_board.specs.Flat.{opens_nothing}
 use Rattle.tv_board.specs.Idle.{AreIdle}
@@ -30,7 +31,6 @@ use Rattle.tv_board.specs.declared.entry.Entry.{Entry}
 use Rattle.tv_board.specs.declared.ticket.JobState.{JobState}
 use Rattle.tv_board.specs.declared.ticket.JobState.TheVariants as state
 use Rattle.tv_board.proofs.OfFlat.{none-opens}
-use Rattle.tv_board.proofs.OfOffers.{found-passes}
 use Rattle.tv_board.proofs.OfPasts.{reverse-one_more}
 
 -- ---- one job
@@ -48,54 +48,54 @@ abbrev taken_back : JobState → JobState
 taken_back (state.Out a t) = state.Idle a t
 taken_back s = s
 
-module _ (gives : Giving) (m : Meaning) (past : History) (j : Job) where
+module _ (m : Meaning) (past : History) (j : Job) where
   record IsHeld (a t : ℕ) : Type 0 where
-    unsettled : is_settled gives m past j ≡ false
+    unsettled : is_settled past j ≡ false
     out : is_out past j.name ≡ true
-    next : out_state gives m past j ≡ state.Out a t
+    next : out_state m past j ≡ state.Out a t
 
   idle-not_out : (o : Option Ask) (z : ℕ) → IsOutAt (option_map_or (λ (x : Ask). state.Idle x.activity x.attempt) o (state.Idle z 0)) → ⊥
   idle-not_out None z h = h
   idle-not_out (Some x) z h = h
 
-  other-not_out : (n r w : Bool) → IsOutAt (if n then state.Nested else (if r then idle_state gives m past j else (if w then state.Ready else state.Waiting))) → ⊥
+  other-not_out : (n r w : Bool) → IsOutAt (if n then state.Nested else (if r then idle_state m past j else (if w then state.Ready else state.Waiting))) → ⊥
   other-not_out true r w h = h
-  other-not_out false true w h = idle-not_out (next_ask gives m past j) (last_activity j.asks) h
+  other-not_out false true w h = idle-not_out (next_ask past j) (last_activity j.asks) h
   other-not_out false false true h = h
   other-not_out false false false h = h
 
   -- a job in the state of a try that is out isn't settled, and is out
-  held : (a t : ℕ) → state_after gives m past j ≡ state.Out a t → IsHeld a t
-  held a t e = by (is_settled gives m past j) refl (is_out past j.name) refl e
+  held : (a t : ℕ) → state_after m past j ≡ state.Out a t → IsHeld a t
+  held a t e = by (is_settled past j) refl (is_out past j.name) refl e
     where
       rest : JobState
-      rest = if has_open_instance gives m past j then state.Nested else (if is_running gives m past j then idle_state gives m past j else (if is_ready gives m past j then state.Ready else state.Waiting))
+      rest = if has_open_instance past j then state.Nested else (if is_running past j then idle_state m past j else (if is_ready m past j then state.Ready else state.Waiting))
 
-      by : (s : Bool) → is_settled gives m past j ≡ s → (o : Bool) → is_out past j.name ≡ o → (if s then state.Settled else (if o then out_state gives m past j else rest)) ≡ state.Out a t → IsHeld a t
+      by : (s : Bool) → is_settled past j ≡ s → (o : Bool) → is_out past j.name ≡ o → (if s then state.Settled else (if o then out_state m past j else rest)) ≡ state.Out a t → IsHeld a t
       by true p o q h = absurd (out-at state.Settled a t h)
       by false p true q h = record { unsettled = p; out = q; next = h }
-      by false p false q h = absurd (other-not_out (has_open_instance gives m past j) (is_running gives m past j) (is_ready gives m past j) (out-at rest a t h))
+      by false p false q h = absurd (other-not_out (has_open_instance past j) (is_running past j) (is_ready m past j) (out-at rest a t h))
 
   idle-next : (o : Option Ask) (z : ℕ) (a t : ℕ) → option_map_or (λ (x : Ask). state.Out x.activity x.attempt) o state.Waiting ≡ state.Out a t → option_map_or (λ (x : Ask). state.Idle x.activity x.attempt) o (state.Idle z 0) ≡ state.Idle a t
   idle-next None z a t h = absurd (out-at state.Waiting a t h)
   idle-next (Some x) z a t h = ap taken_back h
 
   -- once it is recalled, where it opens nothing
-  recalled-idle : (c a t : ℕ) → j.opens ≡ None → state_after gives m past j ≡ state.Out a t → state_after gives m (history.recalled c ∷ past) j ≡ state.Idle a t
+  recalled-idle : (c a t : ℕ) → j.opens ≡ None → state_after m past j ≡ state.Out a t → state_after m (history.recalled c ∷ past) j ≡ state.Idle a t
   recalled-idle c a t alone e =
       let h = held a t e in
       let begun = out-begun past j.name h.out in
       (λ i. if h.unsettled i then state.Settled
       else (if opened i then state.Nested
-      else (if running begun h.unsettled i then idle_state gives m past j
-      else (if is_ready gives m (history.recalled c ∷ past) j then state.Ready else state.Waiting))))
-      ∙ idle-next (next_ask gives m past j) (last_activity j.asks) a t h.next
+      else (if running begun h.unsettled i then idle_state m past j
+      else (if is_ready m (history.recalled c ∷ past) j then state.Ready else state.Waiting))))
+      ∙ idle-next (next_ask past j) (last_activity j.asks) a t h.next
     where
-      opened : has_open_instance gives m (history.recalled c ∷ past) j ≡ false
-      opened = ap (λ o. is_some o && is_open gives m (history.recalled c ∷ past) j.name) alone
+      opened : has_open_instance (history.recalled c ∷ past) j ≡ false
+      opened = ap (λ o. is_some o && is_open (history.recalled c ∷ past) j.name) alone
 
-      running : list_any (is_begun_entry j.name) past ≡ true → is_settled gives m past j ≡ false → is_running gives m (history.recalled c ∷ past) j ≡ true
-      running b s = both_true (list_any (is_begun_entry j.name) past) (not (is_settled gives m past j)) b (ap not s)
+      running : list_any (is_begun_entry j.name) past ≡ true → is_settled past j ≡ false → is_running (history.recalled c ∷ past) j ≡ true
+      running b s = both_true (list_any (is_begun_entry j.name) past) (not (is_settled past j)) b (ap not s)
 
 -- ---- all jobs
 
@@ -118,27 +118,27 @@ none-counted p (k ∷ js) e j i h = by (p k) refl (sym (sum_by-cons (one_if p) k
     by false q f (inl u) rec = true≠false (sym h ∙ ap p u ∙ q)
     by false q f (inr u) rec = rec (zero-next (count_by p js) f) u
 
-module _ (gives : Giving) (m : Meaning) (past : History) (names : List JobName) (k a t : ℕ) where
+module _ (m : Meaning) (past : History) (names : List JobName) (k a t : ℕ) where
   -- the job in that state
   record IsJobOut : Type 0 where
     job : Job
     there : job_at m names k ≡ Some job
     mine : In job m.jobs
-    state_is : state_after gives m past job ≡ state.Out a t
+    state_is : state_after m past job ≡ state.Out a t
 
-  job-out : option_map_or (state_after gives m past) (job_at m names k) state.Unknown ≡ state.Out a t → IsJobOut
+  job-out : option_map_or (state_after m past) (job_at m names k) state.Unknown ≡ state.Out a t → IsJobOut
   job-out h = by (slice_get names k) refl h
     where
-      of : (n : JobName) (o : Option Job) → slice_get names k ≡ Some n → find (λ (j : Job). same_job n j.name) m.jobs ≡ o → option_map_or (state_after gives m past) o state.Unknown ≡ state.Out a t → IsJobOut
+      of : (n : JobName) (o : Option Job) → slice_get names k ≡ Some n → find (λ (j : Job). same_job n j.name) m.jobs ≡ o → option_map_or (state_after m past) o state.Unknown ≡ state.Out a t → IsJobOut
       of n None e f q = absurd (out-at state.Unknown a t q)
       of n (Some j) e f q = record {
         job = j;
         there = ap (option_and_then (λ x. find (λ (i : Job). same_job x i.name) m.jobs)) e ∙ f;
-        mine = (found-passes (λ (i : Job). same_job n i.name) m.jobs j (sym f)).1;
+        mine = (find-passes (λ (i : Job). same_job n i.name) m.jobs j f).0;
         state_is = q;
       }
 
-      by : (o : Option JobName) → slice_get names k ≡ o → option_map_or (state_after gives m past) (option_and_then (λ x. find (λ (i : Job). same_job x i.name) m.jobs) o) state.Unknown ≡ state.Out a t → IsJobOut
+      by : (o : Option JobName) → slice_get names k ≡ o → option_map_or (state_after m past) (option_and_then (λ x. find (λ (i : Job). same_job x i.name) m.jobs) o) state.Unknown ≡ state.Out a t → IsJobOut
       by None e q = absurd (out-at state.Unknown a t q)
       by (Some n) e q = of n (find (λ (i : Job). same_job n i.name) m.jobs) e refl q
 
@@ -147,8 +147,8 @@ module _ (gives : Giving) (m : Meaning) (past : History) (names : List JobName) 
 -- where none is out no job is in such a state
 pub none-idle : (gives : Giving) (r : Run) → out_count gives r ≡ 0 → AreIdle gives r r
 none-idle gives r z k a t e =
-    let o = job-out gives (meant gives r) (past_of r) r.names k a t e in
-    absurd (none-counted (λ (j : Job). is_out (past_of r) j.name) (meant gives r).jobs z o.job o.mine (held gives (meant gives r) (past_of r) o.job a t o.state_is).out)
+    let o = job-out (meant gives r) (past_of r) r.names k a t e in
+    absurd (none-counted (λ (j : Job). is_out (past_of r) j.name) (meant gives r).jobs z o.job o.mine (held (meant gives r) (past_of r) o.job a t o.state_is).out)
 
 module _ (gives : Giving) (r s : Run) (c : ℕ) (same : s.names ≡ r.names) (h : Appends r s (recalls c)) where
   -- no instance is opened by it
@@ -163,10 +163,10 @@ module _ (gives : Giving) (r s : Run) (c : ℕ) (same : s.names ≡ r.names) (h 
 
   pub recalled-all_idle : opens_nothing r.document ≡ true → AreIdle gives r s
   recalled-all_idle flat k a t e =
-      let o = job-out gives (meant gives r) (past_of r) r.names k a t e in
-      (λ i. option_map_or (state_after gives (meaning gives (h.document i)) (past-recalled i)) (job_at (meaning gives (h.document i)) (same i) k) state.Unknown)
-      ∙ ap (λ j. option_map_or (state_after gives (meant gives r) (history.recalled c ∷ past_of r)) j state.Unknown) o.there
-      ∙ recalled-idle gives (meant gives r) (past_of r) o.job c a t (none-opens gives r.document flat o.job o.mine) o.state_is
+      let o = job-out (meant gives r) (past_of r) r.names k a t e in
+      (λ i. option_map_or (state_after (meaning gives (h.document i)) (past-recalled i)) (job_at (meaning gives (h.document i)) (same i) k) state.Unknown)
+      ∙ ap (λ j. option_map_or (state_after (meant gives r) (history.recalled c ∷ past_of r)) j state.Unknown) o.there
+      ∙ recalled-idle (meant gives r) (past_of r) o.job c a t (none-opens gives r.document flat o.job o.mine) o.state_is
 
 -- the same from the parts of a board
 pub parts-idle : (gives : Giving) (d : Document) (ns : List JobName) (es es' : List Entry) (c : ℕ) → opens_nothing d ≡ true → es' ≡ es ++ recalls c ∷ [] → AreIdle gives (run_of d ns es) (run_of d ns es')

@@ -36,11 +36,7 @@ pub within-more : (n m : ℕ) → n ≤ m → (e : Entry) → is_within n e ≡ 
 within-more n m l (entry.HandedOut k a t) h = let below = ltb-true k n h in lt-ltb k m (omega arith)
 within-more n m l (entry.Accepted k a t r) h = let below = ltb-true k n h in lt-ltb k m (omega arith)
 within-more n m l (entry.Bounced k) h = let below = ltb-true k n h in lt-ltb k m (omega arith)
-within-more n m l (entry.Closed i s q c) h = h
-within-more n m l (entry.Passed i s q) h = h
-within-more n m l (entry.Opened k i) h = h
-within-more n m l (entry.Ended i) h = h
-within-more n m l (entry.Recalled c) h = h
+within-more n m l e h = h
 
 all-within-more : (n m : ℕ) → n ≤ m → (es : List Entry) → list_all (is_within n) es ≡ true → list_all (is_within m) es ≡ true
 all-within-more n m l [] h = refl
@@ -73,14 +69,8 @@ within-numbers n (entry.Ended i ∷ es) h = both_true (nat_lt i 1) (all_have_num
 within-numbers n (entry.Recalled c ∷ es) h = within-numbers n es h
 
 number-none : (n : ℕ) (e : Entry) → is_within n e ≡ true → opened_number e ≡ None
-number-none n (entry.HandedOut k a t) h = refl
-number-none n (entry.Accepted k a t r) h = refl
-number-none n (entry.Bounced k) h = refl
-number-none n (entry.Closed i s q c) h = refl
-number-none n (entry.Passed i s q) h = refl
 number-none n (entry.Opened k i) h = cc
-number-none n (entry.Ended i) h = refl
-number-none n (entry.Recalled c) h = refl
+number-none n e h = refl
 
 numbers-none : (n : ℕ) (es : List Entry) → list_all (is_within n) es ≡ true → filter_map opened_number es ≡ []
 numbers-none n [] h = refl
@@ -111,22 +101,22 @@ module _ (gives : Giving) (d : Document) where
   record NamesAfter (past : History) (ns : List JobName) : Type 0 where
     distinct : all_distinct ns ≡ true
     jobs : are_jobs (meaning gives d).jobs ns ≡ true
-    numbered : list_all (is_among ns) (ready gives (meaning gives d) past) ≡ true
+    numbered : list_all (is_among ns) (ready (meaning gives d) past) ≡ true
 
-  ready-same : (known : List KnownCall) (whole : Whole) (past : History) → is_formed d ≡ true → is_legal gives (meaning gives d) past ≡ true → AgreeOn gives (known_gives known) (meaning gives d) past → IsWhole (meaning (known_gives known) d) whole → ready (known_gives known) (whole_view whole) past ≡ ready gives (meaning gives d) past
+  ready-same : (known : List KnownCall) (whole : Whole) (past : History) → is_formed d ≡ true → is_legal gives (meaning gives d) past ≡ true → AgreeOn gives (known_gives known) (meaning gives d) past → IsWhole (meaning (known_gives known) d) whole → ready (whole_view whole) past ≡ ready (meaning gives d) past
   ready-same known whole past f l a w =
-      ap (λ m. ready (known_gives known) m past) w ∙ sym (states gives (known_gives known) d (documents-have_activities d f) past l a).ready
+      ap (λ m. ready m past) w ∙ sym (states gives (known_gives known) d (documents-have_activities d f) past l a).ready
 
-  names-after : (known : List KnownCall) (whole : Whole) (past : History) (ns names : List JobName) → is_formed d ≡ true → is_legal gives (meaning gives d) past ≡ true → AgreeOn gives (known_gives known) (meaning gives d) past → IsWhole (meaning (known_gives known) d) whole → all_distinct ns ≡ true → are_jobs (meaning gives d).jobs ns ≡ true → names ≡ numbering ns (ready (known_gives known) (whole_view whole) past) → NamesAfter past names
+  names-after : (known : List KnownCall) (whole : Whole) (past : History) (ns names : List JobName) → is_formed d ≡ true → is_legal gives (meaning gives d) past ≡ true → AgreeOn gives (known_gives known) (meaning gives d) past → IsWhole (meaning (known_gives known) d) whole → all_distinct ns ≡ true → are_jobs (meaning gives d).jobs ns ≡ true → names ≡ numbering ns (ready (whole_view whole) past) → NamesAfter past names
   names-after known whole past ns names f l a w distinct jobs e =
       subst (NamesAfter past) (sym (e ∙ ap (numbering ns) (ready-same known whole past f l a w))) (record {
-        distinct = numbering-distinct (ready gives (meaning gives d) past) ns distinct;
-        jobs = numbering-all (λ n. list_any (λ (j : Job). same_job n j.name) (meaning gives d).jobs) (ready gives (meaning gives d) past) ns (filtered-jobs (is_ready gives (meaning gives d) past) (meaning gives d).jobs (meaning gives d).jobs (λ n h. h)) jobs;
-        numbered = numbering-has (ready gives (meaning gives d) past) ns;
+        distinct = numbering-distinct (ready (meaning gives d) past) ns distinct;
+        jobs = numbering-all (λ n. list_any (λ (j : Job). same_job n j.name) (meaning gives d).jobs) (ready (meaning gives d) past) ns (filtered-jobs (is_ready (meaning gives d) past) (meaning gives d).jobs (meaning gives d).jobs (λ n h. h)) jobs;
+        numbered = numbering-has (ready (meaning gives d) past) ns;
       })
 
   -- a board at its start
-  pub kept-start : (whole : Whole) (names : List JobName) → is_formed d ≡ true → opens_nothing d ≡ true → IsWhole (meaning (known_gives []) d) whole → names ≡ numbering [] (ready (known_gives []) (whole_view whole) []) → IsKept gives d [] whole names []
+  pub kept-start : (whole : Whole) (names : List JobName) → is_formed d ≡ true → opens_nothing d ≡ true → IsWhole (meaning (known_gives []) d) whole → names ≡ numbering [] (ready (whole_view whole) []) → IsKept gives d [] whole names []
   kept-start whole names f flat w e =
       let agrees : AgreeOn gives (known_gives []) (meaning gives d) [] = λ j i a k t. absurd (true≠false (sym t)) in
       let after = names-after [] whole [] [] names f refl agrees w refl refl e in
@@ -140,7 +130,7 @@ module _ (gives : Giving) (d : Document) where
       }
 
   -- a board after an entry that is legal next; the known calls may be others then
-  pub kept-after : (known known' : List KnownCall) (whole whole' : Whole) (ns more : List JobName) (es : List Entry) (e : Entry) → is_formed d ≡ true → IsKept gives d known whole ns es → is_within (length ns) e ≡ true → is_legal_after gives (meaning gives d) (past_of (run_of d ns es)) (told d ns e) ≡ true → list_all (is_known_right gives) known' ≡ true → AgreeOn gives (known_gives known') (meaning gives d) (told d ns e ∷ past_of (run_of d ns es)) → IsWhole (meaning (known_gives known') d) whole' → ns ++ more ≡ numbering ns (ready (known_gives known') (whole_view whole') (told d ns e ∷ past_of (run_of d ns es))) → IsKept gives d known' whole' (ns ++ more) (es ++ e ∷ [])
+  pub kept-after : (known known' : List KnownCall) (whole whole' : Whole) (ns more : List JobName) (es : List Entry) (e : Entry) → is_formed d ≡ true → IsKept gives d known whole ns es → is_within (length ns) e ≡ true → is_legal_after gives (meaning gives d) (past_of (run_of d ns es)) (told d ns e) ≡ true → list_all (is_known_right gives) known' ≡ true → AgreeOn gives (known_gives known') (meaning gives d) (told d ns e ∷ past_of (run_of d ns es)) → IsWhole (meaning (known_gives known') d) whole' → ns ++ more ≡ numbering ns (ready (whole_view whole') (told d ns e ∷ past_of (run_of d ns es))) → IsKept gives d known' whole' (ns ++ more) (es ++ e ∷ [])
   kept-after known known' whole whole' ns more es e f kept inside next right agrees w numbers =
       let past : History = past_of (run_of d ns es) in
       let both : is_legal gives (meaning gives d) (told d ns e ∷ past) ≡ true = both_true (is_legal gives (meaning gives d) past) (is_legal_after gives (meaning gives d) past (told d ns e)) kept.legal.legal next in
@@ -151,7 +141,7 @@ module _ (gives : Giving) (d : Document) where
           legal = subst (λ p. is_legal gives (meaning gives d) p ≡ true) (sym same) both;
           distinct = after.distinct;
           jobs = after.jobs;
-          numbered = subst (λ p. list_all (is_among (ns ++ more)) (ready gives (meaning gives d) p) ≡ true) (sym same) after.numbered;
+          numbered = subst (λ p. list_all (is_among (ns ++ more)) (ready (meaning gives d) p) ≡ true) (sym same) after.numbered;
           instances = instances-none (length (ns ++ more)) (es ++ e ∷ []) (within-all ns more es e kept.within inside);
           numbers = within-numbers (length (ns ++ more)) (es ++ e ∷ []) (within-all ns more es e kept.within inside);
         };
@@ -174,7 +164,7 @@ module _ (gives : Giving) (d : Document) where
           legal = subst (λ p. is_legal gives (meaning gives d) p ≡ true) (sym same) both;
           distinct = kept.legal.distinct;
           jobs = kept.legal.jobs;
-          numbered = subst (λ p. list_all (is_among ns) (ready gives (meaning gives d) p) ≡ true) (sym same) (fewer-named (is_ready gives (meaning gives d) (told d ns e ∷ past)) (is_ready gives (meaning gives d) past) (λ j h. ready-before gives (meaning gives d) past (told d ns e) quiet j h) (is_among ns) (meaning gives d).jobs kept.legal.numbered);
+          numbered = subst (λ p. list_all (is_among ns) (ready (meaning gives d) p) ≡ true) (sym same) (fewer-named (is_ready (meaning gives d) (told d ns e ∷ past)) (is_ready (meaning gives d) past) (λ j h. ready-before (meaning gives d) past (told d ns e) quiet j h) (is_among ns) (meaning gives d).jobs kept.legal.numbered);
           instances = instances-none (length ns) (es ++ e ∷ []) inside-all;
           numbers = within-numbers (length ns) (es ++ e ∷ []) inside-all;
         };

@@ -1,9 +1,9 @@
 -- What a numbering keeps: the numbers so far, that names are distinct, and that all that are numbered are among them.
 use Rattle.std.specs.List.{list_all}
 use Rattle.std.specs.Prelude.{Bool, List, [], false, if◌then◌else◌, not, refl, true, ◌&&◌, ◌++◌, ◌||◌, ◌∷◌, ◌≡◌}
-use Rattle.std.proofs.Common.{ap, append_assoc, sym, ◌∙◌}
-use Rattle.std.proofs.lemmas.List.{append-nil}
+use Rattle.std.proofs.Common.{ap, sym, ◌∙◌}
 use Rattle.std.proofs.lemmas.List.Folds.{list_all-append, list_any-append}
+use Rattle.std.proofs.lemmas.Bool.{or_left}
 use Rattle.tv_value.specs.Orders.{same_job}
 use Rattle.tv_value.specs.Values.{JobName}
 use Rattle.tv_model.proofs.Tests.{both_true, left_true, or_right, right_true, same_job_decides, true≠false}
@@ -22,9 +22,6 @@ same_job-turned n m = by (same_job n m) (same_job m n) refl refl
     by true false h k = absurd (true≠false (sym ((same_job_decides m n).1 (sym ((same_job_decides n m).0 h))) ∙ k))
     by false true h k = absurd (true≠false (sym ((same_job_decides n m).1 (sym ((same_job_decides m n).0 k))) ∙ h))
 
-or_left : (a b : Bool) → a ≡ true → (a || b) ≡ true
-or_left a b h = ap (λ c. c || b) h
-
 pub among-more : (ns ms : List JobName) (n : JobName) → is_among ns n ≡ true → is_among (ns ++ ms) n ≡ true
 among-more ns ms n h = list_any-append (same_job n) ns ms ∙ or_left (is_among ns n) (is_among ms n) h
 
@@ -42,11 +39,6 @@ with-has false ns n h = among-last ns n
 pub numbering-keeps : (rs ns : List JobName) (m : JobName) → is_among ns m ≡ true → is_among (numbering ns rs) m ≡ true
 numbering-keeps [] ns m h = h
 numbering-keeps (n ∷ rs) ns m h = numbering-keeps rs (with_number ns n) m (with-keeps (is_among ns n) ns n m h)
-
-all-keeps : (rs ns ms : List JobName) → list_all (is_among ns) ms ≡ true → list_all (is_among (numbering ns rs)) ms ≡ true
-all-keeps rs ns [] h = refl
-all-keeps rs ns (m ∷ ms) h =
-    both_true (is_among (numbering ns rs) m) (list_all (is_among (numbering ns rs)) ms) (numbering-keeps rs ns m (left_true (is_among ns m) (list_all (is_among ns) ms) h)) (all-keeps rs ns ms (right_true (is_among ns m) (list_all (is_among ns) ms) h))
 
 -- all of them are then among the names
 pub numbering-has : (rs ns : List JobName) → list_all (is_among (numbering ns rs)) rs ≡ true
@@ -88,19 +80,3 @@ with-all p false ns n h a = list_all-append p ns (n ∷ []) ∙ both_true (list_
 pub numbering-all : (p : JobName → Bool) (rs ns : List JobName) → list_all p rs ≡ true → list_all p ns ≡ true → list_all p (numbering ns rs) ≡ true
 numbering-all p [] ns h a = a
 numbering-all p (n ∷ rs) ns h a = numbering-all p rs (with_number ns n) (right_true (p n) (list_all p rs) h) (with-all p (is_among ns n) ns n (left_true (p n) (list_all p rs) h) a)
-
--- the names so far come first
-pub record More (ns rs : List JobName) : Type 0 where
-  pub more : List JobName
-  pub same : numbering ns rs ≡ ns ++ more
-
-pub numbering-more : (rs ns : List JobName) → More ns rs
-numbering-more [] ns = record { more = []; same = sym (append-nil ns) }
-numbering-more (n ∷ rs) ns = made (by (is_among ns n) (λ ms. numbering-more rs ms))
-  where
-    made : ((x : List JobName) × (numbering (with_number ns n) rs ≡ ns ++ x)) → More ns (n ∷ rs)
-    made p = record { more = p.0; same = p.1 }
-
-    by : (b : Bool) → ((ms : List JobName) → More ms rs) → (x : List JobName) × (numbering (if b then ns else ns ++ n ∷ []) rs ≡ ns ++ x)
-    by true f = ((f ns).more, (f ns).same)
-    by false f = (n ∷ (f (ns ++ n ∷ [])).more, (f (ns ++ n ∷ [])).same ∙ append_assoc ns (n ∷ []) (f (ns ++ n ∷ [])).more)

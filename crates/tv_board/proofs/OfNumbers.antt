@@ -5,7 +5,6 @@ use Rattle.std.proofs.Math.Seq.{drop-cons}
 use Rattle.std.proofs.lemmas.List.Folds.{list_any-append}
 use Rattle.tv_value.specs.Orders.{same_job}
 use Rattle.tv_value.specs.Values.{JobName}
-use Rattle.tv_gate.specs.Outcomes.{Giving}
 use Rattle.tv_model.specs.Jobs as model
 use Rattle.tv_model.proofs.Tests.{true≠false}
 use Rattle.tv_outcomes.specs.Agreed.{ready}
@@ -61,6 +60,6 @@ number-step p ns xs i x h e =
     ∙ ap (λ k. numbering (number_if (p (job_view x)) ns x.name) (names_of p (drop k xs))) next
 
 -- of a state with these fields
-pub numbers-at : (gives : Giving) (s : State) (w : Whole) (ns : List JobName) (es : List Event) (more : List JobName) → s.whole.now ≡ w → s.names.now ≡ ns → s.events.now ≡ es → s.names.now ++ more ≡ numbering s.names.now (ready gives (meaning_in s) (past_in s)) → ns ++ more ≡ numbering ns (ready gives (whole_view w) (past_of ns es))
-numbers-at gives s w ns es more ew en ee h =
-    subst (λ v. ns ++ more ≡ numbering ns (ready gives (whole_view v) (past_of ns es))) ew (subst (λ fs. ns ++ more ≡ numbering ns (ready gives (meaning_in s) (past_of ns fs))) ee (subst (λ ms. ms ++ more ≡ numbering ms (ready gives (meaning_in s) (past_of ms s.events.now))) en h))
+pub numbers-at : (s : State) (w : Whole) (ns : List JobName) (es : List Event) (more : List JobName) → s.whole.now ≡ w → s.names.now ≡ ns → s.events.now ≡ es → s.names.now ++ more ≡ numbering s.names.now (ready (meaning_in s) (past_in s)) → ns ++ more ≡ numbering ns (ready (whole_view w) (past_of ns es))
+numbers-at s w ns es more ew en ee h =
+    subst (λ v. ns ++ more ≡ numbering ns (ready (whole_view v) (past_of ns es))) ew (subst (λ fs. ns ++ more ≡ numbering ns (ready (meaning_in s) (past_of ns fs))) ee (subst (λ ms. ms ++ more ≡ numbering ms (ready (meaning_in s) (past_of ms s.events.now))) en h))

@@ -3,9 +3,10 @@ use Rattle.std.specs.List.{list_all, list_any, prefix_len}
 use Rattle.std.specs.Option.{option_map_or}
 use Rattle.std.specs.Prelude.{Bool, List, None, Some, [], false, filter, find, if◌then◌else◌, is_some, length, map, nat_lt, not, option_map, position, refl, reverse, suc, true, zero, ℕ, ◌&&◌, ◌+◌, ◌<◌, ◌⊎◌, ◌||◌, ◌∷◌, ◌≡◌}
 use Rattle.std.proofs.Common.{ap, arith, inl, inr, subst, sym, ◌∙◌}
-use Rattle.std.proofs.lemmas.Bool.{lt-ltb, ltb-true}
+use Rattle.std.proofs.lemmas.Bool.{lt-ltb, ltb-true, not-true}
 use Rattle.std.proofs.lemmas.List.{reverse-append}
 use Rattle.std.proofs.lemmas.List.Folds.{list_any-append}
+use Rattle.tv_lemmas.proofs.Cases.{on_either, on_or}
 use Rattle.tv_value.specs.Orders.{same_job}
 use Rattle.tv_value.specs.Values.{JobName}
 use Rattle.tv_gate.specs.Outcomes.{Giving}
@@ -17,10 +18,10 @@ use Rattle.tv_model.proofs.Tests.{both_true, left_true, right_true, same_job_dec
 use Rattle.tv_history.specs.Entries as history
 use Rattle.tv_history.specs.Entries.{History, is_begun_entry, is_out}
 use Rattle.tv_history.specs.Histories.{all_known, has_open_instance, has_place, is_ask, is_at, is_idle, is_offered, is_open, is_ready, is_running, is_settled, may_go_on, next_ask}
-use Rattle.tv_history.proofs.Running.{not_true, out-begun, true_of}
+use Rattle.tv_history.proofs.Running.{out-begun}
+use Rattle.tv_history.proofs.Tests.{find-passes}
 use Rattle.tv_model.specs.Turns.{is_bounced}
 use Rattle.tv_outcomes.specs.Agreed.{first_offer, offer_of, ready}
-use Rattle.tv_whole.specs.Known.{known_gives}
 use Rattle.tv_whole.specs.WholeViews.{job_view}
 use Rattle.tv_known.specs.declared.parts.Job.{Job}
 use Rattle.tv_state.specs.EventViews.{name_at}
@@ -76,14 +77,6 @@ number-missing n ns h a = by (nat_lt (prefix_len (λ x. not (same_job n x)) ns) 
 
 -- ---- what is found
 
-pub found-passes : {A : Type 0} (p : A → Bool) (xs : List A) (x : A) → Some x ≡ find p xs → (p x ≡ true) × In x xs
-found-passes p [] x h = cc
-found-passes {A = A} p (y ∷ ys) x h = by (p y) refl h (λ k. found-passes p ys x k)
-  where
-    by : (b : Bool) → p y ≡ b → Some x ≡ (if b then Some y else find p ys) → (Some x ≡ find p ys → (p x ≡ true) × In x ys) → (p x ≡ true) × In x (y ∷ ys)
-    by true e k rec = let same : x ≡ y = cc in (ap p same ∙ e, inl same)
-    by false e k rec = ((rec k).0, inr (rec k).1)
-
 pub none-any : {A B : Type 0} (p : A → Bool) (f : A → B) (xs : List A) → option_map f (find p xs) ≡ None → list_any p xs ≡ false
 none-any p f [] h = refl
 none-any p f (x ∷ xs) h = by (p x) h (λ k. none-any p f xs k)
@@ -129,21 +122,12 @@ at-among (x ∷ xs) (suc k) n h e = by (same_job n x) (at-among xs k n (omega ar
 
 begins-among : (d : Document) (ns : List JobName) (n : JobName) (e : Entry) → is_within (length ns) e ≡ true → is_begun_entry n (told d ns e) ≡ true → is_among ns n ≡ true
 begins-among d ns n (entry.HandedOut k a t) h b = at-among ns k n (ltb-true k (length ns) h) b
-begins-among d ns n (entry.Accepted k a t r) h b = absurd (true≠false (sym b))
-begins-among d ns n (entry.Bounced k) h b = absurd (true≠false (sym b))
-begins-among d ns n (entry.Closed i s q c) h b = absurd (true≠false (sym b))
-begins-among d ns n (entry.Passed i s q) h b = absurd (true≠false (sym b))
 begins-among d ns n (entry.Opened k i) h b = absurd (true≠false (sym h))
-begins-among d ns n (entry.Ended i) h b = absurd (true≠false (sym b))
-begins-among d ns n (entry.Recalled c) h b = absurd (true≠false (sym b))
+begins-among d ns n e h b = absurd (true≠false (sym b))
 
 begun-in : (d : Document) (ns : List JobName) (n : JobName) (es : List Entry) → list_all (is_within (length ns)) es ≡ true → list_any (is_begun_entry n) (map (told d ns) es) ≡ true → is_among ns n ≡ true
 begun-in d ns n [] h b = absurd (true≠false (sym b))
-begun-in d ns n (e ∷ es) h b = by (true_of (is_begun_entry n (told d ns e)) (list_any (is_begun_entry n) (map (told d ns) es)) b) (λ k. begun-in d ns n es (right_true (is_within (length ns) e) (list_all (is_within (length ns)) es) h) k)
-  where
-    by : (is_begun_entry n (told d ns e) ≡ true) ⊎ (list_any (is_begun_entry n) (map (told d ns) es) ≡ true) → (list_any (is_begun_entry n) (map (told d ns) es) ≡ true → is_among ns n ≡ true) → is_among ns n ≡ true
-    by (inl k) rec = begins-among d ns n e (left_true (is_within (length ns) e) (list_all (is_within (length ns)) es) h) k
-    by (inr k) rec = rec k
+begun-in d ns n (e ∷ es) h b = on_or (is_begun_entry n (told d ns e)) (list_any (is_begun_entry n) (map (told d ns) es)) b (λ q. begins-among d ns n e (left_true (is_within (length ns) e) (list_all (is_within (length ns)) es) h) q) (λ q. begun-in d ns n es (right_true (is_within (length ns) e) (list_all (is_within (length ns)) es) h) q)
 
 begun-among : (d : Document) (ns : List JobName) (n : JobName) (es : List Entry) → list_all (is_within (length ns)) es ≡ true → list_any (is_begun_entry n) (past_of (run_of d ns es)) ≡ true → is_among ns n ≡ true
 begun-among d ns n es h b =
@@ -151,71 +135,59 @@ begun-among d ns n es h b =
 
 -- ---- what is on offer
 
-module _ (gives : Giving) (m : Meaning) (past : History) (j : model.Job) where
-  going-on : is_offered gives m past j ≡ true → (is_idle gives m past j ≡ true) ⊎ (is_ready gives m past j ≡ true)
-  going-on h = by (true_of (is_idle gives m past j) (is_ready gives m past j && not (is_bounced j.ending) && has_place gives m past j) (right_true (is_some (next_ask gives m past j)) (may_go_on gives m past j) h))
-    where
-      by : (is_idle gives m past j ≡ true) ⊎ ((is_ready gives m past j && not (is_bounced j.ending) && has_place gives m past j) ≡ true) → (is_idle gives m past j ≡ true) ⊎ (is_ready gives m past j ≡ true)
-      by (inl k) = inl k
-      by (inr k) = inr (left_true (is_ready gives m past j) (not (is_bounced j.ending)) (left_true (is_ready gives m past j && not (is_bounced j.ending)) (has_place gives m past j) k))
+module _ (m : Meaning) (past : History) (j : model.Job) where
+  going-on : is_offered m past j ≡ true → (is_idle past j ≡ true) ⊎ (is_ready m past j ≡ true)
+  going-on h = on_or (is_idle past j) (is_ready m past j && not (is_bounced j.ending) && has_place m past j) (right_true (is_some (next_ask past j)) (may_go_on m past j) h) (λ k. inl k) (λ k. inr (left_true (is_ready m past j) (not (is_bounced j.ending)) (left_true (is_ready m past j && not (is_bounced j.ending)) (has_place m past j) k)))
 
-  idle-not_out : is_idle gives m past j ≡ true → is_out past j.name ≡ false
-  idle-not_out h = not_true (is_out past j.name) (right_true (is_running gives m past j) (not (is_out past j.name)) (left_true (is_running gives m past j && not (is_out past j.name)) (not (has_open_instance gives m past j)) h))
+  idle-not_out : is_idle past j ≡ true → is_out past j.name ≡ false
+  idle-not_out h = not-true (is_out past j.name) (right_true (is_running past j) (not (is_out past j.name)) (left_true (is_running past j && not (is_out past j.name)) (not (has_open_instance past j)) h))
 
-  idle-begun : is_idle gives m past j ≡ true → list_any (is_begun_entry j.name) past ≡ true
-  idle-begun h = left_true (list_any (is_begun_entry j.name) past) (not (is_settled gives m past j)) (left_true (is_running gives m past j) (not (is_out past j.name)) (left_true (is_running gives m past j && not (is_out past j.name)) (not (has_open_instance gives m past j)) h))
+  idle-begun : is_idle past j ≡ true → list_any (is_begun_entry j.name) past ≡ true
+  idle-begun h = left_true (list_any (is_begun_entry j.name) past) (not (is_settled past j)) (left_true (is_running past j) (not (is_out past j.name)) (left_true (is_running past j && not (is_out past j.name)) (not (has_open_instance past j)) h))
 
-  ready-not_out : is_ready gives m past j ≡ true → is_out past j.name ≡ false
+  ready-not_out : is_ready m past j ≡ true → is_out past j.name ≡ false
   ready-not_out h = by (is_out past j.name) refl
     where
-      three : (is_open gives m past j.instance && not (is_running gives m past j) && not (is_settled gives m past j)) ≡ true
-      three = left_true (is_open gives m past j.instance && not (is_running gives m past j) && not (is_settled gives m past j)) (all_known gives m past j.waits) h
+      three : (is_open past j.instance && not (is_running past j) && not (is_settled past j)) ≡ true
+      three = left_true (is_open past j.instance && not (is_running past j) && not (is_settled past j)) (all_known m past j.waits) h
 
-      unsettled : not (is_settled gives m past j) ≡ true
-      unsettled = right_true (is_open gives m past j.instance && not (is_running gives m past j)) (not (is_settled gives m past j)) three
+      unsettled : not (is_settled past j) ≡ true
+      unsettled = right_true (is_open past j.instance && not (is_running past j)) (not (is_settled past j)) three
 
-      still : not (is_running gives m past j) ≡ true
-      still = right_true (is_open gives m past j.instance) (not (is_running gives m past j)) (left_true (is_open gives m past j.instance && not (is_running gives m past j)) (not (is_settled gives m past j)) three)
+      still : not (is_running past j) ≡ true
+      still = right_true (is_open past j.instance) (not (is_running past j)) (left_true (is_open past j.instance && not (is_running past j)) (not (is_settled past j)) three)
 
       by : (b : Bool) → is_out past j.name ≡ b → b ≡ false
       by false e = refl
-      by true e = absurd (true≠false (sym (both_true (list_any (is_begun_entry j.name) past) (not (is_settled gives m past j)) (out-begun past j.name e) unsettled) ∙ not_true (is_running gives m past j) still))
+      by true e = absurd (true≠false (sym (both_true (list_any (is_begun_entry j.name) past) (not (is_settled past j)) (out-begun past j.name e) unsettled) ∙ not-true (is_running past j) still))
 
-  pub offered-not_out : is_offered gives m past j ≡ true → is_out past j.name ≡ false
-  offered-not_out h = by (going-on h)
-    where
-      by : (is_idle gives m past j ≡ true) ⊎ (is_ready gives m past j ≡ true) → is_out past j.name ≡ false
-      by (inl k) = idle-not_out k
-      by (inr k) = ready-not_out k
+  pub offered-not_out : is_offered m past j ≡ true → is_out past j.name ≡ false
+  offered-not_out h = on_either (going-on h) (λ k. idle-not_out k) (λ k. ready-not_out k)
 
 module _ (gives : Giving) (r : Run) (s : State) (i : IsStateOf gives r s) where
-  pub nothing-offered : None ≡ find (is_offered (known_gives i.known) (meaning_in s) (past_in s)) (meaning_in s).jobs → IsNothingOffered gives r
+  pub nothing-offered : None ≡ find (is_offered (meaning_in s) (past_in s)) (meaning_in s).jobs → IsNothingOffered gives r
   nothing-offered h =
-      let none : first_offer gives (meant gives r) (past_of r) ≡ None = subst (λ p. first_offer gives (meant gives r) p ≡ None) i.past ((state-same gives r s i).offer ∙ ap (option_map (offer_of (known_gives i.known) (meaning_in s) (past_in s))) (sym h)) in
-      none-any (is_offered gives (meant gives r) (past_of r)) (offer_of gives (meant gives r) (past_of r)) (meant gives r).jobs none
+      let none : first_offer (meant gives r) (past_of r) ≡ None = subst (λ p. first_offer (meant gives r) p ≡ None) i.past ((state-same gives r s i).offer ∙ ap (option_map (offer_of (past_in s))) (sym h)) in
+      none-any (is_offered (meant gives r) (past_of r)) (offer_of (past_of r)) (meant gives r).jobs none
 
-  pub offered-numbered : (j : model.Job) → Some j ≡ find (is_offered (known_gives i.known) (meaning_in s) (past_in s)) (meaning_in s).jobs → is_among s.names.now j.name ≡ true
-  offered-numbered j h = ap (λ ns. is_among ns j.name) i.names ∙ by (going-on (known_gives i.known) (meaning_in s) (past_in s) j found.0)
+  pub offered-numbered : (j : model.Job) → Some j ≡ find (is_offered (meaning_in s) (past_in s)) (meaning_in s).jobs → is_among s.names.now j.name ≡ true
+  offered-numbered j h = ap (λ ns. is_among ns j.name) i.names ∙ (on_either (going-on (meaning_in s) (past_in s) j found.1) (λ k. begun-among r.document r.names j.name r.entries i.kept.within (ap (list_any (is_begun_entry j.name)) (sym i.past) ∙ idle-begun (meaning_in s) (past_in s) j k)) (λ k. ready-in (is_ready (meaning_in s) (past_in s)) (is_among r.names) (meaning_in s).jobs j numbered found.0 k))
     where
-      found : (is_offered (known_gives i.known) (meaning_in s) (past_in s) j ≡ true) × In j (meaning_in s).jobs
-      found = found-passes (is_offered (known_gives i.known) (meaning_in s) (past_in s)) (meaning_in s).jobs j h
+      found : In j (meaning_in s).jobs × (is_offered (meaning_in s) (past_in s) j ≡ true)
+      found = find-passes (is_offered (meaning_in s) (past_in s)) (meaning_in s).jobs j (sym h)
 
-      numbered : list_all (is_among r.names) (ready (known_gives i.known) (meaning_in s) (past_in s)) ≡ true
-      numbered = ap (list_all (is_among r.names)) (sym (state-same gives r s i).ready ∙ ap (ready gives (meant gives r)) i.past) ∙ i.kept.legal.numbered
+      numbered : list_all (is_among r.names) (ready (meaning_in s) (past_in s)) ≡ true
+      numbered = ap (list_all (is_among r.names)) (sym (state-same gives r s i).ready ∙ ap (ready (meant gives r)) i.past) ∙ i.kept.legal.numbered
 
-      by : (is_idle (known_gives i.known) (meaning_in s) (past_in s) j ≡ true) ⊎ (is_ready (known_gives i.known) (meaning_in s) (past_in s) j ≡ true) → is_among r.names j.name ≡ true
-      by (inl k) = begun-among r.document r.names j.name r.entries i.kept.within (ap (list_any (is_begun_entry j.name)) (sym i.past) ∙ idle-begun (known_gives i.known) (meaning_in s) (past_in s) j k)
-      by (inr k) = ready-in (is_ready (known_gives i.known) (meaning_in s) (past_in s)) (is_among r.names) (meaning_in s).jobs j numbered found.1 k
-
-  pub handable : (j : Job) (t : Ticket) → Some (job_view j) ≡ find (is_offered (known_gives i.known) (meaning_in s) (past_in s)) (meaning_in s).jobs → IsTicketOf s j t → IsHandable gives r t
+  pub handable : (j : Job) (t : Ticket) → Some (job_view j) ≡ find (is_offered (meaning_in s) (past_in s)) (meaning_in s).jobs → IsTicketOf s j t → IsHandable gives r t
   handable j t h of =
       let name : name_at r.names t.job ≡ j.name = ap (λ ns. name_at ns t.job) (sym i.names) ∙ of.name in
-      let found = found-passes (is_offered (known_gives i.known) (meaning_in s) (past_in s)) (meaning_in s).jobs (job_view j) h in
+      let found = find-passes (is_offered (meaning_in s) (past_in s)) (meaning_in s).jobs (job_view j) (sym h) in
       record {
         within = ap (λ ns. nat_lt t.job (length ns)) (sym i.names) ∙ of.within;
         legal =
             legal-carried gives r s i (history.handed_out (name_at r.names t.job) t.activity t.attempt) tt
-            ∙ ap (λ o. option_map_or (λ k. is_at (known_gives i.known) (meaning_in s) k (name_at r.names t.job) && option_map_or (is_ask (known_gives i.known) (meaning_in s) t.activity t.attempt) (next_ask (known_gives i.known) (meaning_in s) (past_in s) k) false) o false) (sym h)
-            ∙ both_true (same_job (name_at r.names t.job) j.name) (option_map_or (is_ask (known_gives i.known) (meaning_in s) t.activity t.attempt) (next_ask (known_gives i.known) (meaning_in s) (past_in s) (job_view j)) false) ((same_job_decides (name_at r.names t.job) j.name).1 name) (of.next (known_gives i.known));
-        idle = ap (λ p. is_out p (name_at r.names t.job)) (sym i.past) ∙ ap (is_out (past_in s)) name ∙ offered-not_out (known_gives i.known) (meaning_in s) (past_in s) (job_view j) found.0;
+            ∙ ap (λ o. option_map_or (λ k. is_at k (name_at r.names t.job) && option_map_or (is_ask t.activity t.attempt) (next_ask (past_in s) k) false) o false) (sym h)
+            ∙ both_true (same_job (name_at r.names t.job) j.name) (option_map_or (is_ask t.activity t.attempt) (next_ask (past_in s) (job_view j)) false) ((same_job_decides (name_at r.names t.job) j.name).1 name) of.next;
+        idle = ap (λ p. is_out p (name_at r.names t.job)) (sym i.past) ∙ ap (is_out (past_in s)) name ∙ offered-not_out (meaning_in s) (past_in s) (job_view j) found.1;
       }

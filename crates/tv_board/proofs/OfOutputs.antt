@@ -12,7 +12,7 @@ use Rattle.tv_state.specs.declared.state.State.{State}
 use Rattle.tv_board.specs.Runs.{Run, meant, past_of}
 use Rattle.tv_board.specs.States.{IsStateOf}
 
-pub outputs-done : (gives : Giving) (r : Run) (s : State) (i : IsStateOf gives r s) → is_done gives (meant gives r) (past_of r) ≡ true → (meaning_in s).outputs ≡ (meant gives r).outputs
+pub outputs-done : (gives : Giving) (r : Run) (s : State) (i : IsStateOf gives r s) → is_done (past_of r) ≡ true → (meaning_in s).outputs ≡ (meant gives r).outputs
 outputs-done gives r s i done =
     ap (λ (m : Meaning). m.outputs) i.kept.worked_out
     ∙ sym (results gives (known_gives i.known) r.document (documents-have_activities r.document i.formed) (past_of r) i.kept.legal.legal i.kept.agrees done).0

@@ -34,11 +34,8 @@ pub told-more : (d : Document) (ns ms : List JobName) (e : Entry) → is_within 
 told-more d ns ms (entry.HandedOut k a t) h = ap (λ n. history.handed_out n a t) (name-more ns ms k h)
 told-more d ns ms (entry.Accepted k a t r) h = ap (λ n. history.accepted n a t r) (name-more ns ms k h)
 told-more d ns ms (entry.Bounced k) h = ap (λ n. history.bounced n) (name-more ns ms k h)
-told-more d ns ms (entry.Closed i s q c) h = refl
-told-more d ns ms (entry.Passed i s q) h = refl
 told-more d ns ms (entry.Opened k i) h = cc
-told-more d ns ms (entry.Ended i) h = refl
-told-more d ns ms (entry.Recalled c) h = refl
+told-more d ns ms e h = refl
 
 pub all-told-more : (d : Document) (ns ms : List JobName) (es : List Entry) → list_all (is_within (length ns)) es ≡ true → map (told d (ns ++ ms)) es ≡ map (told d ns) es
 all-told-more d ns ms [] h = refl
@@ -47,14 +44,8 @@ all-told-more d ns ms (e ∷ es) h =
     ∙ ap (λ xs. told d ns e ∷ xs) (all-told-more d ns ms es (right_true (is_within (length ns) e) (list_all (is_within (length ns)) es) h))
 
 opens-none : (ns : List JobName) (n : ℕ) (e : Entry) → is_within n e ≡ true → opened_by ns e ≡ None
-opens-none ns n (entry.HandedOut k a t) h = refl
-opens-none ns n (entry.Accepted k a t r) h = refl
-opens-none ns n (entry.Bounced k) h = refl
-opens-none ns n (entry.Closed i s q c) h = refl
-opens-none ns n (entry.Passed i s q) h = refl
 opens-none ns n (entry.Opened k i) h = cc
-opens-none ns n (entry.Ended i) h = refl
-opens-none ns n (entry.Recalled c) h = refl
+opens-none ns n e h = refl
 
 opened-none : (ns : List JobName) (n : ℕ) (es : List Entry) → list_all (is_within n) es ≡ true → filter_map (opened_by ns) es ≡ []
 opened-none ns n [] h = refl
@@ -68,22 +59,12 @@ past-told d ns n es h = ap (λ is. reverse (map (with_names d ns ([] ∷ is)) es
 pub reverse-one_more : {A B : Type 0} (f : A → B) (xs : List A) (x : A) → reverse (map f (xs ++ x ∷ [])) ≡ f x ∷ reverse (map f xs)
 reverse-one_more f xs x = ap reverse (map-append f xs (x ∷ [])) ∙ reverse-append (map f xs) (f x ∷ [])
 
-instance-main : (i : ℕ) → name_at main_alone i ≡ []
-instance-main zero = refl
-instance-main (suc i) = refl
-
 event-told : (d : Document) (ns : List JobName) (e : Entry) → entry_of ns (event_of d e) ≡ told d ns e
 event-told d ns (entry.HandedOut k a t) = refl
-event-told d ns (entry.Accepted k a t r) = refl
-event-told d ns (entry.Bounced k) = refl
-event-told d ns (entry.Closed zero s q c) = refl
 event-told d ns (entry.Closed (suc i) s q c) = refl
-event-told d ns (entry.Passed zero s q) = refl
 event-told d ns (entry.Passed (suc i) s q) = refl
-event-told d ns (entry.Opened k i) = refl
-event-told d ns (entry.Ended zero) = refl
 event-told d ns (entry.Ended (suc i)) = refl
-event-told d ns (entry.Recalled c) = refl
+event-told d ns e = refl
 
 pub events-told : (d : Document) (ns : List JobName) (es : List Entry) → map (entry_of ns) (map (event_of d) es) ≡ map (told d ns) es
 events-told d ns [] = refl

@@ -4,19 +4,18 @@ use Rattle.std.specs.Option.{option_map_or}
 use Rattle.std.specs.Prelude.{Bool, Err, List, None, Ok, Option, Result, Some, [], false, find, if◌then◌else◌, is_none, is_ok, is_some, length, map, nat_lt, option_and_then, refl, reverse, slice_get, suc, true, unwrap_or, zero, ℕ, ◌++◌, ◌<◌, ◌||◌, ◌∷◌, ◌≡◌}
 use Rattle.std.proofs.Common.{ap, arith, sym, ◌∙◌}
 use Rattle.std.proofs.lemmas.Bool.{ltb-true}
-use Rattle.tv_value.specs.Nested.{Place}
+use Rattle.std.proofs.lemmas.Option.{same_Some}
+use Rattle.tv_history.proofs.Legal.{legal-of}
+use Rattle.tv_lemmas.proofs.Cases.{on_test}
 use Rattle.tv_value.specs.Orders.{same_job}
-use Rattle.tv_value.specs.Values.{JobName, Name, Text, Value, holds_fault}
+use Rattle.tv_value.specs.Values.{JobName, Text, Value}
 use Rattle.tv_gate.specs.Outcomes.{Giving}
-use Rattle.tv_flow.specs.Flows.{Document, Step}
-use Rattle.tv_strategy.specs.Origins.{Origin, Traced, plain}
-use Rattle.tv_dispatch.specs.Jobs.{Ask, Fate, Taken, Try, ask, match_result, open_flow, opens, outcome_of, right, taken, tries, wrong}
+use Rattle.tv_flow.specs.Flows.{Document}
+use Rattle.tv_dispatch.specs.Jobs.{Ask, Try, ask, open_flow, outcome_of, right, taken, tries}
 use Rattle.tv_check.specs.Steps.{declared_depths}
-use Rattle.tv_model.specs.Instances.{bounced_job, job_on, tried_job, with_fate}
 use Rattle.tv_model.specs.Jobs.{Job}
 use Rattle.tv_model.specs.Lists.{first_of_list, rest_of}
-use Rattle.tv_model.specs.Made.{Meaning}
-use Rattle.tv_model.specs.Meanings.{meaning, most_nesting}
+use Rattle.tv_model.specs.Meanings.{meaning, nesting_limit}
 use Rattle.tv_model.specs.Members.{In}
 use Rattle.tv_model.specs.Turns.{is_bounced}
 use Rattle.tv_model.proofs.Fed.{each-all}
@@ -28,9 +27,10 @@ use Rattle.tv_history.specs.Histories.{asks_left, is_legal, is_legal_after, is_s
 use Rattle.tv_history.specs.Tries.{TryKey, key_of, try_of}
 use Rattle.tv_history.proofs.Done.{of-next}
 use Rattle.tv_history.proofs.Ready.{are-jobs}
-use Rattle.tv_outcomes.proofs.Everywhere.{document-has}
+use Rattle.tv_history.proofs.Tests.{find-passes}
+use Rattle.tv_outcomes.proofs.Distinct.{taken_by}
+use Rattle.tv_outcomes.proofs.Everywhere.{document-asks}
 use Rattle.tv_outcomes.proofs.Instances.{any-whole}
-use Rattle.tv_outcomes.proofs.Takes.{some-part}
 use Rattle.tv_state.specs.EventViews.{name_at}
 use Rattle.tv_board.specs.Flat.{opens_nothing}
 use Rattle.tv_board.specs.Refusals.{accepts, is_settled_job}
@@ -38,7 +38,6 @@ use Rattle.tv_board.specs.Runs.{IsLegalRun, Run, all_have_numbers, has_numbers, 
 use Rattle.tv_board.specs.declared.entry.Entry.{Entry}
 use Rattle.tv_board.specs.declared.ticket.Ticket.{Ticket}
 use Rattle.tv_board.proofs.OfFlat.{none-opens}
-use Rattle.tv_board.proofs.OfOffers.{found-passes}
 use Rattle.tv_board.proofs.OfPasts.{reverse-one_more}
 use Rattle.tv_board.proofs.Standing.{all-at, found-any}
 
@@ -55,7 +54,7 @@ module _ (gives : Giving) where
   taken-last why (open_flow f ∷ ts) = tt
   taken-last why (ask a ∷ ts) = by (outcome_of gives a) refl (λ w. taken-last w ts)
     where
-      by : (r : Result (List Value) Text) → outcome_of gives a ≡ r → ((w : Text) → IsRightLast (taken gives w ts).asks) → IsRightLast (match_result {C = Taken} r (λ vs. record { asks = a ∷ []; fate = right vs }) (λ reason. record { asks = a ∷ (taken gives reason ts).asks; fate = (taken gives reason ts).fate })).asks
+      by : (r : Result (List Value) Text) → outcome_of gives a ≡ r → ((w : Text) → IsRightLast (taken gives w ts).asks) → IsRightLast (taken_by gives a ts r).asks
       by (Ok vs) e rec = ((λ h. refl), tt)
       by (Err w) e rec = ((λ h. absurd (true≠false (sym h ∙ ap is_ok e))), rec w)
 
@@ -70,62 +69,35 @@ module _ (gives : Giving) where
 
   none-after : (l : List Ask) (q : Ask) → IsRightLast l → first_of_list l ≡ Some q → is_ok (outcome_of gives q) ≡ true → is_none (first_of_list (rest_of l)) ≡ true
   none-after [] q h e r = absurd (true≠false (sym (ap is_some e)))
-  none-after (a ∷ l) q h e r = ap (λ x. is_none (first_of_list x)) (h.0 (ap (λ x. is_ok (outcome_of gives x)) (some-part a q e) ∙ r))
-
-  module _ (inside : Name → JobName → List (Name × Value) → Meaning) (I : JobName) where
-    fate-last : (s : Step) (j : Job) (as' : List Ask) (f : Fate) → IsRightLast as' → IsRightLast (with_fate gives inside I s (record j { asks = as' }) f).job.asks
-    fate-last s j as' (right vs) h = h
-    fate-last s j as' (opens f) h = h
-    fate-last s j as' (wrong why) h = h
-
-    job-last : (c : Name) (s : Step) (waits : List Origin) (q : Place) (inputs : List Traced) → IsRightLast (job_on gives inside I c s waits q inputs).job.asks
-    job-last c s waits q inputs = by (list_any (λ z. holds_fault z) inputs)
-      where
-        j : Job
-        j = bounced_job gives inside I c s waits q inputs
-
-        ts : List Try
-        ts = tries (map plain inputs) (declared_depths s) s.retries 0 s.activities
-
-        by : (z : Bool) → IsRightLast (if z then record { job = j; inside = None } else tried_job gives inside I s j).job.asks
-        by true = tt
-        by false = fate-last s j (taken gives [] ts).asks (taken gives [] ts).fate (taken-last [] ts)
+  none-after (a ∷ l) q h e r = ap (λ x. is_none (first_of_list x)) (h.0 (ap (λ x. is_ok (outcome_of gives x)) (same_Some a q e) ∙ r))
 
   jobs-last : (d : Document) (j : Job) → In j (meaning gives d).jobs → IsRightLast j.asks
   jobs-last d =
-      document-has gives (λ s. Unit {0}) (λ j. IsRightLast j.asks) (λ inside I c s waits q inputs u. job-last inside I c s waits q inputs) d
+      document-asks gives (λ s. Unit {0}) IsRightLast tt (λ s vs u. taken-last [] (tries vs (declared_depths s) s.retries 0 s.activities)) d
       (each-all (λ f. Each (λ s. Unit {0}) f.1.steps) (λ f. each-all (λ s. Unit {0}) (λ s. tt) f.1.steps) d.flows)
 
 -- ---- its acceptance
 
 module _ (gives : Giving) (d : Document) (flat : opens_nothing d ≡ true) (past : History) (n : JobName) (a t : ℕ) where
   whole : IsWhole gives AnyNumber (meaning gives d) []
-  whole = any-whole gives d.flows most_nesting d.main [] d.inputs
+  whole = any-whole gives d.flows nesting_limit d.main [] d.inputs
 
   -- the job of a right outcome that is accepted is settled then
-  right-settled : is_legal_after gives (meaning gives d) past (history.accepted n a t true) ≡ true → (j : Job) → In j (meaning gives d).jobs → same_job j.name n ≡ true → is_settled gives (meaning gives d) (history.accepted n a t true ∷ past) j ≡ true
-  right-settled l j i same = by (is_bounced j.ending) refl
+  right-settled : is_legal_after gives (meaning gives d) past (history.accepted n a t true) ≡ true → (j : Job) → In j (meaning gives d).jobs → same_job j.name n ≡ true → is_settled (history.accepted n a t true ∷ past) j ≡ true
+  right-settled l j i same = on_test (is_bounced j.ending) (λ e. absurd (true≠false (sym (ap is_some next.1) ∙ (are-jobs gives AnyNumber (meaning gives d) [] whole).bounced_asks j i e past))) (λ e. (λ k. if e k then list_any (is_bounced_entry j.name) (history.accepted n a t true ∷ past) else (if is_some (none-opens gives d flat j i k) then list_any (is_ended_entry j.name) (history.accepted n a t true ∷ past) else is_none (first_of_list (if same k then rest_of (asks_left past j.name j.asks) else asks_left past j.name j.asks)))) ∙ none-after gives (asks_left past j.name j.asks) next.0 (left-last gives past j.name j.asks (jobs-last gives d j i)) next.1 judged_right)
     where
       or-false : (b : Bool) → (b || false) ≡ b
       or-false true = refl
       or-false false = refl
 
-      next : (q : Ask) × (next_ask gives (meaning gives d) past j ≡ Some q) × (try_of j.name (history.accepted n a t true) ≡ key_of gives q ∷ [])
-      next = of-next gives AnyNumber (meaning gives d) whole past (history.accepted n a t true) j i l same
+      next : (q : Ask) × (next_ask past j ≡ Some q) × (try_of j.name (history.accepted n a t true) ≡ key_of gives q ∷ [])
+      next = of-next gives AnyNumber (meaning gives d) whole past j i (legal-of gives (meaning gives d) past (history.accepted n a t true) l) same
 
       judged_right : is_ok (outcome_of gives next.0) ≡ true
       judged_right =
           sym (or-false (is_ok (outcome_of gives next.0)))
           ∙ ap (list_any (λ (k : TryKey). k.2)) (sym next.2)
           ∙ ap (λ b. list_any (λ (k : TryKey). k.2) (if b then (a, t, true) ∷ [] else [])) same
-
-      by : (b : Bool) → is_bounced j.ending ≡ b → is_settled gives (meaning gives d) (history.accepted n a t true ∷ past) j ≡ true
-      by true e = absurd (true≠false (sym (ap is_some next.1) ∙ (are-jobs gives AnyNumber (meaning gives d) [] whole).bounced_asks j i e past))
-      by false e =
-          (λ k. if e k then list_any (is_bounced_entry j.name) (history.accepted n a t true ∷ past)
-          else (if is_some (none-opens gives d flat j i k) then list_any (is_ended_entry j.name) (history.accepted n a t true ∷ past)
-          else is_none (first_of_list (if same k then rest_of (asks_left past j.name j.asks) else asks_left past j.name j.asks))))
-          ∙ none-after gives (asks_left past j.name j.asks) next.0 (left-last gives past j.name j.asks (jobs-last gives d j i)) next.1 judged_right
 
 -- ---- a run
 
@@ -155,14 +127,14 @@ module _ (gives : Giving) (s : Run) (es : List Entry) (t : Ticket) (l : IsLegalR
   pub right-settles : is_settled_job gives s t.job ≡ true
   right-settles = by (slice_get s.names t.job) refl
     where
-      of : (n : JobName) (o : Option Job) → name_at s.names t.job ≡ n → find (λ (j : Job). same_job n j.name) (meant gives s).jobs ≡ o → is_some o ≡ true → option_map_or (is_settled gives (meant gives s) (past_of s)) o false ≡ true
+      of : (n : JobName) (o : Option Job) → name_at s.names t.job ≡ n → find (λ (j : Job). same_job n j.name) (meant gives s).jobs ≡ o → is_some o ≡ true → option_map_or (is_settled (past_of s)) o false ≡ true
       of n None e f h = absurd (true≠false (sym h))
       of n (Some j) e f h =
-          let found = found-passes (λ (i : Job). same_job n i.name) (meant gives s).jobs j (sym f) in
-          ap (λ p. is_settled gives (meant gives s) p j) past-is
-          ∙ right-settled gives s.document flat before (name_at s.names t.job) t.activity t.attempt legal j found.1 ((same_job_decides j.name (name_at s.names t.job)).1 (sym (e ∙ (same_job_decides n j.name).0 found.0)))
+          let found = find-passes (λ (i : Job). same_job n i.name) (meant gives s).jobs j f in
+          ap (λ p. is_settled p j) past-is
+          ∙ right-settled gives s.document flat before (name_at s.names t.job) t.activity t.attempt legal j found.0 ((same_job_decides j.name (name_at s.names t.job)).1 (sym (e ∙ (same_job_decides n j.name).0 found.1)))
 
-      by : (o : Option JobName) → slice_get s.names t.job ≡ o → option_map_or (is_settled gives (meant gives s) (past_of s)) (option_and_then (λ n. find (λ (j : Job). same_job n j.name) (meant gives s).jobs) o) false ≡ true
+      by : (o : Option JobName) → slice_get s.names t.job ≡ o → option_map_or (is_settled (past_of s)) (option_and_then (λ n. find (λ (j : Job). same_job n j.name) (meant gives s).jobs) o) false ≡ true
       by None e = absurd (true≠false (sym (there-below s.names t.job below) ∙ ap is_some e))
       by (Some n) e =
           of n (find (λ (j : Job). same_job n j.name) (meant gives s).jobs) (ap (λ o. unwrap_or o []) e) refl

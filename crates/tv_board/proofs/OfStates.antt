@@ -6,8 +6,8 @@ use Rattle.tv_gate.specs.Outcomes.{Giving}
 use Rattle.tv_flow.specs.Flows.{Document}
 use Rattle.tv_flow.specs.Formed.{is_formed}
 use Rattle.tv_history.specs.Entries as history
-use Rattle.tv_history.specs.Histories.{is_legal_after}
-use Rattle.tv_outcomes.specs.Agreed.{AgreeNext, HaveTheSameState, out_count}
+use Rattle.tv_history.specs.Histories.{is_legal_after, out_count}
+use Rattle.tv_outcomes.specs.Agreed.{AgreeNext, HaveTheSameState}
 use Rattle.tv_outcomes.proofs.Decided.{entries, states}
 use Rattle.tv_outcomes.proofs.Read.{documents-have_activities}
 use Rattle.tv_whole.specs.Known.{known_gives}
@@ -34,17 +34,16 @@ state-of gives d known whole names entries s kept w n e f r same = subst (λ r. 
 
 module _ (gives : Giving) (r : Run) (s : State) (i : IsStateOf gives r s) where
   -- all that may be asked is the same by both
-  pub state-same : HaveTheSameState gives (known_gives i.known) (meant gives r) (meaning_in s) (past_in s)
+  pub state-same : HaveTheSameState (meant gives r) (meaning_in s) (past_in s)
   state-same =
       let h = states gives (known_gives i.known) r.document (documents-have_activities r.document i.formed) (past_of r) i.kept.legal.legal i.kept.agrees in
-      let k : HaveTheSameState gives (known_gives i.known) (meant gives r) _ (past_of r) = record {
+      let k : HaveTheSameState (meant gives r) _ (past_of r) = record {
         offer = h.offer;
         going = h.going;
         bounce = h.bounce;
         settle = h.settle;
         end = h.end;
         more = h.more;
-        done = h.done;
         out = h.out;
         out_count = h.out_count;
         running = h.running;
@@ -53,7 +52,7 @@ module _ (gives : Giving) (r : Run) (s : State) (i : IsStateOf gives r s) where
         standings = h.standings;
         standing_at = h.standing_at;
       } in
-      subst (λ p. HaveTheSameState gives (known_gives i.known) (meant gives r) (meaning_in s) p) (sym i.past) (subst (λ m. HaveTheSameState gives (known_gives i.known) (meant gives r) m (past_of r)) (sym i.kept.worked_out) k)
+      subst (λ p. HaveTheSameState (meant gives r) (meaning_in s) p) (sym i.past) (subst (λ m. HaveTheSameState (meant gives r) m (past_of r)) (sym i.kept.worked_out) k)
 
   pub legal-carried : (e : history.Entry) → AgreeNext gives (known_gives i.known) (meant gives r) (past_of r) e → is_legal_after gives (meant gives r) (past_of r) e ≡ is_legal_after (known_gives i.known) (meaning_in s) (past_in s) e
   legal-carried e a =
@@ -62,5 +61,5 @@ module _ (gives : Giving) (r : Run) (s : State) (i : IsStateOf gives r s) where
       ∙ ap (λ p. is_legal_after (known_gives i.known) (meaning_in s) p e) (sym i.past)
 
   -- as many are out
-  pub out-carried : out_count (known_gives i.known) (meaning_in s) (past_in s) ≡ out_count gives (meant gives r) (past_of r)
-  out-carried = sym state-same.out_count ∙ ap (out_count gives (meant gives r)) i.past
+  pub out-carried : out_count (meaning_in s) (past_in s) ≡ out_count (meant gives r) (past_of r)
+  out-carried = sym state-same.out_count ∙ ap (out_count (meant gives r)) i.past

@@ -48,33 +48,33 @@ answers-decide a s vs ds = (
 )
 
 module _ (gives : Giving) (r : Run) (s : State) (i : IsStateOf gives r s) where
-  abbrev found : HaveTheSameState gives (known_gives i.known) (meant gives r) (meaning_in s) (past_in s)
+  abbrev found : HaveTheSameState (meant gives r) (meaning_in s) (past_in s)
   found = state-same gives r s i
 
-  pub try-there : (t : Ticket) → option_and_then (try_out (known_gives i.known) (meaning_in s) (past_in s) t.activity t.attempt) (job_at (meaning_in s) s.names.now t.job) ≡ try_if_out gives r t
+  pub try-there : (t : Ticket) → option_and_then (try_out (meaning_in s) (past_in s) t.activity t.attempt) (job_at (meaning_in s) s.names.now t.job) ≡ try_if_out gives r t
   try-there t =
-      try-same gives (known_gives i.known) (meant gives r) (meaning_in s) (past_in s) found s.names.now t.job t.activity t.attempt
-      ∙ (λ j. option_and_then (try_out gives (meant gives r) (i.past j) t.activity t.attempt) (job_at (meant gives r) (i.names j) t.job))
+      try-same (meant gives r) (meaning_in s) (past_in s) found s.names.now t.job t.activity t.attempt
+      ∙ (λ j. option_and_then (try_out (meant gives r) (i.past j) t.activity t.attempt) (job_at (meant gives r) (i.names j) t.job))
 
-  pub state-there : (k : ℕ) → state_at (known_gives i.known) (meaning_in s) (past_in s) s.names.now k ≡ state_of gives r k
+  pub state-there : (k : ℕ) → state_at (meaning_in s) (past_in s) s.names.now k ≡ state_of gives r k
   state-there k =
-      standing-same gives (known_gives i.known) (meant gives r) (meaning_in s) (past_in s) found s.names.now k (subst (λ ns. list_all (λ c. list_any (λ (j : Job). same_job c j.name) (meant gives r).jobs) ns ≡ true) (sym i.names) i.kept.legal.jobs)
-      ∙ (λ j. option_map_or (state_after gives (meant gives r) (i.past j)) (job_at (meant gives r) (i.names j) k) state.Unknown)
+      standing-same (meant gives r) (meaning_in s) (past_in s) found s.names.now k (subst (λ ns. list_all (λ c. list_any (λ (j : Job). same_job c j.name) (meant gives r).jobs) ns ≡ true) (sym i.names) i.kept.legal.jobs)
+      ∙ (λ j. option_map_or (state_after (meant gives r) (i.past j)) (job_at (meant gives r) (i.names j) k) state.Unknown)
 
-  pub settled-there : (k : ℕ) → option_map_or (is_settled (known_gives i.known) (meaning_in s) (past_in s)) (job_at (meaning_in s) s.names.now k) false ≡ option_map_or (is_settled gives (meant gives r) (past_of r)) (job_of gives r k) false
+  pub settled-there : (k : ℕ) → option_map_or (is_settled (past_in s)) (job_at (meaning_in s) s.names.now k) false ≡ option_map_or (is_settled (past_of r)) (job_of gives r k) false
   settled-there k =
-      settled-same gives (known_gives i.known) (meant gives r) (meaning_in s) (past_in s) found s.names.now k
-      ∙ (λ j. option_map_or (is_settled gives (meant gives r) (i.past j)) (job_at (meant gives r) (i.names j) k) false)
+      settled-same (meant gives r) (meaning_in s) (past_in s) found s.names.now k
+      ∙ (λ j. option_map_or (is_settled (i.past j)) (job_at (meant gives r) (i.names j) k) false)
 
   pub few-there : HasFew (meaning_in s)
   few-there = subst HasFew (sym i.kept.worked_out) (λ j x a y. activities-few (known_gives i.known) r.document i.formed j x a y)
 
   -- the try is out, so its job is there
   pub job-there : (t : Ticket) → is_some (try_if_out gives r t) ≡ true → is_some (job_of gives r t.job) ≡ true
-  job-there t = and-some (try_out gives (meant gives r) (past_of r) t.activity t.attempt) (job_of gives r t.job)
+  job-there t = and-some (try_out (meant gives r) (past_of r) t.activity t.attempt) (job_of gives r t.job)
 
   pub no-job : (t : Ticket) → is_some (try_if_out gives r t) ≡ true → None ≡ job_at (meaning_in s) s.names.now t.job → ⊥
-  no-job t h e = true≠false (sym (and-some (try_out (known_gives i.known) (meaning_in s) (past_in s) t.activity t.attempt) (job_at (meaning_in s) s.names.now t.job) (ap is_some (try-there t) ∙ h)) ∙ sym (ap is_some e))
+  no-job t h e = true≠false (sym (and-some (try_out (meaning_in s) (past_in s) t.activity t.attempt) (job_at (meaning_in s) s.names.now t.job) (ap is_some (try-there t) ∙ h)) ∙ sym (ap is_some e))
 
   -- its outputs are declared
 
@@ -84,7 +84,7 @@ module _ (gives : Giving) (r : Run) (s : State) (i : IsStateOf gives r s) where
   pub outputs-there : (t : Ticket) (task : Task) (os : List (Name × ℕ)) → declared_for gives r t.job ≡ Some os → task.ticket ≡ t → task.outputs ≡ os → declared_for gives r task.ticket.job ≡ Some task.outputs
   outputs-there t task os d e f = ap (λ (u : Ticket). declared_for gives r u.job) e ∙ d ∙ ap (λ xs. Some xs) (sym f)
 
-  pub task-there : (t : Ticket) (task : Task) (ask : Ask) (os : List (Name × ℕ)) → Some (ask_view ask) ≡ option_and_then (try_out (known_gives i.known) (meaning_in s) (past_in s) t.activity t.attempt) (job_at (meaning_in s) s.names.now t.job) → declared_for gives r t.job ≡ Some os → (task.ticket ≡ t) × ((task.service ≡ ask.service) × ((values_view task.inputs ≡ values_view ask.inputs) × (task.outputs ≡ os))) → IsTask gives r (question task.ticket task.service task.inputs task.outputs) × (task.ticket ≡ t)
+  pub task-there : (t : Ticket) (task : Task) (ask : Ask) (os : List (Name × ℕ)) → Some (ask_view ask) ≡ option_and_then (try_out (meaning_in s) (past_in s) t.activity t.attempt) (job_at (meaning_in s) s.names.now t.job) → declared_for gives r t.job ≡ Some os → (task.ticket ≡ t) × ((task.service ≡ ask.service) × ((values_view task.inputs ≡ values_view ask.inputs) × (task.outputs ≡ os))) → IsTask gives r (question task.ticket task.service task.inputs task.outputs) × (task.ticket ≡ t)
   task-there t task ask os h d e = (
     record {
       asked = ask_view ask;
@@ -98,7 +98,7 @@ module _ (gives : Giving) (r : Run) (s : State) (i : IsStateOf gives r s) where
 
   -- ---- an answer to a try that is out
 
-  module _ (q : Question) (ask : Ask) (h : Some (ask_view ask) ≡ option_and_then (try_out (known_gives i.known) (meaning_in s) (past_in s) q.ticket.activity q.ticket.attempt) (job_at (meaning_in s) s.names.now q.ticket.job)) where
+  module _ (q : Question) (ask : Ask) (h : Some (ask_view ask) ≡ option_and_then (try_out (meaning_in s) (past_in s) q.ticket.activity q.ticket.attempt) (job_at (meaning_in s) s.names.now q.ticket.job)) where
     pub asked-there : true ≡ answers (ask_view ask) q.service q.inputs (map (λ o. o.1) q.outputs) → IsTask gives r q
     asked-there b =
         let e = (answers-decide (ask_view ask) q.service q.inputs (map (λ o. o.1) q.outputs)).0 (sym b) in

@@ -1,7 +1,7 @@
 -- What the calls of a board say of its run.
 use Rattle.std.specs.List.{list_any}
 use Rattle.std.specs.Option.{option_map_or}
-use Rattle.std.specs.Prelude.{Bool, List, None, Option, Some, [], count_by, false, filter, find, if◌then◌else◌, is_none, is_some, length, map, not, option_and_then, slice_get, suc, true, ℕ, ◌&&◌, ◌∷◌, ◌≡◌}
+use Rattle.std.specs.Prelude.{Bool, List, None, Option, Some, [], false, filter, find, if◌then◌else◌, is_some, map, option_and_then, slice_get, suc, true, ℕ, ◌&&◌, ◌∷◌, ◌≡◌}
 use Rattle.tv_value.specs.Orders.{same_job}
 use Rattle.tv_value.specs.Values.{JobName}
 use Rattle.tv_gate.specs.Outcomes.{Giving}
@@ -11,9 +11,9 @@ use Rattle.tv_model.specs.Made.{Meaning}
 use Rattle.tv_model.specs.Totals as model
 use Rattle.tv_history.specs.Entries as history
 use Rattle.tv_history.specs.Entries.{History, is_out}
+use Rattle.tv_history.specs.Histories as histories
 use Rattle.tv_history.specs.Histories.{has_open_instance, is_ask, is_legal_after, is_offered, is_ready, is_running, is_settled, next_ask}
-use Rattle.tv_history.specs.ReadOff.{accepted_name, bounced_name, has_failed}
-use Rattle.tv_history.specs.Tallies.{tally}
+use Rattle.tv_history.specs.ReadOff.{read_totals}
 use Rattle.tv_board.specs.Answers.{Question}
 use Rattle.tv_board.specs.Runs.{Appends, Run, meant, past_of}
 use Rattle.tv_board.specs.declared.tasks.TaskFault.{TaskFault}
@@ -48,7 +48,8 @@ Settles r s = (e : Entry) × Appends r s e × (settles e ≡ true)
 
 -- no entry is legal next that settles something
 abbrev pub NothingSettles : Giving → Run → Type 0
-NothingSettles gives r = (e : history.Entry) → is_settlement e ≡ true → is_legal_after gives (meant gives r) (past_of r) e ≡ false
+NothingSettles gives r =
+    (e : history.Entry) → is_settlement e ≡ true → is_legal_after gives (meant gives r) (past_of r) e ≡ false
 
 -- ---- handing out
 
@@ -56,7 +57,7 @@ abbrev pub hands_out : Ticket → Entry
 hands_out t = entry.HandedOut t.job t.activity t.attempt
 
 abbrev pub IsNothingOffered : Giving → Run → Type 0
-IsNothingOffered gives r = list_any (is_offered gives (meant gives r) (past_of r)) (meant gives r).jobs ≡ false
+IsNothingOffered gives r = list_any (is_offered (meant gives r) (past_of r)) (meant gives r).jobs ≡ false
 
 -- ---- one job
 
@@ -73,34 +74,37 @@ last_activity [] = 0
 last_activity (a ∷ []) = suc a.activity
 last_activity (a ∷ b ∷ as') = last_activity (b ∷ as')
 
-module _ (gives : Giving) (m : Meaning) (past : History) where
+module _ (m : Meaning) (past : History) where
   -- this try of the job, where it is out
   abbrev pub try_out : ℕ → ℕ → Job → Option Ask
-  try_out a t j = if is_out past j.name && option_map_or (is_ask gives m a t) (next_ask gives m past j) false then next_ask gives m past j else None
+  try_out a t j =
+      if is_out past j.name && option_map_or (is_ask a t) (next_ask past j) false then next_ask past j else None
 
   -- a job of which a try is out: every such job has a next one
   abbrev pub out_state : Job → JobState
-  out_state j = option_map_or (λ a. state.Out a.activity a.attempt) (next_ask gives m past j) state.Waiting
+  out_state j = option_map_or (λ a. state.Out a.activity a.attempt) (next_ask past j) state.Waiting
 
   -- one that runs, of which nothing is out
   abbrev pub idle_state : Job → JobState
-  idle_state j = option_map_or (λ a. state.Idle a.activity a.attempt) (next_ask gives m past j) (state.Idle (last_activity j.asks) 0)
+  idle_state j =
+      option_map_or (λ a. state.Idle a.activity a.attempt) (next_ask past j) (state.Idle (last_activity j.asks) 0)
 
   -- where the job stands
   abbrev pub state_after : Job → JobState
   state_after j =
-      if is_settled gives m past j then state.Settled
+      if is_settled past j then state.Settled
       else (if is_out past j.name then out_state j
-      else (if has_open_instance gives m past j then state.Nested
-      else (if is_running gives m past j then idle_state j
-      else (if is_ready gives m past j then state.Ready else state.Waiting))))
+      else (if has_open_instance past j then state.Nested
+      else (if is_running past j then idle_state j
+      else (if is_ready m past j then state.Ready else state.Waiting))))
 
 -- the try of a ticket, where it is out
 abbrev pub try_if_out : Giving → Run → Ticket → Option Ask
-try_if_out gives r t = option_and_then (try_out gives (meant gives r) (past_of r) t.activity t.attempt) (job_of gives r t.job)
+try_if_out gives r t =
+    option_and_then (try_out (meant gives r) (past_of r) t.activity t.attempt) (job_of gives r t.job)
 
 abbrev pub state_of : Giving → Run → ℕ → JobState
-state_of gives r k = option_map_or (state_after gives (meant gives r) (past_of r)) (job_of gives r k) state.Unknown
+state_of gives r k = option_map_or (state_after (meant gives r) (past_of r)) (job_of gives r k) state.Unknown
 
 -- what the task of a ticket asks
 pub record IsTask (gives : Giving) (r : Run) (q : Question) : Type 0 where
@@ -114,18 +118,17 @@ pub record IsTask (gives : Giving) (r : Run) (q : Question) : Type 0 where
 pub record IsOther (gives : Giving) (r : Run) (q : Question) : Type 0 where
   pub asked : Ask
   pub out : try_if_out gives r q.ticket ≡ Some asked
-  pub other : (q.service ≡ asked.service) × (q.inputs ≡ asked.inputs) × (map (λ o. o.1) q.outputs ≡ asked.outputs) → ⊥
+  pub other :
+      (q.service ≡ asked.service) × (q.inputs ≡ asked.inputs) × (map (λ o. o.1) q.outputs ≡ asked.outputs)
+      → ⊥
 
 -- ---- what is told
 
 abbrev pub out_count : Giving → Run → ℕ
-out_count gives r = count_by (λ (j : Job). is_out (past_of r) j.name) (meant gives r).jobs
+out_count gives r = histories.out_count (meant gives r) (past_of r)
 
 abbrev pub totals_so_far : Giving → Run → model.Totals
-totals_so_far gives r =
-    let past = past_of r in
-    let settled = filter (is_settled gives (meant gives r) past) (meant gives r).jobs in
-    record { attempts = tally (λ e. not (is_none (accepted_name e))) past; bounced = tally (λ e. not (is_none (bounced_name e))) past; failed = count_by (λ j. has_failed past j.name) settled; jobs = length settled }
+totals_so_far gives r = read_totals (past_of r) (filter (is_settled (past_of r)) (meant gives r).jobs)
 
 -- ---- tasks
 

@@ -4,7 +4,7 @@ use Rattle.tv_model.specs.Turns.{is_failed}
 use Rattle.tv_history.specs.Histories.{is_settled}
 use Rattle.tv_known.specs.WholeViews.{job_view}
 use Rattle.tv_known.specs.declared.parts.Job.{Job}
-use Rattle.tv_state.specs.StateViews.{meaning_in, no_services, past_in}
+use Rattle.tv_state.specs.StateViews.{past_in}
 use Rattle.tv_state.specs.declared.state.State.{State}
 use Rattle.tv_board.specs.declared.entry.Entry.{Entry}
 use Rattle.tv_board.specs.declared.entry.Entry.TheVariants as entry
@@ -21,7 +21,7 @@ is_bounce e = false
 
 -- the job is settled
 unfoldable pub settled_in : State → Job → Bool
-settled_in s j = is_settled no_services (meaning_in s) (past_in s) (job_view j)
+settled_in s j = is_settled (past_in s) (job_view j)
 
 -- it is settled, and fails in the meaning
 unfoldable pub failed_in : State → Job → Bool

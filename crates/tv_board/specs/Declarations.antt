@@ -15,4 +15,5 @@ declared_outputs d instance step =
 
 -- those of the step of the job of a number
 abbrev pub declared_for : Giving → Run → ℕ → Option (List (Name × ℕ))
-declared_for gives r k = option_and_then (λ (j : Job). declared_outputs r.document j.instance j.step) (job_of gives r k)
+declared_for gives r k =
+    option_and_then (λ (j : Job). declared_outputs r.document j.instance j.step) (job_of gives r k)

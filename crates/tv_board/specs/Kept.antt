@@ -1,6 +1,6 @@
 -- What a board keeps: the meaning by the known calls, and its run told twice, by entries and by events with names.
 use Rattle.std.specs.List.{list_all}
-use Rattle.std.specs.Prelude.{Bool, List, None, Vec, [], false, length, map, nat_lt, not, true, vec_capacity, ℕ, ◌+◌, ◌≡◌, ◌≤◌}
+use Rattle.std.specs.Prelude.{Bool, List, None, Vec, [], false, length, map, nat_lt, not, true, vec_capacity, ℕ, ◌+◌, ◌≡◌, ◌≤◌, count_by}
 use Rattle.std.specs.Global.{Global}
 use Rattle.tv_value.specs.Values.{JobName}
 use Rattle.tv_value.specs.Views.{values_view}
@@ -10,7 +10,6 @@ use Rattle.tv_flow.specs.Flows.{Document}
 use Rattle.tv_check.specs.Steps.{spot}
 use Rattle.tv_model.specs.Meanings.{meaning}
 use Rattle.tv_history.specs.Entries.{History, is_out}
-use Rattle.tv_history.specs.Tallies.{tally}
 use Rattle.tv_outcomes.specs.Agreed.{AgreeOn}
 use Rattle.tv_whole.specs.Known.{known_gives}
 use Rattle.tv_whole.specs.WholeViews.{IsWhole}
@@ -54,7 +53,7 @@ is_known_right gives k = is_given gives k.service (values_view k.inputs) k.attem
 
 -- the jobs with numbers that aren't out: each of them may be handed out with no memory
 abbrev pub not_out : List JobName → History → ℕ
-not_out names past = tally (λ n. not (is_out past n)) names
+not_out names past = count_by (λ n. not (is_out past n)) names
 
 -- what holds of the run of a board, the calls that it knows, and the meaning by these
 pub record IsKept (gives : Giving) (d : Document) (known : List KnownCall) (whole : Whole) (names : List JobName) (entries : List Entry) : Type 0 where

@@ -3,7 +3,6 @@ use Rattle.std.specs.Option.{option_map_or}
 use Rattle.std.specs.Prelude.{List, find, slice_get, ℕ, ◌<◌}
 use Rattle.tv_value.specs.Orders.{same_job}
 use Rattle.tv_value.specs.Values.{JobName}
-use Rattle.tv_gate.specs.Outcomes.{Giving}
 use Rattle.tv_dispatch.specs.Jobs.{Ask}
 use Rattle.tv_model.specs.Jobs.{Job}
 use Rattle.tv_model.specs.Made.{Meaning}
@@ -14,12 +13,12 @@ use Rattle.tv_board.specs.declared.ticket.JobState.{JobState}
 use Rattle.tv_board.specs.declared.ticket.JobState.TheVariants as state
 
 -- where the job of a name stands
-abbrev pub state_named : Giving → Meaning → History → JobName → JobState
-state_named gives m past n = option_map_or (state_after gives m past) (find (λ j. same_job n j.name) m.jobs) state.Waiting
+abbrev pub state_named : Meaning → History → JobName → JobState
+state_named m past n = option_map_or (state_after m past) (find (λ j. same_job n j.name) m.jobs) state.Waiting
 
 -- where the job of a number stands
-abbrev pub state_at : Giving → Meaning → History → List JobName → ℕ → JobState
-state_at gives m past names k = option_map_or (state_named gives m past) (slice_get names k) state.Unknown
+abbrev pub state_at : Meaning → History → List JobName → ℕ → JobState
+state_at m past names k = option_map_or (state_named m past) (slice_get names k) state.Unknown
 
 -- tries are of eight activities at the most
 abbrev pub AreOfFew : List Ask → Type 0

@@ -13,7 +13,7 @@ use Rattle.tv_history.specs.Histories.{is_settled}
 use Rattle.tv_whole.specs.Sameness.{same_values}
 use Rattle.tv_board.specs.Answers.{Question, question}
 use Rattle.tv_board.specs.Calls.{IsOther, IsTask, job_of, state_of, try_if_out}
-use Rattle.tv_board.specs.Runs.{Appends, Run, meant, past_of}
+use Rattle.tv_board.specs.Runs.{Appends, Run, past_of}
 use Rattle.tv_board.specs.declared.answer.Answer.{Answer}
 use Rattle.tv_board.specs.declared.accepting.Accepted.{Accepted}
 use Rattle.tv_board.specs.declared.accepting.Accepted.TheVariants as accepted
@@ -66,12 +66,14 @@ accepted_if false good = accepted.Again
 
 -- the job of a number is settled
 abbrev pub is_settled_job : Giving → Run → ℕ → Bool
-is_settled_job gives r k = option_map_or (is_settled gives (meant gives r) (past_of r)) (job_of gives r k) false
+is_settled_job gives r k = option_map_or (is_settled (past_of r)) (job_of gives r k) false
 
 -- it goes on only where the outcome wasn't right
 abbrev pub IsAccepting : Giving → Run → Run → Question → Outcome → Accepted → Type 0
-IsAccepting gives old new q o accepted.Again = WasAccepted gives old new q o false × (is_settled_job gives new q.ticket.job ≡ false)
-IsAccepting gives old new q o (accepted.Settled good) = WasAccepted gives old new q o good × (is_settled_job gives new q.ticket.job ≡ true)
+IsAccepting gives old new q o accepted.Again =
+    WasAccepted gives old new q o false × (is_settled_job gives new q.ticket.job ≡ false)
+IsAccepting gives old new q o (accepted.Settled good) =
+    WasAccepted gives old new q o good × (is_settled_job gives new q.ticket.job ≡ true)
 
 -- ---- refusals
 

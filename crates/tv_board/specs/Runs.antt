@@ -37,10 +37,12 @@ first_flow (nested f ∷ as') = Some f
 -- the flow of the instance of that name, seen from this flow
 abbrev pub flow_of : List (Name × Flow) → Name → JobName → Option Flow
 flow_of flows f [] = named f flows
-flow_of flows f (k ∷ n) = option_and_then (λ flow. option_and_then (λ s. option_and_then (λ g. flow_of flows g n) (first_flow s.activities)) (named k.0 flow.steps)) (named f flows)
+flow_of flows f (k ∷ n) =
+    option_and_then (λ flow. option_and_then (λ s. option_and_then (λ g. flow_of flows g n) (first_flow s.activities)) (named k.0 flow.steps)) (named f flows)
 
 abbrev pub step_name : Document → JobName → ℕ → Name
-step_name d n k = unwrap_or (option_and_then (λ (f : Flow). option_map (λ s. s.0) (slice_get f.steps k)) (flow_of d.flows d.main n)) []
+step_name d n k =
+    unwrap_or (option_and_then (λ (f : Flow). option_map (λ s. s.0) (slice_get f.steps k)) (flow_of d.flows d.main n)) []
 
 abbrev pub opened_by : List JobName → Entry → Option JobName
 opened_by names (entry.Opened k i) = Some (name_at names k)
@@ -57,8 +59,10 @@ abbrev pub with_names : Document → List JobName → List JobName → Entry →
 with_names d names is (entry.HandedOut k a t) = history.handed_out (name_at names k) a t
 with_names d names is (entry.Accepted k a t r) = history.accepted (name_at names k) a t r
 with_names d names is (entry.Bounced k) = history.bounced (name_at names k)
-with_names d names is (entry.Closed i s q n) = history.closed (spot (name_at is i) (step_name d (name_at is i) s) q) n
-with_names d names is (entry.Passed i s q) = history.fault_passed (spot (name_at is i) (step_name d (name_at is i) s) q)
+with_names d names is (entry.Closed i s q n) =
+    history.closed (spot (name_at is i) (step_name d (name_at is i) s) q) n
+with_names d names is (entry.Passed i s q) =
+    history.fault_passed (spot (name_at is i) (step_name d (name_at is i) s) q)
 with_names d names is (entry.Opened k i) = history.opened (name_at names k)
 with_names d names is (entry.Ended i) = history.ended (name_at is i)
 with_names d names is (entry.Recalled c) = history.recalled c
@@ -97,7 +101,8 @@ has_numbers n m (entry.Recalled c) = true
 -- each entry speaks of jobs with numbers, and of instances with numbers by then
 abbrev pub all_have_numbers : ℕ → ℕ → List Entry → Bool
 all_have_numbers n m [] = true
-all_have_numbers n m (e ∷ es) = has_numbers n m e && all_have_numbers n (if is_some (opened_number e) then suc m else m) es
+all_have_numbers n m (e ∷ es) =
+    has_numbers n m e && all_have_numbers n (if is_some (opened_number e) then suc m else m) es
 
 pub record IsLegalRun (gives : Giving) (r : Run) : Type 0 where
   -- each entry is legal after those before it
@@ -106,9 +111,11 @@ pub record IsLegalRun (gives : Giving) (r : Run) : Type 0 where
   pub distinct : all_distinct r.names ≡ true
   pub jobs : list_all (λ n. list_any (λ (j : Job). same_job n j.name) (meant gives r).jobs) r.names ≡ true
   -- every ready job has a number
-  pub numbered : list_all (is_among r.names) (ready gives (meant gives r) (past_of r)) ≡ true
+  pub numbered : list_all (is_among r.names) (ready (meant gives r) (past_of r)) ≡ true
   -- instances are numbered from 1 in the order in which they were opened
-  pub instances : filter_map opened_number r.entries ≡ range_with_len 1 (length (filter_map opened_number r.entries))
+  pub instances :
+      filter_map opened_number r.entries
+      ≡ range_with_len 1 (length (filter_map opened_number r.entries))
   -- no entry has a number that wasn't given, the main instance's being there from the start
   pub numbers : all_have_numbers (length r.names) 1 r.entries ≡ true
 

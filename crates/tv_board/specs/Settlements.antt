@@ -1,9 +1,10 @@
 -- What is settled next: an entry with its event, or that there is none of a kind.
-use Rattle.std.specs.Prelude.{Bool, List, None, Option, Some, false, true, ℕ, ◌≡◌}
+use Rattle.std.specs.Prelude.{Bool, List, Option, false, true, ℕ, ◌≡◌}
 use Rattle.tv_value.specs.Values.{JobName}
 use Rattle.tv_gate.specs.Outcomes.{Giving}
 use Rattle.tv_flow.specs.Flows.{Document}
 use Rattle.tv_history.specs.Entries as history
+use Rattle.tv_history.specs.Entries.{level_entry}
 use Rattle.tv_history.specs.Histories.{is_legal_after}
 use Rattle.tv_state.specs.declared.events.Event.{Event}
 use Rattle.tv_board.specs.Calls.{NothingSettles, Settles, settles}
@@ -31,16 +32,14 @@ module _ (gives : Giving) (r : Run) where
 
   -- no list can be closed and no fault passed
   abbrev pub NoLevelSettles : Type 0
-  NoLevelSettles = ((n : JobName) → (k : ℕ) → is_next (history.closed n k) ≡ false) × ((n : JobName) → is_next (history.fault_passed n) ≡ false)
+  NoLevelSettles =
+      ((n : JobName) → (k : ℕ) → is_next (history.closed n k) ≡ false)
+      × ((n : JobName) → is_next (history.fault_passed n) ≡ false)
 
   -- no instance can end, and none can be opened
   abbrev pub NothingEnds : Type 0
-  NothingEnds = ((n : JobName) → is_next (history.ended n) ≡ false) × ((n : JobName) → is_next (history.opened n) ≡ false)
-
--- a list that is closed with its length, or a fault that is passed
-abbrev pub level_entry : JobName → Option ℕ → history.Entry
-level_entry n None = history.fault_passed n
-level_entry n (Some k) = history.closed n k
+  NothingEnds =
+      ((n : JobName) → is_next (history.ended n) ≡ false) × ((n : JobName) → is_next (history.opened n) ≡ false)
 
 -- an event with its entry, which settles the list or passed fault of this name and length
 pub record IsOfLevel (d : Document) (n : JobName) (size : Option ℕ) (p : Event × Entry) : Type 0 where

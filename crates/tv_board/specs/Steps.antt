@@ -11,7 +11,7 @@ use Rattle.tv_history.specs.Histories.{is_ask, is_legal_after, next_ask}
 use Rattle.tv_whole.specs.WholeViews.{job_view}
 use Rattle.tv_known.specs.declared.parts.Job.{Job}
 use Rattle.tv_state.specs.EventViews.{name_at}
-use Rattle.tv_state.specs.StateViews.{meaning_in, past_in}
+use Rattle.tv_state.specs.StateViews.{past_in}
 use Rattle.tv_state.specs.declared.events.Event.{Event}
 use Rattle.tv_state.specs.declared.state.State.{State}
 use Rattle.tv_board.specs.Kept.{event_of, is_within}
@@ -39,7 +39,9 @@ pub record IsNext (gives : Giving) (r : Run) (event : Event) (e : Entry) : Type 
 -- a ticket that may be handed out next
 pub record IsHandable (gives : Giving) (r : Run) (t : Ticket) : Type 0 where
   pub within : nat_lt t.job (length r.names) ≡ true
-  pub legal : is_legal_after gives (meant gives r) (past_of r) (history.handed_out (name_at r.names t.job) t.activity t.attempt) ≡ true
+  pub legal :
+      is_legal_after gives (meant gives r) (past_of r) (history.handed_out (name_at r.names t.job) t.activity t.attempt)
+      ≡ true
   pub idle : is_out (past_of r) (name_at r.names t.job) ≡ false
 
 -- room for so many names and an entry, and then for handing out all jobs
@@ -52,7 +54,7 @@ pub record HasRoom (names : Vec JobName Global) (events : Vec Event Global) (ent
 pub record IsTicketOf (s : State) (j : Job) (t : Ticket) : Type 0 where
   pub within : nat_lt t.job (length s.names.now) ≡ true
   pub name : name_at s.names.now t.job ≡ j.name
-  pub next : (gives : Giving) → option_map_or (is_ask gives (meaning_in s) t.activity t.attempt) (next_ask gives (meaning_in s) (past_in s) (job_view j)) false ≡ true
+  pub next : option_map_or (is_ask t.activity t.attempt) (next_ask (past_in s) (job_view j)) false ≡ true
 
 abbrev pub recalls : ℕ → Entry
 recalls n = entry.Recalled n

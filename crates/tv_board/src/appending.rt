@@ -1,6 +1,5 @@
 //! A board after one entry more.
-ghost use Rattle.std.specs.Prelude.{◌++◌, ◌+◌, ◌∷◌, ◌<◌, ◌≡◌, ◌≤◌, [], IfOk, OnErr, OnOk, length, true, vec_capacity, vec_len};
-ghost use Rattle.tv_gate.specs.Outcomes.{Giving};
+ghost use Rattle.std.specs.Prelude.{◌++◌, ◌+◌, ◌∷◌, ◌<◌, ◌≡◌, ◌≤◌, [], IfOk, OnErr, OnOk, vec_capacity, vec_len};
 ghost use Rattle.tv_outcomes.specs.Agreed.{ready};
 ghost use Rattle.tv_whole.specs.WholeViews.{whole_view};
 ghost use Rattle.tv_state.specs.EventViews.{past_of};
@@ -54,7 +53,7 @@ pub(crate) fn prepare(
     ensures names { (names.new.items ≡ names.old.items) × (entries.new.items ≡ entries.old.items) }
     ensures capacity { (vec_capacity events.old ≤ vec_capacity events.new) × (vec_capacity entries.old ≤ vec_capacity entries.new) }
     ensures event { OnOk result (events.new.items ≡ events.old.items ++ event ∷ []) }
-    ensures numbers { IfOk result (λ more. (gives : Giving) → names.old.items ++ more.items ≡ numbering names.old.items (ready gives (whole_view whole.now) (past_of names.old.items (events.old.items ++ event ∷ [])))) }
+    ensures numbers { IfOk result (λ more. names.old.items ++ more.items ≡ numbering names.old.items (ready (whole_view whole.now) (past_of names.old.items (events.old.items ++ event ∷ [])))) }
     ensures room { IfOk result (λ more. HasRoom names.new events.new entries.new (vec_len more)) }
     ensures refused { OnErr result (events.new.items ≡ events.old.items) }
 {
@@ -78,7 +77,7 @@ fn with_room(
 ) -> Result<Vec<JobName>, NoMemory>
     ensures names { (names.new.items ≡ names.old.items) × (entries.new.items ≡ entries.old.items) × (events.new.items ≡ events.old.items) }
     ensures capacity { (vec_capacity events.old ≤ vec_capacity events.new) × (vec_capacity entries.old ≤ vec_capacity entries.new) }
-    ensures numbers { IfOk result (λ more. (gives : Giving) → names.old.items ++ more.items ≡ numbering names.old.items (ready gives (whole_view whole.now) (past_of names.old.items events.old.items))) }
+    ensures numbers { IfOk result (λ more. names.old.items ++ more.items ≡ numbering names.old.items (ready (whole_view whole.now) (past_of names.old.items events.old.items))) }
     ensures room { IfOk result (λ more. HasRoom names.new events.new entries.new (vec_len more)) }
 {
     let more = unnumbered(alloc, &state_of(whole, names.as_slice(), events.as_slice()))?;

@@ -1,13 +1,12 @@
 //! The type of boards, how they start, and what is read off them.
 ghost use Rattle.std.specs.Prelude.{◌≡◌, [], IfOk, slice_get, true};
-ghost use Rattle.tv_gate.specs.Outcomes.{Giving};
 ghost use Rattle.tv_check.specs.RunViews.{run_view};
 ghost use Rattle.tv_history.specs.Histories.{is_done};
 ghost use Rattle.tv_outcomes.specs.Agreed.{ready};
 ghost use Rattle.tv_whole.specs.WholeViews.{whole_view};
 ghost use Rattle.tv_board.specs.Flat.{opens_nothing};
 ghost use Rattle.tv_board.specs.Numbering.{numbering};
-ghost use Rattle.tv_board.specs.Runs.{IsLegalRun, meant, past_of};
+ghost use Rattle.tv_board.specs.Runs.{IsLegalRun, past_of};
 ghost use Rattle.tv_board.specs.States.{IsStateOf};
 
 use crate::appending::state_of;
@@ -56,7 +55,7 @@ impl<V: Services> Model for Board<V> {
 
 /// The names of the jobs that are ready at the start.
 fn first_names(alloc: Global, whole: &Whole) -> Result<Vec<JobName>, NoMemory>
-    ensures { IfOk result (λ names. (gives : Giving) → names.items ≡ numbering [] (ready gives (whole_view whole.now) [])) }
+    ensures { IfOk result (λ names. names.items ≡ numbering [] (ready (whole_view whole.now) [])) }
 {
     let names = Vec::new(alloc);
     let events = Vec::new(alloc);
@@ -109,7 +108,7 @@ impl<V: Services> Board<V> {
 
     /// Whether the run is done: the main instance has ended. Linear in the history.
     pub fn is_done(&self) -> bool
-        ensures { result ≡ is_done V.gives (meant V.gives self.now) (past_of self.now) }
+        ensures { result ≡ is_done (past_of self.now) }
     {
         self.state().is_done()
     }

@@ -1,9 +1,8 @@
 //! Handing out tries, and taking them back.
 ghost use Rattle.std.specs.Prelude.{◌<◌, ◌≡◌, IfOk, IsOk, MatchOption, OnErr, OnOk, is_some, true};
-ghost use Rattle.tv_gate.specs.Outcomes.{Giving};
 ghost use Rattle.tv_history.specs.Histories.{next_ask};
 ghost use Rattle.tv_whole.specs.WholeViews.{job_view};
-ghost use Rattle.tv_state.specs.StateViews.{meaning_in, past_in};
+ghost use Rattle.tv_state.specs.StateViews.{past_in};
 ghost use Rattle.tv_board.specs.Calls.{IsNothingOffered, hands_out, out_count};
 ghost use Rattle.tv_board.specs.Idle.{AreIdle};
 ghost use Rattle.tv_board.specs.Runs.{Appends, IsLegalRun, is_among};
@@ -21,7 +20,7 @@ use tv_whole::Job;
 
 /// The ticket of a job's next try.
 fn ticket_of(state: &State<'_>, job: &Job) -> Ticket
-    requires tries { (gives : Giving) → is_some (next_ask gives (meaning_in state.now) (past_in state.now) (job_view job.now)) ≡ true }
+    requires tries { is_some (next_ask (past_in state.now) (job_view job.now)) ≡ true }
     requires numbered { is_among state.now.names.now job.now.name ≡ true }
     ensures { IsTicketOf state.now job.now result }
 {

@@ -1,7 +1,6 @@
 //! One job of a state, by its number.
 ghost use Rattle.std.specs.Option.{option_map_or};
 ghost use Rattle.std.specs.Prelude.{◌≡◌, false, map, option_and_then, option_map, slice_get};
-ghost use Rattle.tv_gate.specs.Outcomes.{Giving};
 ghost use Rattle.tv_history.specs.Histories.{is_settled};
 ghost use Rattle.tv_whole.specs.WholeViews.{ask_view, job_view};
 ghost use Rattle.tv_state.specs.StateViews.{meaning_in, past_in};
@@ -32,7 +31,7 @@ pub(crate) fn job_at<'a>(state: &State<'a>, number: u64) -> Option<&'a Job>
 
 /// The try of a ticket, where it is out. Linear in the jobs and the events.
 pub(crate) fn try_out<'a>(state: &State<'a>, ticket: &Ticket) -> Option<&'a Ask>
-    ensures { (gives : Giving) → option_map (λ a. ask_view a.now) result ≡ option_and_then (try_out gives (meaning_in state.now) (past_in state.now) ticket.now.activity ticket.now.attempt) (job_at (meaning_in state.now) state.now.names.now ticket.now.job) }
+    ensures { option_map (λ a. ask_view a.now) result ≡ option_and_then (try_out (meaning_in state.now) (past_in state.now) ticket.now.activity ticket.now.attempt) (job_at (meaning_in state.now) state.now.names.now ticket.now.job) }
 {
     match job_at(state, ticket.job) {
         Some(job) => try_of(state, job, ticket),
@@ -42,7 +41,7 @@ pub(crate) fn try_out<'a>(state: &State<'a>, ticket: &Ticket) -> Option<&'a Ask>
 
 /// This try of a job, where it is out.
 fn try_of<'a, 'b>(state: &State<'a>, job: &'b Job, ticket: &Ticket) -> Option<&'b Ask>
-    ensures { (gives : Giving) → option_map (λ a. ask_view a.now) result ≡ try_out gives (meaning_in state.now) (past_in state.now) ticket.now.activity ticket.now.attempt (job_view job.now) }
+    ensures { option_map (λ a. ask_view a.now) result ≡ try_out (meaning_in state.now) (past_in state.now) ticket.now.activity ticket.now.attempt (job_view job.now) }
 {
     if !state.is_out(&job.name) {
         return None;
@@ -62,7 +61,7 @@ fn try_of<'a, 'b>(state: &State<'a>, job: &'b Job, ticket: &Ticket) -> Option<&'
 /// Where the job of a number stands. Linear in the jobs and the events.
 pub(crate) fn state_at<'a>(state: &State<'a>, number: u64) -> JobState
     requires { HasFew (meaning_in state.now) }
-    ensures { (gives : Giving) → result ≡ state_at gives (meaning_in state.now) (past_in state.now) state.now.names.now number }
+    ensures { result ≡ state_at (meaning_in state.now) (past_in state.now) state.now.names.now number }
 {
     match name_of(state.names, number) {
         Some(name) => match state.job_named(name) {
@@ -75,7 +74,7 @@ pub(crate) fn state_at<'a>(state: &State<'a>, number: u64) -> JobState
 
 /// Whether the job of a number is settled. Linear in the jobs and the events.
 pub(crate) fn is_settled_at<'a>(state: &State<'a>, number: u64) -> bool
-    ensures { (gives : Giving) → result ≡ option_map_or (is_settled gives (meaning_in state.now) (past_in state.now)) (job_at (meaning_in state.now) state.now.names.now number) false }
+    ensures { result ≡ option_map_or (is_settled (past_in state.now)) (job_at (meaning_in state.now) state.now.names.now number) false }
 {
     match job_at(state, number) {
         Some(job) => state.is_settled(job),
@@ -85,7 +84,7 @@ pub(crate) fn is_settled_at<'a>(state: &State<'a>, number: u64) -> bool
 
 fn state_of<'a>(state: &State<'a>, job: &Job) -> JobState
     requires { AreOfFew (job_view job.now).asks }
-    ensures { (gives : Giving) → result ≡ state_after gives (meaning_in state.now) (past_in state.now) (job_view job.now) }
+    ensures { result ≡ state_after (meaning_in state.now) (past_in state.now) (job_view job.now) }
 {
     if state.is_settled(job) {
         JobState::Settled
@@ -103,7 +102,7 @@ fn state_of<'a>(state: &State<'a>, job: &Job) -> JobState
 }
 
 fn out_state<'a>(state: &State<'a>, job: &Job) -> JobState
-    ensures { (gives : Giving) → result ≡ out_state gives (meaning_in state.now) (past_in state.now) (job_view job.now) }
+    ensures { result ≡ out_state (meaning_in state.now) (past_in state.now) (job_view job.now) }
 {
     match state.next_ask(job) {
         Some(ask) => JobState::Out {
@@ -116,7 +115,7 @@ fn out_state<'a>(state: &State<'a>, job: &Job) -> JobState
 
 fn idle_state<'a>(state: &State<'a>, job: &Job) -> JobState
     requires { AreOfFew (job_view job.now).asks }
-    ensures { (gives : Giving) → result ≡ idle_state gives (meaning_in state.now) (past_in state.now) (job_view job.now) }
+    ensures { result ≡ idle_state (meaning_in state.now) (past_in state.now) (job_view job.now) }
 {
     match state.next_ask(job) {
         Some(ask) => JobState::Idle {

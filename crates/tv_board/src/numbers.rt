@@ -1,7 +1,6 @@
 //! The numbers of jobs: the place of a job's name in the list of names.
 ghost use Rattle.std.specs.Prelude.{◌++◌, ◌∷◌, ◌≡◌, ◌&&◌, IfOk, OnOk, length, nat_lt, not, position, true};
 ghost use Rattle.tv_value.specs.Orders.{same_job};
-ghost use Rattle.tv_gate.specs.Outcomes.{Giving};
 ghost use Rattle.tv_history.specs.Histories.{is_ready};
 ghost use Rattle.tv_outcomes.specs.Agreed.{ready};
 ghost use Rattle.tv_whole.specs.WholeViews.{job_view};
@@ -50,7 +49,7 @@ fn is_numbered(names: &[JobName], more: &[JobName], name: &JobName) -> bool
 /// The names of the ready jobs that have no number yet. For each ready job linear in the names, beside the test whether it is
 /// ready.
 pub(crate) fn unnumbered(alloc: Global, state: &State<'_>) -> Result<Vec<JobName>, NoMemory>
-    ensures { IfOk result (λ more. (gives : Giving) → state.now.names.now ++ more.items ≡ numbering state.now.names.now (ready gives (meaning_in state.now) (past_in state.now))) }
+    ensures { IfOk result (λ more. state.now.names.now ++ more.items ≡ numbering state.now.names.now (ready (meaning_in state.now) (past_in state.now))) }
 {
     let mut more = Vec::new(alloc);
     for job in state.whole.jobs.as_slice() {
@@ -61,7 +60,7 @@ pub(crate) fn unnumbered(alloc: Global, state: &State<'_>) -> Result<Vec<JobName
 
 /// Whether the job is ready and has no number.
 fn is_due(state: &State<'_>, job: &Job, more: &[JobName]) -> bool
-    ensures { (gives : Giving) → result ≡ (is_ready gives (meaning_in state.now) (past_in state.now) (job_view job.now) && not (is_among (state.now.names.now ++ more.now) job.now.name)) }
+    ensures { result ≡ (is_ready (meaning_in state.now) (past_in state.now) (job_view job.now) && not (is_among (state.now.names.now ++ more.now) job.now.name)) }
 {
     state.is_ready(job) && !is_numbered(state.names, more, &job.name)
 }
@@ -73,7 +72,7 @@ fn number_job(
     job: &Job,
     more: &mut Vec<JobName>,
 ) -> Result<(), NoMemory>
-    ensures { OnOk result ((gives : Giving) → state.now.names.now ++ more.new.items ≡ number_if (is_ready gives (meaning_in state.now) (past_in state.now) (job_view job.now)) (state.now.names.now ++ more.old.items) job.now.name) }
+    ensures { OnOk result (state.now.names.now ++ more.new.items ≡ number_if (is_ready (meaning_in state.now) (past_in state.now) (job_view job.now)) (state.now.names.now ++ more.old.items) job.now.name) }
 {
     if is_due(state, job, more.as_slice()) {
         more.push(job.name.copy(alloc)?)?;

@@ -30,7 +30,7 @@ impl<V: Services> Board<V> {
     /// The outputs of a run that is done: those that the document means by the services, in the order of the flow's outputs.
     /// Linear in them.
     pub fn outputs(&self) -> Result<Sequence<(Name, Value)>, NoMemory>
-        requires { is_done V.gives (meant V.gives self.now) (past_of self.now) ≡ true }
+        requires { is_done (past_of self.now) ≡ true }
         ensures { IfOk result (λ os. each view os ≡ map (λ o. (o.0, plain o.1)) (meant V.gives self.now).outputs) }
     {
         let state = self.state();

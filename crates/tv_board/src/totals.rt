@@ -90,7 +90,7 @@ impl<V: Services> Board<V> {
     /// each time the history. Takes no memory.
     pub fn totals(&self) -> Totals
         ensures so_far { totals_view result ≡ totals_so_far V.gives self.now }
-        ensures done { is_done V.gives (meant V.gives self.now) (past_of self.now) ≡ true → totals_view result ≡ model.totals (meant V.gives self.now).jobs }
+        ensures done { is_done (past_of self.now) ≡ true → totals_view result ≡ model.totals (meant V.gives self.now).jobs }
     {
         let state = self.state();
         let jobs = state.whole.jobs.as_slice();

@@ -1,9 +1,11 @@
 -- A legal history without recalls has at most so many entries.
-use Rattle.std.specs.Prelude.{◌≡◌, refl, ℕ, zero, suc, ◌+◌, ◌*◌, ◌≤◌, ◌⊎◌, List, [], ◌∷◌, map, length, Bool, true, false, not, ◌&&◌, ◌||◌, ◌==◌, if◌then◌else◌, Option, Some, None, is_some, is_none}
+use Rattle.std.specs.Prelude.{◌≡◌, refl, ℕ, zero, suc, ◌+◌, ◌*◌, ◌≤◌, ◌⊎◌, List, [], ◌∷◌, map, length, Bool, true, false, not, ◌&&◌, ◌||◌, ◌==◌, if◌then◌else◌, Option, Some, None, is_some, is_none, count_by}
 use Rattle.std.specs.List.{list_any}
-use Rattle.std.specs.Option.{option_map_or}
 use Rattle.std.proofs.Common.{arith, sym, ap, subst, ◌∙◌, inl, inr, length-append}
 use Rattle.std.proofs.lemmas.List.{length-map}
+use Rattle.std.proofs.lemmas.Bool.{not-true}
+use Rattle.tv_history.proofs.Legal.{last-legal, legal-of, Legal, hands, accepts, bounces, closes, passes, opens, ends}
+use Rattle.tv_lemmas.proofs.Cases.{on_either, on_or}
 use Rattle.tv_value.specs.Values.{Name, JobName}
 use Rattle.tv_value.specs.Orders.{same_job}
 use Rattle.tv_flow.specs.Flows.{Document}
@@ -12,21 +14,21 @@ use Rattle.tv_model.specs.Jobs.{Job}
 use Rattle.tv_model.specs.Made.{Meaning}
 use Rattle.tv_model.specs.Turns.{is_bounced}
 use Rattle.tv_model.specs.Meanings.{meaning}
-use Rattle.tv_history.specs.Entries.{Entry, handed_out, accepted, bounced, closed, fault_passed, opened, ended, recalled, History, is_accepted, is_bounced_entry, is_level_entry, is_opened_entry, is_ended_entry, is_begun_entry, is_out}
+use Rattle.tv_history.specs.Entries.{Entry, handed_out, accepted, closed, fault_passed, opened, ended, recalled, History, is_accepted, is_bounced_entry, is_level_entry, is_opened_entry, is_ended_entry, is_begun_entry, is_out}
 use Rattle.tv_model.specs.Levels.{Level, levels}
-use Rattle.tv_history.specs.Histories.{asks_left, next_ask, is_settled, is_open, has_open_instance, is_running, is_idle, is_ready, has_place, may_go_on, is_offered, can_open, can_bounce, can_settle_more, all_known, has_entry, can_settle, is_at, is_ask, is_right, same_bool, is_legal, is_legal_after}
+use Rattle.tv_history.specs.Histories.{asks_left, next_ask, is_settled, is_open, has_open_instance, is_running, is_idle, is_ready, has_place, may_go_on, can_open, all_known, has_entry, can_settle, is_legal, is_legal_after}
 use Rattle.tv_model.proofs.Tests.{true≠false, left_true, right_true, same_job_decides}
 use Rattle.tv_model.proofs.Turns.{In}
 use Rattle.tv_model.proofs.Order.{some_in}
-use Rattle.tv_model.proofs.Fed.{each-all}
-use Rattle.tv_history.proofs.Running.{true_of, not_true, found_in, any_weaken, opened_begins, out-begun, begins, idle_begun}
-use Rattle.tv_model.proofs.Whole.{IsWhole, StepsHave}
-use Rattle.tv_history.proofs.Ready.{all-sound, are-jobs, meaning-whole, AnyNumber}
+use Rattle.tv_history.proofs.Running.{opened_begins, out-begun, begins, idle_begun}
+use Rattle.tv_model.proofs.Whole.{IsWhole}
+use Rattle.tv_history.proofs.Ready.{all-sound, are-jobs, AnyNumber, document-whole}
 use Rattle.tv_history.proofs.Stuck.{begun-tried}
-use Rattle.tv_history.proofs.Counts.{bit, tally, total, total-at_most, total-of_sums, total-in, length-as_ones}
+use Rattle.tv_history.proofs.Counts.{bit, count-tally, sum-total, tally, total, total-at_most, total-of_sums, total-in, length-as_ones}
 use Rattle.tv_history.proofs.Done.{key_of, tries_of, accepted-asks, opens-it}
 use Rattle.tv_history.proofs.Sums.{legal-each, accepted_name, bounced_name, tries-tally, bounced-tally}
-pub use Rattle.tv_history.specs.Going.{is_recall, most_entries}
+use Rattle.tv_history.proofs.Tests.{any_weaken, same-itself}
+pub use Rattle.tv_history.specs.Going.{is_progress, is_recall, most_entries}
 
 -- ---- kinds of entries
 
@@ -55,44 +57,42 @@ ended_name _ = None
 
 -- at least one of these has it
 owner : {A : Type 0} (name : A → JobName) (xs : List A) (p : JobName → Entry → Bool) (e : Entry) → (b : Bool) → (b ≡ true → (x : A) × In x xs × (p (name x) e ≡ true)) → bit b ≤ total (λ x. bit (p (name x) e)) xs
-owner name xs p e false f = least (total (λ x. bit (p (name x) e)) xs)
-  where
-    least : (n : ℕ) → 0 ≤ n
-    least n = omega arith
+owner name xs p e false f = omega arith
 owner name xs p e true f = let r = f refl in subst (λ b. bit b ≤ total (λ x. bit (p (name x) e)) xs) r.2 (total-in (λ x. bit (p (name x) e)) r.0 xs r.1)
 
 all-owned : {A : Type 0} (name : A → JobName) (xs : List A) (p : JobName → Entry → Bool) (q : Entry → Bool) (past : History) → ((e : Entry) → In e past → q e ≡ true → (x : A) × In x xs × (p (name x) e ≡ true)) → tally q past ≤ total (λ x. tally (p (name x)) past) xs
-all-owned name xs p q [] f = least (total (λ x. 0) xs)
-  where
-    least : (n : ℕ) → 0 ≤ n
-    least n = omega arith
+all-owned name xs p q [] f = omega arith
 all-owned name xs p q (e ∷ past) f =
-    by (bit (q e)) (tally q past) (total (λ x. bit (p (name x) e)) xs) (total (λ x. tally (p (name x)) past) xs) (total (λ x. bit (p (name x) e) + tally (p (name x)) past) xs) (owner name xs p e (q e) (f e (inl refl))) (all-owned name xs p q past (λ g i. f g (inr i))) (total-of_sums (λ x. bit (p (name x) e)) (λ x. tally (p (name x)) past) xs)
-  where
-    by : (a b c d s : ℕ) → a ≤ c → b ≤ d → s ≡ c + d → a + b ≤ s
-    by a b c d s p q r = omega arith
+    omega (arith, owner name xs p e (q e) (f e (inl refl)), all-owned name xs p q past (λ g i. f g (inr i)), total-of_sums (λ x. bit (p (name x) e)) (λ x. tally (p (name x)) past) xs)
 
--- every entry is of one kind
+-- what is never undone is of one of six kinds
 abbrev kinds : History → ℕ
-kinds past = tally (λ e. is_some (handed_name e)) past + tally (λ e. is_some (accepted_name e)) past + tally (λ e. is_some (bounced_name e)) past + tally (λ e. is_some (level_name e)) past + tally (λ e. is_some (opened_name e)) past + tally (λ e. is_some (ended_name e)) past + tally (is_ended_entry []) past + tally is_recall past
+kinds past =
+    tally (λ e. is_some (accepted_name e)) past
+    + tally (λ e. is_some (bounced_name e)) past
+    + tally (λ e. is_some (level_name e)) past
+    + tally (λ e. is_some (opened_name e)) past
+    + tally (λ e. is_some (ended_name e)) past
+    + tally (is_ended_entry []) past
 
-by-kinds : (past : History) → length past ≡ kinds past
-by-kinds [] = none tt
+by-kinds : (past : History) → tally is_progress past ≡ kinds past
+by-kinds [] = omega arith
+by-kinds (e ∷ past) = by e (by-kinds past)
   where
-    none : Unit {0} → 0 ≡ 0 + 0 + 0 + 0 + 0 + 0 + 0 + 0
-    none t = omega arith
-by-kinds (e ∷ past) = by e (length past) (tally (λ e. is_some (handed_name e)) past) (tally (λ e. is_some (accepted_name e)) past) (tally (λ e. is_some (bounced_name e)) past) (tally (λ e. is_some (level_name e)) past) (tally (λ e. is_some (opened_name e)) past) (tally (λ e. is_some (ended_name e)) past) (tally (is_ended_entry []) past) (tally is_recall past) (by-kinds past)
+    by : (e : Entry) → tally is_progress past ≡ kinds past → tally is_progress (e ∷ past) ≡ kinds (e ∷ past)
+    by (ended []) h = omega (arith, h)
+    by (ended (k ∷ x)) h = omega (arith, h)
+    by (accepted x y z r) h = omega (arith, h)
+    by e h = omega (arith, h)
+
+-- what else there is was handed out or recalled
+by-progress : (past : History) → length past ≡ tally (λ e. is_some (handed_name e)) past + tally is_progress past + tally is_recall past
+by-progress [] = omega arith
+by-progress (e ∷ past) = by e (by-progress past)
   where
-    by : (e : Entry) (n a b c d f g h i : ℕ) → n ≡ a + b + c + d + f + g + h + i → suc n ≡ (bit (is_some (handed_name e)) + a) + (bit (is_some (accepted_name e)) + b) + (bit (is_some (bounced_name e)) + c) + (bit (is_some (level_name e)) + d) + (bit (is_some (opened_name e)) + f) + (bit (is_some (ended_name e)) + g) + (bit (is_ended_entry [] e) + h) + (bit (is_recall e) + i)
-    by (handed_out x y z) n a b c d f g h i p = omega arith
-    by (accepted x y z r) n a b c d f g h i p = omega arith
-    by (bounced x) n a b c d f g h i p = omega arith
-    by (closed x y) n a b c d f g h i p = omega arith
-    by (fault_passed x) n a b c d f g h i p = omega arith
-    by (opened x) n a b c d f g h i p = omega arith
-    by (ended []) n a b c d f g h i p = omega arith
-    by (ended (k ∷ x)) n a b c d f g h i p = omega arith
-    by (recalled x) n a b c d f g h i p = omega arith
+    by : (e : Entry) → length past ≡ tally (λ e. is_some (handed_name e)) past + tally is_progress past + tally is_recall past → length (e ∷ past) ≡ tally (λ e. is_some (handed_name e)) (e ∷ past) + tally is_progress (e ∷ past) + tally is_recall (e ∷ past)
+    by (accepted x y z r) h = omega (arith, h)
+    by e h = omega (arith, h)
 
 at_most_one : (b : Bool) → bit b ≤ 1
 at_most_one true = omega arith
@@ -100,126 +100,87 @@ at_most_one false = omega arith
 
 module _ (gives : Giving) (D : ℕ → Type 0) (m : Meaning) (w : IsWhole gives D m []) where
   -- what comes only where it hasn't come comes at most once
-  pub once-tally : (p : Entry → Bool) → ((older : History) (e : Entry) → is_legal gives m older ≡ true → is_legal_after gives m older e ≡ true → p e ≡ true → list_any p older ≡ false) → (past : History) → is_legal gives m past ≡ true → tally p past ≡ bit (list_any p past)
+  once-tally : (p : Entry → Bool) → ((older : History) (e : Entry) → is_legal gives m older ≡ true → Legal gives m older e → p e ≡ true → list_any p older ≡ false) → (past : History) → is_legal gives m past ≡ true → tally p past ≡ bit (list_any p past)
   once-tally p f [] l = refl
   once-tally p f (e ∷ past) l =
-      by (p e) (list_any p past) (tally p past) (f past e (left_true (is_legal gives m past) (is_legal_after gives m past e) l) (right_true (is_legal gives m past) (is_legal_after gives m past e) l)) (once-tally p f past (left_true (is_legal gives m past) (is_legal_after gives m past e) l))
+      let legal = left_true (is_legal gives m past) (is_legal_after gives m past e) l in
+      by (p e) (list_any p past) (f past e legal (last-legal gives m past e l)) (once-tally p f past legal)
     where
-      by : (b c : Bool) (n : ℕ) → (b ≡ true → c ≡ false) → n ≡ bit c → bit b + n ≡ bit (b || c)
-      by false c n g h = zero_left n ∙ h
-        where
-          zero_left : (n : ℕ) → 0 + n ≡ n
-          zero_left n = omega arith
-      by true false n g h = omega arith
-      by true true n g h = absurd (true≠false (g refl))
+      by : (b c : Bool) → (b ≡ true → c ≡ false) → tally p past ≡ bit c → bit b + tally p past ≡ bit (b || c)
+      by false c g h = omega (arith, h)
+      by true false g h = omega (arith, h)
+      by true true g h = absurd (true≠false (g refl))
 
   -- ---- lists and faults
 
-  level-fresh : (n : JobName) (older : History) (e : Entry) → is_legal gives m older ≡ true → is_legal_after gives m older e ≡ true → is_level_entry n e ≡ true → list_any (is_level_entry n) older ≡ false
-  level-fresh n older (closed k c) l a h =
-      let r = some_in (λ (x : Level). same_job k x.name && can_settle gives m older x && option_map_or (λ d. d == c) x.length false) (levels m.steps) a in
-      fresh n k r.0 h (left_true (same_job k r.0.name && can_settle gives m older r.0) _ r.2)
+  level-fresh : (n : JobName) (older : History) {e : Entry} → is_legal gives m older ≡ true → Legal gives m older e → is_level_entry n e ≡ true → list_any (is_level_entry n) older ≡ false
+  level-fresh n older l a h = by a h
     where
-      fresh : (n k : JobName) (x : Level) → same_job n k ≡ true → (same_job k x.name && can_settle gives m older x) ≡ true → list_any (is_level_entry n) older ≡ false
-      fresh n k x e t =
-          let same = (same_job_decides n k).0 e ∙ (same_job_decides k x.name).0 (left_true (same_job k x.name) (can_settle gives m older x) t) in
-          subst (λ y. list_any (is_level_entry y) older ≡ false) (sym same) (not_true (has_entry gives m older x.name) (right_true (is_open gives m older x.instance) (not (has_entry gives m older x.name)) (left_true (is_open gives m older x.instance && not (has_entry gives m older x.name)) (all_known gives m older x.sources) (right_true (same_job k x.name) (can_settle gives m older x) t))))
-  level-fresh n older (fault_passed k) l a h =
-      let r = some_in (λ (x : Level). same_job k x.name && can_settle gives m older x && is_none x.length) (levels m.steps) a in
-      fresh n k r.0 h (left_true (same_job k r.0.name && can_settle gives m older r.0) _ r.2)
-    where
-      fresh : (n k : JobName) (x : Level) → same_job n k ≡ true → (same_job k x.name && can_settle gives m older x) ≡ true → list_any (is_level_entry n) older ≡ false
-      fresh n k x e t =
-          let same = (same_job_decides n k).0 e ∙ (same_job_decides k x.name).0 (left_true (same_job k x.name) (can_settle gives m older x) t) in
-          subst (λ y. list_any (is_level_entry y) older ≡ false) (sym same) (not_true (has_entry gives m older x.name) (right_true (is_open gives m older x.instance) (not (has_entry gives m older x.name)) (left_true (is_open gives m older x.instance && not (has_entry gives m older x.name)) (all_known gives m older x.sources) (right_true (same_job k x.name) (can_settle gives m older x) t))))
-  level-fresh n older (handed_out k c t) l a h = absurd (true≠false (sym h))
-  level-fresh n older (accepted k c t r) l a h = absurd (true≠false (sym h))
-  level-fresh n older (bounced k) l a h = absurd (true≠false (sym h))
-  level-fresh n older (opened k) l a h = absurd (true≠false (sym h))
-  level-fresh n older (ended k) l a h = absurd (true≠false (sym h))
-  level-fresh n older (recalled c) l a h = absurd (true≠false (sym h))
+      fresh : (x : Level) → can_settle m older x ≡ true → same_job n x.name ≡ true → list_any (is_level_entry n) older ≡ false
+      fresh x c t = subst (λ y. list_any (is_level_entry y) older ≡ false) (sym ((same_job_decides n x.name).0 t)) (not-true (has_entry older x.name) (right_true (is_open older x.instance) (not (has_entry older x.name)) (left_true (is_open older x.instance && not (has_entry older x.name)) (all_known m older x.sources) c)))
+
+      by : {e : Entry} → Legal gives m older e → is_level_entry n e ≡ true → list_any (is_level_entry n) older ≡ false
+      by (closes x k i c q) h = fresh x c h
+      by (passes x i c q) h = fresh x c h
+      by a h = absurd (true≠false (sym h))
 
   -- ---- ends
 
-  end-fresh : (n : JobName) (older : History) (e : Entry) → is_legal gives m older ≡ true → is_legal_after gives m older e ≡ true → is_ended_entry n e ≡ true → list_any (is_ended_entry n) older ≡ false
-  end-fresh n older (ended k) l a h = by n (subst (λ x. is_open gives m older x ≡ true) (sym ((same_job_decides n k).0 h)) (left_true (is_open gives m older k) _ a))
-    where
-      by : (n : JobName) → is_open gives m older n ≡ true → list_any (is_ended_entry n) older ≡ false
-      by [] o = not_true (list_any (is_ended_entry []) older) o
-      by (x ∷ n) o = not_true (list_any (is_ended_entry (x ∷ n)) older) (right_true (list_any (is_opened_entry (x ∷ n)) older) (not (list_any (is_ended_entry (x ∷ n)) older)) o)
-  end-fresh n older (handed_out k c t) l a h = absurd (true≠false (sym h))
-  end-fresh n older (accepted k c t r) l a h = absurd (true≠false (sym h))
-  end-fresh n older (bounced k) l a h = absurd (true≠false (sym h))
-  end-fresh n older (closed k c) l a h = absurd (true≠false (sym h))
-  end-fresh n older (fault_passed k) l a h = absurd (true≠false (sym h))
-  end-fresh n older (opened k) l a h = absurd (true≠false (sym h))
-  end-fresh n older (recalled c) l a h = absurd (true≠false (sym h))
+  end-fresh : (n : JobName) (older : History) {e : Entry} → is_legal gives m older ≡ true → Legal gives m older e → is_ended_entry n e ≡ true → list_any (is_ended_entry n) older ≡ false
+  end-fresh [] older l (ends k c) h = not-true (list_any (is_ended_entry []) older) (subst (λ x. is_open older x ≡ true) (sym ((same_job_decides [] k).0 h)) (left_true (is_open older k) _ c))
+  end-fresh (x ∷ n) older l (ends k c) h =
+      not-true (list_any (is_ended_entry (x ∷ n)) older) (right_true (list_any (is_opened_entry (x ∷ n)) older) (not (list_any (is_ended_entry (x ∷ n)) older)) (subst (λ x. is_open older x ≡ true) (sym ((same_job_decides (x ∷ n) k).0 h)) (left_true (is_open older k) _ c)))
+  end-fresh n older l a h = absurd (true≠false (sym h))
 
   -- ---- openings
 
-  pub ready-parts : (past : History) (j : Job) → is_ready gives m past j ≡ true → list_any (is_begun_entry j.name) past ≡ false
+  pub ready-parts : (past : History) (j : Job) → is_ready m past j ≡ true → list_any (is_begun_entry j.name) past ≡ false
   ready-parts past j h =
-      let three = left_true (is_open gives m past j.instance && not (is_running gives m past j) && not (is_settled gives m past j)) (all_known gives m past j.waits) h in
-      by (list_any (is_begun_entry j.name) past) (is_settled gives m past j)
-      (not_true (is_settled gives m past j) (right_true (is_open gives m past j.instance && not (is_running gives m past j)) (not (is_settled gives m past j)) three))
-      (not_true (is_running gives m past j) (right_true (is_open gives m past j.instance) (not (is_running gives m past j)) (left_true (is_open gives m past j.instance && not (is_running gives m past j)) (not (is_settled gives m past j)) three)))
+      let three = left_true (is_open past j.instance && not (is_running past j) && not (is_settled past j)) (all_known m past j.waits) h in
+      by (list_any (is_begun_entry j.name) past) (is_settled past j)
+      (not-true (is_settled past j) (right_true (is_open past j.instance && not (is_running past j)) (not (is_settled past j)) three))
+      (not-true (is_running past j) (right_true (is_open past j.instance) (not (is_running past j)) (left_true (is_open past j.instance && not (is_running past j)) (not (is_settled past j)) three)))
     where
       by : (b s : Bool) → s ≡ false → (b && not s) ≡ false → b ≡ false
       by b true e x = absurd (true≠false e)
       by false false e x = refl
       by true false e x = x
 
-  pub going-cases : (past : History) (j : Job) → may_go_on gives m past j ≡ true → (is_idle gives m past j ≡ true) ⊎ (list_any (is_begun_entry j.name) past ≡ false)
-  going-cases past j h = by (true_of (is_idle gives m past j) (is_ready gives m past j && not (is_bounced j.ending) && has_place gives m past j) h)
-    where
-      by : (is_idle gives m past j ≡ true) ⊎ ((is_ready gives m past j && not (is_bounced j.ending) && has_place gives m past j) ≡ true) → (is_idle gives m past j ≡ true) ⊎ (list_any (is_begun_entry j.name) past ≡ false)
-      by (inl x) = inl x
-      by (inr x) = inr (ready-parts past j (left_true (is_ready gives m past j) (not (is_bounced j.ending)) (left_true (is_ready gives m past j && not (is_bounced j.ending)) (has_place gives m past j) x)))
+  pub going-cases : (past : History) (j : Job) → may_go_on m past j ≡ true → (is_idle past j ≡ true) ⊎ (list_any (is_begun_entry j.name) past ≡ false)
+  going-cases past j h = on_or (is_idle past j) (is_ready m past j && not (is_bounced j.ending) && has_place m past j) h (λ x. inl x) (λ x. inr (ready-parts past j (left_true (is_ready m past j) (not (is_bounced j.ending)) (left_true (is_ready m past j && not (is_bounced j.ending)) (has_place m past j) x))))
 
   -- a job whose flow was opened can't open it again
-  opening-fresh : (past : History) → is_legal gives m past ≡ true → (j : Job) → In j m.jobs → can_open gives m past j ≡ true → (b : Bool) → list_any (is_opened_entry j.name) past ≡ b → b ≡ false
+  opening-fresh : (past : History) → is_legal gives m past ≡ true → (j : Job) → In j m.jobs → can_open m past j ≡ true → (b : Bool) → list_any (is_opened_entry j.name) past ≡ b → b ≡ false
   opening-fresh past l j i h false e = refl
-  opening-fresh past l j i h true e = by (going-cases past j (right_true (is_none (next_ask gives m past j) && is_some j.opens) (may_go_on gives m past j) h))
+  opening-fresh past l j i h true e = on_either (going-cases past j (right_true (is_none (next_ask past j) && is_some j.opens) (may_go_on m past j) h)) (λ x. let parts = idle_begun gives m (all-sound gives D m [] w) (are-jobs gives D m [] w) past j x in let shut = not-true (has_open_instance past j) (right_true (is_running past j && not (is_out past j.name)) (not (has_open_instance past j)) x) in let over = still j.name ((are-jobs gives D m [] w).has_name j i) e (subst (λ b. (b && is_open past j.name) ≡ false) opens_it shut) in let tried = begun-tried gives D m w past j i l begun_it in sym (subst (λ b. (if b then list_any (is_bounced_entry j.name) past else list_any (is_ended_entry j.name) past) ≡ true) (sym tried) over) ∙ subst (λ b. (if is_bounced j.ending then list_any (is_bounced_entry j.name) past else (if b then list_any (is_ended_entry j.name) past else is_none (next_ask past j))) ≡ false) opens_it parts.1) (λ x. absurd (true≠false (sym begun_it ∙ x)))
     where
       opens_it : is_some j.opens ≡ true
-      opens_it = right_true (is_none (next_ask gives m past j)) (is_some j.opens) (left_true (is_none (next_ask gives m past j) && is_some j.opens) (may_go_on gives m past j) h)
+      opens_it = right_true (is_none (next_ask past j)) (is_some j.opens) (left_true (is_none (next_ask past j) && is_some j.opens) (may_go_on m past j) h)
 
       begun_it : list_any (is_begun_entry j.name) past ≡ true
       begun_it = any_weaken (is_opened_entry j.name) (is_begun_entry j.name) (opened_begins j.name) past e
 
-      still : (n : JobName) (c : (k : Name × List ℕ) × (r : JobName) × (n ≡ k ∷ r)) → list_any (is_opened_entry n) past ≡ true → is_open gives m past n ≡ false → list_any (is_ended_entry n) past ≡ true
-      still n c o f = subst (λ x. list_any (is_ended_entry x) past ≡ true) (sym c.2) (closes (list_any (is_opened_entry (c.0 ∷ c.1)) past) (list_any (is_ended_entry (c.0 ∷ c.1)) past) (subst (λ x. list_any (is_opened_entry x) past ≡ true) c.2 o) (subst (λ x. is_open gives m past x ≡ false) c.2 f))
+      still : (n : JobName) (c : (k : Name × List ℕ) × (r : JobName) × (n ≡ k ∷ r)) → list_any (is_opened_entry n) past ≡ true → is_open past n ≡ false → list_any (is_ended_entry n) past ≡ true
+      still n c o f = subst (λ x. list_any (is_ended_entry x) past ≡ true) (sym c.2) (closes (list_any (is_opened_entry (c.0 ∷ c.1)) past) (list_any (is_ended_entry (c.0 ∷ c.1)) past) (subst (λ x. list_any (is_opened_entry x) past ≡ true) c.2 o) (subst (λ x. is_open past x ≡ false) c.2 f))
         where
           closes : (a b : Bool) → a ≡ true → (a && not b) ≡ false → b ≡ true
           closes a true x y = refl
           closes true false x y = sym y
           closes false false x y = x
 
-      by : (is_idle gives m past j ≡ true) ⊎ (list_any (is_begun_entry j.name) past ≡ false) → true ≡ false
-      by (inr x) = absurd (true≠false (sym begun_it ∙ x))
-      by (inl x) =
-          let parts = idle_begun gives m (all-sound gives D m [] w) (are-jobs gives D m [] w) past j x in
-          let shut = not_true (has_open_instance gives m past j) (right_true (is_running gives m past j && not (is_out past j.name)) (not (has_open_instance gives m past j)) x) in
-          let over = still j.name ((are-jobs gives D m [] w).has_name j i) e (subst (λ b. (b && is_open gives m past j.name) ≡ false) opens_it shut) in
-          let tried = begun-tried gives D m w past j i l begun_it in
-          sym (subst (λ b. (if b then list_any (is_bounced_entry j.name) past else list_any (is_ended_entry j.name) past) ≡ true) (sym tried) over) ∙ subst (λ b. (if is_bounced j.ending then list_any (is_bounced_entry j.name) past else (if b then list_any (is_ended_entry j.name) past else is_none (next_ask gives m past j))) ≡ false) opens_it parts.1
-
   -- ---- tries
 
-  going-not_out : (past : History) (j : Job) → may_go_on gives m past j ≡ true → is_out past j.name ≡ false
+  going-not_out : (past : History) (j : Job) → may_go_on m past j ≡ true → is_out past j.name ≡ false
   going-not_out past j h = by (going-cases past j h) (is_out past j.name) refl
     where
-      by : (is_idle gives m past j ≡ true) ⊎ (list_any (is_begun_entry j.name) past ≡ false) → (b : Bool) → is_out past j.name ≡ b → is_out past j.name ≡ false
-      by (inl x) b e = not_true (is_out past j.name) (right_true (is_running gives m past j) (not (is_out past j.name)) (left_true (is_running gives m past j && not (is_out past j.name)) (not (has_open_instance gives m past j)) x))
+      by : (is_idle past j ≡ true) ⊎ (list_any (is_begun_entry j.name) past ≡ false) → (b : Bool) → is_out past j.name ≡ b → is_out past j.name ≡ false
+      by (inl x) b e = not-true (is_out past j.name) (right_true (is_running past j) (not (is_out past j.name)) (left_true (is_running past j && not (is_out past j.name)) (not (has_open_instance past j)) x))
       by (inr x) false e = e
       by (inr x) true e = absurd (true≠false (sym (out-begun past j.name e) ∙ x))
 
   -- what was handed out was accepted, or is out
   pub handed-tally : (past : History) → is_legal gives m past ≡ true → tally is_recall past ≡ 0 → (j : Job) → In j m.jobs → tally (is_handed j.name) past ≡ tally (is_accepted j.name) past + bit (is_out past j.name)
-  handed-tally [] l z j i = none tt
-    where
-      none : Unit {0} → 0 ≡ 0 + 0
-      none t = omega arith
+  handed-tally [] l z j i = omega arith
   handed-tally (e ∷ past) l z j i =
       by e (right_true (is_legal gives m past) (is_legal_after gives m past e) l) (no_recall (bit (is_recall e)) (tally is_recall past) z).0 (handed-tally past (left_true (is_legal gives m past) (is_legal_after gives m past e) l) (no_recall (bit (is_recall e)) (tally is_recall past) z).1 j i)
     where
@@ -241,7 +202,7 @@ module _ (gives : Giving) (D : ℕ → Type 0) (m : Meaning) (w : IsWhole gives 
 
       by : (e : Entry) → is_legal_after gives m past e ≡ true → bit (is_recall e) ≡ 0 → tally (is_handed j.name) past ≡ tally (is_accepted j.name) past + bit (is_out past j.name) → tally (is_handed j.name) (e ∷ past) ≡ tally (is_accepted j.name) (e ∷ past) + bit (is_out (e ∷ past) j.name)
       by (handed_out n c t) a r p =
-          hand (same_job j.name n) (is_out past j.name) (tally (is_handed j.name) past) (tally (is_accepted j.name) past) (λ h. going-not_out past j (begins gives m (all-sound gives D m [] w) (are-jobs gives D m [] w) past (handed_out n c t) j i a h)) p
+          hand (same_job j.name n) (is_out past j.name) (tally (is_handed j.name) past) (tally (is_accepted j.name) past) (λ h. going-not_out past j (begins gives m (all-sound gives D m [] w) (are-jobs gives D m [] w) past j i (legal-of gives m past (handed_out n c t) a) h)) p
       by (accepted n c t s) a r p =
           take (same_job j.name n) (is_out past j.name) (tally (is_handed j.name) past) (tally (is_accepted j.name) past) (λ h. subst (λ x. is_out past x ≡ true) (sym ((same_job_decides j.name n).0 h)) (left_true (is_out past n) _ a)) p
       by (recalled k) a r p = absurd (true≠false (ap is_one r))
@@ -249,162 +210,104 @@ module _ (gives : Giving) (D : ℕ → Type 0) (m : Meaning) (w : IsWhole gives 
           is_one : ℕ → Bool
           is_one zero = false
           is_one (suc n) = true
-      by (bounced n) a r p = skip (tally (is_handed j.name) past) (tally (is_accepted j.name) past) (bit (is_out past j.name)) p
-      by (closed n c) a r p = skip (tally (is_handed j.name) past) (tally (is_accepted j.name) past) (bit (is_out past j.name)) p
-      by (fault_passed n) a r p = skip (tally (is_handed j.name) past) (tally (is_accepted j.name) past) (bit (is_out past j.name)) p
-      by (opened n) a r p = skip (tally (is_handed j.name) past) (tally (is_accepted j.name) past) (bit (is_out past j.name)) p
-      by (ended n) a r p = skip (tally (is_handed j.name) past) (tally (is_accepted j.name) past) (bit (is_out past j.name)) p
+      by e a r p = skip (tally (is_handed j.name) past) (tally (is_accepted j.name) past) (bit (is_out past j.name)) p
 
   -- no more tries are accepted than there are asks
   pub accepted-at_most : (past : History) → is_legal gives m past ≡ true → (j : Job) → In j m.jobs → tally (is_accepted j.name) past ≤ length j.asks
   accepted-at_most past l j i =
-      less (tally (is_accepted j.name) past) (length (map (key_of gives) (asks_left past j.name j.asks))) (length (tries_of j.name past)) (length j.asks) (tries-tally j.name past)
-      (sym (length-append (tries_of j.name past) (map (key_of gives) (asks_left past j.name j.asks))) ∙ ap length (accepted-asks gives D m w past l j i) ∙ length-map j.asks (key_of gives))
-    where
-      less : (a r t n : ℕ) → t ≡ a → t + r ≡ n → a ≤ n
-      less a r t n p q = omega arith
+      omega (arith, tries-tally j.name past, sym (length-append (tries_of j.name past) (map (key_of gives) (asks_left past j.name j.asks))) ∙ ap length (accepted-asks gives D m w past l j i) ∙ length-map j.asks (key_of gives))
 
   -- ---- whose an entry is
 
-  turned : (n k : JobName) → same_job n k ≡ true → same_job k n ≡ true
-  turned n k h = (same_job_decides k n).1 (sym ((same_job_decides n k).0 h))
+  abbrev Owner : (JobName → Entry → Bool) → Entry → Type 0
+  Owner p e = (j : Job) × In j m.jobs × (p j.name e ≡ true)
 
-  handed-owner : (older : History) (e : Entry) → is_legal_after gives m older e ≡ true → is_some (handed_name e) ≡ true → (j : Job) × In j m.jobs × (is_handed j.name e ≡ true)
-  handed-owner older (handed_out n c t) a h =
-      let r = found_in (λ k. is_at gives m k n && option_map_or (is_ask gives m c t) (next_ask gives m older k) false) (is_offered gives m older) m.jobs a in
-      (r.0, r.1, turned n r.0.name (left_true (is_at gives m r.0 n) _ r.3))
-  handed-owner older (accepted k c t r) a h = absurd (true≠false (sym h))
-  handed-owner older (bounced k) a h = absurd (true≠false (sym h))
-  handed-owner older (closed k c) a h = absurd (true≠false (sym h))
-  handed-owner older (fault_passed k) a h = absurd (true≠false (sym h))
-  handed-owner older (opened k) a h = absurd (true≠false (sym h))
-  handed-owner older (ended k) a h = absurd (true≠false (sym h))
-  handed-owner older (recalled c) a h = absurd (true≠false (sym h))
+  handed-owner : (older : History) {e : Entry} → Legal gives m older e → is_some (handed_name e) ≡ true → Owner is_handed e
+  handed-owner older (hands j a i o q) h = (j, i, same-itself j.name)
+  handed-owner older a h = absurd (true≠false (sym h))
 
-  accepted-owner : (older : History) (e : Entry) → is_legal_after gives m older e ≡ true → is_some (accepted_name e) ≡ true → (j : Job) × In j m.jobs × (is_accepted j.name e ≡ true)
-  accepted-owner older (accepted n c t s) a h =
-      let r = some_in (λ x. is_at gives m x n && option_map_or (λ y. is_ask gives m c t y && same_bool gives m s (is_right gives m y)) (next_ask gives m older x) false) m.jobs (right_true (is_out older n) _ a) in
-      (r.0, r.1, turned n r.0.name (left_true (is_at gives m r.0 n) _ r.2))
-  accepted-owner older (handed_out k c t) a h = absurd (true≠false (sym h))
-  accepted-owner older (bounced k) a h = absurd (true≠false (sym h))
-  accepted-owner older (closed k c) a h = absurd (true≠false (sym h))
-  accepted-owner older (fault_passed k) a h = absurd (true≠false (sym h))
-  accepted-owner older (opened k) a h = absurd (true≠false (sym h))
-  accepted-owner older (ended k) a h = absurd (true≠false (sym h))
-  accepted-owner older (recalled c) a h = absurd (true≠false (sym h))
+  accepted-owner : (older : History) {e : Entry} → Legal gives m older e → is_some (accepted_name e) ≡ true → Owner is_accepted e
+  accepted-owner older (accepts j a i o q) h = (j, i, same-itself j.name)
+  accepted-owner older a h = absurd (true≠false (sym h))
 
-  bounced-owner : (older : History) (e : Entry) → is_legal_after gives m older e ≡ true → is_some (bounced_name e) ≡ true → (j : Job) × In j m.jobs × (is_bounced_entry j.name e ≡ true)
-  bounced-owner older (bounced n) a h =
-      let r = some_in (λ j. is_at gives m j n && can_bounce gives m older j) m.jobs a in
-      (r.0, r.1, turned n r.0.name (left_true (is_at gives m r.0 n) (can_bounce gives m older r.0) r.2))
-  bounced-owner older (handed_out k c t) a h = absurd (true≠false (sym h))
-  bounced-owner older (accepted k c t r) a h = absurd (true≠false (sym h))
-  bounced-owner older (closed k c) a h = absurd (true≠false (sym h))
-  bounced-owner older (fault_passed k) a h = absurd (true≠false (sym h))
-  bounced-owner older (opened k) a h = absurd (true≠false (sym h))
-  bounced-owner older (ended k) a h = absurd (true≠false (sym h))
-  bounced-owner older (recalled c) a h = absurd (true≠false (sym h))
+  bounced-owner : (older : History) {e : Entry} → Legal gives m older e → is_some (bounced_name e) ≡ true → Owner is_bounced_entry e
+  bounced-owner older (bounces j i c) h = (j, i, same-itself j.name)
+  bounced-owner older a h = absurd (true≠false (sym h))
 
-  level-owner : (older : History) (e : Entry) → is_legal_after gives m older e ≡ true → is_some (level_name e) ≡ true → (x : Level) × In x (levels m.steps) × (is_level_entry x.name e ≡ true)
-  level-owner older (closed k c) a h =
-      let r = some_in (λ (x : Level). same_job k x.name && can_settle gives m older x && option_map_or (λ d. d == c) x.length false) (levels m.steps) a in
-      (r.0, r.1, turned k r.0.name (left_true (same_job k r.0.name) (can_settle gives m older r.0) (left_true (same_job k r.0.name && can_settle gives m older r.0) _ r.2)))
-  level-owner older (fault_passed k) a h =
-      let r = some_in (λ (x : Level). same_job k x.name && can_settle gives m older x && is_none x.length) (levels m.steps) a in
-      (r.0, r.1, turned k r.0.name (left_true (same_job k r.0.name) (can_settle gives m older r.0) (left_true (same_job k r.0.name && can_settle gives m older r.0) _ r.2)))
-  level-owner older (handed_out k c t) a h = absurd (true≠false (sym h))
-  level-owner older (accepted k c t r) a h = absurd (true≠false (sym h))
-  level-owner older (bounced k) a h = absurd (true≠false (sym h))
-  level-owner older (opened k) a h = absurd (true≠false (sym h))
-  level-owner older (ended k) a h = absurd (true≠false (sym h))
-  level-owner older (recalled c) a h = absurd (true≠false (sym h))
+  level-owner : (older : History) {e : Entry} → Legal gives m older e → is_some (level_name e) ≡ true → (x : Level) × In x (levels m.steps) × (is_level_entry x.name e ≡ true)
+  level-owner older (closes x k i c q) h = (x, i, same-itself x.name)
+  level-owner older (passes x i c q) h = (x, i, same-itself x.name)
+  level-owner older a h = absurd (true≠false (sym h))
 
-  opened-owner : (older : History) (e : Entry) → is_legal_after gives m older e ≡ true → is_some (opened_name e) ≡ true → (j : Job) × In j m.jobs × (is_opened_entry j.name e ≡ true)
-  opened-owner older (opened n) a h =
-      let r = found_in (λ k. is_at gives m k n && can_open gives m older k) (λ k. is_offered gives m older k || can_open gives m older k) m.jobs (right_true (not (can_settle_more gives m older)) _ a) in
-      (r.0, r.1, turned n r.0.name (left_true (is_at gives m r.0 n) (can_open gives m older r.0) r.3))
-  opened-owner older (handed_out k c t) a h = absurd (true≠false (sym h))
-  opened-owner older (accepted k c t r) a h = absurd (true≠false (sym h))
-  opened-owner older (bounced k) a h = absurd (true≠false (sym h))
-  opened-owner older (closed k c) a h = absurd (true≠false (sym h))
-  opened-owner older (fault_passed k) a h = absurd (true≠false (sym h))
-  opened-owner older (ended k) a h = absurd (true≠false (sym h))
-  opened-owner older (recalled c) a h = absurd (true≠false (sym h))
+  opened-owner : (older : History) {e : Entry} → Legal gives m older e → is_some (opened_name e) ≡ true → Owner is_opened_entry e
+  opened-owner older (opens j i q c) h = (j, i, same-itself j.name)
+  opened-owner older a h = absurd (true≠false (sym h))
 
   -- what was opened has a job's name
   opened-job : (past : History) → is_legal gives m past ≡ true → (n : JobName) → list_any (is_opened_entry n) past ≡ true → (j : Job) × In j m.jobs × (j.name ≡ n)
   opened-job past l n h =
       let e = some_in (is_opened_entry n) past h in
       let a = legal-each gives m past l e.0 e.1 in
-      by e.0 e.2 a.0 a.2
+      by a.2 e.2
     where
-      by : (e : Entry) → is_opened_entry n e ≡ true → (older : History) → is_legal_after gives m older e ≡ true → (j : Job) × In j m.jobs × (j.name ≡ n)
-      by (opened k) x older a = let r = opened-owner older (opened k) a refl in (r.0, r.1, (same_job_decides r.0.name k).0 r.2 ∙ sym ((same_job_decides n k).0 x))
-      by (handed_out k c t) x older a = absurd (true≠false (sym x))
-      by (accepted k c t r) x older a = absurd (true≠false (sym x))
-      by (bounced k) x older a = absurd (true≠false (sym x))
-      by (closed k c) x older a = absurd (true≠false (sym x))
-      by (fault_passed k) x older a = absurd (true≠false (sym x))
-      by (ended k) x older a = absurd (true≠false (sym x))
-      by (recalled c) x older a = absurd (true≠false (sym x))
+      by : {older : History} {e : Entry} → Legal gives m older e → is_opened_entry n e ≡ true → (j : Job) × In j m.jobs × (j.name ≡ n)
+      by (opens j i q c) x = (j, i, sym ((same_job_decides n j.name).0 x))
+      by a x = absurd (true≠false (sym x))
 
-  ended-owner : (older : History) → is_legal gives m older ≡ true → (e : Entry) → is_legal_after gives m older e ≡ true → is_some (ended_name e) ≡ true → (j : Job) × In j m.jobs × (is_ended_entry j.name e ≡ true)
-  ended-owner older l (ended []) a h = absurd (true≠false (sym h))
-  ended-owner older l (ended (k ∷ n)) a h =
-      let o = left_true (is_open gives m older (k ∷ n)) _ a in
-      let r = opened-job older l (k ∷ n) (left_true (list_any (is_opened_entry (k ∷ n)) older) (not (list_any (is_ended_entry (k ∷ n)) older)) o) in
+  ended-owner : (older : History) {e : Entry} → is_legal gives m older ≡ true → Legal gives m older e → is_some (ended_name e) ≡ true → Owner is_ended_entry e
+  ended-owner older l (ends [] c) h = absurd (true≠false (sym h))
+  ended-owner older l (ends (k ∷ n) c) h =
+      let r = opened-job older l (k ∷ n) (left_true (list_any (is_opened_entry (k ∷ n)) older) (not (list_any (is_ended_entry (k ∷ n)) older)) (left_true (is_open older (k ∷ n)) _ c)) in
       (r.0, r.1, (same_job_decides r.0.name (k ∷ n)).1 r.2)
-  ended-owner older l (handed_out k c t) a h = absurd (true≠false (sym h))
-  ended-owner older l (accepted k c t r) a h = absurd (true≠false (sym h))
-  ended-owner older l (bounced k) a h = absurd (true≠false (sym h))
-  ended-owner older l (closed k c) a h = absurd (true≠false (sym h))
-  ended-owner older l (fault_passed k) a h = absurd (true≠false (sym h))
-  ended-owner older l (opened k) a h = absurd (true≠false (sym h))
-  ended-owner older l (recalled c) a h = absurd (true≠false (sym h))
+  ended-owner older l a h = absurd (true≠false (sym h))
 
   -- ---- the bound
 
-  opened-fresh : (j : Job) → In j m.jobs → (older : History) (e : Entry) → is_legal gives m older ≡ true → is_legal_after gives m older e ≡ true → is_opened_entry j.name e ≡ true → list_any (is_opened_entry j.name) older ≡ false
-  opened-fresh j i older e l a h = opening-fresh older l j i (opens-it gives D m w older e j i a h) (list_any (is_opened_entry j.name) older) refl
+  opened-fresh : (j : Job) → In j m.jobs → (older : History) {e : Entry} → is_legal gives m older ≡ true → Legal gives m older e → is_opened_entry j.name e ≡ true → list_any (is_opened_entry j.name) older ≡ false
+  opened-fresh j i older l a h = opening-fresh older l j i (opens-it gives D m w older j i a h) (list_any (is_opened_entry j.name) older) refl
 
-  both_at_most : (a b c : ℕ) → a ≤ b → b ≤ c → a ≤ c
-  both_at_most a b c p q = omega arith
+  module _ (past : History) (l : is_legal gives m past ≡ true) where
+    once-most : (p : Entry → Bool) → ((older : History) (e : Entry) → is_legal gives m older ≡ true → Legal gives m older e → p e ≡ true → list_any p older ≡ false) → tally p past ≤ 1
+    once-most p f = subst (λ n. n ≤ 1) (sym (once-tally p f past l)) (at_most_one (list_any p past))
 
-  module _ (past : History) (l : is_legal gives m past ≡ true) (z : tally is_recall past ≡ 0) where
-    handed-most : tally (λ e. is_some (handed_name e)) past ≤ total (λ j. length j.asks + 1) m.jobs
-    handed-most = both_at_most (tally (λ e. is_some (handed_name e)) past) (total (λ j. tally (is_handed j.name) past) m.jobs) (total (λ j. length j.asks + 1) m.jobs) (all-owned (λ (j : Job). j.name) m.jobs is_handed (λ e. is_some (handed_name e)) past (λ e i h. let a = legal-each gives m past l e i in handed-owner a.0 e a.2 h)) (total-at_most (λ j. tally (is_handed j.name) past) (λ j. length j.asks + 1) m.jobs (λ j i. one (tally (is_handed j.name) past) (tally (is_accepted j.name) past) (bit (is_out past j.name)) (length j.asks) (handed-tally past l z j i) (accepted-at_most past l j i) (at_most_one (is_out past j.name))))
+    -- entries of a kind, each of which is one of these, and so many are of each
+    most : {A : Type 0} (name : A → JobName) (xs : List A) (p : JobName → Entry → Bool) (q : Entry → Bool) (bound : A → ℕ) → ((older : History) (e : Entry) → is_legal gives m older ≡ true → Legal gives m older e → q e ≡ true → (x : A) × In x xs × (p (name x) e ≡ true)) → ((x : A) → In x xs → tally (p (name x)) past ≤ bound x) → tally q past ≤ total bound xs
+    most name xs p q bound f g =
+        omega (arith, all-owned name xs p q past (λ e i h. let a = legal-each gives m past l e i in f a.0 e a.1 a.2 h), total-at_most (λ x. tally (p (name x)) past) bound xs g)
+
+    -- however often tries were recalled and handed out again
+    pub progress-most : tally is_progress past ≤ total (λ j. length j.asks) m.jobs + 3 * length m.jobs + length (levels m.steps) + 1
+    progress-most =
+        omega (
+          arith,
+          by-kinds past,
+          length-as_ones m.jobs,
+          length-as_ones (levels m.steps),
+          most (λ (j : Job). j.name) m.jobs is_accepted (λ e. is_some (accepted_name e)) (λ j. length j.asks) (λ o e k a h. accepted-owner o a h) (accepted-at_most past l),
+          most (λ (j : Job). j.name) m.jobs is_bounced_entry (λ e. is_some (bounced_name e)) (λ j. 1) (λ o e k a h. bounced-owner o a h) (λ j i. subst (λ n. n ≤ 1) (sym (bounced-tally gives D m w past l j i)) (at_most_one (is_bounced j.ending && list_any (is_bounced_entry j.name) past))),
+          most (λ (x : Level). x.name) (levels m.steps) is_level_entry (λ e. is_some (level_name e)) (λ x. 1) (λ o e k a h. level-owner o a h) (λ x i. once-most (is_level_entry x.name) (λ o e k a h. level-fresh x.name o k a h)),
+          most (λ (j : Job). j.name) m.jobs is_opened_entry (λ e. is_some (opened_name e)) (λ j. 1) (λ o e k a h. opened-owner o a h) (λ j i. once-most (is_opened_entry j.name) (λ o e k a h. opened-fresh j i o k a h)),
+          most (λ (j : Job). j.name) m.jobs is_ended_entry (λ e. is_some (ended_name e)) (λ j. 1) (λ o e k a h. ended-owner o k a h) (λ j i. once-most (is_ended_entry j.name) (λ o e k a h. end-fresh j.name o k a h)),
+          once-most (is_ended_entry []) (λ o e k a h. end-fresh [] o k a h),
+        )
+
+    pub at-most : tally is_recall past ≡ 0 → length past ≤ most_entries m
+    at-most z =
+        omega (
+          arith,
+          z,
+          by-progress past,
+          progress-most,
+          sum-total (λ (j : Job). length j.asks) m.jobs,
+          length-as_ones m.jobs,
+          total-of_sums (λ (j : Job). length j.asks) (λ j. 1) m.jobs,
+          most (λ (j : Job). j.name) m.jobs is_handed (λ e. is_some (handed_name e)) (λ j. length j.asks + 1) (λ o e k a h. handed-owner o a h) (λ j i. handed-most j i z),
+        )
       where
-        one : (h a o n : ℕ) → h ≡ a + o → a ≤ n → o ≤ 1 → h ≤ n + 1
-        one h a o n p q r = omega arith
-
-    accepted-most : tally (λ e. is_some (accepted_name e)) past ≤ total (λ j. length j.asks) m.jobs
-    accepted-most = both_at_most (tally (λ e. is_some (accepted_name e)) past) (total (λ j. tally (is_accepted j.name) past) m.jobs) (total (λ j. length j.asks) m.jobs) (all-owned (λ (j : Job). j.name) m.jobs is_accepted (λ e. is_some (accepted_name e)) past (λ e i h. let a = legal-each gives m past l e i in accepted-owner a.0 e a.2 h)) (total-at_most (λ j. tally (is_accepted j.name) past) (λ j. length j.asks) m.jobs (accepted-at_most past l))
-
-    bounced-most : tally (λ e. is_some (bounced_name e)) past ≤ total (λ j. 1) m.jobs
-    bounced-most = both_at_most (tally (λ e. is_some (bounced_name e)) past) (total (λ j. tally (is_bounced_entry j.name) past) m.jobs) (total (λ j. 1) m.jobs) (all-owned (λ (j : Job). j.name) m.jobs is_bounced_entry (λ e. is_some (bounced_name e)) past (λ e i h. let a = legal-each gives m past l e i in bounced-owner a.0 e a.2 h)) (total-at_most (λ j. tally (is_bounced_entry j.name) past) (λ j. 1) m.jobs (λ j i. subst (λ n. n ≤ 1) (sym (bounced-tally gives D m w past l j i)) (at_most_one (is_bounced j.ending && list_any (is_bounced_entry j.name) past))))
-
-    level-most : tally (λ e. is_some (level_name e)) past ≤ total (λ x. 1) (levels m.steps)
-    level-most = both_at_most (tally (λ e. is_some (level_name e)) past) (total (λ x. tally (is_level_entry x.name) past) (levels m.steps)) (total (λ x. 1) (levels m.steps)) (all-owned (λ (x : Level). x.name) (levels m.steps) is_level_entry (λ e. is_some (level_name e)) past (λ e i h. let a = legal-each gives m past l e i in level-owner a.0 e a.2 h)) (total-at_most (λ x. tally (is_level_entry x.name) past) (λ x. 1) (levels m.steps) (λ x i. subst (λ n. n ≤ 1) (sym (once-tally (is_level_entry x.name) (level-fresh x.name) past l)) (at_most_one (list_any (is_level_entry x.name) past))))
-
-    opened-most : tally (λ e. is_some (opened_name e)) past ≤ total (λ j. 1) m.jobs
-    opened-most = both_at_most (tally (λ e. is_some (opened_name e)) past) (total (λ j. tally (is_opened_entry j.name) past) m.jobs) (total (λ j. 1) m.jobs) (all-owned (λ (j : Job). j.name) m.jobs is_opened_entry (λ e. is_some (opened_name e)) past (λ e i h. let a = legal-each gives m past l e i in opened-owner a.0 e a.2 h)) (total-at_most (λ j. tally (is_opened_entry j.name) past) (λ j. 1) m.jobs (λ j i. subst (λ n. n ≤ 1) (sym (once-tally (is_opened_entry j.name) (opened-fresh j i) past l)) (at_most_one (list_any (is_opened_entry j.name) past))))
-
-    ended-most : tally (λ e. is_some (ended_name e)) past ≤ total (λ j. 1) m.jobs
-    ended-most = both_at_most (tally (λ e. is_some (ended_name e)) past) (total (λ j. tally (is_ended_entry j.name) past) m.jobs) (total (λ j. 1) m.jobs) (all-owned (λ (j : Job). j.name) m.jobs is_ended_entry (λ e. is_some (ended_name e)) past (λ e i h. let a = legal-each gives m past l e i in ended-owner a.0 a.1 e a.2 h)) (total-at_most (λ j. tally (is_ended_entry j.name) past) (λ j. 1) m.jobs (λ j i. subst (λ n. n ≤ 1) (sym (once-tally (is_ended_entry j.name) (end-fresh j.name) past l)) (at_most_one (list_any (is_ended_entry j.name) past))))
-
-    main-most : tally (is_ended_entry []) past ≤ 1
-    main-most = subst (λ n. n ≤ 1) (sym (once-tally (is_ended_entry []) (end-fresh []) past l)) (at_most_one (list_any (is_ended_entry []) past))
-
-    pub at-most : length past ≤ most_entries m
-    at-most =
-        by (length past) (tally (λ e. is_some (handed_name e)) past) (tally (λ e. is_some (accepted_name e)) past) (tally (λ e. is_some (bounced_name e)) past) (tally (λ e. is_some (level_name e)) past) (tally (λ e. is_some (opened_name e)) past) (tally (λ e. is_some (ended_name e)) past) (tally (is_ended_entry []) past) (tally is_recall past)
-        (total (λ j. length j.asks + 1) m.jobs) (total (λ j. length j.asks) m.jobs) (total (λ j. 1) m.jobs) (length m.jobs) (total (λ x. 1) (levels m.steps)) (length (levels m.steps))
-        (by-kinds past) handed-most accepted-most bounced-most level-most opened-most ended-most main-most z (total-of_sums (λ (j : Job). length j.asks) (λ j. 1) m.jobs) (length-as_ones m.jobs) (length-as_ones (levels m.steps))
-      where
-        by : (n h a b v o e r z ha asks one jobs ones lists : ℕ) → n ≡ h + a + b + v + o + e + r + z → h ≤ ha → a ≤ asks → b ≤ one → v ≤ ones → o ≤ one → e ≤ one → r ≤ 1 → z ≡ 0 → ha ≡ asks + one → jobs ≡ one → lists ≡ ones → n ≤ 2 * asks + 4 * jobs + lists + 1
-        by n h a b v o e r z ha asks one jobs ones lists p0 p1 p2 p3 p4 p5 p6 p7 p8 p9 q0 q1 = omega arith
+        handed-most : (j : Job) → In j m.jobs → tally is_recall past ≡ 0 → tally (is_handed j.name) past ≤ length j.asks + 1
+        handed-most j i z = omega (arith, handed-tally past l z j i, accepted-at_most past l j i, at_most_one (is_out past j.name))
 
 -- BOUNDED: so a loop that appends legal entries ends
-pub bounded : (gives : Giving) (d : Document) (past : History) → is_legal gives (meaning gives d) past ≡ true → tally is_recall past ≡ 0 → length past ≤ most_entries (meaning gives d)
+pub bounded : (gives : Giving) (d : Document) (past : History) → is_legal gives (meaning gives d) past ≡ true → count_by is_recall past ≡ 0 → length past ≤ most_entries (meaning gives d)
 bounded gives d past l z =
-    at-most gives AnyNumber (meaning gives d) (meaning-whole gives AnyNumber d (each-all (λ f. StepsHave gives AnyNumber f.1) (λ f. each-all (λ s. Unit {0}) (λ s. tt) f.1.steps) d.flows)) past l z
+    at-most gives AnyNumber (meaning gives d) (document-whole gives d) past l (sym (count-tally is_recall past) ∙ z)

@@ -1,59 +1,69 @@
 -- How many entries of a kind a history has, and sums over the jobs.
-use Rattle.std.specs.Prelude.{◌≡◌, refl, ℕ, suc, ◌+◌, ◌≤◌, List, [], ◌∷◌, length, filter, flat_map, Bool, true, false, cond, Option, Some, None, is_some}
+use Rattle.std.specs.Prelude.{◌≡◌, refl, ℕ, ◌+◌, ◌≤◌, List, [], ◌∷◌, length, filter, flat_map, count_by, sum_by, Bool, true, false, cond, Option, Some, None, is_some}
 use Rattle.std.specs.Option.{option_map_or}
 use Rattle.std.proofs.Common.{arith, sym, ap, ◌∙◌, inl, inr, length-append}
+use Rattle.std.proofs.lemmas.List.Sums.{sum_by-cons}
+use Rattle.tv_lemmas.proofs.Counts.{count-cons}
 use Rattle.tv_value.specs.Values.{JobName}
 use Rattle.tv_value.specs.Orders.{same_job}
 use Rattle.tv_history.specs.Entries.{Entry, History}
 use Rattle.tv_model.proofs.Tests.{true≠false, same_job_decides}
 use Rattle.tv_model.proofs.Turns.{In}
 use Rattle.tv_model.proofs.Members.{Apart}
-pub use Rattle.tv_history.specs.Tallies.{bit, tally, total}
+
+-- counts and sums as proofs go through them
+
+abbrev pub bit : Bool → ℕ
+bit true = 1
+bit false = 0
+
+abbrev pub tally : {A : Type 0} → (A → Bool) → List A → ℕ
+tally p [] = 0
+tally p (x ∷ xs) = bit (p x) + tally p xs
+
+abbrev pub total : {A : Type 0} → (A → ℕ) → List A → ℕ
+total f [] = 0
+total f (x ∷ xs) = f x + total f xs
+
+pub count-total : {A : Type 0} (p : A → Bool) (xs : List A) → count_by p xs ≡ total (λ x. bit (p x)) xs
+count-total p [] = refl
+count-total {A = A} p (x ∷ xs) = count-cons p x xs ∙ (λ i. one (p x) i + count-total p xs i)
+  where
+    one : (b : Bool) → cond b 1 0 ≡ bit b
+    one true = refl
+    one false = refl
+
+pub count-tally : {A : Type 0} (p : A → Bool) (xs : List A) → count_by p xs ≡ tally p xs
+count-tally {A = A} p xs = count-total p xs ∙ same xs
+  where
+    same : (ys : List A) → total (λ x. bit (p x)) ys ≡ tally p ys
+    same [] = refl
+    same (y ∷ ys) = ap (λ n. bit (p y) + n) (same ys)
+
+pub sum-total : {A : Type 0} (f : A → ℕ) (xs : List A) → sum_by f xs ≡ total f xs
+sum-total f [] = refl
+sum-total f (x ∷ xs) = sum_by-cons f x xs ∙ ap (λ n. f x + n) (sum-total f xs)
 
 pub total-same : {A : Type 0} (f g : A → ℕ) (xs : List A) → ((x : A) → In x xs → f x ≡ g x) → total f xs ≡ total g xs
 total-same f g [] h = refl
-total-same f g (x ∷ xs) h = by (f x) (g x) (total f xs) (total g xs) (h x (inl refl)) (total-same f g xs (λ y i. h y (inr i)))
-  where
-    by : (a b c d : ℕ) → a ≡ b → c ≡ d → a + c ≡ b + d
-    by a b c d p q = omega arith
+total-same f g (x ∷ xs) h = omega (arith, h x (inl refl), total-same f g xs (λ y i. h y (inr i)))
 
 pub total-at_most : {A : Type 0} (f g : A → ℕ) (xs : List A) → ((x : A) → In x xs → f x ≤ g x) → total f xs ≤ total g xs
-total-at_most f g [] h = by 0
-  where
-    by : (n : ℕ) → n ≤ n
-    by n = omega arith
-total-at_most f g (x ∷ xs) h = by (f x) (g x) (total f xs) (total g xs) (h x (inl refl)) (total-at_most f g xs (λ y i. h y (inr i)))
-  where
-    by : (a b c d : ℕ) → a ≤ b → c ≤ d → a + c ≤ b + d
-    by a b c d p q = omega arith
+total-at_most f g [] h = omega arith
+total-at_most f g (x ∷ xs) h = omega (arith, h x (inl refl), total-at_most f g xs (λ y i. h y (inr i)))
 
 pub total-of_sums : {A : Type 0} (f g : A → ℕ) (xs : List A) → total (λ x. f x + g x) xs ≡ total f xs + total g xs
-total-of_sums f g [] = by tt
-  where
-    by : Unit {0} → 0 ≡ 0 + 0
-    by t = omega arith
-total-of_sums f g (x ∷ xs) = by (f x) (g x) (total f xs) (total g xs) (total (λ x. f x + g x) xs) (total-of_sums f g xs)
-  where
-    by : (a b c d e : ℕ) → e ≡ c + d → (a + b) + e ≡ (a + c) + (b + d)
-    by a b c d e p = omega arith
+total-of_sums f g [] = omega arith
+total-of_sums f g (x ∷ xs) = omega (arith, total-of_sums f g xs)
 
 pub total-zeros : {A : Type 0} (f : A → ℕ) (xs : List A) → ((x : A) → In x xs → f x ≡ 0) → total f xs ≡ 0
 total-zeros f [] h = refl
-total-zeros f (x ∷ xs) h = by (f x) (total f xs) (h x (inl refl)) (total-zeros f xs (λ y i. h y (inr i)))
-  where
-    by : (a b : ℕ) → a ≡ 0 → b ≡ 0 → a + b ≡ 0
-    by a b p q = omega arith
+total-zeros f (x ∷ xs) h = omega (arith, h x (inl refl), total-zeros f xs (λ y i. h y (inr i)))
 
 pub total-in : {A : Type 0} (f : A → ℕ) (x : A) (xs : List A) → In x xs → f x ≤ total f xs
 total-in f x [] h = absurd h
-total-in f x (y ∷ xs) (inl p) = by (f x) (f y) (total f xs) (ap f p)
-  where
-    by : (a b c : ℕ) → a ≡ b → a ≤ b + c
-    by a b c q = omega arith
-total-in f x (y ∷ xs) (inr h) = by (f x) (f y) (total f xs) (total-in f x xs h)
-  where
-    by : (a b c : ℕ) → a ≤ c → a ≤ b + c
-    by a b c q = omega arith
+total-in f x (y ∷ xs) (inl p) = omega (arith, ap f p)
+total-in f x (y ∷ xs) (inr h) = omega (arith, total-in f x xs h)
 
 pub length-as_total : {A B : Type 0} (f : A → List B) (xs : List A) → length (flat_map f xs) ≡ total (λ x. length (f x)) xs
 length-as_total f [] = refl
@@ -69,10 +79,17 @@ filter-as_total {A = A} p (x ∷ xs) = by (p x) (filter-as_total p xs)
 
 pub length-as_ones : {A : Type 0} (xs : List A) → length xs ≡ total (λ x. 1) xs
 length-as_ones [] = refl
-length-as_ones (x ∷ xs) = by (length xs) (total (λ x. 1) xs) (length-as_ones xs)
+length-as_ones (x ∷ xs) = omega (arith, length-as_ones xs)
+
+pub nothing-counted : {A : Type 0} (p : A → Bool) (xs : List A) → ((x : A) → In x xs → p x ≡ false) → count_by p xs ≡ 0
+nothing-counted p xs f = count-total p xs ∙ total-zeros (λ x. bit (p x)) xs (λ x i. ap bit (f x i))
+
+pub uncounted : {A : Type 0} (p : A → Bool) (xs : List A) → count_by p xs ≡ 0 → (x : A) → In x xs → p x ≡ false
+uncounted p xs e x i = by (p x) (total-in (λ y. bit (p y)) x xs i)
   where
-    by : (a b : ℕ) → a ≡ b → suc a ≡ 1 + b
-    by a b p = omega arith
+    by : (b : Bool) → bit b ≤ total (λ y. bit (p y)) xs → b ≡ false
+    by false h = refl
+    by true h = absurd (omega (arith, h, sym (count-total p xs) ∙ e))
 
 -- ---- each entry belongs to one
 
@@ -116,7 +133,4 @@ module _ {A : Type 0} (name : A → JobName) where
     all-entries [] o = total-zeros (λ x. 0) xs (λ x i. refl)
     all-entries (e ∷ past) o =
         total-of_sums (λ x. bit (p (name x) e)) (λ x. tally (p (name x)) past) xs
-        ∙ by (total (λ x. bit (p (name x) e)) xs) (bit (is_some (kind e))) (total (λ x. tally (p (name x)) past) xs) (tally (λ e. is_some (kind e)) past) (one-entry e (o e (inl refl))) (all-entries past (λ f i. o f (inr i)))
-      where
-        by : (a b c d : ℕ) → a ≡ b → c ≡ d → a + c ≡ b + d
-        by a b c d p q = omega arith
+        ∙ (omega (arith, one-entry e (o e (inl refl)), all-entries past (λ f i. o f (inr i))))

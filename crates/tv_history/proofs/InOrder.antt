@@ -8,11 +8,13 @@ use Rattle.tv_gate.specs.Outcomes.{Giving}
 use Rattle.tv_model.specs.Jobs.{Job}
 use Rattle.tv_model.specs.Made.{Meaning}
 use Rattle.tv_model.specs.Meanings.{flow_meaning}
-use Rattle.tv_history.specs.Entries.{Entry, handed_out, accepted, bounced, closed, fault_passed, opened, ended, recalled, History}
+use Rattle.tv_history.specs.Entries.{Entry, accepted, bounced, ended, History}
 use Rattle.tv_history.specs.Histories.{is_legal, is_legal_after, is_done}
 use Rattle.tv_model.proofs.Tests.{Each, left_true, same_job_decides}
 use Rattle.tv_model.proofs.Whole.{IsWhole, StepsHave}
-use Rattle.tv_history.proofs.Stuck.{AtLeastOne, any-in}
+use Rattle.tv_model.specs.Turns.{ask_order}
+use Rattle.tv_model.proofs.Members.{any-in}
+use Rattle.tv_history.proofs.Stuck.{AtLeastOne}
 use Rattle.tv_history.proofs.Done.{all-settled}
 use Rattle.tv_history.proofs.Sums.{accepted-owned}
 use Rattle.tv_history.proofs.Permuted.{entry_try, all_tries, ask_try}
@@ -32,13 +34,7 @@ module _ (gives : Giving) (m : Meaning) (w : IsWhole gives AtLeastOne m []) wher
       by (accepted k c t r) l =
           let o = accepted-owned gives AtLeastOne m w (accepted k c t r ∷ past) l (accepted k c t r) (inl refl) k refl in
           ap (λ b. if b then (k, (c, t, r)) ∷ [] else []) (any-in (λ (j : Job). same_job k j.name) o.0 m.jobs o.1 ((same_job_decides k o.0.name).1 (sym o.2)))
-      by (handed_out k c t) l = refl
-      by (bounced k) l = refl
-      by (closed k c) l = refl
-      by (fault_passed k) l = refl
-      by (opened k) l = refl
-      by (ended k) l = refl
-      by (recalled c) l = refl
+      by e l = refl
 
 -- for a flow at any number of levels, whose jobs that aren't bounced all have something to do
 module _ (gives : Giving) (flows : List (Name × Flow)) (places : Each (λ f. StepsHave gives AtLeastOne f.1) flows) (depth : ℕ) (f : Name) (vs : List (Name × Value)) (fit : HaveTries (flow_meaning gives flows depth f [] vs).jobs) where
@@ -48,13 +44,13 @@ module _ (gives : Giving) (flows : List (Name × Flow)) (places : Each (λ f. St
   laid : IsWhole gives AtLeastOne m [] × IsLaidOut m.jobs
   laid = flow-laid gives AtLeastOne flows places depth f [] vs
 
-  main-followed : (past : History) → is_legal gives m past ≡ true → is_by_one gives m past ≡ true → IsFollowedIn gives m m [] past
+  main-followed : (past : History) → is_legal gives m past ≡ true → is_by_one m past ≡ true → IsFollowedIn gives m m [] past
   main-followed past l b = (flow-in_sequence gives flows places depth f [] vs).1 m laid.0 laid.1 fit (record { jobs = λ x i. i; before = λ x y k. k }) past l b
 
   -- at every moment
-  pub in-order : (past : History) → is_legal gives m past ≡ true → is_by_one gives m past ≡ true → IsFirstPart (all_tries past) (map (ask_try gives) m.order)
-  in-order past l b = subst (λ z. IsFirstPart z (map (ask_try gives) m.order)) (all-within gives m laid.0 past l) (main-followed past l b).0
+  pub in-order : (past : History) → is_legal gives m past ≡ true → is_by_one m past ≡ true → IsFirstPart (all_tries past) (map (ask_try gives) (ask_order m))
+  in-order past l b = subst (λ z. IsFirstPart z (map (ask_try gives) (ask_order m))) (all-within gives m laid.0 past l) (main-followed past l b).0
 
   -- and where the main instance has ended
-  pub done-in_order : (past : History) → is_legal gives m past ≡ true → is_by_one gives m past ≡ true → is_done gives m past ≡ true → all_tries past ≡ map (ask_try gives) m.order
+  pub done-in_order : (past : History) → is_legal gives m past ≡ true → is_by_one m past ≡ true → is_done past ≡ true → all_tries past ≡ map (ask_try gives) (ask_order m)
   done-in_order past l b h = sym (all-within gives m laid.0 past l) ∙ (main-followed past l b).1 (λ x i e. all-settled gives AtLeastOne m laid.0 past l h x i)

@@ -1,19 +1,18 @@
 -- In the meaning of every flow the jobs inside a job stand before the later jobs of its instance.
-use Rattle.std.specs.Prelude.{◌≡◌, refl, ℕ, zero, suc, ◌⊎◌, List, [], ◌∷◌, ◌++◌, length, true, Option, Some, None, flat_map}
+use Rattle.std.specs.Prelude.{◌≡◌, refl, ℕ, zero, suc, ◌⊎◌, List, [], ◌∷◌, ◌++◌, length, Option, Some, None, flat_map}
 use Rattle.std.specs.Option.{option_map_or}
 use Rattle.std.proofs.Common.{sym, ap, subst, ◌∙◌, inl, inr, append_assoc, append-nil}
+use Rattle.tv_lemmas.proofs.Cases.{on_either}
 use Rattle.tv_value.specs.Values.{Name, JobName, Value}
-use Rattle.tv_flow.specs.Flows.{Flow, Document}
+use Rattle.tv_flow.specs.Flows.{Flow}
 use Rattle.tv_gate.specs.Outcomes.{Giving}
 use Rattle.tv_model.specs.Jobs.{Job}
 use Rattle.tv_model.specs.Made.{Meaning, Opened}
-use Rattle.tv_model.specs.Meanings.{jobs_with_inside, instance_meaning, no_meaning, flow_meaning, meaning, most_nesting}
+use Rattle.tv_model.specs.Meanings.{jobs_with_inside, instance_meaning, no_meaning, flow_meaning, meaning}
 use Rattle.tv_depths.specs.Ranks.{ranked}
-use Rattle.tv_history.specs.Entries.{History}
-use Rattle.tv_history.specs.Histories.{is_legal}
 use Rattle.tv_model.proofs.Tests.{Each}
 use Rattle.tv_model.proofs.Turns.{In}
-use Rattle.tv_model.proofs.Order.{in-append}
+use Rattle.tv_model.proofs.Order.{in-append, in-left, in-right}
 use Rattle.tv_model.proofs.Fed.{named_map_or}
 use Rattle.tv_model.proofs.Earlier.{job_list}
 use Rattle.tv_model.proofs.Kept.{InsideIs}
@@ -21,16 +20,11 @@ use Rattle.tv_model.proofs.Members.{of-flat, Apart}
 use Rattle.tv_model.proofs.Formed.{own-apart, steps-formed, none-formed}
 use Rattle.tv_model.proofs.Instances.{given_of, given-free, steps_of, ranked-fresh}
 use Rattle.tv_model.proofs.Whole.{IsWhole, StepsHave, not-longer, same-head, one-whole, rank-each, nothing-whole}
-use Rattle.tv_history.proofs.Stuck.{AtLeastOne, IsWellFormed}
-use Rattle.tv_history.proofs.OneWorker.{Before, before-left, IsLaidOut, is_by_one, OneRuns, OthersWait, one-worker}
+use Rattle.tv_history.proofs.OneWorker.{Before, before-left, IsLaidOut}
 
 pub of-before : {A : Type 0} (x y : A) (xs ys : List A) → Before x y (xs ++ ys) → Before x y xs ⊎ ((In x xs × In y ys) ⊎ Before x y ys)
 of-before x y [] ys b = inr (inr b)
-of-before {A = A} x y (z ∷ xs) ys (inl b) = by (in-append y xs ys b.1)
-  where
-    by : In y xs ⊎ In y ys → Before x y (z ∷ xs) ⊎ ((In x (z ∷ xs) × In y ys) ⊎ Before x y ys)
-    by (inl i) = inl (inl (b.0, i))
-    by (inr i) = inr (inl (inl (sym b.0), i))
+of-before {A = A} x y (z ∷ xs) ys (inl b) = on_either (in-append y xs ys b.1) (λ i. inl (inl (b.0, i))) (λ i. inr (inl (inl (sym b.0), i)))
 of-before {A = A} x y (z ∷ xs) ys (inr b) = by (of-before x y xs ys b)
   where
     by : Before x y xs ⊎ ((In x xs × In y ys) ⊎ Before x y ys) → Before x y (z ∷ xs) ⊎ ((In x (z ∷ xs) × In y ys) ⊎ Before x y ys)
@@ -38,23 +32,14 @@ of-before {A = A} x y (z ∷ xs) ys (inr b) = by (of-before x y xs ys b)
     by (inr (inl c)) = inr (inl (inr c.0, c.1))
     by (inr (inr c)) = inr (inr c)
 
-in-first : {A : Type 0} (y : A) (xs ys : List A) → In y xs → In y (xs ++ ys)
-in-first y [] ys h = absurd h
-in-first y (z ∷ xs) ys (inl p) = inl p
-in-first y (z ∷ xs) ys (inr h) = inr (in-first y xs ys h)
-
-in-second : {A : Type 0} (y : A) (xs ys : List A) → In y ys → In y (xs ++ ys)
-in-second y [] ys h = h
-in-second y (z ∷ xs) ys h = inr (in-second y xs ys h)
-
 pub before-first : {A : Type 0} (x y : A) (xs ys : List A) → Before x y xs → Before x y (xs ++ ys)
 before-first x y [] ys b = absurd b
-before-first x y (z ∷ xs) ys (inl b) = inl (b.0, in-first y xs ys b.1)
+before-first x y (z ∷ xs) ys (inl b) = inl (b.0, in-left y xs ys b.1)
 before-first x y (z ∷ xs) ys (inr b) = inr (before-first x y xs ys b)
 
 pub before-cross : {A : Type 0} (x y : A) (xs ys : List A) → In x xs → In y ys → Before x y (xs ++ ys)
 before-cross x y [] ys h k = absurd h
-before-cross x y (z ∷ xs) ys (inl p) k = inl (sym p, in-second y xs ys k)
+before-cross x y (z ∷ xs) ys (inl p) k = inl (sym p, in-right y xs ys k)
 before-cross x y (z ∷ xs) ys (inr h) k = inr (before-cross x y xs ys h k)
 
 pub before-rest : {A : Type 0} (x y : A) (xs ys : List A) → Before x y ys → Before x y (xs ++ ys)
@@ -146,8 +131,3 @@ module _ (gives : Giving) (D : ℕ → Type 0) where
   flow-laid flows h zero f I vs = (nothing-whole gives D I, λ k j x q s i r p. absurd q)
   flow-laid flows h (suc depth) f I vs =
       named_map_or (StepsHave gives D) (λ m. IsLaid m I) (λ flow. instance_meaning gives (flow_meaning gives flows depth) I flow vs) (λ flow w. instance-laid (flow_meaning gives flows depth) (λ g n us. flow-laid flows h depth g n us) I flow vs w) f flows no_meaning h (nothing-whole gives D I, λ k j x q s i r p. absurd q)
-
--- ONE WORKER: in a legal history of one worker at most one job of an instance runs, and the others wait
-pub one-at_a_time : (gives : Giving) (d : Document) → IsWellFormed d → (past : History) → is_legal gives (meaning gives d) past ≡ true → is_by_one gives (meaning gives d) past ≡ true → OneRuns gives (meaning gives d) past × OthersWait gives (meaning gives d) past
-one-at_a_time gives d f past l b =
-    let p = flow-laid gives AtLeastOne d.flows f.places most_nesting d.main [] d.inputs in one-worker gives (meaning gives d) p.0 p.1 past l b

@@ -1,5 +1,6 @@
+pub mod Tests
+pub mod Legal
 pub mod Needs
-pub mod Offers
 pub mod Running
 pub mod Ready
 pub mod Stuck

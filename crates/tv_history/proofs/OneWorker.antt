@@ -3,6 +3,10 @@ use Rattle.std.specs.Prelude.{◌≡◌, refl, ℕ, zero, suc, ◌+◌, ◌⊎�
 use Rattle.std.specs.List.{list_any, list_all}
 use Rattle.std.specs.Option.{option_map_or}
 use Rattle.std.proofs.Common.{arith, sym, ap, subst, ◌∙◌, inl, inr, append-nil, length-append}
+use Rattle.std.proofs.lemmas.Bool.{false_from_ne_true, not-true, or_parts}
+use Rattle.std.proofs.lemmas.List.{nil_from_length}
+use Rattle.tv_history.proofs.Legal.{legal-of, Legal, accepts}
+use Rattle.tv_lemmas.proofs.Cases.{on_either, on_or}
 use Rattle.tv_value.specs.Values.{JobName}
 use Rattle.tv_value.specs.Orders.{same_job, same_name}
 use Rattle.tv_strategy.specs.Origins.{Origin, Known, at_start, by_job, by_level}
@@ -18,15 +22,16 @@ use Rattle.tv_model.proofs.Tests.{Each, true≠false, left_true, right_true, bot
 use Rattle.tv_history.proofs.Needs.{stays_settled}
 use Rattle.tv_model.proofs.Turns.{In}
 use Rattle.tv_model.proofs.Fed.{each-flat_map}
-use Rattle.tv_history.proofs.Running.{true_of, not_true, all_in, any_weaken, opened_begins, out-begun, settled_of_name, idle_begun, going_on, ready-needs, begins}
+use Rattle.tv_history.proofs.Running.{opened_begins, out-begun, settled_of_name, idle_begun, going_on, ready-needs, begins}
 use Rattle.tv_model.proofs.Members.{each_in, Apart}
 use Rattle.tv_model.proofs.Grounds.{GroundedBy}
 use Rattle.tv_model.proofs.Whole.{GroundedIn, IsWhole}
 use Rattle.tv_history.proofs.Ready.{all-sound, are-jobs, no-bounce, waits-known}
-use Rattle.tv_history.proofs.Stuck.{AtLeastOne, fails_in, full, settled-name, goes, running-within}
+use Rattle.tv_history.proofs.Stuck.{AtLeastOne, settled-name, goes, running-within}
 use Rattle.tv_history.proofs.Done.{ends-it}
 use Rattle.tv_history.proofs.Sums.{bounces-it}
 use Rattle.tv_history.proofs.Bounded.{ready-parts}
+use Rattle.tv_history.proofs.Tests.{all_in, any_weaken, fails_in, full, all-fails}
 pub use Rattle.tv_history.specs.Alone.{nobody_out, is_by_one_after, is_by_one}
 
 -- ---- before in a list
@@ -88,13 +93,6 @@ found-first {A = A} p q (x ∷ xs) h = by (p x) refl h (λ k. found-first p q xs
     by true e k rec = (x, inl refl, e, k, λ y i g. first y i)
     by false e k rec = let r = rec k in (r.0, inr r.1, r.2, r.3, others r.0 e r.4)
 
-all-fails : {A : Type 0} (p : A → Bool) (x : A) (xs : List A) → In x xs → p x ≡ false → list_all p xs ≡ false
-all-fails p x xs h e = by (list_all p xs) refl
-  where
-    by : (b : Bool) → list_all p xs ≡ b → list_all p xs ≡ false
-    by false g = g
-    by true g = absurd (true≠false (sym (all_in p xs g x h) ∙ e))
-
 -- the jobs inside a job stand before the later jobs of its instance
 abbrev pub IsLaidOut : List Job → Type 0
 IsLaidOut js = (k j x : Job) → Before k j js → k.instance ≡ j.instance → In x js → (r : JobName) → x.name ≡ k.name ++ r → Before x j js
@@ -106,15 +104,15 @@ module _ (gives : Giving) (m : Meaning) where
   begun past j = list_any (is_begun_entry j.name) past
 
   abbrev pub NeedsSettled : History → Job → Bool
-  NeedsSettled past y = list_all (is_settled_name gives m past) (job_needs y)
+  NeedsSettled past y = list_all (is_settled_name m past) (job_needs y)
 
   -- at most one job of an instance runs
   abbrev pub OneRuns : History → Type 0
-  OneRuns past = (j k : Job) → In j m.jobs → In k m.jobs → j.instance ≡ k.instance → is_running gives m past j ≡ true → is_running gives m past k ≡ true → j ≡ k
+  OneRuns past = (j k : Job) → In j m.jobs → In k m.jobs → j.instance ≡ k.instance → is_running past j ≡ true → is_running past k ≡ true → j ≡ k
 
   -- while it runs, a bounced job of the instance, or one that stands before it, that isn't settled or begun has an unsettled need
   abbrev pub OthersWait : History → Type 0
-  OthersWait past = (c y : Job) → In c m.jobs → In y m.jobs → y.instance ≡ c.instance → is_running gives m past c ≡ true → is_settled gives m past y ≡ false → begun past y ≡ false → (is_bounced y.ending ≡ true) ⊎ Before y c m.jobs → NeedsSettled past y ≡ false
+  OthersWait past = (c y : Job) → In c m.jobs → In y m.jobs → y.instance ≡ c.instance → is_running past c ≡ true → is_settled past y ≡ false → begun past y ≡ false → (is_bounced y.ending ≡ true) ⊎ Before y c m.jobs → NeedsSettled past y ≡ false
 
   module _ (w : IsWhole gives AtLeastOne m []) (laid : IsLaidOut m.jobs) where
     once : (j k : Job) → In j m.jobs → In k m.jobs → j.name ≡ k.name → j ≡ k
@@ -139,16 +137,16 @@ module _ (gives : Giving) (m : Meaning) where
     -- ---- what settles a job
 
     abbrev SettledBy : History → Job → Bool → Bool → Bool
-    SettledBy past j b o = if b then list_any (is_bounced_entry j.name) past else (if o then list_any (is_ended_entry j.name) past else is_none (next_ask gives m past j))
+    SettledBy past j b o = if b then list_any (is_bounced_entry j.name) past else (if o then list_any (is_ended_entry j.name) past else is_none (next_ask past j))
 
-    pub newly-settled : (past : History) (e : Entry) (j : Job) → is_settled gives m past j ≡ false → is_settled gives m (e ∷ past) j ≡ true → (is_bounced_entry j.name e ≡ true) ⊎ ((is_accepted j.name e ≡ true) ⊎ (is_ended_entry j.name e ≡ true))
+    pub newly-settled : (past : History) (e : Entry) (j : Job) → is_settled past j ≡ false → is_settled (e ∷ past) j ≡ true → (is_bounced_entry j.name e ≡ true) ⊎ ((is_accepted j.name e ≡ true) ⊎ (is_ended_entry j.name e ≡ true))
     newly-settled past e j f t = by (is_bounced j.ending) (is_some j.opens) f t
       where
         now : (a b : Bool) → b ≡ false → (a || b) ≡ true → a ≡ true
         now true b p q = refl
         now false b p q = absurd (true≠false (sym q ∙ p))
 
-        took : (b : Bool) → is_none (next_ask gives m past j) ≡ false → is_none (first_of_list (if b then rest_of (asks_left past j.name j.asks) else asks_left past j.name j.asks)) ≡ true → b ≡ true
+        took : (b : Bool) → is_none (next_ask past j) ≡ false → is_none (first_of_list (if b then rest_of (asks_left past j.name j.asks) else asks_left past j.name j.asks)) ≡ true → b ≡ true
         took true p q = refl
         took false p q = absurd (true≠false (sym q ∙ p))
 
@@ -157,101 +155,68 @@ module _ (gives : Giving) (m : Meaning) where
         by false true p q = inr (inr (now (is_ended_entry j.name e) (list_any (is_ended_entry j.name) past) p q))
         by false false p q = inr (inl (took (is_accepted j.name e) p q))
 
-    pub unsettled-before : (past : History) (e : Entry) (j : Job) → is_settled gives m (e ∷ past) j ≡ false → is_settled gives m past j ≡ false
-    unsettled-before past e j f = by (is_settled gives m past j) refl
-      where
-        by : (b : Bool) → is_settled gives m past j ≡ b → is_settled gives m past j ≡ false
-        by false g = g
-        by true g = absurd (true≠false (sym (stays_settled gives m e past j g) ∙ f))
+    pub unsettled-before : (past : History) (e : Entry) (j : Job) → is_settled (e ∷ past) j ≡ false → is_settled past j ≡ false
+    unsettled-before past e j f = false_from_ne_true (is_settled past j) (λ g. true≠false (sym (stays_settled gives m e past j g) ∙ f))
 
-    pub accepted-begun : (past : History) (e : Entry) (j : Job) → is_legal_after gives m past e ≡ true → is_accepted j.name e ≡ true → begun past j ≡ true
-    accepted-begun past (accepted k c t r) j l h = out-begun past j.name (subst (λ n. is_out past n ≡ true) (sym ((same_job_decides j.name k).0 h)) (left_true (is_out past k) _ l))
-    accepted-begun past (handed_out k c t) j l h = absurd (true≠false (sym h))
-    accepted-begun past (bounced k) j l h = absurd (true≠false (sym h))
-    accepted-begun past (closed k c) j l h = absurd (true≠false (sym h))
-    accepted-begun past (fault_passed k) j l h = absurd (true≠false (sym h))
-    accepted-begun past (opened k) j l h = absurd (true≠false (sym h))
-    accepted-begun past (ended k) j l h = absurd (true≠false (sym h))
-    accepted-begun past (recalled c) j l h = absurd (true≠false (sym h))
+    pub accepted-begun : (past : History) {e : Entry} (j : Job) → Legal gives m past e → is_accepted j.name e ≡ true → begun past j ≡ true
+    accepted-begun past j (accepts k a i o q) h = out-begun past j.name (subst (λ n. is_out past n ≡ true) (sym ((same_job_decides j.name k.name).0 h)) o)
+    accepted-begun past j l h = absurd (true≠false (sym h))
 
-    pub ended-begun : (past : History) (e : Entry) (j : Job) → In j m.jobs → is_legal_after gives m past e ≡ true → is_ended_entry j.name e ≡ true → begun past j ≡ true
-    ended-begun past e j i l h =
+    pub ended-begun : (past : History) {e : Entry} (j : Job) → In j m.jobs → Legal gives m past e → is_ended_entry j.name e ≡ true → begun past j ≡ true
+    ended-begun past {e = e} j i l h =
         let c = (are-jobs gives AtLeastOne m [] w).has_name j i in
-        let o = ends-it gives AtLeastOne m w past e c.0 c.1 l (subst (λ n. is_ended_entry n e ≡ true) c.2 h) in
+        let o = ends-it gives AtLeastOne m w past c.0 c.1 l (subst (λ n. is_ended_entry n e ≡ true) c.2 h) in
         any_weaken (is_opened_entry j.name) (is_begun_entry j.name) (opened_begins j.name) past (subst (λ n. list_any (is_opened_entry n) past ≡ true) (sym c.2) (left_true (list_any (is_opened_entry (c.0 ∷ c.1)) past) (not (list_any (is_ended_entry (c.0 ∷ c.1)) past)) o))
 
     -- ---- where a job begins
 
     pub record Begins (past : History) (j : Job) : Type 0 where
-      pub quiet : can_settle_more gives m past ≡ false
+      pub quiet : can_settle_more m past ≡ false
       pub none_out : (x : Job) → In x m.jobs → is_out past x.name ≡ false
-      pub goes_on : may_go_on gives m past j ≡ true
-      pub first : (x : Job) → In x m.jobs → (is_offered gives m past x || can_open gives m past x) ≡ true → (x ≡ j) ⊎ Before j x m.jobs
+      pub goes_on : may_go_on m past j ≡ true
+      pub first : (x : Job) → In x m.jobs → (is_offered m past x || can_open m past x) ≡ true → (x ≡ j) ⊎ Before j x m.jobs
 
-    none-out_of : (past : History) → nobody_out gives m past ≡ true → (x : Job) → In x m.jobs → is_out past x.name ≡ false
-    none-out_of past h x i = not_true (is_out past x.name) (all_in (λ j. not (is_out past j.name)) m.jobs h x i)
+    none-out_of : (past : History) → nobody_out m past ≡ true → (x : Job) → In x m.jobs → is_out past x.name ≡ false
+    none-out_of past h x i = not-true (is_out past x.name) (all_in (λ j. not (is_out past j.name)) m.jobs h x i)
 
-    pub begins-first : (past : History) (e : Entry) (j : Job) → In j m.jobs → is_legal_after gives m past e ≡ true → is_by_one_after gives m past e ≡ true → is_begun_entry j.name e ≡ true → Begins past j
+    pub begins-first : (past : History) (e : Entry) (j : Job) → In j m.jobs → is_legal_after gives m past e ≡ true → is_by_one_after m past e ≡ true → is_begun_entry j.name e ≡ true → Begins past j
     begins-first past (handed_out n c t) j i l b h =
-        let two = left_true (not (can_settle_more gives m past) && option_map_or (λ j. is_at gives m j n) (find (λ j. is_offered gives m past j || can_open gives m past j) m.jobs) false) (nobody_out gives m past) b in
-        let f = found-first (λ j. is_offered gives m past j || can_open gives m past j) (λ j. is_at gives m j n) m.jobs (right_true (not (can_settle_more gives m past)) _ two) in
+        let two = left_true (not (can_settle_more m past) && option_map_or (λ j. is_at j n) (find (λ j. is_offered m past j || can_open m past j) m.jobs) false) (nobody_out m past) b in
+        let f = found-first (λ j. is_offered m past j || can_open m past j) (λ j. is_at j n) m.jobs (right_true (not (can_settle_more m past)) _ two) in
         let same = once f.0 j f.1 i (sym ((same_job_decides n f.0.name).0 f.3) ∙ sym ((same_job_decides j.name n).0 h)) in
-        record { quiet = not_true (can_settle_more gives m past) (left_true (not (can_settle_more gives m past)) _ two); none_out = none-out_of past (right_true (not (can_settle_more gives m past) && option_map_or (λ j. is_at gives m j n) (find (λ j. is_offered gives m past j || can_open gives m past j) m.jobs) false) (nobody_out gives m past) b); goes_on = begins gives m (all-sound gives AtLeastOne m [] w) (are-jobs gives AtLeastOne m [] w) past (handed_out n c t) j i l h; first = λ x k g. subst (λ y. (x ≡ y) ⊎ Before y x m.jobs) same (f.4 x k g) }
+        record { quiet = not-true (can_settle_more m past) (left_true (not (can_settle_more m past)) _ two); none_out = none-out_of past (right_true (not (can_settle_more m past) && option_map_or (λ j. is_at j n) (find (λ j. is_offered m past j || can_open m past j) m.jobs) false) (nobody_out m past) b); goes_on = begins gives m (all-sound gives AtLeastOne m [] w) (are-jobs gives AtLeastOne m [] w) past j i (legal-of gives m past (handed_out n c t) l) h; first = λ x k g. subst (λ y. (x ≡ y) ⊎ Before y x m.jobs) same (f.4 x k g) }
     begins-first past (opened n) j i l b h =
-        let f = found-first (λ j. is_offered gives m past j || can_open gives m past j) (λ j. is_at gives m j n && can_open gives m past j) m.jobs (right_true (not (can_settle_more gives m past)) _ l) in
-        let same = once f.0 j f.1 i (sym ((same_job_decides n f.0.name).0 (left_true (is_at gives m f.0 n) (can_open gives m past f.0) f.3)) ∙ sym ((same_job_decides j.name n).0 h)) in
-        record { quiet = not_true (can_settle_more gives m past) (left_true (not (can_settle_more gives m past)) _ l); none_out = none-out_of past b; goes_on = begins gives m (all-sound gives AtLeastOne m [] w) (are-jobs gives AtLeastOne m [] w) past (opened n) j i l h; first = λ x k g. subst (λ y. (x ≡ y) ⊎ Before y x m.jobs) same (f.4 x k g) }
-    begins-first past (accepted k c t r) j i l b h = absurd (true≠false (sym h))
-    begins-first past (bounced k) j i l b h = absurd (true≠false (sym h))
-    begins-first past (closed k c) j i l b h = absurd (true≠false (sym h))
-    begins-first past (fault_passed k) j i l b h = absurd (true≠false (sym h))
-    begins-first past (ended k) j i l b h = absurd (true≠false (sym h))
-    begins-first past (recalled c) j i l b h = absurd (true≠false (sym h))
+        let f = found-first (λ j. is_offered m past j || can_open m past j) (λ j. is_at j n && can_open m past j) m.jobs (right_true (not (can_settle_more m past)) _ l) in
+        let same = once f.0 j f.1 i (sym ((same_job_decides n f.0.name).0 (left_true (is_at f.0 n) (can_open m past f.0) f.3)) ∙ sym ((same_job_decides j.name n).0 h)) in
+        record { quiet = not-true (can_settle_more m past) (left_true (not (can_settle_more m past)) _ l); none_out = none-out_of past b; goes_on = begins gives m (all-sound gives AtLeastOne m [] w) (are-jobs gives AtLeastOne m [] w) past j i (legal-of gives m past (opened n) l) h; first = λ x k g. subst (λ y. (x ≡ y) ⊎ Before y x m.jobs) same (f.4 x k g) }
+    begins-first past e j i l b h = absurd (true≠false (sym h))
 
     -- ---- what runs
 
-    run-parts : (past : History) (j : Job) → is_running gives m past j ≡ true → (begun past j ≡ true) × (is_settled gives m past j ≡ false)
-    run-parts past j h = (left_true (begun past j) (not (is_settled gives m past j)) h, not_true (is_settled gives m past j) (right_true (begun past j) (not (is_settled gives m past j)) h))
+    run-parts : (past : History) (j : Job) → is_running past j ≡ true → (begun past j ≡ true) × (is_settled past j ≡ false)
+    run-parts past j h = (left_true (begun past j) (not (is_settled past j)) h, not-true (is_settled past j) (right_true (begun past j) (not (is_settled past j)) h))
 
-    make-run : (past : History) (j : Job) → begun past j ≡ true → is_settled gives m past j ≡ false → is_running gives m past j ≡ true
-    make-run past j b s = both_true (begun past j) (not (is_settled gives m past j)) b (ap not s)
+    make-run : (past : History) (j : Job) → begun past j ≡ true → is_settled past j ≡ false → is_running past j ≡ true
+    make-run past j b s = both_true (begun past j) (not (is_settled past j)) b (ap not s)
 
-    module _ (past : History) (e : Entry) (legal : is_legal gives m past ≡ true) (after : is_legal_after gives m past e ≡ true) (mine : is_by_one_after gives m past e ≡ true) (one : OneRuns past) (wait : OthersWait past) where
-      ran-before : (j : Job) → is_running gives m (e ∷ past) j ≡ true → (is_running gives m past j ≡ true) ⊎ (is_begun_entry j.name e ≡ true)
+    module _ (past : History) (e : Entry) (legal : is_legal gives m past ≡ true) (after : is_legal_after gives m past e ≡ true) (mine : is_by_one_after m past e ≡ true) (one : OneRuns past) (wait : OthersWait past) where
+      ran-before : (j : Job) → is_running (e ∷ past) j ≡ true → (is_running past j ≡ true) ⊎ (is_begun_entry j.name e ≡ true)
       ran-before j h =
-          let r = run-parts (e ∷ past) j h in by (true_of (is_begun_entry j.name e) (begun past j) r.0) (unsettled-before past e j r.1)
-        where
-          by : (is_begun_entry j.name e ≡ true) ⊎ (begun past j ≡ true) → is_settled gives m past j ≡ false → (is_running gives m past j ≡ true) ⊎ (is_begun_entry j.name e ≡ true)
-          by (inl b) s = inr b
-          by (inr b) s = inl (make-run past j b s)
+          let r = run-parts (e ∷ past) j h in (on_or (is_begun_entry j.name e) (begun past j) r.0 (λ b. inr b) (λ b. inl (make-run past j b (unsettled-before past e j r.1))))
 
       -- a job of the instance of a running one doesn't begin
-      clash : (j k : Job) → In j m.jobs → In k m.jobs → j.instance ≡ k.instance → is_begun_entry j.name e ≡ true → is_settled gives m past j ≡ false → is_running gives m past k ≡ true → j ≡ k
+      clash : (j k : Job) → In j m.jobs → In k m.jobs → j.instance ≡ k.instance → is_begun_entry j.name e ≡ true → is_settled past j ≡ false → is_running past k ≡ true → j ≡ k
       clash j k i h s b u r =
           let f = begins-first past e j i after mine b in
           let x = running-within gives m w past legal f.none_out f.quiet k h r in
           by f x.0 x.1 x.2.0 x.2.1 (f.first x.0 x.1 x.3)
         where
           same_length : (x : JobName) → j.name ≡ k.name ++ x → j ≡ k
-          same_length x p = once j k i h (p ∙ ap (λ y. k.name ++ y) (empty x (sums (length j.name) (length k.name) (length x) (length j.instance) (length k.instance) (ap length ((w.jobs j i).named) ∙ length-append j.instance ((w.jobs j i).key ∷ [])) (ap length ((w.jobs k h).named) ∙ length-append k.instance ((w.jobs k h).key ∷ [])) (ap length s) (ap length p ∙ length-append k.name x))) ∙ append-nil k.name)
-            where
-              sums : (a c n u v : ℕ) → a ≡ u + 1 → c ≡ v + 1 → u ≡ v → a ≡ c + n → n ≡ 0
-              sums a c n u v p q r t = omega arith
-
-              empty : (x : JobName) → length x ≡ 0 → x ≡ []
-              empty [] p = refl
-              empty (y ∷ x) p = absurd (none (length x) p)
-                where
-                  none : (n : ℕ) → suc n ≡ 0 → ⊥
-                  none n q = omega arith
+          same_length x p = once j k i h (p ∙ ap (λ y. k.name ++ y) (nil_from_length x (omega (arith, ap length ((w.jobs j i).named) ∙ length-append j.instance ((w.jobs j i).key ∷ []), ap length ((w.jobs k h).named) ∙ length-append k.instance ((w.jobs k h).key ∷ []), ap length s, ap length p ∙ length-append k.name x))) ∙ append-nil k.name)
 
           waiting : Begins past j → Before j k m.jobs → (c : Bool) → begun past j ≡ c → j ≡ k
           waiting f q true c = one j k i h s (make-run past j c u) r
-          waiting f q false c = cases (going_on gives m (all-sound gives AtLeastOne m [] w) (are-jobs gives AtLeastOne m [] w) past j f.goes_on)
-            where
-              cases : (is_idle gives m past j ≡ true) ⊎ (is_ready gives m past j ≡ true) → j ≡ k
-              cases (inl y) = absurd (true≠false (sym (idle_begun gives m (all-sound gives AtLeastOne m [] w) (are-jobs gives AtLeastOne m [] w) past j y).0 ∙ c))
-              cases (inr y) = absurd (true≠false (sym (ready-needs gives m (all-sound gives AtLeastOne m [] w) (are-jobs gives AtLeastOne m [] w) past j i legal y) ∙ wait k j h i s r u c (inr q)))
+          waiting f q false c = on_either (going_on gives m (all-sound gives AtLeastOne m [] w) (are-jobs gives AtLeastOne m [] w) past j f.goes_on) (λ y. absurd (true≠false (sym (idle_begun gives m (all-sound gives AtLeastOne m [] w) (are-jobs gives AtLeastOne m [] w) past j y).0 ∙ c))) (λ y. absurd (true≠false (sym (ready-needs gives m (all-sound gives AtLeastOne m [] w) (are-jobs gives AtLeastOne m [] w) past j i legal y) ∙ wait k j h i s r u c (inr q))))
 
           by : Begins past j → (x : Job) → In x m.jobs → (n : JobName) → x.name ≡ k.name ++ n → (x ≡ j) ⊎ Before j x m.jobs → j ≡ k
           by f x y n p (inl q) = same_length n (ap (λ (z : Job). z.name) (sym q) ∙ p)
@@ -262,10 +227,10 @@ module _ (gives : Giving) (m : Meaning) where
               order (inr (inl z)) = waiting f z (begun past j) refl
               order (inr (inr z)) = absurd (not-both (λ (v : Job). v.name) m.jobs w.jobs_apart j x q (laid k j x z (sym s) y n p))
 
-      one-after : OneRuns (e ∷ past)
+      pub one-after : OneRuns (e ∷ past)
       one-after j k i h s r u = by (ran-before j r) (ran-before k u)
         where
-          by : (is_running gives m past j ≡ true) ⊎ (is_begun_entry j.name e ≡ true) → (is_running gives m past k ≡ true) ⊎ (is_begun_entry k.name e ≡ true) → j ≡ k
+          by : (is_running past j ≡ true) ⊎ (is_begun_entry j.name e ≡ true) → (is_running past k ≡ true) ⊎ (is_begun_entry k.name e ≡ true) → j ≡ k
           by (inl a) (inl b) = one j k i h s a b
           by (inr a) (inl b) = clash j k i h s a (unsettled-before past e j (run-parts (e ∷ past) j r).1) b
           by (inl a) (inr b) = sym (clash k j h i (sym s) b (unsettled-before past e k (run-parts (e ∷ past) k u).1) a)
@@ -274,45 +239,40 @@ module _ (gives : Giving) (m : Meaning) where
               same_entry : (e : Entry) → is_begun_entry j.name e ≡ true → is_begun_entry k.name e ≡ true → j ≡ k
               same_entry (handed_out n c t) a b = once j k i h ((same_job_decides j.name n).0 a ∙ sym ((same_job_decides k.name n).0 b))
               same_entry (opened n) a b = once j k i h ((same_job_decides j.name n).0 a ∙ sym ((same_job_decides k.name n).0 b))
-              same_entry (accepted n c t q) a b = absurd (true≠false (sym a))
-              same_entry (bounced n) a b = absurd (true≠false (sym a))
-              same_entry (closed n c) a b = absurd (true≠false (sym a))
-              same_entry (fault_passed n) a b = absurd (true≠false (sym a))
-              same_entry (ended n) a b = absurd (true≠false (sym a))
-              same_entry (recalled n) a b = absurd (true≠false (sym a))
+              same_entry e a b = absurd (true≠false (sym a))
 
       -- while a job runs on, no other of its instance settles
-      pub others-stay : (c z : Job) → In c m.jobs → In z m.jobs → z.instance ≡ c.instance → is_running gives m past c ≡ true → is_settled gives m (e ∷ past) c ≡ false → is_settled gives m past z ≡ false → is_settled gives m (e ∷ past) z ≡ true → ⊥
+      pub others-stay : (c z : Job) → In c m.jobs → In z m.jobs → z.instance ≡ c.instance → is_running past c ≡ true → is_settled (e ∷ past) c ≡ false → is_settled past z ≡ false → is_settled (e ∷ past) z ≡ true → ⊥
       others-stay c z i h s r u f t = by (newly-settled past e z f t)
         where
           is_c : begun past z ≡ true → ⊥
-          is_c b = true≠false (sym (subst (λ x. is_settled gives m (e ∷ past) x ≡ true) (one z c h i s (make-run past z b f) r) t) ∙ u)
+          is_c b = true≠false (sym (subst (λ x. is_settled (e ∷ past) x ≡ true) (one z c h i s (make-run past z b f) r) t) ∙ u)
 
           by : (is_bounced_entry z.name e ≡ true) ⊎ ((is_accepted z.name e ≡ true) ⊎ (is_ended_entry z.name e ≡ true)) → ⊥
           by (inl x) =
-              let b = bounces-it gives AtLeastOne m w past e z h after x in
-              let q = left_true (is_ready gives m past z) (is_bounced z.ending) b in
-              true≠false (sym (ready-needs gives m (all-sound gives AtLeastOne m [] w) (are-jobs gives AtLeastOne m [] w) past z h legal q) ∙ wait c z i h s r f (ready-parts gives AtLeastOne m w past z q) (inl (right_true (is_ready gives m past z) (is_bounced z.ending) b)))
-          by (inr (inl x)) = is_c (accepted-begun past e z after x)
-          by (inr (inr x)) = is_c (ended-begun past e z h after x)
+              let b = bounces-it gives AtLeastOne m w past z h (legal-of gives m past e after) x in
+              let q = left_true (is_ready m past z) (is_bounced z.ending) b in
+              true≠false (sym (ready-needs gives m (all-sound gives AtLeastOne m [] w) (are-jobs gives AtLeastOne m [] w) past z h legal q) ∙ wait c z i h s r f (ready-parts gives AtLeastOne m w past z q) (inl (right_true (is_ready m past z) (is_bounced z.ending) b)))
+          by (inr (inl x)) = is_c (accepted-begun past z (legal-of gives m past e after) x)
+          by (inr (inr x)) = is_c (ended-begun past z h (legal-of gives m past e after) x)
 
       -- what isn't settled of a job's needs isn't settled by this entry
-      needs-kept : (y : Job) → In y m.jobs → ((z : Job) → In z m.jobs → z.instance ≡ y.instance → is_settled gives m past z ≡ false → is_settled gives m (e ∷ past) z ≡ true → ⊥) → NeedsSettled past y ≡ false → NeedsSettled (e ∷ past) y ≡ false
+      needs-kept : (y : Job) → In y m.jobs → ((z : Job) → In z m.jobs → z.instance ≡ y.instance → is_settled past z ≡ false → is_settled (e ∷ past) z ≡ true → ⊥) → NeedsSettled past y ≡ false → NeedsSettled (e ∷ past) y ≡ false
       needs-kept y h stay f =
-          let n = fails_in (is_settled_name gives m past) (job_needs y) f in
+          let n = fails_in (is_settled_name m past) (job_needs y) f in
           let z = each_in (NeedIn y.instance) (job_needs y) (job-needs-in y h) n.0 n.1 in
-          all-fails (is_settled_name gives m (e ∷ past)) n.0 (job_needs y) n.1 (by n.0 z.0 z.1 z.2 z.3 n.2 (is_settled_name gives m (e ∷ past) n.0) refl)
+          all-fails (is_settled_name m (e ∷ past)) n.0 (job_needs y) n.1 (by n.0 z.0 z.1 z.2 z.3 n.2 (is_settled_name m (e ∷ past) n.0) refl)
         where
-          before : (n : JobName) (z : Job) → In z m.jobs → z.name ≡ n → is_settled_name gives m past n ≡ false → (b : Bool) → is_settled gives m past z ≡ b → is_settled gives m past z ≡ false
+          before : (n : JobName) (z : Job) → In z m.jobs → z.name ≡ n → is_settled_name m past n ≡ false → (b : Bool) → is_settled past z ≡ b → is_settled past z ≡ false
           before n z i q g false p = p
-          before n z i q g true p = absurd (true≠false (sym (subst (λ x. is_settled_name gives m past x ≡ true) q (settled-name gives AtLeastOne m w past z i p)) ∙ g))
+          before n z i q g true p = absurd (true≠false (sym (subst (λ x. is_settled_name m past x ≡ true) q (settled-name gives AtLeastOne m w past z i p)) ∙ g))
 
-          by : (n : JobName) (z : Job) → In z m.jobs → z.name ≡ n → z.instance ≡ y.instance → is_settled_name gives m past n ≡ false → (b : Bool) → is_settled_name gives m (e ∷ past) n ≡ b → is_settled_name gives m (e ∷ past) n ≡ false
+          by : (n : JobName) (z : Job) → In z m.jobs → z.name ≡ n → z.instance ≡ y.instance → is_settled_name m past n ≡ false → (b : Bool) → is_settled_name m (e ∷ past) n ≡ b → is_settled_name m (e ∷ past) n ≡ false
           by n z i q s g false p = p
           by n z i q s g true p =
-              absurd (stay z i s (before n z i q g (is_settled gives m past z) refl) (settled_of_name gives m (all-sound gives AtLeastOne m [] w) (are-jobs gives AtLeastOne m [] w) (e ∷ past) z i (subst (λ x. is_settled_name gives m (e ∷ past) x ≡ true) (sym q) p)))
+              absurd (stay z i s (before n z i q g (is_settled past z) refl) (settled_of_name gives m (all-sound gives AtLeastOne m [] w) (are-jobs gives AtLeastOne m [] w) (e ∷ past) z i (subst (λ x. is_settled_name m (e ∷ past) x ≡ true) (sym q) p)))
 
-      pub none-settles : (c z : Job) → is_begun_entry c.name e ≡ true → is_settled gives m past z ≡ false → is_settled gives m (e ∷ past) z ≡ true → ⊥
+      pub none-settles : (c z : Job) → is_begun_entry c.name e ≡ true → is_settled past z ≡ false → is_settled (e ∷ past) z ≡ true → ⊥
       none-settles c z b f t = by e b (newly-settled past e z f t)
         where
           by : (x : Entry) → is_begun_entry c.name x ≡ true → (is_bounced_entry z.name x ≡ true) ⊎ ((is_accepted z.name x ≡ true) ⊎ (is_ended_entry z.name x ≡ true)) → ⊥
@@ -330,77 +290,61 @@ module _ (gives : Giving) (m : Meaning) where
           by (recalled n) q p = true≠false (sym q)
 
       -- at the moment in which a job begins, the others wait
-      wait-now : (c y : Job) → In c m.jobs → In y m.jobs → y.instance ≡ c.instance → is_begun_entry c.name e ≡ true → is_running gives m past c ≡ false → is_settled gives m (e ∷ past) c ≡ false → is_settled gives m past y ≡ false → begun past y ≡ false → is_begun_entry y.name e ≡ false → (is_bounced y.ending ≡ true) ⊎ Before y c m.jobs → (b : Bool) → NeedsSettled past y ≡ b → NeedsSettled past y ≡ false
+      wait-now : (c y : Job) → In c m.jobs → In y m.jobs → y.instance ≡ c.instance → is_begun_entry c.name e ≡ true → is_running past c ≡ false → is_settled (e ∷ past) c ≡ false → is_settled past y ≡ false → begun past y ≡ false → is_begun_entry y.name e ≡ false → (is_bounced y.ending ≡ true) ⊎ Before y c m.jobs → (b : Bool) → NeedsSettled past y ≡ b → NeedsSettled past y ≡ false
       wait-now c y i h s b r cs u ny ne o false g = g
       wait-now c y i h s b r cs u ny ne o true g = by (is_bounced y.ending) refl o
         where
           f : Begins past c
           f = begins-first past e c i after mine b
 
-          ready_c : (is_idle gives m past c ≡ true) ⊎ (is_ready gives m past c ≡ true) → is_ready gives m past c ≡ true
-          ready_c (inr q) = q
-          ready_c (inl q) = let p = idle_begun gives m (all-sound gives AtLeastOne m [] w) (are-jobs gives AtLeastOne m [] w) past c q in absurd (true≠false (sym (make-run past c p.0 p.1) ∙ r))
-
-          open_c : is_open gives m past c.instance ≡ true
+          open_c : is_open past c.instance ≡ true
           open_c =
-              let q = ready_c (going_on gives m (all-sound gives AtLeastOne m [] w) (are-jobs gives AtLeastOne m [] w) past c f.goes_on) in
-              left_true (is_open gives m past c.instance) (not (is_running gives m past c)) (left_true (is_open gives m past c.instance && not (is_running gives m past c)) (not (is_settled gives m past c)) (left_true (is_open gives m past c.instance && not (is_running gives m past c) && not (is_settled gives m past c)) (all_known gives m past c.waits) q))
+              let q = on_either (going_on gives m (all-sound gives AtLeastOne m [] w) (are-jobs gives AtLeastOne m [] w) past c f.goes_on) (λ q. let p = idle_begun gives m (all-sound gives AtLeastOne m [] w) (are-jobs gives AtLeastOne m [] w) past c q in absurd (true≠false (sym (make-run past c p.0 p.1) ∙ r))) (λ q. q) in
+              left_true (is_open past c.instance) (not (is_running past c)) (left_true (is_open past c.instance && not (is_running past c)) (not (is_settled past c)) (left_true (is_open past c.instance && not (is_running past c) && not (is_settled past c)) (all_known m past c.waits) q))
 
-          open_y : is_open gives m past y.instance ≡ true
-          open_y = subst (λ n. is_open gives m past n ≡ true) (sym s) open_c
+          open_y : is_open past y.instance ≡ true
+          open_y = subst (λ n. is_open past n ≡ true) (sym s) open_c
 
-          ready_y : is_ready gives m past y ≡ true
+          ready_y : is_ready m past y ≡ true
           ready_y =
-              both_true (is_open gives m past y.instance && not (is_running gives m past y) && not (is_settled gives m past y)) (all_known gives m past y.waits)
-              (both_true (is_open gives m past y.instance && not (is_running gives m past y)) (not (is_settled gives m past y)) (both_true (is_open gives m past y.instance) (not (is_running gives m past y)) open_y (ap (λ x. not (x && not (is_settled gives m past y))) ny)) (ap not u))
+              both_true (is_open past y.instance && not (is_running past y) && not (is_settled past y)) (all_known m past y.waits)
+              (both_true (is_open past y.instance && not (is_running past y)) (not (is_settled past y)) (both_true (is_open past y.instance) (not (is_running past y)) open_y (ap (λ x. not (x && not (is_settled past y))) ny)) (ap not u))
               (waits-known gives AtLeastOne m [] w past f.quiet legal y h open_y ∙ g)
 
-          offered_y : is_bounced y.ending ≡ false → (b : Bool) → has_place gives m past y ≡ b → Before y c m.jobs → NeedsSettled past y ≡ false
-          offered_y nb true p q = cases (f.first y h (goes gives m w past legal f.none_out f.quiet y u nb (or_right (is_idle gives m past y) (is_ready gives m past y && not (is_bounced y.ending) && has_place gives m past y) (both_true (is_ready gives m past y && not (is_bounced y.ending)) (has_place gives m past y) (both_true (is_ready gives m past y) (not (is_bounced y.ending)) ready_y (ap not nb)) p))))
-            where
-              cases : (y ≡ c) ⊎ Before c y m.jobs → NeedsSettled past y ≡ false
-              cases (inl t) = absurd (true≠false (sym (subst (λ x. is_begun_entry x.name e ≡ true) (sym t) b) ∙ ne))
-              cases (inr t) = absurd (not-both (λ (v : Job). v.name) m.jobs w.jobs_apart y c q t)
+          offered_y : is_bounced y.ending ≡ false → (b : Bool) → has_place m past y ≡ b → Before y c m.jobs → NeedsSettled past y ≡ false
+          offered_y nb true p q = on_either (f.first y h (goes gives m w past legal f.quiet y u nb (or_right (is_idle past y) (is_ready m past y && not (is_bounced y.ending) && has_place m past y) (both_true (is_ready m past y && not (is_bounced y.ending)) (has_place m past y) (both_true (is_ready m past y) (not (is_bounced y.ending)) ready_y (ap not nb)) p)))) (λ t. absurd (true≠false (sym (subst (λ x. is_begun_entry x.name e ≡ true) (sym t) b) ∙ ne))) (λ t. absurd (not-both (λ (v : Job). v.name) m.jobs w.jobs_apart y c q t))
           offered_y nb false p q =
-              let z = full (λ k. same_job k.instance y.instance && same_name k.step y.step && is_running gives m past k) m.jobs y.limit (w.jobs y h).limit p in
-              let zr = right_true (same_job z.0.instance y.instance && same_name z.0.step y.step) (is_running gives m past z.0) z.2 in
-              let zs = (same_job_decides z.0.instance y.instance).0 (left_true (same_job z.0.instance y.instance) (same_name z.0.step y.step) (left_true (same_job z.0.instance y.instance && same_name z.0.step y.step) (is_running gives m past z.0) z.2)) in
-              absurd (true≠false (sym (subst (λ x. is_running gives m past x ≡ true) (sym (clash c z.0 i z.1 (sym s ∙ sym zs) b (unsettled-before past e c cs) zr)) zr) ∙ r))
+              let z = full (λ k. same_job k.instance y.instance && same_name k.step y.step && is_running past k) m.jobs y.limit (w.jobs y h).limit p in
+              let zr = right_true (same_job z.0.instance y.instance && same_name z.0.step y.step) (is_running past z.0) z.2 in
+              let zs = (same_job_decides z.0.instance y.instance).0 (left_true (same_job z.0.instance y.instance) (same_name z.0.step y.step) (left_true (same_job z.0.instance y.instance && same_name z.0.step y.step) (is_running past z.0) z.2)) in
+              absurd (true≠false (sym (subst (λ x. is_running past x ≡ true) (sym (clash c z.0 i z.1 (sym s ∙ sym zs) b (unsettled-before past e c cs) zr)) zr) ∙ r))
 
           by : (c2 : Bool) → is_bounced y.ending ≡ c2 → (is_bounced y.ending ≡ true) ⊎ Before y c m.jobs → NeedsSettled past y ≡ false
-          by true nb q = absurd (true≠false (sym (both_true (is_ready gives m past y) (is_bounced y.ending) ready_y nb) ∙ no-bounce gives AtLeastOne m [] w past f.quiet y h))
+          by true nb q = absurd (true≠false (sym (both_true (is_ready m past y) (is_bounced y.ending) ready_y nb) ∙ no-bounce gives AtLeastOne m [] w past f.quiet y h))
           by false nb (inl q) = absurd (true≠false (sym q ∙ nb))
-          by false nb (inr q) = offered_y nb (has_place gives m past y) refl q
+          by false nb (inr q) = offered_y nb (has_place m past y) refl q
 
-      wait-after : OthersWait (e ∷ past)
+      pub wait-after : OthersWait (e ∷ past)
       wait-after c y i h s r u b o =
-          by (is_running gives m past c) refl (ran-before c r)
+          by (is_running past c) refl (ran-before c r)
         where
-          false-left : (a b : Bool) → (a || b) ≡ false → a ≡ false
-          false-left true b q = q
-          false-left false b q = refl
-
-          false-right : (a b : Bool) → (a || b) ≡ false → b ≡ false
-          false-right true b q = absurd (true≠false q)
-          false-right false b q = q
-
-          u0 : is_settled gives m past y ≡ false
+          u0 : is_settled past y ≡ false
           u0 = unsettled-before past e y u
 
           b0 : begun past y ≡ false
-          b0 = false-right (is_begun_entry y.name e) (begun past y) b
+          b0 = (or_parts (is_begun_entry y.name e) (begun past y) b).1
 
-          by : (t : Bool) → is_running gives m past c ≡ t → (is_running gives m past c ≡ true) ⊎ (is_begun_entry c.name e ≡ true) → NeedsSettled (e ∷ past) y ≡ false
+          by : (t : Bool) → is_running past c ≡ t → (is_running past c ≡ true) ⊎ (is_begun_entry c.name e ≡ true) → NeedsSettled (e ∷ past) y ≡ false
           by true q p = needs-kept y h (λ z k v f t. others-stay c z i k (v ∙ s) q (run-parts (e ∷ past) c r).1 f t) (wait c y i h s q u0 b0 o)
           by false q (inl p) = absurd (true≠false (sym p ∙ q))
-          by false q (inr p) = needs-kept y h (λ z k v f t. none-settles c z p f t) (wait-now c y i h s p q (run-parts (e ∷ past) c r).1 u0 b0 (false-left (is_begun_entry y.name e) (begun past y) b) o (NeedsSettled past y) refl)
+          by false q (inr p) = needs-kept y h (λ z k v f t. none-settles c z p f t) (wait-now c y i h s p q (run-parts (e ∷ past) c r).1 u0 b0 (or_parts (is_begun_entry y.name e) (begun past y) b).0 o (NeedsSettled past y) refl)
 
     -- in a legal history of one worker at most one job of an instance runs, and the others wait
-    pub one-worker : (past : History) → is_legal gives m past ≡ true → is_by_one gives m past ≡ true → OneRuns past × OthersWait past
+    pub one-worker : (past : History) → is_legal gives m past ≡ true → is_by_one m past ≡ true → OneRuns past × OthersWait past
     one-worker [] l b = (λ j k i h s r u. absurd (true≠false (sym r)), λ c y i h s r u n o. absurd (true≠false (sym r)))
     one-worker (e ∷ past) l b =
         let legal = left_true (is_legal gives m past) (is_legal_after gives m past e) l in
         let after = right_true (is_legal gives m past) (is_legal_after gives m past e) l in
-        let mine = right_true (is_by_one gives m past) (is_by_one_after gives m past e) b in
-        let r = one-worker past legal (left_true (is_by_one gives m past) (is_by_one_after gives m past e) b) in
+        let mine = right_true (is_by_one m past) (is_by_one_after m past e) b in
+        let r = one-worker past legal (left_true (is_by_one m past) (is_by_one_after m past e) b) in
         (one-after past e legal after mine r.0 r.1, wait-after past e legal after mine r.0 r.1)

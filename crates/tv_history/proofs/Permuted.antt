@@ -10,20 +10,21 @@ use Rattle.tv_gate.specs.Outcomes.{Giving}
 use Rattle.tv_dispatch.specs.Jobs.{Ask}
 use Rattle.tv_model.specs.Jobs.{Job}
 use Rattle.tv_model.specs.Made.{Meaning}
-use Rattle.tv_model.specs.Meanings.{meaning, most_nesting}
-use Rattle.tv_history.specs.Entries.{Entry, handed_out, accepted, bounced, closed, fault_passed, opened, ended, recalled, History}
+use Rattle.tv_model.specs.Meanings.{meaning, nesting_limit}
+use Rattle.tv_history.specs.Entries.{Entry, accepted, ended, History}
 use Rattle.tv_history.specs.Histories.{is_settled, is_legal, is_legal_after, is_done}
 use Rattle.tv_model.proofs.Tests.{true≠false, left_true, same_job_decides}
 use Rattle.tv_model.proofs.Turns.{In, front}
-use Rattle.tv_model.proofs.Fed.{each-all}
 use Rattle.tv_model.proofs.Members.{Apart}
-use Rattle.tv_model.proofs.Whole.{IsWhole, StepsHave}
-use Rattle.tv_history.proofs.Ready.{AnyNumber, meaning-whole}
+use Rattle.tv_model.proofs.Whole.{IsWhole}
+use Rattle.tv_history.proofs.Ready.{AnyNumber, document-whole}
 use Rattle.tv_history.proofs.Done.{TryKey, key_of, try_of, tries_of, all-settled, settled-tries}
 use Rattle.tv_history.proofs.Sums.{accepted-owned}
 pub use Rattle.tv_history.specs.Tries.{NamedTry, entry_try, all_tries, ask_try}
-pub use Rattle.tv_model.specs.Asked.{asks_of, IsOrdered}
+pub use Rattle.tv_model.specs.Asked.{IsOrdered}
+pub use Rattle.tv_model.specs.Turns.{asks_of}
 use Rattle.tv_model.proofs.Ordered.{flow-ordered}
+use Rattle.tv_model.specs.Turns.{ask_order}
 
 -- ---- the accepted tries of a history
 
@@ -73,13 +74,7 @@ one-owner k t (i ∷ js) a j (inr h) e = by (same_job i.name k) refl (one-owner 
 module _ (gives : Giving) (D : ℕ → Type 0) (m : Meaning) (w : IsWhole gives D m []) where
   entry-owner : (past : History) → is_legal gives m past ≡ true → (e : Entry) → In e past → flat_map (λ (j : Job). with_name j.name (try_of j.name e)) m.jobs ≡ entry_try e
   entry-owner past l (accepted k c t r) h = let o = accepted-owned gives D m w past l (accepted k c t r) h k refl in one-owner k (c, t, r) m.jobs w.jobs_apart o.0 o.1 o.2
-  entry-owner past l (handed_out k c t) h = flat-none (λ (j : Job). []) m.jobs (λ j i. refl)
-  entry-owner past l (bounced k) h = flat-none (λ (j : Job). []) m.jobs (λ j i. refl)
-  entry-owner past l (closed k c) h = flat-none (λ (j : Job). []) m.jobs (λ j i. refl)
-  entry-owner past l (fault_passed k) h = flat-none (λ (j : Job). []) m.jobs (λ j i. refl)
-  entry-owner past l (opened k) h = flat-none (λ (j : Job). []) m.jobs (λ j i. refl)
-  entry-owner past l (ended k) h = flat-none (λ (j : Job). []) m.jobs (λ j i. refl)
-  entry-owner past l (recalled c) h = flat-none (λ (j : Job). []) m.jobs (λ j i. refl)
+  entry-owner past l e h = flat-none (λ (j : Job). []) m.jobs (λ j i. refl)
 
   -- a history's accepted tries are those of its jobs
   pub tries-parted : (past : History) → is_legal gives m past ≡ true → IsPermutation (flat_map (λ (j : Job). with_name j.name (tries_of j.name past)) m.jobs) (all_tries past)
@@ -97,14 +92,14 @@ module _ (gives : Giving) (D : ℕ → Type 0) (m : Meaning) (w : IsWhole gives 
       twice [] = refl
       twice (a ∷ as') = ap (λ l. (j.name, key_of gives a) ∷ l) (twice as')
 
-  pub settled-permuted : IsOrdered m [] → (past : History) → is_legal gives m past ≡ true → ((j : Job) → In j m.jobs → is_settled gives m past j ≡ true) → IsPermutation (all_tries past) (map (ask_try gives) m.order)
+  pub settled-permuted : IsOrdered m [] → (past : History) → is_legal gives m past ≡ true → ((j : Job) → In j m.jobs → is_settled past j ≡ true) → IsPermutation (all_tries past) (map (ask_try gives) (ask_order m))
   settled-permuted o past l s =
       IsPermutation-trans _ _ _ (IsPermutation-sym _ _ (tries-parted past l))
-      (subst (λ x. IsPermutation x (map (ask_try gives) m.order)) (sym (flat-same (λ (j : Job). with_name j.name (tries_of j.name past)) (λ (j : Job). with_name j.name (map (key_of gives) j.asks)) m.jobs (λ j i. ap (with_name j.name) (settled-tries gives D m w past l j i (s j i))) ∙ map-flat m.jobs)) (IsPermutation-map (ask_try gives) (flat_map asks_of m.jobs) m.order (IsPermutation-sym m.order (flat_map asks_of m.jobs) o)))
+      (subst (λ x. IsPermutation x (map (ask_try gives) (ask_order m))) (sym (flat-same (λ (j : Job). with_name j.name (tries_of j.name past)) (λ (j : Job). with_name j.name (map (key_of gives) j.asks)) m.jobs (λ j i. ap (with_name j.name) (settled-tries gives D m w past l j i (s j i))) ∙ map-flat m.jobs)) (IsPermutation-map (ask_try gives) (flat_map asks_of m.jobs) (ask_order m) (IsPermutation-sym (ask_order m) (flat_map asks_of m.jobs) o)))
 
 -- in a legal history in which the main instance has ended, the accepted tries are those of the stated order, each as often
-pub done-permuted : (gives : Giving) (d : Document) (past : History) → is_legal gives (meaning gives d) past ≡ true → is_done gives (meaning gives d) past ≡ true → IsPermutation (all_tries past) (map (ask_try gives) (meaning gives d).order)
+pub done-permuted : (gives : Giving) (d : Document) (past : History) → is_legal gives (meaning gives d) past ≡ true → is_done past ≡ true → IsPermutation (all_tries past) (map (ask_try gives) (ask_order (meaning gives d)))
 done-permuted gives d past l h =
     let m = meaning gives d in
-    let w = meaning-whole gives AnyNumber d (each-all (λ f. StepsHave gives AnyNumber f.1) (λ f. each-all (λ s. Unit {0}) (λ s. tt) f.1.steps) d.flows) in
-    settled-permuted gives AnyNumber m w (flow-ordered gives d.flows most_nesting d.main [] d.inputs) past l (all-settled gives AnyNumber m w past l h)
+    let w = document-whole gives d in
+    settled-permuted gives AnyNumber m w (flow-ordered gives d.flows nesting_limit d.main [] d.inputs) past l (all-settled gives AnyNumber m w past l h)

@@ -4,6 +4,8 @@ use Rattle.std.specs.List.{list_any}
 use Rattle.std.specs.Option.{option_map_or}
 use Rattle.std.proofs.Common.{arith, sym, ap, subst, ◌∙◌, inl, inr, append_assoc, append-nil, length-append}
 use Rattle.std.proofs.lemmas.List.{map-append}
+use Rattle.tv_history.proofs.Legal.{legal-of}
+use Rattle.tv_lemmas.proofs.Cases.{on_test, on_either}
 use Rattle.tv_value.specs.Values.{Name, JobName, Value}
 use Rattle.tv_value.specs.Orders.{same_job}
 use Rattle.tv_flow.specs.Flows.{Flow}
@@ -12,17 +14,18 @@ use Rattle.tv_dispatch.specs.Jobs.{Ask}
 use Rattle.tv_model.specs.Jobs.{Job}
 use Rattle.tv_model.specs.Made.{Meaning, Opened, Made}
 use Rattle.tv_model.specs.Meanings.{jobs_with_inside, instance_meaning, no_meaning, flow_meaning}
-use Rattle.tv_model.specs.Turns.{is_bounced}
+use Rattle.tv_model.specs.Turns.{is_bounced, ask_order}
 use Rattle.tv_depths.specs.Ranks.{ranked}
-use Rattle.tv_history.specs.Entries.{Entry, handed_out, accepted, bounced, closed, fault_passed, opened, ended, recalled, History, is_opened_entry, is_begun_entry}
+use Rattle.tv_history.specs.Entries.{Entry, accepted, opened, History, is_opened_entry, is_begun_entry}
 use Rattle.tv_model.specs.Lists.{first_of_list}
 use Rattle.tv_history.specs.Histories.{asks_left, is_settled, is_legal, is_legal_after}
 use Rattle.tv_model.proofs.Tests.{Each, true≠false, left_true, right_true, same_job_decides}
 use Rattle.tv_model.proofs.Turns.{In}
 use Rattle.tv_model.proofs.Order.{some_in, all_rated}
+use Rattle.tv_model.proofs.ReadOff.{IsReadOff, flow-read, instance-order}
 use Rattle.tv_model.proofs.Fed.{named_map_or}
 use Rattle.tv_model.proofs.Earlier.{job_list}
-use Rattle.tv_history.proofs.Running.{any_weaken, opened_begins}
+use Rattle.tv_history.proofs.Running.{opened_begins}
 use Rattle.tv_model.proofs.Members.{in-flat}
 use Rattle.tv_model.proofs.Kept.{InsideIs}
 use Rattle.tv_model.proofs.Formed.{AreFormed, own-apart, steps-formed, none-formed}
@@ -36,6 +39,7 @@ use Rattle.tv_history.proofs.OneWorker.{Before, IsLaidOut, is_by_one}
 use Rattle.tv_history.proofs.LaidOut.{before-first, before-cross, before-rest}
 use Rattle.tv_history.proofs.Inside.{instance-opened, outer-begun, inner-settled}
 use Rattle.tv_history.proofs.Follows.{IsFirstPart, is_of, try_within, tries_within, of-none, IsTry, try-case, HaveTries, was_begun, as_tries, IsFollowed, tried-job, untried, instance-first_part, instance-full}
+use Rattle.tv_history.proofs.Tests.{any_weaken, full}
 
 -- the tries of one job
 one-job : (j : Job) (past : History) → tries_within (j ∷ []) past ≡ with_name j.name (tries_of j.name past)
@@ -52,13 +56,7 @@ one-job j (e ∷ past) =
 
     by : (e : Entry) → try_within (j ∷ []) e ≡ with_name j.name (try_of j.name e)
     by (accepted k c t r) = both k (c, t, r) (same_job k j.name) (same_job j.name k) refl refl
-    by (handed_out k c t) = refl
-    by (bounced k) = refl
-    by (closed k c) = refl
-    by (fault_passed k) = refl
-    by (opened k) = refl
-    by (ended k) = refl
-    by (recalled c) = refl
+    by e = refl
 
 own-asks : (gives : Giving) (n : JobName) (as' : List Ask) → with_name n (map (key_of gives) as') ≡ map (ask_try gives) (map (λ a. (n, a)) as')
 own-asks gives n [] = refl
@@ -71,11 +69,11 @@ pub record IsWithin (m n : Meaning) : Type 0 where
 
 module _ (gives : Giving) where
   abbrev pub IsFollowedIn : Meaning → Meaning → JobName → History → Type 0
-  IsFollowedIn m n J past = IsFirstPart (tries_within n.jobs past) (as_tries gives m n.order) × (((x : Job) → In x n.jobs → x.instance ≡ J → is_settled gives m past x ≡ true) → tries_within n.jobs past ≡ as_tries gives m n.order)
+  IsFollowedIn m n J past = IsFirstPart (tries_within n.jobs past) (as_tries gives m (ask_order n)) × (((x : Job) → In x n.jobs → x.instance ≡ J → is_settled past x ≡ true) → tries_within n.jobs past ≡ as_tries gives m (ask_order n))
 
   -- in every run that this meaning stands in
   abbrev pub IsInSequence : Meaning → JobName → Type 0
-  IsInSequence n J = IsWhole gives AtLeastOne n J × ((m : Meaning) → IsWhole gives AtLeastOne m [] → IsLaidOut m.jobs → HaveTries m.jobs → IsWithin m n → (past : History) → is_legal gives m past ≡ true → is_by_one gives m past ≡ true → IsFollowedIn m n J past)
+  IsInSequence n J = IsWhole gives AtLeastOne n J × ((m : Meaning) → IsWhole gives AtLeastOne m [] → IsLaidOut m.jobs → HaveTries m.jobs → IsWithin m n → (past : History) → is_legal gives m past ≡ true → is_by_one m past ≡ true → IsFollowedIn m n J past)
 
   module _ (m : Meaning) (w : IsWhole gives AtLeastOne m []) (laid : IsLaidOut m.jobs) (fit : HaveTries m.jobs) where
     -- ---- what stands inside a job
@@ -84,34 +82,19 @@ module _ (gives : Giving) where
       abbrev WasOpened : History → Type 0
       WasOpened past = list_any (is_opened_entry j.name) past ≡ true
 
-      up-chain : (f : ℕ) (past : History) → is_legal gives m past ≡ true → (x : Job) → In x n.jobs → length x.instance < f → was_begun gives m past x ≡ true → WasOpened past × (is_settled gives m past x ≡ false → is_settled gives m past j ≡ false)
-      up-chain zero past l x i b h = absurd (none (length x.instance) b)
-        where
-          none : (n : ℕ) → n < 0 → ⊥
-          none n p = omega arith
-      up-chain (suc f) past l x i b h = by (v.jobs x i).parent (λ p k c g. up-chain f past l p k c g)
+      up-chain : (f : ℕ) (past : History) → is_legal gives m past ≡ true → (x : Job) → In x n.jobs → length x.instance < f → was_begun gives m past x ≡ true → WasOpened past × (is_settled past x ≡ false → is_settled past j ≡ false)
+      up-chain zero past l x i b h = absurd (omega (arith, b))
+      up-chain (suc f) past l x i b h = on_either (v.jobs x i).parent (λ e. (instance-opened gives m w past l x j (inside.jobs x i) ji (sym e) h, λ u. outer-unsettled j (sym e) opens_it not_bounced u (is_settled past j) refl)) (λ p. let r = (up-chain f past l p.0 p.1 (shorter p.0 p.1 p.2) (outer-begun gives m w past l x p.0 (inside.jobs x i) (inside.jobs p.0 p.1) p.2 h)) in (r.0, λ u. r.1 (outer-unsettled p.0 p.2 p.3 p.4 u (is_settled past p.0) refl)))
         where
           shorter : (p : Job) → In p n.jobs → p.name ≡ x.instance → length p.instance < f
-          shorter p k e = less (length p.instance) (length x.instance) f (ap length (sym e ∙ (v.jobs p k).named) ∙ length-append p.instance ((v.jobs p k).key ∷ [])) b
-            where
-              less : (a c f : ℕ) → c ≡ a + 1 → c < suc f → a < f
-              less a c f p q = omega arith
+          shorter p k e = omega (arith, ap length (sym e ∙ (v.jobs p k).named) ∙ length-append p.instance ((v.jobs p k).key ∷ []), b)
 
-          outer-unsettled : (p : Job) → p.name ≡ x.instance → is_some p.opens ≡ true → is_bounced p.ending ≡ false → is_settled gives m past x ≡ false → (s : Bool) → is_settled gives m past p ≡ s → is_settled gives m past p ≡ false
+          outer-unsettled : (p : Job) → p.name ≡ x.instance → is_some p.opens ≡ true → is_bounced p.ending ≡ false → is_settled past x ≡ false → (s : Bool) → is_settled past p ≡ s → is_settled past p ≡ false
           outer-unsettled p e o nb u false q = q
           outer-unsettled p e o nb u true q = absurd (true≠false (sym (inner-settled gives m w past l x p (inside.jobs x i) e o nb q) ∙ u))
 
-          by : (x.instance ≡ j.name) ⊎ ((p : Job) × In p n.jobs × (p.name ≡ x.instance) × (is_some p.opens ≡ true) × (is_bounced p.ending ≡ false)) → ((p : Job) → In p n.jobs → length p.instance < f → was_begun gives m past p ≡ true → WasOpened past × (is_settled gives m past p ≡ false → is_settled gives m past j ≡ false)) → WasOpened past × (is_settled gives m past x ≡ false → is_settled gives m past j ≡ false)
-          by (inl e) rec = (instance-opened gives m w past l x j (inside.jobs x i) ji (sym e) h, λ u. outer-unsettled j (sym e) opens_it not_bounced u (is_settled gives m past j) refl)
-          by (inr p) rec =
-              let r = rec p.0 p.1 (shorter p.0 p.1 p.2) (outer-begun gives m w past l x p.0 (inside.jobs x i) (inside.jobs p.0 p.1) p.2 h) in
-              (r.0, λ u. r.1 (outer-unsettled p.0 p.2 p.3 p.4 u (is_settled gives m past p.0) refl))
-
-      pub going-up : (past : History) → is_legal gives m past ≡ true → (x : Job) → In x n.jobs → was_begun gives m past x ≡ true → WasOpened past × (is_settled gives m past x ≡ false → is_settled gives m past j ≡ false)
-      going-up past l x i h = up-chain (suc (length x.instance)) past l x i (less (length x.instance)) h
-        where
-          less : (n : ℕ) → n < suc n
-          less n = omega arith
+      pub going-up : (past : History) → is_legal gives m past ≡ true → (x : Job) → In x n.jobs → was_begun gives m past x ≡ true → WasOpened past × (is_settled past x ≡ false → is_settled past j ≡ false)
+      going-up past l x i h = up-chain (suc (length x.instance)) past l x i (omega arith) h
 
       -- before the flow is opened, nothing is tried in it
       pub inner-untried : (past : History) → is_legal gives m past ≡ true → list_any (is_opened_entry j.name) past ≡ false → tries_within n.jobs past ≡ []
@@ -125,7 +108,7 @@ module _ (gives : Giving) where
       own-then_inner : (past : History) → is_legal gives m past ≡ true → tries_within (j ∷ n.jobs) past ≡ tries_within (j ∷ []) past ++ tries_within n.jobs past
       own-then_inner [] l = refl
       own-then_inner (e ∷ past) l =
-          ap (λ z. z ++ try_within (j ∷ n.jobs) e) (own-then_inner past legal) ∙ by (try-case e)
+          ap (λ z. z ++ try_within (j ∷ n.jobs) e) (own-then_inner past legal) ∙ (on_either (try-case e) (λ t. ap (λ z. (own ++ inner) ++ z) (t.tries (j ∷ n.jobs)) ∙ shape (same_job t.name j.name) (is_of n.jobs t.name) t refl refl ∙ sym (ap (λ z. (own ++ z) ++ (inner ++ try_within n.jobs e)) (t.tries (j ∷ [])) ∙ ap (λ z. (own ++ (if is_of (j ∷ []) t.name then entry_try e else [])) ++ (inner ++ z)) (t.tries n.jobs))) (λ g. ap (λ z. (own ++ inner) ++ z) (g (j ∷ n.jobs)) ∙ append-nil (own ++ inner) ∙ sym (ap (λ z. (own ++ z) ++ (inner ++ try_within n.jobs e)) (g (j ∷ [])) ∙ ap (λ z. z ++ (inner ++ try_within n.jobs e)) (append-nil own) ∙ ap (λ z. own ++ (inner ++ z)) (g n.jobs) ∙ ap (λ z. own ++ z) (append-nil inner))))
         where
           legal : is_legal gives m past ≡ true
           legal = left_true (is_legal gives m past) (is_legal_after gives m past e) l
@@ -140,13 +123,7 @@ module _ (gives : Giving) where
           inner = tries_within n.jobs past
 
           no_opening : (t : IsTry e) → same_job t.name j.name ≡ true → list_any (is_opened_entry j.name) past ≡ false
-          no_opening t q = cases (list_any (is_opened_entry j.name) past) refl
-            where
-              cases : (b : Bool) → list_any (is_opened_entry j.name) past ≡ b → list_any (is_opened_entry j.name) past ≡ false
-              cases false p = p
-              cases true p =
-                  let f = of-next gives AtLeastOne m w past e j ji after (t.accepts j.name (sym ((same_job_decides t.name j.name).0 q))) in
-                  absurd (true≠false (sym (ap is_some f.1) ∙ ap (λ x. is_some (first_of_list x)) (opened-facts gives AtLeastOne m w past legal j ji p).0))
+          no_opening t q = on_test (list_any (is_opened_entry j.name) past) (λ p. let f = of-next gives AtLeastOne m w past j ji (legal-of gives m past e after) (t.accepts j.name (sym ((same_job_decides t.name j.name).0 q))) in absurd (true≠false (sym (ap is_some f.1) ∙ ap (λ x. is_some (first_of_list x)) (opened-facts gives AtLeastOne m w past legal j ji p).0))) (λ p. p)
 
           not_inner : (t : IsTry e) → same_job t.name j.name ≡ true → (b : Bool) → is_of n.jobs t.name ≡ b → (if b then entry_try e else []) ≡ []
           not_inner t q false p = refl
@@ -162,12 +139,6 @@ module _ (gives : Giving) where
               ∙ sym (append-nil (own ++ entry_try e))
               ∙ ap (λ z. (own ++ entry_try e) ++ z) (sym (ap (λ z. z ++ (if b then entry_try e else [])) (inner-untried past legal (no_opening t p)) ∙ not_inner t p b q))
           shape false b t p q = append_assoc own inner (if b then entry_try e else []) ∙ ap (λ z. z ++ (inner ++ (if b then entry_try e else []))) (sym (append-nil own))
-
-          by : IsTry e ⊎ ((js : List Job) → try_within js e ≡ []) → (own ++ inner) ++ try_within (j ∷ n.jobs) e ≡ (own ++ try_within (j ∷ []) e) ++ (inner ++ try_within n.jobs e)
-          by (inr g) = ap (λ z. (own ++ inner) ++ z) (g (j ∷ n.jobs)) ∙ append-nil (own ++ inner) ∙ sym (ap (λ z. (own ++ z) ++ (inner ++ try_within n.jobs e)) (g (j ∷ [])) ∙ ap (λ z. z ++ (inner ++ try_within n.jobs e)) (append-nil own) ∙ ap (λ z. own ++ (inner ++ z)) (g n.jobs) ∙ ap (λ z. own ++ z) (append-nil inner))
-          by (inl t) =
-              ap (λ z. (own ++ inner) ++ z) (t.tries (j ∷ n.jobs)) ∙ shape (same_job t.name j.name) (is_of n.jobs t.name) t refl refl
-              ∙ sym (ap (λ z. (own ++ z) ++ (inner ++ try_within n.jobs e)) (t.tries (j ∷ [])) ∙ ap (λ z. (own ++ (if is_of (j ∷ []) t.name then entry_try e else [])) ++ (inner ++ z)) (t.tries n.jobs))
 
     -- ---- the turn of a job
 
@@ -185,9 +156,9 @@ module _ (gives : Giving) where
         ∙ own-asks gives j.name j.asks
 
     abbrev TurnIs : Job → Option Meaning → History → Type 0
-    TurnIs j p past = IsFirstPart (tries_within (j ∷ option_map_or (λ (n : Meaning). n.jobs) p []) past) (as_tries gives m (asks_of j ++ option_map_or (λ (n : Meaning). n.order) p [])) × (is_settled gives m past j ≡ true → tries_within (j ∷ option_map_or (λ (n : Meaning). n.jobs) p []) past ≡ as_tries gives m (asks_of j ++ option_map_or (λ (n : Meaning). n.order) p []))
+    TurnIs j p past = IsFirstPart (tries_within (j ∷ option_map_or (λ (n : Meaning). n.jobs) p []) past) (as_tries gives m (asks_of j ++ option_map_or ask_order p [])) × (is_settled past j ≡ true → tries_within (j ∷ option_map_or (λ (n : Meaning). n.jobs) p []) past ≡ as_tries gives m (asks_of j ++ option_map_or ask_order p []))
 
-    turn-is : (j : Job) → In j m.jobs → (p : Option Meaning) → InsideIs IsInSequence j p → ((n : Meaning) → p ≡ Some n → IsWithin m n) → (past : History) → is_legal gives m past ≡ true → is_by_one gives m past ≡ true → TurnIs j p past
+    turn-is : (j : Job) → In j m.jobs → (p : Option Meaning) → InsideIs IsInSequence j p → ((n : Meaning) → p ≡ Some n → IsWithin m n) → (past : History) → is_legal gives m past ≡ true → is_by_one m past ≡ true → TurnIs j p past
     turn-is j i None h f past l b = (
       (let r = own-part j i past l in (r.0, ap (as_tries gives m) (append-nil (asks_of j)) ∙ r.1)),
       λ s. one-job j past ∙ ap (with_name j.name) (settled-tries gives AtLeastOne m w past l j i s) ∙ own-asks gives j.name j.asks ∙ ap (as_tries gives m) (sym (append-nil (asks_of j))),
@@ -195,7 +166,7 @@ module _ (gives : Giving) where
     turn-is j i (Some n) h f past l b = (
       by (list_any (is_opened_entry j.name) past) refl,
       λ s. let o = job-opened gives AtLeastOne m w past l j i (opener-ended gives AtLeastOne m w past j h.1 h.2 s) in
-          own-then_inner j i n h.0.0 h.1 h.2 (f n refl) past l ∙ ap (λ z. z ++ tries_within n.jobs past) (own_all o) ∙ ap (λ z. as_tries gives m (asks_of j) ++ z) (inner_law.1 (λ x k e. inner-settled gives m w past l x j ((f n refl).jobs x k) (sym e) h.1 h.2 s)) ∙ sym (map-append (ask_try gives) (asks_of j) n.order),
+          own-then_inner j i n h.0.0 h.1 h.2 (f n refl) past l ∙ ap (λ z. z ++ tries_within n.jobs past) (own_all o) ∙ ap (λ z. as_tries gives m (asks_of j) ++ z) (inner_law.1 (λ x k e. inner-settled gives m w past l x j ((f n refl).jobs x k) (sym e) h.1 h.2 s)) ∙ sym (map-append (ask_try gives) (asks_of j) (ask_order n)),
     )
       where
         inner_law : IsFollowedIn m n j.name past
@@ -204,15 +175,15 @@ module _ (gives : Giving) where
         own_all : list_any (is_opened_entry j.name) past ≡ true → tries_within (j ∷ []) past ≡ as_tries gives m (asks_of j)
         own_all o = own-full j i past l (opened-facts gives AtLeastOne m w past l j i o).0
 
-        by : (c : Bool) → list_any (is_opened_entry j.name) past ≡ c → IsFirstPart (tries_within (j ∷ n.jobs) past) (as_tries gives m (asks_of j ++ n.order))
+        by : (c : Bool) → list_any (is_opened_entry j.name) past ≡ c → IsFirstPart (tries_within (j ∷ n.jobs) past) (as_tries gives m (asks_of j ++ (ask_order n)))
         by true o =
             let r = inner_law.0 in
-            (r.0, map-append (ask_try gives) (asks_of j) n.order ∙ ap (λ z. as_tries gives m (asks_of j) ++ z) r.1 ∙ ap (λ z. z ++ (tries_within n.jobs past ++ r.0)) (sym (own_all o)) ∙ sym (append_assoc (tries_within (j ∷ []) past) (tries_within n.jobs past) r.0) ∙ ap (λ z. z ++ r.0) (sym (own-then_inner j i n h.0.0 h.1 h.2 (f n refl) past l)))
+            (r.0, map-append (ask_try gives) (asks_of j) (ask_order n) ∙ ap (λ z. as_tries gives m (asks_of j) ++ z) r.1 ∙ ap (λ z. z ++ (tries_within n.jobs past ++ r.0)) (sym (own_all o)) ∙ sym (append_assoc (tries_within (j ∷ []) past) (tries_within n.jobs past) r.0) ∙ ap (λ z. z ++ r.0) (sym (own-then_inner j i n h.0.0 h.1 h.2 (f n refl) past l)))
         by false o =
             let r = own-part j i past l in (
-              r.0 ++ as_tries gives m n.order,
-              map-append (ask_try gives) (asks_of j) n.order ∙ ap (λ z. z ++ as_tries gives m n.order) r.1 ∙ append_assoc (tries_within (j ∷ []) past) r.0 (as_tries gives m n.order)
-                  ∙ ap (λ z. z ++ (r.0 ++ as_tries gives m n.order)) (sym (own-then_inner j i n h.0.0 h.1 h.2 (f n refl) past l ∙ ap (λ z. tries_within (j ∷ []) past ++ z) (inner-untried j i n h.0.0 h.1 h.2 (f n refl) past l o) ∙ append-nil (tries_within (j ∷ []) past))),
+              r.0 ++ as_tries gives m (ask_order n),
+              map-append (ask_try gives) (asks_of j) (ask_order n) ∙ ap (λ z. z ++ as_tries gives m (ask_order n)) r.1 ∙ append_assoc (tries_within (j ∷ []) past) r.0 (as_tries gives m (ask_order n))
+                  ∙ ap (λ z. z ++ (r.0 ++ as_tries gives m (ask_order n))) (sym (own-then_inner j i n h.0.0 h.1 h.2 (f n refl) past l ∙ ap (λ z. tries_within (j ∷ []) past ++ z) (inner-untried j i n h.0.0 h.1 h.2 (f n refl) past l o) ∙ append-nil (tries_within (j ∷ []) past))),
             )
 
     -- what the law of one instance asks of its jobs
@@ -236,18 +207,18 @@ module _ (gives : Giving) where
           before = λ x y k. order x y (inr (subst (λ p. Before x y (inner_jobs p)) (sym q) k));
         }
 
-        empty_case : is_bounced o.job.ending ≡ true → (p : Option Meaning) → InsideIs IsInSequence o.job p → asks_of o.job ++ option_map_or (λ (n : Meaning). n.order) p [] ≡ []
+        empty_case : is_bounced o.job.ending ≡ true → (p : Option Meaning) → InsideIs IsInSequence o.job p → asks_of o.job ++ option_map_or ask_order p [] ≡ []
         empty_case b None k = append-nil (asks_of o.job) ∙ ap (λ as'. map (λ a. (o.job.name, a)) as') (no_asks b)
         empty_case b (Some n) k = absurd (true≠false (sym b ∙ k.2))
 
-        inner_case : (past : History) → is_legal gives m past ≡ true → (p : Option Meaning) → InsideIs IsInSequence o.job p → ((n : Meaning) → p ≡ Some n → IsWithin m n) → (x : Job) → In x (inner_jobs p) → was_begun gives m past x ≡ true → (was_begun gives m past o.job ≡ true) × (is_settled gives m past x ≡ false → is_settled gives m past o.job ≡ false)
+        inner_case : (past : History) → is_legal gives m past ≡ true → (p : Option Meaning) → InsideIs IsInSequence o.job p → ((n : Meaning) → p ≡ Some n → IsWithin m n) → (x : Job) → In x (inner_jobs p) → was_begun gives m past x ≡ true → (was_begun gives m past o.job ≡ true) × (is_settled past x ≡ false → is_settled past o.job ≡ false)
         inner_case past l None k f x i b = absurd i
         inner_case past l (Some n) k f x i b =
             let r = going-up o.job (within o.job (inl refl)) n k.0.0 k.1 k.2 (f n refl) past l x i b in
             (any_weaken (is_opened_entry o.job.name) (is_begun_entry o.job.name) (opened_begins o.job.name) past r.0, r.1)
 
-        up_case : (past : History) → is_legal gives m past ≡ true → (x : Job) → In x (jobs_with_inside o) → was_begun gives m past x ≡ true → (was_begun gives m past o.job ≡ true) × (is_settled gives m past x ≡ false → is_settled gives m past o.job ≡ false)
-        up_case past l x (inl q) b = (subst (λ y. was_begun gives m past y ≡ true) q b, λ u. subst (λ y. is_settled gives m past y ≡ false) q u)
+        up_case : (past : History) → is_legal gives m past ≡ true → (x : Job) → In x (jobs_with_inside o) → was_begun gives m past x ≡ true → (was_begun gives m past o.job ≡ true) × (is_settled past x ≡ false → is_settled past o.job ≡ false)
+        up_case past l x (inl q) b = (subst (λ y. was_begun gives m past y ≡ true) q b, λ u. subst (λ y. is_settled past y ≡ false) q u)
         up_case past l x (inr i) b = inner_case past l o.inside h part_of x i b
 
   -- ---- every flow
@@ -262,8 +233,8 @@ module _ (gives : Giving) where
   before-own o u (z ∷ os) (inl b) = before-cross o.job u.job (jobs_with_inside z) (flat_map jobs_with_inside os) (inl (ap (λ (v : Opened). v.job) (sym b.0))) (in-flat jobs_with_inside u u.job os b.1 (inl refl))
   before-own o u (z ∷ os) (inr b) = before-rest o.job u.job (jobs_with_inside z) (flat_map jobs_with_inside os) (before-own o u os b)
 
-  instance-in_sequence : (inside : Name → JobName → List (Name × Value) → Meaning) → ((f : Name) (n : JobName) (vs : List (Name × Value)) → IsInSequence (inside f n vs) n) → (I : JobName) (flow : Flow) (vs : List (Name × Value)) → StepsHave gives AtLeastOne flow → IsInSequence (instance_meaning gives inside I flow vs) I
-  instance-in_sequence inside is I flow vs h = (one-whole gives AtLeastOne inside (λ f n us. (is f n us).0) I flow vs h, λ m w laid fit part past l b. law m w laid fit part past l b)
+  instance-in_sequence : (inside : Name → JobName → List (Name × Value) → Meaning) → ((f : Name) (n : JobName) (vs : List (Name × Value)) → IsReadOff (inside f n vs) n) → ((f : Name) (n : JobName) (vs : List (Name × Value)) → IsInSequence (inside f n vs) n) → (I : JobName) (flow : Flow) (vs : List (Name × Value)) → StepsHave gives AtLeastOne flow → IsInSequence (instance_meaning gives inside I flow vs) I
+  instance-in_sequence inside read is I flow vs h = (one-whole gives AtLeastOne inside (λ f n us. (is f n us).0) I flow vs h, λ m w laid fit part past l b. law m w laid fit part past l b)
     where
       ms : List Made
       ms = steps_of gives inside I flow vs
@@ -279,13 +250,14 @@ module _ (gives : Giving) where
           let f = formed.jobs o i in
           own-followed m w laid fit I o f.in_instance (λ x k. part.jobs x (in-flat jobs_with_inside o x os i k)) (λ x y k. part.before x y (before-flat x y o os i k)) f.inside_it f.no_asks
 
-      law : (m : Meaning) → IsWhole gives AtLeastOne m [] → IsLaidOut m.jobs → HaveTries m.jobs → IsWithin m (instance_meaning gives inside I flow vs) → (past : History) → is_legal gives m past ≡ true → is_by_one gives m past ≡ true → IsFollowedIn m (instance_meaning gives inside I flow vs) I past
+      law : (m : Meaning) → IsWhole gives AtLeastOne m [] → IsLaidOut m.jobs → HaveTries m.jobs → IsWithin m (instance_meaning gives inside I flow vs) → (past : History) → is_legal gives m past ≡ true → is_by_one m past ≡ true → IsFollowedIn m (instance_meaning gives inside I flow vs) I past
       law m w laid fit part past l b =
           let a = own-apart gives inside I IsInSequence is AtLeastOne (given_of flow vs) (given-free flow vs) ms formed in
           let r = all_rated ms (needs-earlier gives inside I flow vs) in
-          let d = λ (x : Opened) (y : Opened) (k : Before x y os). part.before x.job y.job (before-own x y os k) in (
-            instance-first_part gives m w laid fit I os (own m w laid fit part) a r d past l b,
-            λ f. instance-full gives m w laid fit I os (own m w laid fit part) a r d past l b (λ o i. f o.job (in-flat jobs_with_inside o o.job os i (inl refl)) (formed.jobs o i).in_instance),
+          let d = λ (x : Opened) (y : Opened) (k : Before x y os). part.before x.job y.job (before-own x y os k) in
+          let same = sym (instance-order gives inside read I flow vs) in (
+            subst (λ z. IsFirstPart (tries_within (flat_map jobs_with_inside os) past) (as_tries gives m z)) same (instance-first_part gives m w laid fit I os (own m w laid fit part) a r d past l b),
+            λ f. instance-full gives m w laid fit I os (own m w laid fit part) a r d past l b (λ o i. f o.job (in-flat jobs_with_inside o o.job os i (inl refl)) (formed.jobs o i).in_instance) ∙ ap (as_tries gives m) same,
           )
 
   nothing-in_sequence : (I : JobName) → IsInSequence no_meaning I
@@ -294,4 +266,4 @@ module _ (gives : Giving) where
   pub flow-in_sequence : (flows : List (Name × Flow)) → Each (λ f. StepsHave gives AtLeastOne f.1) flows → (depth : ℕ) (f : Name) (I : JobName) (vs : List (Name × Value)) → IsInSequence (flow_meaning gives flows depth f I vs) I
   flow-in_sequence flows h zero f I vs = nothing-in_sequence I
   flow-in_sequence flows h (suc depth) f I vs =
-      named_map_or (StepsHave gives AtLeastOne) (λ m. IsInSequence m I) (λ flow. instance_meaning gives (flow_meaning gives flows depth) I flow vs) (λ flow k. instance-in_sequence (flow_meaning gives flows depth) (λ g n us. flow-in_sequence flows h depth g n us) I flow vs k) f flows no_meaning h (nothing-in_sequence I)
+      named_map_or (StepsHave gives AtLeastOne) (λ m. IsInSequence m I) (λ flow. instance_meaning gives (flow_meaning gives flows depth) I flow vs) (λ flow k. instance-in_sequence (flow_meaning gives flows depth) (flow-read gives flows depth) (λ g n us. flow-in_sequence flows h depth g n us) I flow vs k) f flows no_meaning h (nothing-in_sequence I)

@@ -3,13 +3,14 @@ use Rattle.std.specs.Prelude.{◌≡◌, refl, ℕ, zero, suc, ◌+◌, ◌≤�
 use Rattle.std.specs.List.{list_any}
 use Rattle.std.specs.Option.{option_map_or}
 use Rattle.std.proofs.Common.{arith, sym, ap, subst, ◌∙◌, inl, inr, length-append}
+use Rattle.tv_history.proofs.Tests.{all_in}
+use Rattle.tv_lemmas.proofs.Cases.{on_either, on_or}
 use Rattle.tv_value.specs.Values.{JobName}
 use Rattle.tv_value.specs.Orders.{same_job}
-use Rattle.tv_model.specs.Turns.{Turn, all_done, first_turn, turns}
+use Rattle.tv_model.specs.Turns.{Turn, all_done, first_turn, asks_by_turns}
 use Rattle.tv_model.proofs.Tests.{or_right, same_job_decides}
 use Rattle.tv_model.proofs.Turns.{In, or_left}
 use Rattle.tv_model.proofs.Order.{in-append, in-left, in-right}
-use Rattle.tv_history.proofs.Running.{true_of, all_in}
 
 abbrev pub NonePasses : List JobName → List Turn → Type 0
 NonePasses done ts = (t : Turn) → In t ts → all_done done t.needs ≡ false
@@ -43,8 +44,8 @@ first-parted done (u ∷ us) t vs f e =
     ∙ ap (λ o. option_map (λ r. (r.0, u ∷ r.1)) o) (first-parted done us t vs (λ v h. f v (inr h)) e)
 
 -- one turn
-pub turn-taken : (n : ℕ) (done : List JobName) (us : List Turn) (t : Turn) (vs : List Turn) → NonePasses done us → all_done done t.needs ≡ true → turns (suc n) done (us ++ t ∷ vs) ≡ t.asks ++ turns n (t.name ∷ done) (us ++ vs)
-turn-taken n done us t vs f e = ap (λ o. option_map_or (λ r. r.0.asks ++ turns n (r.0.name ∷ done) r.1) o []) (first-parted done us t vs f e)
+pub turn-taken : (n : ℕ) (done : List JobName) (us : List Turn) (t : Turn) (vs : List Turn) → NonePasses done us → all_done done t.needs ≡ true → asks_by_turns (suc n) done (us ++ t ∷ vs) ≡ t.asks ++ asks_by_turns n (t.name ∷ done) (us ++ vs)
+turn-taken n done us t vs f e = ap (λ o. option_map_or (λ r. r.0.asks ++ asks_by_turns n (r.0.name ∷ done) r.1) o []) (first-parted done us t vs f e)
 
 shift-append : {A : Type 0} (us : List A) (t : A) (vs xs : List A) → (us ++ t ∷ vs) ++ xs ≡ us ++ t ∷ (vs ++ xs)
 shift-append [] t vs xs = refl
@@ -61,7 +62,7 @@ module _ (S : JobName → Type 0) (xs : List Turn) where
     pub fuel : ℕ
     pub taken : List JobName
     pub left : List Turn
-    pub same : turns n done (bs ++ xs) ≡ turns fuel taken (left ++ xs)
+    pub same : asks_by_turns n done (bs ++ xs) ≡ asks_by_turns fuel taken (left ++ xs)
     pub enough : length (left ++ xs) ≤ fuel
     pub none : NonePasses taken left
     pub kept : (b : Turn) → In b left → In b bs
@@ -84,14 +85,10 @@ module _ (S : JobName → Type 0) (xs : List Turn) where
 
   go-on : (n : ℕ) (done : List JobName) (us : List Turn) (t : Turn) (vs : List Turn) → NonePasses done us → all_done done t.needs ≡ true → t.asks ≡ [] → Skipped n (t.name ∷ done) (us ++ vs) → Skipped (suc n) done (us ++ t ∷ vs)
   go-on n done us t vs f e a r =
-      record { fuel = r.fuel; taken = r.taken; left = r.left; same = ap (λ l. turns (suc n) done l) (shift-append us t vs xs) ∙ turn-taken n done us t (vs ++ xs) f e ∙ ap (λ l. l ++ turns n (t.name ∷ done) (us ++ (vs ++ xs))) a ∙ ap (λ l. turns n (t.name ∷ done) l) (join-append us vs xs) ∙ r.same; enough = r.enough; none = r.none; kept = λ b h. back b (r.kept b h); more = λ k h. r.more k (or_right (same_job k t.name) (list_any (same_job k) done) h); cover = λ b h. by b (in-append b us (t ∷ vs) h); settled = r.settled }
+      record { fuel = r.fuel; taken = r.taken; left = r.left; same = ap (λ l. asks_by_turns (suc n) done l) (shift-append us t vs xs) ∙ turn-taken n done us t (vs ++ xs) f e ∙ ap (λ l. l ++ asks_by_turns n (t.name ∷ done) (us ++ (vs ++ xs))) a ∙ ap (λ l. asks_by_turns n (t.name ∷ done) l) (join-append us vs xs) ∙ r.same; enough = r.enough; none = r.none; kept = λ b h. back b (r.kept b h); more = λ k h. r.more k (or_right (same_job k t.name) (list_any (same_job k) done) h); cover = λ b h. by b (in-append b us (t ∷ vs) h); settled = r.settled }
     where
       back : (b : Turn) → In b (us ++ vs) → In b (us ++ t ∷ vs)
-      back b h = two (in-append b us vs h)
-        where
-          two : In b us ⊎ In b vs → In b (us ++ t ∷ vs)
-          two (inl i) = in-left b us (t ∷ vs) i
-          two (inr i) = in-right b us (t ∷ vs) (inr i)
+      back b h = on_either (in-append b us vs h) (λ i. in-left b us (t ∷ vs) i) (λ i. in-right b us (t ∷ vs) (inr i))
 
       by : (b : Turn) → In b us ⊎ In b (t ∷ vs) → In b r.left ⊎ (list_any (same_job b.name) r.taken ≡ true)
       by b (inl i) = r.cover b (in-left b us vs i)
@@ -100,24 +97,14 @@ module _ (S : JobName → Type 0) (xs : List Turn) where
 
   fewer : (us : List Turn) (t : Turn) (vs : List Turn) (n : ℕ) → length ((us ++ t ∷ vs) ++ xs) ≤ suc n → length ((us ++ vs) ++ xs) ≤ n
   fewer us t vs n w =
-      by (length ((us ++ t ∷ vs) ++ xs)) (length ((us ++ vs) ++ xs)) (length us) (length vs) (length xs) (length (us ++ t ∷ vs)) (length (us ++ vs)) n (length-append (us ++ t ∷ vs) xs) (length-append (us ++ vs) xs) (length-append us (t ∷ vs)) (length-append us vs) w
-    where
-      by : (a b u v x c d n : ℕ) → a ≡ c + x → b ≡ d + x → c ≡ u + suc v → d ≡ u + v → a ≤ suc n → b ≤ n
-      by a b u v x c d n p q r s w = omega arith
+      omega (arith, length-append (us ++ t ∷ vs) xs, length-append (us ++ vs) xs, length-append us (t ∷ vs), length-append us vs, w)
 
   too_few : (us : List Turn) (t : Turn) (vs : List Turn) → length ((us ++ t ∷ vs) ++ xs) ≤ 0 → ⊥
-  too_few us t vs w = by (length ((us ++ t ∷ vs) ++ xs)) (length us) (length vs) (length xs) (length (us ++ t ∷ vs)) (length-append (us ++ t ∷ vs) xs) (length-append us (t ∷ vs)) w
-    where
-      by : (a u v x c : ℕ) → a ≡ c + x → c ≡ u + suc v → a ≤ 0 → ⊥
-      by a u v x c p q w = omega arith
+  too_few us t vs w = omega (arith, length-append (us ++ t ∷ vs) xs, length-append us (t ∷ vs), w)
 
   -- all turns without asks whose needs are done can be taken, one after another
   pub skip : (n : ℕ) (done : List JobName) (bs : List Turn) → length (bs ++ xs) ≤ n → AreEmpty bs → AreClosed bs → DoneIn done → Skipped n done bs
-  skip zero done bs w e c d = by (part done bs)
-    where
-      by : NonePasses done bs ⊎ Parted done bs → Skipped zero done bs
-      by (inl f) = stop zero done bs w d f
-      by (inr p) = absurd (too_few p.front p.turn p.back (subst (λ l. length (l ++ xs) ≤ 0) p.whole w))
+  skip zero done bs w e c d = on_either (part done bs) (λ f. stop zero done bs w d f) (λ p. absurd (too_few p.front p.turn p.back (subst (λ l. length (l ++ xs) ≤ 0) p.whole w)))
   skip (suc n) done bs w e c d = by (part done bs) (λ k l x y z u. skip n k l x y z u)
     where
       by : NonePasses done bs ⊎ Parted done bs → ((k : List JobName) (l : List Turn) → length (l ++ xs) ≤ n → AreEmpty l → AreClosed l → DoneIn k → Skipped n k l) → Skipped (suc n) done bs
@@ -130,15 +117,7 @@ module _ (S : JobName → Type 0) (xs : List Turn) where
           here = subst (λ l. In p.turn l) (sym p.whole) (in-right p.turn p.front (p.turn ∷ p.back) (inl refl))
 
           within : (b : Turn) → In b (p.front ++ p.back) → In b bs
-          within b h = subst (λ l. In b l) (sym p.whole) (two (in-append b p.front p.back h))
-            where
-              two : In b p.front ⊎ In b p.back → In b (p.front ++ p.turn ∷ p.back)
-              two (inl i) = in-left b p.front (p.turn ∷ p.back) i
-              two (inr i) = in-right b p.front (p.turn ∷ p.back) (inr i)
+          within b h = subst (λ l. In b l) (sym p.whole) (on_either (in-append b p.front p.back h) (λ i. in-left b p.front (p.turn ∷ p.back) i) (λ i. in-right b p.front (p.turn ∷ p.back) (inr i)))
 
           settled_now : DoneIn (p.turn.name ∷ done)
-          settled_now k h = cases (true_of (same_job k p.turn.name) (list_any (same_job k) done) h)
-            where
-              cases : (same_job k p.turn.name ≡ true) ⊎ (list_any (same_job k) done ≡ true) → S k
-              cases (inl q) = subst S (sym ((same_job_decides k p.turn.name).0 q)) (c p.turn here (λ x i. d x (all_in (λ y. list_any (same_job y) done) p.turn.needs p.passes x i)))
-              cases (inr q) = d k q
+          settled_now k h = on_or (same_job k p.turn.name) (list_any (same_job k) done) h (λ q. subst S (sym ((same_job_decides k p.turn.name).0 q)) (c p.turn here (λ x i. d x (all_in (λ y. list_any (same_job y) done) p.turn.needs p.passes x i)))) (λ q. d k q)

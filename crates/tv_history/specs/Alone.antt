@@ -2,7 +2,6 @@
 use Rattle.std.specs.List.{list_all}
 use Rattle.std.specs.Option.{option_map_or}
 use Rattle.std.specs.Prelude.{Bool, List, [], false, find, is_some, not, true, ◌&&◌, ◌++◌, ◌||◌, ◌∷◌, ◌≡◌}
-use Rattle.tv_gate.specs.Outcomes.{Giving}
 use Rattle.tv_model.specs.Jobs.{Job}
 use Rattle.tv_model.specs.Made.{Meaning}
 use Rattle.tv_model.specs.Members.{In}
@@ -10,14 +9,17 @@ use Rattle.tv_model.specs.Turns.{is_bounced}
 use Rattle.tv_history.specs.Entries.{Entry, History, handed_out, is_out, opened, recalled}
 use Rattle.tv_history.specs.Histories.{can_open, can_settle_more, is_at, is_offered}
 
-module _ (gives : Giving) (m : Meaning) where
+module _ (m : Meaning) where
   abbrev pub nobody_out : History → Bool
   nobody_out past = list_all (λ j. not (is_out past j.name)) m.jobs
 
-  -- a try is handed out only where nothing can be settled, no try is out, and its job is the first that is offered or can open its flow
+  -- a try is handed out only where nothing can be settled, no try is out, and its job is the first that is offered or
+  -- can open its flow
   abbrev pub is_by_one_after : History → Entry → Bool
   is_by_one_after past (handed_out n a t) =
-      not (can_settle_more gives m past) && option_map_or (λ j. is_at gives m j n) (find (λ j. is_offered gives m past j || can_open gives m past j) m.jobs) false && nobody_out past
+      not (can_settle_more m past)
+      && option_map_or (λ j. is_at j n) (find (λ j. is_offered m past j || can_open m past j) m.jobs) false
+      && nobody_out past
   is_by_one_after past (opened n) = nobody_out past
   is_by_one_after past (recalled k) = false
   is_by_one_after past _ = true

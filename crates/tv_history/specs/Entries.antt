@@ -1,9 +1,10 @@
 -- The entries of a history: what was handed out, accepted, bounced, closed, passed, opened, ended and recalled.
-use Rattle.std.specs.Prelude.{Bool, List, [], false, if◌then◌else◌, true, ℕ, ◌∷◌}
+use Rattle.std.specs.Prelude.{Bool, List, None, Option, Some, [], false, if◌then◌else◌, true, ℕ, ◌∷◌}
 use Rattle.tv_value.specs.Orders.{same_job}
 use Rattle.tv_value.specs.Values.{JobName}
 
--- Jobs, and the lists and faults of iterations, by their names; an instance by the name of the job that opened it, the main one by [].
+-- Jobs, and the lists and faults of iterations, by their names; an instance by the name of the job that opened it,
+-- the main one by [].
 pub data Entry : Type 0 where
   handed_out : JobName → ℕ → ℕ → Entry
   accepted : JobName → ℕ → ℕ → Bool → Entry
@@ -13,6 +14,11 @@ pub data Entry : Type 0 where
   opened : JobName → Entry
   ended : JobName → Entry
   recalled : ℕ → Entry
+
+-- a list that is closed with its length, or a fault that is passed
+abbrev pub level_entry : JobName → Option ℕ → Entry
+level_entry n (Some k) = closed n k
+level_entry n None = fault_passed n
 
 -- the entries so far, the newest first
 abbrev pub History : Type 0

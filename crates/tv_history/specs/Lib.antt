@@ -1,6 +1,5 @@
 pub mod Entries
 pub mod Histories
-pub mod Tallies
 pub mod Tries
 pub mod ReadOff
 pub mod Going

@@ -59,7 +59,9 @@ EndsAfterItsJob =
     × (is_legal_run one_text (out_first u ∷ ended [] ∷ []) ≡ false)
 
 abbrev pub ReadsTotalsOff : Type 0
-ReadsTotalsOff = read_totals (reverse (out_first u ∷ in_right u ∷ ended [] ∷ [])) (meant one_text).jobs ≡ record { attempts = 1; bounced = 0; failed = 0; jobs = 1 }
+ReadsTotalsOff =
+    read_totals (reverse (out_first u ∷ in_right u ∷ ended [] ∷ [])) (meant one_text).jobs
+    ≡ record { attempts = 1; bounced = 0; failed = 0; jobs = 1 }
 
 abbrev pub AcceptsOnce : Type 0
 AcceptsOnce = is_legal_run one_text (out_first u ∷ in_right u ∷ in_right u ∷ []) ≡ false
@@ -88,7 +90,8 @@ TriesInTurn =
 
 -- with the same try as before
 abbrev pub HandsOutAgainAfterRecall : Type 0
-HandsOutAgainAfterRecall = is_legal_run two_steps (out_first p0 ∷ recalled 1 ∷ out_first p0 ∷ in_right p0 ∷ []) ≡ true
+HandsOutAgainAfterRecall =
+    is_legal_run two_steps (out_first p0 ∷ recalled 1 ∷ out_first p0 ∷ in_right p0 ∷ []) ≡ true
 
 abbrev pub TakesNoRecalledAnswer : Type 0
 TakesNoRecalledAnswer = is_legal_run two_steps (out_first p0 ∷ recalled 1 ∷ in_right p0 ∷ []) ≡ false
@@ -118,11 +121,15 @@ KeepsLimitOfJobs =
 
 -- a worker at each step: the second step's outcome comes before the first one's
 abbrev pub WorksOnBothSteps : Type 0
-WorksOnBothSteps = is_legal_run two_steps (out_first p0 ∷ in_right p0 ∷ out_first q0 ∷ out_first p1 ∷ in_right q0 ∷ in_right p1 ∷ []) ≡ true
+WorksOnBothSteps =
+    is_legal_run two_steps (out_first p0 ∷ in_right p0 ∷ out_first q0 ∷ out_first p1 ∷ in_right q0 ∷ in_right p1 ∷ [])
+    ≡ true
 
 -- where outcomes come in another order, so do the jobs on them
 abbrev pub TakesItemsAsTheyCome : Type 0
-TakesItemsAsTheyCome = is_legal_run (two_steps_with 2) (out_first p0 ∷ out_first p1 ∷ in_right p1 ∷ out_first q1 ∷ in_right q1 ∷ in_right p0 ∷ out_first q0 ∷ []) ≡ true
+TakesItemsAsTheyCome =
+    is_legal_run (two_steps_with 2) (out_first p0 ∷ out_first p1 ∷ in_right p1 ∷ out_first q1 ∷ in_right q1 ∷ in_right p0 ∷ out_first q0 ∷ [])
+    ≡ true
 
 -- ---- lists and faults
 

@@ -1,5 +1,5 @@
 -- Worked runs of a plain worker, each to its end.
-use Rattle.std.specs.Prelude.{Bool, [], codes, false, true, ◌∷◌, ◌≡◌}
+use Rattle.std.specs.Prelude.{Bool, [], codes, false, true, ◌∷◌, ◌≡◌, count_by}
 use Rattle.tv_flow.specs.Flows.{Document}
 use Rattle.tv_model.specs.RowsOfFaults.{failing_over, list_fails, one_fails, pairing_fault}
 use Rattle.tv_model.specs.RowsOfFlows.{opening, side_by_side, two_steps}
@@ -9,7 +9,6 @@ use Rattle.tv_model.specs.TextServices.{text_services}
 use Rattle.tv_model.specs.Writing.{a, asks, document, from_input, from_step, meant, out, takes, takes_list, words, x}
 use Rattle.tv_history.specs.Entries.{Entry, History, ended, opened}
 use Rattle.tv_history.specs.Histories.{kept, room}
-use Rattle.tv_history.specs.Tallies.{tally}
 use Rattle.tv_history.specs.Worker.{Told, all_true, run, told}
 
 abbrev pub run_of : Document → History
@@ -63,12 +62,13 @@ is_end _ = false
 -- three instances are opened, these and the main one are ended, and then nothing is kept
 abbrev pub KeepsNothingAtEnd : Type 0
 KeepsNothingAtEnd =
-    (tally is_opening (run_of opening) ≡ 3)
-    × (tally is_end (run_of opening) ≡ 4)
-    × (kept text_services (meant opening) (run_of opening) ≡ 0)
-    × (room text_services (meant opening) (run_of opening) ≡ 0)
+    (count_by is_opening (run_of opening) ≡ 3)
+    × (count_by is_end (run_of opening) ≡ 4)
+    × (kept (meant opening) (run_of opening) ≡ 0)
+    × (room (meant opening) (run_of opening) ≡ 0)
 
--- a step without an activity, which the check of a document refuses: its job counts as settled from the start, so the last step doesn't wait for the first
+-- a step without an activity, which the check of a document refuses: its job counts as settled from the start, so the
+-- last step doesn't wait for the first
 abbrev pub idle_step : Document
 idle_step =
     document

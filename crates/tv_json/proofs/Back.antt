@@ -1,13 +1,13 @@
 -- A document's JSON reads back as the document.
-use Rattle.std.specs.Prelude.{◌≡◌, ℕ, zero, suc, ◌+◌, ◌≤◌, List, [], ◌∷◌, ◌++◌, length, map, Bool, true, false, ◌&&◌, ◌||◌, not, nat_le, nat_lt, codes, is_some, if◌then◌else◌, Option, Some, None, Result, Ok, Err, refl}
+use Rattle.std.specs.Prelude.{◌≡◌, ℕ, suc, ◌+◌, ◌≤◌, List, [], ◌∷◌, ◌++◌, length, map, Bool, true, false, ◌&&◌, ◌||◌, not, nat_le, nat_lt, codes, is_some, if◌then◌else◌, Option, Some, None, Result, Ok, Err, refl}
 use Rattle.std.specs.declared.cmp.Ordering.{Ordering}
 use Rattle.std.specs.List.{list_all}
 use Rattle.std.specs.Ordering.{nat_cmp, is_lt, ordering_reverse, match_ordering}
 use Rattle.std.specs.Cmp.Lexicographic.{slice_cmp}
-use Rattle.std.proofs.Common.{ap, sym, subst, ◌∙◌, arith, append_assoc, append-nil, Less, Equal, Greater}
+use Rattle.std.proofs.Common.{ap, sym, ◌∙◌, arith, append_assoc, append-nil, Less, Equal, Greater}
 use Rattle.std.proofs.lemmas.Bool.Decides.{nat_tests}
 use Rattle.std.proofs.lemmas.Cmp.{nat_list_cmp_total}
-use Rattle.serde_json.specs.Data.{Data, Num, unsigned, number, string, array, object, Items, no_items, item, Members, no_members, member, put}
+use Rattle.serde_json.specs.Data.{Data, string, array, member, put}
 use Rattle.serde_json.specs.View.{items_of}
 use Rattle.tv_value.specs.Nested.{Trees, no_trees, tree, leaf, list, count}
 use Rattle.tv_value.specs.Values.{Text, Name, Value, Scalar, text, fault, is_fault, list_value}
@@ -18,14 +18,14 @@ use Rattle.tv_value.specs.Orders.{name_cmp, put_in_order, in_order}
 use Rattle.tv_value.specs.Printed.{json, all_json, scalar_json, members}
 use Rattle.tv_value.specs.Strategies.{Strategy, port, cross, dot, Strategies, no_strategies, strategy}
 use Rattle.tv_value.specs.Activities.{Activity, service, nested}
-use Rattle.tv_flow.specs.declared.faults.FormKind.TheVariants.{OutOfRange, Empty, BadName}
+use Rattle.tv_flow.specs.declared.faults.FormKind.TheVariants.{OutOfRange, BadName}
 use Rattle.tv_flow.specs.Complaints.{Path, Complaint, complaint, key, index, given}
 use Rattle.tv_flow.specs.Flows.{Link, input, output, Feed, link, merge, constant, StepInput, Step, Flow, Document}
-use Rattle.tv_flow.specs.Forms.{is_name, name_or_not, name_form, number_form, depth_form, counted, member_count, entries_form, named_form, items_form, array_form, value_form, of_reading, link_form, feed_form, tree_form, trees_form, each_tree, activity_form, step_input_form, names_form, step_form, flow_form, document_form, form_of}
+use Rattle.tv_flow.specs.Forms.{is_name, name_or_not, name_form, number_form, depth_form, counted, member_count, entries_form, named_form, items_form, array_form, value_form, of_reading, link_form, feed_form, tree_form, trees_form, each_tree, activity_form, step_input_form, names_form, step_form, flow_form, form_of}
 use Rattle.tv_flow.specs.Formed.{is_ascending, is_between, is_depth, are_entries, are_named, are_listed, is_value, are_values, is_link, is_feed, strategy_count, is_tree, are_trees, is_activity, is_step_input, are_names, is_step, is_flow, is_formed}
 use Rattle.tv_flow.proofs.Growing.{all-push}
 use Rattle.tv_flow.proofs.Sorting.{and-first, and-second, above}
-use Rattle.tv_json.specs.Documents.{number_json, array_json, put_each, named_json, only, link_json, feed_json, step_input_json, activity_json, tree_json, all_trees, strategy_member, step_members, step_json, flow_json, document_json}
+use Rattle.tv_json.specs.Documents.{number_json, array_json, put_each, named_json, link_json, feed_json, step_input_json, activity_json, tree_json, all_trees, step_json, flow_json, document_json}
 
 -- ---- numbers and names
 

@@ -49,13 +49,13 @@ job_view j = record { name = j.name; instance = j.instance; step = j.step; limit
 abbrev pub level_view : Level → model_level.Level
 level_view l = record { name = l.name; instance = l.instance; sources = map origin_view l.sources; length = l.length }
 
--- the meaning that it stands for, with no order of asks
+-- the meaning that it stands for, without its instances
 abbrev pub whole_view : Whole → Meaning
-whole_view w = record { outputs = binding_view w.outputs; steps = map step_view w.steps; jobs = map job_view w.jobs; order = [] }
+whole_view w = record { outputs = binding_view w.outputs; steps = map step_view w.steps; jobs = map job_view w.jobs; instances = [] }
 
-abbrev pub without_order : Meaning → Meaning
-without_order m = record { outputs = m.outputs; steps = m.steps; jobs = m.jobs; order = [] }
+abbrev pub without_instances : Meaning → Meaning
+without_instances m = record { outputs = m.outputs; steps = m.steps; jobs = m.jobs; instances = [] }
 
--- all of a meaning but its order of asks
+-- all of a meaning but its instances
 abbrev pub IsWhole : Meaning → Whole → Type 0
-IsWhole m w = whole_view w ≡ without_order m
+IsWhole m w = whole_view w ≡ without_instances m

@@ -1,25 +1,25 @@
 -- What an instance delivers has the depths of the check.
-use Rattle.std.specs.Prelude.{◌≡◌, refl, ℕ, zero, suc, ◌+◌, ◌-◌, List, [], ◌∷◌, map, find, Bool, true, false, Some, unwrap_or, if◌then◌else◌}
+use Rattle.std.specs.Prelude.{◌≡◌, refl, ℕ, zero, suc, ◌+◌, ◌-◌, List, [], ◌∷◌, ◌++◌, map, find, Bool, true, false, Option, Some, None, option_map, unwrap_or, if◌then◌else◌}
 use Rattle.std.specs.Option.{option_map_or}
 use Rattle.std.proofs.Common.{arith, sym, ap, subst, ◌∙◌}
-use Rattle.tv_value.specs.Nested.{trees_of}
-use Rattle.tv_value.specs.Values.{Name, JobName, Value, HasDepth, AllHaveDepth}
+use Rattle.tv_value.specs.Nested.{leaf, list, Trees, no_trees, tree, Place, trees_of}
+use Rattle.tv_value.specs.Values.{Name, JobName, Scalar, Value, HasDepth, AllHaveDepth}
 use Rattle.tv_value.specs.Orders.{same_name, named}
 use Rattle.tv_flow.specs.Flows.{Link, input, output, Feed, link, merge, constant, StepInput, Step}
-use Rattle.tv_strategy.specs.Origins.{Traced, fixed}
+use Rattle.tv_strategy.specs.Origins.{Traced, fixed, input_value, input_values}
 use Rattle.tv_strategy.specs.Iterations.{Iteration}
 use Rattle.tv_strategy.specs.Measures.{strategy_depth}
 use Rattle.tv_gate.specs.Outcomes.{Giving}
+use Rattle.tv_naming.proofs.OfLists.{find-map}
 use Rattle.tv_depths.specs.Delivered.{Delivered, Ported, nothing_delivered, wrapped, ported}
 use Rattle.tv_model.specs.Made.{Made, Meaning, Opened, link_value, feed_value, delivered_outputs}
 use Rattle.tv_depths.specs.Steps.{port_mismatch, strategy_of}
-use Rattle.tv_model.specs.Instances.{step_made}
-use Rattle.tv_model.specs.Agreeing.{constant_depth, StepDepths, link_depth, feed_depth, port_depth, step_depths, AllAre, FeedAgrees}
-pub use Rattle.tv_model.specs.Fitting.{AreRight, IsRight}
+use Rattle.tv_model.specs.Instances.{step_made, value_given}
+use Rattle.tv_model.specs.Agreeing.{constant_depth, StepDepths, link_depth, feed_depth, port_depth, step_depths, AllAre, FeedAgrees, InputsHave}
+pub use Rattle.tv_model.specs.RightDepths.{AreRight, IsRight}
 use Rattle.tv_model.proofs.Tests.{Each}
 use Rattle.tv_strategy.proofs.AtDepth.{traced-depth}
 use Rattle.tv_model.proofs.Fed.{step_ports, step_iteration, named_or, find_map_or}
-use Rattle.tv_model.proofs.Agreed.{least-depth}
 
 abbrev pub depths_of : List (Name × Delivered) → List (Name × ℕ)
 depths_of ds = map (λ d. (d.0, d.1.depth)) ds
@@ -39,12 +39,13 @@ named-depth n (x ∷ xs) = by (same_name n x.0) (named-depth n xs)
     by false h = h
 
 found-depth : (s p : Name) (ms : List Made) → (option_map_or (λ (m : Made). unwrap_or (named p m.step.outputs) nothing_delivered) (find (λ m. same_name s m.step.step) ms) nothing_delivered).depth ≡ option_map_or (λ (m : StepDepths). unwrap_or (named p m.outputs) 1) (find (λ m. same_name s m.step) (map forget ms)) 1
-found-depth s p [] = refl
-found-depth s p (m ∷ ms) = by (same_name s m.step.step) (found-depth s p ms)
+found-depth s p ms =
+    by (find (λ m. same_name s m.step.step) ms)
+    ∙ ap (λ o. option_map_or (λ (m : StepDepths). unwrap_or (named p m.outputs) 1) o 1) (sym (find-map (λ m. same_name s m.step) forget ms))
   where
-    by : (b : Bool) → (option_map_or (λ (m : Made). unwrap_or (named p m.step.outputs) nothing_delivered) (find (λ m. same_name s m.step.step) ms) nothing_delivered).depth ≡ option_map_or (λ (m : StepDepths). unwrap_or (named p m.outputs) 1) (find (λ m. same_name s m.step) (map forget ms)) 1 → (option_map_or (λ (m : Made). unwrap_or (named p m.step.outputs) nothing_delivered) (if b then Some m else find (λ m. same_name s m.step.step) ms) nothing_delivered).depth ≡ option_map_or (λ (m : StepDepths). unwrap_or (named p m.outputs) 1) (if b then Some (forget m) else find (λ m. same_name s m.step) (map forget ms)) 1
-    by true h = named-depth p m.step.outputs
-    by false h = h
+    by : (o : Option Made) → (option_map_or (λ (m : Made). unwrap_or (named p m.step.outputs) nothing_delivered) o nothing_delivered).depth ≡ option_map_or (λ (m : StepDepths). unwrap_or (named p m.outputs) 1) (option_map forget o) 1
+    by None = refl
+    by (Some m) = named-depth p m.step.outputs
 
 module _ (given : List (Name × Delivered)) (ms : List Made) where
   pub link-depth : (l : Link) → (link_value given ms l).depth ≡ link_depth (depths_of given) (map forget ms) l
@@ -81,21 +82,12 @@ forget-step gives inside I given ms (n, s) =
 -- ---- a value that is delivered has the delivered depth
 
 wrapped-depth : (k : ℕ) (v : Traced) (d n : ℕ) → n ≡ k + d → HasDepth v d → HasDepth (wrapped k v) n
-wrapped-depth zero v d n e h = subst (λ m. HasDepth v m) (same d n e) h
-  where
-    same : (d n : ℕ) → n ≡ 0 + d → d ≡ n
-    same d n e = omega arith
-wrapped-depth (suc k) v d zero e h = absurd (none e)
-  where
-    none : 0 ≡ suc k + d → ⊥
-    none e = omega arith
+wrapped-depth zero v d n e h = let same : d ≡ n = omega (arith, e) in subst (HasDepth v) same h
+wrapped-depth (suc k) v d zero e h = omega (arith, e)
 wrapped-depth (suc k) v d (suc n) e h = (wrapped-depth k v d n (omega arith) h, tt)
 
 pub ported-depth : (declared : ℕ) (d : Delivered) → IsRight d → HasDepth (ported declared d).value ((ported declared d).mismatch + declared)
-ported-depth declared d h = wrapped-depth (declared - d.depth) d.value d.depth ((d.depth - declared) + declared) (same declared d.depth) h
-  where
-    same : (a b : ℕ) → (b - a) + a ≡ (a - b) + b
-    same a b = omega arith
+ported-depth declared d h = wrapped-depth (declared - d.depth) d.value d.depth ((d.depth - declared) + declared) (omega arith) h
 
 module _ (given : List (Name × Delivered)) (given_right : AreRight given) (ms : List Made) (made_right : Each (λ m. AreRight m.step.outputs) ms) where
   link-right : (l : Link) → IsRight (link_value given ms l)
@@ -112,4 +104,27 @@ module _ (given : List (Name × Delivered)) (given_right : AreRight given) (ms :
   feed-right (merge []) h = tt
   feed-right (merge (l ∷ ls)) h =
       (link-right l, links-right (link_value given ms l).depth ls (subst (λ d. AllAre d (map (link_depth (depths_of given) (map forget ms)) ls)) (sym (link-depth given ms l)) h))
-  feed-right (constant v) h = traced-depth fixed v (constant_depth v) (least-depth v h)
+  feed-right (constant v) h = traced-depth fixed v (constant_depth v) h
+
+-- ---- what an instance is given has the depths of its flow's inputs
+
+mutual
+  input-depth : (x : Name) (q : Place) (v : Value) (d : ℕ) → HasDepth v d → HasDepth (input_value x q v) d
+  input-depth x q (leaf n a) d h = h
+  input-depth x q (list n vs) zero h = absurd h
+  input-depth x q (list n vs) (suc d) h = inputs-depth x q 0 vs d h
+
+  inputs-depth : (x : Name) (q : Place) (i : ℕ) (vs : Trees (Unit {0}) Scalar) (d : ℕ) → AllHaveDepth vs d → AllHaveDepth (input_values x q i vs) d
+  inputs-depth x q i no_trees d h = tt
+  inputs-depth x q i (tree v vs) d h = (input-depth x (q ++ i ∷ []) v d h.0, inputs-depth x q (suc i) vs d h.1)
+
+abbrev given_as : List (Name × Value) → Name × ℕ → Name × Delivered
+given_as vs x = (x.0, record { depth = x.1; value = input_value x.0 [] (value_given vs x.0) })
+
+pub given-right : (vs : List (Name × Value)) (xs : List (Name × ℕ)) → InputsHave xs vs → AreRight (map (given_as vs) xs)
+given-right vs [] h = tt
+given-right vs (x ∷ xs) h = (input-depth x.0 [] (value_given vs x.0) x.1 h.0, given-right vs xs h.1)
+
+pub given-depths : (vs : List (Name × Value)) (xs : List (Name × ℕ)) → depths_of (map (given_as vs) xs) ≡ xs
+given-depths vs [] = refl
+given-depths vs (x ∷ xs) = ap (λ ys. x ∷ ys) (given-depths vs xs)

@@ -1,12 +1,12 @@
 -- Members of lists, and lists whose members have keys of their own.
 use Rattle.std.specs.Prelude.{◌≡◌, refl, ℕ, suc, ◌≤◌, ◌⊎◌, List, [], ◌∷◌, ◌++◌, Bool, true, false, filter_map, flat_map, Option, Some, None}
-use Rattle.std.specs.List.{cons_option}
+use Rattle.std.specs.List.{cons_option, list_any}
 use Rattle.std.proofs.Common.{arith, sym, ap, subst, ◌∙◌, inl, inr, append_assoc, append-nil}
 use Rattle.tv_value.specs.Nested.{leaf, list, no_trees, tree, Place, nodes, nodes_below, nodes_from}
 use Rattle.tv_strategy.specs.Iterations.{Iteration, Iterations}
 use Rattle.tv_model.specs.Lists.{rest_of}
-use Rattle.tv_model.proofs.Tests.{Each, true≠false}
-use Rattle.tv_model.proofs.Turns.{In}
+use Rattle.tv_model.proofs.Tests.{Each, or_right, true≠false}
+use Rattle.tv_model.proofs.Turns.{In, or_left}
 use Rattle.tv_model.proofs.Order.{in-left, in-right, in-append}
 use Rattle.tv_model.proofs.Sound.{cancel}
 
@@ -18,6 +18,11 @@ each_in P (y ∷ xs) e x (inr h) = each_in P xs e.1 x h
 pub in_each : {A : Type 0} (P : A → Type 0) (xs : List A) → ((x : A) → In x xs → P x) → Each P xs
 in_each P [] f = tt
 in_each P (x ∷ xs) f = (f x (inl refl), in_each P xs (λ y h. f y (inr h)))
+
+pub any-in : {A : Type 0} (p : A → Bool) (x : A) (xs : List A) → In x xs → p x ≡ true → list_any p xs ≡ true
+any-in p x [] h e = absurd h
+any-in p x (y ∷ xs) (inl q) e = or_left (p y) (list_any p xs) (ap p (sym q) ∙ e)
+any-in p x (y ∷ xs) (inr h) e = or_right (p y) (list_any p xs) (any-in p x xs h e)
 
 pub in-flat : {A B : Type 0} (f : A → List B) (x : A) (y : B) (xs : List A) → In x xs → In y (f x) → In y (flat_map f xs)
 in-flat f x y [] h k = absurd h
@@ -43,19 +48,7 @@ of-options {A = A} {B = B} f y (x ∷ xs) h = by (f x) refl h (λ k. of-options 
 
 pub in-options : {A B : Type 0} (f : A → Option B) (x : A) (y : B) (xs : List A) → In x xs → f x ≡ Some y → In y (filter_map f xs)
 in-options f x y [] h e = absurd h
-in-options {A = A} {B = B} f x y (z ∷ xs) (inl p) e = by (f z) (ap f (sym p) ∙ e)
-  where
-    by : (o : Option B) → o ≡ Some y → In y (cons_option o (filter_map f xs))
-    by None g = absurd (true≠false (sym (ap has g)))
-      where
-        has : Option B → Bool
-        has None = false
-        has (Some w) = true
-    by (Some w) g = inl (ap (λ o. or_this o) (sym g))
-      where
-        or_this : Option B → B
-        or_this None = y
-        or_this (Some v) = v
+in-options {A = A} {B = B} f x y (z ∷ xs) (inl p) e = subst (λ o. In y (cons_option o (filter_map f xs))) (sym (ap f (sym p) ∙ e)) (inl refl)
 in-options {A = A} {B = B} f x y (z ∷ xs) (inr h) e = by (f z) (in-options f x y xs h e)
   where
     by : (o : Option B) → In y (filter_map f xs) → In y (cons_option o (filter_map f xs))
@@ -93,25 +86,15 @@ apart-flat h key f (x ∷ xs) a own same =
 
 -- ---- the places of a tree are apart
 
-longer : (q : Place) (j : ℕ) (r : Place) → q ≡ q ++ j ∷ r → ⊥
-longer q j r e = nothing (cancel q [] (j ∷ r) (append-nil q ∙ e))
+pub not-longer : {A : Type 0} (xs : List A) (a : A) (r : List A) → xs ≡ xs ++ a ∷ r → ⊥
+not-longer xs a r e = nothing (cancel xs [] (a ∷ r) (append-nil xs ∙ e))
   where
-    nothing : [] ≡ j ∷ r → ⊥
-    nothing f = true≠false (ap is_empty f)
-      where
-        is_empty : Place → Bool
-        is_empty [] = true
-        is_empty (i ∷ p) = false
+    nothing : [] ≡ a ∷ r → ⊥
+    nothing f = cc
 
 from-either : (t : Iteration) (ts : Iterations) (q : Place) (i : ℕ) (x : Place × Iteration) → In x (nodes_below (q ++ i ∷ []) t) ⊎ In x (nodes_from q (suc i) ts) → (In x (nodes_below (q ++ i ∷ []) t) → (r : Place) × (x.0 ≡ (q ++ i ∷ []) ++ r)) → (In x (nodes_from q (suc i) ts) → (j : ℕ) × (r : Place) × (suc i ≤ j) × (x.0 ≡ q ++ j ∷ r)) → (j : ℕ) × (r : Place) × (i ≤ j) × (x.0 ≡ q ++ j ∷ r)
-from-either t ts q i x (inl k) f g = let r = f k in (i, r.0, itself i, r.1 ∙ append_assoc q (i ∷ []) r.0)
-  where
-    itself : (n : ℕ) → n ≤ n
-    itself n = omega arith
-from-either t ts q i x (inr k) f g = let r = g k in (r.0, r.1, less i r.0 r.2, r.3)
-  where
-    less : (m n : ℕ) → suc m ≤ n → m ≤ n
-    less m n p = omega arith
+from-either t ts q i x (inl k) f g = let r = f k in (i, r.0, omega arith, r.1 ∙ append_assoc q (i ∷ []) r.0)
+from-either t ts q i x (inr k) f g = let r = g k in (r.0, r.1, omega (arith, r.2), r.3)
 
 mutual
   below-place : (t : Iteration) (q : Place) (x : Place × Iteration) → In x (nodes_below q t) → (r : Place) × (x.0 ≡ q ++ r)
@@ -128,20 +111,18 @@ abbrev first_index : ℕ → Place → ℕ
 first_index d [] = d
 first_index d (i ∷ q) = i
 
-differ : (t : Iteration) (ts : Iterations) (q : Place) (i : ℕ) (x y : Place × Iteration) → (r : Place) × (x.0 ≡ (q ++ i ∷ []) ++ r) → (j : ℕ) × (r : Place) × (suc i ≤ j) × (y.0 ≡ q ++ j ∷ r) → y.0 ≡ x.0 → ⊥
-differ t ts q i x y a b e = unequal i b.0 b.2 (ap (first_index 0) (cancel q (b.0 ∷ b.1) (i ∷ a.0) (sym b.3 ∙ e ∙ a.1 ∙ append_assoc q (i ∷ []) a.0)))
-  where
-    unequal : (m n : ℕ) → suc m ≤ n → n ≡ m → ⊥
-    unequal m n p f = omega arith
+differ : (q : Place) (i : ℕ) (x y : Place × Iteration) → (r : Place) × (x.0 ≡ (q ++ i ∷ []) ++ r) → (j : ℕ) × (r : Place) × (suc i ≤ j) × (y.0 ≡ q ++ j ∷ r) → y.0 ≡ x.0 → ⊥
+differ q i x y a b e =
+    let same = ap (first_index 0) (cancel q (b.0 ∷ b.1) (i ∷ a.0) (sym b.3 ∙ e ∙ a.1 ∙ append_assoc q (i ∷ []) a.0)) in omega (arith, same, b.2)
 
 mutual
   below-apart : (t : Iteration) (q : Place) → Apart (λ x. x.0) (nodes_below q t)
   below-apart (leaf s e) q = (λ y h e. absurd h, tt)
-  below-apart (list s ts) q = (λ y h e. let r = from-place ts q 0 y h in longer q r.0 r.1 (sym e ∙ r.3), from-apart ts q 0)
+  below-apart (list s ts) q = (λ y h e. let r = from-place ts q 0 y h in not-longer q r.0 r.1 (sym e ∙ r.3), from-apart ts q 0)
 
   from-apart : (ts : Iterations) (q : Place) (i : ℕ) → Apart (λ x. x.0) (nodes_from q i ts)
   from-apart no_trees q i = tt
-  from-apart (tree t ts) q i = apart-append (λ x. x.0) (nodes_below (q ++ i ∷ []) t) (nodes_from q (suc i) ts) (below-apart t (q ++ i ∷ [])) (from-apart ts q (suc i)) (λ x y h k e. differ t ts q i x y (below-place t (q ++ i ∷ []) x h) (from-place ts q (suc i) y k) e)
+  from-apart (tree t ts) q i = apart-append (λ x. x.0) (nodes_below (q ++ i ∷ []) t) (nodes_from q (suc i) ts) (below-apart t (q ++ i ∷ [])) (from-apart ts q (suc i)) (λ x y h k e. differ q i x y (below-place t (q ++ i ∷ []) x h) (from-place ts q (suc i) y k) e)
 
 pub nodes-apart : (t : Iteration) → Apart (λ x. x.0) (nodes t)
 nodes-apart t = below-apart t []
@@ -149,28 +130,15 @@ nodes-apart t = below-apart t []
 -- ---- names
 
 pub no-nil : {A : Type 0} (ys : List A) (b : A) → [] ≡ ys ++ b ∷ [] → ⊥
-no-nil {A = A} [] b e = true≠false (ap is_empty e)
-  where
-    is_empty : List A → Bool
-    is_empty [] = true
-    is_empty (z ∷ zs) = false
-no-nil {A = A} (y ∷ ys) b e = true≠false (ap is_empty e)
-  where
-    is_empty : List A → Bool
-    is_empty [] = true
-    is_empty (z ∷ zs) = false
+no-nil [] b e = cc
+no-nil (y ∷ ys) b e = cc
 
 -- a list with one more at its end determines both
 pub snoc-parts : {A : Type 0} (d : A) (xs ys : List A) (a b : A) → xs ++ a ∷ [] ≡ ys ++ b ∷ [] → (xs ≡ ys) × (a ≡ b)
-snoc-parts {A = A} d [] [] a b e = (refl, ap first e)
-  where
-    first : List A → A
-    first [] = d
-    first (z ∷ zs) = z
+snoc-parts d [] [] a b e = (refl, cc)
 snoc-parts d [] (y ∷ ys) a b e = absurd (no-nil ys b (ap rest_of e))
 snoc-parts d (x ∷ xs) [] a b e = absurd (no-nil xs a (sym (ap rest_of e)))
-snoc-parts {A = A} d (x ∷ xs) (y ∷ ys) a b e = let r = snoc-parts d xs ys a b (ap rest_of e) in (λ i. first (e i) ∷ r.0 i, r.1)
+snoc-parts {A = A} d (x ∷ xs) (y ∷ ys) a b e = let r = snoc-parts d xs ys a b (ap rest_of e) in (ap (λ l. x ∷ l) r.0 ∙ ap (λ z. z ∷ ys) (heads x y (xs ++ a ∷ []) (ys ++ b ∷ []) e), r.1)
   where
-    first : List A → A
-    first [] = x
-    first (z ∷ zs) = z
+    heads : (x y : A) (us vs : List A) → x ∷ us ≡ y ∷ vs → x ≡ y
+    heads x y us vs e = cc

@@ -10,16 +10,16 @@ use Rattle.tv_value.specs.Strategies.{Strategy}
 use Rattle.tv_flow.specs.Flows.{StepInput, Step, Flow}
 use Rattle.tv_strategy.specs.Origins.{Origin}
 use Rattle.tv_strategy.specs.Iterations.{Binding, job, passed, Iteration, Iterations, walk, iteration}
-use Rattle.tv_strategy.specs.Levels.{HasLevels}
-use Rattle.tv_strategy.specs.Measures.{strategy_depth, DotsAgree}
+use Rattle.tv_strategy.specs.Levels.{HasLevels, IsJob}
+use Rattle.tv_strategy.specs.Measures.{strategy_depth, DotsAgree, leaf_names}
 use Rattle.tv_strategy.specs.Sources.{JobsStand, JobsStandFrom}
 use Rattle.tv_strategy.proofs.AtDepth.{walk-levels, iteration-levels, output-depth}
 use Rattle.tv_strategy.proofs.OfSources.{each-append}
 use Rattle.tv_gate.specs.Outcomes.{Giving}
 use Rattle.tv_depths.specs.Delivered.{Ported}
 use Rattle.tv_depths.specs.Steps.{bound_values, declared_depths, port_iteration, port_mismatch, spot, strategy_of}
-use Rattle.tv_model.specs.Agreeing.{ports_in, FindThemselves, ActivitiesAgree, ActivitiesNest, NestsWithin}
-use Rattle.tv_model.specs.Fitting.{AreRight, HaveDepths, PortsHave}
+use Rattle.tv_model.specs.Agreeing.{FindThemselves, ActivitiesAgree, ActivitiesNest, NestsWithin}
+use Rattle.tv_model.specs.RightDepths.{AreRight, HaveTheseDepths}
 use Rattle.tv_model.specs.Instances.{node_jobs, job_on}
 use Rattle.tv_model.specs.Lists.{rest_of}
 use Rattle.tv_model.specs.Made.{Meaning, Opened, result_of, delivered_outputs}
@@ -27,10 +27,10 @@ use Rattle.tv_model.specs.Members.{In}
 use Rattle.tv_model.proofs.Tests.{Each, true≠false, same_job_decides}
 use Rattle.tv_model.proofs.Fed.{either, each-flat_map}
 use Rattle.tv_model.proofs.Members.{in-flat}
-use Rattle.tv_model.proofs.Sound.{AllStand, AllStandFrom}
+use Rattle.tv_model.proofs.Sound.{AllStand, AllStandFrom, StandsAt, all-stand, nodes-stand}
 use Rattle.tv_model.proofs.Formed.{nodes-in, IsNode}
 use Rattle.tv_model.proofs.Kept.{job-at}
-use Rattle.tv_model.proofs.Binds.{Binds, AllBind, EndBinds, walk-binds, iteration-binds, bound-have}
+use Rattle.tv_model.proofs.Binds.{Binds, walk-binds, iteration-binds, bound-have}
 use Rattle.tv_model.proofs.Results.{Delivers, IsFit, job-fit}
 
 -- ---- what the ports take
@@ -48,10 +48,6 @@ module _ (f : StepInput → Ported) where
 
   abbrev pub taken_by : List (Name × StepInput) → List (Name × Ported)
   taken_by is = map (λ i. (i.0, f i.1)) is
-
-  pub ports-have : (is : List (Name × StepInput)) → Each Takes is → PortsHave is (taken_by is)
-  ports-have [] h = tt
-  ports-have (i ∷ is) h = (refl, h.0, ports-have is h.1)
 
   port-levels : (is : List (Name × StepInput)) → Each Takes is → (p : Name) → HasLevels (port_iteration (taken_by is) p) (port_mismatch (taken_by is) p)
   port-levels [] h p = refl
@@ -73,25 +69,11 @@ module _ (f : StepInput → Ported) where
     pub all-levels : HasLevels (iteration (port_iteration (taken_by is)) s) (strategy_depth (port_mismatch (taken_by is)) s)
     all-levels = iteration-levels (port_iteration (taken_by is)) (port_mismatch (taken_by is)) (λ p. port-levels is takes p) s dots
 
-    pub all-bind : list_all (λ p. is_some (named p is)) (ports_in s) ≡ true → Binds (declared_in is) (ports_in s) (iteration (port_iteration (taken_by is)) s)
+    pub all-bind : list_all (λ p. is_some (named p is)) (leaf_names s) ≡ true → Binds (declared_in is) (leaf_names s) (iteration (port_iteration (taken_by is)) s)
     all-bind h =
         iteration-binds (declared_in is) (port_iteration (taken_by is)) (port_mismatch (taken_by is)) (λ p. port-levels is takes p) (λ p. is_some (named p is)) (λ p k. port-binds (declared_in is) is takes p refl k) s dots h
 
 -- ---- the nodes of an iteration
-
-module _ (D : Name → ℕ) (ns : List Name) where
-  abbrev pub NodeBinds : Place × Iteration → Type 0
-  NodeBinds (q, leaf r e) = EndBinds D ns e
-  NodeBinds (q, list r ts) = Unit {0}
-
-  mutual
-    pub nodes-bind : (t : Iteration) (q : Place) → Binds D ns t → Each NodeBinds (nodes_below q t)
-    nodes-bind (leaf r e) q h = (h, tt)
-    nodes-bind (list r ts) q h = (tt, nodes_from-bind ts q 0 h)
-
-    nodes_from-bind : (ts : Iterations) (q : Place) (i : ℕ) → AllBind D ns ts → Each NodeBinds (nodes_from q i ts)
-    nodes_from-bind no_trees q i h = tt
-    nodes_from-bind (tree t ts) q i h = each-append NodeBinds (nodes_below (q ++ i ∷ []) t) (nodes_from q (suc i) ts) (nodes-bind t (q ++ i ∷ []) h.0) (nodes_from-bind ts q (suc i) h.1)
 
 module _ (K : Place → Iteration → Type 0) (J : Place → Type 0) (of_job : (q : Place) (r : List Origin) (b : Binding) → K q (leaf r (job b)) → J q) where
   mutual
@@ -112,24 +94,16 @@ IsRest zero ps qs = ps ≡ qs
 IsRest (suc k) ps [] = ⊥
 IsRest (suc k) ps (q ∷ qs) = IsRest k ps qs
 
-abbrev is_there : {A : Type 0} → List A → Bool
-is_there [] = false
-is_there (x ∷ xs) = true
-
-abbrev first_or : {A : Type 0} → A → List A → A
-first_or d [] = d
-first_or d (x ∷ xs) = x
-
 rest-next : {A : Type 0} (k : ℕ) (p : A) (ps qs : List A) → IsRest k (p ∷ ps) qs → IsRest (suc k) ps qs
-rest-next zero p ps [] h = absurd (true≠false (ap is_there h))
+rest-next zero p ps [] h = cc
 rest-next zero p ps (q ∷ qs) h = ap rest_of h
 rest-next (suc k) p ps [] h = absurd h
 rest-next (suc k) p ps (q ∷ qs) h = rest-next k p ps qs h
 
-result-has : (k : ℕ) (p : Name × ℕ) (ps qs : List (Name × ℕ)) (vs : List Value) → IsRest k (p ∷ ps) qs → HaveDepths (map (λ o. o.1) qs) vs → HasDepth (unwrap_or (slice_get vs k) (list tt no_trees)) p.1
-result-has zero p ps [] vs e h = absurd (true≠false (ap is_there e))
+result-has : (k : ℕ) (p : Name × ℕ) (ps qs : List (Name × ℕ)) (vs : List Value) → IsRest k (p ∷ ps) qs → HaveTheseDepths (map (λ o. o.1) qs) vs → HasDepth (unwrap_or (slice_get vs k) (list tt no_trees)) p.1
+result-has zero p ps [] vs e h = cc
 result-has zero p ps (q ∷ qs) [] e h = absurd h
-result-has zero p ps (q ∷ qs) (v ∷ vs) e h = subst (λ (o : Name × ℕ). HasDepth v o.1) (sym (ap (first_or p) e)) h.0
+result-has zero p ps (q ∷ qs) (v ∷ vs) e h = let same : q ≡ p = cc in subst (λ (o : Name × ℕ). HasDepth v o.1) same h.0
 result-has (suc k) p ps [] vs e h = absurd e
 result-has (suc k) p ps (q ∷ qs) [] e h = absurd h
 result-has (suc k) p ps (q ∷ qs) (v ∷ vs) e h = result-has k p ps qs vs e h.1
@@ -144,7 +118,7 @@ find-there S R f g p z (y ∷ ys) h x (inr i) e = either (λ o. R (option_map_or
 -- ---- the outputs, from jobs whose results have the declared depths
 
 abbrev pub Gives : Step → Opened → Type 0
-Gives s o = HaveDepths (declared_depths s) o.job.result
+Gives s o = HaveTheseDepths (declared_depths s) o.job.result
 
 -- a job of that name is among these
 abbrev pub IsThere : List Opened → JobName → Type 0
@@ -169,16 +143,18 @@ module _ (gives : Giving) (inside : Name → JobName → List (Name × Value) �
   abbrev pub Fit : Opened → Type 0
   Fit o = IsFit gives inside I flows P k inside_is s n o
 
-  module _ (once : FindThemselves s.inputs s.inputs) (bound : list_all (λ i. list_any (same_name i.0) (ports_in (strategy_of s))) s.inputs ≡ true) (agree : ActivitiesAgree flows s s.activities) (nest : ActivitiesNest (NestsWithin flows k) s.activities) where
-    node-fit : (x : Place × Iteration) → NodeBinds (declared_in s.inputs) (ports_in (strategy_of s)) x → Each Fit (node_jobs gives inside I n s before x)
-    node-fit (q, leaf r (job b)) h =
-        (job-fit gives inside I flows P k inside_is n s (r ++ before) q (bound_values s b) once (bound-have (declared_in s.inputs) (ports_in (strategy_of s)) b h s.inputs (declared-each s.inputs s.inputs once) bound) agree nest, tt)
-    node-fit (q, leaf r (passed m e)) h = tt
-    node-fit (q, list r ts) h = tt
+  module _ (once : FindThemselves s.inputs s.inputs) (bound : list_all (λ i. list_any (same_name i.0) (leaf_names (strategy_of s))) s.inputs ≡ true) (agree : ActivitiesAgree flows s s.activities) (nest : ActivitiesNest (NestsWithin flows k) s.activities) where
+    node-fit : (it : Iteration) → Binds (declared_in s.inputs) (leaf_names (strategy_of s)) it → (x : Place × Iteration) → StandsAt it x.0 x.1 → Each Fit (node_jobs gives inside I n s before x)
+    node-fit it h (q, leaf r (job b)) e =
+        let binds = h q b (subst (λ o. IsJob o b) (sym e) refl) in
+        let have = bound-have (declared_in s.inputs) (leaf_names (strategy_of s)) b binds s.inputs (declared-each s.inputs s.inputs once) bound in
+        (job-fit gives inside I flows P k inside_is n s (r ++ before) q (bound_values s b) once have agree nest, tt)
+    node-fit it h (q, leaf r (passed m e)) w = tt
+    node-fit it h (q, list r ts) w = tt
 
-    pub all-fit : (it : Iteration) → Binds (declared_in s.inputs) (ports_in (strategy_of s)) it → Each Fit (flat_map (node_jobs gives inside I n s before) (nodes it))
+    pub all-fit : (it : Iteration) → Binds (declared_in s.inputs) (leaf_names (strategy_of s)) it → Each Fit (flat_map (node_jobs gives inside I n s before) (nodes it))
     all-fit it h =
-        each-flat_map (NodeBinds (declared_in s.inputs) (ports_in (strategy_of s))) Fit (node_jobs gives inside I n s before) node-fit (nodes it) (nodes-bind (declared_in s.inputs) (ports_in (strategy_of s)) it [] h)
+        each-flat_map (λ x. StandsAt it x.0 x.1) Fit (node_jobs gives inside I n s before) (node-fit it h) (nodes it) (nodes-stand (StandsAt it) it [] (all-stand it it [] refl))
 
   pub all-there : (it : Iteration) (q : Place) (r : List Origin) (b : Binding) → In (q, leaf r (job b)) (nodes it) → IsThere (flat_map (node_jobs gives inside I n s before) (nodes it)) (spot I n q)
   all-there it q r b h = (

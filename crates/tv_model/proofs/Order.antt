@@ -1,17 +1,28 @@
 -- The order of one worker has exactly the asks of an instance's jobs and of what stands inside them.
 use Rattle.std.specs.Prelude.{◌≡◌, refl, ℕ, zero, suc, ◌+◌, ◌≤◌, ◌⊎◌, List, [], ◌∷◌, ◌++◌, map, length, filter, Bool, true, false, not, ◌||◌, cond, flat_map, IsPermutation}
 use Rattle.std.specs.List.{list_any}
+use Rattle.std.specs.Option.{option_map_or}
 use Rattle.std.proofs.Common.{arith, sym, ap, subst, ◌∙◌, inl, inr, append_assoc, length-append}
+use Rattle.std.proofs.lemmas.Grind.{flat_map-append}
+use Rattle.std.proofs.lemmas.List.{length-map}
+use Rattle.std.proofs.lemmas.List.Folds.{flat_map-map}
 use Rattle.std.proofs.lemmas.List.Sorted.{IsPermutation-refl, IsPermutation-append_right, IsPermutation-trans}
 use Rattle.tv_value.specs.Values.{JobName}
 use Rattle.tv_value.specs.Orders.{same_job}
 use Rattle.tv_dispatch.specs.Jobs.{Ask}
 use Rattle.tv_model.specs.Made.{Opened, Made}
-use Rattle.tv_model.specs.Turns.{Turn, turn_of, ask_order, is_bounced}
+use Rattle.tv_model.specs.Turns.{Turn, ask_order, asks_by_turns, bounced_first, is_bounced, job_turn}
 use Rattle.tv_model.specs.Jobs.{job_needs}
 use Rattle.tv_model.proofs.Tests.{Each, true≠false}
 use Rattle.tv_model.proofs.Turns.{In, turn_asks, HasRate, AllRated, turns-asks, front, each-map}
 use Rattle.tv_model.proofs.Earlier.{job_list, is_name_of, has_job, NeedEarlier}
+
+-- the turn of a job with what stands inside it, and the order of all
+abbrev pub turn_of : Opened → Turn
+turn_of o = job_turn o.job (option_map_or ask_order o.inside [])
+
+abbrev pub opened_order : List Opened → List (JobName × Ask)
+opened_order os = asks_by_turns (length os) [] (map turn_of (bounced_first (λ o. o.job) os))
 
 pub in-left : {A : Type 0} (x : A) (xs ys : List A) → In x xs → In x (xs ++ ys)
 in-left x [] ys h = absurd h
@@ -57,9 +68,6 @@ some_in p (x ∷ xs) h = pick (p x) refl h (λ k. some_in p xs k)
 -- ---- bounced jobs first, then the others
 
 module _ (p : Opened → Bool) where
-  abbrev parted : List Opened → List Opened
-  parted os = filter p os ++ filter (λ o. not (p o)) os
-
   parted-asks : (f : Opened → List (JobName × Ask)) (os : List Opened) → IsPermutation (flat_map f (filter p os) ++ flat_map f (filter (λ o. not (p o)) os)) (flat_map f os)
   parted-asks f [] = IsPermutation-refl []
   parted-asks f (o ∷ os) = by (p o) (parted-asks f os)
@@ -104,17 +112,8 @@ module _ (p : Opened → Bool) where
       by true (inr k) rec = inr (rec k)
       by false k rec = inr (rec k)
 
-pub turn_asks-map : (os : List Opened) → turn_asks (map turn_of os) ≡ flat_map (λ o. (turn_of o).asks) os
-turn_asks-map [] = refl
-turn_asks-map (o ∷ os) = ap (λ l. (turn_of o).asks ++ l) (turn_asks-map os)
-
-pub flat_map-two : (f : Opened → List (JobName × Ask)) (xs ys : List Opened) → flat_map f (xs ++ ys) ≡ flat_map f xs ++ flat_map f ys
-flat_map-two f [] ys = refl
-flat_map-two f (x ∷ xs) ys = ap (λ l. f x ++ l) (flat_map-two f xs ys) ∙ sym (append_assoc (f x) (flat_map f xs) (flat_map f ys))
-
 pub length-of_map : {A B : Type 0} (f : A → B) (xs : List A) → length (map f xs) ≡ length xs
-length-of_map f [] = refl
-length-of_map f (x ∷ xs) = ap suc (length-of_map f xs)
+length-of_map f xs = length-map xs f
 
 -- ---- every job can be taken
 
@@ -162,12 +161,12 @@ all_rated ms e t h =
     (length ms, subst (λ u. HasRate [] (map turn_of (waiting (job_list ms))) (length ms) u) (sym r.2) (rated (map turn_of (waiting (job_list ms))) ms e (λ o k. in-waiting o (job_list ms) k) r.0 (of-waiting r.0 (job_list ms) r.1)))
 
 -- the order of an instance has the asks of its jobs and of what stands inside them, each as often
-pub ask_order-asks : (ms : List Made) → NeedEarlier ms → IsPermutation (ask_order (job_list ms)) (flat_map (λ o. (turn_of o).asks) (job_list ms))
-ask_order-asks ms e =
+pub opened-asks : (ms : List Made) → NeedEarlier ms → IsPermutation (opened_order (job_list ms)) (flat_map (λ o. (turn_of o).asks) (job_list ms))
+opened-asks ms e =
     let os = job_list ms in
     let p : Opened → Bool = λ o. is_bounced o.job.ending in
     let all = filter p os ++ filter (λ o. not (p o)) os in
     let f : Opened → List (JobName × Ask) = λ o. (turn_of o).asks in
     IsPermutation-trans _ _ _
     (turns-asks (length os) [] (map turn_of all) (subst (λ n. n ≤ length os) (sym (length-of_map turn_of all ∙ length-append (filter p os) (filter (λ o. not (p o)) os) ∙ parted-length p os)) (omega arith)) (all_rated ms e))
-    (subst (λ l. IsPermutation l (flat_map f os)) (sym (turn_asks-map all ∙ flat_map-two f (filter p os) (filter (λ o. not (p o)) os))) (parted-asks p f os))
+    (subst (λ l. IsPermutation l (flat_map f os)) (sym (flat_map-map (λ t. t.asks) turn_of all ∙ flat_map-append f (filter p os) (filter (λ o. not (p o)) os))) (parted-asks p f os))

@@ -14,69 +14,41 @@ use Rattle.tv_model.specs.Made.{Meaning, Opened}
 use Rattle.tv_depths.specs.Steps.{declared_depths}
 use Rattle.tv_model.specs.Instances.{zip_names, with_fate, bounced_job, tried_job, job_on}
 use Rattle.tv_model.specs.Agreeing.{FindThemselves, InputsHave, ActivityAgrees, ActivitiesAgree, ActivitiesNest, NestsWithin, output_depths}
-use Rattle.tv_model.proofs.Tests.{Each, true≠false, left_true, right_true}
+use Rattle.tv_value.proofs.OfDepths.{test-decides}
+use Rattle.tv_model.proofs.Tests.{Each, true≠false}
 use Rattle.tv_strategy.proofs.OfSources.{each-append}
 use Rattle.tv_model.proofs.Fed.{either, each-of_map, each-all}
-use Rattle.tv_model.proofs.Binds.{HaveDepths}
+use Rattle.tv_model.proofs.Binds.{HaveTheseDepths}
 
 -- ---- the judgment
-
-mutual
-  test-depth : {N : Type 0} (t : Tree N Scalar) (d : ℕ) → has_depth t d ≡ true → HasDepth t d
-  test-depth (leaf n a) d h = eqb-true (scalar_depth a) d h
-  test-depth (list n ts) zero h = absurd (true≠false (sym h))
-  test-depth (list n ts) (suc d) h = all-test_depth ts d h
-
-  all-test_depth : {N : Type 0} (ts : Trees N Scalar) (d : ℕ) → all_have_depth ts d ≡ true → AllHaveDepth ts d
-  all-test_depth no_trees d h = tt
-  all-test_depth (tree t ts) d h = (test-depth t d (left_true (has_depth t d) (all_have_depth ts d) h), all-test_depth ts d (right_true (has_depth t d) (all_have_depth ts d) h))
-
-pub some≠none : {A : Type 0} (a : A) → Some a ≡ None → ⊥
-some≠none a e = true≠false (ap is_some e)
 
 no-complaint : (k d : ℕ) (v : Value) → value_complaint k d v ≡ None → HasDepth v d
 no-complaint k d v e = by (holds_fault v) (has_depth v d) refl e
   where
     by : (a b : Bool) → has_depth v d ≡ b → (if a then Some (codes "outcome value " ++ decimal k ++ codes " holds an error") else (if b then None else Some (codes "outcome value " ++ decimal k ++ codes " lacks depth " ++ decimal d))) ≡ None → HasDepth v d
-    by true b q f = absurd (some≠none _ f)
-    by false true q f = test-depth v d q
-    by false false q f = absurd (some≠none _ f)
+    by true b q f = cc
+    by false true q f = (test-decides v d).0 q
+    by false false q f = cc
 
 none-parts : (a b : Option Text) → or_else a b ≡ None → (a ≡ None) × (b ≡ None)
 none-parts None b e = (refl, e)
-none-parts (Some t) b e = absurd (some≠none t e)
+none-parts (Some t) b e = cc
 
-no-complaints : (k : ℕ) (ds : List ℕ) (vs : List Value) → length vs ≡ length ds → first_complaint k ds vs ≡ None → HaveDepths ds vs
+no-complaints : (k : ℕ) (ds : List ℕ) (vs : List Value) → length vs ≡ length ds → first_complaint k ds vs ≡ None → HaveTheseDepths ds vs
 no-complaints k [] [] l e = tt
-no-complaints k [] (v ∷ vs) l e = absurd (none (length vs) l)
-  where
-    none : (n : ℕ) → suc n ≡ 0 → ⊥
-    none n q = omega arith
-no-complaints k (d ∷ ds) [] l e = absurd (none (length ds) l)
-  where
-    none : (n : ℕ) → 0 ≡ suc n → ⊥
-    none n q = omega arith
+no-complaints k [] (v ∷ vs) l e = omega (arith, l)
+no-complaints k (d ∷ ds) [] l e = omega (arith, l)
 no-complaints k (d ∷ ds) (v ∷ vs) l e =
-    let p = none-parts (value_complaint k d v) (first_complaint (suc k) ds vs) e in (no-complaint k d v p.0, no-complaints (suc k) ds vs (less (length vs) (length ds) l) p.1)
+    let p = none-parts (value_complaint k d v) (first_complaint (suc k) ds vs) e in (no-complaint k d v p.0, no-complaints (suc k) ds vs (omega (arith, l)) p.1)
+
+pub judged-depths : (ds : List ℕ) (o : Outcome) (vs : List Value) → judged ds o ≡ Ok vs → HaveTheseDepths ds vs
+judged-depths ds (bad why) vs e = cc
+judged-depths ds (good ws) vs e = by (length ws == length ds) refl (first_complaint 1 ds ws) refl e
   where
-    less : (m n : ℕ) → suc m ≡ suc n → m ≡ n
-    less m n q = omega arith
-
-abbrev ok_or : {A B : Type 0} → A → Result A B → A
-ok_or a (Ok b) = b
-ok_or a (Err w) = a
-
-pub judged-depths : (ds : List ℕ) (o : Outcome) (vs : List Value) → judged ds o ≡ Ok vs → HaveDepths ds vs
-judged-depths ds (bad why) vs e = absurd (true≠false (sym (ap is_ok e)))
-judged-depths ds (good ws) vs e = by (length ws == length ds) refl e
-  where
-    unless : (c : Option Text) → first_complaint 1 ds ws ≡ c → length ws ≡ length ds → ok_unless ws c ≡ Ok vs → HaveDepths ds vs
-    unless None q l f = subst (λ us. HaveDepths ds us) (ap (ok_or ws) f) (no-complaints 1 ds ws l q)
-    unless (Some t) q l f = absurd (true≠false (sym (ap is_ok f)))
-
-    by : (b : Bool) → (length ws == length ds) ≡ b → (if b then ok_unless ws (first_complaint 1 ds ws) else Err (codes "outcome has " ++ decimal (length ws) ++ codes " values")) ≡ Ok vs → HaveDepths ds vs
-    by true q f = unless (first_complaint 1 ds ws) refl (eqb-true (length ws) (length ds) q) f
-    by false q f = absurd (true≠false (sym (ap is_ok f)))
+    by : (b : Bool) → (length ws == length ds) ≡ b → (c : Option Text) → first_complaint 1 ds ws ≡ c → (if b then ok_unless ws c else Err (codes "outcome has " ++ decimal (length ws) ++ codes " values")) ≡ Ok vs → HaveTheseDepths ds vs
+    by true q None f e = let same : ws ≡ vs = cc in subst (HaveTheseDepths ds) same (no-complaints 1 ds ws (eqb-true (length ws) (length ds) q) f)
+    by true q (Some t) f e = cc
+    by false q c f e = cc
 
 -- ---- the tries
 
@@ -86,7 +58,7 @@ module _ (ds : List ℕ) (Q : Name → Type 0) where
   TryHas (open_flow f) = Q f
 
   abbrev pub FateHas : Fate → Type 0
-  FateHas (right vs) = HaveDepths ds vs
+  FateHas (right vs) = HaveTheseDepths ds vs
   FateHas (opens f) = Q f
   FateHas (wrong why) = Unit {0}
 
@@ -104,7 +76,7 @@ module _ (ds : List ℕ) (Q : Name → Type 0) where
   taken-has gives why (ask a ∷ ts) h = by (outcome_of gives a) refl (λ w. taken-has gives w ts h.1)
     where
       by : (r : Result (List Value) Text) → outcome_of gives a ≡ r → ((w : Text) → FateHas (taken gives w ts).fate) → FateHas (match_result {C = Taken} r (λ vs. record { asks = a ∷ []; fate = right vs }) (λ reason. record { asks = a ∷ (taken gives reason ts).asks; fate = (taken gives reason ts).fate })).fate
-      by (Ok vs) e rec = subst (λ l. HaveDepths l vs) h.0 (judged-depths a.outputs (gives a.service a.inputs a.attempt) vs e)
+      by (Ok vs) e rec = subst (λ l. HaveTheseDepths l vs) h.0 (judged-depths a.outputs (gives a.service a.inputs a.attempt) vs e)
       by (Err w) e rec = rec w
 
 -- ---- the inputs and outputs of a flow that is opened
@@ -119,7 +91,7 @@ mutual
   all_plain-depth no_trees d h = tt
   all_plain-depth (tree v vs) d h = (plain-depth v d h.0, all_plain-depth vs d h.1)
 
-plain-outputs : (ds : List ℕ) (os : List (Name × Traced)) → HaveDepths ds (map (λ o. o.1) os) → HaveDepths ds (map (λ o. plain o.1) os)
+plain-outputs : (ds : List ℕ) (os : List (Name × Traced)) → HaveTheseDepths ds (map (λ o. o.1) os) → HaveTheseDepths ds (map (λ o. plain o.1) os)
 plain-outputs [] [] h = tt
 plain-outputs [] (o ∷ os) h = absurd h
 plain-outputs (d ∷ ds) [] h = absurd h
@@ -129,8 +101,8 @@ abbrev pub some_or : {A : Type 0} → A → Option A → A
 some_or a None = a
 some_or a (Some b) = b
 
-zip-finds : (is : List (Name × StepInput)) (vs : List Traced) → HaveDepths (map (λ i. i.1.depth) is) vs → (p : Name) (x : StepInput) → named p is ≡ Some x → HasDepth (unwrap_or (named p (zip_names is vs)) (list tt no_trees)) x.depth
-zip-finds [] vs h p x e = absurd (some≠none x (sym e))
+zip-finds : (is : List (Name × StepInput)) (vs : List Traced) → HaveTheseDepths (map (λ i. i.1.depth) is) vs → (p : Name) (x : StepInput) → named p is ≡ Some x → HasDepth (unwrap_or (named p (zip_names is vs)) (list tt no_trees)) x.depth
+zip-finds [] vs h p x e = cc
 zip-finds (i ∷ is) [] h p x e = absurd h
 zip-finds (i ∷ is) (v ∷ vs) h p x e = by (same_name p i.0) e (λ k. zip-finds is vs h.1 p x k)
   where
@@ -138,11 +110,12 @@ zip-finds (i ∷ is) (v ∷ vs) h p x e = by (same_name p i.0) e (λ k. zip-find
     by true q rec = subst (λ (y : StepInput). HasDepth (plain v) y.depth) (ap (some_or i.1) q) (plain-depth v i.1.depth h.0)
     by false q rec = rec q
 
-zip-have : (all : List (Name × StepInput)) (vs : List Traced) → HaveDepths (map (λ i. i.1.depth) all) vs → (is : List (Name × StepInput)) → FindThemselves all is → InputsHave (map (λ i. (i.0, i.1.depth)) is) (zip_names all vs)
+-- the inputs of an opened flow have the depths that the step declares
+pub zip-have : (all : List (Name × StepInput)) (vs : List Traced) → HaveTheseDepths (map (λ i. i.1.depth) all) vs → (is : List (Name × StepInput)) → FindThemselves all is → InputsHave (map (λ i. (i.0, i.1.depth)) is) (zip_names all vs)
 zip-have all vs h [] f = tt
 zip-have all vs h (i ∷ is) f = (zip-finds all vs h i.0 i.1 f.0, zip-have all vs h is f.1)
 
-errors-have : (n : JobName) (why : Text) (from : List JobName) (ds : List ℕ) → HaveDepths ds (error_results n why from ds)
+errors-have : (n : JobName) (why : Text) (from : List JobName) (ds : List ℕ) → HaveTheseDepths ds (error_results n why from ds)
 errors-have n why from [] = tt
 errors-have n why from (d ∷ ds) = (refl, errors-have n why from ds)
 
@@ -156,7 +129,7 @@ InsideHas P (Some m) = P m
 -- a flow that nests at most k levels, on inputs of its depths, has P, and outputs of its depths
 abbrev pub Delivers : List (Name × Flow) → (Meaning → Type 0) → (Name → JobName → List (Name × Value) → Meaning) → ℕ → Type 0
 Delivers flows P inside k =
-    (f : Name) (flow : Flow) → named f flows ≡ Some flow → NestsWithin flows k f → (n : JobName) (vs : List (Name × Value)) → InputsHave flow.inputs vs → P (inside f n vs) × HaveDepths (output_depths flow) (map (λ o. o.1) (inside f n vs).outputs)
+    (f : Name) (flow : Flow) → named f flows ≡ Some flow → NestsWithin flows k f → (n : JobName) (vs : List (Name × Value)) → InputsHave flow.inputs vs → P (inside f n vs) × HaveTheseDepths (output_depths flow) (map (λ o. o.1) (inside f n vs).outputs)
 
 module _ (gives : Giving) (inside : Name → JobName → List (Name × Value) → Meaning) (I : JobName) (flows : List (Name × Flow)) (P : Meaning → Type 0) (k : ℕ) (inside_is : Delivers flows P inside k) where
   abbrev CanOpen : Step → Name → Type 0
@@ -169,18 +142,18 @@ module _ (gives : Giving) (inside : Name → JobName → List (Name × Value) �
 
   pub record IsFit (s : Step) (n : Name) (o : Opened) : Type 0 where
     pub step : o.job.step ≡ n
-    pub inputs : HaveDepths (map (λ i. i.1.depth) s.inputs) o.job.inputs
-    pub result : HaveDepths (declared_depths s) o.job.result
+    pub inputs : HaveTheseDepths (map (λ i. i.1.depth) s.inputs) o.job.inputs
+    pub result : HaveTheseDepths (declared_depths s) o.job.result
     pub inside_it : InsideHas P o.inside
 
-  module _ (n : Name) (s : Step) (w : List Origin) (q : Place) (vs : List Traced) (once : FindThemselves s.inputs s.inputs) (fit : HaveDepths (map (λ i. i.1.depth) s.inputs) vs) where
+  module _ (n : Name) (s : Step) (w : List Origin) (q : Place) (vs : List Traced) (once : FindThemselves s.inputs s.inputs) (fit : HaveTheseDepths (map (λ i. i.1.depth) s.inputs) vs) where
     fate-fit : (as' : List Ask) (f : Fate) → FateHas (declared_depths s) (CanOpen s) f → IsFit s n (with_fate gives inside I s (record (bounced_job gives inside I n s w q vs) { asks = as' }) f)
     fate-fit as' (right rs) h = record { step = refl; inputs = fit; result = h; inside_it = tt }
     fate-fit as' (wrong why) h = record { step = refl; inputs = fit; result = errors-have _ why [] (declared_depths s); inside_it = tt }
     fate-fit as' (opens f) h =
         let a = h.0 in
-        let r = inside_is f a.0 a.1 h.1 (bounced_job gives inside I n s w q vs).name (zip_names s.inputs vs) (subst (λ l. InputsHave l (zip_names s.inputs vs)) (sym a.2) (zip-have s.inputs vs fit s.inputs once)) in
-        record { step = refl; inputs = fit; result = plain-outputs (declared_depths s) (inside f (bounced_job gives inside I n s w q vs).name (zip_names s.inputs vs)).outputs (subst (λ l. HaveDepths l (map (λ o. o.1) (inside f (bounced_job gives inside I n s w q vs).name (zip_names s.inputs vs)).outputs)) a.3 r.1); inside_it = r.0 }
+        let r = inside_is f a.flow a.is_flow h.1 (bounced_job gives inside I n s w q vs).name (zip_names s.inputs vs) (subst (λ l. InputsHave l (zip_names s.inputs vs)) (sym a.inputs) (zip-have s.inputs vs fit s.inputs once)) in
+        record { step = refl; inputs = fit; result = plain-outputs (declared_depths s) (inside f (bounced_job gives inside I n s w q vs).name (zip_names s.inputs vs)).outputs (subst (λ l. HaveTheseDepths l (map (λ o. o.1) (inside f (bounced_job gives inside I n s w q vs).name (zip_names s.inputs vs)).outputs)) a.outputs r.1); inside_it = r.0 }
 
     pub job-fit : ActivitiesAgree flows s s.activities → ActivitiesNest (NestsWithin flows k) s.activities → IsFit s n (job_on gives inside I n s w q vs)
     job-fit a b =

@@ -7,8 +7,9 @@ use Rattle.std.proofs.lemmas.List.Sorted.{IsPermutation-refl, IsPermutation-appe
 use Rattle.tv_value.specs.Values.{JobName}
 use Rattle.tv_value.specs.Orders.{same_job}
 use Rattle.tv_dispatch.specs.Jobs.{Ask}
-use Rattle.tv_model.specs.Turns.{Turn, all_done, first_turn, turns}
+use Rattle.tv_model.specs.Turns.{Turn, all_done, asks_by_turns, first_turn}
 use Rattle.tv_model.proofs.Tests.{true≠false, both_true, or_right, Each}
+pub use Rattle.std.proofs.lemmas.Bool.{or_left}
 pub use Rattle.tv_model.specs.Members.{In}
 
 abbrev pub turn_asks : List Turn → List (JobName × Ask)
@@ -96,9 +97,6 @@ some_done done ts none (suc k) t h w = some_or done ts k t h none (λ u i v. som
 
 -- ---- after a turn
 
-pub or_left : (a b : Bool) → a ≡ true → (a || b) ≡ true
-or_left a b h = subst (λ c. (c || b) ≡ true) (sym h) refl
-
 pub each-map : {A : Type 0} (P Q : A → Type 0) → ((x : A) → P x → Q x) → (xs : List A) → Each P xs → Each Q xs
 each-map P Q f [] h = tt
 each-map P Q f (x ∷ xs) h = (f x h.0, each-map P Q f xs h.1)
@@ -117,26 +115,20 @@ rate_after done ts s rest i (suc k) t h =
     each-map (Waits done ts k) (Waits (s.name ∷ done) rest k) (waits_after done ts s rest k (λ u v. rate_after done ts s rest i k u v) i) t.needs h
 
 -- the order has the asks of all turns, each as often
-turns-nothing : (n : ℕ) (done : List JobName) → IsPermutation (turns n done []) []
+turns-nothing : (n : ℕ) (done : List JobName) → IsPermutation (asks_by_turns n done []) []
 turns-nothing zero done = IsPermutation-refl []
 turns-nothing (suc n) done = IsPermutation-refl []
 
-one_turn : (n : ℕ) (done : List JobName) (ts : List Turn) → length ts ≤ suc n → AllRated done ts → (t : Turn) → In t ts → ((d : List JobName) (r : List Turn) → length r ≤ n → AllRated d r → IsPermutation (turns n d r) (turn_asks r)) → (o : Option (Turn × List Turn)) → Found done ts o → IsPermutation (option_map_or (λ r. r.0.asks ++ turns n (r.0.name ∷ done) r.1) o []) (turn_asks ts)
+one_turn : (n : ℕ) (done : List JobName) (ts : List Turn) → length ts ≤ suc n → AllRated done ts → (t : Turn) → In t ts → ((d : List JobName) (r : List Turn) → length r ≤ n → AllRated d r → IsPermutation (asks_by_turns n d r) (turn_asks r)) → (o : Option (Turn × List Turn)) → Found done ts o → IsPermutation (option_map_or (λ r. r.0.asks ++ asks_by_turns n (r.0.name ∷ done) r.1) o []) (turn_asks ts)
 one_turn n done ts w g t h rec None f = absurd (some_done done ts f (g t h).0 t h (g t h).1)
 one_turn n done ts w g t h rec (Some r) f =
-    IsPermutation-trans _ _ _ (IsPermutation-append_right r.0.asks (turns n (r.0.name ∷ done) r.1) (turn_asks r.1) (rec (r.0.name ∷ done) r.1 (shorter (length ts) (length r.1) f.fewer w) rated)) f.asks
+    IsPermutation-trans _ _ _ (IsPermutation-append_right r.0.asks (asks_by_turns n (r.0.name ∷ done) r.1) (turn_asks r.1) (rec (r.0.name ∷ done) r.1 (omega (arith, f.fewer, w)) rated)) f.asks
   where
-    shorter : (m k : ℕ) → m ≡ suc k → m ≤ suc n → k ≤ n
-    shorter m k p q = omega arith
-
     rated : AllRated (r.0.name ∷ done) r.1
     rated u i = ((g u (f.kept u i)).0, rate_after done ts r.0 r.1 f (g u (f.kept u i)).0 u (g u (f.kept u i)).1)
 
-pub turns-asks : (n : ℕ) (done : List JobName) (ts : List Turn) → length ts ≤ n → AllRated done ts → IsPermutation (turns n done ts) (turn_asks ts)
+pub turns-asks : (n : ℕ) (done : List JobName) (ts : List Turn) → length ts ≤ n → AllRated done ts → IsPermutation (asks_by_turns n done ts) (turn_asks ts)
 turns-asks n done [] w g = turns-nothing n done
-turns-asks zero done (t ∷ ts) w g = absurd (none (length ts) w)
-  where
-    none : (m : ℕ) → suc m ≤ 0 → ⊥
-    none m p = omega arith
+turns-asks zero done (t ∷ ts) w g = absurd (omega (arith, w))
 turns-asks (suc n) done (t ∷ ts) w g =
     one_turn n done (t ∷ ts) w g t (inl refl) (λ d r v h. turns-asks n d r v h) (first_turn done (t ∷ ts)) (first_turn-found done (t ∷ ts))

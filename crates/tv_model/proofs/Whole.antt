@@ -23,22 +23,16 @@ use Rattle.tv_model.proofs.Fed.{either, named_map_or, find_map_or}
 use Rattle.tv_model.proofs.Earlier.{job_list}
 use Rattle.tv_model.proofs.Sound.{cancel, first_of, step_list, step_names, AreDistinct}
 use Rattle.tv_model.proofs.Members.{each_in, in-flat, of-flat, Apart, apart-append, apart-flat}
+pub use Rattle.tv_model.proofs.Members.{not-longer}
 use Rattle.tv_model.proofs.Grounds.{Grounded, grounded-weaken}
 use Rattle.tv_model.proofs.Kept.{InsideIs, any_right}
 use Rattle.tv_model.proofs.Formed.{AreFormed, IsOwn, LevelIn, JobIn, in-names, own-apart, steps-formed, none-formed}
 use Rattle.tv_model.proofs.Instances.{given_of, given-free, steps_of, ranked-fresh}
 use Rattle.tv_flow.specs.Flows.{Document}
 use Rattle.tv_model.specs.Meanings.{meaning}
-use Rattle.tv_model.specs.Meanings.{most_nesting}
+use Rattle.tv_model.specs.Meanings.{nesting_limit}
 
 -- ---- names
-
-pub not-longer : {A : Type 0} (xs : List A) (a : A) (r : List A) → xs ≡ xs ++ a ∷ r → ⊥
-not-longer {A = A} xs a r e = true≠false (ap is_empty (cancel xs [] (a ∷ r) (append-nil xs ∙ e)))
-  where
-    is_empty : List A → Bool
-    is_empty [] = true
-    is_empty (z ∷ zs) = false
 
 -- names of one instance that begin one name are the same
 pub same-head : (I : JobName) (a b : Name × Place) (x y r s : JobName) → x ≡ I ++ a ∷ [] → y ≡ I ++ b ∷ [] → x ++ r ≡ y ++ s → x ≡ y
@@ -59,11 +53,14 @@ module _ (gives : Giving) (D : ℕ → Type 0) where
   abbrev pub GroundedIn : Meaning → JobName → ℕ → Origin → Type 0
   GroundedIn m I k = Grounded (λ l. In l (levels m.steps)) (λ j. In j m.jobs) I k
 
+  abbrev pub AreGrounded : Meaning → JobName → List Origin → Type 0
+  AreGrounded m I os = (k : ℕ) × Each (GroundedIn m I k) os
+
   pub record IsJobOf (I : JobName) (m : Meaning) (j : Job) : Type 0 where
     pub key : Name × Place
     pub named : j.name ≡ j.instance ++ key ∷ []
     pub below : (r : JobName) × (j.instance ≡ I ++ r)
-    pub waits : (k : ℕ) × Each (GroundedIn m j.instance k) j.waits
+    pub waits : AreGrounded m j.instance j.waits
     pub limit : D j.limit
     pub no_asks : is_bounced j.ending ≡ true → j.asks ≡ []
     pub no_opens : is_bounced j.ending ≡ true → is_some j.opens ≡ false
@@ -77,11 +74,27 @@ module _ (gives : Giving) (D : ℕ → Type 0) where
     pub jobs_apart : Apart (λ j. j.name) m.jobs
     pub steps_apart : Apart step_key m.steps
     pub jobs : (j : Job) → In j m.jobs → IsJobOf I m j
-    pub sources : (l : Level) → In l (levels m.steps) → (k : ℕ) × Each (GroundedIn m l.instance k) l.sources
-    pub steps : (s : StepMeaning) → In s m.steps → ((r : JobName) × (s.instance ≡ I ++ r)) × ((k : ℕ) × Each (GroundedIn m s.instance k) s.ending)
+    pub sources : (l : Level) → In l (levels m.steps) → AreGrounded m l.instance l.sources
+    pub steps : (s : StepMeaning) → In s m.steps → ((r : JobName) × (s.instance ≡ I ++ r)) × AreGrounded m s.instance s.ending
 
   pub nothing-whole : (I : JobName) → IsWhole no_meaning I
   nothing-whole I = record { jobs_apart = tt; steps_apart = tt; jobs = λ j h. absurd h; sources = λ l h. absurd h; steps = λ s h. absurd h }
+
+  -- what stands inside a job, or nothing
+  record Inside (o : Opened) : Type 0 where
+    whole : Meaning
+    is_whole : IsWhole whole o.job.name
+    jobs : whole.jobs ≡ option_map_or (λ (n : Meaning). n.jobs) o.inside []
+    steps : whole.steps ≡ steps_inside o
+    opens : (j : Job) → In j whole.jobs → (is_some o.job.opens ≡ true) × (is_bounced o.job.ending ≡ false)
+    closed : is_bounced o.job.ending ≡ true → is_some o.job.opens ≡ false
+
+  inside-of : (o : Opened) → InsideIs IsWhole o.job o.inside → Inside o
+  inside-of o h = by o.inside h
+    where
+      by : (p : Option Meaning) → InsideIs IsWhole o.job p → Inside (record o { inside = p })
+      by None w = record { whole = no_meaning; is_whole = nothing-whole o.job.name; jobs = refl; steps = refl; opens = λ j i. absurd i; closed = λ b. w }
+      by (Some n) w = record { whole = n; is_whole = w.0; jobs = refl; steps = refl; opens = λ j i. (w.1, w.2); closed = λ b. absurd (true≠false (sym b ∙ w.2)) }
 
   own-steps-apart : (I : JobName) (ms : List Made) → AreDistinct I ms → Apart step_key (step_list ms)
   own-steps-apart I [] d = tt
@@ -110,24 +123,31 @@ module _ (gives : Giving) (D : ℕ → Type 0) where
     own-level : (l : Level) → LevelIn ms l → In l (levels m.steps)
     own-level l h = levels-within (step_list ms) m.steps own-step l h
 
-    own-ground : (k : ℕ) (o : Origin) → Grounded (LevelIn ms) (JobIn ms) I k o → GroundedIn m I k o
-    own-ground k o h = grounded-weaken own-level (λ j r. subst (λ i. In i m.jobs) (sym r.2) (own-job r.0 r.1)) I k o h
+    -- what is grounded in the steps of the instance is so in the meaning
+    own-grounded : (J : JobName) (os : List Origin) → J ≡ I → Each (Grounded (LevelIn ms) (JobIn ms) I (length ms)) os → AreGrounded m J os
+    own-grounded J os e h =
+        let up = grounded-weaken own-level (λ j r. subst (λ i. In i m.jobs) (sym r.2) (own-job r.0 r.1)) I (length ms) in
+        (length ms, subst (λ n. Each (GroundedIn m n (length ms)) os) (sym e) (each-map _ (GroundedIn m I (length ms)) (λ o g. up o g) os h))
 
     module _ (o : Opened) (h : In o opened) where
       abbrev own : IsOwn gives inside I IsWhole inside_is D (given_of flow vs) (given-free flow vs) ms o
       own = a.jobs o h
 
-      inner-job : (n : Meaning) → o.inside ≡ Some n → (j : Job) → In j n.jobs → In j m.jobs
-      inner-job n e j i = in-flat jobs_with_inside o j opened h (inr (subst (λ p. In j (option_map_or (λ (x : Meaning). x.jobs) p [])) (sym e) i))
+      abbrev in_it : Inside o
+      in_it = inside-of o own.inside_it
 
-      inner-step : (n : Meaning) → o.inside ≡ Some n → (s : StepMeaning) → In s n.steps → In s m.steps
-      inner-step n e s i = in-right s (step_list ms) (flat_map steps_inside opened) (in-flat steps_inside o s opened h (subst (λ p. In s (option_map_or (λ (x : Meaning). x.steps) p [])) (sym e) i))
+      abbrev n : Meaning
+      n = in_it.whole
 
-      inner-ground : (n : Meaning) → o.inside ≡ Some n → (J : JobName) (k : ℕ) (s : Origin) → GroundedIn n J k s → GroundedIn m J k s
-      inner-ground n e J k s g = grounded-weaken (λ l i. levels-within n.steps m.steps (inner-step n e) l i) (inner-job n e) J k s g
+      inner-job : (j : Job) → In j n.jobs → In j m.jobs
+      inner-job j i = in-flat jobs_with_inside o j opened h (inr (subst (In j) in_it.jobs i))
 
-      inner : (n : Meaning) → o.inside ≡ Some n → IsWhole n o.job.name × (is_some o.job.opens ≡ true) × (is_bounced o.job.ending ≡ false)
-      inner n e = subst (λ p. InsideIs IsWhole o.job p) e own.inside_it
+      inner-step : (s : StepMeaning) → In s n.steps → In s m.steps
+      inner-step s i = in-right s (step_list ms) (flat_map steps_inside opened) (in-flat steps_inside o s opened h (subst (In s) in_it.steps i))
+
+      inner-grounded : (J : JobName) (os : List Origin) → AreGrounded n J os → AreGrounded m J os
+      inner-grounded J os g =
+          (g.0, each-map (GroundedIn n J g.0) (GroundedIn m J g.0) (λ o w. grounded-weaken (λ l i. levels-within n.steps m.steps inner-step l i) inner-job J g.0 o w) os g.1)
 
       deeper : (r n : JobName) → n ≡ o.job.name ++ r → (s : JobName) × (n ≡ I ++ s)
       deeper r n e = ((own.step, own.place) ∷ r, e ∙ ap (λ x. x ++ r) own.named ∙ append_assoc I ((own.step, own.place) ∷ []) r)
@@ -137,91 +157,72 @@ module _ (gives : Giving) (D : ℕ → Type 0) where
         key = (own.step, own.place);
         named = own.named ∙ ap (λ n. n ++ (own.step, own.place) ∷ []) (sym own.in_instance);
         below = ([], own.in_instance ∙ sym (append-nil I));
-        waits = (length ms, subst (λ n. Each (GroundedIn m n (length ms)) o.job.waits) (sym own.in_instance) (each-map (Grounded (LevelIn ms) (JobIn ms) I (length ms)) (GroundedIn m I (length ms)) (own-ground (length ms)) o.job.waits own.waits));
+        waits = own-grounded o.job.instance o.job.waits own.in_instance own.waits;
         limit = own.limit;
         no_asks = own.no_asks;
-        no_opens = closed_inside o.inside own.inside_it;
+        no_opens = in_it.closed;
         failed = own.failed;
         of_step = let t = own.of_step in (t.0, own-step t.0 t.1, t.2 ∙ sym own.in_instance, t.3, t.4, t.5);
         parent = inl own.in_instance;
       }
-        where
-          closed_inside : (i : Option Meaning) → InsideIs IsWhole o.job i → is_bounced o.job.ending ≡ true → is_some o.job.opens ≡ false
-          closed_inside None w b = w
-          closed_inside (Some n) w b = absurd (true≠false (sym b ∙ w.2))
 
-      inner-job-of : (n : Meaning) → o.inside ≡ Some n → (j : Job) → In j n.jobs → IsJobOf I m j
-      inner-job-of n e j i =
-          let w = inner n e in
-          let r = w.0.jobs j i in
-          record { key = r.key; named = r.named; below = deeper r.below.0 j.instance r.below.1; waits = (r.waits.0, each-map (GroundedIn n j.instance r.waits.0) (GroundedIn m j.instance r.waits.0) (inner-ground n e j.instance r.waits.0) j.waits r.waits.1); limit = r.limit; no_asks = r.no_asks; no_opens = r.no_opens; failed = r.failed; of_step = let t = r.of_step in (t.0, inner-step n e t.0 t.1, t.2, t.3, t.4, t.5); parent = up w.1 w.2 r.parent }
+      inner-job-of : (j : Job) → In j n.jobs → IsJobOf I m j
+      inner-job-of j i =
+          let r = in_it.is_whole.jobs j i in
+          record {
+            key = r.key;
+            named = r.named;
+            below = deeper r.below.0 j.instance r.below.1;
+            waits = inner-grounded j.instance j.waits r.waits;
+            limit = r.limit;
+            no_asks = r.no_asks;
+            no_opens = r.no_opens;
+            failed = r.failed;
+            of_step = let t = r.of_step in (t.0, inner-step t.0 t.1, t.2, t.3, t.4, t.5);
+            parent = up (in_it.opens j i) r.parent;
+          }
         where
-          up : is_some o.job.opens ≡ true → is_bounced o.job.ending ≡ false → (j.instance ≡ o.job.name) ⊎ ((p : Job) × In p n.jobs × (p.name ≡ j.instance) × (is_some p.opens ≡ true) × (is_bounced p.ending ≡ false)) → (j.instance ≡ I) ⊎ ((p : Job) × In p m.jobs × (p.name ≡ j.instance) × (is_some p.opens ≡ true) × (is_bounced p.ending ≡ false))
-          up b c (inl q) = inr (o.job, own-job o h, sym q, b, c)
-          up b c (inr p) = inr (p.0, inner-job n e p.0 p.1, p.2, p.3, p.4)
+          up : (is_some o.job.opens ≡ true) × (is_bounced o.job.ending ≡ false) → (j.instance ≡ o.job.name) ⊎ ((p : Job) × In p n.jobs × (p.name ≡ j.instance) × (is_some p.opens ≡ true) × (is_bounced p.ending ≡ false)) → (j.instance ≡ I) ⊎ ((p : Job) × In p m.jobs × (p.name ≡ j.instance) × (is_some p.opens ≡ true) × (is_bounced p.ending ≡ false))
+          up b (inl q) = inr (o.job, own-job o h, sym q, b.0, b.1)
+          up b (inr p) = inr (p.0, inner-job p.0 p.1, p.2, p.3, p.4)
 
-      -- names inside begin with the job's
+      -- names inside begin with the job's, and are longer
+      deep-name : (j : Job) → In j n.jobs → (c : Name × Place) × (r : JobName) × (j.name ≡ o.job.name ++ c ∷ r)
+      deep-name j i = let r = in_it.is_whole.jobs j i in longer r.below.0 r.key (r.named ∙ ap (λ x. x ++ r.key ∷ []) r.below.1)
+        where
+          longer : (r : JobName) (k : Name × Place) → j.name ≡ (o.job.name ++ r) ++ k ∷ [] → (c : Name × Place) × (s : JobName) × (j.name ≡ o.job.name ++ c ∷ s)
+          longer [] k e = (k, [], e ∙ append_assoc o.job.name [] (k ∷ []))
+          longer (c ∷ r) k e = (c, r ++ k ∷ [], e ∙ append_assoc o.job.name (c ∷ r) (k ∷ []))
+
       inner-name : (j : Job) → In j (jobs_with_inside o) → (r : JobName) × (j.name ≡ o.job.name ++ r)
       inner-name j (inl p) = ([], ap (λ (x : Job). x.name) p ∙ sym (append-nil o.job.name))
-      inner-name j (inr i) = by o.inside refl i
-        where
-          by : (p : Option Meaning) → o.inside ≡ p → In j (option_map_or (λ (x : Meaning). x.jobs) p []) → (r : JobName) × (j.name ≡ o.job.name ++ r)
-          by None e k = absurd k
-          by (Some n) e k =
-              let r = (inner n e).0.jobs j k in
-              (r.below.0 ++ r.key ∷ [], r.named ∙ ap (λ x. x ++ r.key ∷ []) r.below.1 ∙ append_assoc o.job.name r.below.0 (r.key ∷ []))
+      inner-name j (inr i) = let d = deep-name j (subst (In j) (sym in_it.jobs) i) in (d.0 ∷ d.1, d.2)
 
       inner-instance : (s : StepMeaning) → In s (steps_inside o) → (r : JobName) × (s.instance ≡ o.job.name ++ r)
-      inner-instance s i = by o.inside refl i
-        where
-          by : (p : Option Meaning) → o.inside ≡ p → In s (option_map_or (λ (x : Meaning). x.steps) p []) → (r : JobName) × (s.instance ≡ o.job.name ++ r)
-          by None e k = absurd k
-          by (Some n) e k = ((inner n e).0.steps s k).0
+      inner-instance s i = (in_it.is_whole.steps s (subst (In s) (sym in_it.steps) i)).0
 
       inner-apart : Apart (λ (j : Job). j.name) (jobs_with_inside o)
-      inner-apart = by o.inside refl
-        where
-          by : (p : Option Meaning) → o.inside ≡ p → Apart (λ (j : Job). j.name) (o.job ∷ option_map_or (λ (x : Meaning). x.jobs) p [])
-          by None e = (λ y k f. absurd k, tt)
-          by (Some n) e =
-              (λ y k f. let r = (inner n e).0.jobs y k in longer-name y.name o.job.name r.below.0 r.key (r.named ∙ ap (λ x. x ++ r.key ∷ []) r.below.1) f, (inner n e).0.jobs_apart)
-            where
-              longer-name : (x y : JobName) (r : JobName) (k : Name × Place) → x ≡ (y ++ r) ++ k ∷ [] → x ≡ y → ⊥
-              longer-name x y [] k g f = not-longer y k [] (sym f ∙ g ∙ ap (λ z. z ++ k ∷ []) (append-nil y))
-              longer-name x y (c ∷ r) k g f = not-longer y c (r ++ k ∷ []) (sym f ∙ g ∙ append_assoc y (c ∷ r) (k ∷ []))
+      inner-apart = (
+        λ y k f. let d = deep-name y (subst (In y) (sym in_it.jobs) k) in not-longer o.job.name d.0 d.1 (sym f ∙ d.2),
+        subst (Apart (λ (j : Job). j.name)) in_it.jobs in_it.is_whole.jobs_apart,
+      )
 
       inner-steps-apart : Apart step_key (steps_inside o)
-      inner-steps-apart = by o.inside refl
-        where
-          by : (p : Option Meaning) → o.inside ≡ p → Apart step_key (option_map_or (λ (x : Meaning). x.steps) p [])
-          by None e = tt
-          by (Some n) e = (inner n e).0.steps_apart
+      inner-steps-apart = subst (Apart step_key) in_it.steps in_it.is_whole.steps_apart
 
       job-case : (j : Job) → In j (jobs_with_inside o) → IsJobOf I m j
       job-case j (inl p) = subst (λ x. IsJobOf I m x) (sym p) own-job-of
-      job-case j (inr i) = by o.inside refl i
-        where
-          by : (p : Option Meaning) → o.inside ≡ p → In j (option_map_or (λ (x : Meaning). x.jobs) p []) → IsJobOf I m j
-          by None e k = absurd k
-          by (Some n) e k = inner-job-of n e j k
+      job-case j (inr i) = inner-job-of j (subst (In j) (sym in_it.jobs) i)
 
-      step-case : (s : StepMeaning) → In s (steps_inside o) → ((r : JobName) × (s.instance ≡ I ++ r)) × ((k : ℕ) × Each (GroundedIn m s.instance k) s.ending)
-      step-case s i = by o.inside refl i
-        where
-          by : (p : Option Meaning) → o.inside ≡ p → In s (option_map_or (λ (x : Meaning). x.steps) p []) → ((r : JobName) × (s.instance ≡ I ++ r)) × ((k : ℕ) × Each (GroundedIn m s.instance k) s.ending)
-          by None e k = absurd k
-          by (Some n) e k =
-              let r = (inner n e).0.steps s k in
-              (deeper r.0.0 s.instance r.0.1, (r.1.0, each-map (GroundedIn n s.instance r.1.0) (GroundedIn m s.instance r.1.0) (inner-ground n e s.instance r.1.0) s.ending r.1.1))
+      step-case : (s : StepMeaning) → In s (steps_inside o) → ((r : JobName) × (s.instance ≡ I ++ r)) × AreGrounded m s.instance s.ending
+      step-case s i =
+          let r = in_it.is_whole.steps s (subst (In s) (sym in_it.steps) i) in
+          (deeper r.0.0 s.instance r.0.1, inner-grounded s.instance s.ending r.1)
 
-      level-case : (s : StepMeaning) → In s (steps_inside o) → (l : Level) → In l (filter_map (level_at s) (nodes s.iteration)) → (k : ℕ) × Each (GroundedIn m l.instance k) l.sources
-      level-case s i l g = by o.inside refl i
-        where
-          by : (p : Option Meaning) → o.inside ≡ p → In s (option_map_or (λ (x : Meaning). x.steps) p []) → (k : ℕ) × Each (GroundedIn m l.instance k) l.sources
-          by None e k = absurd k
-          by (Some n) e k =
-              let r = (inner n e).0.sources l (in-flat (λ s. filter_map (level_at s) (nodes s.iteration)) s l n.steps k g) in
-              (r.0, each-map (GroundedIn n l.instance r.0) (GroundedIn m l.instance r.0) (inner-ground n e l.instance r.0) l.sources r.1)
+      level-case : (s : StepMeaning) → In s (steps_inside o) → (l : Level) → In l (filter_map (level_at s) (nodes s.iteration)) → AreGrounded m l.instance l.sources
+      level-case s i l g =
+          let k = in-flat (λ s. filter_map (level_at s) (nodes s.iteration)) s l n.steps (subst (In s) (sym in_it.steps) i) g in
+          inner-grounded l.instance l.sources (in_it.is_whole.sources l k)
 
     own-instance : (s : StepMeaning) → In s (step_list ms) → s.instance ≡ I
     own-instance s h = let r = of-map (λ (k : Made). k.step) s ms h in ap (λ (t : StepMeaning). t.instance) r.2 ∙ distinct_instance ms a.distinct r.0 r.1
@@ -259,24 +260,24 @@ module _ (gives : Giving) (D : ℕ → Type 0) where
             let d = a.jobs r.0 r.1 in
             not-longer I (d.step, d.place) c.0 (sym (own-instance s h) ∙ sym (ap (λ z. z.0) e) ∙ c.1 ∙ ap (λ n. n ++ c.0) d.named ∙ append_assoc I ((d.step, d.place) ∷ []) c.0)
 
-        step-all : (s : StepMeaning) → In s m.steps → ((r : JobName) × (s.instance ≡ I ++ r)) × ((k : ℕ) × Each (GroundedIn m s.instance k) s.ending)
+        step-all : (s : StepMeaning) → In s m.steps → ((r : JobName) × (s.instance ≡ I ++ r)) × AreGrounded m s.instance s.ending
         step-all s h = by (in-append s (step_list ms) (flat_map steps_inside opened) h)
           where
-            by : In s (step_list ms) ⊎ In s (flat_map steps_inside opened) → ((r : JobName) × (s.instance ≡ I ++ r)) × ((k : ℕ) × Each (GroundedIn m s.instance k) s.ending)
+            by : In s (step_list ms) ⊎ In s (flat_map steps_inside opened) → ((r : JobName) × (s.instance ≡ I ++ r)) × AreGrounded m s.instance s.ending
             by (inl i) =
                 let r = of-map (λ (k : Made). k.step) s ms i in
                 let g = each_in (λ (k : Made). Each (Grounded (LevelIn ms) (JobIn ms) I (length ms)) k.step.ending) ms (each-map _ _ (λ k w. w.1) ms a.ends) r.0 r.1 in
-                (([], own-instance s i ∙ sym (append-nil I)), (length ms, subst (λ n. Each (GroundedIn m n (length ms)) s.ending) (sym (own-instance s i)) (each-map (Grounded (LevelIn ms) (JobIn ms) I (length ms)) (GroundedIn m I (length ms)) (own-ground (length ms)) s.ending (subst (λ (t : StepMeaning). Each (Grounded (LevelIn ms) (JobIn ms) I (length ms)) t.ending) (sym r.2) g))))
+                (([], own-instance s i ∙ sym (append-nil I)), own-grounded s.instance s.ending (own-instance s i) (subst (λ (t : StepMeaning). Each (Grounded (LevelIn ms) (JobIn ms) I (length ms)) t.ending) (sym r.2) g))
             by (inr i) = let r = of-flat steps_inside s opened i in step-case r.0 r.1 s r.2
 
-        level-all : (l : Level) → In l (levels m.steps) → (k : ℕ) × Each (GroundedIn m l.instance k) l.sources
+        level-all : (l : Level) → In l (levels m.steps) → AreGrounded m l.instance l.sources
         level-all l h =
             let t = of-flat (λ s. filter_map (level_at s) (nodes s.iteration)) l m.steps h in by t.0 t.2 (in-append t.0 (step_list ms) (flat_map steps_inside opened) t.1)
           where
-            by : (s : StepMeaning) → In l (filter_map (level_at s) (nodes s.iteration)) → In s (step_list ms) ⊎ In s (flat_map steps_inside opened) → (k : ℕ) × Each (GroundedIn m l.instance k) l.sources
+            by : (s : StepMeaning) → In l (filter_map (level_at s) (nodes s.iteration)) → In s (step_list ms) ⊎ In s (flat_map steps_inside opened) → AreGrounded m l.instance l.sources
             by s g (inl i) =
                 let w = a.sources l (in-flat (λ s. filter_map (level_at s) (nodes s.iteration)) s l (step_list ms) i g) in
-                (length ms, subst (λ n. Each (GroundedIn m n (length ms)) l.sources) (sym w.0) (each-map (Grounded (LevelIn ms) (JobIn ms) I (length ms)) (GroundedIn m I (length ms)) (own-ground (length ms)) l.sources w.1))
+                own-grounded l.instance l.sources w.0 w.1
             by s g (inr i) = let r = of-flat steps_inside s opened i in level-case r.0 r.1 s r.2 l g
 
   -- ---- every number of levels
@@ -308,4 +309,4 @@ abbrev pub AnyNumber : ℕ → Type 0
 AnyNumber n = Unit {0}
 
 pub meaning-whole : (gives : Giving) (D : ℕ → Type 0) (d : Document) → Each (λ f. StepsHave gives D f.1) d.flows → IsWhole gives D (meaning gives d) []
-meaning-whole gives D d h = flow-whole gives D d.flows h most_nesting d.main [] d.inputs
+meaning-whole gives D d h = flow-whole gives D d.flows h nesting_limit d.main [] d.inputs

@@ -1,13 +1,9 @@
 -- That the needs of a job name only jobs of steps that were taken earlier.
 use Rattle.std.specs.List.{list_any}
-use Rattle.std.specs.Prelude.{Bool, List, [], flat_map, map, true, unwrap_or, ◌∷◌, ◌≡◌}
-use Rattle.tv_value.specs.Nested.{list, no_trees}
-use Rattle.tv_value.specs.Orders.{named, same_job}
-use Rattle.tv_value.specs.Values.{JobName, Name, Value}
-use Rattle.tv_flow.specs.Flows.{Flow}
-use Rattle.tv_strategy.specs.Origins.{input_value}
+use Rattle.std.specs.Prelude.{Bool, List, [], flat_map, true, ◌∷◌, ◌≡◌}
+use Rattle.tv_value.specs.Orders.{same_job}
+use Rattle.tv_value.specs.Values.{JobName}
 use Rattle.tv_strategy.specs.Sources.{Each}
-use Rattle.tv_depths.specs.Delivered.{Delivered}
 use Rattle.tv_model.specs.Jobs.{job_needs}
 use Rattle.tv_model.specs.Made.{Made, Opened}
 
@@ -23,8 +19,5 @@ has_job ms n = list_any (is_name_of n) (job_list ms)
 -- each job needs only jobs of the steps after it in this list, which were taken before it
 abbrev pub NeedEarlier : List Made → Type 0
 NeedEarlier [] = Unit {0}
-NeedEarlier (m ∷ ms) = Each (λ o. Each (λ n. has_job ms n ≡ true) (job_needs o.job)) m.jobs × NeedEarlier ms
-
--- what an instance is given
-abbrev pub given_of : Flow → List (Name × Value) → List (Name × Delivered)
-given_of flow vs = map (λ x. (x.0, record { depth = x.1; value = input_value x.0 [] (unwrap_or (named x.0 vs) (list tt no_trees)) })) flow.inputs
+NeedEarlier (m ∷ ms) =
+    Each (λ o. Each (λ n. has_job ms n ≡ true) (job_needs o.job)) m.jobs × NeedEarlier ms

@@ -1,18 +1,28 @@
 -- The steps of an instance, each made after those of less rank.
 use Rattle.std.specs.List.{list_any}
-use Rattle.std.specs.Prelude.{List, None, Some, [], codes, flat_map, if◌then◌else◌, map, ◌++◌, ◌∷◌}
-use Rattle.tv_value.specs.Nested.{Place, leaf, list, nodes}
+use Rattle.std.specs.Prelude.{List, None, Some, [], codes, flat_map, if◌then◌else◌, map, unwrap_or, ◌++◌, ◌∷◌}
+use Rattle.tv_value.specs.Nested.{Place, leaf, list, no_trees, nodes}
+use Rattle.tv_value.specs.Orders.{named}
 use Rattle.tv_value.specs.Values.{JobName, Name, Value, holds_fault}
 use Rattle.tv_gate.specs.Outcomes.{Giving}
-use Rattle.tv_flow.specs.Flows.{Step, StepInput}
+use Rattle.tv_flow.specs.Flows.{Flow, Step, StepInput}
 use Rattle.tv_strategy.specs.Iterations.{Iteration, iteration, job, passed}
 use Rattle.tv_strategy.specs.Measures.{strategy_depth}
-use Rattle.tv_strategy.specs.Origins.{Origin, Traced, plain}
+use Rattle.tv_strategy.specs.Origins.{Origin, Traced, input_value, plain}
 use Rattle.tv_dispatch.specs.Jobs.{Fate, error_results, fault_makers, opens, right, taken, tries, wrong}
 use Rattle.tv_depths.specs.Delivered.{Delivered, ported}
 use Rattle.tv_depths.specs.Steps.{bound_values, declared_depths, node_origin, port_iteration, port_mismatch, spot, strategy_of}
 use Rattle.tv_model.specs.Jobs.{Job, bounced_end, failed_end, good_end}
 use Rattle.tv_model.specs.Made.{Made, Meaning, Opened, delivered_outputs, endings, feed_value}
+
+-- the value that is given for an input, or the empty list
+abbrev pub value_given : List (Name × Value) → Name → Value
+value_given vs x = unwrap_or (named x vs) (list tt no_trees)
+
+-- what an instance is given at the inputs of its flow
+abbrev pub given_of : Flow → List (Name × Value) → List (Name × Delivered)
+given_of flow vs =
+    map (λ x. (x.0, record { depth = x.1; value = input_value x.0 [] (value_given vs x.0) })) flow.inputs
 
 -- the inputs of the flow that a job opens
 abbrev pub zip_names : List (Name × StepInput) → List Traced → List (Name × Value)
@@ -25,16 +35,29 @@ module _ (gives : Giving) (inside : Name → JobName → List (Name × Value) �
   abbrev pub with_fate : Step → Job → Fate → Opened
   with_fate s j (right vs) = record { job = record j { ending = good_end; result = vs }; inside = None }
   with_fate s j (wrong why) =
-      record { job = record j { ending = failed_end; result = error_results j.name why [] (declared_depths s) }; inside = None }
+      let result = error_results j.name why [] (declared_depths s) in
+      record { job = record j { ending = failed_end; result = result }; inside = None }
   with_fate s j (opens f) =
       let m = inside f j.name (zip_names s.inputs j.inputs) in
-      record { job = record j { opens = Some f; ending = good_end; result = map (λ o. plain o.1) m.outputs }; inside = Some m }
+      let result = map (λ o. plain o.1) m.outputs in
+      record { job = record j { opens = Some f; ending = good_end; result = result }; inside = Some m }
 
   -- a job whose inputs hold a fault
   abbrev pub bounced_job : Name → Step → List Origin → Place → List Traced → Job
   bounced_job n s waits q inputs =
       let name = spot instance n q in
-      record { name = name; instance = instance; step = n; limit = s.jobs; inputs = inputs; waits = waits; asks = []; opens = None; ending = bounced_end; result = error_results name (codes "bounced") (fault_makers (map plain inputs)) (declared_depths s) }
+      record {
+        name = name;
+        instance = instance;
+        step = n;
+        limit = s.jobs;
+        inputs = inputs;
+        waits = waits;
+        asks = [];
+        opens = None;
+        ending = bounced_end;
+        result = error_results name (codes "bounced") (fault_makers (map plain inputs)) (declared_depths s);
+      }
 
   -- the same job by its tries
   abbrev pub tried_job : Step → Job → Opened
@@ -63,7 +86,17 @@ module _ (gives : Giving) (inside : Name → JobName → List (Name × Value) �
       let levels = strategy_depth (port_mismatch ports) (strategy_of s) in
       let before = endings made s.after in
       let jobs = flat_map (node_jobs n s before) (nodes it) in
-      record { step = record { instance = instance; step = n; inputs = ports; iteration = it; outputs = delivered_outputs instance n jobs levels it 0 s.outputs; ending = map (node_origin instance n) (nodes it) ++ before }; jobs = jobs }
+      record {
+        step = record {
+          instance = instance;
+          step = n;
+          inputs = ports;
+          iteration = it;
+          outputs = delivered_outputs instance n jobs levels it 0 s.outputs;
+          ending = map (node_origin instance n) (nodes it) ++ before;
+        };
+        jobs = jobs;
+      }
 
   -- the steps by rank, the last first
   abbrev pub steps_made : List (Name × Delivered) → List Made → List (Name × Step) → List Made

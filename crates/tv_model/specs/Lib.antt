@@ -7,9 +7,8 @@ pub mod Totals
 pub mod TotalsViews
 pub mod Lineages
 pub mod Results
-pub mod Partials
 pub mod Agreeing
-pub mod Fitting
+pub mod RightDepths
 pub mod Levels
 pub mod Lists
 pub mod Members
@@ -22,4 +21,3 @@ pub mod RowsOfIteration
 pub mod RowsOfFaults
 pub mod RowsOfFlows
 pub mod RowsOfSize
-pub mod RowsOfParts

@@ -1,4 +1,4 @@
--- Which elements of the main flow's inputs a value was made from, and which outputs were made from an element.
+-- Which elements of the main flow's inputs a value was made from, and which outputs from an element.
 use Rattle.std.specs.List.{list_any}
 use Rattle.std.specs.Ordering.{ordering_then}
 use Rattle.std.specs.Prelude.{Bool, List, None, Option, Some, [], false, filter, filter_map, flat_map, if◌then◌else◌, option_and_then, option_map, true, ◌&&◌, ◌++◌, ◌||◌, ◌∷◌}
@@ -27,7 +27,8 @@ abbrev mutual
 abbrev pub Label : Type 0
 Label = Name × Place
 
--- the input elements that a mark leads to; a job's mark stands for the marks of its inputs. The jobs stand in job order, so those that feed a job stand after it.
+-- the input elements that a mark leads to; a job's mark stands for the marks of its inputs. The jobs stand in
+-- job order, so those that feed a job stand after it.
 abbrev pub labels : List Job → Mark → List Label
 labels js (given x q) = (x, q) ∷ []
 labels [] (made n) = []
@@ -58,7 +59,8 @@ abbrev pub touches : Name → Place → Label → Bool
 touches x q l = same_name x l.0 && (is_prefix q l.1 || is_prefix l.1 q)
 
 abbrev pub leaf_label : Meaning → Name → Place → Name → Place × Traced → Option Label
-leaf_label m x q p (r, leaf o a) = if list_any (touches x q) (lineage m (leaf o a)) then Some (p, r) else None
+leaf_label m x q p (r, leaf o a) =
+    if list_any (touches x q) (lineage m (leaf o a)) then Some (p, r) else None
 leaf_label m x q p (r, list o ts) = None
 
 -- the output leaves that were made from an input element

@@ -1,23 +1,29 @@
--- What an instance has made: its outputs, its steps, and its jobs with those of the flows that they open.
+-- What an instance has made: its outputs, its steps, and its jobs with what they open.
 use Rattle.std.specs.Option.{option_map_or}
 use Rattle.std.specs.Prelude.{List, Option, find, slice_get, unwrap_or, ℕ}
 use Rattle.tv_value.specs.Nested.{list, no_trees}
 use Rattle.tv_value.specs.Orders.{same_job}
 use Rattle.tv_value.specs.Values.{JobName, Name, Value}
-use Rattle.tv_flow.specs.Flows.{Feed, Link}
+use Rattle.tv_flow.specs.Flows.{Feed, Flow, Link}
 use Rattle.tv_strategy.specs.Iterations.{Iteration}
 use Rattle.tv_strategy.specs.Origins.{Origin, Traced}
-use Rattle.tv_dispatch.specs.Jobs.{Ask}
 use Rattle.tv_depths.specs.Delivered.{Delivered, StepMeaning, feed_delivers, link_delivers}
 use Rattle.tv_depths.specs.Steps.{endings_of, outputs_delivered}
 use Rattle.tv_model.specs.Jobs.{Job}
 
--- of a flow on given inputs: steps by rank, jobs in job order, both with those inside; and the asks in the order of one worker
+-- an instance of a flow: its name, what it was given, and what it gives
+pub record Instance : Type 0 where
+  pub name : JobName
+  pub flow : Flow
+  pub inputs : List (Name × Value)
+  pub outputs : List (Name × Traced)
+
+-- of a flow on given inputs, with what is inside: its own instance first, steps by rank, jobs in job order
 pub record Meaning : Type 0 where
   pub outputs : List (Name × Traced)
+  pub instances : List Instance
   pub steps : List StepMeaning
   pub jobs : List Job
-  pub order : List (JobName × Ask)
 
 -- a job, with the meaning of the flow that it opens
 pub record Opened : Type 0 where
@@ -44,7 +50,9 @@ endings made ns = endings_of step_in made ns
 -- the k-th output of the job of that name
 abbrev pub result_of : List Opened → ℕ → JobName → Value
 result_of os k n =
-    option_map_or (λ o. unwrap_or (slice_get o.job.result k) (list tt no_trees)) (find (λ o. same_job n o.job.name) os) (list tt no_trees)
+    option_map_or
+    (λ o. unwrap_or (slice_get o.job.result k) (list tt no_trees))
+    (find (λ o. same_job n o.job.name) os) (list tt no_trees)
 
 abbrev pub delivered_outputs : JobName → Name → List Opened → ℕ → Iteration → ℕ → List (Name × ℕ) → List (Name × Delivered)
 delivered_outputs instance s os levels it k ps = outputs_delivered instance s (result_of os) levels it k ps

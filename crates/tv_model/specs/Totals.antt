@@ -11,4 +11,10 @@ pub record Totals : Type 0 where
   pub jobs : ℕ
 
 abbrev pub totals : List Job → Totals
-totals js = record { attempts = length (flat_map (λ j. j.asks) js); bounced = length (filter (λ j. is_bounced j.ending) js); failed = length (filter (λ j. is_failed j.ending) js); jobs = length js }
+totals js =
+    record {
+      attempts = length (flat_map (λ j. j.asks) js);
+      bounced = length (filter (λ j. is_bounced j.ending) js);
+      failed = length (filter (λ j. is_failed j.ending) js);
+      jobs = length js;
+    }

@@ -11,6 +11,7 @@ use Rattle.tv_model.specs.Made.{Meaning}
 use Rattle.tv_model.specs.Meanings.{meaning}
 use Rattle.tv_model.specs.Results.{result_line}
 use Rattle.tv_model.specs.TextServices.{text_services}
+use Rattle.tv_model.specs.Turns.{ask_order}
 
 -- ---- names and values
 
@@ -58,7 +59,16 @@ takes_list p f = (p, record { depth = 1; from = f })
 
 -- a step that asks one service for a text, its output o
 abbrev pub asks : Name → List (Name × StepInput) → Step
-asks s ports = record { inputs = ports; outputs = (o, 0) ∷ []; strategy = None; activities = service s ∷ []; retries = 0; jobs = 1; after = [] }
+asks s ports =
+    record {
+      inputs = ports;
+      outputs = (o, 0) ∷ [];
+      strategy = None;
+      activities = service s ∷ [];
+      retries = 0;
+      jobs = 1;
+      after = [];
+    }
 
 -- the ports a and b in pairs
 abbrev pub pairing : Strategy
@@ -69,7 +79,8 @@ of_flows flows values = record { format = 1; main = codes "m"; flows = flows; in
 
 -- of one flow, on these values
 abbrev pub document : List (Name × ℕ) → List (Name × Step) → List (Name × Feed) → List (Name × Value) → Document
-document inputs steps outputs values = of_flows ((codes "m", record { inputs = inputs; steps = steps; outputs = outputs }) ∷ []) values
+document inputs steps outputs values =
+    of_flows ((codes "m", record { inputs = inputs; steps = steps; outputs = outputs }) ∷ []) values
 
 -- the output o of a step as the output `out`
 abbrev pub out : Name → List (Name × Feed)
@@ -85,7 +96,7 @@ line d = result_line (meant d)
 
 -- the jobs of the asks, in the order of one worker
 abbrev pub asked : Document → List Text
-asked d = map (λ k. job_text k.0) (meant d).order
+asked d = map (λ k. job_text k.0) (ask_order (meant d))
 
 abbrev pub made_from : Document → Name → Place → Option (List Text)
 made_from d p q = option_map (map element_text) (lineage_of (meant d) p q)

@@ -3,8 +3,8 @@
 //! The definitions know finished nested lists and plain lists of jobs, and no queue, stream or worker. They are public
 //! for the contracts of the crates above; the program runs nothing of them. `specs/Meanings.antt` has the meaning of a
 //! flow and of a document, made of one step after another (`specs/Instances.antt`) by the definitions of `tv_depths`,
-//! `tv_strategy` and `tv_dispatch`; beside it stand the order of one worker (`specs/Turns.antt`), the totals, lineage,
-//! the result line and what it is for a partial tree to be below a value.
+//! `tv_strategy` and `tv_dispatch`; beside it stand the order of one worker (`specs/Turns.antt`), the totals, lineage
+//! and the result line.
 //!
 //! - `laws`: what holds of these definitions, for every flow and all services
 //! - `totals`: totals as the code counts them

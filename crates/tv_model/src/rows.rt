@@ -1,12 +1,11 @@
 //! Worked documents, each with its result line, the order of its asks or the lineage of its outputs: they compute.
 //!
 //! Each stands in a file of `specs/` by its subject (`RowsOfIteration.antt`, `RowsOfFaults.antt`, `RowsOfFlows.antt`,
-//! `RowsOfParts.antt`, `RowsOfSize.antt`), in the words of `specs/Writing.antt`, over the services of
+//! `RowsOfSize.antt`), in the words of `specs/Writing.antt`, over the services of
 //! `specs/TextServices.antt`. A wrong definition gives another line, which the check refuses.
 ghost use Rattle.tv_model.specs.RowsOfFaults.{BouncesOneItem, CrossesEmptyListWithFault, CrossesListWithFault, FailsAfterRetries, FailsOver, PairsWithFault, PassesFaultOfList, RetriesUntilRight, TellsDepthOfValue, TellsErrorInValue, TellsNumberOfValues};
 ghost use Rattle.tv_model.specs.RowsOfFlows.{AsksInsideFlows, ForwardOfCross, ForwardThroughFlow, GivesTheSameInEachOrder, HasNoSuchElement, JoinsGeneNames, LimitOfJobsLeavesOrder, LineageOfCross, LineageThroughFlow, LineageThroughSteps, OpensFlowForEachItem, RunsAfter, RunsByRank, StreamsToNextStep};
 ghost use Rattle.tv_model.specs.RowsOfIteration.{CapitalsOfText, CrossesTwoLists, CrossesWithEmptyInnerList, CrossesWithEmptyOuterList, MergesTwoTexts, PairsToShorter, ReadsNumbersAsTexts, WalksEmptyList, WalksNestedLists, WrapsTextInList};
-ghost use Rattle.tv_model.specs.RowsOfParts.{KnowsNothingElse, KnowsPartsOfList};
 ghost use Rattle.tv_model.specs.RowsOfSize.{LengthOfTen, LineOfOne, TotalsOfTen, TotalsOfThree};
 
 /// Texts, lists of lists and the empty list, walked by one port.
@@ -78,12 +77,6 @@ pub fn lineages()
     ensures opened { LineageThroughFlow }
     ensures opened_forward { ForwardThroughFlow }
     ensures steps { LineageThroughSteps }
-{}
-
-/// What can be known of a list that is still arriving.
-pub fn parts()
-    ensures known { KnowsPartsOfList }
-    ensures nothing_else { KnowsNothingElse }
 {}
 
 /// A document that grows with a number.

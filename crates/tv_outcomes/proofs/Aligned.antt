@@ -1,6 +1,7 @@
 -- Two lists that are aligned: but for dark members on either side, their members are twins in order.
 use Rattle.std.specs.Prelude.{◌≡◌, refl, ℕ, suc, ◌⊎◌, List, [], ◌∷◌, ◌++◌, flat_map}
 use Rattle.std.proofs.Common.{sym, ap, subst, ◌∙◌, inl, inr, append_assoc}
+use Rattle.std.proofs.lemmas.Grind.{flat_map-append}
 use Rattle.tv_value.specs.Nested.{Place, leaf, list, no_trees, tree, note, nodes_below, nodes_from}
 use Rattle.tv_strategy.specs.Origins.{Origin}
 use Rattle.tv_strategy.specs.Iterations.{Iteration, Iterations}
@@ -48,10 +49,6 @@ module _ {A : Type 0} (D E : A → Type 0) (T : A → A → Type 0) where
       inr (record { dark = a.dark; twin = a.twin; rest = a.rest ++ vs; whole = ap (λ l. l ++ vs) a.whole ∙ append_assoc a.dark (a.twin ∷ a.rest) vs; unseen = a.unseen; like = a.like; more = aligned-append xs a.rest us vs a.more b })
 
 -- ---- what is made of each member
-
-pub flat_map-append : {A B : Type 0} (f : A → List B) (xs ys : List A) → flat_map f (xs ++ ys) ≡ flat_map f xs ++ flat_map f ys
-flat_map-append f [] ys = refl
-flat_map-append f (x ∷ xs) ys = ap (λ l. f x ++ l) (flat_map-append f xs ys) ∙ sym (append_assoc (f x) (flat_map f xs) (flat_map f ys))
 
 module _ {A B : Type 0} (D E : A → Type 0) (T : A → A → Type 0) (F G : B → Type 0) (U : B → B → Type 0) (f g : A → List B) (d : (x : A) → D x → Each F (f x)) (e : (y : A) → E y → Each G (g y)) (t : (x y : A) → T x y → Aligned F G U (f x) (g y)) where
   all-dark : (R : A → Type 0) (H : B → Type 0) (h : A → List B) → ((x : A) → R x → Each H (h x)) → (xs : List A) → Each R xs → Each H (flat_map h xs)

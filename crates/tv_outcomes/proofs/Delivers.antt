@@ -2,6 +2,7 @@
 use Rattle.std.specs.Prelude.{◌≡◌, refl, ℕ, zero, suc, pred, ◌⊎◌, ◌-◌, List, [], ◌∷◌, ◌++◌, map, find, Bool, true, false, Option, Some, None, unwrap_or, if◌then◌else◌}
 use Rattle.std.specs.Option.{option_map_or}
 use Rattle.std.proofs.Common.{sym, ap, subst, inl, inr}
+use Rattle.tv_lemmas.proofs.Cases.{on_either}
 use Rattle.tv_value.specs.Nested.{Place, leaf, list, Trees, no_trees, tree, note, map_trees, trees_of}
 use Rattle.tv_value.specs.Values.{Name, JobName, ErrorDoc, Scalar, Value}
 use Rattle.tv_value.specs.Orders.{same_name, named}
@@ -188,11 +189,7 @@ module _ (K L : Known → Bool) (start : K at_start ≡ L at_start) where
 
     end-alike : (q : Place) (d : ℕ) (s : List Origin) (e : End) → P q (leaf s e) → Q q (leaf s e) → AreShared K L s → AlikeValues K L (end_output spots made declared q d s e) (end_output spots other declared q d s e)
     end-alike q d s (passed m e) p r h = inr (refl, refl, levels (spots q))
-    end-alike q d s (job b) p r h = by (meets q s b p r h)
-      where
-        by : ((K (by_job (spots q)) ≡ false) × (L (by_job (spots q)) ≡ false)) ⊎ ((made q ≡ other q) × (K (by_job (spots q)) ≡ L (by_job (spots q)))) → AlikeValues K L (traced (from_job (spots q)) (made q)) (traced (from_job (spots q)) (other q))
-        by (inl k) = inl (one-origin (Dim K) (from_job (spots q)) k.0 (made q), one-origin (Dim L) (from_job (spots q)) k.1 (other q))
-        by (inr k) = inr (subst (λ v. SameValues K L (traced (from_job (spots q)) (made q)) (traced (from_job (spots q)) v)) k.0 (same-itself (Dim K) (Dim L) (Shared K L) (traced (from_job (spots q)) (made q)) (one-origin (Shared K L) (from_job (spots q)) k.1 (made q))))
+    end-alike q d s (job b) p r h = on_either (meets q s b p r h) (λ k. inl (one-origin (Dim K) (from_job (spots q)) k.0 (made q), one-origin (Dim L) (from_job (spots q)) k.1 (other q))) (λ k. inr (subst (λ v. SameValues K L (traced (from_job (spots q)) (made q)) (traced (from_job (spots q)) v)) k.0 (same-itself (Dim K) (Dim L) (Shared K L) (traced (from_job (spots q)) (made q)) (one-origin (Shared K L) (from_job (spots q)) k.1 (made q)))))
 
     mutual
       same-output : (t u : Iteration) (q : Place) (d : ℕ) → AllStand P q t → AllStand Q q u → SameIterations K L t u → AlikeValues K L (output_below spots made declared q d t) (output_below spots other declared q d u)

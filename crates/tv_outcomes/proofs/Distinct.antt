@@ -1,29 +1,26 @@
 -- No two tries of a job have one activity and attempt.
-use Rattle.std.specs.Prelude.{◌≡◌, ℕ, suc, ◌⊎◌, ◌≤◌, List, [], ◌∷◌, map, Bool, true, false, None, Result, Ok, Err, if◌then◌else◌}
-use Rattle.std.specs.List.{list_any, range_with_len}
+use Rattle.std.specs.Prelude.{◌≡◌, ℕ, suc, ◌⊎◌, ◌≤◌, List, [], ◌∷◌, map, Result, Ok, Err, if◌then◌else◌}
+use Rattle.std.specs.List.{range_with_len}
 use Rattle.std.proofs.Common.{arith, sym, ap, subst, ◌∙◌, inl, inr}
+use Rattle.tv_lemmas.proofs.Cases.{on_either}
 use Rattle.tv_value.specs.Activities.{Activity, service, nested}
-use Rattle.tv_value.specs.Nested.{Place}
-use Rattle.tv_value.specs.Values.{Name, JobName, Text, Value, holds_fault}
-use Rattle.tv_flow.specs.Flows.{Document, Step}
-use Rattle.tv_strategy.specs.Origins.{Origin, Traced, plain}
+use Rattle.tv_value.specs.Values.{Name, Text, Value}
+use Rattle.tv_flow.specs.Flows.{Document}
 use Rattle.tv_gate.specs.Outcomes.{Giving}
-use Rattle.tv_dispatch.specs.Jobs.{Ask, outcome_of, Try, ask, open_flow, tries, Fate, right, opens, wrong, Taken, taken, match_result}
+use Rattle.tv_dispatch.specs.Jobs.{Ask, outcome_of, Try, ask, open_flow, tries, right, Taken, taken, match_result}
 use Rattle.tv_depths.specs.Steps.{declared_depths}
-use Rattle.tv_model.specs.Instances.{with_fate, bounced_job, tried_job, job_on}
 use Rattle.tv_model.specs.Jobs.{Job}
-use Rattle.tv_model.specs.Made.{Meaning}
 use Rattle.tv_model.specs.Meanings.{meaning}
 use Rattle.tv_model.specs.Members.{In}
 use Rattle.tv_model.proofs.Fed.{each-all}
 use Rattle.tv_model.proofs.Order.{in-append, of-map}
-use Rattle.tv_outcomes.proofs.Everywhere.{document-has}
+use Rattle.tv_outcomes.proofs.Everywhere.{document-asks}
 
 abbrev pub AreDistinct : List Ask → Type 0
 AreDistinct as' = (a b : Ask) → In a as' → In b as' → a.activity ≡ b.activity → a.attempt ≡ b.attempt → a ≡ b
 
 -- what is taken is among the tries
-abbrev taken_by : Giving → Ask → List Try → Result (List Value) Text → Taken
+abbrev pub taken_by : Giving → Ask → List Try → Result (List Value) Text → Taken
 taken_by gives a ts r = match_result {C = Taken} r (λ vs. record { asks = a ∷ []; fate = right vs }) (λ reason. record { asks = a ∷ (taken gives reason ts).asks; fate = (taken gives reason ts).fate })
 
 pub taken-in : (gives : Giving) (why : Text) (ts : List Try) (b : Ask) → In b (taken gives why ts).asks → In (ask b) ts
@@ -67,21 +64,11 @@ module _ (vs : List Value) (ds : List ℕ) (retries : ℕ) where
   later : (k : ℕ) (as' : List Activity) (a : Ask) → In (ask a) (tries vs ds retries k as') → k ≤ a.activity
   later k [] a h = absurd h
   later k (nested f ∷ as') a (inl p) = absurd (no-flow a f p)
-  later k (nested f ∷ as') a (inr h) = less k a.activity (later (suc k) as' a h)
+  later k (nested f ∷ as') a (inr h) = omega (arith, later (suc k) as' a h)
+  later k (service s ∷ as') a h = on_either (in-append (ask a) (attempts s k) (tries vs ds retries (suc k) as') h) (λ q. omega (arith, ap (λ (x : Ask). x.activity) (of-attempts s k a q))) (λ q. less k a.activity (later (suc k) as' a q))
     where
       less : (x y : ℕ) → suc x ≤ y → x ≤ y
       less x y p = omega arith
-  later k (service s ∷ as') a h = by (in-append (ask a) (attempts s k) (tries vs ds retries (suc k) as') h) (λ g. later (suc k) as' a g)
-    where
-      same : (x y : ℕ) → y ≡ x → x ≤ y
-      same x y p = omega arith
-
-      less : (x y : ℕ) → suc x ≤ y → x ≤ y
-      less x y p = omega arith
-
-      by : In (ask a) (attempts s k) ⊎ In (ask a) (tries vs ds retries (suc k) as') → (In (ask a) (tries vs ds retries (suc k) as') → suc k ≤ a.activity) → k ≤ a.activity
-      by (inl g) rec = same k a.activity (ap (λ (x : Ask). x.activity) (of-attempts s k a g))
-      by (inr g) rec = less k a.activity (rec g)
 
   tries-distinct : (k : ℕ) (as' : List Activity) (a b : Ask) → In (ask a) (tries vs ds retries k as') → In (ask b) (tries vs ds retries k as') → a.activity ≡ b.activity → a.attempt ≡ b.attempt → a ≡ b
   tries-distinct k [] a b h g e f = absurd h
@@ -99,29 +86,8 @@ module _ (vs : List Value) (ds : List ℕ) (retries : ℕ) where
       by (inr x) (inl y) rec = absurd (apart b.activity a.activity (ap (λ (z : Ask). z.activity) (of-attempts s k b y)) (later (suc k) as' a x) (sym e))
       by (inr x) (inr y) rec = rec x y
 
-module _ (gives : Giving) (inside : Name → JobName → List (Name × Value) → Meaning) (I : JobName) where
-  fate-distinct : (s : Step) (j : Job) (as' : List Ask) (f : Fate) → AreDistinct as' → AreDistinct (with_fate gives inside I s (record j { asks = as' }) f).job.asks
-  fate-distinct s j as' (right vs) h = h
-  fate-distinct s j as' (opens f) h = h
-  fate-distinct s j as' (wrong why) h = h
-
-  job-distinct : (c : Name) (s : Step) (waits : List Origin) (q : Place) (inputs : List Traced) → AreDistinct (job_on gives inside I c s waits q inputs).job.asks
-  job-distinct c s waits q inputs = by (list_any (λ z. holds_fault z) inputs)
-    where
-      j : Job
-      j = bounced_job gives inside I c s waits q inputs
-
-      ts : List Try
-      ts = tries (map plain inputs) (declared_depths s) s.retries 0 s.activities
-
-      t : Taken
-      t = taken gives [] ts
-
-      by : (z : Bool) → AreDistinct (if z then record { job = j; inside = None } else tried_job gives inside I s j).job.asks
-      by true = λ a b h. absurd h
-      by false =
-          fate-distinct s j t.asks t.fate (λ a b h g e f. tries-distinct (map plain inputs) (declared_depths s) s.retries 0 s.activities a b (taken-in gives [] ts a h) (taken-in gives [] ts b g) e f)
-
 pub asks-distinct : (gives : Giving) (d : Document) (j : Job) → In j (meaning gives d).jobs → AreDistinct j.asks
 asks-distinct gives d =
-    document-has gives (λ s. Unit {0}) (λ j. AreDistinct j.asks) (λ inside I c s waits q inputs k. job-distinct gives inside I c s waits q inputs) d (each-all _ (λ f. each-all _ (λ s. tt) f.1.steps) d.flows)
+    document-asks gives (λ s. Unit {0}) AreDistinct (λ a b h. absurd h)
+    (λ s vs u a b h g e f. let ts = tries vs (declared_depths s) s.retries 0 s.activities in tries-distinct vs (declared_depths s) s.retries 0 s.activities a b (taken-in gives [] ts a h) (taken-in gives [] ts b g) e f)
+    d (each-all _ (λ f. each-all _ (λ s. tt) f.1.steps) d.flows)

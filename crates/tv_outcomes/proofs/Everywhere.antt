@@ -1,21 +1,22 @@
 -- What is so of the job of every step at every node is so of all jobs of a meaning, at any number of levels.
-use Rattle.std.specs.Prelude.{ℕ, zero, suc, List, [], ◌∷◌, ◌++◌, length, Option, Some, None}
+use Rattle.std.specs.List.{list_any}
+use Rattle.std.specs.Prelude.{ℕ, zero, suc, List, [], ◌∷◌, ◌++◌, length, map, Option, Some, None, Bool, true, false, if◌then◌else◌}
 use Rattle.std.specs.Option.{option_map_or}
 use Rattle.std.proofs.Common.{sym, subst, inl, inr}
 use Rattle.tv_value.specs.Nested.{Place, leaf, list, nodes}
-use Rattle.tv_value.specs.Values.{Name, JobName, Value}
+use Rattle.tv_value.specs.Values.{Name, JobName, Value, holds_fault}
 use Rattle.tv_flow.specs.Flows.{Document, Flow, Step}
 use Rattle.tv_strategy.specs.Iterations.{Iteration, job, passed}
-use Rattle.tv_strategy.specs.Origins.{Origin, Traced}
+use Rattle.tv_strategy.specs.Origins.{Origin, Traced, plain}
 use Rattle.tv_gate.specs.Outcomes.{Giving}
+use Rattle.tv_dispatch.specs.Jobs.{Ask, tries, Fate, right, opens, wrong, Taken, taken}
 use Rattle.tv_depths.specs.Delivered.{Delivered}
 use Rattle.tv_depths.specs.Ranks.{ranked}
-use Rattle.tv_depths.specs.Steps.{bound_values}
-use Rattle.tv_model.specs.Earlier.{given_of}
-use Rattle.tv_model.specs.Instances.{job_on, node_jobs, step_made, steps_made}
+use Rattle.tv_depths.specs.Steps.{bound_values, declared_depths}
+use Rattle.tv_model.specs.Instances.{given_of, with_fate, bounced_job, tried_job, job_on, node_jobs, step_made, steps_made}
 use Rattle.tv_model.specs.Jobs.{Job}
 use Rattle.tv_model.specs.Made.{Meaning, Opened, Made, endings}
-use Rattle.tv_model.specs.Meanings.{jobs_with_inside, instance_meaning, no_meaning, flow_meaning, meaning, most_nesting}
+use Rattle.tv_model.specs.Meanings.{jobs_with_inside, instance_meaning, no_meaning, flow_meaning, meaning, nesting_limit}
 use Rattle.tv_model.specs.Members.{In}
 use Rattle.tv_model.proofs.Tests.{Each}
 use Rattle.tv_model.proofs.Earlier.{job_list}
@@ -78,4 +79,27 @@ module _ (gives : Giving) (S : Step → Type 0) (Q : Job → Type 0)
       named_map_or (λ flow. Each StepIs flow.steps) (λ a. AllHave a.jobs) (λ flow. instance_meaning gives (flow_meaning gives flows depth) I flow vs) (λ flow k. instance-has (flow_meaning gives flows depth) (λ g J us. flow-has flows h depth g J us) I flow vs k) f flows no_meaning h (λ j i. absurd i)
 
   pub document-has : (d : Document) → Each (λ f. Each StepIs f.1.steps) d.flows → AllHave (meaning gives d).jobs
-  document-has d h = flow-has d.flows h most_nesting d.main [] d.inputs
+  document-has d h = flow-has d.flows h nesting_limit d.main [] d.inputs
+
+-- what is so of no asks, and of those that are taken of the tries of every step, is so of the asks of all jobs
+module _ (gives : Giving) (S : Step → Type 0) (P : List Ask → Type 0) (none : P []) (of_taken : (s : Step) (vs : List Value) → S s → P (taken gives [] (tries vs (declared_depths s) s.retries 0 s.activities)).asks) where
+  fate-asks : (inside : Name → JobName → List (Name × Value) → Meaning) (I : JobName) (s : Step) (j : Job) (as' : List Ask) (f : Fate) → P as' → P (with_fate gives inside I s (record j { asks = as' }) f).job.asks
+  fate-asks inside I s j as' (right vs) h = h
+  fate-asks inside I s j as' (opens f) h = h
+  fate-asks inside I s j as' (wrong why) h = h
+
+  job-asks : (inside : Name → JobName → List (Name × Value) → Meaning) (I : JobName) (c : Name) (s : Step) (waits : List Origin) (q : Place) (inputs : List Traced) → S s → P (job_on gives inside I c s waits q inputs).job.asks
+  job-asks inside I c s waits q inputs h = by (list_any (λ z. holds_fault z) inputs)
+    where
+      j : Job
+      j = bounced_job gives inside I c s waits q inputs
+
+      t : Taken
+      t = taken gives [] (tries (map plain inputs) (declared_depths s) s.retries 0 s.activities)
+
+      by : (z : Bool) → P (if z then record { job = j; inside = None } else tried_job gives inside I s j).job.asks
+      by true = none
+      by false = fate-asks inside I s j t.asks t.fate (of_taken s (map plain inputs) h)
+
+  pub document-asks : (d : Document) → Each (λ f. Each (λ s. S s.1) f.1.steps) d.flows → (j : Job) → In j (meaning gives d).jobs → P j.asks
+  document-asks d h = document-has gives S (λ j. P j.asks) job-asks d h

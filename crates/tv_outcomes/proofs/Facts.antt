@@ -3,6 +3,9 @@ use Rattle.std.specs.Prelude.{◌≡◌, refl, ℕ, zero, suc, ◌⊎◌, List, 
 use Rattle.std.specs.List.{list_any, list_all}
 use Rattle.std.specs.Option.{option_map_or}
 use Rattle.std.proofs.Common.{sym, ap, subst, ◌∙◌, inl, inr, append_assoc, append-nil}
+use Rattle.std.proofs.lemmas.Bool.{false_from_ne_true}
+use Rattle.tv_history.proofs.Legal.{legal-of}
+use Rattle.tv_lemmas.proofs.Cases.{on_test, on_either, on_or}
 use Rattle.tv_value.specs.Nested.{Place}
 use Rattle.tv_value.specs.Values.{Name, JobName}
 use Rattle.tv_value.specs.Orders.{same_job}
@@ -17,31 +20,24 @@ use Rattle.tv_model.specs.Made.{Meaning}
 use Rattle.tv_model.specs.Members.{In}
 use Rattle.tv_model.specs.Turns.{is_bounced}
 use Rattle.tv_history.specs.Alone.{HaveTries}
-use Rattle.tv_history.specs.Entries.{Entry, handed_out, accepted, bounced, closed, fault_passed, opened, ended, recalled, History, is_accepted, is_bounced_entry, is_ended_entry, is_level_entry, is_opened_entry, is_begun_entry, is_out}
-use Rattle.tv_history.specs.Histories.{asks_left, next_ask, is_settled, is_settled_name, has_entry, is_known, all_known, is_open, is_running, is_idle, is_ready, is_offered, can_open, can_settle, can_settle_more, is_at, is_legal, is_legal_after}
+use Rattle.tv_history.specs.Entries.{Entry, accepted, bounced, closed, fault_passed, opened, ended, History, is_accepted, is_bounced_entry, is_ended_entry, is_level_entry, is_opened_entry, is_begun_entry, is_out}
+use Rattle.tv_history.specs.Histories.{asks_left, next_ask, is_settled, is_settled_name, has_entry, is_known, all_known, is_open, is_running, is_ready, is_offered, can_open, can_settle, can_settle_more, is_at, is_legal, is_legal_after}
 use Rattle.tv_model.proofs.Tests.{true≠false, left_true, right_true, or_right, all_weaken, same_job_decides}
 use Rattle.tv_model.proofs.Order.{some_in}
 use Rattle.tv_model.proofs.Members.{snoc-parts}
 use Rattle.tv_model.proofs.Whole.{IsWhole}
 use Rattle.tv_history.proofs.Needs.{stays_settled_name}
-use Rattle.tv_history.proofs.Running.{true_of, found_in, all_in, any_weaken, out-begun, opened_begins, settled_of_name, going_on, begins, idle_begun}
-use Rattle.tv_history.proofs.Ready.{all-sound, are-jobs, levels-once, same_tests}
+use Rattle.tv_history.proofs.Running.{out-begun, opened_begins, settled_of_name, going_on, begins, idle_begun}
+use Rattle.tv_history.proofs.Ready.{all-sound, are-jobs, levels-once}
 use Rattle.tv_history.proofs.Stuck.{settled-name}
 use Rattle.tv_history.proofs.Done.{nothing_first, job-opened}
 use Rattle.tv_history.proofs.Sums.{bounces-it}
+use Rattle.tv_history.proofs.Tests.{found_in, all_in, any_weaken, same_tests}
 
 -- ---- tests
 
-pub and_parts : (a b : Bool) → (a && b) ≡ true → (a ≡ true) × (b ≡ true)
-and_parts a b h = (left_true a b h, right_true a b h)
-
 pub not_both : {P : Type 0} (b : Bool) → b ≡ true → b ≡ false → P
 not_both b h k = absurd (true≠false (sym h ∙ k))
-
--- what would be true isn't
-pub never : (b : Bool) → (b ≡ true → ⊥) → b ≡ false
-never true h = absurd (h refl)
-never false h = refl
 
 -- where nothing was accepted, all asks are left
 none-accepted : (past : History) (n : JobName) (l : List Ask) → list_any (is_accepted n) past ≡ false → asks_left past n l ≡ l
@@ -60,17 +56,17 @@ module _ (gives : Giving) (D : ℕ → Type 0) (m : Meaning) (w : IsWhole gives 
   WasOpened past n = list_any (is_opened_entry n) past ≡ true
 
   abbrev pub AreKnown : History → List Origin → Type 0
-  AreKnown past os = all_known gives m past os ≡ true
+  AreKnown past os = all_known m past os ≡ true
 
   -- ---- what is known stays known
 
-  pub stays-known : (e : Entry) (past : History) (k : Known) → is_known gives m past k ≡ true → is_known gives m (e ∷ past) k ≡ true
+  pub stays-known : (e : Entry) (past : History) (k : Known) → is_known m past k ≡ true → is_known m (e ∷ past) k ≡ true
   stays-known e past at_start h = refl
   stays-known e past (by_job n) h = stays_settled_name gives m e past n h
-  stays-known e past (by_level n) h = or_right (is_level_entry n e) (has_entry gives m past n) h
+  stays-known e past (by_level n) h = or_right (is_level_entry n e) (has_entry past n) h
 
   pub stay-known : (e : Entry) (past : History) (os : List Origin) → AreKnown past os → AreKnown (e ∷ past) os
-  stay-known e past os h = all_weaken (λ o. is_known gives m past o.known) (λ o. is_known gives m (e ∷ past) o.known) (λ o k. stays-known e past o.known k) os h
+  stay-known e past os h = all_weaken (λ o. is_known m past o.known) (λ o. is_known m (e ∷ past) o.known) (λ o k. stays-known e past o.known k) os h
 
   older : (past : History) (e : Entry) → is_legal gives m (e ∷ past) ≡ true → is_legal gives m past ≡ true
   older past e l = left_true (is_legal gives m past) (is_legal_after gives m past e) l
@@ -78,90 +74,64 @@ module _ (gives : Giving) (D : ℕ → Type 0) (m : Meaning) (w : IsWhole gives 
   after : (past : History) (e : Entry) → is_legal gives m (e ∷ past) ≡ true → is_legal_after gives m past e ≡ true
   after past e l = right_true (is_legal gives m past) (is_legal_after gives m past e) l
 
-  ready-waits : (past : History) (j : Job) → is_ready gives m past j ≡ true → AreKnown past j.waits
-  ready-waits past j h = right_true (is_open gives m past j.instance && not (is_running gives m past j) && not (is_settled gives m past j)) (all_known gives m past j.waits) h
+  ready-waits : (past : History) (j : Job) → is_ready m past j ≡ true → AreKnown past j.waits
+  ready-waits past j h = right_true (is_open past j.instance && not (is_running past j) && not (is_settled past j)) (all_known m past j.waits) h
 
-  ready-open : (past : History) (j : Job) → is_ready gives m past j ≡ true → is_open gives m past j.instance ≡ true
+  ready-open : (past : History) (j : Job) → is_ready m past j ≡ true → is_open past j.instance ≡ true
   ready-open past j h =
-      left_true (is_open gives m past j.instance) (not (is_running gives m past j)) (left_true (is_open gives m past j.instance && not (is_running gives m past j)) (not (is_settled gives m past j)) (left_true (is_open gives m past j.instance && not (is_running gives m past j) && not (is_settled gives m past j)) (all_known gives m past j.waits) h))
+      left_true (is_open past j.instance) (not (is_running past j)) (left_true (is_open past j.instance && not (is_running past j)) (not (is_settled past j)) (left_true (is_open past j.instance && not (is_running past j) && not (is_settled past j)) (all_known m past j.waits) h))
 
   -- ---- what stays so once a job is ready holds of whoever was begun or bounced
 
-  module _ (Q : History → Job → Type 0) (stays : (e : Entry) (past : History) (j : Job) → Q past j → Q (e ∷ past) j) (of_ready : (past : History) (j : Job) → is_ready gives m past j ≡ true → Q past j) where
+  module _ (Q : History → Job → Type 0) (stays : (e : Entry) (past : History) (j : Job) → Q past j → Q (e ∷ past) j) (of_ready : (past : History) (j : Job) → is_ready m past j ≡ true → Q past j) where
     pub from-begun : (past : History) → is_legal gives m past ≡ true → (j : Job) → In j m.jobs → WasBegun past j → Q past j
     from-begun [] l j i h = absurd (true≠false (sym h))
-    from-begun (e ∷ past) l j i h = stays e past j (by (true_of (is_begun_entry j.name e) (list_any (is_begun_entry j.name) past) h) (λ k. from-begun past (older past e l) j i k))
-      where
-        going : (is_idle gives m past j ≡ true) ⊎ (is_ready gives m past j ≡ true) → (WasBegun past j → Q past j) → Q past j
-        going (inl k) rec = rec (idle_begun gives m (all-sound gives D m [] w) (are-jobs gives D m [] w) past j k).0
-        going (inr k) rec = of_ready past j k
-
-        by : (is_begun_entry j.name e ≡ true) ⊎ WasBegun past j → (WasBegun past j → Q past j) → Q past j
-        by (inr k) rec = rec k
-        by (inl k) rec = going (going_on gives m (all-sound gives D m [] w) (are-jobs gives D m [] w) past j (begins gives m (all-sound gives D m [] w) (are-jobs gives D m [] w) past e j i (after past e l) k)) rec
+    from-begun (e ∷ past) l j i h = stays e past j (on_or (is_begun_entry j.name e) (list_any (is_begun_entry j.name) past) h (λ q. on_either (going_on gives m (all-sound gives D m [] w) (are-jobs gives D m [] w) past j (begins gives m (all-sound gives D m [] w) (are-jobs gives D m [] w) past j i (legal-of gives m past e (after past e l)) q)) (λ k. (from-begun past (older past e l) j i (idle_begun gives m (all-sound gives D m [] w) (are-jobs gives D m [] w) past j k).0)) (λ k. of_ready past j k)) (λ q. from-begun past (older past e l) j i q))
 
     pub from-bounced : (past : History) → is_legal gives m past ≡ true → (j : Job) → In j m.jobs → list_any (is_bounced_entry j.name) past ≡ true → Q past j
     from-bounced [] l j i h = absurd (true≠false (sym h))
-    from-bounced (e ∷ past) l j i h = stays e past j (by (true_of (is_bounced_entry j.name e) (list_any (is_bounced_entry j.name) past) h) (λ k. from-bounced past (older past e l) j i k))
-      where
-        by : (is_bounced_entry j.name e ≡ true) ⊎ (list_any (is_bounced_entry j.name) past ≡ true) → (list_any (is_bounced_entry j.name) past ≡ true → Q past j) → Q past j
-        by (inr k) rec = rec k
-        by (inl k) rec = of_ready past j (left_true (is_ready gives m past j) (is_bounced j.ending) (bounces-it gives D m w past e j i (after past e l) k))
+    from-bounced (e ∷ past) l j i h = stays e past j (on_or (is_bounced_entry j.name e) (list_any (is_bounced_entry j.name) past) h (λ q. of_ready past j (left_true (is_ready m past j) (is_bounced j.ending) (bounces-it gives D m w past j i (legal-of gives m past e (after past e l)) q))) (λ q. from-bounced past (older past e l) j i q))
 
   -- ---- whoever is settled was begun or bounced
 
   pub accepted-begun : (past : History) → is_legal gives m past ≡ true → (n : JobName) → list_any (is_accepted n) past ≡ true → list_any (is_begun_entry n) past ≡ true
   accepted-begun [] l n h = h
-  accepted-begun (e ∷ past) l n h = or_right (is_begun_entry n e) (list_any (is_begun_entry n) past) (by (true_of (is_accepted n e) (list_any (is_accepted n) past) h) (λ k. accepted-begun past (older past e l) n k))
+  accepted-begun (e ∷ past) l n h = or_right (is_begun_entry n e) (list_any (is_begun_entry n) past) (on_or (is_accepted n e) (list_any (is_accepted n) past) h (λ q. of_entry e q (after past e l)) (λ q. accepted-begun past (older past e l) n q))
     where
       of_entry : (e : Entry) → is_accepted n e ≡ true → is_legal_after gives m past e ≡ true → list_any (is_begun_entry n) past ≡ true
       of_entry (accepted k c t r) a l = out-begun past n (subst (λ x. is_out past x ≡ true) (sym ((same_job_decides n k).0 a)) (left_true (is_out past k) _ l))
-      of_entry (handed_out k c t) a l = absurd (true≠false (sym a))
-      of_entry (bounced k) a l = absurd (true≠false (sym a))
-      of_entry (closed k c) a l = absurd (true≠false (sym a))
-      of_entry (fault_passed k) a l = absurd (true≠false (sym a))
-      of_entry (opened k) a l = absurd (true≠false (sym a))
-      of_entry (ended k) a l = absurd (true≠false (sym a))
-      of_entry (recalled c) a l = absurd (true≠false (sym a))
-
-      by : (is_accepted n e ≡ true) ⊎ (list_any (is_accepted n) past ≡ true) → (list_any (is_accepted n) past ≡ true → list_any (is_begun_entry n) past ≡ true) → list_any (is_begun_entry n) past ≡ true
-      by (inr k) rec = rec k
-      by (inl k) rec = of_entry e k (after past e l)
+      of_entry e a l = absurd (true≠false (sym a))
 
   module _ (fit : HaveTries m.jobs) where
-    pub settled-from : (past : History) → is_legal gives m past ≡ true → (j : Job) → In j m.jobs → is_settled gives m past j ≡ true → WasBegun past j ⊎ (list_any (is_bounced_entry j.name) past ≡ true)
+    pub settled-from : (past : History) → is_legal gives m past ≡ true → (j : Job) → In j m.jobs → is_settled past j ≡ true → WasBegun past j ⊎ (list_any (is_bounced_entry j.name) past ≡ true)
     settled-from past l j i h = by (is_bounced j.ending) refl (is_some j.opens) refl h
       where
-        tried : (b : Bool) → list_any (is_accepted j.name) past ≡ b → is_bounced j.ending ≡ false → is_some j.opens ≡ false → is_none (next_ask gives m past j) ≡ true → WasBegun past j
-        tried true e p q k = accepted-begun past l j.name e
-        tried false e p q k = not_both (is_some j.opens) (fit j i p (sym (none-accepted past j.name j.asks e) ∙ nothing_first (asks_left past j.name j.asks) k)) q
-
-        by : (b : Bool) → is_bounced j.ending ≡ b → (o : Bool) → is_some j.opens ≡ o → (if b then list_any (is_bounced_entry j.name) past else (if o then list_any (is_ended_entry j.name) past else is_none (next_ask gives m past j))) ≡ true → WasBegun past j ⊎ (list_any (is_bounced_entry j.name) past ≡ true)
+        by : (b : Bool) → is_bounced j.ending ≡ b → (o : Bool) → is_some j.opens ≡ o → (if b then list_any (is_bounced_entry j.name) past else (if o then list_any (is_ended_entry j.name) past else is_none (next_ask past j))) ≡ true → WasBegun past j ⊎ (list_any (is_bounced_entry j.name) past ≡ true)
         by true p o q k = inr k
         by false p true q k = inl (any_weaken (is_opened_entry j.name) (is_begun_entry j.name) (opened_begins j.name) past (job-opened gives D m w past l j i k))
-        by false p false q k = inl (tried (list_any (is_accepted j.name) past) refl p q k)
+        by false p false q k = inl (on_test (list_any (is_accepted j.name) past) (λ e. accepted-begun past l j.name e) (λ e. not_both (is_some j.opens) (fit j i p (sym (none-accepted past j.name j.asks e) ∙ nothing_first (asks_left past j.name j.asks) k)) q))
 
     -- ---- dark jobs
 
     -- it doesn't run, isn't settled and isn't ready, and its flow isn't open
     pub record IsDark (past : History) (j : Job) : Type 0 where
       pub unbegun : list_any (is_begun_entry j.name) past ≡ false
-      pub unsettled : is_settled gives m past j ≡ false
-      pub unready : is_ready gives m past j ≡ false
-      pub unopened : is_open gives m past j.name ≡ false
+      pub unsettled : is_settled past j ≡ false
+      pub unready : is_ready m past j ≡ false
+      pub unopened : is_open past j.name ≡ false
 
-    name-open : (past : History) (j : Job) → In j m.jobs → is_open gives m past j.name ≡ true → WasOpened past j.name
+    name-open : (past : History) (j : Job) → In j m.jobs → is_open past j.name ≡ true → WasOpened past j.name
     name-open past j i h =
         let c = (are-jobs gives D m [] w).has_name j i in
-        subst (λ n. WasOpened past n) (sym c.2) (left_true (list_any (is_opened_entry (c.0 ∷ c.1)) past) (not (list_any (is_ended_entry (c.0 ∷ c.1)) past)) (subst (λ n. is_open gives m past n ≡ true) c.2 h))
+        subst (λ n. WasOpened past n) (sym c.2) (left_true (list_any (is_opened_entry (c.0 ∷ c.1)) past) (not (list_any (is_ended_entry (c.0 ∷ c.1)) past)) (subst (λ n. is_open past n ≡ true) c.2 h))
 
     module _ (past : History) (legal : is_legal gives m past ≡ true) (j : Job) (i : In j m.jobs) where
-      dark-if : (WasBegun past j → ⊥) → (list_any (is_bounced_entry j.name) past ≡ true → ⊥) → (is_ready gives m past j ≡ true → ⊥) → IsDark past j
+      dark-if : (WasBegun past j → ⊥) → (list_any (is_bounced_entry j.name) past ≡ true → ⊥) → (is_ready m past j ≡ true → ⊥) → IsDark past j
       dark-if b c r = record {
-        unbegun = never (list_any (is_begun_entry j.name) past) b;
-        unsettled = never (is_settled gives m past j) (λ h. by (settled-from past legal j i h));
-        unready = never (is_ready gives m past j) r;
-        unopened = never (is_open gives m past j.name) (λ h. b (any_weaken (is_opened_entry j.name) (is_begun_entry j.name) (opened_begins j.name) past (name-open past j i h)));
+        unbegun = false_from_ne_true (list_any (is_begun_entry j.name) past) b;
+        unsettled = false_from_ne_true (is_settled past j) (λ h. by (settled-from past legal j i h));
+        unready = false_from_ne_true (is_ready m past j) r;
+        unopened = false_from_ne_true (is_open past j.name) (λ h. b (any_weaken (is_opened_entry j.name) (is_begun_entry j.name) (opened_begins j.name) past (name-open past j i h)));
       }
         where
           by : WasBegun past j ⊎ (list_any (is_bounced_entry j.name) past ≡ true) → ⊥
@@ -169,7 +139,7 @@ module _ (gives : Giving) (D : ℕ → Type 0) (m : Meaning) (w : IsWhole gives 
           by (inr h) = c h
 
       -- a job that waits for what isn't known
-      pub dim-dark : all_known gives m past j.waits ≡ false → IsDark past j
+      pub dim-dark : all_known m past j.waits ≡ false → IsDark past j
       dim-dark d =
           let no = λ (h : AreKnown past j.waits). true≠false (sym h ∙ d) in
           dark-if (λ h. no (from-begun (λ p k. AreKnown p k.waits) (λ e p k x. stay-known e p k.waits x) ready-waits past legal j i h)) (λ h. no (from-bounced (λ p k. AreKnown p k.waits) (λ e p k x. stay-known e p k.waits x) ready-waits past legal j i h)) (λ h. no (ready-waits past j h))
@@ -177,8 +147,8 @@ module _ (gives : Giving) (D : ℕ → Type 0) (m : Meaning) (w : IsWhole gives 
       abbrev pub OpenedThere : History → Job → Type 0
       OpenedThere p k = (c : Name × Place) (r : JobName) → k.instance ≡ c ∷ r → WasOpened p k.instance
 
-      opened-there : (p : History) (k : Job) → is_ready gives m p k ≡ true → OpenedThere p k
-      opened-there p k h c r e = subst (λ n. WasOpened p n) (sym e) (left_true (list_any (is_opened_entry (c ∷ r)) p) (not (list_any (is_ended_entry (c ∷ r)) p)) (subst (λ n. is_open gives m p n ≡ true) e (ready-open p k h)))
+      opened-there : (p : History) (k : Job) → is_ready m p k ≡ true → OpenedThere p k
+      opened-there p k h c r e = subst (λ n. WasOpened p n) (sym e) (left_true (list_any (is_opened_entry (c ∷ r)) p) (not (list_any (is_ended_entry (c ∷ r)) p)) (subst (λ n. is_open p n ≡ true) e (ready-open p k h)))
 
       stays-there : (e : Entry) (p : History) (k : Job) → OpenedThere p k → OpenedThere (e ∷ p) k
       stays-there e p k h c r q = or_right (is_opened_entry k.instance e) (list_any (is_opened_entry k.instance) p) (h c r q)
@@ -192,88 +162,59 @@ module _ (gives : Giving) (D : ℕ → Type 0) (m : Meaning) (w : IsWhole gives 
           let no = λ (h : OpenedThere past j). true≠false (sym (h c r e) ∙ d) in
           dark-if (λ h. no (from-begun OpenedThere stays-there opened-there past legal j i h)) (λ h. no (from-bounced OpenedThere stays-there opened-there past legal j i h)) (λ h. no (opened-there past j h))
 
-      pub known-settled : is_settled_name gives m past j.name ≡ is_settled gives m past j
-      known-settled = same_tests (is_settled_name gives m past j.name) (is_settled gives m past j) (settled_of_name gives m (all-sound gives D m [] w) (are-jobs gives D m [] w) past j i) (settled-name gives D m w past j i)
+      pub known-settled : is_settled_name m past j.name ≡ is_settled past j
+      known-settled = same_tests (is_settled_name m past j.name) (is_settled past j) (settled_of_name gives m (all-sound gives D m [] w) (are-jobs gives D m [] w) past j i) (settled-name gives D m w past j i)
 
     -- ---- lists and passed faults
 
-    pub level-sources : (past : History) → is_legal gives m past ≡ true → (l : Level) → In l (levels m.steps) → has_entry gives m past l.name ≡ true → AreKnown past l.sources
+    pub level-sources : (past : History) → is_legal gives m past ≡ true → (l : Level) → In l (levels m.steps) → has_entry past l.name ≡ true → AreKnown past l.sources
     level-sources [] g l i h = absurd (true≠false (sym h))
-    level-sources (e ∷ past) g l i h = stay-known e past l.sources (by (true_of (is_level_entry l.name e) (has_entry gives m past l.name) h) (λ k. level-sources past (older past e g) l i k))
+    level-sources (e ∷ past) g l i h = stay-known e past l.sources (on_or (is_level_entry l.name e) (has_entry past l.name) h (λ q. of_entry e q (after past e g)) (λ q. level-sources past (older past e g) l i q))
       where
-        found : (k : JobName) (rest : Level → Bool) → same_job l.name k ≡ true → list_any (λ x. same_job k x.name && can_settle gives m past x && rest x) (levels m.steps) ≡ true → AreKnown past l.sources
+        found : (k : JobName) (rest : Level → Bool) → same_job l.name k ≡ true → list_any (λ x. same_job k x.name && can_settle m past x && rest x) (levels m.steps) ≡ true → AreKnown past l.sources
         found k rest a s =
-            let r = some_in (λ x. same_job k x.name && can_settle gives m past x && rest x) (levels m.steps) s in
-            let first = left_true (same_job k r.0.name && can_settle gives m past r.0) (rest r.0) r.2 in
-            let name = (same_job_decides l.name k).0 a ∙ (same_job_decides k r.0.name).0 (left_true (same_job k r.0.name) (can_settle gives m past r.0) first) in
+            let r = some_in (λ x. same_job k x.name && can_settle m past x && rest x) (levels m.steps) s in
+            let first = left_true (same_job k r.0.name && can_settle m past r.0) (rest r.0) r.2 in
+            let name = (same_job_decides l.name k).0 a ∙ (same_job_decides k r.0.name).0 (left_true (same_job k r.0.name) (can_settle m past r.0) first) in
             let same = levels-once gives D m [] w l r.0 i r.1 name in
-            subst (λ x. AreKnown past x.sources) (sym same) (right_true (is_open gives m past r.0.instance && not (has_entry gives m past r.0.name)) (all_known gives m past r.0.sources) (right_true (same_job k r.0.name) (can_settle gives m past r.0) first))
+            subst (λ x. AreKnown past x.sources) (sym same) (right_true (is_open past r.0.instance && not (has_entry past r.0.name)) (all_known m past r.0.sources) (right_true (same_job k r.0.name) (can_settle m past r.0) first))
 
         of_entry : (e : Entry) → is_level_entry l.name e ≡ true → is_legal_after gives m past e ≡ true → AreKnown past l.sources
         of_entry (closed k c) a s = found k _ a s
         of_entry (fault_passed k) a s = found k _ a s
-        of_entry (handed_out k c t) a s = absurd (true≠false (sym a))
-        of_entry (accepted k c t r) a s = absurd (true≠false (sym a))
-        of_entry (bounced k) a s = absurd (true≠false (sym a))
-        of_entry (opened k) a s = absurd (true≠false (sym a))
-        of_entry (ended k) a s = absurd (true≠false (sym a))
-        of_entry (recalled c) a s = absurd (true≠false (sym a))
+        of_entry e a s = absurd (true≠false (sym a))
 
-        by : (is_level_entry l.name e ≡ true) ⊎ (has_entry gives m past l.name ≡ true) → (has_entry gives m past l.name ≡ true → AreKnown past l.sources) → AreKnown past l.sources
-        by (inr k) rec = rec k
-        by (inl k) rec = of_entry e k (after past e g)
-
-    pub dim-level : (past : History) → is_legal gives m past ≡ true → (l : Level) → In l (levels m.steps) → all_known gives m past l.sources ≡ false → has_entry gives m past l.name ≡ false
-    dim-level past g l i d = never (has_entry gives m past l.name) (λ h. true≠false (sym (level-sources past g l i h) ∙ d))
+    pub dim-level : (past : History) → is_legal gives m past ≡ true → (l : Level) → In l (levels m.steps) → all_known m past l.sources ≡ false → has_entry past l.name ≡ false
+    dim-level past g l i d = false_from_ne_true (has_entry past l.name) (λ h. true≠false (sym (level-sources past g l i h) ∙ d))
 
     -- ---- where an instance has ended, so have its steps
 
     pub ended-known : (past : History) → is_legal gives m past ≡ true → (s : StepMeaning) → In s m.steps → list_any (is_ended_entry s.instance) past ≡ true → AreKnown past s.ending
     ended-known [] g s i h = absurd (true≠false (sym h))
-    ended-known (e ∷ past) g s i h = stay-known e past s.ending (by (true_of (is_ended_entry s.instance e) (list_any (is_ended_entry s.instance) past) h) (λ k. ended-known past (older past e g) s i k))
+    ended-known (e ∷ past) g s i h = stay-known e past s.ending (on_or (is_ended_entry s.instance e) (list_any (is_ended_entry s.instance) past) h (λ q. of_entry e q (after past e g)) (λ q. ended-known past (older past e g) s i q))
       where
         of_entry : (e : Entry) → is_ended_entry s.instance e ≡ true → is_legal_after gives m past e ≡ true → AreKnown past s.ending
         of_entry (ended n) a l =
-            let all = all_in (λ t. if same_job n t.instance then all_known gives m past t.ending else true) m.steps (right_true (is_open gives m past n) (list_all (λ t. if same_job n t.instance then all_known gives m past t.ending else true) m.steps) l) s i in
-            subst (λ b. (if b then all_known gives m past s.ending else true) ≡ true) ((same_job_decides n s.instance).1 (sym ((same_job_decides s.instance n).0 a))) all
-        of_entry (handed_out k c t) a l = absurd (true≠false (sym a))
-        of_entry (accepted k c t r) a l = absurd (true≠false (sym a))
-        of_entry (bounced k) a l = absurd (true≠false (sym a))
-        of_entry (closed k c) a l = absurd (true≠false (sym a))
-        of_entry (fault_passed k) a l = absurd (true≠false (sym a))
-        of_entry (opened k) a l = absurd (true≠false (sym a))
-        of_entry (recalled c) a l = absurd (true≠false (sym a))
-
-        by : (is_ended_entry s.instance e ≡ true) ⊎ (list_any (is_ended_entry s.instance) past ≡ true) → (list_any (is_ended_entry s.instance) past ≡ true → AreKnown past s.ending) → AreKnown past s.ending
-        by (inr k) rec = rec k
-        by (inl k) rec = of_entry e k (after past e g)
+            let all = all_in (λ t. if same_job n t.instance then all_known m past t.ending else true) m.steps (right_true (is_open past n) (list_all (λ t. if same_job n t.instance then all_known m past t.ending else true) m.steps) l) s i in
+            subst (λ b. (if b then all_known m past s.ending else true) ≡ true) ((same_job_decides n s.instance).1 (sym ((same_job_decides s.instance n).0 a))) all
+        of_entry e a l = absurd (true≠false (sym a))
 
     -- ---- instances
 
     -- what was opened is a job's
     pub opened-owner : (past : History) → is_legal gives m past ≡ true → (n : JobName) → WasOpened past n → (j : Job) × In j m.jobs × (j.name ≡ n)
     opened-owner [] g n h = absurd (true≠false (sym h))
-    opened-owner (e ∷ past) g n h = by (true_of (is_opened_entry n e) (list_any (is_opened_entry n) past) h) (λ k. opened-owner past (older past e g) n k)
+    opened-owner (e ∷ past) g n h = on_or (is_opened_entry n e) (list_any (is_opened_entry n) past) h (λ q. of_entry e q (after past e g)) (λ q. opened-owner past (older past e g) n q)
       where
         Owner : Type 0
         Owner = (j : Job) × In j m.jobs × (j.name ≡ n)
 
         of_entry : (e : Entry) → is_opened_entry n e ≡ true → is_legal_after gives m past e ≡ true → Owner
         of_entry (opened k) a l =
-            let found = right_true (not (can_settle_more gives m past)) (option_map_or (λ x. is_at gives m x k && can_open gives m past x) (find (λ x. is_offered gives m past x || can_open gives m past x) m.jobs) false) l in
-            let r = found_in (λ x. is_at gives m x k && can_open gives m past x) (λ x. is_offered gives m past x || can_open gives m past x) m.jobs found in
-            (r.0, r.1, sym ((same_job_decides n k).0 a ∙ (same_job_decides k r.0.name).0 (left_true (is_at gives m r.0 k) (can_open gives m past r.0) r.3)))
-        of_entry (handed_out k c t) a l = absurd (true≠false (sym a))
-        of_entry (accepted k c t r) a l = absurd (true≠false (sym a))
-        of_entry (bounced k) a l = absurd (true≠false (sym a))
-        of_entry (closed k c) a l = absurd (true≠false (sym a))
-        of_entry (fault_passed k) a l = absurd (true≠false (sym a))
-        of_entry (ended k) a l = absurd (true≠false (sym a))
-        of_entry (recalled c) a l = absurd (true≠false (sym a))
-
-        by : (is_opened_entry n e ≡ true) ⊎ WasOpened past n → (WasOpened past n → Owner) → Owner
-        by (inr k) rec = rec k
-        by (inl k) rec = of_entry e k (after past e g)
+            let found = right_true (not (can_settle_more m past)) (option_map_or (λ x. is_at x k && can_open m past x) (find (λ x. is_offered m past x || can_open m past x) m.jobs) false) l in
+            let r = found_in (λ x. is_at x k && can_open m past x) (λ x. is_offered m past x || can_open m past x) m.jobs found in
+            (r.0, r.1, sym ((same_job_decides n k).0 a ∙ (same_job_decides k r.0.name).0 (left_true (is_at r.0 k) (can_open m past r.0) r.3)))
+        of_entry e a l = absurd (true≠false (sym a))
 
     last-part : (c : Name × Place) (r : JobName) → (x : JobName) × (d : Name × Place) × (c ∷ r ≡ x ++ d ∷ []) × (length r ≡ length x)
     last-part c [] = ([], c, refl, refl)
@@ -308,10 +249,10 @@ module _ (gives : Giving) (D : ℕ → Type 0) (m : Meaning) (w : IsWhole gives 
     -- nothing stirs in an instance that wasn't opened
     module _ (past : History) (g : is_legal gives m past ≡ true) (a : Name × Place) (N : JobName) (shut : list_any (is_opened_entry (a ∷ N)) past ≡ false) where
       shut-within : (r n : JobName) → n ≡ (a ∷ N) ++ r → list_any (is_opened_entry n) past ≡ false
-      shut-within r n e = never (list_any (is_opened_entry n) past) (λ h. true≠false (sym (opened-up past g a N (length r) r refl (subst (λ x. WasOpened past x) e h)) ∙ shut))
+      shut-within r n e = false_from_ne_true (list_any (is_opened_entry n) past) (λ h. true≠false (sym (opened-up past g a N (length r) r refl (subst (λ x. WasOpened past x) e h)) ∙ shut))
 
       pub inner-dark : (j : Job) → In j m.jobs → (r : JobName) → j.instance ≡ (a ∷ N) ++ r → IsDark past j
       inner-dark j i r e = outside-dark past g j i a (N ++ r) e (shut-within r j.instance e)
 
-      pub inner-shut : (r n : JobName) → n ≡ (a ∷ N) ++ r → is_open gives m past n ≡ false
-      inner-shut r n e = subst (λ x. is_open gives m past x ≡ false) (sym e) (never (is_open gives m past (a ∷ (N ++ r))) (λ h. true≠false (sym (left_true (list_any (is_opened_entry (a ∷ (N ++ r))) past) (not (list_any (is_ended_entry (a ∷ (N ++ r))) past)) h) ∙ shut-within r (a ∷ (N ++ r)) refl)))
+      pub inner-shut : (r n : JobName) → n ≡ (a ∷ N) ++ r → is_open past n ≡ false
+      inner-shut r n e = subst (λ x. is_open past x ≡ false) (sym e) (false_from_ne_true (is_open past (a ∷ (N ++ r))) (λ h. true≠false (sym (left_true (list_any (is_opened_entry (a ∷ (N ++ r))) past) (not (list_any (is_ended_entry (a ∷ (N ++ r))) past)) h) ∙ shut-within r (a ∷ (N ++ r)) refl)))

@@ -15,15 +15,15 @@ use Rattle.tv_gate.specs.Outcomes.{Giving}
 use Rattle.tv_depths.specs.Delivered.{Delivered, StepMeaning}
 use Rattle.tv_depths.specs.Ranks.{ranked}
 use Rattle.tv_depths.specs.Steps.{spot, node_origin, port_mismatch, strategy_of}
-use Rattle.tv_model.specs.Earlier.{given_of}
+use Rattle.tv_model.specs.Instances.{given_of}
 use Rattle.tv_model.specs.Instances.{step_made, steps_made}
 use Rattle.tv_model.specs.Jobs.{Job}
 use Rattle.tv_model.specs.Made.{Meaning, Opened, Made, endings, feed_value, result_of, delivered_outputs}
 use Rattle.tv_model.specs.Meanings.{jobs_with_inside, steps_inside, instance_meaning, no_meaning, flow_meaning}
 use Rattle.tv_model.specs.Members.{In}
-use Rattle.tv_history.specs.Alone.{HaveTries}
 use Rattle.tv_history.specs.Entries.{History, is_ended_entry}
-use Rattle.tv_history.specs.Histories.{is_known, is_legal}
+use Rattle.tv_history.specs.Histories.{is_known}
+use Rattle.tv_history.proofs.Tests.{all_in}
 use Rattle.tv_model.proofs.Tests.{Each, true≠false}
 use Rattle.tv_model.proofs.Turns.{each-map}
 use Rattle.tv_model.proofs.Order.{in-left, in-right, in-map}
@@ -36,29 +36,27 @@ use Rattle.tv_model.proofs.Kept.{InsideIs}
 use Rattle.tv_model.proofs.Sound.{output-gives, IsFree, step_list}
 use Rattle.tv_model.proofs.Whole.{AnyNumber, IsWhole, rank-each, flow-whole}
 use Rattle.tv_strategy.proofs.OfSources.{notes-have}
-use Rattle.tv_history.proofs.Running.{all_in}
-use Rattle.tv_outcomes.specs.Agreed.{AgreeOn}
 use Rattle.tv_outcomes.proofs.Alike.{one-or, OneOr, same-itself}
 use Rattle.tv_outcomes.proofs.Aligned.{Aligned, aligned-append, aligned-cons, aligned-flat}
 use Rattle.tv_outcomes.proofs.Delivers.{AllDelivered, AllMade, feed-alike, all-inputs}
 use Rattle.tv_outcomes.proofs.Facts.{ended-known}
 use Rattle.tv_outcomes.proofs.Iterated.{Dim, Shared}
-use Rattle.tv_outcomes.proofs.Sides.{inner_jobs, BelongsTo, IsShut, IsDarkNow, AllDark}
-use Rattle.tv_outcomes.proofs.Twins.{K, L, IsTwin, IsTwinStep, JobsAligned, StepsAligned, AreAlike, AreTwins, IsPartOf}
+use Rattle.tv_outcomes.proofs.Sides.{inner_jobs, BelongsTo, IsShut, IsDarkNow, AllDark, Side, Both}
+use Rattle.tv_outcomes.proofs.Twins.{K, L, IsTwin, IsTwinStep, StepsAligned, AreAlike, AreTwins, IsPartOf}
 use Rattle.tv_outcomes.proofs.Steps.{MadeBelongs, AllTwins, steps-alike}
 
-any-steps : (gives : Giving) (ss : List (Name × Step)) → Each (λ s. AnyNumber s.1.jobs) ss
-any-steps gives ss = each-all (λ s. AnyNumber s.1.jobs) (λ s. tt) ss
+any-steps : (ss : List (Name × Step)) → Each (λ s. AnyNumber s.1.jobs) ss
+any-steps ss = each-all (λ s. AnyNumber s.1.jobs) (λ s. tt) ss
 
 pub any-whole : (gives : Giving) (flows : List (Name × Flow)) (depth : ℕ) (f : Name) (I : JobName) (vs : List (Name × Value)) → IsWhole gives AnyNumber (flow_meaning gives flows depth f I vs) I
-any-whole gives flows depth f I vs = flow-whole gives AnyNumber flows (each-all (λ f. Each (λ s. AnyNumber s.1.jobs) f.1.steps) (λ f. any-steps gives f.1.steps) flows) depth f I vs
+any-whole gives flows depth f I vs = flow-whole gives AnyNumber flows (each-all (λ f. Each (λ s. AnyNumber s.1.jobs) f.1.steps) (λ f. any-steps f.1.steps) flows) depth f I vs
 
 -- ---- one side
 
-module _ (gives : Giving) (m : Meaning) (w : IsWhole gives AnyNumber m []) (fit : HaveTries m.jobs) (past : History) (legal : is_legal gives m past ≡ true) (inside : Name → JobName → List (Name × Value) → Meaning) (inside_is : (f : Name) (J : JobName) (vs : List (Name × Value)) → IsWhole gives AnyNumber (inside f J vs) J) (I : JobName) where
+module _ (gives : Giving) (m : Meaning) (past : History) (side : Side gives AnyNumber m past) (inside : Name → JobName → List (Name × Value) → Meaning) (inside_is : (f : Name) (J : JobName) (vs : List (Name × Value)) → IsWhole gives AnyNumber (inside f J vs) J) (I : JobName) where
   -- known once the instance has ended
   abbrev pub KnownAtEnd : Origin → Type 0
-  KnownAtEnd o = list_any (is_ended_entry I) past ≡ true → is_known gives m past o.known ≡ true
+  KnownAtEnd o = list_any (is_ended_entry I) past ≡ true → is_known m past o.known ≡ true
 
   module _ (given : List (Name × Delivered)) where
     module _ (ms : List Made) (c : Name) (s : Step) (b : MadeBelongs m (step_made gives inside I given ms (c, s))) where
@@ -69,7 +67,7 @@ module _ (gives : Giving) (m : Meaning) (w : IsWhole gives AnyNumber m []) (fit 
       it = step_iteration given ms s
 
       ending-known : Each KnownAtEnd new.step.ending
-      ending-known = in_each KnownAtEnd new.step.ending (λ o i h. all_in (λ o. is_known gives m past o.known) new.step.ending (ended-known gives AnyNumber m w fit past legal new.step b.step h) o i)
+      ending-known = in_each KnownAtEnd new.step.ending (λ o i h. all_in (λ o. is_known m past o.known) new.step.ending (ended-known gives AnyNumber m side.whole side.fit past side.legal new.step b.step h) o i)
 
       node-known : (x : Place × Iteration) → In x (nodes it) → KnownAtEnd (node_origin I c x)
       node-known x h = each_in KnownAtEnd new.step.ending ending-known (node_origin I c x) (in-left (node_origin I c x) (map (node_origin I c) (nodes it)) (endings ms s.after) (in-map (node_origin I c) x (nodes it) h))
@@ -99,7 +97,7 @@ module _ (gives : Giving) (m : Meaning) (w : IsWhole gives AnyNumber m []) (fit 
     made = steps_of gives inside I flow vs
 
     formed : AreFormed gives inside I (IsWhole gives AnyNumber) inside_is AnyNumber (given_of flow vs) (given-free flow vs) made
-    formed = steps-formed gives inside I (IsWhole gives AnyNumber) inside_is AnyNumber (given_of flow vs) (given-free flow vs) [] (none-formed gives inside I (IsWhole gives AnyNumber) inside_is AnyNumber (given_of flow vs) (given-free flow vs)) (ranked flow.steps) (ranked-fresh flow.steps) (rank-each gives AnyNumber (λ s. AnyNumber s.1.jobs) (length flow.steps) [] flow.steps (any-steps gives flow.steps))
+    formed = steps-formed gives inside I (IsWhole gives AnyNumber) inside_is AnyNumber (given_of flow vs) (given-free flow vs) [] (none-formed gives inside I (IsWhole gives AnyNumber) inside_is AnyNumber (given_of flow vs) (given-free flow vs)) (ranked flow.steps) (ranked-fresh flow.steps) (rank-each gives AnyNumber (λ s. AnyNumber s.1.jobs) (length flow.steps) [] flow.steps (any-steps flow.steps))
 
     one-belongs : (o : Opened) → In o (job_list made) → BelongsTo m o
     one-belongs o i = record {
@@ -124,7 +122,7 @@ module _ (gives : Giving) (m : Meaning) (w : IsWhole gives AnyNumber m []) (fit 
     }
 
     given-known : Each (λ d. AtNodes KnownAtEnd d.1.value) (given_of flow vs)
-    given-known = each-map (λ d. AtNodes IsFree d.1.value) (λ d. AtNodes KnownAtEnd d.1.value) (λ d h. at_nodes-weaken IsFree KnownAtEnd (λ o k x. ap (is_known gives m past) k.0) d.1.value h) (given_of flow vs) (given-free flow vs)
+    given-known = each-map (λ d. AtNodes IsFree d.1.value) (λ d. AtNodes KnownAtEnd d.1.value) (λ d h. at_nodes-weaken IsFree KnownAtEnd (λ o k x. ap (is_known m past) k.0) d.1.value h) (given_of flow vs) (given-free flow vs)
 
     -- all that a flow delivers is known once it has ended
     pub feed-known : (f : Feed) → Each KnownAtEnd (notes (feed_value (given_of flow vs) made f).value)
@@ -133,51 +131,48 @@ module _ (gives : Giving) (m : Meaning) (w : IsWhole gives AnyNumber m []) (fit 
 
 -- ---- both
 
-module _ (gives other : Giving) (m n : Meaning) (w : IsWhole gives AnyNumber m []) (v : IsWhole other AnyNumber n []) (fit : HaveTries m.jobs) (fot : HaveTries n.jobs) (past : History) (l : is_legal gives m past ≡ true) (r : is_legal other n past ≡ true) (agree : AgreeOn gives other m past) where
+module _ (gives other : Giving) (m n : Meaning) (past : History) (both : Both gives other AnyNumber m n past) where
   abbrev Ka : Known → Bool
-  Ka = K gives other AnyNumber m n w v fit fot past l r agree
+  Ka = K gives other AnyNumber m n past both
 
   abbrev La : Known → Bool
-  La = L gives other AnyNumber m n w v fit fot past l r agree
+  La = L gives other AnyNumber m n past both
 
   abbrev pub InstancesAlike : JobName → Meaning → Meaning → Type 0
-  InstancesAlike J a b = AreAlike gives other AnyNumber m n w v fit fot past l r agree J a b
+  InstancesAlike J a b = AreAlike gives other AnyNumber m n past both J a b
 
   abbrev Twins : Opened → Opened → Type 0
-  Twins = AreTwins gives other AnyNumber m n w v fit fot past l r agree
+  Twins = AreTwins gives other AnyNumber m n past both
 
   abbrev DarkOurs : Opened → Type 0
-  DarkOurs = AllDark gives AnyNumber m w fit past l
+  DarkOurs = AllDark gives AnyNumber m past both.ours
 
   abbrev DarkTheirs : Opened → Type 0
-  DarkTheirs = AllDark other AnyNumber n v fot past r
+  DarkTheirs = AllDark other AnyNumber n past both.theirs
 
   abbrev Opens : List Opened → List Opened → Type 0
   Opens = Aligned DarkOurs DarkTheirs Twins
 
-  abbrev Jobs : List Job → List Job → Type 0
-  Jobs = JobsAligned gives other AnyNumber m n w v fit fot past l r agree
-
   abbrev Steps : List StepMeaning → List StepMeaning → Type 0
-  Steps = StepsAligned gives other AnyNumber m n w v fit fot past l r agree
+  Steps = StepsAligned gives other AnyNumber m n past both
 
   abbrev ShutOurs : StepMeaning → Type 0
-  ShutOurs = IsShut gives AnyNumber m w fit past l
+  ShutOurs = IsShut gives AnyNumber m past both.ours
 
   abbrev ShutTheirs : StepMeaning → Type 0
-  ShutTheirs = IsShut other AnyNumber n v fot past r
+  ShutTheirs = IsShut other AnyNumber n past both.theirs
 
   abbrev JobDarkOurs : Job → Type 0
-  JobDarkOurs = IsDarkNow gives AnyNumber m w fit past l
+  JobDarkOurs = IsDarkNow gives AnyNumber m past both.ours
 
   abbrev JobDarkTheirs : Job → Type 0
-  JobDarkTheirs = IsDarkNow other AnyNumber n v fot past r
+  JobDarkTheirs = IsDarkNow other AnyNumber n past both.theirs
 
   abbrev JobTwins : Job → Job → Type 0
-  JobTwins = IsTwin gives other AnyNumber m n w v fit fot past l r agree
+  JobTwins = IsTwin gives other AnyNumber m n past both
 
   abbrev StepTwins : StepMeaning → StepMeaning → Type 0
-  StepTwins = IsTwinStep gives other AnyNumber m n w v fit fot past l r agree
+  StepTwins = IsTwinStep gives other AnyNumber m n past both
 
   pub nothing-alike : (J : JobName) → InstancesAlike J no_meaning no_meaning
   nothing-alike J = record { jobs = tt; steps = tt; outputs = λ h. refl }
@@ -198,11 +193,11 @@ module _ (gives other : Giving) (m n : Meaning) (w : IsWhole gives AnyNumber m [
     abbrev theirs : List Made
     theirs = steps_of other inner I flow vs
 
-    both : AllMade Ka La refl ours theirs × AllTwins gives other AnyNumber m n w v fit fot past l r agree inside inner I alike given (given-alike flow.inputs) ours theirs
-    both = steps-alike gives other AnyNumber m n w v fit fot past l r agree inside inner I alike given (given-alike flow.inputs) (ranked flow.steps) [] [] tt tt (made-belongs gives m w fit past l inside inside_is I flow vs p) (made-belongs other n v fot past r inner inner_is I flow vs q)
+    made_both : AllMade Ka La refl ours theirs × AllTwins gives other AnyNumber m n past both inside inner I alike given (given-alike flow.inputs) ours theirs
+    made_both = steps-alike gives other AnyNumber m n past both inside inner I alike given (given-alike flow.inputs) (ranked flow.steps) [] [] tt tt (made-belongs gives m past both.ours inside inside_is I flow vs p) (made-belongs other n past both.theirs inner inner_is I flow vs q)
 
     abbrev MadeTwins : List Made → List Made → Type 0
-    MadeTwins = AllTwins gives other AnyNumber m n w v fit fot past l r agree inside inner I alike given (given-alike flow.inputs)
+    MadeTwins = AllTwins gives other AnyNumber m n past both inside inner I alike given (given-alike flow.inputs)
 
     opened-aligned : (ms ns : List Made) → MadeTwins ms ns → Opens (job_list ms) (job_list ns)
     opened-aligned [] [] t = tt
@@ -217,11 +212,11 @@ module _ (gives other : Giving) (m n : Meaning) (w : IsWhole gives AnyNumber m [
     own-steps (k ∷ ms) (j ∷ ns) t = aligned-cons ShutOurs ShutTheirs StepTwins k.step j.step (step_list ms) (step_list ns) t.0 (own-steps ms ns t.2)
 
     one-output : (f : Feed) → list_any (is_ended_entry I) past ≡ true → (feed_value given ours f).value ≡ (feed_value given theirs f).value
-    one-output f h = by (one-or (Dim Ka) (Dim La) (Shared Ka La) (feed_value given ours f).value (feed_value given theirs f).value (feed-alike Ka La refl given (given-alike flow.inputs) ours theirs both.0 f).1)
+    one-output f h = by (one-or (Dim Ka) (Dim La) (Shared Ka La) (feed_value given ours f).value (feed_value given theirs f).value (feed-alike Ka La refl given (given-alike flow.inputs) ours theirs made_both.0 f).1)
       where
         by : OneOr (Dim Ka) (Dim La) (Shared Ka La) (feed_value given ours f).value (feed_value given theirs f).value → (feed_value given ours f).value ≡ (feed_value given theirs f).value
         by (inl e) = e.0
-        by (inr d) = absurd (true≠false (sym (each_in (KnownAtEnd gives m w fit past l inside inside_is I) (notes (feed_value given ours f).value) (feed-known gives m w fit past l inside inside_is I flow vs p f) d.0.0 d.0.1 h) ∙ d.0.2))
+        by (inr d) = absurd (true≠false (sym (each_in (KnownAtEnd gives m past both.ours inside inside_is I) (notes (feed_value given ours f).value) (feed-known gives m past both.ours inside inside_is I flow vs p f) d.0.0 d.0.1 h) ∙ d.0.2))
 
     same-outputs : (os : List (Name × Feed)) → list_any (is_ended_entry I) past ≡ true → map {B = Name × Traced} (λ o. (o.0, (feed_value given ours o.1).value)) os ≡ map {B = Name × Traced} (λ o. (o.0, (feed_value given theirs o.1).value)) os
     same-outputs [] h = refl
@@ -229,9 +224,9 @@ module _ (gives other : Giving) (m n : Meaning) (w : IsWhole gives AnyNumber m [
 
     pub instance-alike : InstancesAlike I (instance_meaning gives inside I flow vs) (instance_meaning other inner I flow vs)
     instance-alike = record {
-      jobs = aligned-flat DarkOurs DarkTheirs Twins JobDarkOurs JobDarkTheirs JobTwins jobs_with_inside jobs_with_inside (λ o d. (d.0, d.1.0)) (λ o d. (d.0, d.1.0)) (λ o u t. aligned-cons JobDarkOurs JobDarkTheirs JobTwins o.job u.job (inner_jobs o) (inner_jobs u) t.job t.jobs) (job_list ours) (job_list theirs) (opened-aligned ours theirs both.1);
-      steps = aligned-append ShutOurs ShutTheirs StepTwins (step_list ours) (step_list theirs) (flat_map steps_inside (job_list ours)) (flat_map steps_inside (job_list theirs)) (own-steps ours theirs both.1)
-          (aligned-flat DarkOurs DarkTheirs Twins ShutOurs ShutTheirs StepTwins steps_inside steps_inside (λ o d. d.1.1) (λ o d. d.1.1) (λ o u t. t.steps) (job_list ours) (job_list theirs) (opened-aligned ours theirs both.1));
+      jobs = aligned-flat DarkOurs DarkTheirs Twins JobDarkOurs JobDarkTheirs JobTwins jobs_with_inside jobs_with_inside (λ o d. (d.0, d.1.0)) (λ o d. (d.0, d.1.0)) (λ o u t. aligned-cons JobDarkOurs JobDarkTheirs JobTwins o.job u.job (inner_jobs o) (inner_jobs u) t.job t.jobs) (job_list ours) (job_list theirs) (opened-aligned ours theirs made_both.1);
+      steps = aligned-append ShutOurs ShutTheirs StepTwins (step_list ours) (step_list theirs) (flat_map steps_inside (job_list ours)) (flat_map steps_inside (job_list theirs)) (own-steps ours theirs made_both.1)
+          (aligned-flat DarkOurs DarkTheirs Twins ShutOurs ShutTheirs StepTwins steps_inside steps_inside (λ o d. d.1.1) (λ o d. d.1.1) (λ o u t. t.steps) (job_list ours) (job_list theirs) (opened-aligned ours theirs made_both.1));
       outputs = λ h. same-outputs flow.outputs h;
     }
 

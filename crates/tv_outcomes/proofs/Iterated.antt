@@ -3,6 +3,8 @@ use Rattle.std.specs.Prelude.{◌≡◌, refl, ℕ, zero, suc, ◌⊎◌, List, 
 use Rattle.std.specs.List.{list_all}
 use Rattle.std.proofs.Common.{sym, ap, subst, ◌∙◌, inl, inr}
 use Rattle.std.proofs.lemmas.List.Folds.{list_all-append}
+use Rattle.std.proofs.lemmas.Bool.{and_left, and_right}
+use Rattle.tv_lemmas.proofs.Cases.{on_either}
 use Rattle.tv_value.specs.Nested.{leaf, list, Trees, no_trees, tree, note, notes, map_trees}
 use Rattle.tv_value.specs.Values.{Name, Scalar}
 use Rattle.tv_value.specs.Strategies.{Strategy, port, cross, dot, Strategies, no_strategies, strategy}
@@ -13,13 +15,6 @@ use Rattle.tv_strategy.proofs.OfSources.{each-append}
 use Rattle.tv_outcomes.proofs.Alike.{Throughout, AllThroughout, at-top, Has, SameTop, AllAlike, Alike, one-or, dark-map, alike-map, dark-has}
 
 -- ---- tests
-
-pub and_left : (a b : Bool) → a ≡ false → (a && b) ≡ false
-and_left a b e = subst (λ c. (c && b) ≡ false) (sym e) refl
-
-pub and_right : (a b : Bool) → b ≡ false → (a && b) ≡ false
-and_right true b e = e
-and_right false b e = refl
 
 -- ---- origins that aren't known, and lists of them
 
@@ -46,21 +41,6 @@ pub has-dims : (K : Known → Bool) (os : List Origin) → Has (Dim K) os → Di
 has-dims K [] h = absurd h.1
 has-dims K (o ∷ os) (p, inl e, d) = and_left (K o.known) (list_all (λ q. K q.known) os) (ap (λ (q : Origin). K q.known) (sym e) ∙ d)
 has-dims K (o ∷ os) (p, inr i, d) = and_right (K o.known) (list_all (λ q. K q.known) os) (has-dims K os (p, i, d))
-
-pub dims-has : (K : Known → Bool) (os : List Origin) → Dims K os → Has (Dim K) os
-dims-has K [] h = absurd (no h)
-  where
-    no : true ≡ false → ⊥
-    no e = subst Holds e tt
-      where
-        Holds : Bool → Type 0
-        Holds true = Unit {0}
-        Holds false = ⊥
-dims-has K (o ∷ os) h = by (K o.known) refl h (λ k. dims-has K os k)
-  where
-    by : (b : Bool) → K o.known ≡ b → (b && list_all (λ q. K q.known) os) ≡ false → (Dims K os → Has (Dim K) os) → Has (Dim K) (o ∷ os)
-    by true e k rec = let r = rec k in (r.0, inr r.1, r.2)
-    by false e k rec = (o, inl refl, e)
 
 pub shared-all : (K L : Known → Bool) (os : List Origin) → AreShared K L os → list_all (λ o. K o.known) os ≡ list_all (λ o. L o.known) os
 shared-all K L [] h = refl
@@ -157,11 +137,7 @@ module _ (K L : Known → Bool) where
 
   -- a value that is bound
   bound-alike : (p : Name) (v u : Traced) → AlikeValues v u → AlikeIterations (walk p zero v) (walk p zero u)
-  bound-alike p v u h = by (one-or (Dim K) (Dim L) (Shared K L) v u h)
-    where
-      by : ((v ≡ u) × Each (Shared K L) (notes v)) ⊎ (Has (Dim K) (notes v) × Has (Dim L) (notes u)) → AlikeIterations (walk p zero v) (walk p zero u)
-      by (inl e) = inr (ap notes e.0, ap (λ w. job ((p, w) ∷ [])) e.0, e.1)
-      by (inr d) = inl (has-dims K (notes v) d.0, has-dims L (notes u) d.1)
+  bound-alike p v u h = on_either (one-or (Dim K) (Dim L) (Shared K L) v u h) (λ e. inr (ap notes e.0, ap (λ w. job ((p, w) ∷ [])) e.0, e.1)) (λ d. inl (has-dims K (notes v) d.0, has-dims L (notes u) d.1))
 
   mutual
     same-walk : (p : Name) (k : ℕ) (v u : Traced) → SameValues v u → AlikeIterations (walk p k v) (walk p k u)

@@ -15,12 +15,12 @@ one-at_least : (n : ℕ) → nat_le 1 n ≡ true → 1 ≤ n
 one-at_least zero h = absurd (true≠false (sym h))
 one-at_least (suc n) h = omega arith
 
-each-passes : {A : Type 0} (p : A → Bool) (xs : List A) → list_all p xs ≡ true → Each (λ x. p x ≡ true) xs
+pub each-passes : {A : Type 0} (p : A → Bool) (xs : List A) → list_all p xs ≡ true → Each (λ x. p x ≡ true) xs
 each-passes p [] h = tt
 each-passes p (x ∷ xs) h = (left_true (p x) (list_all p xs) h, each-passes p xs (right_true (p x) (list_all p xs) h))
 
 -- what passes by its name passes
-named-pass : {A : Type 0} (p : A → Bool) (least most : ℕ) (es : List (Name × A)) → are_named p least most es ≡ true → Each (λ e. p e.1 ≡ true) es
+pub named-pass : {A : Type 0} (p : A → Bool) (least most : ℕ) (es : List (Name × A)) → are_named p least most es ≡ true → Each (λ e. p e.1 ≡ true) es
 named-pass p least most es h =
     each-map (λ e. (is_name e.0 && p e.1) ≡ true) (λ e. p e.1 ≡ true) (λ e k. right_true (is_name e.0) (p e.1) k) es
     (each-passes (λ e. is_name e.0 && p e.1) es (right_true _ (list_all (λ e. is_name e.0 && p e.1) es) (right_true (is_between least most (length es)) (are_entries p es) h)))

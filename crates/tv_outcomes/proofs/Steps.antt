@@ -17,9 +17,8 @@ use Rattle.tv_model.specs.Instances.{job_on, node_jobs, step_made, steps_made}
 use Rattle.tv_model.specs.Levels.{Level, level_at}
 use Rattle.tv_model.specs.Made.{Meaning, Opened, Made, endings, result_of, delivered_outputs}
 use Rattle.tv_model.specs.Members.{In}
-use Rattle.tv_history.specs.Alone.{HaveTries}
 use Rattle.tv_history.specs.Entries.{History}
-use Rattle.tv_history.specs.Histories.{is_settled, is_settled_name, is_known, all_known, has_entry, is_legal}
+use Rattle.tv_history.specs.Histories.{is_settled, is_settled_name, is_known, all_known, has_entry}
 use Rattle.tv_model.proofs.Tests.{Each, true≠false, same_job_decides}
 use Rattle.tv_model.proofs.Order.{in-left, in-right, in-append, in-map}
 use Rattle.tv_model.proofs.Members.{in-flat, in-options, Apart}
@@ -27,15 +26,13 @@ use Rattle.tv_model.proofs.Fed.{step_ports, step_iteration}
 use Rattle.tv_model.proofs.Formed.{IsNode, nodes-in}
 use Rattle.tv_model.proofs.Kept.{IsJobAt, job-at}
 use Rattle.tv_model.proofs.Sound.{AllStand, level-node}
-use Rattle.tv_model.proofs.Whole.{IsWhole}
 use Rattle.tv_strategy.proofs.OfSources.{each-append}
-use Rattle.tv_outcomes.specs.Agreed.{AgreeOn}
 use Rattle.tv_outcomes.proofs.Alike.{Has, one-or, OneOr}
 use Rattle.tv_outcomes.proofs.Aligned.{Aligned, aligned-dark, aligned-one, alike-nodes}
 use Rattle.tv_outcomes.proofs.Delivers.{AllDelivered, AlikeEnds, AlikeMade, AllMade, step-alike, same-levels, ends-append, endings-alike, alike-output}
 use Rattle.tv_outcomes.proofs.Facts.{dim-dark, known-settled, dim-level}
 use Rattle.tv_outcomes.proofs.Iterated.{Dim, Dims, Shared, AreShared, AlikeIterations, SameIterations, AlikeValues, dims-left, dims-right, has-dims}
-use Rattle.tv_outcomes.proofs.Sides.{BelongsTo, AllDark, dim-all_dark}
+use Rattle.tv_outcomes.proofs.Sides.{BelongsTo, AllDark, dim-all_dark, Side, Both}
 use Rattle.tv_outcomes.proofs.Twins.{K, L, IsTwinStep, AreAlike, AreTwins, IsPartOf, job-twins}
 
 -- ---- lists
@@ -98,7 +95,7 @@ pub record MadeBelongs (m : Meaning) (x : Made) : Type 0 where
   pub step : In x.step m.steps
   pub apart : Apart (λ (o : Opened). o.job.name) x.jobs
 
-module _ (gives : Giving) (D : ℕ → Type 0) (m : Meaning) (w : IsWhole gives D m []) (fit : HaveTries m.jobs) (past : History) (legal : is_legal gives m past ≡ true) (inside : Name → JobName → List (Name × Value) → Meaning) (I : JobName) (given : List (Name × Delivered)) (ms : List Made) (c : Name) (s : Step) (b : MadeBelongs m (step_made gives inside I given ms (c, s))) where
+module _ (gives : Giving) (D : ℕ → Type 0) (m : Meaning) (past : History) (side : Side gives D m past) (inside : Name → JobName → List (Name × Value) → Meaning) (I : JobName) (given : List (Name × Delivered)) (ms : List Made) (c : Name) (s : Step) (b : MadeBelongs m (step_made gives inside I given ms (c, s))) where
   abbrev M : Made
   M = step_made gives inside I given ms (c, s)
 
@@ -109,7 +106,7 @@ module _ (gives : Giving) (D : ℕ → Type 0) (m : Meaning) (w : IsWhole gives 
   before = endings ms s.after
 
   abbrev Kn : Known → Bool
-  Kn k = is_known gives m past k
+  Kn k = is_known m past k
 
   abbrev job_at : Place → List Origin → Binding → Opened
   job_at q r x = job_on gives inside I c s (r ++ before) q (bound_values s x)
@@ -124,23 +121,23 @@ module _ (gives : Giving) (D : ℕ → Type 0) (m : Meaning) (w : IsWhole gives 
   belongs q r x h = b.jobs (job_at q r x) (job-in q r x h)
 
   -- what the board knows of a job's name
-  pub known-job : (q : Place) (r : List Origin) (x : Binding) → In (q, leaf r (job x)) (nodes it) → Kn (by_job (spot I c q)) ≡ is_settled gives m past (job_at q r x).job
-  known-job q r x h = subst (λ k. is_settled_name gives m past k ≡ is_settled gives m past (job_at q r x).job) (at-it q r x).name (known-settled gives D m w fit past legal (job_at q r x).job (belongs q r x h).mine)
+  pub known-job : (q : Place) (r : List Origin) (x : Binding) → In (q, leaf r (job x)) (nodes it) → Kn (by_job (spot I c q)) ≡ is_settled past (job_at q r x).job
+  known-job q r x h = subst (λ k. is_settled_name m past k ≡ is_settled past (job_at q r x).job) (at-it q r x).name (known-settled gives D m side.whole side.fit past side.legal (job_at q r x).job (belongs q r x h).mine)
 
-  dim-waits : (q : Place) (r : List Origin) (x : Binding) → Dims Kn (r ++ before) → all_known gives m past (job_at q r x).job.waits ≡ false
-  dim-waits q r x d = subst (λ os. all_known gives m past os ≡ false) (sym (at-it q r x).waits) d
+  dim-waits : (q : Place) (r : List Origin) (x : Binding) → Dims Kn (r ++ before) → all_known m past (job_at q r x).job.waits ≡ false
+  dim-waits q r x d = subst (λ os. all_known m past os ≡ false) (sym (at-it q r x).waits) d
 
-  pub dark-job : (q : Place) (r : List Origin) (x : Binding) → In (q, leaf r (job x)) (nodes it) → Dims Kn (r ++ before) → AllDark gives D m w fit past legal (job_at q r x)
-  dark-job q r x h d = dim-all_dark gives D m w fit past legal (job_at q r x) (belongs q r x h) (dim-waits q r x d)
+  pub dark-job : (q : Place) (r : List Origin) (x : Binding) → In (q, leaf r (job x)) (nodes it) → Dims Kn (r ++ before) → AllDark gives D m past side (job_at q r x)
+  dark-job q r x h d = dim-all_dark gives D m past side (job_at q r x) (belongs q r x h) (dim-waits q r x d)
 
   pub unknown-job : (q : Place) (r : List Origin) (x : Binding) → In (q, leaf r (job x)) (nodes it) → Dims Kn (r ++ before) → Kn (by_job (spot I c q)) ≡ false
-  unknown-job q r x h d = known-job q r x h ∙ (dim-dark gives D m w fit past legal (job_at q r x).job (belongs q r x h).mine (dim-waits q r x d)).unsettled
+  unknown-job q r x h d = known-job q r x h ∙ (dim-dark gives D m side.whole side.fit past side.legal (job_at q r x).job (belongs q r x h).mine (dim-waits q r x d)).unsettled
 
-  level-unknown : (x : Place × Iteration) (k : Level) → In x (nodes it) → level_at M.step x ≡ Some k → Dims Kn (note x.1) → has_entry gives m past (spot I c x.0) ≡ false
+  level-unknown : (x : Place × Iteration) (k : Level) → In x (nodes it) → level_at M.step x ≡ Some k → Dims Kn (note x.1) → has_entry past (spot I c x.0) ≡ false
   level-unknown x k h e d =
       let n = level-node I M.step x k e in
-      subst (λ z. has_entry gives m past z ≡ false) n.0
-      (dim-level gives D m w fit past legal k (in-flat (λ t. filter_map (level_at t) (nodes t.iteration)) M.step k m.steps b.step (in-options (level_at M.step) x k (nodes it) h e)) (subst (λ os. all_known gives m past os ≡ false) (sym n.1) d))
+      subst (λ z. has_entry past z ≡ false) n.0
+      (dim-level gives D m side.whole side.fit past side.legal k (in-flat (λ t. filter_map (level_at t) (nodes t.iteration)) M.step k m.steps b.step (in-options (level_at M.step) x k (nodes it) h e)) (subst (λ os. all_known m past os ≡ false) (sym n.1) d))
 
   -- where the sources of a node aren't known, it isn't
   pub dead : (q : Place) (t : Iteration) → IsNode (nodes it) q t → Dims Kn (note t) → Dim Kn (node_origin I c (q, t))
@@ -148,7 +145,7 @@ module _ (gives : Giving) (D : ℕ → Type 0) (m : Meaning) (w : IsWhole gives 
   dead q (leaf r (passed k e)) h d = level-unknown (q, leaf r (passed k e)) _ h refl d
   dead q (list r ts) h d = level-unknown (q, list r ts) _ h refl d
 
-  pub dark-jobs : (q : Place) (t : Iteration) → IsNode (nodes it) q t → Dims Kn (note t) → Each (AllDark gives D m w fit past legal) (node_jobs gives inside I c s before (q, t))
+  pub dark-jobs : (q : Place) (t : Iteration) → IsNode (nodes it) q t → Dims Kn (note t) → Each (AllDark gives D m past side) (node_jobs gives inside I c s before (q, t))
   dark-jobs q (leaf r (job x)) h d = (dark-job q r x h (dims-left Kn r before d), tt)
   dark-jobs q (leaf r (passed k e)) h d = tt
   dark-jobs q (list r ts) h d = tt
@@ -167,23 +164,23 @@ module _ (gives : Giving) (D : ℕ → Type 0) (m : Meaning) (w : IsWhole gives 
 
 -- ---- both
 
-module _ (gives other : Giving) (D : ℕ → Type 0) (m n : Meaning) (w : IsWhole gives D m []) (v : IsWhole other D n []) (fit : HaveTries m.jobs) (fot : HaveTries n.jobs) (past : History) (l : is_legal gives m past ≡ true) (r : is_legal other n past ≡ true) (agree : AgreeOn gives other m past) where
+module _ (gives other : Giving) (D : ℕ → Type 0) (m n : Meaning) (past : History) (both : Both gives other D m n past) where
   abbrev Ka : Known → Bool
-  Ka = K gives other D m n w v fit fot past l r agree
+  Ka = K gives other D m n past both
 
   abbrev La : Known → Bool
-  La = L gives other D m n w v fit fot past l r agree
+  La = L gives other D m n past both
 
   abbrev pub Twins : Opened → Opened → Type 0
-  Twins = AreTwins gives other D m n w v fit fot past l r agree
+  Twins = AreTwins gives other D m n past both
 
   abbrev pub TwinSteps : StepMeaning → StepMeaning → Type 0
-  TwinSteps = IsTwinStep gives other D m n w v fit fot past l r agree
+  TwinSteps = IsTwinStep gives other D m n past both
 
   abbrev pub OpenedAligned : List Opened → List Opened → Type 0
-  OpenedAligned = Aligned (AllDark gives D m w fit past l) (AllDark other D n v fot past r) Twins
+  OpenedAligned = Aligned (AllDark gives D m past both.ours) (AllDark other D n past both.theirs) Twins
 
-  module _ (inside inner : Name → JobName → List (Name × Value) → Meaning) (I : JobName) (alike : (f : Name) (J : JobName) (vs : List (Name × Value)) → IsPartOf m (inside f J vs) → IsPartOf n (inner f J vs) → AreAlike gives other D m n w v fit fot past l r agree J (inside f J vs) (inner f J vs)) (given : List (Name × Delivered)) (given_alike : AllDelivered Ka La refl given given) where
+  module _ (inside inner : Name → JobName → List (Name × Value) → Meaning) (I : JobName) (alike : (f : Name) (J : JobName) (vs : List (Name × Value)) → IsPartOf m (inside f J vs) → IsPartOf n (inner f J vs) → AreAlike gives other D m n past both J (inside f J vs) (inner f J vs)) (given : List (Name × Delivered)) (given_alike : AllDelivered Ka La refl given given) where
     module _ (ms ns : List Made) (a : AllMade Ka La refl ms ns) (c : Name) (s : Step) (b : MadeBelongs m (step_made gives inside I given ms (c, s))) (d : MadeBelongs n (step_made other inner I given ns (c, s))) where
       abbrev ours : Made
       ours = step_made gives inside I given ms (c, s)
@@ -226,8 +223,8 @@ module _ (gives other : Giving) (D : ℕ → Type 0) (m n : Meaning) (w : IsWhol
           by (inr u) = inr (dims-right Ka z e (has-dims Ka e u.0), dims-right La z f (has-dims La f u.1))
           by (inl u) =
               inl (subst (λ os. BelongsTo n (job_on other inner I c s (z ++ os) q (bound_values s g)) → Twins (our_job q z g) (job_on other inner I c s (z ++ os) q (bound_values s g))) u.0
-              (λ t. job-twins gives other D m n w v fit fot past l r agree inside inner I alike c s (z ++ e) (each-append (Shared Ka La) z e p u.1) q (bound_values s g) (belongs gives D m w fit past l inside I given ms c s b q z g h) t)
-              (belongs other D n v fot past r inner I given ns c s d q z g k))
+              (λ t. job-twins gives other D m n past both inside inner I alike c s (z ++ e) (each-append (Shared Ka La) z e p u.1) q (bound_values s g) (belongs gives D m past both.ours inside I given ms c s b q z g h) t)
+              (belongs other D n past both.theirs inner I given ns c s d q z g k))
 
       -- ---- jobs
 
@@ -236,9 +233,9 @@ module _ (gives other : Giving) (D : ℕ → Type 0) (m n : Meaning) (w : IsWhol
       at-leaf q z (job g) h i p = by (meeting q z g h i p)
         where
           by : Meeting q z g → OpenedAligned (our_job q z g ∷ []) (their_job q z g ∷ [])
-          by (inl t) = aligned-one (AllDark gives D m w fit past l) (AllDark other D n v fot past r) Twins (our_job q z g) (their_job q z g) t
+          by (inl t) = aligned-one (AllDark gives D m past both.ours) (AllDark other D n past both.theirs) Twins (our_job q z g) (their_job q z g) t
           by (inr t) =
-              aligned-dark (AllDark gives D m w fit past l) (AllDark other D n v fot past r) Twins (our_job q z g ∷ []) (their_job q z g ∷ []) (dark-job gives D m w fit past l inside I given ms c s b q z g h t.0, tt) (dark-job other D n v fot past r inner I given ns c s d q z g i t.1, tt)
+              aligned-dark (AllDark gives D m past both.ours) (AllDark other D n past both.theirs) Twins (our_job q z g ∷ []) (their_job q z g ∷ []) (dark-job gives D m past both.ours inside I given ms c s b q z g h t.0, tt) (dark-job other D n past both.theirs inner I given ns c s d q z g i t.1, tt)
 
       at-node : (q : Place) (t u : Iteration) → In (q, t) (nodes x) → In (q, u) (nodes y) → SameIterations Ka La t u → OpenedAligned (node_jobs gives inside I c s e (q, t)) (node_jobs other inner I c s f (q, u))
       at-node q (leaf z g) (leaf o k) h i p =
@@ -249,8 +246,8 @@ module _ (gives other : Giving) (D : ℕ → Type 0) (m n : Meaning) (w : IsWhol
 
       pub jobs-aligned : OpenedAligned ours.jobs theirs.jobs
       jobs-aligned =
-          alike-nodes (Dims Ka) (Dims La) (AreShared Ka La) (AllDark gives D m w fit past l) (AllDark other D n v fot past r) Twins (IsNode (nodes x)) (IsNode (nodes y)) (node_jobs gives inside I c s e) (node_jobs other inner I c s f)
-          (dark-jobs gives D m w fit past l inside I given ms c s b) (dark-jobs other D n v fot past r inner I given ns c s d) at-node x y [] (all-stand gives D m w fit past l inside I given ms c s b) (all-stand other D n v fot past r inner I given ns c s d) its
+          alike-nodes (Dims Ka) (Dims La) (AreShared Ka La) (AllDark gives D m past both.ours) (AllDark other D n past both.theirs) Twins (IsNode (nodes x)) (IsNode (nodes y)) (node_jobs gives inside I c s e) (node_jobs other inner I c s f)
+          (dark-jobs gives D m past both.ours inside I given ms c s b) (dark-jobs other D n past both.theirs inner I given ns c s d) at-node x y [] (all-stand gives D m past both.ours inside I given ms c s b) (all-stand other D n past both.theirs inner I given ns c s d) its
 
       -- ---- outputs
 
@@ -260,34 +257,31 @@ module _ (gives other : Giving) (D : ℕ → Type 0) (m n : Meaning) (w : IsWhol
       found : (i : ℕ) (q : Place) (z : List Origin) (g : Binding) → In (q, leaf z (job g)) (nodes x) → In (q, leaf z (job g)) (nodes y) → AreShared Ka La z → Found i q
       found i q z g h k p = by (meeting q z g h k p)
         where
-          ours_known : Ka (by_job (spot I c q)) ≡ is_settled gives m past (our_job q z g).job
-          ours_known = known-job gives D m w fit past l inside I given ms c s b q z g h
+          ours_known : Ka (by_job (spot I c q)) ≡ is_settled past (our_job q z g).job
+          ours_known = known-job gives D m past both.ours inside I given ms c s b q z g h
 
-          theirs_known : La (by_job (spot I c q)) ≡ is_settled other n past (their_job q z g).job
-          theirs_known = known-job other D n v fot past r inner I given ns c s d q z g k
+          theirs_known : La (by_job (spot I c q)) ≡ is_settled past (their_job q z g).job
+          theirs_known = known-job other D n past both.theirs inner I given ns c s d q z g k
 
-          twin : Twins (our_job q z g) (their_job q z g) → (o : Bool) → is_settled gives m past (our_job q z g).job ≡ o → Found i q
+          twin : Twins (our_job q z g) (their_job q z g) → (o : Bool) → is_settled past (our_job q z g).job ≡ o → Found i q
           twin t true u =
               inr (
-                result-at gives D m w fit past l inside I given ms c s b i q z g h ∙ ap (λ vs. unwrap_or (slice_get vs i) (list tt no_trees)) (t.job.result u) ∙ sym (result-at other D n v fot past r inner I given ns c s d i q z g k),
+                result-at gives D m past both.ours inside I given ms c s b i q z g h ∙ ap (λ vs. unwrap_or (slice_get vs i) (list tt no_trees)) (t.job.result u) ∙ sym (result-at other D n past both.theirs inner I given ns c s d i q z g k),
                 ours_known ∙ t.job.settled ∙ sym theirs_known,
               )
           twin t false u = inl (ours_known ∙ u, theirs_known ∙ sym t.job.settled ∙ u)
 
           by : Meeting q z g → Found i q
-          by (inl t) = twin t (is_settled gives m past (our_job q z g).job) refl
-          by (inr t) = inl (unknown-job gives D m w fit past l inside I given ms c s b q z g h t.0, unknown-job other D n v fot past r inner I given ns c s d q z g k t.1)
+          by (inl t) = twin t (is_settled past (our_job q z g).job) refl
+          by (inr t) = inl (unknown-job gives D m past both.ours inside I given ms c s b q z g h t.0, unknown-job other D n past both.theirs inner I given ns c s d q z g k t.1)
 
       abbrev deep : ℕ
       deep = strategy_depth (port_mismatch (step_ports given ms s)) (strategy_of s)
 
-      abbrev also_deep : ℕ
-      also_deep = strategy_depth (port_mismatch (step_ports given ns s)) (strategy_of s)
-
       one-output : (i k : ℕ) → AlikeValues Ka La (output_below (spot I c) (λ q. result_of ours.jobs i (spot I c q)) k [] deep x) (output_below (spot I c) (λ q. result_of theirs.jobs i (spot I c q)) k [] deep y)
       one-output i k =
           alike-output Ka La refl (λ _. refl) (spot I c) (λ q. result_of ours.jobs i (spot I c q)) (λ q. result_of theirs.jobs i (spot I c q)) k (IsNode (nodes x)) (IsNode (nodes y)) (λ q t. node_origin I c (q, t)) (λ q z g. refl) (λ q z o g. refl) (λ q z ts. refl)
-          (dead gives D m w fit past l inside I given ms c s b) (dead other D n v fot past r inner I given ns c s d) (found i) x y [] deep (all-stand gives D m w fit past l inside I given ms c s b) (all-stand other D n v fot past r inner I given ns c s d) its
+          (dead gives D m past both.ours inside I given ms c s b) (dead other D n past both.theirs inner I given ns c s d) (found i) x y [] deep (all-stand gives D m past both.ours inside I given ms c s b) (all-stand other D n past both.theirs inner I given ns c s d) its
 
       outputs-alike : (i : ℕ) (ps : List (Name × ℕ)) → AllDelivered Ka La refl (delivered_outputs I c ours.jobs deep x i ps) (delivered_outputs I c theirs.jobs deep y i ps)
       outputs-alike i [] = tt
@@ -311,7 +305,7 @@ module _ (gives other : Giving) (D : ℕ → Type 0) (m n : Meaning) (w : IsWhol
       nodes-end = by (one-or (Dims Ka) (Dims La) (AreShared Ka La) x y its)
         where
           by : OneOr (Dims Ka) (Dims La) (AreShared Ka La) x y → AlikeEnds Ka La refl (map (node_origin I c) (nodes x)) (map (node_origin I c) (nodes y))
-          by (inr t) = inr (dims-origin gives D m w fit past l inside I given ms c s b t.0.0 t.0.1 t.0.2, dims-origin other D n v fot past r inner I given ns c s d t.1.0 t.1.1 t.1.2)
+          by (inr t) = inr (dims-origin gives D m past both.ours inside I given ms c s b t.0.0 t.0.1 t.0.2, dims-origin other D n past both.theirs inner I given ns c s d t.1.0 t.1.1 t.1.2)
           by (inl t) = inl (ap (λ z. map (node_origin I c) (nodes z)) t.0, mapped (nodes x) (λ z h. h) (notes-nodes (AreShared Ka La) x [] t.1))
             where
               mapped : (zs : List (Place × Iteration)) → ((z : Place × Iteration) → In z zs → In z (nodes x)) → Each (λ z. AreShared Ka La (note z.1)) zs → Each (Shared Ka La) (map (node_origin I c) zs)

@@ -1,22 +1,25 @@
 -- The tries of a job are taken alike as far as the outcomes that were accepted go.
-use Rattle.std.specs.Prelude.{◌≡◌, refl, ℕ, zero, suc, ◌⊎◌, List, [], ◌∷◌, Bool, true, false, ◌&&◌, ◌||◌, if◌then◌else◌, Option, Some, None, Result, Ok, Err}
-use Rattle.std.specs.Option.{option_map_or}
-use Rattle.std.proofs.Common.{sym, ap, subst, ◌∙◌, inl, inr}
+use Rattle.std.specs.Prelude.{◌==◌, ◌≡◌, refl, ℕ, zero, suc, ◌⊎◌, List, [], ◌∷◌, Bool, true, false, ◌&&◌, ◌||◌, if◌then◌else◌, Some, Result, Ok, Err}
+use Rattle.std.proofs.Common.{sym, ap, subst, ◌∙◌, inl, inr, eq-eqb}
+use Rattle.std.proofs.lemmas.Option.{same_Some}
+use Rattle.std.proofs.lemmas.Bool.{or_left}
+use Rattle.tv_history.proofs.Running.{same-job}
+use Rattle.tv_history.proofs.Legal.{last-legal, Legal, accepts}
 use Rattle.tv_value.specs.Values.{Text, JobName, Value}
 use Rattle.tv_value.specs.Orders.{same_job}
 use Rattle.tv_gate.specs.Outcomes.{Giving}
-use Rattle.tv_dispatch.specs.Jobs.{Ask, outcome_of, judged, Try, ask, open_flow, right, Taken, taken, match_result}
+use Rattle.tv_dispatch.specs.Jobs.{Ask, outcome_of, judged, Try, ask, open_flow, Taken, taken}
 use Rattle.tv_model.specs.Jobs.{Job}
 use Rattle.tv_model.specs.Lists.{first_of_list, rest_of}
 use Rattle.tv_model.specs.Made.{Meaning}
 use Rattle.tv_model.specs.Members.{In}
-use Rattle.tv_history.specs.Entries.{Entry, handed_out, accepted, bounced, closed, fault_passed, opened, ended, recalled, History, is_accepted, is_out}
-use Rattle.tv_history.specs.Histories.{asks_left, next_ask, is_at, is_ask, is_right, same_bool, is_legal, is_legal_after}
-use Rattle.tv_model.proofs.Tests.{true≠false, left_true, right_true, both_true, or_right, same_job_decides}
-use Rattle.tv_model.proofs.Order.{some_in}
+use Rattle.tv_history.specs.Entries.{Entry, accepted, History, is_accepted}
+use Rattle.tv_history.specs.Histories.{asks_left, next_ask, is_legal, is_legal_after}
+use Rattle.tv_model.proofs.Tests.{true≠false, left_true, both_true, or_right}
 use Rattle.tv_model.proofs.Whole.{IsWhole}
 use Rattle.tv_history.proofs.Ready.{are-jobs}
-use Rattle.tv_outcomes.specs.Agreed.{is_acceptance, was_accepted, GiveTheSame, AgreeOn}
+use Rattle.tv_outcomes.proofs.Distinct.{taken_by}
+use Rattle.tv_outcomes.specs.Agreed.{is_acceptance_of, was_accepted, GiveTheSame, AgreeOn}
 
 -- ---- the first so many of a list, and those after them
 
@@ -36,16 +39,9 @@ rest-after zero (x ∷ l) = refl
 rest-after (suc k) [] = refl
 rest-after (suc k) (x ∷ l) = rest-after k l
 
-pub some-part : {A : Type 0} (a b : A) → Some a ≡ Some b → a ≡ b
-some-part {A = A} a b e = ap or_a e
-  where
-    or_a : Option A → A
-    or_a None = a
-    or_a (Some c) = c
-
 first-more : {A : Type 0} (P : A → Type 0) (k : ℕ) (l : List A) (q : A) → first_of_list (after_first k l) ≡ Some q → FirstAre P k l → P q → FirstAre P (suc k) l
 first-more P zero [] q e h p = tt
-first-more P zero (x ∷ l) q e h p = (subst P (sym (some-part x q e)) p, tt)
+first-more P zero (x ∷ l) q e h p = (subst P (sym (same_Some x q e)) p, tt)
 first-more P (suc k) [] q e h p = tt
 first-more P (suc k) (x ∷ l) q e h p = (h.0, first-more P k l q e h.1 p)
 
@@ -70,39 +66,26 @@ left-after (e ∷ past) n l = by (is_accepted n e) (left-after past n l)
 -- ---- the first asks of a job are those whose outcomes were accepted
 
 module _ (gives : Giving) (D : ℕ → Type 0) (m : Meaning) (w : IsWhole gives D m []) where
-  pub accepts-next : (past : History) (e : Entry) (j : Job) → In j m.jobs → is_legal_after gives m past e ≡ true → is_accepted j.name e ≡ true → (q : Ask) × (next_ask gives m past j ≡ Some q) × (is_acceptance j.name q e ≡ true)
-  accepts-next past (accepted k c t r) j i l h =
-      let f = some_in (λ x. is_at gives m x k && option_map_or (λ y. is_ask gives m c t y && same_bool gives m r (is_right gives m y)) (next_ask gives m past x) false) m.jobs (right_true (is_out past k) _ l) in
-      let name = (same_job_decides k f.0.name).0 (left_true (is_at gives m f.0 k) _ f.2) in
-      let same = (are-jobs gives D m [] w).once f.0 j f.1 i (sym name ∙ sym ((same_job_decides j.name k).0 h)) in
-      by (next_ask gives m past j) refl (subst (λ x. option_map_or (λ y. is_ask gives m c t y && same_bool gives m r (is_right gives m y)) (next_ask gives m past x) false ≡ true) same (right_true (is_at gives m f.0 k) _ f.2))
-    where
-      by : (o : Option Ask) → next_ask gives m past j ≡ o → option_map_or (λ y. is_ask gives m c t y && same_bool gives m r (is_right gives m y)) o false ≡ true → (q : Ask) × (next_ask gives m past j ≡ Some q) × (is_acceptance j.name q (accepted k c t r) ≡ true)
-      by None e x = absurd (true≠false (sym x))
-      by (Some q) e x = (q, e, both_true (same_job j.name k) (is_ask gives m c t q) h (left_true (is_ask gives m c t q) (same_bool gives m r (is_right gives m q)) x))
-  accepts-next past (handed_out k c t) j i l h = absurd (true≠false (sym h))
-  accepts-next past (bounced k) j i l h = absurd (true≠false (sym h))
-  accepts-next past (closed k c) j i l h = absurd (true≠false (sym h))
-  accepts-next past (fault_passed k) j i l h = absurd (true≠false (sym h))
-  accepts-next past (opened k) j i l h = absurd (true≠false (sym h))
-  accepts-next past (ended k) j i l h = absurd (true≠false (sym h))
-  accepts-next past (recalled c) j i l h = absurd (true≠false (sym h))
+  pub accepts-next : (past : History) {e : Entry} (j : Job) → In j m.jobs → Legal gives m past e → is_accepted j.name e ≡ true → (q : Ask) × (next_ask past j ≡ Some q) × (is_acceptance_of j.name q e ≡ true)
+  accepts-next past j i (accepts k a ki o q) h = (
+    a,
+    subst (λ x. next_ask past x ≡ Some a) (same-job gives m (are-jobs gives D m [] w) k j ki i h) q,
+    both_true (same_job j.name k.name) (a.activity == a.activity && a.attempt == a.attempt) h (both_true (a.activity == a.activity) (a.attempt == a.attempt) (eq-eqb a.activity a.activity refl) (eq-eqb a.attempt a.attempt refl)),
+  )
+  accepts-next past j i l h = absurd (true≠false (sym h))
 
   accepted-first : (past : History) → is_legal gives m past ≡ true → (j : Job) → In j m.jobs → FirstAre (λ a. was_accepted past j.name a ≡ true) (accepted_count past j.name) j.asks
   accepted-first [] l j i = tt
   accepted-first (e ∷ past) l j i = by (is_accepted j.name e) refl (accepted-first past (left_true (is_legal gives m past) (is_legal_after gives m past e) l) j i)
     where
       grown : (k : ℕ) → FirstAre (λ a. was_accepted past j.name a ≡ true) k j.asks → FirstAre (λ a. was_accepted (e ∷ past) j.name a ≡ true) k j.asks
-      grown k h = first-weaken (λ a. was_accepted past j.name a ≡ true) (λ a. was_accepted (e ∷ past) j.name a ≡ true) k j.asks (λ a x y. or_right (is_acceptance j.name a e) (was_accepted past j.name a) y) h
-
-      or_now : (a b : Bool) → a ≡ true → (a || b) ≡ true
-      or_now a b h = subst (λ c. (c || b) ≡ true) (sym h) refl
+      grown k h = first-weaken (λ a. was_accepted past j.name a ≡ true) (λ a. was_accepted (e ∷ past) j.name a ≡ true) k j.asks (λ a x y. or_right (is_acceptance_of j.name a e) (was_accepted past j.name a) y) h
 
       by : (b : Bool) → is_accepted j.name e ≡ b → FirstAre (λ a. was_accepted past j.name a ≡ true) (accepted_count past j.name) j.asks → FirstAre (λ a. was_accepted (e ∷ past) j.name a ≡ true) (if b then suc (accepted_count past j.name) else accepted_count past j.name) j.asks
       by false p h = grown (accepted_count past j.name) h
       by true p h =
-          let q = accepts-next past e j i (right_true (is_legal gives m past) (is_legal_after gives m past e) l) p in
-          first-more (λ a. was_accepted (e ∷ past) j.name a ≡ true) (accepted_count past j.name) j.asks q.0 (ap first_of_list (sym (left-after past j.name j.asks)) ∙ q.1) (grown (accepted_count past j.name) h) (or_now (is_acceptance j.name q.0 e) (was_accepted past j.name q.0) q.2)
+          let q = accepts-next past j i (last-legal gives m past e l) p in
+          first-more (λ a. was_accepted (e ∷ past) j.name a ≡ true) (accepted_count past j.name) j.asks q.0 (ap first_of_list (sym (left-after past j.name j.asks)) ∙ q.1) (grown (accepted_count past j.name) h) (or_left (is_acceptance_of j.name q.0 e) (was_accepted past j.name q.0) q.2)
 
   -- both give these the same outcome
   pub first-agree : (other : Giving) (past : History) → is_legal gives m past ≡ true → AgreeOn gives other m past → (j : Job) → In j m.jobs → FirstAre (GiveTheSame gives other) (accepted_count past j.name) j.asks
@@ -116,9 +99,6 @@ abbrev pub TakenAlike : Giving → Giving → Text → List Try → ℕ → Type
 TakenAlike gives other why ts k =
     (taken gives why ts ≡ taken other why ts)
     ⊎ ((a : Ask) × (first_of_list (after_first k (taken gives why ts).asks) ≡ Some a) × (first_of_list (after_first k (taken other why ts).asks) ≡ Some a))
-
-abbrev taken_by : Giving → Ask → List Try → Result (List Value) Text → Taken
-taken_by gives a ts r = match_result {C = Taken} r (λ vs. record { asks = a ∷ []; fate = right vs }) (λ reason. record { asks = a ∷ (taken gives reason ts).asks; fate = (taken gives reason ts).fate })
 
 first-taken : (gives : Giving) (a : Ask) (ts : List Try) (r : Result (List Value) Text) → first_of_list (taken_by gives a ts r).asks ≡ Some a
 first-taken gives a ts (Ok vs) = refl

@@ -34,10 +34,7 @@ abbrev HasTry : Taken → Type 0
 HasTry t = t.asks ≡ [] → opens_flow t.fate ≡ true
 
 taken-try : (gives : Giving) (why : Text) (vs : List Value) (ds : List ℕ) (retries k : ℕ) (as' : List Activity) → 1 ≤ length as' → HasTry (taken gives why (tries vs ds retries k as'))
-taken-try gives why vs ds retries k [] h = absurd (none h)
-  where
-    none : 1 ≤ 0 → ⊥
-    none p = omega arith
+taken-try gives why vs ds retries k [] h = absurd (omega (arith, h))
 taken-try gives why vs ds retries k (nested f ∷ as') h = λ e. refl
 taken-try gives why vs ds retries k (service s ∷ as') h = λ e. absurd (asked (outcome_of gives first) e)
   where

@@ -18,39 +18,32 @@ use Rattle.tv_model.specs.Made.{Meaning, Opened}
 use Rattle.tv_model.specs.Meanings.{steps_inside}
 use Rattle.tv_model.specs.Members.{In}
 use Rattle.tv_model.specs.Turns.{is_bounced}
-use Rattle.tv_history.specs.Alone.{HaveTries}
 use Rattle.tv_history.specs.Entries.{History, is_ended_entry, is_opened_entry}
-use Rattle.tv_history.specs.Histories.{asks_left, next_ask, is_settled, is_known, is_open, has_open_instance, is_legal}
+use Rattle.tv_history.specs.Histories.{asks_left, next_ask, is_settled, is_known, is_open, has_open_instance}
 use Rattle.tv_model.proofs.Tests.{true≠false}
-use Rattle.tv_model.proofs.Whole.{IsWhole}
-use Rattle.tv_outcomes.specs.Agreed.{AgreeOn, GiveTheSame}
+use Rattle.tv_outcomes.specs.Agreed.{GiveTheSame}
 use Rattle.tv_outcomes.proofs.Aligned.{Aligned, aligned-dark}
 use Rattle.tv_outcomes.proofs.Delivers.{AlikeEnds}
 use Rattle.tv_outcomes.proofs.Iterated.{AreShared, AlikeIterations}
-use Rattle.tv_outcomes.proofs.Sides.{inner_jobs, BelongsTo, IsShut, IsDarkNow, AllInsideDark, inside-dark, next-unopened, next-unsettled}
+use Rattle.tv_outcomes.proofs.Sides.{inner_jobs, BelongsTo, IsShut, IsDarkNow, AllInsideDark, inside-dark, next-unopened, next-unsettled, Both}
 use Rattle.tv_outcomes.proofs.Takes.{TakenAlike, taken-alike, FirstAre, after_first, accepted_count, left-after, first-agree}
 
--- only the history says which instances are open
-pub open-same : (gives other : Giving) (m n : Meaning) (past : History) (k : JobName) → is_open gives m past k ≡ is_open other n past k
-open-same gives other m n past [] = refl
-open-same gives other m n past (c ∷ k) = refl
-
 -- a name with one more at its end is none of no parts
-pub unopened-closed : (gives : Giving) (m : Meaning) (past : History) (I : JobName) (c : Name × Place) → list_any (is_opened_entry (I ++ c ∷ [])) past ≡ false → is_open gives m past (I ++ c ∷ []) ≡ false
-unopened-closed gives m past [] c h = subst (λ b. (b && not (list_any (is_ended_entry (c ∷ [])) past)) ≡ false) (sym h) refl
-unopened-closed gives m past (k ∷ I) c h = subst (λ b. (b && not (list_any (is_ended_entry (k ∷ (I ++ c ∷ []))) past)) ≡ false) (sym h) refl
+pub unopened-closed : (past : History) (I : JobName) (c : Name × Place) → list_any (is_opened_entry (I ++ c ∷ [])) past ≡ false → is_open past (I ++ c ∷ []) ≡ false
+unopened-closed past [] c h = subst (λ b. (b && not (list_any (is_ended_entry (c ∷ [])) past)) ≡ false) (sym h) refl
+unopened-closed past (k ∷ I) c h = subst (λ b. (b && not (list_any (is_ended_entry (k ∷ (I ++ c ∷ []))) past)) ≡ false) (sym h) refl
 
 -- a meaning within that of a run
 pub record IsPartOf (whole part : Meaning) : Type 0 where
   pub jobs : (x : Job) → In x part.jobs → In x whole.jobs
   pub steps : (s : StepMeaning) → In s part.steps → In s whole.steps
 
-module _ (gives other : Giving) (D : ℕ → Type 0) (m n : Meaning) (w : IsWhole gives D m []) (v : IsWhole other D n []) (fit : HaveTries m.jobs) (fot : HaveTries n.jobs) (past : History) (l : is_legal gives m past ≡ true) (r : is_legal other n past ≡ true) (agree : AgreeOn gives other m past) where
+module _ (gives other : Giving) (D : ℕ → Type 0) (m n : Meaning) (past : History) (both : Both gives other D m n past) where
   abbrev pub K : Known → Bool
-  K k = is_known gives m past k
+  K k = is_known m past k
 
   abbrev pub L : Known → Bool
-  L k = is_known other n past k
+  L k = is_known n past k
 
   -- two jobs, one of each run, of which all that matters is the same
   pub record IsTwin (x y : Job) : Type 0 where
@@ -62,12 +55,12 @@ module _ (gives other : Giving) (D : ℕ → Type 0) (m n : Meaning) (w : IsWhol
     pub waits : x.waits ≡ y.waits
     pub shared : AreShared K L x.waits
     pub bounced : is_bounced x.ending ≡ is_bounced y.ending
-    pub next : next_ask gives m past x ≡ next_ask other n past y
-    pub settled : is_settled gives m past x ≡ is_settled other n past y
-    pub opens : (is_none (next_ask gives m past x) && is_some x.opens) ≡ (is_none (next_ask other n past y) && is_some y.opens)
-    pub inner : has_open_instance gives m past x ≡ has_open_instance other n past y
-    pub result : is_settled gives m past x ≡ true → x.result ≡ y.result
-    pub asks : is_none (next_ask gives m past x) ≡ true → x.asks ≡ y.asks
+    pub next : next_ask past x ≡ next_ask past y
+    pub settled : is_settled past x ≡ is_settled past y
+    pub opens : (is_none (next_ask past x) && is_some x.opens) ≡ (is_none (next_ask past y) && is_some y.opens)
+    pub inner : has_open_instance past x ≡ has_open_instance past y
+    pub result : is_settled past x ≡ true → x.result ≡ y.result
+    pub asks : is_none (next_ask past x) ≡ true → x.asks ≡ y.asks
 
   pub record IsTwinStep (s t : StepMeaning) : Type 0 where
     pub instance : s.instance ≡ t.instance
@@ -76,10 +69,10 @@ module _ (gives other : Giving) (D : ℕ → Type 0) (m n : Meaning) (w : IsWhol
     pub ending : AlikeEnds K L refl s.ending t.ending
 
   abbrev pub JobsAligned : List Job → List Job → Type 0
-  JobsAligned = Aligned (IsDarkNow gives D m w fit past l) (IsDarkNow other D n v fot past r) IsTwin
+  JobsAligned = Aligned (IsDarkNow gives D m past both.ours) (IsDarkNow other D n past both.theirs) IsTwin
 
   abbrev pub StepsAligned : List StepMeaning → List StepMeaning → Type 0
-  StepsAligned = Aligned (IsShut gives D m w fit past l) (IsShut other D n v fot past r) IsTwinStep
+  StepsAligned = Aligned (IsShut gives D m past both.ours) (IsShut other D n past both.theirs) IsTwinStep
 
   -- two instances of the name J, one of each run
   pub record AreAlike (J : JobName) (a b : Meaning) : Type 0 where
@@ -117,7 +110,7 @@ module _ (gives other : Giving) (D : ℕ → Type 0) (m n : Meaning) (w : IsWhol
     same-fate as' (wrong why) b d = record { job = record { name = refl; instance = refl; step = refl; limit = refl; inputs = refl; waits = refl; shared = shared; bounced = refl; next = refl; settled = refl; opens = refl; inner = refl; result = λ h. refl; asks = λ h. refl }; jobs = tt; steps = tt }
     same-fate as' (opens f) b d =
         let a = alike f name (zip_names s.inputs inputs) (part-of m (ours as' (opens f)) (inside f name (zip_names s.inputs inputs)) refl b) (part-of n (theirs as' (opens f)) (inner f name (zip_names s.inputs inputs)) refl d) in
-        record { job = record { name = refl; instance = refl; step = refl; limit = refl; inputs = refl; waits = refl; shared = shared; bounced = refl; next = refl; settled = refl; opens = refl; inner = open-same gives other m n past name; result = λ h. ap (λ os. map (λ o. plain o.1) os) (a.outputs h); asks = λ h. refl }; jobs = a.jobs; steps = a.steps }
+        record { job = record { name = refl; instance = refl; step = refl; limit = refl; inputs = refl; waits = refl; shared = shared; bounced = refl; next = refl; settled = refl; opens = refl; inner = refl; result = λ h. ap (λ os. map (λ o. plain o.1) os) (a.outputs h); asks = λ h. refl }; jobs = a.jobs; steps = a.steps }
 
     -- what a job keeps however its tries end
     record IsTried (as' : List Ask) (o : Opened) : Type 0 where
@@ -153,46 +146,46 @@ module _ (gives other : Giving) (D : ℕ → Type 0) (m n : Meaning) (w : IsWhol
         shared = subst (λ os. AreShared K L os) (sym t.waits_are) shared;
         bounced = t.not_bounced ∙ sym u.not_bounced;
         next = next_o ∙ sym next_p;
-        settled = unsettled ∙ sym (next-unsettled other D n v fot past r p.job d.mine a next_p u.not_bounced);
+        settled = unsettled ∙ sym (next-unsettled other D n past both.theirs p.job d.mine a next_p u.not_bounced);
         opens = ap (λ x. is_none x && is_some o.job.opens) next_o ∙ sym (ap (λ x. is_none x && is_some p.job.opens) next_p);
         inner = closed_by gives m o t shut ∙ sym (closed_by other n p u also_shut);
         result = λ h. absurd (true≠false (sym h ∙ unsettled));
         asks = λ h. absurd (true≠false (sym h ∙ ap is_none next_o));
       };
-      jobs = aligned-dark (IsDarkNow gives D m w fit past l) (IsDarkNow other D n v fot past r) IsTwin (inner_jobs o) (inner_jobs p) dark.0 gone.0;
-      steps = aligned-dark (IsShut gives D m w fit past l) (IsShut other D n v fot past r) IsTwinStep (steps_inside o) (steps_inside p) dark.1 gone.1;
+      jobs = aligned-dark (IsDarkNow gives D m past both.ours) (IsDarkNow other D n past both.theirs) IsTwin (inner_jobs o) (inner_jobs p) dark.0 gone.0;
+      steps = aligned-dark (IsShut gives D m past both.ours) (IsShut other D n past both.theirs) IsTwinStep (steps_inside o) (steps_inside p) dark.1 gone.1;
     }
       where
         left_first : (o : Opened) (as' : List Ask) → IsTried as' o → first_of_list (after_first (accepted_count past name) as') ≡ Some a → first_of_list (asks_left past o.job.name o.job.asks) ≡ Some a
         left_first o as' t e = ap first_of_list ((λ i. asks_left past (t.name_is i) (t.asks_are i)) ∙ left-after past name as') ∙ e
 
-        next_o : next_ask gives m past o.job ≡ Some a
+        next_o : next_ask past o.job ≡ Some a
         next_o = left_first o as' t e
 
-        next_p : next_ask other n past p.job ≡ Some a
+        next_p : next_ask past p.job ≡ Some a
         next_p = left_first p bs u f
 
-        unsettled : is_settled gives m past o.job ≡ false
-        unsettled = next-unsettled gives D m w fit past l o.job b.mine a next_o t.not_bounced
+        unsettled : is_settled past o.job ≡ false
+        unsettled = next-unsettled gives D m past both.ours o.job b.mine a next_o t.not_bounced
 
         shut : list_any (is_opened_entry o.job.name) past ≡ false
-        shut = next-unopened gives D m w fit past l o.job b.mine a next_o
+        shut = next-unopened gives D m past both.ours o.job b.mine a next_o
 
         also_shut : list_any (is_opened_entry p.job.name) past ≡ false
-        also_shut = next-unopened other D n v fot past r p.job d.mine a next_p
+        also_shut = next-unopened other D n past both.theirs p.job d.mine a next_p
 
-        closed_by : (g : Giving) (k : Meaning) (o : Opened) {bs : List Ask} → IsTried bs o → list_any (is_opened_entry o.job.name) past ≡ false → has_open_instance g k past o.job ≡ false
-        closed_by g k o t h = by (is_some o.job.opens) (subst (λ x. is_open g k past x ≡ false) (sym t.name_is) (unopened-closed g k past I (c, q) (subst (λ x. list_any (is_opened_entry x) past ≡ false) t.name_is h)))
+        closed_by : (g : Giving) (k : Meaning) (o : Opened) {bs : List Ask} → IsTried bs o → list_any (is_opened_entry o.job.name) past ≡ false → has_open_instance past o.job ≡ false
+        closed_by g k o t h = by (is_some o.job.opens) (subst (λ x. is_open past x ≡ false) (sym t.name_is) (unopened-closed past I (c, q) (subst (λ x. list_any (is_opened_entry x) past ≡ false) t.name_is h)))
           where
-            by : (b : Bool) → is_open g k past o.job.name ≡ false → (b && is_open g k past o.job.name) ≡ false
+            by : (b : Bool) → is_open past o.job.name ≡ false → (b && is_open past o.job.name) ≡ false
             by true x = x
             by false x = refl
 
-        dark : AllInsideDark gives D m w fit past l o
-        dark = inside-dark gives D m w fit past l o b shut
+        dark : AllInsideDark gives D m past both.ours o
+        dark = inside-dark gives D m past both.ours o b shut
 
-        gone : AllInsideDark other D n v fot past r p
-        gone = inside-dark other D n v fot past r p d also_shut
+        gone : AllInsideDark other D n past both.theirs p
+        gone = inside-dark other D n past both.theirs p d also_shut
 
     tried-twins : BelongsTo m (tried_job gives inside I s plain_job) → BelongsTo n (tried_job other inner I s plain_job) → AreTwins (tried_job gives inside I s plain_job) (tried_job other inner I s plain_job)
     tried-twins b d = by (taken-alike gives other [] ts (accepted_count past name) first)
@@ -204,7 +197,7 @@ module _ (gives other : Giving) (D : ℕ → Type 0) (m n : Meaning) (w : IsWhol
         t = ours-tried (taken gives [] ts).asks (taken gives [] ts).fate
 
         first : FirstAre (GiveTheSame gives other) (accepted_count past name) (taken gives [] ts).asks
-        first = subst (λ x. FirstAre (GiveTheSame gives other) (accepted_count past x) (taken gives [] ts).asks) t.name_is (subst (λ as'. FirstAre (GiveTheSame gives other) (accepted_count past (tried_job gives inside I s plain_job).job.name) as') t.asks_are (first-agree gives D m w other past l agree (tried_job gives inside I s plain_job).job b.mine))
+        first = subst (λ x. FirstAre (GiveTheSame gives other) (accepted_count past x) (taken gives [] ts).asks) t.name_is (subst (λ as'. FirstAre (GiveTheSame gives other) (accepted_count past (tried_job gives inside I s plain_job).job.name) as') t.asks_are (first-agree gives D m both.ours.whole other past both.ours.legal both.agree (tried_job gives inside I s plain_job).job b.mine))
 
         by : TakenAlike gives other [] ts (accepted_count past name) → AreTwins (tried_job gives inside I s plain_job) (tried_job other inner I s plain_job)
         by (inl e) =

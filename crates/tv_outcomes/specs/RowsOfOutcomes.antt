@@ -16,23 +16,25 @@ use Rattle.tv_outcomes.specs.Agreed.{bouncing, first_going, first_offer}
 
 -- the outcomes of these services for these first texts, and a bad one for every other call
 abbrev pub only : List (Name × Text) → Giving
-only known s vs n = if list_any (λ k. same_name s k.0 && same_name (text_at 0 vs) k.1) known then text_services s vs n else bad (codes "not yet")
+only known s vs n =
+    if list_any (λ k. same_name s k.0 && same_name (text_at 0 vs) k.1) known then text_services s vs n else bad (codes "not yet")
 
 abbrev pub is_legal_by : Giving → Document → List Entry → Bool
 is_legal_by gives d entries = is_legal gives (meaning gives d) (reverse entries)
 
 -- the name of the first job on offer
 abbrev pub offered_by : Giving → Document → List Entry → Option JobName
-offered_by gives d entries = option_map (λ o. o.name) (first_offer gives (meaning gives d) (reverse entries))
+offered_by gives d entries = option_map (λ o. o.name) (first_offer (meaning gives d) (reverse entries))
 
 -- that of the first job on offer, or that can open its flow
 abbrev pub going_by : Giving → Document → List Entry → Option JobName
-going_by gives d entries = option_map (λ o. o.name) (first_going gives (meaning gives d) (reverse entries))
+going_by gives d entries = option_map (λ o. o.name) (first_going (meaning gives d) (reverse entries))
 
 abbrev pub first_item : List Entry
 first_item = out_first p0 ∷ in_right p0 ∷ []
 
--- with the one outcome that was accepted, the history is legal, and the same job comes next; without it the acceptance isn't
+-- with the one outcome that was accepted, the history is legal, and the same job comes next; without it the
+-- acceptance isn't
 abbrev pub GoesByWhatWasAccepted : Type 0
 GoesByWhatWasAccepted =
     (is_legal_by (only ((codes "upper", codes "a") ∷ [])) two_steps first_item ≡ true)
@@ -66,5 +68,5 @@ without_activity =
 -- the form of a document lets no such step in: its job is settled from the start, but where its input is a fault
 abbrev pub WantsActivities : Type 0
 WantsActivities =
-    (bouncing text_services (meaning text_services without_activity) [] ≡ spot_of (codes "r") [] ∷ [])
-    × (bouncing (only []) (meaning (only []) without_activity) [] ≡ [])
+    (bouncing (meaning text_services without_activity) [] ≡ spot_of (codes "r") [] ∷ [])
+    × (bouncing (meaning (only []) without_activity) [] ≡ [])

@@ -1,6 +1,4 @@
 -- The meaning and the history of a state.
-use Rattle.std.specs.Prelude.{[]}
-use Rattle.tv_gate.specs.Outcomes.{Giving, bad}
 use Rattle.tv_model.specs.Made.{Meaning}
 use Rattle.tv_history.specs.Entries.{History}
 use Rattle.tv_known.specs.WholeViews.{whole_view}
@@ -12,8 +10,3 @@ meaning_in s = whole_view s.whole.now
 
 abbrev pub past_in : State → History
 past_in s = past_of s.names.now s.events.now
-
--- Services that give nothing good. What is settled, open or ready in a meaning that is at hand doesn't go by what services give, so the
--- tests say it at these.
-abbrev pub no_services : Giving
-no_services s vs n = bad []

@@ -36,7 +36,7 @@ use Rattle.tv_whole.specs.InstanceParts.{given_for, outputs_for, whole_parts}
 use Rattle.tv_whole.specs.MadeViews.{made_view, parts_of, steps_so_far}
 use Rattle.tv_whole.specs.Opening.{Inside}
 use Rattle.tv_whole.specs.Picked.{picked}
-use Rattle.tv_known.specs.WholeViews.{without_order}
+use Rattle.tv_known.specs.WholeViews.{without_instances}
 use Rattle.tv_whole.specs.declared.made.MadeStep.{MadeStep}
 use Rattle.tv_whole.proofs.OfApart.{apart_of, parts-apart}
 use Rattle.tv_whole.proofs.OfMade.{feed-same}
@@ -85,7 +85,7 @@ picked-ranked gives xs h = picked-each xs (ranked xs) (rank-each gives (λ k. Un
 -- ---- an instance
 
 module _ (gives : Giving) (inside : Inside) (instance : JobName) (flow : Flow) (vs : List (Name × Value)) where
-  pub instance-built : (cs : List MadeStep) (given : List (Name × Delivered)) (order : List ℕ) (outs : List (Name × Traced)) (a : ApartParts) (w : Meaning) → is_ascending (map (λ s. s.0) flow.steps) ≡ true → order ≡ numbers_by_rank flow.steps → given ≡ given_for vs flow.inputs → map made_view cs ≡ map parts_of (steps_made gives inside instance given [] (picked flow.steps order)) → outs ≡ outputs_for given (steps_so_far cs) flow.outputs → a ≡ all_parts (map made_view cs) no_apart → w ≡ whole_parts outs a → w ≡ without_order (instance_meaning gives inside instance flow vs)
+  pub instance-built : (cs : List MadeStep) (given : List (Name × Delivered)) (order : List ℕ) (outs : List (Name × Traced)) (a : ApartParts) (w : Meaning) → is_ascending (map (λ s. s.0) flow.steps) ≡ true → order ≡ numbers_by_rank flow.steps → given ≡ given_for vs flow.inputs → map made_view cs ≡ map parts_of (steps_made gives inside instance given [] (picked flow.steps order)) → outs ≡ outputs_for given (steps_so_far cs) flow.outputs → a ≡ all_parts (map made_view cs) no_apart → w ≡ whole_parts outs a → w ≡ without_instances (instance_meaning gives inside instance flow vs)
   instance-built cs given order outs a w rises is_order is_given is_made is_outs is_apart is_whole =
       let start : List (Name × Delivered) = given_for vs flow.inputs in
       let ms : List Made = steps_made gives inside instance start [] (ranked flow.steps) in
@@ -138,14 +138,14 @@ module _ (d : Document) (flow : Flow) (there : named d.main d.flows ≡ Some flo
       named-passes links_inside d.main flow d.flows (right_true (leads_inside opened_flows d.flows) (list_all (λ (f : Name × Flow). links_inside f.1) d.flows) all) there
 
   -- what its main flow comes to is what it means
-  pub main-means : (gives : Giving) (own : JobName) (w : Meaning) → own ≡ [] → w ≡ without_order (instance_meaning gives (flow_meaning gives d.flows 7) own flow d.inputs) → w ≡ without_order (meaning gives d)
+  pub main-means : (gives : Giving) (own : JobName) (w : Meaning) → own ≡ [] → w ≡ without_instances (instance_meaning gives (flow_meaning gives d.flows 7) own flow d.inputs) → w ≡ without_instances (meaning gives d)
   main-means gives own w top is =
       let inside : Inside = flow_meaning gives d.flows 7 in
       let from_main : meaning gives d ≡ instance_meaning gives inside [] flow d.inputs = ap (λ o. option_map_or (λ (f : Flow). instance_meaning gives inside [] f d.inputs) o no_meaning) there in
-      is ∙ ap (λ n. without_order (instance_meaning gives inside n flow d.inputs)) top ∙ ap without_order (sym from_main)
+      is ∙ ap (λ n. without_instances (instance_meaning gives inside n flow d.inputs)) top ∙ ap without_instances (sym from_main)
 
-pub main-none : (gives : Giving) (d : Document) (w : Meaning) → named d.main d.flows ≡ None → w ≡ without_order no_meaning → w ≡ without_order (meaning gives d)
+pub main-none : (gives : Giving) (d : Document) (w : Meaning) → named d.main d.flows ≡ None → w ≡ without_instances no_meaning → w ≡ without_instances (meaning gives d)
 main-none gives d w gone is =
     let inside : Inside = flow_meaning gives d.flows 7 in
     let from_main : meaning gives d ≡ no_meaning = ap (λ o. option_map_or (λ (f : Flow). instance_meaning gives inside [] f d.inputs) o no_meaning) gone in
-    is ∙ ap without_order (sym from_main)
+    is ∙ ap without_instances (sym from_main)

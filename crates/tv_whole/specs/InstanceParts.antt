@@ -16,6 +16,6 @@ given_for vs ins = map (λ x. (x.0, record { depth = x.1; value = input_value x.
 abbrev pub outputs_for : List (Name × Delivered) → List StepMeaning → List (Name × Feed) → List (Name × Traced)
 outputs_for given steps outs = map (λ o. (o.0, (feed_delivers step_itself given steps o.1).value)) outs
 
--- what outputs and the parts of all steps come to, with no order of asks
+-- what outputs and the parts of all steps come to, without instances
 abbrev pub whole_parts : List (Name × Traced) → ApartParts → Meaning
-whole_parts outs a = record { outputs = outs; steps = a.steps ++ a.inside; jobs = a.jobs; order = [] }
+whole_parts outs a = record { outputs = outs; steps = a.steps ++ a.inside; jobs = a.jobs; instances = [] }

@@ -16,7 +16,7 @@ use Rattle.tv_model.specs.Made.{Meaning, Opened}
 use Rattle.tv_model.specs.Meanings.{jobs_with_inside, steps_inside}
 use Rattle.tv_whole.specs.declared.opening.StepJobs.{StepJobs}
 use Rattle.tv_known.specs.JobsAlone.{job_at}
-use Rattle.tv_known.specs.WholeViews.{job_view, step_view, whole_view, without_order}
+use Rattle.tv_known.specs.WholeViews.{job_view, step_view, whole_view, without_instances}
 use Rattle.tv_known.specs.declared.parts.Whole.{Whole}
 
 -- the meaning of a nested flow under a job's name and on its inputs
@@ -69,4 +69,4 @@ with_found q j (Some w) p = with_inside q j (whole_view w) p
 with_found q j None p = with_alone q j p
 
 abbrev pub IsInside : Inside → Step → Job → Option Whole → Type 0
-IsInside inside s j w = option_map whole_view w ≡ option_map (λ f. without_order (inside f j.name (zip_names s.inputs j.inputs))) j.opens
+IsInside inside s j w = option_map whole_view w ≡ option_map (λ f. without_instances (inside f j.name (zip_names s.inputs j.inputs))) j.opens

@@ -1,22 +1,23 @@
 -- A call whose outcome was accepted is that of the try, which is one of its job.
 use Rattle.std.specs.Option.{option_map_or}
-use Rattle.std.specs.Prelude.{Bool, List, None, Option, Some, [], cond, false, find, if◌then◌else◌, is_some, length, option_and_then, refl, slice_get, suc, true, unwrap_or, zero, ℕ, ◌&&◌, ◌++◌, ◌<◌, ◌==◌, ◌∷◌, ◌≡◌}
+use Rattle.std.specs.Prelude.{Bool, List, None, Option, Some, [], false, find, if◌then◌else◌, is_some, length, option_and_then, refl, slice_get, suc, true, unwrap_or, zero, ℕ, ◌&&◌, ◌++◌, ◌<◌, ◌==◌, ◌∷◌, ◌≡◌}
 use Rattle.std.proofs.Common.{ap, arith, inl, inr, subst, sym, ◌∙◌}
 use Rattle.std.proofs.lemmas.Bool.{eqb-true, lt-ltb}
+use Rattle.tv_history.proofs.Ready.{left-in}
+use Rattle.tv_history.proofs.Tests.{find-passes, first-in}
 use Rattle.tv_value.specs.Orders.{same_job}
 use Rattle.tv_value.specs.Values.{JobName}
 use Rattle.tv_gate.specs.Calls.{Call, IsCalled}
 use Rattle.tv_gate.specs.Outcomes.{Giving}
 use Rattle.tv_dispatch.specs.Jobs.{Ask}
 use Rattle.tv_model.specs.Jobs.{Job}
-use Rattle.tv_model.specs.Lists.{first_of_list, rest_of}
 use Rattle.tv_model.specs.Made.{Meaning}
 use Rattle.tv_model.specs.Meanings.{meaning}
 use Rattle.tv_model.specs.Members.{In}
 use Rattle.tv_model.proofs.Order.{some_in}
 use Rattle.tv_model.proofs.Tests.{left_true, right_true, same_job_decides, true≠false}
 use Rattle.tv_history.specs.Entries as history
-use Rattle.tv_history.specs.Entries.{History, is_accepted, is_out}
+use Rattle.tv_history.specs.Entries.{History, is_out}
 use Rattle.tv_history.specs.Histories.{asks_left, is_ask, is_at, is_legal, is_legal_after, is_right, next_ask, same_bool}
 use Rattle.tv_history.specs.Tries.{key_of}
 use Rattle.tv_history.proofs.Running.{AreJobs}
@@ -25,24 +26,13 @@ use Rattle.tv_board.specs.Answers.{Question}
 use Rattle.tv_board.specs.Calls.{IsTask, job_of, try_out}
 use Rattle.tv_board.specs.Refusals.{accepts}
 use Rattle.tv_board.specs.Runs.{Appends, IsLegalRun, Run, meant, past_of}
+use Rattle.tv_board.proofs.OfPasts.{name-more}
 use Rattle.tv_work.specs.Asked.{AsksEach, accepted_tries, call_for, call_of}
 use Rattle.tv_work.proofs.OfAsked.{tries-after}
 use Rattle.tv_work.proofs.OfNames.{one-newer}
-use Rattle.tv_work.proofs.OfRuns.{jobs-of, name-kept}
+use Rattle.tv_work.proofs.OfRuns.{jobs-of}
 
 -- ---- what is found
-
-find-in : {A : Type 0} (p : A → Bool) (x : A) (xs : List A) → find p xs ≡ Some x → In x xs × (p x ≡ true)
-find-in p x [] h = absurd (true≠false (sym (ap is_some h)))
-find-in {A = A} p x (y ∷ ys) h = by (p y) refl h (λ k. find-in p x ys k)
-  where
-    or_x : Option A → A
-    or_x None = x
-    or_x (Some z) = z
-
-    by : (b : Bool) → p y ≡ b → cond b (Some y) (find p ys) ≡ Some x → (find p ys ≡ Some x → In x ys × (p x ≡ true)) → In x (y ∷ ys) × (p x ≡ true)
-    by true e k rec = let same = sym (ap or_x k) in (inl same, ap p same ∙ e)
-    by false e k rec = let r = rec k in (inr r.0, r.1)
 
 some-of : {A B : Type 0} (f : A → Option B) (o : Option A) (y : B) → option_and_then f o ≡ Some y → (x : A) × (o ≡ Some x) × (f x ≡ Some y)
 some-of f None y h = absurd (true≠false (sym (ap is_some h)))
@@ -57,27 +47,6 @@ below-length [] k n h = absurd (true≠false (sym (ap is_some h)))
 below-length (m ∷ ns) zero n h = omega arith
 below-length (m ∷ ns) (suc k) n h = let b = below-length ns k n h in omega arith
 
-first-in : {A : Type 0} (x : A) (xs : List A) → first_of_list xs ≡ Some x → In x xs
-first-in x [] h = absurd (true≠false (sym (ap is_some h)))
-first-in {A = A} x (y ∷ ys) h = inl (sym (ap or_x h))
-  where
-    or_x : Option A → A
-    or_x None = x
-    or_x (Some z) = z
-
-rest-in : {A : Type 0} (x : A) (xs : List A) → In x (rest_of xs) → In x xs
-rest-in x [] i = i
-rest-in x (y ∷ ys) i = inr i
-
--- what is left of the asks is among them
-left-in : (past : History) (n : JobName) (asks : List Ask) (a : Ask) → In a (asks_left past n asks) → In a asks
-left-in [] n asks a i = i
-left-in (e ∷ past) n asks a i = by (is_accepted n e) i (λ k. left-in past n asks a k)
-  where
-    by : (b : Bool) → In a (if b then rest_of (asks_left past n asks) else asks_left past n asks) → (In a (asks_left past n asks) → In a asks) → In a asks
-    by true k rec = rec (rest-in a (asks_left past n asks) k)
-    by false k rec = rec k
-
 -- ---- a task
 
 -- the job of a task's try, which is out
@@ -88,22 +57,22 @@ pub record IsTryOf (gives : Giving) (s : Run) (q : Question) (a : Ask) : Type 0 
   pub named : name ≡ job.name
   pub among : In job (meant gives s).jobs
   pub out : is_out (past_of s) job.name ≡ true
-  pub next : next_ask gives (meant gives s) (past_of s) job ≡ Some a
+  pub next : next_ask (past_of s) job ≡ Some a
   pub its_own : In a job.asks
   pub activity : q.ticket.activity ≡ a.activity
   pub attempt : q.ticket.attempt ≡ a.attempt
 
 module _ (gives : Giving) (s : Run) (q : Question) (task : IsTask gives s q) where
   abbrev is_it : Job → Bool
-  is_it j = option_map_or (is_ask gives (meant gives s) q.ticket.activity q.ticket.attempt) (next_ask gives (meant gives s) (past_of s) j) false
+  is_it j = option_map_or (is_ask q.ticket.activity q.ticket.attempt) (next_ask (past_of s) j) false
 
   pub try-of : IsTryOf gives s q task.asked
   try-of =
-      let j = some-of (try_out gives (meant gives s) (past_of s) q.ticket.activity q.ticket.attempt) (job_of gives s q.ticket.job) task.asked task.out in
+      let j = some-of (try_out (meant gives s) (past_of s) q.ticket.activity q.ticket.attempt) (job_of gives s q.ticket.job) task.asked task.out in
       let n = some-of (λ n. find (λ (k : Job). same_job n k.name) (meant gives s).jobs) (slice_get s.names q.ticket.job) j.0 j.1 in
-      let found = find-in (λ (k : Job). same_job n.0 k.name) j.0 (meant gives s).jobs n.2 in
-      let tried = some-if (is_out (past_of s) j.0.name && is_it j.0) (next_ask gives (meant gives s) (past_of s) j.0) task.asked j.2 in
-      let same = subst (λ o. option_map_or (is_ask gives (meant gives s) q.ticket.activity q.ticket.attempt) o false ≡ true) tried.1 (right_true (is_out (past_of s) j.0.name) (is_it j.0) tried.0) in
+      let found = find-passes (λ (k : Job). same_job n.0 k.name) (meant gives s).jobs j.0 n.2 in
+      let tried = some-if (is_out (past_of s) j.0.name && is_it j.0) (next_ask (past_of s) j.0) task.asked j.2 in
+      let same = subst (λ o. option_map_or (is_ask q.ticket.activity q.ticket.attempt) o false ≡ true) tried.1 (right_true (is_out (past_of s) j.0.name) (is_it j.0) tried.0) in
       record {
         job = j.0;
         name = n.0;
@@ -125,24 +94,24 @@ module _ (gives : Giving) (s : Run) (q : Question) (task : IsTask gives s q) whe
 
 module _ (gives : Giving) (m : Meaning) (are : AreJobs gives m) (past : History) where
   -- its right is that of the job's next ask
-  right-as : (n : JobName) (c t : ℕ) (b : Bool) → is_legal_after gives m past (history.accepted n c t b) ≡ true → (j : Job) → In j m.jobs → n ≡ j.name → (a : Ask) → next_ask gives m past j ≡ Some a → (c, t, b) ≡ key_of gives a
-  right-as n c t b l j i e a next = λ z. (eqb-true c a.activity (left_true (c == a.activity) (t == a.attempt) asks) z, eqb-true t a.attempt (right_true (c == a.activity) (t == a.attempt) asks) z, same b (is_right gives m a) (right_true (is_ask gives m c t a) (same_bool gives m b (is_right gives m a)) both) z)
+  right-as : (n : JobName) (c t : ℕ) (b : Bool) → is_legal_after gives m past (history.accepted n c t b) ≡ true → (j : Job) → In j m.jobs → n ≡ j.name → (a : Ask) → next_ask past j ≡ Some a → (c, t, b) ≡ key_of gives a
+  right-as n c t b l j i e a next = λ z. (eqb-true c a.activity (left_true (c == a.activity) (t == a.attempt) asks) z, eqb-true t a.attempt (right_true (c == a.activity) (t == a.attempt) asks) z, same b (is_right gives a) (right_true (is_ask c t a) (same_bool b (is_right gives a)) both) z)
     where
-      found : (x : Job) × In x m.jobs × ((is_at gives m x n && option_map_or (λ k. is_ask gives m c t k && same_bool gives m b (is_right gives m k)) (next_ask gives m past x) false) ≡ true)
-      found = some_in (λ x. is_at gives m x n && option_map_or (λ k. is_ask gives m c t k && same_bool gives m b (is_right gives m k)) (next_ask gives m past x) false) m.jobs (right_true (is_out past n) _ l)
+      found : (x : Job) × In x m.jobs × ((is_at x n && option_map_or (λ k. is_ask c t k && same_bool b (is_right gives k)) (next_ask past x) false) ≡ true)
+      found = some_in (λ x. is_at x n && option_map_or (λ k. is_ask c t k && same_bool b (is_right gives k)) (next_ask past x) false) m.jobs (right_true (is_out past n) _ l)
 
       its-own : found.0 ≡ j
-      its-own = are.once found.0 j found.1 i (sym ((same_job_decides n found.0.name).0 (left_true (is_at gives m found.0 n) _ found.2)) ∙ e)
+      its-own = are.once found.0 j found.1 i (sym ((same_job_decides n found.0.name).0 (left_true (is_at found.0 n) _ found.2)) ∙ e)
 
-      both : (is_ask gives m c t a && same_bool gives m b (is_right gives m a)) ≡ true
+      both : (is_ask c t a && same_bool b (is_right gives a)) ≡ true
       both =
-          subst (λ o. option_map_or (λ k. is_ask gives m c t k && same_bool gives m b (is_right gives m k)) o false ≡ true) (ap (next_ask gives m past) its-own ∙ next)
-          (right_true (is_at gives m found.0 n) (option_map_or (λ k. is_ask gives m c t k && same_bool gives m b (is_right gives m k)) (next_ask gives m past found.0) false) found.2)
+          subst (λ o. option_map_or (λ k. is_ask c t k && same_bool b (is_right gives k)) o false ≡ true) (ap (next_ask past) its-own ∙ next)
+          (right_true (is_at found.0 n) (option_map_or (λ k. is_ask c t k && same_bool b (is_right gives k)) (next_ask past found.0) false) found.2)
 
       asks : (c == a.activity && t == a.attempt) ≡ true
-      asks = left_true (is_ask gives m c t a) (same_bool gives m b (is_right gives m a)) both
+      asks = left_true (is_ask c t a) (same_bool b (is_right gives a)) both
 
-      same : (x y : Bool) → same_bool gives m x y ≡ true → x ≡ y
+      same : (x y : Bool) → same_bool x y ≡ true → x ≡ y
       same true y h = sym h
       same false true h = absurd (true≠false (sym h))
       same false false h = refl
@@ -154,7 +123,7 @@ module _ (gives : Giving) (s u : Run) (q : Question) (right : Bool) (l : IsLegal
   named-so : name_at u.names q.ticket.job ≡ its.job.name
   named-so =
       ap (λ ns. name_at ns q.ticket.job) a.names
-      ∙ name-kept s.names a.more q.ticket.job (lt-ltb q.ticket.job (length s.names) (below-length s.names q.ticket.job its.name its.number))
+      ∙ name-more s.names a.more q.ticket.job (lt-ltb q.ticket.job (length s.names) (below-length s.names q.ticket.job its.name its.number))
       ∙ ap (λ o. unwrap_or o []) its.number
       ∙ its.named
 

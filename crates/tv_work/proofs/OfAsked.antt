@@ -2,13 +2,13 @@
 use Rattle.std.specs.Prelude.{Err, List, Ok, OnErr, Option, Result, Some, [], map, refl, true, ◌++◌, ◌≡◌, ◌⊎◌}
 use Rattle.std.proofs.Common.{ap, inl, inr, subst, sym, ◌∙◌}
 use Rattle.std.proofs.lemmas.List.{append-nil, append_assoc, map-append}
+use Rattle.tv_lemmas.proofs.Cases.{on_either}
 use Rattle.tv_value.specs.Values.{JobName}
 use Rattle.tv_gate.specs.Calls.{Call, IsCalled, IsSameCalls}
 use Rattle.tv_gate.specs.Outcomes.{Giving}
 use Rattle.tv_dispatch.specs.Jobs.{Ask}
 use Rattle.tv_model.specs.Jobs.{Job}
 use Rattle.tv_model.specs.Meanings.{meaning}
-use Rattle.tv_model.specs.Members.{In}
 use Rattle.tv_model.proofs.Order.{in-append}
 use Rattle.tv_model.proofs.Tests.{true≠false}
 use Rattle.tv_history.specs.Tries.{all_tries, ask_try, entry_try}
@@ -34,14 +34,8 @@ pub tries-after : (gives : Giving) (r s : Run) (e : Entry) → IsLegalRun gives 
 tries-after gives r s e l a = ap all_tries (one-newer gives r s e l a)
 
 settled-none : (d : Document) (ns is : List JobName) (e : Entry) → settles e ≡ true → entry_try (with_names d ns is e) ≡ []
-settled-none d ns is (entry.HandedOut k a t) h = refl
 settled-none d ns is (entry.Accepted k a t b) h = absurd (true≠false (sym h))
-settled-none d ns is (entry.Bounced k) h = refl
-settled-none d ns is (entry.Closed i s q c) h = refl
-settled-none d ns is (entry.Passed i s q) h = refl
-settled-none d ns is (entry.Opened k i) h = refl
-settled-none d ns is (entry.Ended i) h = refl
-settled-none d ns is (entry.Recalled c) h = refl
+settled-none d ns is e h = refl
 
 no-more : {A : Type 0} (xs ys zs : List A) → xs ≡ ys ++ zs → zs ≡ [] → xs ≡ ys
 no-more xs ys zs e f = e ∙ ap (λ us. ys ++ us) f ∙ append-nil ys
@@ -69,11 +63,7 @@ module _ (gives : Giving) where
       )
     where
       both : (js : List Job) (ps qs : List (JobName × Ask)) → AreAsksOf js ps → AreAsksOf js qs → AreAsksOf js (ps ++ qs)
-      both js ps qs f g k i = by (in-append k ps qs i)
-        where
-          by : In k ps ⊎ In k qs → (j : Job) × In j js × (k.0 ≡ j.name) × In k.1 j.asks
-          by (inl c) = f k c
-          by (inr c) = g k c
+      both js ps qs f g k i = on_either (in-append k ps qs i) (λ c. f k c) (λ c. g k c)
 
   same-calls : (x : Option (List Call)) → IsSameCalls x x
   same-calls x calls b = b

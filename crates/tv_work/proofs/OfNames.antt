@@ -13,7 +13,8 @@ use Rattle.tv_history.specs.Entries as history
 use Rattle.tv_board.specs.Runs.{Appends, IsLegalRun, Run, all_have_numbers, has_numbers, instances_of, opened_by, opened_number, past_of, step_name, with_names}
 use Rattle.tv_board.specs.declared.entry.Entry.{Entry}
 use Rattle.tv_board.specs.declared.entry.Entry.TheVariants as entry
-use Rattle.tv_work.proofs.OfRuns.{before, map-reverse, name-kept, named, newest}
+use Rattle.tv_board.proofs.OfPasts.{name-more}
+use Rattle.tv_work.proofs.OfRuns.{before, map-reverse, named, newest}
 
 -- ---- numbers
 
@@ -26,14 +27,8 @@ numbers-below n ns [] m k h l = refl
 numbers-below n ns (e ∷ es) m k h l =
     by e (left_true (has_numbers n m e) (all_have_numbers n (if is_some (opened_number e) then suc m else m) es) h) (right_true (has_numbers n m e) (all_have_numbers n (if is_some (opened_number e) then suc m else m) es) h) l (λ c g p. numbers-below n ns es c k g p)
   where
-    at_most : (a b c : ℕ) → a + b ≤ c → a ≤ c
-    at_most a b c p = omega arith
-
-    next : (a b c : ℕ) → a + suc b ≤ c → suc a + b ≤ c
-    next a b c p = omega arith
-
     up : (i : ℕ) → nat_lt i m ≡ true → m + length (filter_map (opened_by ns) es) ≤ k → nat_lt i k ≡ true
-    up i w p = raised i m k (at_most m (length (filter_map (opened_by ns) es)) k p) w
+    up i w p = raised i m k (omega (arith, p)) w
 
     by : (e : Entry) → has_numbers n m e ≡ true → all_have_numbers n (if is_some (opened_number e) then suc m else m) es ≡ true → m + length (filter_map (opened_by ns) (e ∷ es)) ≤ k → ((c : ℕ) → all_have_numbers n c es ≡ true → c + length (filter_map (opened_by ns) es) ≤ k → list_all (has_numbers n k) es ≡ true) → list_all (has_numbers n k) (e ∷ es) ≡ true
     by (entry.HandedOut j a t) w g p rec = both_true (nat_lt j n) (list_all (has_numbers n k) es) w (rec m g p)
@@ -41,27 +36,24 @@ numbers-below n ns (e ∷ es) m k h l =
     by (entry.Bounced j) w g p rec = both_true (nat_lt j n) (list_all (has_numbers n k) es) w (rec m g p)
     by (entry.Closed i s q c) w g p rec = both_true (nat_lt i k) (list_all (has_numbers n k) es) (up i w p) (rec m g p)
     by (entry.Passed i s q) w g p rec = both_true (nat_lt i k) (list_all (has_numbers n k) es) (up i w p) (rec m g p)
-    by (entry.Opened j i) w g p rec = both_true (nat_lt j n) (list_all (has_numbers n k) es) w (rec (suc m) g (next m (length (filter_map (opened_by ns) es)) k p))
+    by (entry.Opened j i) w g p rec = both_true (nat_lt j n) (list_all (has_numbers n k) es) w (rec (suc m) g (omega (arith, p)))
     by (entry.Ended i) w g p rec = both_true (nat_lt i k) (list_all (has_numbers n k) es) (up i w p) (rec m g p)
     by (entry.Recalled c) w g p rec = rec m g p
 
 numbered : (gives : Giving) (r : Run) → IsLegalRun gives r → list_all (has_numbers (length r.names) (length (instances_of r.names r.entries))) r.entries ≡ true
-numbered gives r l = numbers-below (length r.names) r.names r.entries 1 (length (instances_of r.names r.entries)) l.numbers (by (length (filter_map (opened_by r.names) r.entries)))
-  where
-    by : (n : ℕ) → 1 + n ≤ suc n
-    by n = omega arith
+numbered gives r l = numbers-below (length r.names) r.names r.entries 1 (length (instances_of r.names r.entries)) l.numbers (omega arith)
 
 -- ---- names
 
 module _ (d : Document) (ns more is js : List JobName) where
   one-named : (e : Entry) → has_numbers (length ns) (length is) e ≡ true → with_names d (ns ++ more) (is ++ js) e ≡ with_names d ns is e
-  one-named (entry.HandedOut k a t) w = ap (λ n. history.handed_out n a t) (name-kept ns more k w)
-  one-named (entry.Accepted k a t r) w = ap (λ n. history.accepted n a t r) (name-kept ns more k w)
-  one-named (entry.Bounced k) w = ap (λ n. history.bounced n) (name-kept ns more k w)
-  one-named (entry.Closed i s q c) w = ap (λ n. history.closed (spot n (step_name d n s) q) c) (name-kept is js i w)
-  one-named (entry.Passed i s q) w = ap (λ n. history.fault_passed (spot n (step_name d n s) q)) (name-kept is js i w)
-  one-named (entry.Opened k i) w = ap (λ n. history.opened n) (name-kept ns more k w)
-  one-named (entry.Ended i) w = ap (λ n. history.ended n) (name-kept is js i w)
+  one-named (entry.HandedOut k a t) w = ap (λ n. history.handed_out n a t) (name-more ns more k w)
+  one-named (entry.Accepted k a t r) w = ap (λ n. history.accepted n a t r) (name-more ns more k w)
+  one-named (entry.Bounced k) w = ap (λ n. history.bounced n) (name-more ns more k w)
+  one-named (entry.Closed i s q c) w = ap (λ n. history.closed (spot n (step_name d n s) q) c) (name-more is js i w)
+  one-named (entry.Passed i s q) w = ap (λ n. history.fault_passed (spot n (step_name d n s) q)) (name-more is js i w)
+  one-named (entry.Opened k i) w = ap (λ n. history.opened n) (name-more ns more k w)
+  one-named (entry.Ended i) w = ap (λ n. history.ended n) (name-more is js i w)
   one-named (entry.Recalled c) w = refl
 
   all-named : (es : List Entry) → list_all (has_numbers (length ns) (length is)) es ≡ true → map (with_names d (ns ++ more) (is ++ js)) es ≡ map (with_names d ns is) es
@@ -78,14 +70,8 @@ opened-kept ns more m [] h = refl
 opened-kept ns more m (e ∷ es) h = by e (left_true (has_numbers (length ns) m e) (list_all (has_numbers (length ns) m) es) h) (opened-kept ns more m es (right_true (has_numbers (length ns) m e) (list_all (has_numbers (length ns) m) es) h))
   where
     by : (e : Entry) → has_numbers (length ns) m e ≡ true → filter_map (opened_by (ns ++ more)) es ≡ filter_map (opened_by ns) es → filter_map (opened_by (ns ++ more)) (e ∷ es) ≡ filter_map (opened_by ns) (e ∷ es)
-    by (entry.HandedOut k a t) w p = p
-    by (entry.Accepted k a t r) w p = p
-    by (entry.Bounced k) w p = p
-    by (entry.Closed i s q c) w p = p
-    by (entry.Passed i s q) w p = p
-    by (entry.Opened k i) w p = λ x. name-kept ns more k w x ∷ p x
-    by (entry.Ended i) w p = p
-    by (entry.Recalled c) w p = p
+    by (entry.Opened k i) w p = λ x. name-more ns more k w x ∷ p x
+    by e w p = p
 
 -- ---- one entry more
 

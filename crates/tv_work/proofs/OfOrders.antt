@@ -12,16 +12,17 @@ use Rattle.tv_gate.specs.Outcomes.{Giving}
 use Rattle.tv_dispatch.specs.Jobs.{Ask}
 use Rattle.tv_flow.specs.Flows.{Document}
 use Rattle.tv_flow.specs.Formed.{is_formed}
-use Rattle.tv_model.specs.Asked.{asks_of}
+use Rattle.tv_model.specs.Turns.{asks_of}
 use Rattle.tv_model.specs.Jobs.{Job}
 use Rattle.tv_model.specs.Lists.{rest_of}
 use Rattle.tv_model.specs.Made.{Meaning}
 use Rattle.tv_model.specs.Meanings.{meaning}
 use Rattle.tv_model.specs.Members.{In}
-use Rattle.tv_model.proofs.Members.{of-flat}
+use Rattle.tv_model.proofs.Members.{of-flat, any-in}
 use Rattle.tv_model.proofs.Order.{in-append, of-map}
 use Rattle.tv_model.proofs.Ordered.{flow-ordered}
 use Rattle.tv_model.proofs.Tests.{both_true, same_job_decides, true≠false}
+use Rattle.tv_model.specs.Turns.{ask_order}
 use Rattle.tv_history.specs.Alone.{IsFirstPart, is_by_one}
 use Rattle.tv_history.specs.Entries as history
 use Rattle.tv_history.specs.Entries.{History, is_out}
@@ -29,7 +30,6 @@ use Rattle.tv_history.specs.Histories.{is_ask, is_at, is_done, is_legal, is_lega
 use Rattle.tv_history.specs.Tries.{NamedTry, all_tries, ask_try}
 use Rattle.tv_history.proofs.InOrder.{done-in_order, in-order}
 use Rattle.tv_history.proofs.Running.{AreJobs}
-use Rattle.tv_history.proofs.Stuck.{any-in}
 use Rattle.tv_outcomes.proofs.Read.{documents-have_activities}
 use Rattle.tv_board.specs.Answers.{Question}
 use Rattle.tv_board.specs.Calls.{IsTask}
@@ -42,7 +42,7 @@ use Rattle.tv_work.proofs.OfAnswers.{IsTryOf, same-call, try-of}
 use Rattle.tv_work.proofs.OfEnds.{well-formed}
 use Rattle.tv_work.proofs.OfRuns.{jobs-of}
 use Rattle.tv_work.proofs.OfStarts.{IsQuiet, quiet-start}
-use Rattle.tv_work.proofs.OfTries.{AllHaveTries, flow-tried}
+use Rattle.tv_work.proofs.OfTries.{AllHaveTries, all-have_tries}
 
 -- ---- lists
 
@@ -71,10 +71,7 @@ same-of_map {B = B} f P one (x ∷ xs) (y ∷ ys) p q e =
 in-contains : {A : Type 0} (x : A) (xs : List A) → In x xs → Contains xs x
 in-contains x [] i = absurd i
 in-contains x (y ∷ ys) (inl e) = (0, omega arith, sym e)
-in-contains x (y ∷ ys) (inr i) = let k = in-contains x ys i in (suc k.0, by k.0 (length ys) k.1, k.2)
-  where
-    by : (m n : ℕ) → m < n → suc m < suc n
-    by m n l = omega arith
+in-contains x (y ∷ ys) (inr i) = let k = in-contains x ys i in (suc k.0, (omega (arith, k.1)), k.2)
 
 contains-in : {A : Type 0} (x : A) (xs : List A) → Contains xs x → In x xs
 contains-in x xs c = at x xs c.0 c.1 c.2
@@ -126,27 +123,27 @@ module _ (gives : Giving) (m : Meaning) (are : AreJobs gives m) (own : AllHaveTr
 
 module _ (gives : Giving) (d : Document) (formed : is_formed d ≡ true) where
   pub own-tries : AllHaveTries (meaning gives d).jobs
-  own-tries = flow-tried gives d.flows (documents-have_activities d formed).activities 8 d.main [] d.inputs
+  own-tries = all-have_tries gives d (documents-have_activities d formed)
 
-  pub order-asks : AreAsksOf (meaning gives d).jobs (meaning gives d).order
+  pub order-asks : AreAsksOf (meaning gives d).jobs (ask_order (meaning gives d))
   order-asks p i =
-      let j = of-flat asks_of p (meaning gives d).jobs (contains-in p (flat_map asks_of (meaning gives d).jobs) (Contains-permutation (meaning gives d).order (flat_map asks_of (meaning gives d).jobs) p (flow-ordered gives d.flows 8 d.main [] d.inputs) (in-contains p (meaning gives d).order i))) in
+      let j = of-flat asks_of p (meaning gives d).jobs (contains-in p (flat_map asks_of (meaning gives d).jobs) (Contains-permutation (ask_order (meaning gives d)) (flat_map asks_of (meaning gives d).jobs) p (flow-ordered gives d.flows 8 d.main [] d.inputs) (in-contains p (ask_order (meaning gives d)) i))) in
       let a = of-map (λ a. (j.0.name, a)) p j.0.asks j.2 in
       (j.0, j.1, ap (λ k. k.0) a.2, subst (λ z. In z j.0.asks) (sym (ap (λ k. k.1) a.2)) a.1)
 
-  pub all-tries_in_order : (past : History) → is_legal gives (meaning gives d) past ≡ true → is_by_one gives (meaning gives d) past ≡ true → is_done gives (meaning gives d) past ≡ true → all_tries past ≡ map (ask_try gives) (meaning gives d).order
+  pub all-tries_in_order : (past : History) → is_legal gives (meaning gives d) past ≡ true → is_by_one (meaning gives d) past ≡ true → is_done past ≡ true → all_tries past ≡ map (ask_try gives) (ask_order (meaning gives d))
   all-tries_in_order past l b h = done-in_order gives d.flows (well-formed d formed).places 8 d.main d.inputs (λ j i k n. (own-tries j i).some k n) past l b h
 
-  all-in_order : (past : History) → is_legal gives (meaning gives d) past ≡ true → is_by_one gives (meaning gives d) past ≡ true → is_done gives (meaning gives d) past ≡ true → (asks : List (JobName × Ask)) → all_tries past ≡ map (ask_try gives) asks → AreAsksOf (meaning gives d).jobs asks → asks ≡ (meaning gives d).order
-  all-in_order past l b h asks e of = same-asks gives (meaning gives d) (jobs-of gives d) own-tries asks (meaning gives d).order of order-asks (sym e ∙ all-tries_in_order past l b h)
+  all-in_order : (past : History) → is_legal gives (meaning gives d) past ≡ true → is_by_one (meaning gives d) past ≡ true → is_done past ≡ true → (asks : List (JobName × Ask)) → all_tries past ≡ map (ask_try gives) asks → AreAsksOf (meaning gives d).jobs asks → asks ≡ (ask_order (meaning gives d))
+  all-in_order past l b h asks e of = same-asks gives (meaning gives d) (jobs-of gives d) own-tries asks (ask_order (meaning gives d)) of order-asks (sym e ∙ all-tries_in_order past l b h)
 
-  pub tries-in_order : (past : History) → is_legal gives (meaning gives d) past ≡ true → is_by_one gives (meaning gives d) past ≡ true → IsFirstPart (all_tries past) (map (ask_try gives) (meaning gives d).order)
+  pub tries-in_order : (past : History) → is_legal gives (meaning gives d) past ≡ true → is_by_one (meaning gives d) past ≡ true → IsFirstPart (all_tries past) (map (ask_try gives) (ask_order (meaning gives d)))
   tries-in_order past l b = in-order gives d.flows (well-formed d formed).places 8 d.main d.inputs (λ j i k n. (own-tries j i).some k n) past l b
 
-  first-in_order : (past : History) → is_legal gives (meaning gives d) past ≡ true → is_by_one gives (meaning gives d) past ≡ true → (asks : List (JobName × Ask)) → all_tries past ≡ map (ask_try gives) asks → AreAsksOf (meaning gives d).jobs asks → IsFirstPart asks (meaning gives d).order
+  first-in_order : (past : History) → is_legal gives (meaning gives d) past ≡ true → is_by_one (meaning gives d) past ≡ true → (asks : List (JobName × Ask)) → all_tries past ≡ map (ask_try gives) asks → AreAsksOf (meaning gives d).jobs asks → IsFirstPart asks (ask_order (meaning gives d))
   first-in_order past l b asks e of =
-      first-asks gives (meaning gives d) (jobs-of gives d) own-tries asks (meaning gives d).order of order-asks
-      (subst (λ ts. IsFirstPart ts (map (ask_try gives) (meaning gives d).order)) e (tries-in_order past l b))
+      first-asks gives (meaning gives d) (jobs-of gives d) own-tries asks (ask_order (meaning gives d)) of order-asks
+      (subst (λ ts. IsFirstPart ts (map (ask_try gives) (ask_order (meaning gives d)))) e (tries-in_order past l b))
 
 -- ---- a try that is out
 
@@ -156,28 +153,28 @@ module _ (gives : Giving) (s : Run) (q : Question) (task : IsTask gives s q) whe
 
   -- its outcome may be accepted next
   abbrev its-acceptance : history.Entry
-  its-acceptance = history.accepted its.job.name task.asked.activity task.asked.attempt (is_right gives (meant gives s) task.asked)
+  its-acceptance = history.accepted its.job.name task.asked.activity task.asked.attempt (is_right gives task.asked)
 
-  its-own : (is_ask gives (meant gives s) task.asked.activity task.asked.attempt task.asked && same_bool gives (meant gives s) (is_right gives (meant gives s) task.asked) (is_right gives (meant gives s) task.asked)) ≡ true
-  its-own = both_true (is_ask gives (meant gives s) task.asked.activity task.asked.attempt task.asked) (same_bool gives (meant gives s) (is_right gives (meant gives s) task.asked) (is_right gives (meant gives s) task.asked)) (both_true (task.asked.activity == task.asked.activity) (task.asked.attempt == task.asked.attempt) (eq-eqb task.asked.activity task.asked.activity refl) (eq-eqb task.asked.attempt task.asked.attempt refl)) (same (is_right gives (meant gives s) task.asked))
+  its-own : (is_ask task.asked.activity task.asked.attempt task.asked && same_bool (is_right gives task.asked) (is_right gives task.asked)) ≡ true
+  its-own = both_true (is_ask task.asked.activity task.asked.attempt task.asked) (same_bool (is_right gives task.asked) (is_right gives task.asked)) (both_true (task.asked.activity == task.asked.activity) (task.asked.attempt == task.asked.attempt) (eq-eqb task.asked.activity task.asked.activity refl) (eq-eqb task.asked.attempt task.asked.attempt refl)) (same (is_right gives task.asked))
     where
-      same : (b : Bool) → same_bool gives (meant gives s) b b ≡ true
+      same : (b : Bool) → same_bool b b ≡ true
       same true = refl
       same false = refl
 
   acceptance-legal : is_legal_after gives (meant gives s) (past_of s) its-acceptance ≡ true
   acceptance-legal =
-      let is_it = λ (k : Ask). is_ask gives (meant gives s) task.asked.activity task.asked.attempt k && same_bool gives (meant gives s) (is_right gives (meant gives s) task.asked) (is_right gives (meant gives s) k) in
-      let its_job = λ (j : Job). is_at gives (meant gives s) j its.job.name && option_map_or is_it (next_ask gives (meant gives s) (past_of s) j) false in
+      let is_it = λ (k : Ask). is_ask task.asked.activity task.asked.attempt k && same_bool (is_right gives task.asked) (is_right gives k) in
+      let its_job = λ (j : Job). is_at j its.job.name && option_map_or is_it (next_ask (past_of s) j) false in
       both_true (is_out (past_of s) its.job.name) (list_any its_job (meant gives s).jobs) its.out
-      (any-in its_job its.job (meant gives s).jobs its.among (both_true (is_at gives (meant gives s) its.job its.job.name) (option_map_or is_it (next_ask gives (meant gives s) (past_of s) its.job) false) ((same_job_decides its.job.name its.job.name).1 refl) (subst (λ o. option_map_or is_it o false ≡ true) (sym its.next) its-own)))
+      (any-in its_job its.job (meant gives s).jobs its.among (both_true (is_at its.job its.job.name) (option_map_or is_it (next_ask (past_of s) its.job) false) ((same_job_decides its.job.name its.job.name).1 refl) (subst (λ o. option_map_or is_it o false ≡ true) (sym its.next) its-own)))
 
   -- so with it the asks are in order
-  with-next : is_formed s.document ≡ true → IsLegalRun gives s → IsByOne gives s → (asks : List (JobName × Ask)) → accepted_tries s ≡ map (ask_try gives) asks → AreAsksOf (meant gives s).jobs asks → IsFirstPart (asks ++ (its.job.name, task.asked) ∷ []) (meant gives s).order
+  with-next : is_formed s.document ≡ true → IsLegalRun gives s → IsByOne gives s → (asks : List (JobName × Ask)) → accepted_tries s ≡ map (ask_try gives) asks → AreAsksOf (meant gives s).jobs asks → IsFirstPart (asks ++ (its.job.name, task.asked) ∷ []) (ask_order (meant gives s))
   with-next formed l b asks e of =
       first-in_order gives s.document formed (its-acceptance ∷ past_of s)
       (both_true (is_legal gives (meant gives s) (past_of s)) (is_legal_after gives (meant gives s) (past_of s) its-acceptance) l.legal acceptance-legal)
-      (both_true (is_by_one gives (meant gives s) (past_of s)) true b refl)
+      (both_true (is_by_one (meant gives s) (past_of s)) true b refl)
       (asks ++ (its.job.name, task.asked) ∷ [])
       (ap (λ ts. ts ++ ask_try gives (its.job.name, task.asked) ∷ []) e ∙ sym (map-append (ask_try gives) asks ((its.job.name, task.asked) ∷ [])))
       (λ p i. by p (in-append p asks ((its.job.name, task.asked) ∷ []) i))
@@ -191,10 +188,10 @@ module _ (gives : Giving) (s : Run) (q : Question) (task : IsTask gives s q) whe
 
 -- no call is a beginning, and so is the whole
 pub asks-no_call : (gives : Giving) (d : Document) (x : Option (List Call)) → AsksABeginning gives d x x
-asks-no_call gives d x calls b = ([], b ∙ ap Some (sym (append-nil calls)), (map call_of (meaning gives d).order, refl))
+asks-no_call gives d x calls b = ([], b ∙ ap Some (sym (append-nil calls)), (map call_of (ask_order (meaning gives d)), refl))
 
 pub begins-whole : (gives : Giving) (d : Document) (x y : Option (List Call)) → AsksInOrder gives d x y → AsksABeginning gives d x y
-begins-whole gives d x y h calls b = (map call_of (meaning gives d).order, h calls b, ([], sym (append-nil (map call_of (meaning gives d).order))))
+begins-whole gives d x y h calls b = (map call_of (ask_order (meaning gives d)), h calls b, ([], sym (append-nil (map call_of (ask_order (meaning gives d))))))
 
 -- ---- from a board that has only settled things
 
@@ -210,7 +207,7 @@ module _ (gives : Giving) (r s : Run) (from : IsFrom gives r s) where
   pub formed-now : is_formed s.document ≡ true
   formed-now = subst (λ d. is_formed d ≡ true) (sym from.document) from.formed
 
-  start : IsQuiet gives (meant gives r) (past_of r)
+  start : IsQuiet (meant gives r) (past_of r)
   start = quiet-start gives r from.settled
 
   pub one-now : IsByOne gives s
@@ -228,16 +225,16 @@ module _ (gives : Giving) (r s : Run) (from : IsFrom gives r s) where
       let k = h calls b in
       k.1
       ∙ ap (λ asks. Some (calls ++ map call_of asks)) (all-in_order gives s.document formed-now (past_of s) from.legal.legal one-now w.done k.0 (since k.0 k.2) (of-now k.0 k.3))
-      ∙ ap (λ d. Some (calls ++ map call_of (meaning gives d).order)) from.document
+      ∙ ap (λ d. Some (calls ++ map call_of (ask_order (meaning gives d)))) from.document
 
   -- these asks are a beginning, so their calls are one
-  begun : (y : Option (List Call)) (calls : List Call) (asks : List (JobName × Ask)) → y ≡ Some (calls ++ map call_of asks) → IsFirstPart asks (meant gives s).order → (asked : List Call) × (y ≡ Some (calls ++ asked)) × IsFirstPart asked (map call_of (meaning gives r.document).order)
-  begun y calls asks e h = (map call_of asks, e, subst (λ d. IsFirstPart (map call_of asks) (map call_of (meaning gives d).order)) from.document (first-mapped call_of asks (meant gives s).order h))
+  begun : (y : Option (List Call)) (calls : List Call) (asks : List (JobName × Ask)) → y ≡ Some (calls ++ map call_of asks) → IsFirstPart asks (ask_order (meant gives s)) → (asked : List Call) × (y ≡ Some (calls ++ asked)) × IsFirstPart asked (map call_of (ask_order (meaning gives r.document)))
+  begun y calls asks e h = (map call_of asks, e, subst (λ d. IsFirstPart (map call_of asks) (map call_of (ask_order (meaning gives d)))) from.document (first-mapped call_of asks (ask_order (meant gives s)) h))
 
   pub asks-beginning : (x y : Option (List Call)) → AsksAtMostOneMore gives x y r s → AsksABeginning gives r.document x y
   asks-beginning x y h calls b = let k = h.1 calls b in by k.0 k.1 (since k.0 k.2) (of-now k.0 k.3) h.2
     where
-      by : (asks : List (JobName × Ask)) → h.0 ≡ Some (calls ++ map call_of asks) → accepted_tries s ≡ map (ask_try gives) asks → AreAsksOf (meant gives s).jobs asks → IsSameCalls h.0 y ⊎ ((q : Question) × IsTask gives s q × IsCalled h.0 y (call_for q)) → (asked : List Call) × (y ≡ Some (calls ++ asked)) × IsFirstPart asked (map call_of (meaning gives r.document).order)
+      by : (asks : List (JobName × Ask)) → h.0 ≡ Some (calls ++ map call_of asks) → accepted_tries s ≡ map (ask_try gives) asks → AreAsksOf (meant gives s).jobs asks → IsSameCalls h.0 y ⊎ ((q : Question) × IsTask gives s q × IsCalled h.0 y (call_for q)) → (asked : List Call) × (y ≡ Some (calls ++ asked)) × IsFirstPart asked (map call_of (ask_order (meaning gives r.document)))
       by asks e tries of (inl same) = begun y calls asks (same (calls ++ map call_of asks) e) (first-in_order gives s.document formed-now (past_of s) from.legal.legal one-now asks tries of)
       by asks e tries of (inr lost) =
           let its = try-of gives s lost.0 lost.1 in

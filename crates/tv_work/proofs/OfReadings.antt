@@ -10,6 +10,7 @@ use Rattle.tv_model.specs.Jobs.{Job}
 use Rattle.tv_model.specs.Made.{Meaning}
 use Rattle.tv_model.specs.Members.{In}
 use Rattle.tv_model.proofs.Tests.{both_true, left_true, right_true, same_job_decides}
+use Rattle.tv_model.specs.Turns.{ask_order}
 use Rattle.tv_history.specs.Alone.{IsFirstPart}
 use Rattle.tv_history.specs.Tries.{ask_try}
 use Rattle.tv_history.proofs.Running.{AreJobs}
@@ -45,8 +46,8 @@ module _ (gives : Giving) (m : Meaning) (are : AreJobs gives m) (own : AllHaveTr
   reads-all (p ∷ ps) of = λ i. reads-one p (of p (inl refl)) i ∷ reads-all ps (λ q h. of q (inr h)) i
 
 module _ (gives : Giving) (r s : Run) (from : IsFrom gives r s) where
-  reads-order : map (ask_of_try (meant gives s)) (map (ask_try gives) (meant gives s).order) ≡ map Some (meant gives s).order
-  reads-order = reads-all gives (meant gives s) (jobs-of gives s.document) (own-tries gives s.document (formed-now gives r s from)) (meant gives s).order (order-asks gives s.document (formed-now gives r s from))
+  reads-order : map (ask_of_try (meant gives s)) (map (ask_try gives) (ask_order (meant gives s))) ≡ map Some (ask_order (meant gives s))
+  reads-order = reads-all gives (meant gives s) (jobs-of gives s.document) (own-tries gives s.document (formed-now gives r s from)) (ask_order (meant gives s)) (order-asks gives s.document (formed-now gives r s from))
 
   pub accepts-in_order : IsWorkedOff gives s → AcceptsInOrder gives s
   accepts-in_order w = ap (map (ask_of_try (meant gives s))) (all-tries_in_order gives s.document (formed-now gives r s from) (past_of s) from.legal.legal (one-now gives r s from) w.done) ∙ reads-order
@@ -54,4 +55,4 @@ module _ (gives : Giving) (r s : Run) (from : IsFrom gives r s) where
   pub accepts-beginning : AcceptsABeginning gives s
   accepts-beginning =
       subst (IsFirstPart (map (ask_of_try (meant gives s)) (accepted_tries s))) reads-order
-      (first-mapped (ask_of_try (meant gives s)) (accepted_tries s) (map (ask_try gives) (meant gives s).order) (tries-in_order gives s.document (formed-now gives r s from) (past_of s) from.legal.legal (one-now gives r s from)))
+      (first-mapped (ask_of_try (meant gives s)) (accepted_tries s) (map (ask_try gives) (ask_order (meant gives s))) (tries-in_order gives s.document (formed-now gives r s from) (past_of s) from.legal.legal (one-now gives r s from)))

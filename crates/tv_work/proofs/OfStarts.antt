@@ -28,30 +28,27 @@ all-reverse p (x ∷ xs) h =
     ∙ list_all-append p (reverse xs) (x ∷ [])
     ∙ both_true (list_all p (reverse xs)) (p x && true) (all-reverse p xs (right_true (p x) (list_all p xs) h)) (both_true (p x) true (left_true (p x) (list_all p xs) h) refl)
 
-pub record IsQuiet (gives : Giving) (m : Meaning) (past : History) : Type 0 where
+pub record IsQuiet (m : Meaning) (past : History) : Type 0 where
   pub none_out : (n : JobName) → is_out past n ≡ false
   pub none_accepted : all_tries past ≡ []
-  pub by_one : is_by_one gives m past ≡ true
+  pub by_one : is_by_one m past ≡ true
 
-module _ (gives : Giving) (m : Meaning) (d : Document) (ns is : List JobName) where
-  one-quiet : (past : History) (e : Entry) → settles e ≡ true → IsQuiet gives m past → IsQuiet gives m (with_names d ns is e ∷ past)
+module _ (m : Meaning) (d : Document) (ns is : List JobName) where
+  one-quiet : (past : History) (e : Entry) → settles e ≡ true → IsQuiet m past → IsQuiet m (with_names d ns is e ∷ past)
   one-quiet past (entry.HandedOut k a t) h q = absurd (true≠false (sym h))
   one-quiet past (entry.Accepted k a t b) h q = absurd (true≠false (sym h))
-  one-quiet past (entry.Bounced k) h q = record { none_out = q.none_out; none_accepted = ap (λ ts. ts ++ []) q.none_accepted; by_one = both_true (is_by_one gives m past) true q.by_one refl }
-  one-quiet past (entry.Closed i s p c) h q = record { none_out = q.none_out; none_accepted = ap (λ ts. ts ++ []) q.none_accepted; by_one = both_true (is_by_one gives m past) true q.by_one refl }
-  one-quiet past (entry.Passed i s p) h q = record { none_out = q.none_out; none_accepted = ap (λ ts. ts ++ []) q.none_accepted; by_one = both_true (is_by_one gives m past) true q.by_one refl }
   one-quiet past (entry.Opened k i) h q = record {
     none_out = q.none_out;
     none_accepted = ap (λ ts. ts ++ []) q.none_accepted;
-    by_one = both_true (is_by_one gives m past) (list_all (λ (j : Job). not (is_out past j.name)) m.jobs) q.by_one (all-fail (λ (j : Job). is_out past j.name) m.jobs (λ j i. q.none_out j.name));
+    by_one = both_true (is_by_one m past) (list_all (λ (j : Job). not (is_out past j.name)) m.jobs) q.by_one (all-fail (λ (j : Job). is_out past j.name) m.jobs (λ j i. q.none_out j.name));
   }
-  one-quiet past (entry.Ended i) h q = record { none_out = q.none_out; none_accepted = ap (λ ts. ts ++ []) q.none_accepted; by_one = both_true (is_by_one gives m past) true q.by_one refl }
   one-quiet past (entry.Recalled c) h q = absurd (true≠false (sym h))
+  one-quiet past e h q = record { none_out = q.none_out; none_accepted = ap (λ ts. ts ++ []) q.none_accepted; by_one = both_true (is_by_one m past) true q.by_one refl }
 
-  all-quiet : (es : List Entry) → list_all settles es ≡ true → IsQuiet gives m (map (with_names d ns is) es)
+  all-quiet : (es : List Entry) → list_all settles es ≡ true → IsQuiet m (map (with_names d ns is) es)
   all-quiet [] h = record { none_out = λ n. refl; none_accepted = refl; by_one = refl }
   all-quiet (e ∷ es) h = one-quiet (map (with_names d ns is) es) e (left_true (settles e) (list_all settles es) h) (all-quiet es (right_true (settles e) (list_all settles es) h))
 
-pub quiet-start : (gives : Giving) (r : Run) → HasOnlySettled r → IsQuiet gives (meant gives r) (past_of r)
+pub quiet-start : (gives : Giving) (r : Run) → HasOnlySettled r → IsQuiet (meant gives r) (past_of r)
 quiet-start gives r h =
-    subst (IsQuiet gives (meant gives r)) (sym (past-mapped r)) (all-quiet gives (meant gives r) r.document r.names (instances_of r.names r.entries) (reverse r.entries) (all-reverse settles r.entries h))
+    subst (IsQuiet (meant gives r)) (sym (past-mapped r)) (all-quiet (meant gives r) r.document r.names (instances_of r.names r.entries) (reverse r.entries) (all-reverse settles r.entries h))

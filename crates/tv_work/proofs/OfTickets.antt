@@ -3,6 +3,7 @@ use Rattle.std.specs.Option.{option_map_or}
 use Rattle.std.specs.Prelude.{Bool, List, None, Option, Some, [], cond, count_by, false, find, if◌then◌else◌, is_some, length, option_and_then, refl, slice_get, suc, true, unwrap_or, zero, ℕ, ◌&&◌, ◌+◌, ◌<◌, ◌∷◌, ◌≡◌, ◌≤◌}
 use Rattle.std.proofs.Common.{ap, arith, inl, inr, subst, sym, ◌∙◌}
 use Rattle.std.proofs.lemmas.Bool.{lt-ltb}
+use Rattle.tv_board.proofs.OfDeclared.{and-some}
 use Rattle.tv_value.specs.Orders.{same_job}
 use Rattle.tv_value.specs.Values.{JobName, Name}
 use Rattle.tv_gate.specs.Outcomes.{Giving}
@@ -14,16 +15,17 @@ use Rattle.tv_model.proofs.Tests.{both_true, left_true, right_true, same_job_dec
 use Rattle.tv_history.specs.Entries as history
 use Rattle.tv_history.specs.Entries.{History, is_out}
 use Rattle.tv_history.specs.Histories.{is_ask, is_at, is_legal, is_legal_after, is_offered, next_ask}
-use Rattle.tv_history.specs.Tallies.{bit, tally, total}
-use Rattle.tv_history.proofs.Counts.{once-counted, total-same}
-use Rattle.tv_history.proofs.Running.{found_in}
+use Rattle.tv_history.proofs.Counts.{count-total, nothing-counted, once-counted, total-same, bit, uncounted}
+use Rattle.tv_history.proofs.Tests.{found_in}
+use Rattle.tv_history.proofs.Ready.{document-whole}
 use Rattle.tv_state.specs.EventViews.{name_at}
 use Rattle.tv_board.specs.Calls.{hands_out, job_of, out_count, try_if_out, try_out}
 use Rattle.tv_board.specs.Refusals.{accepts}
 use Rattle.tv_board.specs.Runs.{Appends, IsLegalRun, Run, meant, past_of}
 use Rattle.tv_board.specs.declared.ticket.Ticket.{Ticket}
+use Rattle.tv_board.proofs.OfPasts.{name-more}
 use Rattle.tv_work.specs.Working.{IsOnlyOut}
-use Rattle.tv_work.proofs.OfRuns.{before, jobs-of, name-kept, newest, no-passes, none-pass, out-after, tally-counts, whole-meaning}
+use Rattle.tv_work.proofs.OfRuns.{before, jobs-of, newest, out-after}
 
 -- ---- what is found
 
@@ -53,14 +55,6 @@ some-try : (b : Bool) (f : Ask → Bool) (o : Option Ask) → b ≡ true → opt
 some-try b f None e h = absurd (true≠false (sym h))
 some-try b f (Some a) e h = ap (λ c. is_some (if c then Some a else None)) (both_true b (f a) e h)
 
-some-first : {A B : Type 0} (f : A → Option B) (o : Option A) → is_some (option_and_then f o) ≡ true → is_some o ≡ true
-some-first f None h = h
-some-first f (Some x) h = refl
-
-total-tally : {A : Type 0} (p : A → Bool) (xs : List A) → total (λ x. bit (p x)) xs ≡ tally p xs
-total-tally p [] = refl
-total-tally p (x ∷ xs) = ap (λ n. bit (p x) + n) (total-tally p xs)
-
 -- ---- the try
 
 module _ (gives : Giving) (r s : Run) (t : Ticket) (l : IsLegalRun gives s) (a : Appends r s (hands_out t)) where
@@ -72,11 +66,11 @@ module _ (gives : Giving) (r s : Run) (t : Ticket) (l : IsLegalRun gives s) (a :
   handed = right_true (is_legal gives (meant gives s) older) _ (subst (λ p. is_legal gives (meant gives s) p ≡ true) (newest r s (hands_out t) a) l.legal)
 
   -- so a job has the name, and this try is its next
-  its-job : (j : Job) × In j (meant gives s).jobs × (is_offered gives (meant gives s) older j ≡ true) × ((is_at gives (meant gives s) j (name_at s.names t.job) && option_map_or (is_ask gives (meant gives s) t.activity t.attempt) (next_ask gives (meant gives s) older j) false) ≡ true)
-  its-job = found_in (λ j. is_at gives (meant gives s) j (name_at s.names t.job) && option_map_or (is_ask gives (meant gives s) t.activity t.attempt) (next_ask gives (meant gives s) older j) false) (is_offered gives (meant gives s) older) (meant gives s).jobs handed
+  its-job : (j : Job) × In j (meant gives s).jobs × (is_offered (meant gives s) older j ≡ true) × ((is_at j (name_at s.names t.job) && option_map_or (is_ask t.activity t.attempt) (next_ask older j) false) ≡ true)
+  its-job = found_in (λ j. is_at j (name_at s.names t.job) && option_map_or (is_ask t.activity t.attempt) (next_ask older j) false) (is_offered (meant gives s) older) (meant gives s).jobs handed
 
   its-name : name_at s.names t.job ≡ its-job.0.name
-  its-name = (same_job_decides (name_at s.names t.job) its-job.0.name).0 (left_true (is_at gives (meant gives s) its-job.0 (name_at s.names t.job)) _ its-job.3)
+  its-name = (same_job_decides (name_at s.names t.job) its-job.0.name).0 (left_true (is_at its-job.0 (name_at s.names t.job)) _ its-job.3)
 
   found-job : job_of gives s t.job ≡ Some its-job.0
   found-job =
@@ -89,17 +83,17 @@ module _ (gives : Giving) (r s : Run) (t : Ticket) (l : IsLegalRun gives s) (a :
   try-out : is_some (try_if_out gives s t) ≡ true
   try-out =
       let j = its-job.0 in
-      subst (λ o. is_some (option_and_then (try_out gives (meant gives s) (past_of s) t.activity t.attempt) o) ≡ true) (sym found-job)
-      (subst (λ p. is_some (try_out gives (meant gives s) p t.activity t.attempt j) ≡ true) (sym (newest r s (hands_out t) a))
-      (some-try (is_out (history.handed_out (name_at s.names t.job) t.activity t.attempt ∷ older) j.name) (is_ask gives (meant gives s) t.activity t.attempt) (next_ask gives (meant gives s) older j)
+      subst (λ o. is_some (option_and_then (try_out (meant gives s) (past_of s) t.activity t.attempt) o) ≡ true) (sym found-job)
+      (subst (λ p. is_some (try_out (meant gives s) p t.activity t.attempt j) ≡ true) (sym (newest r s (hands_out t) a))
+      (some-try (is_out (history.handed_out (name_at s.names t.job) t.activity t.attempt ∷ older) j.name) (is_ask t.activity t.attempt) (next_ask older j)
       (ap (λ b. if b then true else is_out older j.name) ((same_job_decides j.name (name_at s.names t.job)).1 (sym its-name)))
-      (right_true (is_at gives (meant gives s) j (name_at s.names t.job)) _ its-job.3)))
+      (right_true (is_at j (name_at s.names t.job)) _ its-job.3)))
 
   module _ (was : IsLegalRun gives r) (none : out_count gives r ≡ 0) where
     none-out : (j : Job) → In j (meant gives s).jobs → is_out (past_of r) j.name ≡ false
     none-out j i =
-        none-pass (λ (k : Job). is_out (past_of r) k.name) (meant gives s).jobs
-        (tally-counts (λ (k : Job). is_out (past_of r) k.name) (meant gives s).jobs ∙ (λ i. count_by (λ (k : Job). is_out (past_of r) k.name) (meaning gives (a.document i)).jobs) ∙ none) j i
+        uncounted (λ (k : Job). is_out (past_of r) k.name) (meant gives s).jobs
+        ((λ i. count_by (λ (k : Job). is_out (past_of r) k.name) (meaning gives (a.document i)).jobs) ∙ none) j i
 
     out-now : (j : Job) → In j (meant gives s).jobs → is_out (past_of s) j.name ≡ same_job j.name (name_at s.names t.job)
     out-now j i = out-after gives r s was (hands_out t) a j.name ∙ by (same_job j.name (name_at s.names t.job)) (is_out (past_of r) j.name) (none-out j i)
@@ -110,14 +104,12 @@ module _ (gives : Giving) (r s : Run) (t : Ticket) (l : IsLegalRun gives s) (a :
 
     few-out : out_count gives s ≤ 1
     few-out =
-        at_most (out_count gives s)
-        (sym (tally-counts (λ (k : Job). is_out (past_of s) k.name) (meant gives s).jobs)
-        ∙ sym (total-tally (λ (k : Job). is_out (past_of s) k.name) (meant gives s).jobs)
-        ∙ total-same (λ (k : Job). bit (is_out (past_of s) k.name)) (λ (k : Job). bit (same_job k.name (name_at s.names t.job))) (meant gives s).jobs (λ k i. ap bit (out-now k i))
-        ∙ once-counted (λ (k : Job). k.name) (name_at s.names t.job) (meant gives s).jobs (whole-meaning gives s.document).jobs_apart its-job.0 its-job.1 (sym its-name))
-      where
-        at_most : (n : ℕ) → n ≡ 1 → n ≤ 1
-        at_most n e = omega arith
+        omega (
+          arith,
+          count-total (λ (k : Job). is_out (past_of s) k.name) (meant gives s).jobs
+              ∙ total-same (λ (k : Job). bit (is_out (past_of s) k.name)) (λ (k : Job). bit (same_job k.name (name_at s.names t.job))) (meant gives s).jobs (λ k i. ap bit (out-now k i))
+              ∙ once-counted (λ (k : Job). k.name) (name_at s.names t.job) (meant gives s).jobs (document-whole gives s.document).jobs_apart its-job.0 its-job.1 (sym its-name),
+        )
 
     pub handed-only : IsOnlyOut gives s t
     handed-only = record {
@@ -132,7 +124,7 @@ module _ (gives : Giving) (s u : Run) (t : Ticket) (right : Bool) (l : IsLegalRu
   same-name : name_at u.names t.job ≡ name_at s.names t.job
   same-name =
       ap (λ ns. name_at ns t.job) a.names
-      ∙ name-kept s.names a.more t.job (lt-ltb t.job (length s.names) (in-range s.names t.job (some-first (λ n. find (λ (j : Job). same_job n j.name) (meant gives s).jobs) (slice_get s.names t.job) (some-first (try_out gives (meant gives s) (past_of s) t.activity t.attempt) (job_of gives s t.job) only.out))))
+      ∙ name-more s.names a.more t.job (lt-ltb t.job (length s.names) (in-range s.names t.job (and-some (λ n. find (λ (j : Job). same_job n j.name) (meant gives s).jobs) (slice_get s.names t.job) (and-some (try_out (meant gives s) (past_of s) t.activity t.attempt) (job_of gives s t.job) only.out))))
 
   now-in : (j : Job) → In j (meant gives s).jobs → is_out (past_of u) j.name ≡ false
   now-in j i =
@@ -148,5 +140,4 @@ module _ (gives : Giving) (s u : Run) (t : Ticket) (right : Bool) (l : IsLegalRu
   pub accepted-none : out_count gives u ≡ 0
   accepted-none =
       (λ i. count_by (λ (k : Job). is_out (past_of u) k.name) (meaning gives (a.document i)).jobs)
-      ∙ sym (tally-counts (λ (k : Job). is_out (past_of u) k.name) (meant gives s).jobs)
-      ∙ no-passes (λ (k : Job). is_out (past_of u) k.name) (meant gives s).jobs now-in
+      ∙ nothing-counted (λ (k : Job). is_out (past_of u) k.name) (meant gives s).jobs now-in

@@ -1,5 +1,5 @@
 -- One turn of a worker: what it settles, hands out and has accepted.
-use Rattle.std.specs.Prelude.{Bool, false, is_some, true, unwrap_or, ℕ, ◌+◌, ◌-◌, ◌<◌, ◌≡◌, ◌≤◌}
+use Rattle.std.specs.Prelude.{Bool, false, is_some, true, unwrap_or, ◌+◌, ◌-◌, ◌<◌, ◌≡◌, ◌≤◌}
 use Rattle.std.proofs.Common.{ap, arith, subst, sym, ◌∙◌}
 use Rattle.tv_gate.specs.Outcomes.{Giving, Outcome}
 use Rattle.tv_gate.specs.declared.services.Services.{Ghosts}
@@ -11,7 +11,7 @@ use Rattle.tv_history.specs.Going.{most_entries}
 use Rattle.tv_board.specs.Answers.{Question}
 use Rattle.tv_board.specs.Calls.{IsTask, IsTaskFault, out_count}
 use Rattle.tv_board.specs.Refusals.{IsAccepting, IsRefused, accepts}
-use Rattle.tv_board.specs.Runs.{Appends, IsLegalRun, Run, meant}
+use Rattle.tv_board.specs.Runs.{Appends, IsLegalRun, Run, meant, past_of}
 use Rattle.tv_board.specs.declared.accepting.Accepted.{Accepted}
 use Rattle.tv_board.specs.declared.accepting.Accepted.TheVariants as accepted
 use Rattle.tv_board.specs.declared.accepting.Refused.{Refused}
@@ -28,23 +28,17 @@ use Rattle.tv_work.proofs.OfTickets.{accepted-none}
 -- ---- the measure
 
 progress-most : (gives : Giving) (r : Run) → IsLegalRun gives r → progress r ≤ most_entries (meant gives r)
-progress-most gives r l = subst (λ n. n ≤ most_entries (meant gives r)) (progress-past r) (progress-bounded gives r.document _ l.legal)
+progress-most gives r l = subst (λ n. n ≤ most_entries (meant gives r)) (progress-past r) (progress-bounded gives r.document (past_of r) l.legal)
 
 pub less-to_go : (gives : Giving) (r s : Run) → IsLegalRun gives s → s.document ≡ r.document → progress r < progress s → most_entries (meant gives s) - progress s < most_entries (meant gives r) - progress r
-less-to_go gives r s l e p = by (most_entries (meant gives s)) (most_entries (meant gives r)) (progress r) (progress s) (ap (λ d. most_entries (meaning gives d)) e) p (progress-most gives s l)
-  where
-    by : (m n p q : ℕ) → m ≡ n → p < q → q ≤ m → m - q < n - p
-    by m n p q e f g = omega arith
+less-to_go gives r s l e p = omega (arith, ap (λ d. most_entries (meaning gives d)) e, p, progress-most gives s l)
 
 pub free-turn : (gives : Giving) (r s : Run) → IsFree gives r → GoesOn r s → IsLegalRun gives s → out_count gives s ≡ 0 → IsFree gives s
 free-turn gives r s f g l z = record { formed = subst (λ d. is_formed d ≡ true) (sym g.document) f.formed; legal = l; none_out = z }
 
 -- what was done before a turn counts too
 pub turn-from : (gives : Giving) (r s t u : Run) → GoesOn r s → GoesOn s t → IsTurn gives t u true → IsTurn gives r u true
-turn-from gives r s t u p q h = (h.0, by (progress r) (progress s) (progress t) (progress u) (progress-grows r s p) (progress-grows s t q) h.1)
-  where
-    by : (a b c d : ℕ) → a ≤ b → b ≤ c → c < d → a < d
-    by a b c d e f g = omega arith
+turn-from gives r s t u p q h = (h.0, (omega (arith, progress-grows r s p, progress-grows s t q, h.1)))
 
 -- ---- accepting
 
@@ -60,10 +54,7 @@ module _ (gives : Giving) (s u : Run) (t : Ticket) (q : Question) (o : Outcome) 
   accepted-goes_on = goes_on-one s u (accepts t its-entry.0) its-entry.1
 
   pub accepted-turn : IsLegalRun gives s → IsOnlyOut gives s t → IsTurn gives s u true
-  accepted-turn l only = (accepted-none gives s u t its-entry.0 l only its-entry.1, by (progress s) (progress u) (progress-after s u (accepts t its-entry.0) its-entry.1))
-    where
-      by : (a b : ℕ) → b ≡ a + 1 → a < b
-      by a b e = omega arith
+  accepted-turn l only = (accepted-none gives s u t its-entry.0 l only its-entry.1, (omega (arith, progress-after s u (accepts t its-entry.0) its-entry.1)))
 
 -- ---- refusals
 

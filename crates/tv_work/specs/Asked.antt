@@ -8,6 +8,7 @@ use Rattle.tv_flow.specs.Flows.{Document}
 use Rattle.tv_model.specs.Jobs.{Job}
 use Rattle.tv_model.specs.Meanings.{meaning}
 use Rattle.tv_model.specs.Members.{In}
+use Rattle.tv_model.specs.Turns.{ask_order}
 use Rattle.tv_history.specs.Alone.{IsFirstPart}
 use Rattle.tv_history.specs.Tries.{NamedTry, all_tries, ask_try}
 use Rattle.tv_board.specs.Answers.{Question}
@@ -29,7 +30,12 @@ accepted_tries r = all_tries (past_of r)
 -- one call for each try that was accepted since, in order, and no other
 abbrev pub AsksEach : Giving → Option (List Call) → Option (List Call) → Run → Run → Type 0
 AsksEach gives before after r s =
-    (calls : List Call) → before ≡ Some calls → (asks : List (JobName × Ask)) × (after ≡ Some (calls ++ map call_of asks)) × (accepted_tries s ≡ accepted_tries r ++ map (ask_try gives) asks) × AreAsksOf (meant gives r).jobs asks
+    (calls : List Call)
+    → before ≡ Some calls
+    → (asks : List (JobName × Ask))
+    × (after ≡ Some (calls ++ map call_of asks))
+    × (accepted_tries s ≡ accepted_tries r ++ map (ask_try gives) asks)
+    × AreAsksOf (meant gives r).jobs asks
 
 -- the call of what a task asks
 abbrev pub call_for : Question → Call
@@ -38,13 +44,22 @@ call_for q = record { service = q.service; inputs = q.inputs; attempt = q.ticket
 -- such calls, and then perhaps that of a try that is still out, whose answer was lost
 abbrev pub AsksAtMostOneMore : Giving → Option (List Call) → Option (List Call) → Run → Run → Type 0
 AsksAtMostOneMore gives before after r s =
-    (between : Option (List Call)) × AsksEach gives before between r s × (IsSameCalls between after ⊎ ((q : Question) × IsTask gives s q × IsCalled between after (call_for q)))
+    (between : Option (List Call))
+    × AsksEach gives before between r s
+    × (IsSameCalls between after ⊎ ((q : Question) × IsTask gives s q × IsCalled between after (call_for q)))
 
 -- the calls of the order of one worker, in that order, and no others
 abbrev pub AsksInOrder : Giving → Document → Option (List Call) → Option (List Call) → Type 0
-AsksInOrder gives d before after = (calls : List Call) → before ≡ Some calls → after ≡ Some (calls ++ map call_of (meaning gives d).order)
+AsksInOrder gives d before after =
+    (calls : List Call)
+    → before ≡ Some calls
+    → after ≡ Some (calls ++ map call_of (ask_order (meaning gives d)))
 
 -- the first calls of that order, as many as there are, and no others
 abbrev pub AsksABeginning : Giving → Document → Option (List Call) → Option (List Call) → Type 0
 AsksABeginning gives d before after =
-    (calls : List Call) → before ≡ Some calls → (asked : List Call) × (after ≡ Some (calls ++ asked)) × IsFirstPart asked (map call_of (meaning gives d).order)
+    (calls : List Call)
+    → before ≡ Some calls
+    → (asked : List Call)
+    × (after ≡ Some (calls ++ asked))
+    × IsFirstPart asked (map call_of (ask_order (meaning gives d)))

@@ -50,7 +50,8 @@ IsEntryOf (recall_all _) es = es ≡ []
 -- their entries, in order
 abbrev pub AreEntriesOf : List Call → List Entry → Type 0
 AreEntriesOf [] es = es ≡ []
-AreEntriesOf (c ∷ cs) es = (first : List Entry) × (rest : List Entry) × IsEntryOf c first × AreEntriesOf cs rest × (es ≡ first ++ rest)
+AreEntriesOf (c ∷ cs) es =
+    (first : List Entry) × (rest : List Entry) × IsEntryOf c first × AreEntriesOf cs rest × (es ≡ first ++ rest)
 
 -- a run of this document of which nothing is done
 pub record IsStart (gives : Giving) (d : Document) (r : Run) : Type 0 where
@@ -67,4 +68,8 @@ pub record IsMadeBy (gives : Giving) (d : Document) (r s : Run) (cs : List Call)
 
 -- LEGAL AFTER ANY CALLS: from the start, in any order, with any answers and refusals between
 abbrev pub AnyCallsAreLegal : Type 0
-AnyCallsAreLegal = (gives : Giving) (d : Document) (r s : Run) (cs : List Call) → IsStart gives d r → AreCalls gives r s cs → IsMadeBy gives d r s cs
+AnyCallsAreLegal =
+    (gives : Giving) (d : Document) (r s : Run) (cs : List Call)
+    → IsStart gives d r
+    → AreCalls gives r s cs
+    → IsMadeBy gives d r s cs

@@ -7,6 +7,7 @@ use Rattle.tv_gate.specs.Outcomes.{Giving}
 use Rattle.tv_dispatch.specs.Jobs.{Ask}
 use Rattle.tv_model.specs.Jobs.{Job}
 use Rattle.tv_model.specs.Made.{Meaning}
+use Rattle.tv_model.specs.Turns.{ask_order}
 use Rattle.tv_history.specs.Alone.{IsFirstPart}
 use Rattle.tv_history.specs.Tries.{NamedTry}
 use Rattle.tv_board.specs.Calls.{settles}
@@ -28,8 +29,8 @@ accepted_asks gives r = map (ask_of_try (meant gives r)) (accepted_tries r)
 
 -- they are the order of one worker
 abbrev pub AcceptsInOrder : Giving → Run → Type 0
-AcceptsInOrder gives r = accepted_asks gives r ≡ map Some (meant gives r).order
+AcceptsInOrder gives r = accepted_asks gives r ≡ map Some (ask_order (meant gives r))
 
 -- they are a beginning of it
 abbrev pub AcceptsABeginning : Giving → Run → Type 0
-AcceptsABeginning gives r = IsFirstPart (accepted_asks gives r) (map Some (meant gives r).order)
+AcceptsABeginning gives r = IsFirstPart (accepted_asks gives r) (map Some (ask_order (meant gives r)))

@@ -17,7 +17,9 @@ use Rattle.tv_work.specs.Working.{IsWorkedOff}
 
 -- the outputs and the totals of the document's meaning
 abbrev pub IsRun : Giving → Document → List (Name × Value) × Totals → Type 0
-IsRun gives d r = (each view r.0 ≡ map (λ o. (o.0, plain o.1)) (meaning gives d).outputs) × (totals_view r.1 ≡ model.totals (meaning gives d).jobs)
+IsRun gives d r =
+    (each view r.0 ≡ map (λ o. (o.0, plain o.1)) (meaning gives d).outputs)
+    × (totals_view r.1 ≡ model.totals (meaning gives d).jobs)
 
 -- a board of this document that is worked off, and whose accepted tries are the order of one worker
 pub record IsWholeRun (gives : Giving) (d : Document) (r : Run) : Type 0 where

@@ -1,5 +1,5 @@
 -- A run that goes on, and one that is worked off.
-use Rattle.std.specs.Prelude.{Bool, false, is_some, true, ℕ, ◌<◌, ◌≡◌, ◌≤◌}
+use Rattle.std.specs.Prelude.{Bool, false, is_some, true, ℕ, ◌<◌, ◌≡◌, ◌≤◌, count_by}
 use Rattle.tv_value.specs.Orders.{same_job}
 use Rattle.tv_gate.specs.Outcomes.{Giving}
 use Rattle.tv_flow.specs.Formed.{is_formed}
@@ -9,9 +9,9 @@ use Rattle.tv_model.specs.Totals.{totals}
 use Rattle.tv_history.specs.Alone.{IsFirstPart}
 use Rattle.tv_history.specs.Entries.{is_out}
 use Rattle.tv_history.specs.Histories.{is_done}
-use Rattle.tv_history.specs.Tallies.{tally}
 use Rattle.tv_state.specs.EventViews.{name_at}
 use Rattle.tv_board.specs.Calls.{out_count, try_if_out}
+use Rattle.tv_board.specs.Counted.{is_acceptance}
 use Rattle.tv_board.specs.Runs.{IsLegalRun, Run, meant, past_of}
 use Rattle.tv_board.specs.declared.entry.Entry.{Entry}
 use Rattle.tv_board.specs.declared.entry.Entry.TheVariants as entry
@@ -25,13 +25,9 @@ goes (entry.HandedOut k a t) = false
 goes (entry.Recalled c) = false
 goes e = true
 
-abbrev pub is_acceptance : Entry → Bool
-is_acceptance (entry.Accepted k a t r) = true
-is_acceptance e = false
-
 -- how far a run is
 abbrev pub progress : Run → ℕ
-progress r = tally goes r.entries
+progress r = count_by goes r.entries
 
 -- ---- runs
 
@@ -51,15 +47,20 @@ pub record IsFree (gives : Giving) (r : Run) : Type 0 where
 pub record IsOnlyOut (gives : Giving) (r : Run) (t : Ticket) : Type 0 where
   pub out : is_some (try_if_out gives r t) ≡ true
   pub few : out_count gives r ≤ 1
-  pub alone : (j : Job) → In j (meant gives r).jobs → is_out (past_of r) j.name ≡ true → same_job j.name (name_at r.names t.job) ≡ true
+  pub alone :
+      (j : Job)
+      → In j (meant gives r).jobs
+      → is_out (past_of r) j.name ≡ true
+      → same_job j.name (name_at r.names t.job) ≡ true
 
 -- the main instance has ended, nothing is out, and as many outcomes were accepted as the meaning has attempts
 pub record IsWorkedOff (gives : Giving) (r : Run) : Type 0 where
-  pub done : is_done gives (meant gives r) (past_of r) ≡ true
+  pub done : is_done (past_of r) ≡ true
   pub none_out : out_count gives r ≡ 0
-  pub attempts : tally is_acceptance r.entries ≡ (totals (meant gives r).jobs).attempts
+  pub attempts : count_by is_acceptance r.entries ≡ (totals (meant gives r).jobs).attempts
 
--- after a turn that asked for something the run is further, and after one that had nothing to ask for it is worked off
+-- after a turn that asked for something the run is further, and after one that had nothing to ask for it is worked
+-- off
 abbrev pub IsTurn : Giving → Run → Run → Bool → Type 0
 IsTurn gives r s true = (out_count gives s ≡ 0) × (progress r < progress s)
 IsTurn gives r s false = IsWorkedOff gives s

@@ -1,7 +1,7 @@
 //! What holds of every run: each law is the clause of a function that does nothing.
 ghost use Rattle.tv_work.specs.Called.{AnyCallsAreLegal};
 ghost use Rattle.tv_work.specs.Progress.{ProgressIsBounded};
-ghost use Rattle.tv_work.specs.Stuck.{IsNeverStuck};
+ghost use Rattle.tv_work.specs.Stuck.{RunsAreNeverStuck};
 
 /// From the start, after any list of calls that settle, hand out, accept or take back, in any order, with any answers and
 /// refusals between, the history is legal. It has the one entry of each call that made one, in order, and no other. What is
@@ -12,7 +12,7 @@ pub fn any_calls_are_legal()
 
 /// Where nothing is out and nothing can be settled, a try is on offer, unless the run is done.
 pub fn is_never_stuck()
-    ensures { IsNeverStuck }
+    ensures { RunsAreNeverStuck }
 {}
 
 /// However often tries are recalled and handed out again, a history has at most so many entries that are neither. So whoever

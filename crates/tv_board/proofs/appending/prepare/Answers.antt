@@ -6,5 +6,5 @@ use Rattle.tv_board.specs.Numbering.{numbering}
 use Rattle.tv_board.proofs.appending.prepare.Goals as goal
 
 pub returns-in-Ok-clause-numbers : goal.returns-in-Ok-clause-numbers
-returns-in-Ok-clause-numbers c = λ gives.
-    subst (λ es. c.args.names.now.items ++ c.in-Ok.more.items ≡ numbering c.args.names.now.items (ready gives (whole_view c.args.whole.now) (past_of c.args.names.now.items es))) c.in_ok-push.ensures.items (c.in-Ok.ensures.numbers gives)
+returns-in-Ok-clause-numbers c =
+    subst (λ es. c.args.names.now.items ++ c.in-Ok.more.items ≡ numbering c.args.names.now.items (ready (whole_view c.args.whole.now) (past_of c.args.names.now.items es))) c.in_ok-push.ensures.items c.in-Ok.ensures.numbers

@@ -11,9 +11,9 @@ pub last_activity-requires : goal.last_activity-requires
 last_activity-requires c = subst (λ as'. AreOfFew (map ask_view as')) (sym c.as_slice.ensures) c.requires
 
 pub returns-in-Some : goal.returns-in-Some
-returns-in-Some c = λ gives. ap (λ o. option_map_or (λ a. state.Idle a.activity a.attempt) o (state.Idle (last_activity (map ask_view c.args.job.now.asks)) 0)) (c.in-Some.ensures gives)
+returns-in-Some c = ap (λ o. option_map_or (λ a. state.Idle a.activity a.attempt) o (state.Idle (last_activity (map ask_view c.args.job.now.asks)) 0)) c.in-Some.ensures
 
 pub returns-in-None : goal.returns-in-None
-returns-in-None c = λ gives.
+returns-in-None c =
     ap (λ k. state.Idle k 0) (c.last_activity.ensures ∙ ap (λ as'. last_activity (map ask_view as')) c.as_slice.ensures)
-    ∙ ap (λ o. option_map_or (λ a. state.Idle a.activity a.attempt) o (state.Idle (last_activity (map ask_view c.args.job.now.asks)) 0)) (c.in-None.ensures gives)
+    ∙ ap (λ o. option_map_or (λ a. state.Idle a.activity a.attempt) o (state.Idle (last_activity (map ask_view c.args.job.now.asks)) 0)) c.in-None.ensures

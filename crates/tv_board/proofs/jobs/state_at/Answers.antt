@@ -13,7 +13,7 @@ pub state_of-requires : goal.state_of-requires
 state_of-requires c = c.requires (job_view c.in-Some-job_named.job.now) (found-in (λ j. same_job c.in-Some.name.now j.name) (meaning_in c.args.state.now).jobs (job_view c.in-Some-job_named.job.now) c.in-Some-job_named.ensures)
 
 pub returns-in-Some-job_named : goal.returns-in-Some-job_named
-returns-in-Some-job_named c = λ gives.
-    c.state_of.ensures gives
-    ∙ ap (λ o. option_map_or (state_after gives (meaning_in c.args.state.now) (past_in c.args.state.now)) o state.Waiting) c.in-Some-job_named.ensures
-    ∙ ap (λ o. option_map_or (state_named gives (meaning_in c.args.state.now) (past_in c.args.state.now)) o state.Unknown) c.in-Some.ensures
+returns-in-Some-job_named c =
+    c.state_of.ensures
+    ∙ ap (λ o. option_map_or (state_after (meaning_in c.args.state.now) (past_in c.args.state.now)) o state.Waiting) c.in-Some-job_named.ensures
+    ∙ ap (λ o. option_map_or (state_named (meaning_in c.args.state.now) (past_in c.args.state.now)) o state.Unknown) c.in-Some.ensures

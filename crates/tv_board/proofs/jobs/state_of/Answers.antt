@@ -4,19 +4,19 @@ use Rattle.tv_board.proofs.Looks.{stands-idle, stands-nested, stands-out, stands
 use Rattle.tv_board.proofs.jobs.state_of.Goals as goal
 
 pub returns-then-is_settled : goal.returns-then-is_settled
-returns-then-is_settled c = λ gives. stands-settled gives (meaning_in c.args.state.now) (past_in c.args.state.now) (job_view c.args.job.now) (c.if-is_settled.ensures gives)
+returns-then-is_settled c = stands-settled (meaning_in c.args.state.now) (past_in c.args.state.now) (job_view c.args.job.now) c.if-is_settled.ensures
 
 pub returns-then-is_out : goal.returns-then-is_out
-returns-then-is_out c = λ gives. stands-out gives (meaning_in c.args.state.now) (past_in c.args.state.now) (job_view c.args.job.now) (c.if-is_settled.ensures gives) c.out_state.result c.if-is_out.ensures (c.out_state.ensures gives)
+returns-then-is_out c = stands-out (meaning_in c.args.state.now) (past_in c.args.state.now) (job_view c.args.job.now) c.if-is_settled.ensures c.out_state.result c.if-is_out.ensures c.out_state.ensures
 
 pub returns-then-has_open_instance : goal.returns-then-has_open_instance
-returns-then-has_open_instance c = λ gives. stands-nested gives (meaning_in c.args.state.now) (past_in c.args.state.now) (job_view c.args.job.now) (c.if-is_settled.ensures gives) c.if-is_out.ensures (c.if-has_open_instance.ensures gives)
+returns-then-has_open_instance c = stands-nested (meaning_in c.args.state.now) (past_in c.args.state.now) (job_view c.args.job.now) c.if-is_settled.ensures c.if-is_out.ensures c.if-has_open_instance.ensures
 
 pub returns-then-is_running : goal.returns-then-is_running
-returns-then-is_running c = λ gives. stands-idle gives (meaning_in c.args.state.now) (past_in c.args.state.now) (job_view c.args.job.now) (c.if-is_settled.ensures gives) c.if-is_out.ensures (c.if-has_open_instance.ensures gives) c.idle_state.result (c.if-is_running.ensures gives) (c.idle_state.ensures gives)
+returns-then-is_running c = stands-idle (meaning_in c.args.state.now) (past_in c.args.state.now) (job_view c.args.job.now) c.if-is_settled.ensures c.if-is_out.ensures c.if-has_open_instance.ensures c.idle_state.result c.if-is_running.ensures c.idle_state.ensures
 
 pub returns-then-is_ready : goal.returns-then-is_ready
-returns-then-is_ready c = λ gives. stands-ready gives (meaning_in c.args.state.now) (past_in c.args.state.now) (job_view c.args.job.now) (c.if-is_settled.ensures gives) c.if-is_out.ensures (c.if-has_open_instance.ensures gives) (c.if-is_running.ensures gives) (c.if-is_ready.ensures gives)
+returns-then-is_ready c = stands-ready (meaning_in c.args.state.now) (past_in c.args.state.now) (job_view c.args.job.now) c.if-is_settled.ensures c.if-is_out.ensures c.if-has_open_instance.ensures c.if-is_running.ensures c.if-is_ready.ensures
 
 pub returns-else-is_ready : goal.returns-else-is_ready
-returns-else-is_ready c = λ gives. stands-waiting gives (meaning_in c.args.state.now) (past_in c.args.state.now) (job_view c.args.job.now) (c.if-is_settled.ensures gives) c.if-is_out.ensures (c.if-has_open_instance.ensures gives) (c.if-is_running.ensures gives) (c.if-is_ready.ensures gives)
+returns-else-is_ready c = stands-waiting (meaning_in c.args.state.now) (past_in c.args.state.now) (job_view c.args.job.now) c.if-is_settled.ensures c.if-is_out.ensures c.if-has_open_instance.ensures c.if-is_running.ensures c.if-is_ready.ensures

@@ -5,14 +5,14 @@ use Rattle.tv_board.proofs.jobs.try_of.Goals.{else-ask-ticket-via-then-ask-ticke
 use Rattle.tv_board.proofs.jobs.try_of.Goals as goal
 
 pub returns-then-ask-ticket-2 : goal.returns-then-ask-ticket-2
-returns-then-ask-ticket-2 c = λ gives.
-    this-next gives (meaning_in c.args.state.now) (past_in c.args.state.now) (job_view c.args.job.now) c.args.ticket.now.activity c.args.ticket.now.attempt (ask_view c.in-Some.ask.now)
-    c.if-not-is_out.ensures (c.in-Some.ensures gives) c.if-ask-ticket.true c.if-ask-ticket-2.true
+returns-then-ask-ticket-2 c =
+    this-next (meaning_in c.args.state.now) (past_in c.args.state.now) (job_view c.args.job.now) c.args.ticket.now.activity c.args.ticket.now.attempt (ask_view c.in-Some.ask.now)
+    c.if-not-is_out.ensures c.in-Some.ensures c.if-ask-ticket.true c.if-ask-ticket-2.true
 
 pub returns-else-ask-ticket : goal.returns-else-ask-ticket
-returns-else-ask-ticket c = λ gives.
-    other-next gives (meaning_in c.args.state.now) (past_in c.args.state.now) (job_view c.args.job.now) c.args.ticket.now.activity c.args.ticket.now.attempt (ask_view c.in-Some.ask.now) (c.in-Some.ensures gives)
+returns-else-ask-ticket c =
+    other-next (meaning_in c.args.state.now) (past_in c.args.state.now) (job_view c.args.job.now) c.args.ticket.now.activity c.args.ticket.now.attempt (ask_view c.in-Some.ask.now) c.in-Some.ensures
     (elim c.else-ask-ticket.branch [ else-ask-ticket-via-then-ask-ticket+else-ask-ticket-2 w ↦ λ e f. w.if-ask-ticket-2.false f | else-ask-ticket-via-else-ask-ticket w ↦ λ e f. w.if-ask-ticket.false e ])
 
 pub returns-in-None : goal.returns-in-None
-returns-in-None c = λ gives. no-next gives (meaning_in c.args.state.now) (past_in c.args.state.now) (job_view c.args.job.now) c.args.ticket.now.activity c.args.ticket.now.attempt (c.in-None.ensures gives)
+returns-in-None c = no-next (meaning_in c.args.state.now) (past_in c.args.state.now) (job_view c.args.job.now) c.args.ticket.now.activity c.args.ticket.now.attempt c.in-None.ensures

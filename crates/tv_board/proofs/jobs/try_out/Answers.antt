@@ -5,4 +5,4 @@ use Rattle.tv_board.specs.Calls.{try_out}
 use Rattle.tv_board.proofs.jobs.try_out.Goals as goal
 
 pub returns-in-Some : goal.returns-in-Some
-returns-in-Some c = λ gives. c.try_of.ensures gives ∙ ap (option_and_then (try_out gives (meaning_in c.args.state.now) (past_in c.args.state.now) c.args.ticket.now.activity c.args.ticket.now.attempt)) c.in-Some.ensures
+returns-in-Some c = c.try_of.ensures ∙ ap (option_and_then (try_out (meaning_in c.args.state.now) (past_in c.args.state.now) c.args.ticket.now.activity c.args.ticket.now.attempt)) c.in-Some.ensures

@@ -7,13 +7,13 @@ use Rattle.tv_board.proofs.OfNumbers.{names_of, number-step}
 use Rattle.tv_board.proofs.numbers.unnumbered.Goals as goal
 
 pub loop-job-preserved : goal.loop-job-preserved
-loop-job-preserved c = λ gives.
-    ap (λ ns. numbering ns (names_of (is_ready gives (meaning_in c.args.state.now) (past_in c.args.state.now)) (drop (c.loop-job.job-index + 1) c.as_slice-job-items.result.now))) (c.in_ok-number_job.ensures gives)
-    ∙ sym (number-step (is_ready gives (meaning_in c.args.state.now) (past_in c.args.state.now)) (c.args.state.now.names.now ++ c.loop-job.more.items) c.as_slice-job-items.result.now c.loop-job.job-index c.job-item.result c.loop-job-test.true c.job-item.is)
-    ∙ c.loop-job.invariant gives
+loop-job-preserved c =
+    ap (λ ns. numbering ns (names_of (is_ready (meaning_in c.args.state.now) (past_in c.args.state.now)) (drop (c.loop-job.job-index + 1) c.as_slice-job-items.result.now))) c.in_ok-number_job.ensures
+    ∙ sym (number-step (is_ready (meaning_in c.args.state.now) (past_in c.args.state.now)) (c.args.state.now.names.now ++ c.loop-job.more.items) c.as_slice-job-items.result.now c.loop-job.job-index c.job-item.result c.loop-job-test.true c.job-item.is)
+    ∙ c.loop-job.invariant
 
 pub returns : goal.returns
-returns c = λ gives.
+returns c =
     let l : length c.as_slice-job-items.result.now ≤ c.loop-job.job-index = omega arith in
-    ap (λ js. numbering (c.args.state.now.names.now ++ c.loop-job.more.items) (names_of (is_ready gives (meaning_in c.args.state.now) (past_in c.args.state.now)) js)) (sym (drop_all c.loop-job.job-index c.as_slice-job-items.result.now l))
-    ∙ c.loop-job.invariant gives
+    ap (λ js. numbering (c.args.state.now.names.now ++ c.loop-job.more.items) (names_of (is_ready (meaning_in c.args.state.now) (past_in c.args.state.now)) js)) (sym (drop_all c.loop-job.job-index c.as_slice-job-items.result.now l))
+    ∙ c.loop-job.invariant

@@ -1,5 +1,4 @@
 use Rattle.std.proofs.Common.{drop, filter, map, ◌++◌, ◌≡◌}
-use Rattle.tv_gate.specs.Outcomes.{Giving}
 use Rattle.tv_history.specs.Histories.{is_ready}
 use Rattle.tv_model.specs.Jobs.{Job}
 use Rattle.tv_outcomes.specs.Agreed.{ready}
@@ -10,4 +9,4 @@ use Rattle.tv_board.proofs.numbers.unnumbered.Given as goal
 
 abbrev pub invariant-loop-job : goal.invariant-loop-job
 invariant-loop-job l =
-    (gives : Giving) → numbering (l.state.names.now ++ l.more.items) (map (λ (j : Job). j.name) (filter (is_ready gives (meaning_in l.state) (past_in l.state)) (map job_view (drop l.job-index l.job-items)))) ≡ numbering l.state.names.now (ready gives (meaning_in l.state) (past_in l.state))
+    numbering (l.state.names.now ++ l.more.items) (map (λ (j : Job). j.name) (filter (is_ready (meaning_in l.state) (past_in l.state)) (map job_view (drop l.job-index l.job-items)))) ≡ numbering l.state.names.now (ready (meaning_in l.state) (past_in l.state))

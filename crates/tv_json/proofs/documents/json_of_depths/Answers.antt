@@ -1,4 +1,4 @@
-use Rattle.std.proofs.Common.{◌≡◌, IfOk, ap, ◌∙◌, subst}
+use Rattle.std.proofs.Common.{◌≡◌, IfOk, ◌∙◌, subst}
 use Rattle.serde_json.specs.View.{view as json_view}
 use Rattle.tv_flow.proofs.Shapes.{same-each}
 use Rattle.tv_json.specs.Documents.{named_json, number_json}

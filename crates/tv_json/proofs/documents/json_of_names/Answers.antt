@@ -1,4 +1,4 @@
-use Rattle.std.proofs.Common.{◌≡◌, IfOk, ap, ◌∙◌, subst}
+use Rattle.std.proofs.Common.{◌≡◌, IfOk, ◌∙◌, subst}
 use Rattle.serde_json.specs.Data.{string}
 use Rattle.serde_json.specs.View.{view as json_view}
 use Rattle.tv_json.specs.Documents.{array_json}

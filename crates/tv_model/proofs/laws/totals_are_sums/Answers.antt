@@ -4,4 +4,9 @@ use Rattle.tv_model.specs.Turns.{is_bounced, is_failed}
 use Rattle.tv_model.proofs.laws.totals_are_sums.Goals as goal
 
 pub returns : goal.returns
-returns c = λ js. (attempts-sum js, passing-count (λ j. is_bounced j.ending) js, passing-count (λ j. is_failed j.ending) js, refl)
+returns c = λ js. record {
+  attempts = attempts-sum js;
+  bounced = passing-count (λ j. is_bounced j.ending) js;
+  failed = passing-count (λ j. is_failed j.ending) js;
+  jobs = refl;
+}

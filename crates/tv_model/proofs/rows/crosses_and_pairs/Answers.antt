@@ -1,5 +1,8 @@
-use Rattle.tv_model.proofs.Computed.{crosses_two_lists, crosses_with_empty_inner_list, crosses_with_empty_outer_list, pairs_to_shorter}
+use Rattle.json.specs.Print.{escape_byte}
+use Rattle.std.specs.Fmt.{digits}
+use Rattle.std.specs.Prelude.{refl}
 use Rattle.tv_model.proofs.rows.crosses_and_pairs.Goals as goal
 
 pub returns : goal.returns
-returns c = record { crossed = crosses_two_lists; empty_inner = crosses_with_empty_inner_list; empty_outer = crosses_with_empty_outer_list; paired = pairs_to_shorter }
+unfolding digits escape_byte
+returns c = record { crossed = refl; empty_inner = refl; empty_outer = refl; paired = refl }

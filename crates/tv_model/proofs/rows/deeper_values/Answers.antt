@@ -1,5 +1,8 @@
-use Rattle.tv_model.proofs.Computed.{merges_two_texts, wraps_text_in_list}
+use Rattle.json.specs.Print.{escape_byte}
+use Rattle.std.specs.Fmt.{digits}
+use Rattle.std.specs.Prelude.{refl}
 use Rattle.tv_model.proofs.rows.deeper_values.Goals as goal
 
 pub returns : goal.returns
-returns c = record { wrapped = wraps_text_in_list; merged = merges_two_texts }
+unfolding digits escape_byte
+returns c = record { wrapped = refl; merged = refl }

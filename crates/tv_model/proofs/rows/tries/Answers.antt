@@ -1,5 +1,8 @@
-use Rattle.tv_model.proofs.Computed.{fails_after_retries, fails_over, retries_until_right}
+use Rattle.json.specs.Print.{escape_byte}
+use Rattle.std.specs.Fmt.{digits}
+use Rattle.std.specs.Prelude.{refl}
 use Rattle.tv_model.proofs.rows.tries.Goals as goal
 
 pub returns : goal.returns
-returns c = record { retried = retries_until_right; spent = fails_after_retries; failed_over = fails_over }
+unfolding digits escape_byte
+returns c = record { retried = refl; spent = refl; failed_over = refl }

@@ -1,4 +1,4 @@
-use Rattle.std.proofs.Common.{◌≡◌, ◌≤◌, ℕ, length, drop, ap, sym, refl, ◌∙◌, arith}
+use Rattle.std.proofs.Common.{◌≡◌, ◌≤◌, length, drop, ap, sym, refl, ◌∙◌, arith}
 use Rattle.tv_value.specs.Views.{values_view}
 use Rattle.tv_traced.specs.Results.{placed}
 use Rattle.tv_traced.proofs.OfOutputs.{placed-nowhere, found-nothing, found-step}

@@ -4,4 +4,4 @@ use Rattle.tv_history.specs.Entries.{is_ended_entry}
 use Rattle.tv_board.proofs.board.Board.is_done.Goals as goal
 
 pub returns : goal.returns
-returns g c = c.is_done.ensures g.V.Services.gives ∙ ap (list_any (is_ended_entry [])) c.state.ensures.past
+returns g c = c.is_done.ensures ∙ ap (list_any (is_ended_entry [])) c.state.ensures.past

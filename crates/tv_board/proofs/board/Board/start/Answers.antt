@@ -10,7 +10,7 @@ started : goal.invariant_of-result
 started g c =
     let l : length c.in_ok-names.names.items ≤ vec_capacity c.in_ok-entries.entries = omega (arith, c.in_ok-names.names.ok.0, c.in_ok-entries.ensures.exact, c.len-2.ensures) in
     let k : length c.in_ok-names.names.items ≤ vec_capacity c.in_ok-events.events = omega (arith, c.in_ok-names.names.ok.0, c.in_ok-events.ensures.exact, c.len.ensures) in
-    board-start _ _ _ _ _ _ _ c.args.run.document.formed c.requires c.empty-known.ensures (subst (λ d. IsWhole (meaning (known_gives c.empty-known.result) d) c.in_ok-whole.whole) c.document.ensures.view c.in_ok-whole.ensures) (c.in_ok-names.ensures (known_gives c.empty-known.result)) c.in_ok-entries.ensures.items c.in_ok-events.ensures.items l k
+    board-start _ _ _ _ _ _ _ c.args.run.document.formed c.requires c.empty-known.ensures (subst (λ d. IsWhole (meaning (known_gives c.empty-known.result) d) c.in_ok-whole.whole) c.document.ensures.view c.in_ok-whole.ensures) c.in_ok-names.ensures c.in_ok-entries.ensures.items c.in_ok-events.ensures.items l k
 
 pub invariant_of-result : goal.invariant_of-result
 invariant_of-result g c = started g c

@@ -8,7 +8,7 @@ use Rattle.tv_state.proofs.Found.{found-kept}
 use Rattle.tv_state.proofs.state.State.first_ending.Goals as goal
 
 pub returns : goal.returns
-returns c gives =
+returns c =
     let opens : Job → Bool = λ j. is_some j.opens in
     let name : Job → JobName = λ j. j.name in
-    found-kept (can_end gives (meaning_in c.args.self.now) (past_in c.args.self.now)) opens name job_view (λ j. j.now) c.find_ending.result c.as_slice.result.now c.args.self.now.whole.now.jobs c.as_slice.ensures c.find_ending.ensures
+    found-kept (can_end (meaning_in c.args.self.now) (past_in c.args.self.now)) opens name job_view (λ j. j.now) c.find_ending.result c.as_slice.result.now c.args.self.now.whole.now.jobs c.as_slice.ensures c.find_ending.ensures

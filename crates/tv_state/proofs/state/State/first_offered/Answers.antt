@@ -9,8 +9,8 @@ use Rattle.tv_state.proofs.state.State.first_offered.Goals as goal
 
 pub returns : goal.returns
 unfolding has_offer
-returns c gives =
+returns c =
     let m = meaning_in c.args.self.now in
     let past = past_in c.args.self.now in
-    let test : Job → Bool = λ j. is_offered gives m past j in
+    let test : Job → Bool = λ j. is_offered m past j in
     found test job_view (λ j. j.now) c.find_offered.result c.as_slice.result.now c.args.self.now.whole.now.jobs c.as_slice.ensures c.find_offered.ensures

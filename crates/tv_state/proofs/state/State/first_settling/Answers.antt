@@ -6,5 +6,5 @@ use Rattle.tv_state.proofs.Found.{found}
 use Rattle.tv_state.proofs.state.State.first_settling.Goals as goal
 
 pub returns : goal.returns
-returns c gives =
-    found (can_settle gives (meaning_in c.args.self.now) (past_in c.args.self.now)) level_view (λ l. l.now) c.find_settling.result c.args.levels.now c.args.levels.now refl c.find_settling.ensures
+returns c =
+    found (can_settle (meaning_in c.args.self.now) (past_in c.args.self.now)) level_view (λ l. l.now) c.find_settling.result c.args.levels.now c.args.levels.now refl c.find_settling.ensures

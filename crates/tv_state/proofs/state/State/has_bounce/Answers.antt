@@ -3,4 +3,4 @@ use Rattle.tv_state.proofs.state.State.has_bounce.Goals as goal
 
 pub returns : goal.returns
 unfolding has_bounce
-returns c = c.may_bounce.ensures
+returns c = c.can_bounce.ensures

@@ -3,4 +3,4 @@ use Rattle.tv_state.proofs.state.State.has_offer.Goals as goal
 
 pub returns : goal.returns
 unfolding has_offer
-returns c = c.offers.ensures
+returns c = c.is_offered.ensures

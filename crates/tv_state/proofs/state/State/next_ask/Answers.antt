@@ -6,7 +6,7 @@ use Rattle.tv_state.proofs.Asked.{got, next-at}
 use Rattle.tv_state.proofs.state.State.next_ask.Goals as goal
 
 pub returns : goal.returns
-returns c gives =
+returns c =
     let n = c.accepted_count.result in
     got ask_view c.as_slice.result.now n c.get.result c.get.ensures.lookup
     ∙ ap (λ asks. option_map ask_view (slice_get asks n)) c.as_slice.ensures

@@ -1,4 +1,0 @@
-use Rattle.tv_state.proofs.state.State.can_open.Goals as goal
-
-pub returns : goal.returns
-returns c gives = c.may_open.ensures
