@@ -29,7 +29,7 @@ use Rattle.tv_check.proofs.Inside.{nil-parts, nil-each, each-by, silent, names-i
 use Rattle.tv_check.proofs.OfCycles.{IsThere, each-there}
 use Rattle.tv_check.proofs.Prepared.{all-fit, all-lower}
 use Rattle.tv_model.specs.Agreeing.{InputsHave, Agrees}
-use Rattle.tv_model.specs.Meanings.{most_nesting}
+use Rattle.tv_model.specs.Meanings.{nesting_limit}
 use Rattle.tv_agreed.proofs.Lists.{all-each, named-each, some-of}
 use Rattle.tv_agreed.proofs.FlowsAgree.{flow-agrees}
 use Rattle.tv_agreed.proofs.Nests.{Silent, all-silent, deep_told, nest, nests, not-more}
@@ -82,7 +82,7 @@ accepted-agrees d formed accepted =
     let few = named-each (λ f. deep_told d f ≡ []) d.main d.flows main.0 (nil-each (deep_told d) d.flows e.1) main.1 in
     record {
       flows = λ f flow is. flow-agrees d f flow (named-each (λ f. is_flow f.1 ≡ true) f d.flows flow forms is) (named-each (λ f. list_all (λ s. has_fitting s.1) f.1.steps ≡ true) f d.flows flow fits is) (named-each (Silent d) f d.flows flow silent_all is);
-      nests = nests d lower opens most_nesting d.main main_there (not-more (nest d d.main) _ few);
+      nests = nests d lower opens nesting_limit d.main main_there (not-more (nest d d.main) _ few);
       inputs = λ flow is. given-have d formed a.1 flow (named-each (λ f. is_flow f.1 ≡ true) d.main d.flows flow forms is) is;
     }
   where

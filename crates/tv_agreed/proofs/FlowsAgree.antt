@@ -1,33 +1,35 @@
 -- Where the pass on depths says nothing of a flow, the flow agrees.
-use Rattle.std.specs.Prelude.{◌≡◌, refl, ℕ, suc, ◌+◌, List, [], ◌∷◌, ◌++◌, map, length, find, flat_map, Bool, true, false, not, ◌&&◌, ◌==◌, count_by, Option, Some, None, is_some, unwrap_or}
+use Rattle.std.specs.Prelude.{◌≡◌, refl, ℕ, suc, ◌+◌, List, [], ◌∷◌, ◌++◌, map, length, find, flat_map, Bool, true, false, not, ◌&&◌, ◌==◌, count_by, Option, Some, None, is_some, nat_lt, unwrap_or, ◌<◌}
 use Rattle.std.specs.List.{list_all, list_any}
 use Rattle.std.specs.Option.{option_map_or}
-use Rattle.std.proofs.Common.{sym, ap, subst, ◌∙◌, cond, eqb-true}
+use Rattle.std.proofs.Common.{arith, sym, ap, subst, ◌∙◌, cond, eqb-true}
+use Rattle.std.proofs.lemmas.Bool.{ltb-false}
 use Rattle.tv_value.specs.Nested.{leaf, list}
-use Rattle.tv_value.specs.Values.{Name, Value}
-use Rattle.tv_value.specs.DepthSets.{least_depth}
+use Rattle.tv_value.specs.Values.{HasDepth, Name, Value}
+use Rattle.tv_value.specs.DepthSets.{depth_limit, least_depth}
+use Rattle.tv_value.proofs.OfDepths.{least-least}
 use Rattle.tv_value.specs.Orders.{same_name, named}
 use Rattle.tv_value.specs.Activities.{Activity, service, nested}
-use Rattle.tv_value.specs.Strategies.{Strategy, port, cross, dot, Strategies, no_strategies, strategy}
+use Rattle.tv_value.specs.Strategies.{Strategy, port, cross, strategy}
 use Rattle.tv_flow.specs.Flows.{Feed, link, merge, constant, StepInput, Step, Flow, Document}
 use Rattle.tv_flow.specs.Forms.{is_name}
 use Rattle.tv_flow.specs.Formed.{is_value, is_feed, is_step_input, is_step, is_flow}
 use Rattle.tv_strategy.specs.Measures.{Difference, first_difference, strategy_depth, leaf_names, all_leaf_names}
 use Rattle.tv_strategy.proofs.OfLaws.{agree-exactly}
-use Rattle.tv_naming.specs.Faulty.{Where, with_numbers, merge_depths, at_input, at_step, at_output, at_flow_output}
-use Rattle.tv_naming.specs.Naming.{fits_ports, numbered}
+use Rattle.tv_naming.specs.Faulty.{Where, with_numbers, merge_depths, too_deep, at_input, at_step, at_output, at_flow_output}
+use Rattle.tv_naming.specs.Naming.{complain_if, fits_ports, numbered}
 use Rattle.tv_naming.proofs.OfLists.{both, Each, map-map}
 use Rattle.tv_naming.proofs.ByPosition.{same_name-is}
 use Rattle.tv_naming.proofs.FormedParts.{all-pass, ascending, flow-steps, flow-outputs, step-inputs}
 use Rattle.tv_depths.specs.Ranks.{ranked}
 use Rattle.tv_depths.specs.Steps.{strategy_of, ports_of, declared_depths}
-use Rattle.tv_depths.specs.CheckedDepths.{StepDepths, link_depth, feed_depth, port_depth, step_depths, flow_depths, output_depths, measured_outputs}
-use Rattle.tv_depths.specs.Depthwise.{past_limit, merge_difference, fed_complaints, same_ports, fits_flow, nested_complaints, dot_complaints, step_complaints, steps_complaints, flow_complaints}
+use Rattle.tv_depths.specs.CheckedDepths.{StepDepths, constant_depth, link_depth, feed_depth, port_depth, step_depths, flow_depths, output_depths, measured_outputs}
+use Rattle.tv_depths.specs.Depthwise.{depth_most, past_limit, merge_difference, fed_complaints, same_ports, fits_flow, nested_complaints, dot_complaints, step_complaints, steps_complaints, flow_complaints}
 use Rattle.tv_depths.specs.Tables.{has_fitting}
 use Rattle.tv_check.proofs.Inside.{nil-parts, each-all, each-by, silent}
 use Rattle.tv_check.proofs.OfCycles.{IsThere, each-there}
 use Rattle.tv_check.proofs.OfRanks.{each-ranked}
-use Rattle.tv_model.specs.Agreeing.{AllAre, OneDepth, FeedAgrees, FeedsAgree, InputsAgree, ports_in, all_ports_in, FindThemselves, ActivityAgrees, ActivitiesAgree, StepAgrees, StepsAgree, FlowAgrees}
+use Rattle.tv_model.specs.Agreeing.{AllAre, OneDepth, FeedAgrees, FeedsAgree, InputsAgree, FindThemselves, ActivityAgrees, ActivitiesAgree, StepAgrees, StepsAgree, FlowAgrees}
 use Rattle.tv_agreed.proofs.Lists.{all-each, any-named, named-any, once-any, two-each}
 
 -- ---- what feeds deliver
@@ -52,11 +54,26 @@ pub has-least : (v : Value) → is_value v ≡ true → is_some (least_depth v) 
 has-least (leaf n a) h = refl
 has-least (list n vs) h = (both _ _ (both _ _ h).0).1
 
+-- within the limit the least depth is one that the value has
+constant-has : (w : Where) (v : Value) → is_value v ≡ true → past_limit w (constant_depth v) ≡ [] → HasDepth v (constant_depth v)
+constant-has w v k h = by (least_depth v) refl (has-least v k) h
+  where
+    within : (d : ℕ) → past_limit w d ≡ [] → d < depth_limit
+    within d g = test (nat_lt depth_most d) refl g
+      where
+        test : (b : Bool) → nat_lt depth_most d ≡ b → complain_if b (with_numbers too_deep w d depth_most) ≡ [] → d < depth_limit
+        test true q r = cc
+        test false q r = let few = ltb-false depth_most d q in omega (arith, few)
+
+    by : (o : Option ℕ) → least_depth v ≡ o → is_some o ≡ true → past_limit w (unwrap_or o 0) ≡ [] → HasDepth v (unwrap_or o 0)
+    by None e s g = cc
+    by (Some d) e s g = (least-least v d (within d g) e).0
+
 module _ (given : List (Name × ℕ)) (so_far : List StepDepths) where
   feed-agrees : (w : Where) (f : Feed) → is_feed f ≡ true → fed_complaints given so_far w f ≡ [] → FeedAgrees given so_far f
   feed-agrees w (link l) k h = tt
   feed-agrees w (merge ls) k h = one-depth w (map (link_depth given so_far) ls) (nil-parts (merge_difference w (map (link_depth given so_far) ls)) _ h).0
-  feed-agrees w (constant v) k h = has-least v k
+  feed-agrees w (constant v) k h = constant-has w v k h
 
   inputs-agree : (w : Name × StepInput → Where) (is : List (Name × StepInput)) → list_all (λ e. is_name e.0 && is_step_input e.1) is ≡ true → flat_map (λ i. fed_complaints given so_far (w i) i.1.from) is ≡ [] → InputsAgree given so_far is
   inputs-agree w [] k h = tt
@@ -74,17 +91,7 @@ module _ (given : List (Name × ℕ)) (so_far : List StepDepths) where
 
 -- ---- strategies
 
-mutual
-  ports-leaves : (t : Strategy) → ports_in t ≡ leaf_names t
-  ports-leaves (port p) = refl
-  ports-leaves (cross cs) = all-ports-leaves cs
-  ports-leaves (dot cs) = all-ports-leaves cs
-
-  all-ports-leaves : (cs : Strategies) → all_ports_in cs ≡ all_leaf_names cs
-  all-ports-leaves no_strategies = refl
-  all-ports-leaves (strategy c cs) = ap (λ ns. ns ++ all_ports_in cs) (ports-leaves c) ∙ ap (λ ns. leaf_names c ++ ns) (all-ports-leaves cs)
-
-pub default-ports : (is : List (Name × StepInput)) → all_ports_in (ports_of is) ≡ map (λ i. i.0) is
+pub default-ports : (is : List (Name × StepInput)) → all_leaf_names (ports_of is) ≡ map (λ i. i.0) is
 default-ports [] = refl
 default-ports (i ∷ is) = ap (λ ns. i.0 ∷ ns) (default-ports is)
 
@@ -131,12 +138,12 @@ binds-given s t h =
       ports = weaker (λ m. count_by (same_name m) ns == 1) (λ m. is_some (named m s.inputs)) ms (λ m k. named-any m s.inputs (once-any m ns k)) b.1;
     }
 
-pub binds : (s : Step) → has_fitting s ≡ true → Each (IsThere s.inputs) s.inputs → Binds s (ports_in (strategy_of s))
+pub binds : (s : Step) → has_fitting s ≡ true → Each (IsThere s.inputs) s.inputs → Binds s (leaf_names (strategy_of s))
 binds s h e = cases s.strategy h
   where
-    cases : (o : Option Strategy) → option_map_or (fits_ports s) o true ≡ true → Binds s (ports_in (unwrap_or o (cross (ports_of s.inputs))))
+    cases : (o : Option Strategy) → option_map_or (fits_ports s) o true ≡ true → Binds s (leaf_names (unwrap_or o (cross (ports_of s.inputs))))
     cases None k = subst (Binds s) (sym (default-ports s.inputs)) (binds-default s e)
-    cases (Some t) k = subst (Binds s) (sym (ports-leaves t)) (binds-given s t k)
+    cases (Some t) k = binds-given s t k
 
 -- ---- activities
 
@@ -159,7 +166,7 @@ activity-agrees d f n s k (nested g) h = cases (named g d.flows) refl (silent (o
         let b = both (same_ports (map (λ i. (i.0, i.1.depth)) s.inputs) flow.inputs) (same_ports s.outputs (measured_outputs flow)) k in
         let outs : s.outputs ≡ measured_outputs flow = same-ports-are s.outputs (measured_outputs flow) b.1 in
         let declared : declared_depths s ≡ output_depths flow = ap (map (λ (o : Name × ℕ). o.1)) outs ∙ map-map (λ (o : Name × ℕ). o.1) (λ (o : Name × Feed). (o.0, feed_depth flow.inputs (flow_depths flow) o.1)) flow.outputs in
-        (flow, e, sym (same-ports-are _ flow.inputs b.0), sym declared)
+        record { flow = flow; is_flow = e; inputs = sym (same-ports-are _ flow.inputs b.0); outputs = sym declared }
 
 activities-agree : (d : Document) (f n : Name) (s : Step) (k : ℕ) (acts : List Activity) → flat_map (nested_complaints d f n s) (numbered k acts) ≡ [] → ActivitiesAgree d.flows s acts
 activities-agree d f n s k [] h = tt

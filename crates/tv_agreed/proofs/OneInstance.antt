@@ -14,8 +14,8 @@ use Rattle.tv_depths.specs.Delivered.{Delivered}
 use Rattle.tv_depths.specs.Ranks.{ranked}
 use Rattle.tv_depths.proofs.OfRanked.{IsOrdered, ranked-ordered}
 use Rattle.tv_model.specs.Agreeing.{ActivitiesNest, FeedsAgree, FlowAgrees, InputsHave, NestsWithin, StepsAgree, StepsNest}
-use Rattle.tv_model.specs.Earlier.{given_of}
-use Rattle.tv_model.specs.Fitting.{AreRight, HaveDepths}
+use Rattle.tv_model.specs.Instances.{given_of}
+use Rattle.tv_model.specs.RightDepths.{AreRight, HaveTheseDepths}
 use Rattle.tv_model.specs.Instances.{step_made, steps_made}
 use Rattle.tv_model.specs.Made.{Made, Meaning, feed_value}
 use Rattle.tv_model.specs.Meanings.{flow_meaning, instance_meaning, no_meaning}
@@ -23,33 +23,10 @@ use Rattle.tv_model.proofs.Tests.{Each}
 use Rattle.tv_model.proofs.Turns.{each-map}
 use Rattle.tv_model.proofs.Whole.{rank-each}
 use Rattle.tv_model.proofs.Results.{Delivers, some_or}
-use Rattle.tv_model.proofs.Delivers.{depths_of, feed-depth, feed-right, forget, forget-step}
+use Rattle.tv_model.proofs.Delivers.{depths_of, feed-depth, feed-right, forget, forget-step, given-depths, given-right}
 use Rattle.tv_agreed.specs.PlannedDepths.{NamedHave, OutputsGive}
 use Rattle.tv_agreed.proofs.OneStep.{AnyMeaning, MadeIs, made-is}
 use Rattle.tv_agreed.proofs.Settled.{none-feed}
-
--- ---- what an instance is given
-
-mutual
-  input-depth : (x : Name) (q : Place) (v : Value) (d : ℕ) → HasDepth v d → HasDepth (input_value x q v) d
-  input-depth x q (leaf n a) d h = h
-  input-depth x q (list n vs) zero h = absurd h
-  input-depth x q (list n vs) (suc d) h = inputs-depth x q 0 vs d h
-
-  inputs-depth : (x : Name) (q : Place) (i : ℕ) (vs : Trees (Unit {0}) Scalar) (d : ℕ) → AllHaveDepth vs d → AllHaveDepth (input_values x q i vs) d
-  inputs-depth x q i no_trees d h = tt
-  inputs-depth x q i (tree v vs) d h = (input-depth x (q ++ i ∷ []) v d h.0, inputs-depth x q (suc i) vs d h.1)
-
-abbrev given_as : List (Name × Value) → Name × ℕ → Name × Delivered
-given_as vs x = (x.0, record { depth = x.1; value = input_value x.0 [] (unwrap_or (named x.0 vs) (list tt no_trees)) })
-
-given-right : (vs : List (Name × Value)) (xs : List (Name × ℕ)) → InputsHave xs vs → AreRight (map (given_as vs) xs)
-given-right vs [] h = tt
-given-right vs (x ∷ xs) h = (input-depth x.0 [] (unwrap_or (named x.0 vs) (list tt no_trees)) x.1 h.0, given-right vs xs h.1)
-
-given-depths : (vs : List (Name × Value)) (xs : List (Name × ℕ)) → depths_of (map (given_as vs) xs) ≡ xs
-given-depths vs [] = refl
-given-depths vs (x ∷ xs) = ap (λ ys. x ∷ ys) (given-depths vs xs)
 
 -- ---- what is delivered
 
@@ -59,7 +36,7 @@ gives-right levels [] (d ∷ ds) h = absurd h
 gives-right levels (o ∷ os) [] h = absurd h
 gives-right levels (o ∷ os) (d ∷ ds) h = (h.2, gives-right levels os ds h.3)
 
-without-names : (ks : List (Name × ℕ)) (vs : List (Name × Traced)) → NamedHave ks vs → HaveDepths (map (λ k. k.1) ks) (map (λ v. v.1) vs)
+without-names : (ks : List (Name × ℕ)) (vs : List (Name × Traced)) → NamedHave ks vs → HaveTheseDepths (map (λ k. k.1) ks) (map (λ v. v.1) vs)
 without-names [] [] h = tt
 without-names [] (v ∷ vs) h = absurd h
 without-names (k ∷ ks) [] h = absurd h
@@ -135,9 +112,9 @@ module _ (gives : Giving) (flows : List (Name × Flow)) (inside : Name → JobNa
         (outputs-have (given_of flow vs) (made_in flow vs) (given-right vs flow.inputs have) (made-right flow.steps (depths_of (given_of flow vs)) (steps_depths (depths_of (given_of flow vs)) [] (ranked flow.steps)) (made_in flow vs) all-made) flow.outputs))
         agree.outputs
 
-    pub instance-delivers : HaveDepths (output_depths flow) (map (λ o. o.1) (instance_meaning gives inside I flow vs).outputs)
+    pub instance-delivers : HaveTheseDepths (output_depths flow) (map (λ o. o.1) (instance_meaning gives inside I flow vs).outputs)
     instance-delivers =
-        subst (λ ds. HaveDepths ds (map (λ o. o.1) (instance_meaning gives inside I flow vs).outputs)) (map-map (λ (k : Name × ℕ). k.1) (λ (o : Name × Feed). (o.0, feed_depth flow.inputs (flow_depths flow) o.1)) flow.outputs)
+        subst (λ ds. HaveTheseDepths ds (map (λ o. o.1) (instance_meaning gives inside I flow vs).outputs)) (map-map (λ (k : Name × ℕ). k.1) (λ (o : Name × Feed). (o.0, feed_depth flow.inputs (flow_depths flow) o.1)) flow.outputs)
         (without-names (measured_outputs flow) (instance_meaning gives inside I flow vs).outputs instance-outputs)
 
 -- ---- at every number of levels
@@ -158,6 +135,6 @@ flow-delivers gives flows sound zero f flow e n I vs h = absurd n
 flow-delivers gives flows sound (suc k) f flow e n I vs h =
     let s = sound f flow e in (
       tt,
-      subst (λ o. HaveDepths (output_depths flow) (map (λ x. x.1) (option_map_or (λ w. instance_meaning gives (flow_meaning gives flows k) I w vs) o no_meaning).outputs)) (sym e)
+      subst (λ o. HaveTheseDepths (output_depths flow) (map (λ x. x.1) (option_map_or (λ w. instance_meaning gives (flow_meaning gives flows k) I w vs) o no_meaning).outputs)) (sym e)
           (instance-delivers gives flows (flow_meaning gives flows k) k (flow-delivers gives flows sound k) I flow s.0 s.1 (steps-nest flows k f flow e n) vs h),
     )

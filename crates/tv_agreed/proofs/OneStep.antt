@@ -13,7 +13,7 @@ use Rattle.tv_depths.specs.Delivered.{Delivered, Ported, ported}
 use Rattle.tv_depths.specs.Steps.{port_mismatch, strategy_of}
 use Rattle.tv_depths.specs.CheckedDepths.{StepDepths, feed_depth, port_depth, steps_depths}
 use Rattle.tv_model.specs.Agreeing.{ActivitiesAgree, ActivitiesNest, FindThemselves, InputsAgree, NestsWithin, StepAgrees}
-use Rattle.tv_model.specs.Fitting.{AreRight}
+use Rattle.tv_model.specs.RightDepths.{AreRight}
 use Rattle.tv_model.specs.Instances.{node_jobs, step_made}
 use Rattle.tv_model.specs.Made.{Made, Meaning, Opened, delivered_outputs, endings, feed_value}
 use Rattle.tv_model.proofs.Tests.{Each}

@@ -18,11 +18,11 @@ use Rattle.tv_check.proofs.Inside.{each-by}
 use Rattle.tv_check.proofs.OfCycles.{IsThere, each-there}
 use Rattle.tv_model.specs.Agreeing.{Agrees, InputsHave, NestsWithin, StepsNest}
 use Rattle.tv_model.specs.Earlier.{job_list}
-use Rattle.tv_model.specs.Fitting.{HaveDepths}
+use Rattle.tv_model.specs.RightDepths.{HaveTheseDepths}
 use Rattle.tv_model.specs.Instances.{zip_names}
 use Rattle.tv_model.specs.Jobs.{Job}
 use Rattle.tv_model.specs.Made.{Made, Meaning, Opened}
-use Rattle.tv_model.specs.Meanings.{flow_meaning, instance_meaning, jobs_with_inside, meaning, most_nesting, no_meaning, steps_inside}
+use Rattle.tv_model.specs.Meanings.{flow_meaning, instance_meaning, jobs_with_inside, meaning, nesting_limit, no_meaning, steps_inside}
 use Rattle.tv_model.specs.Members.{In}
 use Rattle.tv_model.proofs.Tests.{Each, same_job_decides}
 use Rattle.tv_model.proofs.Fed.{each-all}
@@ -35,7 +35,8 @@ use Rattle.tv_agreed.specs.PlannedDepths.{IsAsPlanned, JobIsPlanned, NamedHave, 
 use Rattle.tv_agreed.proofs.Accepted.{accepted-agrees}
 use Rattle.tv_agreed.proofs.Lists.{all-each, named-each}
 use Rattle.tv_agreed.proofs.Opening.{InsideAt}
-use Rattle.tv_agreed.proofs.Inner.{first-nests, handed-have}
+use Rattle.tv_model.proofs.Results.{zip-have}
+use Rattle.tv_agreed.proofs.Inner.{first-nests}
 use Rattle.tv_agreed.proofs.OneStep.{JobIs, MadeIs}
 use Rattle.tv_agreed.proofs.OneInstance.{AllSound, flow-delivers, instance-made, instance-outputs, made_in, steps-nest}
 
@@ -67,8 +68,8 @@ module _ (gives : Giving) (flows : List (Name × Flow)) (sound : AllSound flows)
 
   record JobAt (I : JobName) (f : Name) (j : Job) : Type 0 where
     pub own : Stands I f j.instance j.step
-    pub inputs : HaveDepths (map (λ i. i.1.depth) own.step.inputs) j.inputs
-    pub result : HaveDepths (declared_depths own.step) j.result
+    pub inputs : HaveTheseDepths (map (λ i. i.1.depth) own.step.inputs) j.inputs
+    pub result : HaveTheseDepths (declared_depths own.step) j.result
     pub opens : (g : Name) → j.opens ≡ Some g → first_nested own.step.activities ≡ Some g
 
   abbrev AllAt : JobName → Name → Meaning → Type 0
@@ -135,8 +136,8 @@ module _ (gives : Giving) (flows : List (Name × Flow)) (sound : AllSound flows)
         let t = subst (λ p. InsideAt gives inside I w.step o.job p) e j.at.inside_it in
         let us = zip_names w.step.inputs o.job.inputs in
         let a = first-nests flows w.step (NestsWithin flows k) t.0 w.step.activities t.1 w.activities w.nests in
-        let inputs = subst (λ l. InputsHave l us) (sym a.0.2) (handed-have w.step.inputs o.job.inputs j.fit.inputs w.step.inputs w.once) in
-        let all = rec t.0 a.0.0 a.0.1 a.1 o.job.name us inputs (λ y i. sub y (subst (λ (z : Meaning). In y z.jobs) (sym t.3) i)) in (
+        let inputs = subst (λ l. InputsHave l us) (sym a.0.inputs) (zip-have w.step.inputs o.job.inputs j.fit.inputs w.step.inputs w.once) in
+        let all = rec t.0 a.0.flow a.0.is_flow a.1 o.job.name us inputs (λ y i. sub y (subst (λ (z : Meaning). In y z.jobs) (sym t.3) i)) in (
           λ s i. wider-step I o.job.name f t.0 o.job own refl t.2 s (all.0 s (subst (λ (z : Meaning). In s z.steps) t.3 i)),
           λ y i. wider-job I o.job.name f t.0 o.job own refl t.2 y (all.1 y (subst (λ (z : Meaning). In y z.jobs) t.3 i)),
         )
@@ -230,13 +231,13 @@ meanings-planned gives d formed accepted =
     let a = accepted-agrees d formed accepted in
     let sound = all-sound d formed a in
     let whole = meaning-whole gives AnyNumber d (each-all (λ f. StepsHave gives AnyNumber f.1) (λ f. each-all (λ s. AnyNumber s.1.jobs) (λ s. tt) f.1.steps) d.flows) in
-    let main = nesting-main d.flows most_nesting d.main a.nests in
-    let at = flow-at gives d.flows sound (meaning gives d).jobs most_nesting d.main main.0 main.1 a.nests [] d.inputs (a.inputs main.0 main.1) (λ j h. h) in
+    let main = nesting-main d.flows nesting_limit d.main a.nests in
+    let at = flow-at gives d.flows sound (meaning gives d).jobs nesting_limit d.main main.0 main.1 a.nests [] d.inputs (a.inputs main.0 main.1) (λ j h. h) in
     let unnamed : (p : Job) → In p (meaning gives d).jobs → p.name ≡ [] → ⊥ = λ p h e. let w = whole.jobs p h in no-nil p.instance w.key (sym e ∙ w.named) in
     record {
       steps = steps-planned gives d sound a (meaning gives d) unnamed whole.jobs_apart at;
       jobs = jobs-planned gives d sound a (meaning gives d) unnamed whole.jobs_apart at;
-      outputs = λ flow e. flow-outputs gives d.flows sound most_nesting d.main flow e a.nests [] d.inputs (a.inputs flow e);
+      outputs = λ flow e. flow-outputs gives d.flows sound nesting_limit d.main flow e a.nests [] d.inputs (a.inputs flow e);
     }
   where
     nesting-main : (flows : List (Name × Flow)) (k : ℕ) (f : Name) → NestsWithin flows k f → (flow : Flow) × (named f flows ≡ Some flow)

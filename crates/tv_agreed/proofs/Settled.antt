@@ -1,6 +1,7 @@
 -- The depths that a step sees when it is taken by rank are those that it sees once all steps are taken.
-use Rattle.std.specs.Prelude.{◌≡◌, refl, ℕ, suc, ◌-◌, ◌≤◌, List, [], ◌∷◌, ◌++◌, flat_map, Bool, true, false, ◌||◌, None, Some, slice_get}
+use Rattle.std.specs.Prelude.{◌≡◌, refl, ℕ, suc, ◌-◌, ◌≤◌, List, [], ◌∷◌, ◌++◌, flat_map, false, ◌||◌, None, Some, slice_get}
 use Rattle.std.proofs.Common.{arith, sym, ap, subst, ◌∙◌, inl, inr, append-nil}
+use Rattle.std.proofs.lemmas.Bool.{or_parts}
 use Rattle.tv_value.specs.Values.{Name}
 use Rattle.tv_flow.specs.Flows.{Feed, Step, StepInput}
 use Rattle.tv_depths.specs.CheckedDepths.{StepDepths, feed_depth, port_depth, step_depths, steps_depths}
@@ -29,14 +30,10 @@ none-feed done s ss h =
 
 -- ---- names that a list of names lacks
 
-neither : (a b : Bool) → (a || b) ≡ false → (a ≡ false) × (b ≡ false)
-neither true b e = cc
-neither false b e = (refl, e)
-
 lacks-both : (ns ms : List Name) (n : Name) → is_among (ns ++ ms) n ≡ false → (is_among ns n ≡ false) × (is_among ms n ≡ false)
 lacks-both [] ms n h = (refl, h)
 lacks-both (k ∷ ns) ms n h =
-    let p = neither (same_name n k) (is_among (ns ++ ms) n) h in
+    let p = or_parts (same_name n k) (is_among (ns ++ ms) n) h in
     let q = lacks-both ns ms n p.1 in
     (ap (λ b. b || is_among ns n) p.0 ∙ q.0, q.1)
 

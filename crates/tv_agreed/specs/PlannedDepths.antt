@@ -8,7 +8,7 @@ use Rattle.tv_strategy.specs.Sources.{Each}
 use Rattle.tv_depths.specs.Delivered.{Delivered, Ported, StepMeaning, ported}
 use Rattle.tv_depths.specs.Steps.{declared_depths}
 use Rattle.tv_check.specs.Plans.{flow_plan, step_plan}
-use Rattle.tv_model.specs.Fitting.{HaveDepths}
+use Rattle.tv_model.specs.RightDepths.{HaveTheseDepths}
 use Rattle.tv_model.specs.Jobs.{Job}
 use Rattle.tv_model.specs.Made.{Meaning}
 use Rattle.tv_agreed.specs.InstanceFlows.{StandsIn}
@@ -55,8 +55,8 @@ pub record StepIsPlanned (d : Document) (m : Meaning) (s : StepMeaning) : Type 0
 -- a job binds and gives values of the depths that its own step declares, and opens the first flow that this can
 pub record JobIsPlanned (d : Document) (m : Meaning) (j : Job) : Type 0 where
   pub own : StandsIn d m j.instance j.step
-  pub inputs : HaveDepths (map (λ i. i.1.depth) own.step.inputs) j.inputs
-  pub result : HaveDepths (declared_depths own.step) j.result
+  pub inputs : HaveTheseDepths (map (λ i. i.1.depth) own.step.inputs) j.inputs
+  pub result : HaveTheseDepths (declared_depths own.step) j.result
   pub opens : (g : Name) → j.opens ≡ Some g → first_nested own.step.activities ≡ Some g
 
 -- all steps and jobs, those of nested flows included, and the outputs of the main flow

@@ -18,8 +18,9 @@ use Rattle.tv_depths.specs.Ranks.{ranked}
 use Rattle.tv_model.specs.Jobs.{Job}
 use Rattle.tv_model.specs.Lineages as model
 use Rattle.tv_model.specs.Made.{Meaning, Opened, Made, feed_value}
-use Rattle.tv_model.specs.Meanings.{jobs_with_inside, instance_meaning, no_meaning, flow_meaning, most_nesting}
-use Rattle.tv_model.specs.Earlier.{job_list, given_of}
+use Rattle.tv_model.specs.Meanings.{jobs_with_inside, instance_meaning, no_meaning, flow_meaning, nesting_limit}
+use Rattle.tv_model.specs.Earlier.{job_list}
+use Rattle.tv_model.specs.Instances.{given_of}
 use Rattle.tv_model.proofs.Fed.{either, named_map_or, each-all, feed-has}
 use Rattle.tv_model.proofs.Members.{each_in, Apart, in-flat}
 use Rattle.tv_model.proofs.Instances.{given-free, steps_of, ranked-fresh}
@@ -259,7 +260,7 @@ flow-followed gives flows (suc depth) f vs =
     named_map_or (λ flow. Unit {0}) IsFollowed (λ flow. instance_meaning gives (flow_meaning gives flows depth) [] flow vs) (λ flow _. instance-followed gives (flow_meaning gives flows depth) (λ g n us. flow-whole gives AnyNumber flows (each-all _ (λ g. each-all (λ s. AnyNumber s.1.jobs) (λ s. tt) g.1.steps) flows) depth g n us) flow vs) f flows no_meaning (each-all (λ g. Unit {0}) (λ g. tt) flows) nothing-followed
 
 pub meaning-backward : BackwardIsLineage
-meaning-backward gives d rs f = (flow-followed gives d.flows most_nesting d.main d.inputs rs f).0
+meaning-backward gives d rs f = (flow-followed gives d.flows nesting_limit d.main d.inputs rs f).0
 
 pub meaning-forward : ForwardIsForward
-meaning-forward gives d rs f = (flow-followed gives d.flows most_nesting d.main d.inputs rs f).1
+meaning-forward gives d rs f = (flow-followed gives d.flows nesting_limit d.main d.inputs rs f).1

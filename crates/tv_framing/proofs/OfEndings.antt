@@ -15,7 +15,7 @@ use Rattle.tv_depths.specs.Delivered.{Delivered}
 use Rattle.tv_depths.specs.Ranks.{is_among, ranked}
 use Rattle.tv_depths.specs.Steps.{spot}
 use Rattle.tv_model.specs.Agreeing.{FlowAgrees, InputsHave}
-use Rattle.tv_model.specs.Earlier.{given_of}
+use Rattle.tv_model.specs.Instances.{given_of}
 use Rattle.tv_matching.proofs.OfMembers.{each-from, each-in}
 use Rattle.tv_framing.proofs.OfFrames.{in-finds, steps-distinct}
 use Rattle.tv_framing.specs.Answers.{has_ended_now}
@@ -71,10 +71,6 @@ module _ (flows : List (Name × Flow)) (v : View) (w : IsFrame v) (agree : FlowA
   has-all : (known : Origin → Bool) (ns : List Name) (fs : List InstanceStep) → Each (λ (f : InstanceStep). is_among ns f.step.step ≡ true) fs → have_ended known fs ns ≡ list_all (has_ended known) fs
   has-all known ns [] h = refl
   has-all known ns (f ∷ fs) h = ap₂ (λ a b. a && b) (cond-true (is_among ns f.step.step) (has_ended known f) true h.0) (has-all known ns fs h.1)
-
-  among-more : (ns : List Name) (n : Name) (fs : List InstanceStep) → Each (λ (f : InstanceStep). is_among ns f.step.step ≡ true) fs → Each (λ (f : InstanceStep). is_among (n ∷ ns) f.step.step ≡ true) fs
-  among-more ns n [] h = tt
-  among-more ns n (f ∷ fs) h = (or_right (same_name f.step.step n) (is_among ns f.step.step) h.0, among-more ns n fs h.1)
 
   among-own : (n : Name) (ns : List Name) → is_among (n ∷ ns) n ≡ true
   among-own n ns = ap (λ b. b || is_among ns n) ((bytes_decides n n).1 refl)

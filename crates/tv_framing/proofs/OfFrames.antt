@@ -18,7 +18,7 @@ use Rattle.tv_depths.specs.Delivered.{Delivered}
 use Rattle.tv_depths.specs.Ranks.{is_among, ranked}
 use Rattle.tv_model.proofs.Instances.{ranked-fresh}
 use Rattle.tv_model.proofs.Sound.{FreshNames}
-use Rattle.tv_model.specs.Earlier.{given_of}
+use Rattle.tv_model.specs.Instances.{given_of}
 use Rattle.tv_matching.specs.Items.{Bound, Item, Kind, Node, Stopped, all_known, closes, ends, item, within, kind_of, known_items, node_at, passes}
 use Rattle.tv_matching.specs.Members.{In}
 use Rattle.tv_matching.proofs.Nodes.{in-known, node-in, of-known}
@@ -105,14 +105,6 @@ Other n g = same_name g.step.step n ≡ false
 abbrev pub AreDistinct : List InstanceStep → Type 0
 AreDistinct [] = Unit {0}
 AreDistinct (f ∷ fs) = Each (Other f.step.step) fs × AreDistinct fs
-
-step_name : InstanceStep → Name
-step_name f = f.step.step
-
--- no step so far has a name that is still to come
-abbrev FreshFor : List InstanceStep → List (Name × Step) → Type 0
-FreshFor fs [] = Unit {0}
-FreshFor fs (s ∷ ss) = Each (λ (g : InstanceStep). same_name g.step.step s.0 ≡ false) fs × FreshFor fs ss
 
 finds-self : (f : InstanceStep) (fs : List InstanceStep) → Finds (f ∷ fs) f
 finds-self f fs = by (same_name f.step.step f.step.step) ((bytes_decides f.step.step f.step.step).1 refl)

@@ -1,6 +1,7 @@
 -- What a step's matcher holds after these events: by the laws of matching, and what it is told at the start.
 use Rattle.std.specs.Prelude.{◌≡◌, refl, ℕ, zero, suc, List, [], ◌∷◌, ◌++◌, Bool, true, false, ◌&&◌, map, IsPermutation}
 use Rattle.std.proofs.Common.{ap, ap₂}
+use Rattle.std.proofs.lemmas.Bool.{and_left}
 use Rattle.tv_value.specs.Nested.{leaf, list, Trees, no_trees, tree, all_notes, notes}
 use Rattle.tv_value.specs.Values.{JobName, Name, Scalar}
 use Rattle.tv_flow.specs.Flows.{Step}
@@ -34,10 +35,6 @@ same-if : {A : Type 0} (b c : Bool) (x : A) → b ≡ c → if_so b x ≡ if_so 
 same-if b c x e = ap (λ d. if_so d x) e
 
 module _ (known : Origin → Bool) where
-  every : (os : List Origin) → all_known (λ o. true) os ≡ true
-  every [] = refl
-  every (o ∷ os) = every os
-
   all-so : (os : List Origin) → Each (λ o. known o ≡ true) os → all_known known os ≡ all_known (λ o. true) os
   all-so [] h = refl
   all-so (o ∷ os) h = ap₂ (λ a b. a && b) h.0 (all-so os h.1)
@@ -55,10 +52,7 @@ module _ (known : Origin → Bool) where
 
   first-not : (v : Traced) → AtNodes (λ o. known o ≡ false) v → all_known known (notes v) ≡ false
   first-not (leaf o a) h = ap (λ b. b && true) h
-  first-not (list o vs) h = false-left (known o) (all_known known (all_notes vs)) h.0
-    where
-      false-left : (a b : Bool) → a ≡ false → (a && b) ≡ false
-      false-left a b e = ap (λ c. c && b) e
+  first-not (list o vs) h = and_left (known o) (all_known known (all_notes vs)) h.0
 
   mutual
     -- of an output nothing is told at the start

@@ -10,13 +10,13 @@ use Rattle.std.proofs.lemmas.List.{map-append}
 use Rattle.std.proofs.Math.Bool.{and-true}
 use Rattle.tv_value.specs.Nested.{leaf, list, no_trees, tree, Place, at, count, notes, all_notes, trees_of}
 use Rattle.tv_value.specs.Orders.{named, same_name}
-use Rattle.tv_value.specs.Values.{JobName, Name, Value}
+use Rattle.tv_value.specs.Values.{JobName, Name}
 use Rattle.tv_flow.specs.Flows.{Feed, Link, input, output, link, merge, constant, Step}
-use Rattle.tv_strategy.specs.Origins.{Origin, Traced, at_start, fixed, traced}
-use Rattle.tv_strategy.specs.Iterations.{Iteration, Iterations, walk, walk_each}
+use Rattle.tv_strategy.specs.Origins.{Origin, Traced, fixed, traced}
+use Rattle.tv_strategy.specs.Iterations.{Iteration, Iterations, walk}
 use Rattle.tv_strategy.specs.Sources.{Each, AtNodes}
 use Rattle.tv_strategy.proofs.OfSources.{notes-have, traced-have}
-use Rattle.tv_depths.specs.Delivered.{Delivered, feed_delivers, link_delivers, merged, nothing_delivered, wrapped}
+use Rattle.tv_depths.specs.Delivered.{Delivered, feed_delivers, link_delivers, nothing_delivered, wrapped}
 use Rattle.tv_depths.specs.Steps.{spot}
 use Rattle.tv_model.proofs.Sound.{AllStand, AllStandFrom, output-gives}
 use Rattle.tv_matching.specs.Items.{all_known, closes, end_kind, here, if_so, known_items, known_from, within}
@@ -25,7 +25,7 @@ use Rattle.tv_framing.proofs.OfGaining.{Same, gained-on_way, nothing-gained}
 use Rattle.tv_framing.specs.Gaining.{IsOutputOf, feed_whole, gained_from, gained_items, is_gained, link_whole, on_way, step_whole}
 use Rattle.tv_instance.proofs.OfWholeness.{output-whole}
 use Rattle.tv_instance.specs.ByResults.{InstanceStep, Results, outputs_by, result_at, step_by, step_of, steps_by}
-use Rattle.tv_instance.specs.Events.{Event, Events, event_place, event_step, is_known_by, known_by}
+use Rattle.tv_instance.specs.Events.{Event, Events, event_place, event_step, known_by}
 use Rattle.tv_instance.specs.Wholeness.{is_new, origin_at}
 use Rattle.tv_instances.proofs.OfEvents.{hits, one-more, own-spot}
 
@@ -143,19 +143,8 @@ module _ (instance : JobName) (results : Results) where
 -- ---- an event and what its ports gain
 
 module _ (instance : JobName) (e : Event) (es : Events) where
-  -- what is known from the start brings nothing
-  pub start-same : (o : Origin) → o.known ≡ at_start → Same (known_by instance es) (known_by instance (e ∷ es)) o
-  start-same o h = ap (is_known_by instance (e ∷ es)) h ∙ sym (ap (is_known_by instance es) h)
-
   pub start-gains : (p : Name) (k : ℕ) (v : Traced) → AtNodes (Same (known_by instance es) (known_by instance (e ∷ es))) v → gained_items (known_by instance es) (known_by instance (e ∷ es)) (walk p k v) ≡ []
   start-gains p k v h = nothing-gained (known_by instance es) (known_by instance (e ∷ es)) p k v h
-
-  pub constant-gains : (p : Name) (k : ℕ) (v : Value) → gained_items (known_by instance es) (known_by instance (e ∷ es)) (walk p k (traced fixed v)) ≡ []
-  constant-gains p k v = start-gains p k (traced fixed v) (traced-have (Same (known_by instance es) (known_by instance (e ∷ es))) fixed (start-same fixed refl) v)
-
-  -- a merge gains what its links gain, each within its index
-  pub merge-gains : (p : Name) (k : ℕ) (d : Delivered) (ds : List Delivered) → gained_items (known_by instance es) (known_by instance (e ∷ es)) (walk p (suc k) (merged (d ∷ ds)).value) ≡ gained_from (known_by instance es) (known_by instance (e ∷ es)) 0 (walk_each p k (trees_of (map (λ (x : Delivered). x.value) (d ∷ ds))))
-  merge-gains p k d ds = refl
 
   -- the event is of another step
   module _ (results : Results) (f : InstanceStep) (other : f.step.step ≡ event_step e → ⊥) where

@@ -12,9 +12,9 @@ use Rattle.tv_strategy.specs.Iterations.{Iteration, Iterations, job, passed}
 use Rattle.tv_strategy.specs.Sources.{JobsStand, JobsStandFrom}
 use Rattle.tv_depths.specs.Delivered.{Delivered}
 use Rattle.tv_depths.specs.Ranks.{is_among, ranked}
-use Rattle.tv_model.specs.Fitting.{HaveDepths}
+use Rattle.tv_model.specs.RightDepths.{HaveTheseDepths}
 use Rattle.tv_model.specs.Members.{In}
-use Rattle.tv_model.specs.Earlier.{given_of}
+use Rattle.tv_model.specs.Instances.{given_of}
 use Rattle.tv_model.proofs.Instances.{ranked-fresh}
 use Rattle.tv_model.proofs.Sound.{FreshNames}
 use Rattle.tv_instance.specs.Events as events
@@ -29,7 +29,7 @@ use Rattle.tv_instances.proofs.OfLegal.{GaveOnce, told-extends, told_results}
 
 -- one value for each output, of its declared depth
 abbrev pub FitOutputs : List Value → List (Name × ℕ) → Type 0
-FitOutputs vs ps = HaveDepths (map (λ (p : Name × ℕ). p.1) ps) vs
+FitOutputs vs ps = HaveTheseDepths (map (λ (p : Name × ℕ). p.1) ps) vs
 
 abbrev default_value : ℕ → Value
 default_value zero = text_value []

@@ -15,7 +15,7 @@ use Rattle.tv_instance.specs.Endings.{has_ended}
 use Rattle.tv_instance.specs.Events as events
 use Rattle.tv_instance.specs.Events.{Event, fault_set, gave, has_result, is_taken, known_by, took}
 use Rattle.tv_instance.specs.Legality.{IsLegalNext}
-use Rattle.tv_model.specs.Earlier.{given_of}
+use Rattle.tv_model.specs.Instances.{given_of}
 use Rattle.tv_framing.specs.Views.{InAll, View}
 
 -- the job with that number

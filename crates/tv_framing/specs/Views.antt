@@ -10,8 +10,8 @@ use Rattle.tv_instance.specs.ByResults.{InstanceStep, Results, steps_by}
 use Rattle.tv_instance.specs.Events as events
 use Rattle.tv_instance.specs.Events.{Events, Extends, fault_set, gave, has_result, took}
 use Rattle.tv_instance.specs.OwnDepths.{AllJobsGive}
-use Rattle.tv_model.specs.Earlier.{given_of}
-use Rattle.tv_model.specs.Fitting.{HaveDepths}
+use Rattle.tv_model.specs.Instances.{given_of}
+use Rattle.tv_model.specs.RightDepths.{HaveTheseDepths}
 use Rattle.tv_model.specs.Members.{In}
 
 pub record View : Type 0 where
@@ -41,7 +41,7 @@ InAll v P =
 abbrev pub AreGiven : List (Name × Step) → Events → Type 0
 AreGiven steps [] = Unit {0}
 AreGiven steps (gave s q vs ∷ es) =
-    ((t : Name × Step) → In t steps → t.0 ≡ s → HaveDepths (declared_depths t.1) vs)
+    ((t : Name × Step) → In t steps → t.0 ≡ s → HaveTheseDepths (declared_depths t.1) vs)
     × (has_result es s q ≡ false)
     × AreGiven steps es
 AreGiven steps (events.closed s q n ∷ es) = AreGiven steps es

@@ -16,38 +16,15 @@ use Rattle.tv_depths.specs.Ranks.{ranked}
 use Rattle.tv_depths.specs.Steps.{port_iteration, port_mismatch, spot, strategy_of}
 use Rattle.tv_depths.specs.CheckedDepths.{StepDepths, port_depth, step_depths}
 use Rattle.tv_model.specs.Agreeing.{FlowAgrees, InputsAgree, InputsHave, StepAgrees, StepsAgree}
-use Rattle.tv_model.specs.Earlier.{given_of}
-use Rattle.tv_model.specs.Fitting.{AreRight}
+use Rattle.tv_model.specs.Instances.{given_of}
+use Rattle.tv_model.specs.RightDepths.{AreRight}
 use Rattle.tv_model.specs.Made.{Made, feed_value, step_in}
-use Rattle.tv_model.proofs.Delivers.{depths_of, feed-right, forget, mismatches, ported-depth}
+use Rattle.tv_model.proofs.Delivers.{depths_of, feed-right, forget, given-depths, given-right, mismatches, ported-depth}
 use Rattle.tv_model.proofs.Fed.{step_iteration, step_ports}
 use Rattle.tv_model.proofs.OfDepths.{Takes, all-levels}
 use Rattle.tv_instance.specs.ByResults.{InstanceStep, Results, outputs_by, ports_on, result_at, step_by, step_of}
 use Rattle.tv_instance.specs.OwnDepths.{AllJobsGive, JobsGive}
 use Rattle.tv_instances.proofs.OfResults.{feed-map, itself}
-
--- ---- what an instance is given
-
-mutual
-  input-depth : (x : Name) (q : Place) (v : Value) (d : ℕ) → HasDepth v d → HasDepth (input_value x q v) d
-  input-depth x q (leaf n a) d h = h
-  input-depth x q (list n vs) zero h = absurd h
-  input-depth x q (list n vs) (suc d) h = inputs-depth x q 0 vs d h
-
-  inputs-depth : (x : Name) (q : Place) (i : ℕ) (vs : Trees (Unit {0}) Scalar) (d : ℕ) → AllHaveDepth vs d → AllHaveDepth (input_values x q i vs) d
-  inputs-depth x q i no_trees d h = tt
-  inputs-depth x q i (tree v vs) d h = (input-depth x (q ++ i ∷ []) v d h.0, inputs-depth x q (suc i) vs d h.1)
-
-abbrev pub given_as : List (Name × Value) → Name × ℕ → Name × Delivered
-given_as vs x = (x.0, record { depth = x.1; value = input_value x.0 [] (unwrap_or (named x.0 vs) (list tt no_trees)) })
-
-pub given-right : (vs : List (Name × Value)) (xs : List (Name × ℕ)) → InputsHave xs vs → AreRight (map (given_as vs) xs)
-given-right vs [] h = tt
-given-right vs (x ∷ xs) h = (input-depth x.0 [] (unwrap_or (named x.0 vs) (list tt no_trees)) x.1 h.0, given-right vs xs h.1)
-
-pub given-depths : (vs : List (Name × Value)) (xs : List (Name × ℕ)) → depths_of (map (given_as vs) xs) ≡ xs
-given-depths vs [] = refl
-given-depths vs (x ∷ xs) = ap (λ ys. x ∷ ys) (given-depths vs xs)
 
 -- ---- the laws of depth that are known of steps as a meaning makes them
 
@@ -56,10 +33,6 @@ as_made f = record { step = f.step; jobs = [] }
 
 abbrev pub forgotten : InstanceStep → StepDepths
 forgotten f = forget (as_made f)
-
-forget-all : (fs : List InstanceStep) → map forget (map as_made fs) ≡ map forgotten fs
-forget-all [] = refl
-forget-all (f ∷ fs) = ap (λ l. forgotten f ∷ l) (forget-all fs)
 
 steps-all : (fs : List InstanceStep) → map step_in (map as_made fs) ≡ map step_of fs
 steps-all [] = refl

@@ -17,7 +17,7 @@ use Rattle.tv_instance.specs.Events as events
 use Rattle.tv_instance.proofs.OfWholeness.{counted-whole}
 use Rattle.tv_instance.specs.ByResults.{InstanceStep}
 use Rattle.tv_instance.specs.Counting.{count_whole, whole_by}
-use Rattle.tv_instance.specs.Events.{Event, Events, closed_with, event_place, event_step, fault_set, faults_at, gave, has_fault, has_level, has_result, is_spot, known_by, levels_at, took}
+use Rattle.tv_instance.specs.Events.{Event, Events, closed_with, event_place, event_step, fault_set, gave, has_fault, has_level, is_spot, known_by, took}
 use Rattle.tv_instance.specs.Fitting.{FitStep, FitsNode}
 use Rattle.tv_instance.specs.Wholeness.{all_whole, is_whole, one_if, whole_items}
 use Rattle.tv_instances.proofs.OfEvents.{level-known, result-known}
@@ -62,9 +62,6 @@ module _ (f : InstanceStep) where
   fits-here : (e : Event) (t : Name) (r q : Place) → event_step e ≡ t → event_place e ≡ r → (same_name s (event_step e) ≡ true → FitsNode e (at it (event_place e))) → is_spot s q t r ≡ true → FitsNode e (at it q)
   fits-here e t r q a b h k =
       subst (λ x. FitsNode e (at it x)) (b ∙ sym ((bytes_decides q r).0 ((and_parts (same_name s t) (same_name q r) k).1))) (h (ap (same_name s) a ∙ (and_parts (same_name s t) (same_name q r) k).0))
-
-  fits-length : (e : Event) (t : Name) (x : Place) (n : ℕ) (r : List Origin) (ts : Iterations) (o : Option Iteration) → o ≡ Some (list r ts) → FitsNode (events.closed t x n) o → count ts ≡ n
-  fits-length e t x n r ts o h k = subst (FitsNode (events.closed t x n)) h k
 
   closed-fits : (es : Events) → FitStep f es → (q : Place) (n : ℕ) (r : List Origin) (ts : Iterations) → at it q ≡ Some (list r ts) → closed_with es s q ≡ Some n → count ts ≡ n
   closed-fits [] w q n r ts h k = absurd (none-some n k)

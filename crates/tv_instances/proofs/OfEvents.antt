@@ -7,7 +7,6 @@ use Rattle.std.proofs.lemmas.Bool.{and_from, and_parts, true≢false}
 use Rattle.tv_value.specs.Nested.{leaf, list, Place}
 use Rattle.tv_value.specs.Values.{JobName, Name}
 use Rattle.tv_value.specs.Orders.{same_job, same_name}
-use Rattle.tv_gate.specs.Outcomes.{Giving}
 use Rattle.tv_strategy.specs.Origins.{Known, Origin, at_start, by_job, by_level}
 use Rattle.tv_strategy.specs.Iterations.{job, passed, Iteration}
 use Rattle.tv_strategy.specs.Sources.{Each}
@@ -91,12 +90,12 @@ module _ (instance : JobName) where
 
   -- ---- the history says the same
 
-  module _ (gives : Giving) (m : Meaning) (past : History) (es : Events) (part : IsPartOf gives m past instance es) where
-    pub known-same : (k : Known) → IsOwn instance k → is_known gives m past k ≡ is_known_by instance es k
+  module _ (m : Meaning) (past : History) (es : Events) (part : IsPartOf m past instance es) where
+    pub known-same : (k : Known) → IsOwn instance k → is_known m past k ≡ is_known_by instance es k
     known-same at_start h = refl
-    known-same (by_job n) h = ap (is_settled_name gives m past) h.2 ∙ part.results h.0 h.1 ∙ result-known es h.0 h.1 ∙ ap (λ x. is_known_by instance es (by_job x)) (sym h.2)
-    known-same (by_level n) h = ap (has_entry gives m past) h.2 ∙ part.levels h.0 h.1 ∙ level-known es h.0 h.1 ∙ ap (λ x. is_known_by instance es (by_level x)) (sym h.2)
+    known-same (by_job n) h = ap (is_settled_name m past) h.2 ∙ part.results h.0 h.1 ∙ result-known es h.0 h.1 ∙ ap (λ x. is_known_by instance es (by_job x)) (sym h.2)
+    known-same (by_level n) h = ap (has_entry past) h.2 ∙ part.levels h.0 h.1 ∙ level-known es h.0 h.1 ∙ ap (λ x. is_known_by instance es (by_level x)) (sym h.2)
 
-    pub all-same : (os : List Origin) → Each (λ o. IsOwn instance o.known) os → all_known gives m past os ≡ list_all (known_by instance es) os
+    pub all-same : (os : List Origin) → Each (λ o. IsOwn instance o.known) os → all_known m past os ≡ list_all (known_by instance es) os
     all-same [] h = refl
     all-same (o ∷ os) h = ap₂ (λ a b. a && b) (known-same o.known h.0) (all-same os h.1)

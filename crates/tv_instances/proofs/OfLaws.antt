@@ -28,7 +28,7 @@ legal_events-fit instance fs f first es h = legal-fit instance fs f first es h
 
 pub open_instances-are_told : OpenInstancesAreToldByEvents
 open_instances-are_told gives m past instance es part now = record {
-  ready = λ fs j s q sources after h. ready-by_events gives m past instance es part now fs j s q sources after h;
-  settles = λ l s q h. settling-by_events gives m past instance es part now l s q h;
-  ends = λ fs h. ending-by_events gives m past instance es part now fs h;
+  ready = λ fs j s q sources after h. ready-by_events m past instance es part now fs j s q sources after h;
+  settles = λ l s q h. settling-by_events m past instance es part now l s q h;
+  ends = λ fs h. ending-by_events m past instance es part now fs h;
 }

@@ -12,7 +12,7 @@ use Rattle.tv_depths.specs.Steps.{spot}
 use Rattle.tv_model.proofs.Tests.{same_job_decides}
 use Rattle.tv_instance.specs.Events as events
 use Rattle.tv_instance.specs.ByResults.{InstanceStep, Results}
-use Rattle.tv_instance.specs.Events.{Event, Events, Extends, event_place, event_step, fault_set, gave, has_level, has_result, is_known_by, is_of, is_spot, is_telling, known_by, took}
+use Rattle.tv_instance.specs.Events.{Event, Events, Extends, event_place, event_step, fault_set, gave, has_result, is_spot, is_telling, known_by, took}
 use Rattle.tv_instance.specs.Fitting.{FitStep, FitsNode}
 use Rattle.tv_instance.specs.Legality.{AreLegal, IsFresh, node_of}
 use Rattle.tv_instance.specs.Wholeness.{origin_at}

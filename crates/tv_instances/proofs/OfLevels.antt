@@ -8,13 +8,13 @@ use Rattle.tv_strategy.specs.Sources.{Each}
 use Rattle.tv_depths.specs.CheckedDepths.{StepDepths, step_depths}
 use Rattle.tv_depths.specs.Delivered.{Delivered}
 use Rattle.tv_depths.specs.Ranks.{ranked}
-use Rattle.tv_model.specs.Earlier.{given_of}
-use Rattle.tv_model.specs.Fitting.{AreRight}
-use Rattle.tv_model.proofs.Delivers.{depths_of}
+use Rattle.tv_model.specs.Instances.{given_of}
+use Rattle.tv_model.specs.RightDepths.{AreRight}
+use Rattle.tv_model.proofs.Delivers.{depths_of, given-depths, given-right}
 use Rattle.tv_instance.specs.ByResults.{InstanceStep, Results, step_by, steps_by}
 use Rattle.tv_instance.specs.OwnDepths.{AreLevels}
 use Rattle.tv_instances.specs.Stated.{HasItsLevels, StepsHaveTheirLevels}
-use Rattle.tv_instances.proofs.InDepth.{HaveLevels, flow-levels, given-depths, given-right}
+use Rattle.tv_instances.proofs.InDepth.{HaveLevels, flow-levels}
 
 module _ (flows : List (Name × Flow)) (instance : JobName) (results : Results) (given : List (Name × Delivered)) (right : AreRight given) (levels : Name → ℕ) where
   abbrev IsLeveled : InstanceStep → Type 0

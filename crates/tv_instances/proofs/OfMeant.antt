@@ -14,8 +14,8 @@ use Rattle.tv_strategy.specs.Sources.{Each, JobsStand, JobsStandFrom}
 use Rattle.tv_depths.specs.Delivered.{Delivered, StepMeaning}
 use Rattle.tv_depths.specs.Ranks.{ranked}
 use Rattle.tv_depths.specs.Steps.{bound_values, declared_depths, spot}
-use Rattle.tv_model.specs.Earlier.{given_of}
-use Rattle.tv_model.specs.Fitting.{HaveDepths}
+use Rattle.tv_model.specs.Instances.{given_of}
+use Rattle.tv_model.specs.RightDepths.{HaveTheseDepths}
 use Rattle.tv_model.specs.Instances.{job_on, node_jobs, step_made, steps_made}
 use Rattle.tv_model.specs.Made.{Made, Meaning, Opened, endings}
 use Rattle.tv_model.specs.Members.{In}
@@ -35,13 +35,13 @@ skip zero vs = vs
 skip (suc k) [] = []
 skip (suc k) (v ∷ vs) = skip k vs
 
-pub first-fits : (k : ℕ) (vs : List Value) (p : Name × ℕ) (ps : List (Name × ℕ)) → HaveDepths (p.1 ∷ map (λ (x : Name × ℕ). x.1) ps) (skip k vs) → HasDepth (unwrap_or (slice_get vs k) (list tt no_trees)) p.1
+pub first-fits : (k : ℕ) (vs : List Value) (p : Name × ℕ) (ps : List (Name × ℕ)) → HaveTheseDepths (p.1 ∷ map (λ (x : Name × ℕ). x.1) ps) (skip k vs) → HasDepth (unwrap_or (slice_get vs k) (list tt no_trees)) p.1
 first-fits zero [] p ps h = absurd h
 first-fits zero (v ∷ vs) p ps h = h.0
 first-fits (suc k) [] p ps h = absurd h
 first-fits (suc k) (v ∷ vs) p ps h = first-fits k vs p ps h
 
-pub rest-fit : (k : ℕ) (vs : List Value) (p : Name × ℕ) (ps : List (Name × ℕ)) → HaveDepths (p.1 ∷ map (λ (x : Name × ℕ). x.1) ps) (skip k vs) → HaveDepths (map (λ (x : Name × ℕ). x.1) ps) (skip (suc k) vs)
+pub rest-fit : (k : ℕ) (vs : List Value) (p : Name × ℕ) (ps : List (Name × ℕ)) → HaveTheseDepths (p.1 ∷ map (λ (x : Name × ℕ). x.1) ps) (skip k vs) → HaveTheseDepths (map (λ (x : Name × ℕ). x.1) ps) (skip (suc k) vs)
 rest-fit zero [] p ps h = absurd h
 rest-fit zero (v ∷ vs) p ps h = h.1
 rest-fit (suc k) [] p ps h = absurd h
@@ -69,7 +69,7 @@ find-there {A = A} S R f g p z (y ∷ ys) h x i e = by (p y) refl i (λ k. find-
     by false k (inr j) rec = rec j
 
 module _ (gives : Giving) (inside : Name → JobName → List (Name × Value) → Meaning) (instance : JobName) (given : List (Name × Delivered)) (results : Results) where
-  module _ (ms : List Made) (n : Name) (s : Step) (give : Each (λ (o : Opened). HaveDepths (declared_depths s) o.job.result) (step_made gives inside instance given ms (n, s)).jobs) where
+  module _ (ms : List Made) (n : Name) (s : Step) (give : Each (λ (o : Opened). HaveTheseDepths (declared_depths s) o.job.result) (step_made gives inside instance given ms (n, s)).jobs) where
     abbrev m : Made
     m = step_made gives inside instance given ms (n, s)
 
@@ -80,15 +80,15 @@ module _ (gives : Giving) (inside : Name → JobName → List (Name × Value) �
       ap (λ (c : JobOutside). c.name) (job-core gives inside instance n s (r ++ endings ms s.after) q (bound_values s b)),
     )
 
-    made-stand : (agree : Agree gives inside instance given results m) (k : ℕ) (p : Name × ℕ) → ((o : Opened) → HaveDepths (declared_depths s) o.job.result → HasDepth (unwrap_or (slice_get o.job.result k) (list tt no_trees)) p.1) → JobsStand (λ q. HasDepth (result_at results n k q) p.1) [] m.step.iteration
+    made-stand : (agree : Agree gives inside instance given results m) (k : ℕ) (p : Name × ℕ) → ((o : Opened) → HaveTheseDepths (declared_depths s) o.job.result → HasDepth (unwrap_or (slice_get o.job.result k) (list tt no_trees)) p.1) → JobsStand (λ q. HasDepth (result_at results n k q) p.1) [] m.step.iteration
     made-stand agree k p g =
         jobs-of (λ q. HasDepth (result_at results n k q) p.1) (IsNode (nodes m.step.iteration))
         (λ q r b h. let t = there q r b h in
         subst (λ v. HasDepth v p.1) (agree k q)
-        (find-there (λ (o : Opened). HaveDepths (declared_depths s) o.job.result) (λ v. HasDepth v p.1) (λ (o : Opened). unwrap_or (slice_get o.job.result k) (list tt no_trees)) g (λ (o : Opened). same_job (spot instance n q) o.job.name) (list tt no_trees) m.jobs give t.0 t.1 ((same_job_decides (spot instance n q) t.0.job.name).1 (sym t.2))))
+        (find-there (λ (o : Opened). HaveTheseDepths (declared_depths s) o.job.result) (λ v. HasDepth v p.1) (λ (o : Opened). unwrap_or (slice_get o.job.result k) (list tt no_trees)) g (λ (o : Opened). same_job (spot instance n q) o.job.name) (list tt no_trees) m.jobs give t.0 t.1 ((same_job_decides (spot instance n q) t.0.job.name).1 (sym t.2))))
         m.step.iteration [] (nodes-in (nodes m.step.iteration) m.step.iteration [] (λ x h. h))
 
-    made-give : (f : InstanceStep) → m.step ≡ f.step → Agree gives inside instance given results m → (k : ℕ) (ps : List (Name × ℕ)) → ((o : Opened) → HaveDepths (declared_depths s) o.job.result → HaveDepths (map (λ (x : Name × ℕ). x.1) ps) (skip k o.job.result)) → JobsGive results f k ps
+    made-give : (f : InstanceStep) → m.step ≡ f.step → Agree gives inside instance given results m → (k : ℕ) (ps : List (Name × ℕ)) → ((o : Opened) → HaveTheseDepths (declared_depths s) o.job.result → HaveTheseDepths (map (λ (x : Name × ℕ). x.1) ps) (skip k o.job.result)) → JobsGive results f k ps
     made-give f e agree k [] h = tt
     made-give f e agree k (p ∷ ps) h =
         (subst (λ (t : StepMeaning). JobsStand (λ q. HasDepth (result_at results t.step k q) p.1) [] t.iteration) e (made-stand agree k p (λ o w. first-fits k o.job.result p ps (h o w))), made-give f e agree (suc k) ps (λ o w. rest-fit k o.job.result p ps (h o w)))

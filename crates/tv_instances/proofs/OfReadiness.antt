@@ -5,7 +5,6 @@ use Rattle.std.proofs.Common.{ap, ap₂, ◌∙◌}
 use Rattle.tv_value.specs.Nested.{Place}
 use Rattle.tv_value.specs.Values.{JobName, Name}
 use Rattle.tv_value.specs.Orders.{same_job}
-use Rattle.tv_gate.specs.Outcomes.{Giving}
 use Rattle.tv_strategy.specs.Origins.{Origin}
 use Rattle.tv_strategy.specs.Sources.{Each}
 use Rattle.tv_depths.specs.Delivered.{StepMeaning}
@@ -22,10 +21,10 @@ use Rattle.tv_instance.proofs.OfEndings.{waits-by}
 use Rattle.tv_instances.proofs.OfEvents.{all-same}
 use Rattle.tv_instances.specs.InHistory.{AreStepsOf, IsJobAt, IsLevelAt, IsPartOf}
 
-module _ (gives : Giving) (m : Meaning) (past : History) (instance : JobName) (es : Events) where
-  pub ready-by_events : IsPartOf gives m past instance es → is_open gives m past instance ≡ true → (fs : List InstanceStep) (j : Job) (s : Name) (q : Place) (sources : List Origin) (after : List Name) → IsJobAt gives m past instance es fs j s q sources after → is_ready gives m past j ≡ ready_by instance es fs after s q sources
+module _ (m : Meaning) (past : History) (instance : JobName) (es : Events) where
+  pub ready-by_events : IsPartOf m past instance es → is_open past instance ≡ true → (fs : List InstanceStep) (j : Job) (s : Name) (q : Place) (sources : List Origin) (after : List Name) → IsJobAt past instance es fs j s q sources after → is_ready m past j ≡ ready_by instance es fs after s q sources
   ready-by_events part now fs j s q sources after h =
-      ap₂ (λ a b. a && b) (ap₂ (λ a b. a && b) (ap₂ (λ a b. a && b) (ap (is_open gives m past) h.within ∙ now) (ap not (ap₂ (λ a b. a && not b) (ap (λ x. list_any (is_begun_entry x) past) h.name ∙ part.taken s q) h.settled))) (ap not h.settled)) (all-same instance gives m past es part j.waits h.own ∙ ap (are_known instance es) h.waits ∙ waits-by (known_by instance es) sources fs after)
+      ap₂ (λ a b. a && b) (ap₂ (λ a b. a && b) (ap₂ (λ a b. a && b) (ap (is_open past) h.within ∙ now) (ap not (ap₂ (λ a b. a && not b) (ap (λ x. list_any (is_begun_entry x) past) h.name ∙ part.taken s q) h.settled))) (ap not h.settled)) (all-same instance m past es part j.waits h.own ∙ ap (are_known instance es) h.waits ∙ waits-by (known_by instance es) sources fs after)
       ∙ tests (is_taken es s q) (has_result es s q) (are_known instance es sources && have_ended (known_by instance es) fs after)
     where
       tests : (a b c : Bool) → (true && not (a && not b) && not b && c) ≡ (not a && not b && c)
@@ -34,9 +33,9 @@ module _ (gives : Giving) (m : Meaning) (past : History) (instance : JobName) (e
       tests false true c = refl
       tests false false c = refl
 
-  pub settling-by_events : IsPartOf gives m past instance es → is_open gives m past instance ≡ true → (l : Level) (s : Name) (q : Place) → IsLevelAt instance l s q → can_settle gives m past l ≡ settles_by instance es s q l.sources
+  pub settling-by_events : IsPartOf m past instance es → is_open past instance ≡ true → (l : Level) (s : Name) (q : Place) → IsLevelAt instance l s q → can_settle m past l ≡ settles_by instance es s q l.sources
   settling-by_events part now l s q h =
-      ap₂ (λ a b. a && b) (ap₂ (λ a b. a && b) (ap (is_open gives m past) h.within ∙ now) (ap not (ap (has_entry gives m past) h.name ∙ part.levels s q))) (all-same instance gives m past es part l.sources h.own)
+      ap₂ (λ a b. a && b) (ap₂ (λ a b. a && b) (ap (is_open past) h.within ∙ now) (ap not (ap (has_entry past) h.name ∙ part.levels s q))) (all-same instance m past es part l.sources h.own)
 
   all-filtered : {A : Type 0} (p g : A → Bool) (xs : List A) → list_all (λ x. if p x then g x else true) xs ≡ list_all g (filter p xs)
   all-filtered p g [] = refl
@@ -46,10 +45,10 @@ module _ (gives : Giving) (m : Meaning) (past : History) (instance : JobName) (e
       by true h = ap (λ c. g x && c) h
       by false h = h
 
-  each-ending : IsPartOf gives m past instance es → (fs : List InstanceStep) → Each (λ f. Each (λ o. IsOwn instance o.known) f.step.ending) fs → list_all (λ (s : StepMeaning). all_known gives m past s.ending) (map step_of fs) ≡ ends_by instance es fs
+  each-ending : IsPartOf m past instance es → (fs : List InstanceStep) → Each (λ f. Each (λ o. IsOwn instance o.known) f.step.ending) fs → list_all (λ (s : StepMeaning). all_known m past s.ending) (map step_of fs) ≡ ends_by instance es fs
   each-ending part [] own = refl
-  each-ending part (f ∷ fs) own = ap₂ (λ a b. a && b) (all-same instance gives m past es part f.step.ending own.0) (each-ending part fs own.1)
+  each-ending part (f ∷ fs) own = ap₂ (λ a b. a && b) (all-same instance m past es part f.step.ending own.0) (each-ending part fs own.1)
 
-  pub ending-by_events : IsPartOf gives m past instance es → is_open gives m past instance ≡ true → (fs : List InstanceStep) → AreStepsOf m instance fs → can_end gives m past instance ≡ ends_by instance es fs
+  pub ending-by_events : IsPartOf m past instance es → is_open past instance ≡ true → (fs : List InstanceStep) → AreStepsOf m instance fs → can_end m past instance ≡ ends_by instance es fs
   ending-by_events part now fs h =
-      ap₂ (λ a b. a && b) now (all-filtered (λ (s : StepMeaning). same_job instance s.instance) (λ s. all_known gives m past s.ending) m.steps ∙ ap (list_all (λ (s : StepMeaning). all_known gives m past s.ending)) h.steps ∙ each-ending part fs h.own)
+      ap₂ (λ a b. a && b) now (all-filtered (λ (s : StepMeaning). same_job instance s.instance) (λ s. all_known m past s.ending) m.steps ∙ ap (list_all (λ (s : StepMeaning). all_known m past s.ending)) h.steps ∙ each-ending part fs h.own)

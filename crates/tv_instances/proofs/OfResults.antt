@@ -23,9 +23,9 @@ use Rattle.tv_depths.specs.Ranks.{is_among, ranked}
 use Rattle.tv_model.specs.Jobs.{Job}
 use Rattle.tv_model.specs.Made.{Meaning, Made, Opened, step_in, result_of, feed_value, endings}
 use Rattle.tv_model.specs.Instances.{step_made, steps_made, node_jobs, job_on, bounced_job, tried_job, with_fate}
-use Rattle.tv_model.specs.Earlier.{given_of}
+use Rattle.tv_model.specs.Instances.{given_of}
 use Rattle.tv_model.proofs.Sound.{AreDistinct, step_names}
-use Rattle.tv_model.proofs.Instances.{all-sound}
+use Rattle.tv_model.proofs.Instances.{all-distinct}
 use Rattle.tv_instance.specs.ByResults.{InstanceStep, Results, jobs_at_node, jobs_on, outputs_by, ports_on, result_at, step_by, step_of, step_on, steps_by}
 use Rattle.tv_instances.specs.OwnResults.{JobOutside, given_by, outside_by_results, outside_of_made, outside_of_opened, outside_of_placed, results_of}
 use Rattle.tv_instances.specs.Stated.{StepsAreByOwnResults}
@@ -201,10 +201,10 @@ module _ (instance : JobName) where
 pub steps-by_results : StepsAreByOwnResults
 steps-by_results gives inside instance flow vs =
     all-steps gives inside instance (given_of flow vs) (results_of instance (steps_made gives inside instance (given_of flow vs) [] (ranked flow.steps))) [] [] (ranked flow.steps) refl
-    (agree-each instance gives inside (given_of flow vs) _ _ (say-all instance (steps_made gives inside instance (given_of flow vs) [] (ranked flow.steps)) (all-sound gives inside instance flow vs).distinct))
+    (agree-each instance gives inside (given_of flow vs) _ _ (say-all instance (steps_made gives inside instance (given_of flow vs) [] (ranked flow.steps)) (all-distinct gives inside instance flow vs)))
 
 -- the results of an instance's own jobs agree with them
 pub own-agree : (gives : Giving) (inside : Name → JobName → List (Name × Value) → Meaning) (instance : JobName) (flow : Flow) (vs : List (Name × Value)) → Each (Agree gives inside instance (given_of flow vs) (results_of instance (steps_made gives inside instance (given_of flow vs) [] (ranked flow.steps)))) (steps_made gives inside instance (given_of flow vs) [] (ranked flow.steps))
 own-agree gives inside instance flow vs =
     let ms = steps_made gives inside instance (given_of flow vs) [] (ranked flow.steps) in
-    agree-each instance gives inside (given_of flow vs) (results_of instance ms) ms (say-all instance ms (all-sound gives inside instance flow vs).distinct)
+    agree-each instance gives inside (given_of flow vs) (results_of instance ms) ms (say-all instance ms (all-distinct gives inside instance flow vs))

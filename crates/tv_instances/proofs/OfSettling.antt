@@ -1,12 +1,11 @@
 -- A settlement that is legal for an instance is a legal entry of the history, and the other way.
-use Rattle.std.specs.Prelude.{◌≡◌, refl, ℕ, zero, suc, ◌==◌, ◌+◌, List, [], ◌∷◌, ◌++◌, Bool, true, false, not, ◌&&◌, ◌||◌, Option, Some, None, filter_map, is_none, option_and_then}
-use Rattle.std.specs.List.{list_all, list_any}
+use Rattle.std.specs.Prelude.{◌≡◌, refl, ℕ, zero, suc, ◌==◌, ◌+◌, List, [], ◌∷◌, ◌++◌, true, false, not, ◌&&◌, ◌||◌, Option, Some, None, filter_map, is_none, option_and_then}
+use Rattle.std.specs.List.{list_all}
 use Rattle.std.specs.Option.{option_map_or}
 use Rattle.std.specs.Cmp.Lexicographic.{bytes_decides}
-use Rattle.std.proofs.Common.{arith, eq-eqb, sym, ap, subst, ◌∙◌, append_assoc, append-nil, inl, inr}
+use Rattle.std.proofs.Common.{arith, eq-eqb, sym, ap, subst, ◌∙◌, append_assoc, append-nil}
 use Rattle.std.proofs.lemmas.Bool.{not-true, and_from, and_parts}
 use Rattle.std.proofs.lemmas.Option.{none-some, same_Some}
-use Rattle.std.proofs.lemmas.Bool.{or_right}
 use Rattle.tv_value.specs.Nested.{leaf, list, no_trees, tree, Place, at, count, item_at, nodes, note}
 use Rattle.tv_value.specs.Orders.{same_job, same_name}
 use Rattle.tv_value.specs.Values.{ErrorDoc, JobName, Name}
@@ -22,13 +21,13 @@ use Rattle.tv_model.specs.Members.{In}
 use Rattle.tv_history.specs.Entries.{History, closed, fault_passed}
 use Rattle.tv_history.specs.Histories.{can_settle, is_legal_after, is_open}
 use Rattle.tv_model.proofs.Formed.{IsNode, nodes-in}
-use Rattle.tv_model.proofs.Members.{in-flat, in-options}
+use Rattle.tv_model.proofs.Members.{in-flat, in-options, any-in}
 use Rattle.tv_model.proofs.Sound.{AllStand, AllStandFrom}
 use Rattle.tv_model.proofs.Tests.{same_job_decides}
 use Rattle.tv_instance.specs.Events as events
 use Rattle.tv_instance.specs.ByResults.{InstanceStep}
 use Rattle.tv_instance.specs.Endings.{IsOwn}
-use Rattle.tv_instance.specs.Events.{Event, Events, event_place, event_step, fault_set, has_level, known_by}
+use Rattle.tv_instance.specs.Events.{Events, fault_set, has_level, known_by}
 use Rattle.tv_instance.specs.Fitting.{FitsNode}
 use Rattle.tv_instance.specs.Legality.{HasSources, IsLegalNext, node_of}
 use Rattle.tv_instances.proofs.OfLegal.{node-here}
@@ -82,22 +81,17 @@ module _ (P : Origin → Type 0) where
     all_sources-at (tree t ts) r zero u h e = sources-at t r u h.0 e
     all_sources-at (tree t ts) r (suc k) u h e = all_sources-at ts r k u h.1 e
 
-any-in : {A : Type 0} (p : A → Bool) (x : A) (xs : List A) → In x xs → p x ≡ true → list_any p xs ≡ true
-any-in p x [] h e = absurd h
-any-in p x (y ∷ xs) (inl s) e = ap (λ b. b || list_any p xs) (ap p (sym s) ∙ e)
-any-in p x (y ∷ xs) (inr h) e = or_right (p y) (list_any p xs) (any-in p x xs h e)
-
 same-self : (s : Name) → same_name s s ≡ true
 same-self s = (bytes_decides s s).1 refl
 
-module _ (gives : Giving) (m : Meaning) (past : History) (instance : JobName) (es : Events) (part : IsPartOf gives m past instance es) (now : is_open gives m past instance ≡ true) (fs : List InstanceStep) (f : InstanceStep) (self : Finds fs f) (mine : In f.step m.steps) (here : f.step.instance ≡ instance) (own : SourcesHave (λ o. IsOwn instance o.known) f.step.iteration) where
+module _ (gives : Giving) (m : Meaning) (past : History) (instance : JobName) (es : Events) (part : IsPartOf m past instance es) (now : is_open past instance ≡ true) (fs : List InstanceStep) (f : InstanceStep) (self : Finds fs f) (mine : In f.step m.steps) (here : f.step.instance ≡ instance) (own : SourcesHave (λ o. IsOwn instance o.known) f.step.iteration) where
   -- the list or fault at a place of the step, as the meaning has it
   level-here : (q : Place) (u : Iteration) (l : Level) → at f.step.iteration q ≡ Some u → level_at f.step (q, u) ≡ Some l → In l (levels m.steps)
   level-here q u l h e = in-flat (λ (s : StepMeaning). filter_map (level_at s) (nodes s.iteration)) f.step l m.steps mine (in-options (level_at f.step) (q, u) l (nodes f.step.iteration) (node-listed f.step.iteration q u h) e)
 
-  settles : (q : Place) (u : Iteration) (l : Level) → at f.step.iteration q ≡ Some u → l.name ≡ spot instance f.step.step q → l.instance ≡ instance → l.sources ≡ note u → has_level es f.step.step q ≡ false → list_all (known_by instance es) (note u) ≡ true → can_settle gives m past l ≡ true
+  settles : (q : Place) (u : Iteration) (l : Level) → at f.step.iteration q ≡ Some u → l.name ≡ spot instance f.step.step q → l.instance ≡ instance → l.sources ≡ note u → has_level es f.step.step q ≡ false → list_all (known_by instance es) (note u) ≡ true → can_settle m past l ≡ true
   settles q u l h n i s fresh k =
-      settling-by_events gives m past instance es part now l f.step.step q (record { name = n; within = i; own = subst (Each (λ o. IsOwn instance o.known)) (sym s) (sources-at (λ o. IsOwn instance o.known) f.step.iteration q u own h) })
+      settling-by_events m past instance es part now l f.step.step q (record { name = n; within = i; own = subst (Each (λ o. IsOwn instance o.known)) (sym s) (sources-at (λ o. IsOwn instance o.known) f.step.iteration q u own h) })
       ∙ and_from (not (has_level es f.step.step q)) (list_all (known_by instance es) l.sources) (ap not fresh) (ap (list_all (known_by instance es)) s ∙ k)
 
   -- a list that can be closed is one that the history lets close
@@ -113,8 +107,8 @@ module _ (gives : Giving) (m : Meaning) (past : History) (instance : JobName) (e
       by (Some (list r ts)) e k s =
           let l : Level = record { name = spot f.step.instance f.step.step q; instance = f.step.instance; sources = r; length = Some (count ts) } in
           let name : l.name ≡ spot instance f.step.step q = ap (λ i. spot i f.step.step q) here in
-          any-in (λ (l : Level). same_job (spot instance f.step.step q) l.name && can_settle gives m past l && option_map_or (λ c. c == n) l.length false) l (levels m.steps) (level-here q (list r ts) l e refl)
-          (and_from (same_job (spot instance f.step.step q) l.name && can_settle gives m past l) (count ts == n) (and_from (same_job (spot instance f.step.step q) l.name) (can_settle gives m past l) ((same_job_decides (spot instance f.step.step q) l.name).1 (sym name)) (settles q (list r ts) l e name here refl h.fresh s)) (eq-eqb (count ts) n k))
+          any-in (λ (l : Level). same_job (spot instance f.step.step q) l.name && can_settle m past l && option_map_or (λ c. c == n) l.length false) l (levels m.steps) (level-here q (list r ts) l e refl)
+          (and_from (same_job (spot instance f.step.step q) l.name && can_settle m past l) (count ts == n) (and_from (same_job (spot instance f.step.step q) l.name) (can_settle m past l) ((same_job_decides (spot instance f.step.step q) l.name).1 (sym name)) (settles q (list r ts) l e name here refl h.fresh s)) (eq-eqb (count ts) n k))
 
   -- and so is a fault that can be set
   pub passing-legal : (q : Place) (d : ErrorDoc) → IsLegalNext instance fs es (fault_set f.step.step q d) → is_legal_after gives m past (fault_passed (spot instance f.step.step q)) ≡ true
@@ -130,20 +124,20 @@ module _ (gives : Giving) (m : Meaning) (past : History) (instance : JobName) (e
       by (Some (leaf r (passed x g))) e k s =
           let l : Level = record { name = spot f.step.instance f.step.step q; instance = f.step.instance; sources = r; length = None } in
           let name : l.name ≡ spot instance f.step.step q = ap (λ i. spot i f.step.step q) here in
-          any-in (λ (l : Level). same_job (spot instance f.step.step q) l.name && can_settle gives m past l && is_none l.length) l (levels m.steps) (level-here q (leaf r (passed x g)) l e refl)
-          (and_from (same_job (spot instance f.step.step q) l.name && can_settle gives m past l) true (and_from (same_job (spot instance f.step.step q) l.name) (can_settle gives m past l) ((same_job_decides (spot instance f.step.step q) l.name).1 (sym name)) (settles q (leaf r (passed x g)) l e name here refl h.fresh s)) refl)
+          any-in (λ (l : Level). same_job (spot instance f.step.step q) l.name && can_settle m past l && is_none l.length) l (levels m.steps) (level-here q (leaf r (passed x g)) l e refl)
+          (and_from (same_job (spot instance f.step.step q) l.name && can_settle m past l) true (and_from (same_job (spot instance f.step.step q) l.name) (can_settle m past l) ((same_job_decides (spot instance f.step.step q) l.name).1 (sym name)) (settles q (leaf r (passed x g)) l e name here refl h.fresh s)) refl)
 
   abbrev or_l : Level → Option Level → Level
   or_l d None = d
   or_l d (Some y) = y
 
-  known-parts : (q : Place) (u : Iteration) (l : Level) → at f.step.iteration q ≡ Some u → spot f.step.instance f.step.step q ≡ l.name → f.step.instance ≡ l.instance → note u ≡ l.sources → can_settle gives m past l ≡ true → (list_all (known_by instance es) (note u) ≡ true) × (has_level es f.step.step q ≡ false)
+  known-parts : (q : Place) (u : Iteration) (l : Level) → at f.step.iteration q ≡ Some u → spot f.step.instance f.step.step q ≡ l.name → f.step.instance ≡ l.instance → note u ≡ l.sources → can_settle m past l ≡ true → (list_all (known_by instance es) (note u) ≡ true) × (has_level es f.step.step q ≡ false)
   known-parts q u l h n i s k =
-      let e = sym (settling-by_events gives m past instance es part now l f.step.step q (record { name = sym n ∙ ap (λ x. spot x f.step.step q) here; within = sym i ∙ here; own = subst (Each (λ o. IsOwn instance o.known)) s (sources-at (λ o. IsOwn instance o.known) f.step.iteration q u own h) })) ∙ k in
+      let e = sym (settling-by_events m past instance es part now l f.step.step q (record { name = sym n ∙ ap (λ x. spot x f.step.step q) here; within = sym i ∙ here; own = subst (Each (λ o. IsOwn instance o.known)) s (sources-at (λ o. IsOwn instance o.known) f.step.iteration q u own h) })) ∙ k in
       (ap (list_all (known_by instance es)) s ∙ (and_parts (not (has_level es f.step.step q)) (list_all (known_by instance es) l.sources) e).1, not-true (has_level es f.step.step q) ((and_parts (not (has_level es f.step.step q)) (list_all (known_by instance es) l.sources) e).0))
 
   -- and whatever the history lets settle at a node of the step has known sources and was not told
-  pub settling-known : (q : Place) (u : Iteration) (l : Level) → at f.step.iteration q ≡ Some u → level_at f.step (q, u) ≡ Some l → can_settle gives m past l ≡ true → (list_all (known_by instance es) (note u) ≡ true) × (has_level es f.step.step q ≡ false)
+  pub settling-known : (q : Place) (u : Iteration) (l : Level) → at f.step.iteration q ≡ Some u → level_at f.step (q, u) ≡ Some l → can_settle m past l ≡ true → (list_all (known_by instance es) (note u) ≡ true) × (has_level es f.step.step q ≡ false)
   settling-known q (leaf r (job b)) l h e k = absurd (none-some l e)
   settling-known q (leaf r (passed x g)) l h e k = known-parts q (leaf r (passed x g)) l h (ap (λ o. (or_l l o).name) e) (ap (λ o. (or_l l o).instance) e) (ap (λ o. (or_l l o).sources) e) k
   settling-known q (list r ts) l h e k = known-parts q (list r ts) l h (ap (λ o. (or_l l o).name) e) (ap (λ o. (or_l l o).instance) e) (ap (λ o. (or_l l o).sources) e) k

@@ -4,7 +4,6 @@ use Rattle.std.specs.Prelude.{◌≡◌, ◌++◌, ◌∷◌, List, Some, false,
 use Rattle.tv_value.specs.Nested.{Place}
 use Rattle.tv_value.specs.Orders.{same_job, same_name}
 use Rattle.tv_value.specs.Values.{JobName, Name}
-use Rattle.tv_gate.specs.Outcomes.{Giving}
 use Rattle.tv_strategy.specs.Origins.{Origin}
 use Rattle.tv_strategy.specs.Sources.{Each, SourcesHave}
 use Rattle.tv_depths.specs.Delivered.{StepMeaning}
@@ -20,9 +19,9 @@ use Rattle.tv_history.specs.Entries.{Entry, History, is_accepted, is_begun_entry
 use Rattle.tv_history.specs.Histories.{has_entry, is_settled, is_settled_name}
 
 -- of the nodes of this instance, the events say what the history says
-pub record IsPartOf (gives : Giving) (m : Meaning) (past : History) (instance : JobName) (es : Events) : Type 0 where
-  pub results : (s : Name) (q : Place) → is_settled_name gives m past (spot instance s q) ≡ has_result es s q
-  pub levels : (s : Name) (q : Place) → has_entry gives m past (spot instance s q) ≡ has_level es s q
+pub record IsPartOf (m : Meaning) (past : History) (instance : JobName) (es : Events) : Type 0 where
+  pub results : (s : Name) (q : Place) → is_settled_name m past (spot instance s q) ≡ has_result es s q
+  pub levels : (s : Name) (q : Place) → has_entry past (spot instance s q) ≡ has_level es s q
   pub taken : (s : Name) (q : Place) → list_any (is_begun_entry (spot instance s q)) past ≡ is_taken es s q
 
 -- ---- entries that tell nothing of an instance
@@ -34,8 +33,8 @@ pub record SettlesNot (e : Entry) (n : JobName) : Type 0 where
   pub ended : is_ended_entry n e ≡ false
 
 -- whether the job of that name is settled stays the same with an entry
-abbrev pub StaysSettled : Giving → Meaning → History → Entry → JobName → Type 0
-StaysSettled gives m past e n = is_settled_name gives m (e ∷ past) n ≡ is_settled_name gives m past n
+abbrev pub StaysSettled : Meaning → History → Entry → JobName → Type 0
+StaysSettled m past e n = is_settled_name m (e ∷ past) n ≡ is_settled_name m past n
 
 -- it closes no list and passes no fault of the instance, and none of its jobs begins
 pub record IsOfNoLevel (e : Entry) (instance : JobName) : Type 0 where
@@ -43,15 +42,15 @@ pub record IsOfNoLevel (e : Entry) (instance : JobName) : Type 0 where
   pub begins : (s : Name) (q : Place) → is_begun_entry (spot instance s q) e ≡ false
 
 -- and none is settled with it
-pub record TellsNothing (gives : Giving) (m : Meaning) (past : History) (e : Entry) (instance : JobName) : Type 0 where
-  pub jobs : (s : Name) (q : Place) → StaysSettled gives m past e (spot instance s q)
+pub record TellsNothing (m : Meaning) (past : History) (e : Entry) (instance : JobName) : Type 0 where
+  pub jobs : (s : Name) (q : Place) → StaysSettled m past e (spot instance s q)
   pub rest : IsOfNoLevel e instance
 
 -- with this entry the job at place q of step s is settled, and it tells nothing else of the instance
-pub record Settles (gives : Giving) (m : Meaning) (past : History) (e : Entry) (instance : JobName) (s : Name) (q : Place)
+pub record Settles (m : Meaning) (past : History) (e : Entry) (instance : JobName) (s : Name) (q : Place)
     : Type 0 where
-  pub now : is_settled_name gives m (e ∷ past) (spot instance s q) ≡ true
-  pub others : (t : Name) (r : Place) → is_spot t r s q ≡ false → StaysSettled gives m past e (spot instance t r)
+  pub now : is_settled_name m (e ∷ past) (spot instance s q) ≡ true
+  pub others : (t : Name) (r : Place) → is_spot t r s q ≡ false → StaysSettled m past e (spot instance t r)
   pub rest : IsOfNoLevel e instance
 
 -- ---- jobs, lists and faults of a meaning, as one of its instances has them
@@ -61,11 +60,11 @@ abbrev pub AllOwn : JobName → List Origin → Type 0
 AllOwn instance os = Each (λ o. IsOwn instance o.known) os
 
 -- the job at place q of step s, with these sources, that runs after these steps
-pub record IsJobAt (gives : Giving) (m : Meaning) (past : History) (instance : JobName) (es : Events) (fs : List InstanceStep)
+pub record IsJobAt (past : History) (instance : JobName) (es : Events) (fs : List InstanceStep)
     (j : Job) (s : Name) (q : Place) (sources : List Origin) (after : List Name) : Type 0 where
   pub name : j.name ≡ spot instance s q
   pub within : j.instance ≡ instance
-  pub settled : is_settled gives m past j ≡ has_result es s q
+  pub settled : is_settled past j ≡ has_result es s q
   pub waits : j.waits ≡ sources ++ endings_of step_of fs after
   pub own : AllOwn instance j.waits
 

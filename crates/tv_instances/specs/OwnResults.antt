@@ -10,7 +10,7 @@ use Rattle.tv_strategy.specs.Sources.{Each}
 use Rattle.tv_depths.specs.Delivered.{Delivered, StepMeaning}
 use Rattle.tv_depths.specs.Steps.{declared_depths, spot}
 use Rattle.tv_instance.specs.ByResults.{InstanceStep, PlacedJob, Results}
-use Rattle.tv_model.specs.Fitting.{HaveDepths}
+use Rattle.tv_model.specs.RightDepths.{HaveTheseDepths}
 use Rattle.tv_model.specs.Instances.{step_made}
 use Rattle.tv_model.specs.Made.{Made, Meaning, Opened}
 
@@ -49,4 +49,4 @@ module _ (gives : Giving) (inside : Name → JobName → List (Name × Value) �
   AllMadeGive ms [] = Unit {0}
   AllMadeGive ms (s ∷ ss) =
       let m = step_made gives inside instance given ms s in
-      Each (λ (o : Opened). HaveDepths (declared_depths s.1) o.job.result) m.jobs × AllMadeGive (m ∷ ms) ss
+      Each (λ (o : Opened). HaveTheseDepths (declared_depths s.1) o.job.result) m.jobs × AllMadeGive (m ∷ ms) ss

@@ -24,8 +24,8 @@ use Rattle.tv_instance.specs.OwnDepths.{AllJobsGive, AreLevels}
 use Rattle.tv_instance.specs.Readiness.{ends_by, ready_by, settles_by}
 use Rattle.tv_instance.specs.Wholeness.{is_whole}
 use Rattle.tv_model.specs.Agreeing.{FlowAgrees, InputsHave}
-use Rattle.tv_model.specs.Earlier.{given_of}
-use Rattle.tv_model.specs.Fitting.{AreRight}
+use Rattle.tv_model.specs.Instances.{given_of}
+use Rattle.tv_model.specs.RightDepths.{AreRight}
 use Rattle.tv_model.specs.Instances.{steps_made}
 use Rattle.tv_model.specs.Jobs.{Job}
 use Rattle.tv_model.specs.Levels.{Level, level_at}
@@ -115,21 +115,21 @@ LegalEventsFit =
 -- ---- what a history says of one of its open instances
 
 -- by the instance's events it is told which of its jobs are ready, which lists and faults can be settled, and whether it can end
-pub record IsToldByEvents (gives : Giving) (m : Meaning) (past : History) (instance : JobName) (es : Events) : Type 0 where
+pub record IsToldByEvents (m : Meaning) (past : History) (instance : JobName) (es : Events) : Type 0 where
   pub ready :
       (fs : List InstanceStep) (j : Job) (s : Name) (q : Place) (sources : List Origin) (after : List Name)
-      → IsJobAt gives m past instance es fs j s q sources after
-      → is_ready gives m past j ≡ ready_by instance es fs after s q sources
+      → IsJobAt past instance es fs j s q sources after
+      → is_ready m past j ≡ ready_by instance es fs after s q sources
   pub settles :
       (l : Level) (s : Name) (q : Place) → IsLevelAt instance l s q
-      → can_settle gives m past l ≡ settles_by instance es s q l.sources
-  pub ends : (fs : List InstanceStep) → AreStepsOf m instance fs → can_end gives m past instance ≡ ends_by instance es fs
+      → can_settle m past l ≡ settles_by instance es s q l.sources
+  pub ends : (fs : List InstanceStep) → AreStepsOf m instance fs → can_end m past instance ≡ ends_by instance es fs
 
 abbrev pub OpenInstancesAreToldByEvents : Type 0
 OpenInstancesAreToldByEvents =
     (gives : Giving) (m : Meaning) (past : History) (instance : JobName) (es : Events)
-    → IsPartOf gives m past instance es → is_open gives m past instance ≡ true
-    → IsToldByEvents gives m past instance es
+    → IsPartOf m past instance es → is_open past instance ≡ true
+    → IsToldByEvents m past instance es
 
 -- a list of the step that may be closed by the instance's events may be closed in the history, and so may a fault be passed; and what
 -- the history lets settle at a node of the step has known sources, and nothing was told of it
@@ -143,51 +143,51 @@ pub record SettlesLegally (gives : Giving) (m : Meaning) (past : History) (insta
       → is_legal_after gives m past (fault_passed (spot instance f.step.step q)) ≡ true
   pub new :
       (q : Place) (u : Iteration) (l : Level)
-      → at f.step.iteration q ≡ Some u → level_at f.step (q, u) ≡ Some l → can_settle gives m past l ≡ true
+      → at f.step.iteration q ≡ Some u → level_at f.step (q, u) ≡ Some l → can_settle m past l ≡ true
       → (list_all (known_by instance es) (note u) ≡ true) × (has_level es f.step.step q ≡ false)
 
 abbrev pub SettlementsAreLegal : Type 0
 SettlementsAreLegal =
     (gives : Giving) (m : Meaning) (past : History) (instance : JobName) (es : Events)
-    → IsPartOf gives m past instance es → is_open gives m past instance ≡ true
+    → IsPartOf m past instance es → is_open past instance ≡ true
     → (fs : List InstanceStep) (f : InstanceStep) → IsStepHere m instance fs f
     → SettlesLegally gives m past instance es fs f
 
 -- ---- an entry more
 
 -- the events that are the instance's part of a history after one entry more
-pub record PartGoesOn (gives : Giving) (m : Meaning) (past : History) (instance : JobName) (es : Events) : Type 0 where
+pub record PartGoesOn (m : Meaning) (past : History) (instance : JobName) (es : Events) : Type 0 where
   -- those before, where the entry tells nothing of the instance
-  pub stays : (e : Entry) → TellsNothing gives m past e instance → IsPartOf gives m (e ∷ past) instance es
+  pub stays : (e : Entry) → TellsNothing m past e instance → IsPartOf m (e ∷ past) instance es
   pub closed :
       (s : Name) (q : Place) (n : ℕ)
-      → IsPartOf gives m (closed (spot instance s q) n ∷ past) instance (events.closed s q n ∷ es)
+      → IsPartOf m (closed (spot instance s q) n ∷ past) instance (events.closed s q n ∷ es)
   pub passed :
       (s : Name) (q : Place) (d : ErrorDoc)
-      → IsPartOf gives m (fault_passed (spot instance s q) ∷ past) instance (fault_set s q d ∷ es)
+      → IsPartOf m (fault_passed (spot instance s q) ∷ past) instance (fault_set s q d ∷ es)
   -- a job is taken with its first try, or where it opens its flow
   pub handed_out :
       (s : Name) (q : Place) (a t : ℕ)
-      → IsPartOf gives m (handed_out (spot instance s q) a t ∷ past) instance (took s q ∷ es)
-  pub opened : (s : Name) (q : Place) → IsPartOf gives m (opened (spot instance s q) ∷ past) instance (took s q ∷ es)
+      → IsPartOf m (handed_out (spot instance s q) a t ∷ past) instance (took s q ∷ es)
+  pub opened : (s : Name) (q : Place) → IsPartOf m (opened (spot instance s q) ∷ past) instance (took s q ∷ es)
   -- an entry with which a job is settled is the event that it gave, with whatever values
   pub settled :
-      (e : Entry) (s : Name) (q : Place) (vs : List Value) → Settles gives m past e instance s q
-      → IsPartOf gives m (e ∷ past) instance (gave s q vs ∷ es)
+      (e : Entry) (s : Name) (q : Place) (vs : List Value) → Settles m past e instance s q
+      → IsPartOf m (e ∷ past) instance (gave s q vs ∷ es)
 
 abbrev pub EntriesAreEvents : Type 0
 EntriesAreEvents =
     (gives : Giving) (m : Meaning) (past : History) (instance : JobName) (es : Events)
-    → IsPartOf gives m past instance es → PartGoesOn gives m past instance es
+    → IsPartOf m past instance es → PartGoesOn m past instance es
 
 -- a recall tells nothing of any instance
 abbrev pub RecalledIsNone : Type 0
 RecalledIsNone =
     (gives : Giving) (m : Meaning) (past : History) (instance : JobName) (k : ℕ)
-    → TellsNothing gives m past (recalled k) instance
+    → TellsNothing m past (recalled k) instance
 
 -- nor does an entry of another job settle one
 abbrev pub OthersStaySettled : Type 0
 OthersStaySettled =
     (gives : Giving) (m : Meaning) (past : History) (e : Entry) (n : JobName)
-    → SettlesNot e n → StaysSettled gives m past e n
+    → SettlesNot e n → StaysSettled m past e n

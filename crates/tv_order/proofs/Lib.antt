@@ -1,4 +1,3 @@
-pub mod OneMore
 pub mod OfOrder
 pub mod OfStrict
 pub mod OfFirst

@@ -2,13 +2,15 @@
 use Rattle.std.specs.Prelude.{◌≡◌, refl, ℕ, zero, suc, ◌+◌, ◌*◌, ◌≤◌, ◌⊎◌, List, [], ◌∷◌, ◌++◌, length, filter, Bool, true, false, not, ◌&&◌, ◌||◌, if◌then◌else◌, cond, Option, Some, None, is_some, count_by}
 use Rattle.std.specs.List.{list_all}
 use Rattle.std.proofs.Common.{arith, sym, ap, subst, ◌∙◌, inl, inr, append_assoc, append-nil, length-append}
+use Rattle.std.proofs.lemmas.Bool.{not-true}
+use Rattle.tv_lemmas.proofs.Cases.{on_either}
 use Rattle.tv_value.specs.Nested.{Place}
 use Rattle.tv_value.specs.Values.{JobName, Name}
 use Rattle.tv_gate.specs.Outcomes.{Giving}
 use Rattle.tv_flow.specs.Flows.{Document}
 use Rattle.tv_model.specs.Jobs.{Job}
 use Rattle.tv_model.specs.Made.{Meaning}
-use Rattle.tv_model.specs.Meanings.{meaning, most_nesting}
+use Rattle.tv_model.specs.Meanings.{meaning, nesting_limit}
 use Rattle.tv_model.proofs.Tests.{true≠false, left_true, right_true, both_true}
 use Rattle.tv_model.proofs.Turns.{In}
 use Rattle.tv_model.proofs.Order.{in-append}
@@ -18,12 +20,13 @@ use Rattle.tv_history.specs.Entries.{History, is_out}
 use Rattle.tv_history.specs.Going.{IsWellFormed}
 use Rattle.tv_history.specs.Histories.{can_open, can_settle_more, has_open_instance, instances, is_legal, is_offered, is_open}
 use Rattle.tv_history.proofs.Ready.{AnyNumber, are-jobs}
-use Rattle.tv_history.proofs.Running.{all_in, not_true}
 use Rattle.tv_history.proofs.OneWorker.{Before, not-both}
+use Rattle.tv_history.proofs.Tests.{all_in, passing-in}
+use Rattle.tv_history.proofs.Counts.{bit, tally}
 use Rattle.tv_order.specs.Chains.{is_inside}
 use Rattle.tv_order.specs.FirstIn.{AreHeld, entered_among, entered_in, first_in}
 use Rattle.tv_order.specs.JobOrder.{AllPairs}
-use Rattle.tv_order.proofs.OfTallies.{bit, tally, tally-none}
+use Rattle.tv_order.proofs.OfTallies.{tally-none}
 use Rattle.tv_order.proofs.OfFirst.{FirstOf, Under, going-open, walked}
 use Rattle.tv_order.proofs.OfStill.{few-still, inside-parts}
 use Rattle.tv_order.proofs.OfDocuments.{any-first, any-laid, any-whole, goes-going, name-length, shut}
@@ -34,59 +37,29 @@ filter-tally : {A : Type 0} (p : A → Bool) (xs : List A) → length (filter p 
 filter-tally p [] = refl
 filter-tally {A = A} p (x ∷ xs) = by (p x) (filter-tally p xs)
   where
-    one : (a b : ℕ) → a ≡ b → suc a ≡ 1 + b
-    one a b h = omega arith
-
-    none : (a b : ℕ) → a ≡ b → a ≡ 0 + b
-    none a b h = omega arith
-
     by : (b : Bool) → length (filter p xs) ≡ tally p xs → length (cond b (x ∷ filter p xs) (filter p xs)) ≡ bit b + tally p xs
-    by true h = one (length (filter p xs)) (tally p xs) h
-    by false h = none (length (filter p xs)) (tally p xs) h
-
-pub of-filter : {A : Type 0} (p : A → Bool) (y : A) (xs : List A) → In y (filter p xs) → In y xs × (p y ≡ true)
-of-filter p y [] h = absurd h
-of-filter {A = A} p y (x ∷ xs) h = by (p x) refl h (λ k. of-filter p y xs k)
-  where
-    by : (b : Bool) → p x ≡ b → In y (cond b (x ∷ filter p xs) (filter p xs)) → (In y (filter p xs) → In y xs × (p y ≡ true)) → In y (x ∷ xs) × (p y ≡ true)
-    by true e (inl q) rec = (inl q, ap p q ∙ e)
-    by true e (inr k) rec = let r = rec k in (inr r.0, r.1)
-    by false e k rec = let r = rec k in (inr r.0, r.1)
+    by true h = omega (arith, h)
+    by false h = omega (arith, h)
 
 apart-filter : {A K : Type 0} (key : A → K) (p : A → Bool) (xs : List A) → Apart key xs → Apart key (filter p xs)
 apart-filter key p [] a = tt
 apart-filter {A = A} key p (x ∷ xs) a = by (p x) (apart-filter key p xs a.1)
   where
     by : (b : Bool) → Apart key (filter p xs) → Apart key (cond b (x ∷ filter p xs) (filter p xs))
-    by true h = (λ y k e. a.0 y (of-filter p y xs k).0 e, h)
+    by true h = (λ y k e. a.0 y (passing-in p y xs k).0 e, h)
     by false h = h
 
 halves : {A : Type 0} (p : A → Bool) (xs : List A) → length xs ≡ tally p xs + tally (λ x. not (p x)) xs
-halves p [] = none
-  where
-    none : 0 ≡ 0 + 0
-    none = omega arith
+halves p [] = omega arith
 halves {A = A} p (x ∷ xs) = by (p x) (halves p xs)
   where
-    left : (a b c : ℕ) → a ≡ b + c → suc a ≡ (1 + b) + (0 + c)
-    left a b c h = omega arith
-
-    right : (a b c : ℕ) → a ≡ b + c → suc a ≡ (0 + b) + (1 + c)
-    right a b c h = omega arith
-
     by : (b : Bool) → length xs ≡ tally p xs + tally (λ x. not (p x)) xs → suc (length xs) ≡ (bit b + tally p xs) + (bit (not b) + tally (λ x. not (p x)) xs)
-    by true h = left (length xs) (tally p xs) (tally (λ x. not (p x)) xs) h
-    by false h = right (length xs) (tally p xs) (tally (λ x. not (p x)) xs) h
+    by true h = omega (arith, h)
+    by false h = omega (arith, h)
 
 tally-append : {A : Type 0} (p : A → Bool) (xs ys : List A) → tally p (xs ++ ys) ≡ tally p xs + tally p ys
-tally-append p [] ys = zero_left (tally p ys)
-  where
-    zero_left : (n : ℕ) → n ≡ 0 + n
-    zero_left n = omega arith
-tally-append p (x ∷ xs) ys = sum (bit (p x)) (tally p xs) (tally p ys) (tally p (xs ++ ys)) (tally-append p xs ys)
-  where
-    sum : (a b c d : ℕ) → d ≡ b + c → a + d ≡ (a + b) + c
-    sum a b c d h = omega arith
+tally-append p [] ys = omega arith
+tally-append p (x ∷ xs) ys = omega (arith, tally-append p xs ys)
 
 all-of : {A : Type 0} (p : A → Bool) (xs : List A) → ((x : A) → In x xs → p x ≡ true) → list_all p xs ≡ true
 all-of p [] f = refl
@@ -94,15 +67,15 @@ all-of p (x ∷ xs) f = both_true (p x) (list_all p xs) (f x (inl refl)) (all-of
 
 -- ---- the walk
 
-module _ (gives : Giving) (d : Document) (f : IsWellFormed d) (past : History) (legal : is_legal gives (meaning gives d) past ≡ true) (quiet : can_settle_more gives (meaning gives d) past ≡ false) (held : JobName → List Job) (are : AreHeld gives (meaning gives d) past held (λ j. is_offered gives (meaning gives d) past j || can_open gives (meaning gives d) past j)) where
+module _ (gives : Giving) (d : Document) (f : IsWellFormed d) (past : History) (legal : is_legal gives (meaning gives d) past ≡ true) (quiet : can_settle_more (meaning gives d) past ≡ false) (held : JobName → List Job) (are : AreHeld (meaning gives d) past held (λ j. is_offered (meaning gives d) past j || can_open (meaning gives d) past j)) where
   abbrev m : Meaning
   m = meaning gives d
 
   abbrev goes : Job → Bool
-  goes j = is_offered gives m past j || can_open gives m past j
+  goes j = is_offered m past j || can_open m past j
 
   abbrev into : Job → Bool
-  into j = has_open_instance gives m past j
+  into j = has_open_instance past j
 
   abbrev first_of : ℕ → JobName → Option Job
   first_of k I = first_in held into goes k I
@@ -130,25 +103,21 @@ module _ (gives : Giving) (d : Document) (f : IsWellFormed d) (past : History) (
 
       by : (b : Bool) → into j ≡ b → In J (if b then entered k j.name ++ (if is_some (first_of k j.name) then [] else among k js) else (if goes j then [] else among k js)) → (In J (among k js) → (z : Job) × In z js × (into z ≡ true) × In J (entered k z.name)) → (z : Job) × In z (j ∷ js) × (into z ≡ true) × In J (entered k z.name)
       by false e u rec = later rec (rest (goes j) u)
-      by true e u rec = cases (in-append J (entered k j.name) (if is_some (first_of k j.name) then [] else among k js) u)
-        where
-          cases : In J (entered k j.name) ⊎ In J (if is_some (first_of k j.name) then [] else among k js) → (z : Job) × In z (j ∷ js) × (into z ≡ true) × In J (entered k z.name)
-          cases (inl v) = (j, inl refl, e, v)
-          cases (inr v) = later rec (rest (is_some (first_of k j.name)) v)
+      by true e u rec = on_either (in-append J (entered k j.name) (if is_some (first_of k j.name) then [] else among k js) u) (λ v. (j, inl refl, e, v)) (λ v. later rec (rest (is_some (first_of k j.name)) v))
 
-  opener-in : (j : Job) → In j m.jobs → into j ≡ true → In j.name (instances gives m)
-  opener-in j h e = inr (in-options (λ j. if is_some j.opens then Some j.name else None) j j.name m.jobs h (ap (λ b. if b then Some j.name else None) (left_true (is_some j.opens) (is_open gives m past j.name) e)))
+  opener-in : (j : Job) → In j m.jobs → into j ≡ true → In j.name (instances m)
+  opener-in j h e = inr (in-options (λ j. if is_some j.opens then Some j.name else None) j j.name m.jobs h (ap (λ b. if b then Some j.name else None) (left_true (is_some j.opens) (is_open past j.name) e)))
 
   abbrev IsEntered : JobName → JobName → Type 0
-  IsEntered I J = ((r : JobName) × (J ≡ I ++ r)) × (is_open gives m past J ≡ true) × In J (instances gives m)
+  IsEntered I J = ((r : JobName) × (J ≡ I ++ r)) × (is_open past J ≡ true) × In J (instances m)
 
-  facts : (k : ℕ) (I : JobName) → is_open gives m past I ≡ true → In I (instances gives m) → (J : JobName) → In J (entered k I) → IsEntered I J
+  facts : (k : ℕ) (I : JobName) → is_open past I ≡ true → In I (instances m) → (J : JobName) → In J (entered k I) → IsEntered I J
   facts zero I o i J h = absurd h
-  facts (suc k) I o i J (inl e) = (([], e ∙ sym (append-nil I)), subst (λ n. is_open gives m past n ≡ true) (sym e) o, subst (λ n. In n (instances gives m)) (sym e) i)
+  facts (suc k) I o i J (inl e) = (([], e ∙ sym (append-nil I)), subst (λ n. is_open past n ≡ true) (sym e) o, subst (λ n. In n (instances m)) (sym e) i)
   facts (suc k) I o i J (inr h) =
       let r = of-among k (held I) J h in
       let g = (are I o).of_instance r.0 r.1 in
-      let b = facts k r.0.name (right_true (is_some r.0.opens) (is_open gives m past r.0.name) r.2) (opener-in r.0 g.0 r.2) J r.3 in
+      let b = facts k r.0.name (right_true (is_some r.0.opens) (is_open past r.0.name) r.2) (opener-in r.0 g.0 r.2) J r.3 in
       (((w.jobs r.0 g.0).key ∷ b.0.0, b.0.1 ∙ ap (λ n. n ++ b.0.0) ((w.jobs r.0 g.0).named ∙ ap (λ n. n ++ (w.jobs r.0 g.0).key ∷ []) g.1) ∙ append_assoc I ((w.jobs r.0 g.0).key ∷ []) b.0.0), b.1, b.2)
 
   -- no instance is entered twice
@@ -180,14 +149,14 @@ module _ (gives : Giving) (d : Document) (f : IsWellFormed d) (past : History) (
       by false e h = rest (goes j) h
       by true e h = apart-append (λ J. J) (entered k j.name) (if is_some (first_of k j.name) then [] else among k js) (a j (inl refl) e) (rest (is_some (first_of k j.name)) h) (λ J K u v q. cross e J K u (of-rest (is_some (first_of k j.name)) K v) q)
 
-  apart : (k : ℕ) (I : JobName) → is_open gives m past I ≡ true → In I (instances gives m) → Apart (λ J. J) (entered k I)
+  apart : (k : ℕ) (I : JobName) → is_open past I ≡ true → In I (instances m) → Apart (λ J. J) (entered k I)
   apart zero I o i = tt
   apart (suc k) I o i = (
     λ J h e. let r = of-among k (held I) J h in
         let g = (are I o).of_instance r.0 r.1 in
-        let b = facts k r.0.name (right_true (is_some r.0.opens) (is_open gives m past r.0.name) r.2) (opener-in r.0 g.0 r.2) J r.3 in
+        let b = facts k r.0.name (right_true (is_some r.0.opens) (is_open past r.0.name) r.2) (opener-in r.0 g.0 r.2) J r.3 in
         not-longer I (w.jobs r.0 g.0).key b.0.0 (sym e ∙ b.0.1 ∙ ap (λ n. n ++ b.0.0) ((w.jobs r.0 g.0).named ∙ ap (λ n. n ++ (w.jobs r.0 g.0).key ∷ []) g.1) ∙ append_assoc I ((w.jobs r.0 g.0).key ∷ []) b.0.0),
-    apart-among k I (held I) ((are I o).of_instance) ((are I o).in_order) (λ j h e. apart k j.name (right_true (is_some j.opens) (is_open gives m past j.name) e) (opener-in j ((are I o).of_instance j h).0 e)) (λ j h e J u. (facts k j.name (right_true (is_some j.opens) (is_open gives m past j.name) e) (opener-in j ((are I o).of_instance j h).0 e) J u).0),
+    apart-among k I (held I) ((are I o).of_instance) ((are I o).in_order) (λ j h e. apart k j.name (right_true (is_some j.opens) (is_open past j.name) e) (opener-in j ((are I o).of_instance j h).0 e)) (λ j h e J u. (facts k j.name (right_true (is_some j.opens) (is_open past j.name) e) (opener-in j ((are I o).of_instance j h).0 e) J u).0),
   )
 
   -- ---- still ones
@@ -208,34 +177,19 @@ module _ (gives : Giving) (d : Document) (f : IsWellFormed d) (past : History) (
       by y h true e = ap (λ c. not (c && goes y)) e ∙ ap not (g y h (under y (inside-parts J y.name e) b.0 b.1))
 
   -- of a walk that finds nothing all is still, and of one that finds something at most a level of instances isn't
-  at-most : (k : ℕ) (I : JobName) → is_open gives m past I ≡ true → In I (instances gives m) → ((y : Job) → In y m.jobs → length y.name ≤ length I + k) → tally (λ J. not (still J)) (entered k I) ≤ k
-  at-most zero I o i b = none
-    where
-      none : 0 ≤ 0
-      none = omega arith
-  at-most (suc k) I o i b = one (not (still I)) (tally (λ J. not (still J)) (among k (held I))) k (rest (held I) ((are I o).of_instance) (λ j h e. at-most k j.name (right_true (is_some j.opens) (is_open gives m past j.name) e) (opener-in j ((are I o).of_instance j h).0 e) (shorter j ((are I o).of_instance j h))))
+  at-most : (k : ℕ) (I : JobName) → is_open past I ≡ true → In I (instances m) → ((y : Job) → In y m.jobs → length y.name ≤ length I + k) → tally (λ J. not (still J)) (entered k I) ≤ k
+  at-most zero I o i b = omega arith
+  at-most (suc k) I o i b = one (not (still I)) (tally (λ J. not (still J)) (among k (held I))) k (rest (held I) ((are I o).of_instance) (λ j h e. at-most k j.name (right_true (is_some j.opens) (is_open past j.name) e) (opener-in j ((are I o).of_instance j h).0 e) (shorter j ((are I o).of_instance j h))))
     where
       one : (c : Bool) (a k : ℕ) → a ≤ k → bit c + a ≤ suc k
-      one true a k h = more a k h
-        where
-          more : (a k : ℕ) → a ≤ k → 1 + a ≤ suc k
-          more a k h = omega arith
-      one false a k h = same a k h
-        where
-          same : (a k : ℕ) → a ≤ k → 0 + a ≤ suc k
-          same a k h = omega arith
+      one true a k h = omega (arith, h)
+      one false a k h = omega (arith, h)
 
       shorter : (j : Job) → In j m.jobs × (j.instance ≡ I) → (y : Job) → In y m.jobs → length y.name ≤ length j.name + k
-      shorter j g y h = less (length j.name) (length I) (length y.name) k (ap (λ (l : JobName). length l) ((w.jobs j g.0).named ∙ ap (λ n. n ++ (w.jobs j g.0).key ∷ []) g.1) ∙ length-append I ((w.jobs j g.0).key ∷ [])) (b y h)
-        where
-          less : (a c l k : ℕ) → a ≡ c + 1 → l ≤ c + suc k → l ≤ a + k
-          less a c l k p q = omega arith
+      shorter j g y h = omega (arith, ap (λ (l : JobName). length l) ((w.jobs j g.0).named ∙ ap (λ n. n ++ (w.jobs j g.0).key ∷ []) g.1) ∙ length-append I ((w.jobs j g.0).key ∷ []), b y h)
 
       rest : (js : List Job) → ((j : Job) → In j js → In j m.jobs × (j.instance ≡ I)) → ((j : Job) → In j js → into j ≡ true → tally (λ J. not (still J)) (entered k j.name) ≤ k) → tally (λ J. not (still J)) (among k js) ≤ k
-      rest [] of g = least k
-        where
-          least : (n : ℕ) → 0 ≤ n
-          least n = omega arith
+      rest [] of g = omega arith
       rest (j ∷ js) of g = by (into j) refl (rest js (λ z h. of z (inr h)) (λ z h. g z (inr h)))
         where
           least : (n : ℕ) → 0 ≤ n
@@ -247,44 +201,35 @@ module _ (gives : Giving) (d : Document) (f : IsWellFormed d) (past : History) (
 
           all-still : into j ≡ true → FirstOf gives AnyNumber m w past legal (any-laid gives d) (any-first gives d) goes (λ z i h. going-open gives AnyNumber m w past legal z i (goes-going gives d past legal z h)) (shut gives d past legal goes (goes-going gives d past legal)) held are (Under gives AnyNumber m w past legal (any-laid gives d) (any-first gives d) goes (λ z i h. going-open gives AnyNumber m w past legal z i (goes-going gives d past legal z h)) (shut gives d past legal goes (goes-going gives d past legal)) held are j.name) None → tally (λ J. not (still J)) (entered k j.name) ≡ 0
           all-still e h =
-              tally-none (λ J. not (still J)) (entered k j.name) (λ J u. ap not (still-below j.name J (facts k j.name (right_true (is_some j.opens) (is_open gives m past j.name) e) (opener-in j (of j (inl refl)).0 e) J u).0 (λ y i p. h y i p)))
-
-          sums : (a b n : ℕ) → a ≡ 0 → b ≤ n → a + b ≤ n
-          sums a b n p q = omega arith
-
-          alone : (a n : ℕ) → a ≤ n → a + 0 ≤ n
-          alone a n p = omega arith
+              tally-none (λ J. not (still J)) (entered k j.name) (λ J u. ap not (still-below j.name J (facts k j.name (right_true (is_some j.opens) (is_open past j.name) e) (opener-in j (of j (inl refl)).0 e) J u).0 (λ y i p. h y i p)))
 
           inner : into j ≡ true → (t : Option Job) → first_of k j.name ≡ t → tally (λ J. not (still J)) (among k js) ≤ k → tally (λ J. not (still J)) (entered k j.name) + tally (λ J. not (still J)) (if is_some t then [] else among k js) ≤ k
-          inner e (Some x) q h = alone (tally (λ J. not (still J)) (entered k j.name)) k (g j (inl refl) e)
+          inner e (Some x) q h = omega (arith, g j (inl refl) e)
           inner e None q h =
-              sums (tally (λ J. not (still J)) (entered k j.name)) (tally (λ J. not (still J)) (among k js)) k
-              (all-still e (subst (λ t. FirstOf gives AnyNumber m w past legal (any-laid gives d) (any-first gives d) goes (λ z i h. going-open gives AnyNumber m w past legal z i (goes-going gives d past legal z h)) (shut gives d past legal goes (goes-going gives d past legal)) held are (Under gives AnyNumber m w past legal (any-laid gives d) (any-first gives d) goes (λ z i h. going-open gives AnyNumber m w past legal z i (goes-going gives d past legal z h)) (shut gives d past legal goes (goes-going gives d past legal)) held are j.name) t) q
-              (walked gives AnyNumber m w past legal (any-laid gives d) (any-first gives d) goes (λ z i h. going-open gives AnyNumber m w past legal z i (goes-going gives d past legal z h)) (shut gives d past legal goes (goes-going gives d past legal)) held are k j.name (right_true (is_some j.opens) (is_open gives m past j.name) e) (shorter j (of j (inl refl)))))) h
+              omega (
+                arith,
+                all-still e (subst (λ t. FirstOf gives AnyNumber m w past legal (any-laid gives d) (any-first gives d) goes (λ z i h. going-open gives AnyNumber m w past legal z i (goes-going gives d past legal z h)) (shut gives d past legal goes (goes-going gives d past legal)) held are (Under gives AnyNumber m w past legal (any-laid gives d) (any-first gives d) goes (λ z i h. going-open gives AnyNumber m w past legal z i (goes-going gives d past legal z h)) (shut gives d past legal goes (goes-going gives d past legal)) held are j.name) t) q
+                    (walked gives AnyNumber m w past legal (any-laid gives d) (any-first gives d) goes (λ z i h. going-open gives AnyNumber m w past legal z i (goes-going gives d past legal z h)) (shut gives d past legal goes (goes-going gives d past legal)) held are k j.name (right_true (is_some j.opens) (is_open past j.name) e) (shorter j (of j (inl refl))))),
+                h,
+              )
 
           by : (c : Bool) → into j ≡ c → tally (λ J. not (still J)) (among k js) ≤ k → tally (λ J. not (still J)) (if c then entered k j.name ++ (if is_some (first_of k j.name) then [] else among k js) else (if goes j then [] else among k js)) ≤ k
           by false e h = stop (goes j) h
           by true e h = subst (λ n. n ≤ k) (sym (tally-append (λ J. not (still J)) (entered k j.name) (if is_some (first_of k j.name) then [] else among k js))) (inner e (first_of k j.name) refl h)
 
   -- from the main instance the walk enters at most eight instances, and eight for each try that is out
-  pub few-entered : is_open gives m past [] ≡ true → length (entered_in held (has_open_instance gives m past) (λ j. is_offered gives m past j || can_open gives m past j) most_nesting []) ≤ most_nesting * suc (count_by (λ k. is_out past k.name) m.jobs)
+  pub few-entered : is_open past [] ≡ true → length (entered_in held (has_open_instance past) (λ j. is_offered m past j || can_open m past j) nesting_limit []) ≤ nesting_limit * suc (count_by (λ k. is_out past k.name) m.jobs)
   few-entered o =
-      sums (length (entered most_nesting [])) (tally still (entered most_nesting [])) (tally (λ J. not (still J)) (entered most_nesting [])) (count_by (λ k. is_out past k.name) m.jobs) (halves still (entered most_nesting [])) stills (at-most most_nesting [] o (inl refl) (λ y h. add (length y.name) most_nesting (name-length gives d y h)))
+      omega (arith, halves still (entered nesting_limit []), stills, at-most nesting_limit [] o (inl refl) (λ y h. (omega (arith, name-length gives d y h))))
     where
-      sums : (a b c n : ℕ) → a ≡ b + c → b ≤ 8 * n → c ≤ 8 → a ≤ 8 * suc n
-      sums a b c n p q r = omega arith
-
-      add : (l n : ℕ) → l ≤ n → l ≤ 0 + n
-      add l n p = omega arith
-
-      stills : tally still (entered most_nesting []) ≤ most_nesting * count_by (λ k. is_out past k.name) m.jobs
+      stills : tally still (entered nesting_limit []) ≤ nesting_limit * count_by (λ k. is_out past k.name) m.jobs
       stills =
-          subst (λ n. n ≤ most_nesting * count_by (λ k. is_out past k.name) m.jobs) (filter-tally still (entered most_nesting []))
-          (few-still gives d f past legal quiet (filter still (entered most_nesting [])) (apart-filter (λ J. J) still (entered most_nesting []) (apart most_nesting [] o (inl refl)))
-          (λ J h. let u = of-filter still J (entered most_nesting []) h in
-          let x = facts most_nesting [] o (inl refl) J u.0 in
+          subst (λ n. n ≤ nesting_limit * count_by (λ k. is_out past k.name) m.jobs) (filter-tally still (entered nesting_limit []))
+          (few-still gives d f past legal quiet (filter still (entered nesting_limit [])) (apart-filter (λ J. J) still (entered nesting_limit []) (apart nesting_limit [] o (inl refl)))
+          (λ J h. let u = passing-in still J (entered nesting_limit []) h in
+          let x = facts nesting_limit [] o (inl refl) J u.0 in
           (x.1, x.2, λ k i e. fails (is_inside J k.name) (goes k) e (all_in (λ (y : Job). not (is_inside J y.name && goes y)) m.jobs u.1 k i))))
         where
           fails : (a b : Bool) → a ≡ true → not (a && b) ≡ true → b ≡ false
-          fails true b e h = not_true b h
+          fails true b e h = not-true b h
           fails false b e h = absurd (true≠false (sym e))

@@ -3,6 +3,8 @@ use Rattle.std.specs.Prelude.{◌≡◌, refl, ℕ, zero, suc, ◌+◌, ◌<◌,
 use Rattle.std.specs.List.{list_any}
 use Rattle.std.specs.Option.{option_or}
 use Rattle.std.proofs.Common.{arith, sym, ap, subst, ◌∙◌, inl, inr, append_assoc, append-nil, length-append}
+use Rattle.std.proofs.lemmas.Bool.{false_from_ne_true, not-true}
+use Rattle.tv_lemmas.proofs.Cases.{on_test, on_either}
 use Rattle.tv_value.specs.Nested.{Place}
 use Rattle.tv_value.specs.Values.{JobName, Name}
 use Rattle.tv_gate.specs.Outcomes.{Giving}
@@ -14,8 +16,8 @@ use Rattle.tv_model.proofs.Turns.{In, or_left}
 use Rattle.tv_model.proofs.Members.{Apart, each_in, snoc-parts}
 use Rattle.tv_model.proofs.Whole.{IsWhole, not-longer}
 use Rattle.tv_history.specs.Entries.{History, is_begun_entry, is_ended_entry, is_opened_entry, is_out}
-use Rattle.tv_history.specs.Histories.{all_known, has_open_instance, is_idle, is_legal, is_open, is_ready, is_running, is_settled, may_go_on}
-use Rattle.tv_history.proofs.Running.{begun-open, going_on, instance-begun, not_true}
+use Rattle.tv_history.specs.Histories.{all_known, has_open_instance, is_legal, is_open, is_running, is_settled, may_go_on}
+use Rattle.tv_history.proofs.Running.{begun-open, going_on, instance-begun}
 use Rattle.tv_history.proofs.Ready.{all-sound, are-jobs}
 use Rattle.tv_history.proofs.Stuck.{begun-tried}
 use Rattle.tv_history.proofs.Done.{opener-ended}
@@ -61,11 +63,7 @@ find-none p (z ∷ zs) f = ap (λ b. cond b (Some z) (find p zs)) (f z (inl refl
 
 pub last-of : {A : Type 0} (r : List A) → (r ≡ []) ⊎ ((s : List A) × (k : A) × (r ≡ s ++ k ∷ []) × (length r ≡ suc (length s)))
 last-of [] = inl refl
-last-of {A = A} (x ∷ r) = inr (by (last-of r))
-  where
-    by : (r ≡ []) ⊎ ((s : List A) × (k : A) × (r ≡ s ++ k ∷ []) × (length r ≡ suc (length s))) → (s : List A) × (k : A) × (x ∷ r ≡ s ++ k ∷ []) × (suc (length r) ≡ suc (length s))
-    by (inl e) = ([], x, ap (λ l. x ∷ l) e, ap (λ (l : List A). suc (length l)) e)
-    by (inr h) = (x ∷ h.0, h.1, ap (λ l. x ∷ l) h.2, ap suc h.3)
+last-of {A = A} (x ∷ r) = inr (on_either (last-of r) (λ e. ([], x, ap (λ l. x ∷ l) e, ap (λ (l : List A). suc (length l)) e)) (λ h. (x ∷ h.0, h.1, ap (λ l. x ∷ l) h.2, ap suc h.3)))
 
 -- ---- open instances
 
@@ -74,62 +72,39 @@ module _ (gives : Giving) (D : ℕ → Type 0) (m : Meaning) (w : IsWhole gives 
   Begun j = list_any (is_begun_entry j.name) past
 
   -- a job whose flow is open isn't settled
-  pub open-unsettled : (p : Job) → In p m.jobs → has_open_instance gives m past p ≡ true → is_settled gives m past p ≡ false
-  open-unsettled p i h = by (is_settled gives m past p) refl
+  pub open-unsettled : (p : Job) → In p m.jobs → has_open_instance past p ≡ true → is_settled past p ≡ false
+  open-unsettled p i h = false_from_ne_true (is_settled past p) (λ e. true≠false (sym (opener-ended gives D m w past p (left_true (is_some p.opens) (is_open past p.name) h) (begun-tried gives D m w past p i legal begun) e) ∙ not_ended))
     where
       c : (k : Name × List ℕ) × (n : JobName) × (p.name ≡ k ∷ n)
       c = (are-jobs gives D m [] w).has_name p i
 
       not_ended : list_any (is_ended_entry p.name) past ≡ false
       not_ended =
-          let o = subst (λ n. is_open gives m past n ≡ true) c.2 (right_true (is_some p.opens) (is_open gives m past p.name) h) in
-          subst (λ n. list_any (is_ended_entry n) past ≡ false) (sym c.2) (not_true (list_any (is_ended_entry (c.0 ∷ c.1)) past) (right_true (list_any (is_opened_entry (c.0 ∷ c.1)) past) (not (list_any (is_ended_entry (c.0 ∷ c.1)) past)) o))
+          let o = subst (λ n. is_open past n ≡ true) c.2 (right_true (is_some p.opens) (is_open past p.name) h) in
+          subst (λ n. list_any (is_ended_entry n) past ≡ false) (sym c.2) (not-true (list_any (is_ended_entry (c.0 ∷ c.1)) past) (right_true (list_any (is_opened_entry (c.0 ∷ c.1)) past) (not (list_any (is_ended_entry (c.0 ∷ c.1)) past)) o))
 
       begun : Begun p ≡ true
       begun = instance-begun gives m (all-sound gives D m [] w) (are-jobs gives D m [] w) past p i h
 
-      by : (b : Bool) → is_settled gives m past p ≡ b → is_settled gives m past p ≡ false
-      by false e = e
-      by true e = absurd (true≠false (sym (opener-ended gives D m w past p (left_true (is_some p.opens) (is_open gives m past p.name) h) (begun-tried gives D m w past p i legal begun) e) ∙ not_ended))
-
   -- it runs
-  pub open-running : (p : Job) → In p m.jobs → has_open_instance gives m past p ≡ true → is_running gives m past p ≡ true
-  open-running p i h = both_true (Begun p) (not (is_settled gives m past p)) (instance-begun gives m (all-sound gives D m [] w) (are-jobs gives D m [] w) past p i h) (ap not (open-unsettled p i h))
+  pub open-running : (p : Job) → In p m.jobs → has_open_instance past p ≡ true → is_running past p ≡ true
+  open-running p i h = both_true (Begun p) (not (is_settled past p)) (instance-begun gives m (all-sound gives D m [] w) (are-jobs gives D m [] w) past p i h) (ap not (open-unsettled p i h))
 
   -- a running job stands in an open instance
-  pub running-open : (p : Job) → In p m.jobs → is_running gives m past p ≡ true → is_open gives m past p.instance ≡ true
-  running-open p i r = by (begun-open gives m (all-sound gives D m [] w) (are-jobs gives D m [] w) past p i legal (left_true (Begun p) (not (is_settled gives m past p)) r))
-    where
-      by : (is_settled gives m past p ≡ true) ⊎ (is_open gives m past p.instance ≡ true) → is_open gives m past p.instance ≡ true
-      by (inl s) = absurd (true≠false (sym s ∙ not_true (is_settled gives m past p) (right_true (Begun p) (not (is_settled gives m past p)) r)))
-      by (inr o) = o
+  pub running-open : (p : Job) → In p m.jobs → is_running past p ≡ true → is_open past p.instance ≡ true
+  running-open p i r = on_either (begun-open gives m (all-sound gives D m [] w) (are-jobs gives D m [] w) past p i legal (left_true (Begun p) (not (is_settled past p)) r)) (λ s. absurd (true≠false (sym s ∙ not-true (is_settled past p) (right_true (Begun p) (not (is_settled past p)) r)))) (λ o. o)
 
   -- the instance round an open one is open
-  pub outer-open : (p : Job) → In p m.jobs → has_open_instance gives m past p ≡ true → is_open gives m past p.instance ≡ true
+  pub outer-open : (p : Job) → In p m.jobs → has_open_instance past p ≡ true → is_open past p.instance ≡ true
   outer-open p i h = running-open p i (open-running p i h)
 
   -- what may go on stands in an open instance
-  pub going-open : (j : Job) → In j m.jobs → may_go_on gives m past j ≡ true → is_open gives m past j.instance ≡ true
-  going-open j i g = by (going_on gives m (all-sound gives D m [] w) (are-jobs gives D m [] w) past j g)
-    where
-      by : (is_idle gives m past j ≡ true) ⊎ (is_ready gives m past j ≡ true) → is_open gives m past j.instance ≡ true
-      by (inl q) = running-open j i (left_true (is_running gives m past j) (not (is_out past j.name)) (left_true (is_running gives m past j && not (is_out past j.name)) (not (has_open_instance gives m past j)) q))
-      by (inr q) = left_true (is_open gives m past j.instance) (not (is_running gives m past j)) (left_true (is_open gives m past j.instance && not (is_running gives m past j)) (not (is_settled gives m past j)) (left_true (is_open gives m past j.instance && not (is_running gives m past j) && not (is_settled gives m past j)) (all_known gives m past j.waits) q))
+  pub going-open : (j : Job) → In j m.jobs → may_go_on m past j ≡ true → is_open past j.instance ≡ true
+  going-open j i g = on_either (going_on gives m (all-sound gives D m [] w) (are-jobs gives D m [] w) past j g) (λ q. running-open j i (left_true (is_running past j) (not (is_out past j.name)) (left_true (is_running past j && not (is_out past j.name)) (not (has_open_instance past j)) q))) (λ q. left_true (is_open past j.instance) (not (is_running past j)) (left_true (is_open past j.instance && not (is_running past j)) (not (is_settled past j)) (left_true (is_open past j.instance && not (is_running past j) && not (is_settled past j)) (all_known m past j.waits) q)))
 
   -- a job whose flow is open doesn't go on itself
-  pub opener-waits : (j : Job) → In j m.jobs → has_open_instance gives m past j ≡ true → may_go_on gives m past j ≡ false
-  opener-waits j i h = by (may_go_on gives m past j) refl
-    where
-      cases : (is_idle gives m past j ≡ true) ⊎ (is_ready gives m past j ≡ true) → ⊥
-      cases (inl q) = true≠false (sym h ∙ not_true (has_open_instance gives m past j) (right_true (is_running gives m past j && not (is_out past j.name)) (not (has_open_instance gives m past j)) q))
-      cases (inr q) =
-          let a = left_true (is_open gives m past j.instance && not (is_running gives m past j) && not (is_settled gives m past j)) (all_known gives m past j.waits) q in
-          let b = left_true (is_open gives m past j.instance && not (is_running gives m past j)) (not (is_settled gives m past j)) a in
-          true≠false (sym (open-running j i h) ∙ not_true (is_running gives m past j) (right_true (is_open gives m past j.instance) (not (is_running gives m past j)) b))
-
-      by : (b : Bool) → may_go_on gives m past j ≡ b → may_go_on gives m past j ≡ false
-      by false e = e
-      by true e = absurd (cases (going_on gives m (all-sound gives D m [] w) (are-jobs gives D m [] w) past j e))
+  pub opener-waits : (j : Job) → In j m.jobs → has_open_instance past j ≡ true → may_go_on m past j ≡ false
+  opener-waits j i h = false_from_ne_true (may_go_on m past j) (λ e. on_either (going_on gives m (all-sound gives D m [] w) (are-jobs gives D m [] w) past j e) (λ q. true≠false (sym h ∙ not-true (has_open_instance past j) (right_true (is_running past j && not (is_out past j.name)) (not (has_open_instance past j)) q))) (λ q. let a = left_true (is_open past j.instance && not (is_running past j) && not (is_settled past j)) (all_known m past j.waits) q in let b = left_true (is_open past j.instance && not (is_running past j)) (not (is_settled past j)) a in true≠false (sym (open-running j i h) ∙ not-true (is_running past j) (right_true (is_open past j.instance) (not (is_running past j)) b))))
 
   -- ---- the job of an instance round a job further in
 
@@ -140,20 +115,14 @@ module _ (gives : Giving) (D : ℕ → Type 0) (m : Meaning) (w : IsWhole gives 
     pub in_instance : own.instance ≡ I
     pub rest : JobName
     pub inside_it : y.name ≡ own.name ++ rest
-    pub itself_or_open : (y ≡ own) ⊎ (has_open_instance gives m past own ≡ true)
+    pub itself_or_open : (y ≡ own) ⊎ (has_open_instance past own ≡ true)
 
   not-nil : (I : JobName) (c : Name × Place) (r : JobName) → I ++ c ∷ r ≡ [] → ⊥
-  not-nil I c r e = none (length I) (length r) (sym (length-append I (c ∷ r)) ∙ ap (λ (l : JobName). length l) e)
-    where
-      none : (a b : ℕ) → a + suc b ≡ 0 → ⊥
-      none a b p = omega arith
+  not-nil I c r e = omega (arith, sym (length-append I (c ∷ r)) ∙ ap (λ (l : JobName). length l) e)
 
-  own-from : (f : ℕ) (I : JobName) (c : Name × Place) (r : JobName) → length r < f → (y : Job) → In y m.jobs → y.name ≡ I ++ c ∷ r → is_open gives m past y.instance ≡ true → HasOwn I c y
-  own-from zero I c r b y i e o = absurd (none (length r) b)
-    where
-      none : (n : ℕ) → n < 0 → ⊥
-      none n p = omega arith
-  own-from (suc f) I c r b y i e o = by (last-of r) (λ s t p h g u. own-from f I c s t p h g u)
+  own-from : (f : ℕ) (I : JobName) (c : Name × Place) (r : JobName) → length r < f → (y : Job) → In y m.jobs → y.name ≡ I ++ c ∷ r → is_open past y.instance ≡ true → HasOwn I c y
+  own-from zero I c r b y i e o = absurd (omega (arith, b))
+  own-from (suc f) I c r b y i e o = on_either (last-of r) (λ q. itself q) (λ q. inner q.0 q.1 q.2 q.3 (λ s t p h g u. own-from f I c s t p h g u))
     where
       itself : r ≡ [] → HasOwn I c y
       itself q = record {
@@ -166,41 +135,31 @@ module _ (gives : Giving) (D : ℕ → Type 0) (m : Meaning) (w : IsWhole gives 
         itself_or_open = inl refl;
       }
 
-      inner : (s : JobName) (k : Name × Place) → r ≡ s ++ k ∷ [] → length r ≡ suc (length s) → ((s : JobName) → length s < f → (p : Job) → In p m.jobs → p.name ≡ I ++ c ∷ s → is_open gives m past p.instance ≡ true → HasOwn I c p) → HasOwn I c y
+      inner : (s : JobName) (k : Name × Place) → r ≡ s ++ k ∷ [] → length r ≡ suc (length s) → ((s : JobName) → length s < f → (p : Job) → In p m.jobs → p.name ≡ I ++ c ∷ s → is_open past p.instance ≡ true → HasOwn I c p) → HasOwn I c y
       inner s k q l rec = cases (w.jobs y i).parent
         where
           instance-is : y.instance ≡ I ++ c ∷ s
           instance-is = (snoc-parts c y.instance (I ++ c ∷ s) (w.jobs y i).key k (sym (w.jobs y i).named ∙ e ∙ ap (λ l. I ++ c ∷ l) q ∙ sym (append_assoc I (c ∷ s) (k ∷ [])))).0
 
-          shorter : (a b f : ℕ) → b ≡ suc a → b < suc f → a < f
-          shorter a b f p q = omega arith
-
           cases : (y.instance ≡ []) ⊎ ((p : Job) × In p m.jobs × (p.name ≡ y.instance) × (is_some p.opens ≡ true) × (is_bounced p.ending ≡ false)) → HasOwn I c y
           cases (inl n) = absurd (not-nil I c s (sym instance-is ∙ n))
           cases (inr p) =
-              let h = both_true (is_some p.0.opens) (is_open gives m past p.0.name) p.3 (subst (λ n. is_open gives m past n ≡ true) (sym p.2) o) in
-              let x = rec s (shorter (length s) (length r) f l b) p.0 p.1 (p.2 ∙ instance-is) (outer-open p.0 p.1 h) in
+              let h = both_true (is_some p.0.opens) (is_open past p.0.name) p.3 (subst (λ n. is_open past n ≡ true) (sym p.2) o) in
+              let x = rec s (omega (arith, l, b)) p.0 p.1 (p.2 ∙ instance-is) (outer-open p.0 p.1 h) in
               record { own = x.own; mine = x.mine; named = x.named; in_instance = x.in_instance; rest = x.rest ++ (w.jobs y i).key ∷ []; inside_it = (w.jobs y i).named ∙ ap (λ n. n ++ (w.jobs y i).key ∷ []) (sym p.2 ∙ x.inside_it) ∙ append_assoc x.own.name x.rest ((w.jobs y i).key ∷ []); itself_or_open = inr (up x.own x.itself_or_open h) }
             where
-              up : (z : Job) → (p.0 ≡ z) ⊎ (has_open_instance gives m past z ≡ true) → has_open_instance gives m past p.0 ≡ true → has_open_instance gives m past z ≡ true
-              up z (inl q) h = subst (λ x. has_open_instance gives m past x ≡ true) q h
+              up : (z : Job) → (p.0 ≡ z) ⊎ (has_open_instance past z ≡ true) → has_open_instance past p.0 ≡ true → has_open_instance past z ≡ true
+              up z (inl q) h = subst (λ x. has_open_instance past x ≡ true) q h
               up z (inr q) h = q
 
-      by : (r ≡ []) ⊎ ((s : JobName) × (k : Name × Place) × (r ≡ s ++ k ∷ []) × (length r ≡ suc (length s))) → ((s : JobName) → length s < f → (p : Job) → In p m.jobs → p.name ≡ I ++ c ∷ s → is_open gives m past p.instance ≡ true → HasOwn I c p) → HasOwn I c y
-      by (inl q) rec = itself q
-      by (inr h) rec = inner h.0 h.1 h.2 h.3 rec
-
-  pub has-own : (I : JobName) (c : Name × Place) (r : JobName) (y : Job) → In y m.jobs → y.name ≡ I ++ c ∷ r → is_open gives m past y.instance ≡ true → HasOwn I c y
-  has-own I c r y i e o = own-from (suc (length r)) I c r (less (length r)) y i e o
-    where
-      less : (n : ℕ) → n < suc n
-      less n = omega arith
+  pub has-own : (I : JobName) (c : Name × Place) (r : JobName) (y : Job) → In y m.jobs → y.name ≡ I ++ c ∷ r → is_open past y.instance ≡ true → HasOwn I c y
+  has-own I c r y i e o = own-from (suc (length r)) I c r (omega arith) y i e o
 
   -- ---- the walk
 
-  module _ (laid : IsLaidOut m.jobs) (first : PrefixFirst m.jobs) (passes : Job → Bool) (passes-open : (j : Job) → In j m.jobs → passes j ≡ true → is_open gives m past j.instance ≡ true) (passes-shut : (j : Job) → In j m.jobs → has_open_instance gives m past j ≡ true → passes j ≡ false) (held : JobName → List Job) (are : AreHeld gives m past held passes) where
+  module _ (laid : IsLaidOut m.jobs) (first : PrefixFirst m.jobs) (passes : Job → Bool) (passes-open : (j : Job) → In j m.jobs → passes j ≡ true → is_open past j.instance ≡ true) (passes-shut : (j : Job) → In j m.jobs → has_open_instance past j ≡ true → passes j ≡ false) (held : JobName → List Job) (are : AreHeld m past held passes) where
     abbrev pub into : Job → Bool
-    into j = has_open_instance gives m past j
+    into j = has_open_instance past j
 
     -- at the job or inside it
     abbrev AtOrIn : Job → Job → Type 0
@@ -223,7 +182,7 @@ module _ (gives : Giving) (D : ℕ → Type 0) (m : Meaning) (w : IsWhole gives 
 
     -- nothing inside a job whose flow isn't open passes
     shut-inside : (j : Job) → In j m.jobs → into j ≡ false → (y : Job) → In y m.jobs → Under j.name y → passes y ≡ false
-    shut-inside j h s y i u = by (passes y) refl
+    shut-inside j h s y i u = on_test (passes y) (λ e. let o = has-own j.instance key (u.0 ∷ u.1) y i name-is (passes-open y i e) in absurd (cases o ((are-jobs gives D m [] w).once o.own j o.mine h (o.named ∙ sym (w.jobs j h).named)) o.itself_or_open)) (λ e. e)
       where
         key : Name × Place
         key = (w.jobs j h).key
@@ -231,15 +190,9 @@ module _ (gives : Giving) (D : ℕ → Type 0) (m : Meaning) (w : IsWhole gives 
         name-is : y.name ≡ j.instance ++ key ∷ (u.0 ∷ u.1)
         name-is = u.2 ∙ ap (λ n. n ++ u.0 ∷ u.1) (w.jobs j h).named ∙ append_assoc j.instance (key ∷ []) (u.0 ∷ u.1)
 
-        cases : (o : HasOwn j.instance key y) → o.own ≡ j → (y ≡ o.own) ⊎ (has_open_instance gives m past o.own ≡ true) → ⊥
+        cases : (o : HasOwn j.instance key y) → o.own ≡ j → (y ≡ o.own) ⊎ (has_open_instance past o.own ≡ true) → ⊥
         cases o e (inl q) = not-longer j.name u.0 u.1 (sym (ap (λ (z : Job). z.name) (q ∙ e)) ∙ u.2)
         cases o e (inr q) = true≠false (sym (subst (λ z. into z ≡ true) e q) ∙ s)
-
-        by : (b : Bool) → passes y ≡ b → passes y ≡ false
-        by false e = e
-        by true e =
-            let o = has-own j.instance key (u.0 ∷ u.1) y i name-is (passes-open y i e) in
-            absurd (cases o ((are-jobs gives D m [] w).once o.own j o.mine h (o.named ∙ sym (w.jobs j h).named)) o.itself_or_open)
 
     abbrev here_of : (JobName → Option Job) → Bool → Job → Option Job
     here_of inside b j = if b then inside j.name else (if passes j then Some j else None)
@@ -283,11 +236,7 @@ module _ (gives : Giving) (D : ℕ → Type 0) (m : Meaning) (w : IsWhole gives 
         later x i a k h y u b =
             let q = each_in (λ k. Before j k m.jobs) js p.0 k h in
             let x_k = laid j k x q ((of j (inl refl)).1 ∙ sym (of k (inr h)).1) i a.0 a.1 in
-            cases (split-at_or_in k y (of k (inr h)).0 u b) x_k
-          where
-            cases : (y ≡ k) ⊎ Under k.name y → Before x k m.jobs → Before x y m.jobs
-            cases (inl e) q = subst (λ z. Before x z m.jobs) (sym e) q
-            cases (inr v) q = before-trans (λ (z : Job). z.name) m.jobs w.jobs_apart x k y q (first k y (of k (inr h)).0 u v.0 v.1 v.2)
+            (on_either (split-at_or_in k y (of k (inr h)).0 u b) (λ e. subst (λ z. Before x z m.jobs) (sym e) x_k) (λ v. before-trans (λ (z : Job). z.name) m.jobs w.jobs_apart x k y x_k (first k y (of k (inr h)).0 u v.0 v.1 v.2)))
 
         by : (o t : Option Job) → FirstOf (AtOrIn j) o → FirstOf (InOneOf js) t → FirstOf (InOneOf (j ∷ js)) (option_or o t)
         by (Some x) t f g = (f.0, (j, inl refl, f.1), f.2, λ y i s q. cases y i q s.0 s.1 s.2)
@@ -307,30 +256,24 @@ module _ (gives : Giving) (D : ℕ → Type 0) (m : Meaning) (w : IsWhole gives 
             cases y i q k (inr h) a = g.3 y i (k, h, a) q
 
     -- who passes inside an instance is in one of the jobs that are held of it
-    covered : (I : JobName) → is_open gives m past I ≡ true → (y : Job) → In y m.jobs → Under I y → passes y ≡ true → InOneOf (held I) y
+    covered : (I : JobName) → is_open past I ≡ true → (y : Job) → In y m.jobs → Under I y → passes y ≡ true → InOneOf (held I) y
     covered I o y i u p =
         let h = has-own I u.0 u.1 y i u.2 (passes-open y i p) in
         (h.own, (are I o).all_there h.own h.mine h.in_instance (there h.own h.itself_or_open), (h.rest, h.inside_it))
       where
-        there : (z : Job) → (y ≡ z) ⊎ (has_open_instance gives m past z ≡ true) → (has_open_instance gives m past z || passes z) ≡ true
-        there z (inl q) = or_right (has_open_instance gives m past z) (passes z) (subst (λ x. passes x ≡ true) q p)
-        there z (inr q) = or_left (has_open_instance gives m past z) (passes z) q
+        there : (z : Job) → (y ≡ z) ⊎ (has_open_instance past z ≡ true) → (has_open_instance past z || passes z) ≡ true
+        there z (inl q) = or_right (has_open_instance past z) (passes z) (subst (λ x. passes x ≡ true) q p)
+        there z (inr q) = or_left (has_open_instance past z) (passes z) q
 
     -- so many levels may follow
-    pub walked : (k : ℕ) (I : JobName) → is_open gives m past I ≡ true → ((y : Job) → In y m.jobs → length y.name ≤ length I + k) → FirstOf (Under I) (first_in held into passes k I)
-    walked zero I o b = λ y i u. absurd (too_long (length I) (length u.1) (length y.name) (ap (λ (l : JobName). length l) u.2 ∙ length-append I (u.0 ∷ u.1)) (b y i))
-      where
-        too_long : (a r l : ℕ) → l ≡ a + suc r → l ≤ a + 0 → ⊥
-        too_long a r l p q = omega arith
+    pub walked : (k : ℕ) (I : JobName) → is_open past I ≡ true → ((y : Job) → In y m.jobs → length y.name ≤ length I + k) → FirstOf (Under I) (first_in held into passes k I)
+    walked zero I o b = λ y i u. absurd (omega (arith, ap (λ (l : JobName). length l) u.2 ∙ length-append I (u.0 ∷ u.1), b y i))
     walked (suc k) I o b = from (first_among held into passes (first_in held into passes k) (held I)) (among (first_in held into passes k) I (held I) ((are I o).of_instance) ((are I o).in_order) (deeper (λ J q c. walked k J q c)))
       where
-        deeper : ((J : JobName) → is_open gives m past J ≡ true → ((y : Job) → In y m.jobs → length y.name ≤ length J + k) → FirstOf (Under J) (first_in held into passes k J)) → (j : Job) → In j (held I) → into j ≡ true → FirstOf (Under j.name) (first_in held into passes k j.name)
+        deeper : ((J : JobName) → is_open past J ≡ true → ((y : Job) → In y m.jobs → length y.name ≤ length J + k) → FirstOf (Under J) (first_in held into passes k J)) → (j : Job) → In j (held I) → into j ≡ true → FirstOf (Under j.name) (first_in held into passes k j.name)
         deeper rec j h q =
             let f = (are I o).of_instance j h in
-            rec j.name (right_true (is_some j.opens) (is_open gives m past j.name) q) (λ y i. more (length j.name) (length I) (length y.name) k (ap (λ (l : JobName). length l) ((w.jobs j f.0).named ∙ ap (λ n. n ++ (w.jobs j f.0).key ∷ []) f.1) ∙ length-append I ((w.jobs j f.0).key ∷ [])) (b y i))
-          where
-            more : (a c l k : ℕ) → a ≡ c + 1 → l ≤ c + suc k → l ≤ a + k
-            more a c l k p q = omega arith
+            rec j.name (right_true (is_some j.opens) (is_open past j.name) q) (λ y i. (omega (arith, ap (λ (l : JobName). length l) ((w.jobs j f.0).named ∙ ap (λ n. n ++ (w.jobs j f.0).key ∷ []) f.1) ∙ length-append I ((w.jobs j f.0).key ∷ []), b y i)))
 
         from : (t : Option Job) → FirstOf (InOneOf (held I)) t → FirstOf (Under I) t
         from None g = λ y i u. by y i u (passes y) refl
@@ -349,12 +292,9 @@ module _ (gives : Giving) (D : ℕ → Type 0) (m : Meaning) (w : IsWhole gives 
     under-main y i = let c = (are-jobs gives D m [] w).has_name y i in (c.0, c.1, c.2)
 
     -- the walk from the main instance finds the first
-    pub first-found : (k : ℕ) → is_open gives m past [] ≡ true → ((y : Job) → In y m.jobs → length y.name ≤ k) → first_in held into passes k [] ≡ find passes m.jobs
-    first-found k o b = by (first_in held into passes k []) (walked k [] o (λ y i. add (length y.name) k (b y i)))
+    pub first-found : (k : ℕ) → is_open past [] ≡ true → ((y : Job) → In y m.jobs → length y.name ≤ k) → first_in held into passes k [] ≡ find passes m.jobs
+    first-found k o b = by (first_in held into passes k []) (walked k [] o (λ y i. (omega (arith, b y i))))
       where
-        add : (l k : ℕ) → l ≤ k → l ≤ 0 + k
-        add l k p = omega arith
-
         by : (t : Option Job) → FirstOf (Under []) t → t ≡ find passes m.jobs
         by None g = sym (find-none passes m.jobs (λ y i. g y i (under-main y i)))
         by (Some x) g = sym (find-first (λ (z : Job). z.name) passes m.jobs w.jobs_apart x g.0 g.2 (λ y i p. g.3 y i (under-main y i) p))

@@ -2,7 +2,6 @@
 use Rattle.std.specs.Prelude.{◌≡◌, refl, List, [], ◌∷◌, Bool, true, false, cond, filter}
 use Rattle.std.proofs.Common.{sym, ap, ◌∙◌, inl, inr}
 use Rattle.tv_value.specs.Orders.{same_job}
-use Rattle.tv_gate.specs.Outcomes.{Giving}
 use Rattle.tv_model.specs.Jobs.{Job}
 use Rattle.tv_model.specs.Made.{Meaning}
 use Rattle.tv_model.proofs.Tests.{Each, true≠false, same_job_decides}
@@ -10,10 +9,10 @@ use Rattle.tv_model.proofs.Turns.{In}
 use Rattle.tv_model.proofs.Members.{in_each}
 use Rattle.tv_history.specs.Entries.{History}
 use Rattle.tv_history.proofs.OneWorker.{Before}
+use Rattle.tv_history.proofs.Tests.{passing-in}
 use Rattle.tv_order.specs.FirstIn.{AreHeld, own_jobs}
 use Rattle.tv_order.specs.JobOrder.{AllPairs}
 use Rattle.tv_order.proofs.OfOrder.{pairs-map}
-use Rattle.tv_order.proofs.OfEntered.{of-filter}
 
 pairs-self : {A : Type 0} (xs : List A) → AllPairs (λ x y. Before x y xs) xs
 pairs-self [] = tt
@@ -45,9 +44,9 @@ to-filter {A = A} p y (x ∷ xs) h e = by (p x) refl h (λ k. to-filter p y xs k
     by false q (inl k) rec = absurd (true≠false (sym e ∙ ap p k ∙ q))
     by false q (inr k) rec = rec k
 
-pub own-held : (gives : Giving) (m : Meaning) (past : History) (passes : Job → Bool) → AreHeld gives m past (own_jobs m) passes
-own-held gives m past passes I o = record {
-  of_instance = λ j h. let r = of-filter (λ (j : Job). same_job j.instance I) j m.jobs h in (r.0, (same_job_decides j.instance I).0 r.1);
+pub own-held : (m : Meaning) (past : History) (passes : Job → Bool) → AreHeld m past (own_jobs m) passes
+own-held m past passes I o = record {
+  of_instance = λ j h. let r = passing-in (λ (j : Job). same_job j.instance I) j m.jobs h in (r.0, (same_job_decides j.instance I).0 r.1);
   in_order = pairs-filter (λ j k. Before j k m.jobs) (λ (j : Job). same_job j.instance I) m.jobs (pairs-self m.jobs);
   all_there = λ j h e g. to-filter (λ (j : Job). same_job j.instance I) j m.jobs h ((same_job_decides j.instance I).1 e);
 }

@@ -2,6 +2,7 @@
 use Rattle.std.specs.Prelude.{◌≡◌, refl, ℕ, zero, suc, ◌⊎◌, List, [], ◌∷◌, ◌++◌, Bool, true, false, if◌then◌else◌, Option, Some, None}
 use Rattle.std.specs.Option.{option_map_or}
 use Rattle.std.proofs.Common.{sym, ap, subst, ◌∙◌, inl, inr}
+use Rattle.tv_lemmas.proofs.Cases.{on_either}
 use Rattle.tv_value.specs.Nested.{Place}
 use Rattle.tv_value.specs.Orders.{named}
 use Rattle.tv_value.specs.Values.{JobName, Name}
@@ -9,7 +10,7 @@ use Rattle.tv_gate.specs.Outcomes.{Giving}
 use Rattle.tv_flow.specs.Flows.{Document, Flow, Step}
 use Rattle.tv_depths.specs.Ranks.{ranked}
 use Rattle.tv_model.specs.Jobs.{Job}
-use Rattle.tv_model.specs.Meanings.{meaning, most_nesting}
+use Rattle.tv_model.specs.Meanings.{meaning, nesting_limit}
 use Rattle.tv_model.proofs.Tests.{true≠false}
 use Rattle.tv_model.proofs.Turns.{In}
 use Rattle.tv_model.proofs.Sound.{cancel, first_of}
@@ -43,22 +44,18 @@ spots-of flows (suc k) f I x y h = by (named f flows) h I refl (λ g J e. spots-
         (inner J (step_flow (ranked fl.steps) z.0) (deeper (ranked fl.steps) z J (same_spot z z) (spot-itself z) (subst (λ l. names_before (job_before flows k) (ranked fl.steps) (l ++ x ∷ []) (l ++ y ∷ []) ≡ true) e q)) rec)
 
 -- the order in an instance
-pub instance-order : (gives : Giving) (d : Document) (I : JobName) (j k : Job) → In j (meaning gives d).jobs → In k (meaning gives d).jobs → (x y : Name × Place) → j.name ≡ I ++ x ∷ [] → k.name ≡ I ++ y ∷ [] → spot_before (steps_at d.flows most_nesting d.main I) x y ≡ true → Before j k (meaning gives d).jobs
+pub instance-order : (gives : Giving) (d : Document) (I : JobName) (j k : Job) → In j (meaning gives d).jobs → In k (meaning gives d).jobs → (x y : Name × Place) → j.name ≡ I ++ x ∷ [] → k.name ≡ I ++ y ∷ [] → spot_before (steps_at d.flows nesting_limit d.main I) x y ≡ true → Before j k (meaning gives d).jobs
 instance-order gives d I j k i h x y e f b = by (one-first (meaning gives d).jobs j k i h)
   where
     steps : List (Name × Step)
-    steps = steps_at d.flows most_nesting d.main I
+    steps = steps_at d.flows nesting_limit d.main I
 
     itself : x ≡ y → ⊥
     itself q = spot-strict steps x x (subst (λ z. spot_before steps x z ≡ true) (sym q) b) (subst (λ z. spot_before steps x z ≡ true) (sym q) b)
-
-    other : (y ≡ x) ⊎ (spot_before steps y x ≡ true) → ⊥
-    other (inl q) = itself (sym q)
-    other (inr q) = spot-strict steps x y b q
 
     by : (j ≡ k) ⊎ (Before j k (meaning gives d).jobs ⊎ Before k j (meaning gives d).jobs) → Before j k (meaning gives d).jobs
     by (inl q) = absurd (itself (ap (first_of x) (cancel I (x ∷ []) (y ∷ []) (sym e ∙ ap (λ (z : Job). z.name) q ∙ f))))
     by (inr (inl q)) = q
     by (inr (inr q)) =
-        let p = pair-before (λ (a b : Job). job_before d.flows most_nesting d.main a.name b.name ≡ true) (meaning gives d).jobs (jobs-in_order gives d) k j q in
-        absurd (other (spots-of d.flows most_nesting d.main I y x (subst (λ n. job_before d.flows most_nesting d.main n (I ++ x ∷ []) ≡ true) f (subst (λ n. job_before d.flows most_nesting d.main k.name n ≡ true) e p))))
+        let p = pair-before (λ (a b : Job). job_before d.flows nesting_limit d.main a.name b.name ≡ true) (meaning gives d).jobs (jobs-in_order gives d) k j q in
+        absurd (on_either (spots-of d.flows nesting_limit d.main I y x (subst (λ n. job_before d.flows nesting_limit d.main n (I ++ x ∷ []) ≡ true) f (subst (λ n. job_before d.flows nesting_limit d.main k.name n ≡ true) e p))) (λ q. itself (sym q)) (λ q. spot-strict steps x y b q))

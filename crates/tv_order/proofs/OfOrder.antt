@@ -3,7 +3,9 @@ use Rattle.std.specs.Prelude.{◌≡◌, refl, ℕ, zero, suc, ◌+◌, ◌<◌,
 use Rattle.std.specs.Option.{option_map_or}
 use Rattle.std.specs.Cmp.Lexicographic.{bytes_decides}
 use Rattle.std.proofs.Common.{arith, sym, ap, subst, ◌∙◌, inl, inr, append_assoc, append-nil, eq-eqb, ne_eqb, length-append}
-use Rattle.std.proofs.lemmas.Bool.{lt-ltb}
+use Rattle.std.proofs.lemmas.Bool.{lt-ltb, false_from_ne_true}
+use Rattle.tv_dispatch.proofs.Turns.{left_if, taken_if}
+use Rattle.tv_lemmas.proofs.Cases.{on_either}
 use Rattle.tv_value.specs.Activities.{Activity, nested, service}
 use Rattle.tv_value.specs.Nested.{leaf, list, no_trees, tree, Place, nodes, nodes_below, nodes_from}
 use Rattle.tv_value.specs.Orders.{named, same_name}
@@ -18,7 +20,7 @@ use Rattle.tv_depths.specs.Steps.{spot}
 use Rattle.tv_model.specs.Instances.{node_jobs, step_made, steps_made, zip_names}
 use Rattle.tv_model.specs.Jobs.{Job}
 use Rattle.tv_model.specs.Made.{Made, Meaning, Opened, endings}
-use Rattle.tv_model.specs.Meanings.{flow_meaning, instance_meaning, jobs_with_inside, meaning, most_nesting, no_meaning}
+use Rattle.tv_model.specs.Meanings.{flow_meaning, instance_meaning, jobs_with_inside, meaning, nesting_limit, no_meaning}
 use Rattle.tv_model.proofs.Tests.{Each, true≠false, both_true, or_right}
 use Rattle.tv_model.proofs.Turns.{In, each-map, or_left}
 use Rattle.tv_model.proofs.Order.{in-append}
@@ -51,30 +53,15 @@ pairs-map R S f (x ∷ xs) p = (each-map (R x) (S x) (f x) xs p.0, pairs-map R S
 
 -- ---- places
 
-if-true : {A : Type 0} (b : Bool) (x y : A) → b ≡ true → (if b then x else y) ≡ x
-if-true {A = A} b x y e = ap (λ (c : Bool). if_of c) e
-  where
-    if_of : Bool → A
-    if_of c = if c then x else y
-
-if-false : {A : Type 0} (b : Bool) (x y : A) → b ≡ false → (if b then x else y) ≡ y
-if-false {A = A} b x y e = ap (λ (c : Bool). if_of c) e
-  where
-    if_of : Bool → A
-    if_of c = if c then x else y
-
 place-same : (q r s : Place) → place_before (q ++ r) (q ++ s) ≡ place_before r s
 place-same [] r s = refl
-place-same (i ∷ q) r s = if-true (i == i) (place_before (q ++ r) (q ++ s)) (nat_lt i i) (eq-eqb i i refl) ∙ place-same q r s
+place-same (i ∷ q) r s = taken_if (i == i) (place_before (q ++ r) (q ++ s)) (nat_lt i i) (eq-eqb i i refl) ∙ place-same q r s
 
 place-longer : (q : Place) (i : ℕ) (r : Place) → place_before q (q ++ i ∷ r) ≡ true
 place-longer q i r = subst (λ p. place_before p (q ++ i ∷ r) ≡ true) (append-nil q) (place-same q [] (i ∷ r))
 
 place-less : (q : Place) (i j : ℕ) (r s : Place) → i < j → place_before (q ++ i ∷ r) (q ++ j ∷ s) ≡ true
-place-less q i j r s h = place-same q (i ∷ r) (j ∷ s) ∙ if-false (i == j) (place_before r s) (nat_lt i j) (ne_eqb i j (λ e. unequal i j h e)) ∙ lt-ltb i j h
-  where
-    unequal : (m n : ℕ) → m < n → m ≡ n → ⊥
-    unequal m n p e = omega arith
+place-less q i j r s h = place-same q (i ∷ r) (j ∷ s) ∙ left_if (i == j) (place_before r s) (nat_lt i j) (ne_eqb i j (λ e. (omega (arith, h, e)))) ∙ lt-ltb i j h
 
 abbrev pub Node : Type 0
 Node = Place × Iteration
@@ -83,14 +70,8 @@ abbrev pub NodeBefore : Node → Node → Type 0
 NodeBefore x y = place_before x.0 y.0 ≡ true
 
 from-either : (t : Iteration) (ts : Iterations) (q : Place) (i : ℕ) (x : Node) → In x (nodes_below (q ++ i ∷ []) t) ⊎ In x (nodes_from q (suc i) ts) → (In x (nodes_below (q ++ i ∷ []) t) → (r : Place) × (x.0 ≡ (q ++ i ∷ []) ++ r)) → (In x (nodes_from q (suc i) ts) → (j : ℕ) × (r : Place) × (suc i ≤ j) × (x.0 ≡ q ++ j ∷ r)) → (j : ℕ) × (r : Place) × (i ≤ j) × (x.0 ≡ q ++ j ∷ r)
-from-either t ts q i x (inl k) f g = let r = f k in (i, r.0, itself i, r.1 ∙ append_assoc q (i ∷ []) r.0)
-  where
-    itself : (n : ℕ) → n ≤ n
-    itself n = omega arith
-from-either t ts q i x (inr k) f g = let r = g k in (r.0, r.1, less i r.0 r.2, r.3)
-  where
-    less : (m n : ℕ) → suc m ≤ n → m ≤ n
-    less m n p = omega arith
+from-either t ts q i x (inl k) f g = let r = f k in (i, r.0, (omega arith), r.1 ∙ append_assoc q (i ∷ []) r.0)
+from-either t ts q i x (inr k) f g = let r = g k in (r.0, r.1, (omega (arith, r.2)), r.3)
 
 mutual
   below-place : (t : Iteration) (q : Place) (x : Node) → In x (nodes_below q t) → (r : Place) × (x.0 ≡ q ++ r)
@@ -167,15 +148,11 @@ module _ (gives : Giving) (inside : Name → JobName → List (Name × Value) �
     AreMade (m ∷ ms) = StepIs m × (rank_in all m.step.step ≡ length ms) × AreMade ms
 
     before-not_same : (q r : Place) → place_before q r ≡ true → same_name q r ≡ false
-    before-not_same q r h = by (same_name q r) refl
+    before-not_same q r h = false_from_ne_true (same_name q r) (λ e. irreflexive r (subst (λ p. place_before p r ≡ true) ((bytes_decides q r).0 e) h))
       where
         irreflexive : (p : Place) → place_before p p ≡ true → ⊥
         irreflexive [] e = true≠false (sym e)
-        irreflexive (i ∷ p) e = irreflexive p (sym (if-true (i == i) (place_before p p) (nat_lt i i) (eq-eqb i i refl)) ∙ e)
-
-        by : (b : Bool) → same_name q r ≡ b → same_name q r ≡ false
-        by false e = e
-        by true e = absurd (irreflexive r (subst (λ p. place_before p r ≡ true) ((bytes_decides q r).0 e) h))
+        irreflexive (i ∷ p) e = irreflexive p (sym (taken_if (i == i) (place_before p p) (nat_lt i i) (eq-eqb i i refl)) ∙ e)
 
     same-name : (n : Name) → same_name n n ≡ true
     same-name n = (bytes_decides n n).1 refl
@@ -190,7 +167,7 @@ module _ (gives : Giving) (inside : Name → JobName → List (Name × Value) �
         one (q, list r ts) = tt
 
         cross : (x z : Node) → NodeBefore x z → (o u : Opened) → IsAt n s x.0 o → IsAt n s z.0 u → OwnBefore o u
-        cross x z b o u f g = ((n, x.0), (n, z.0), f.name, g.name, both-apart, if-true (same_name n n) (place_before x.0 z.0) (nat_lt (rank_in all n) (rank_in all n)) (same-name n) ∙ b)
+        cross x z b o u f g = ((n, x.0), (n, z.0), f.name, g.name, both-apart, taken_if (same_name n n) (place_before x.0 z.0) (nat_lt (rank_in all n) (rank_in all n)) (same-name n) ∙ b)
           where
             both-apart : same_spot (n, x.0) (n, z.0) ≡ false
             both-apart = ap (λ c. c && same_name x.0 z.0) (same-name n) ∙ before-not_same x.0 z.0 b
@@ -200,14 +177,8 @@ module _ (gives : Giving) (inside : Name → JobName → List (Name × Value) �
 
     rank-below : (ms : List Made) → AreMade ms → (m : Made) → In m ms → rank_in all m.step.step < length ms
     rank-below [] a m h = absurd h
-    rank-below (k ∷ ms) a m (inl p) = less (rank_in all m.step.step) (length ms) (ap (λ (x : Made). rank_in all x.step.step) p ∙ a.1)
-      where
-        less : (r l : ℕ) → r ≡ l → r < suc l
-        less r l e = omega arith
-    rank-below (k ∷ ms) a m (inr h) = more (rank_in all m.step.step) (length ms) (rank-below ms a.2 m h)
-      where
-        more : (r l : ℕ) → r < l → r < suc l
-        more r l e = omega arith
+    rank-below (k ∷ ms) a m (inl p) = omega (arith, ap (λ (x : Made). rank_in all x.step.step) p ∙ a.1)
+    rank-below (k ∷ ms) a m (inr h) = omega (arith, rank-below ms a.2 m h)
 
     steps-pairs : (ms : List Made) → AreMade ms → AllPairs OwnBefore (flat_map (λ m. m.jobs) ms)
     steps-pairs [] a = tt
@@ -219,14 +190,7 @@ module _ (gives : Giving) (inside : Name → JobName → List (Name × Value) �
         each-of (x ∷ ks) b k (inr h) = each-of ks b.2 k h
 
         apart : (n k : Name) (l : ℕ) → rank_in all n ≡ l → rank_in all k < l → same_name n k ≡ false
-        apart n k l e f = by (same_name n k) refl
-          where
-            never : (a c l : ℕ) → a ≡ c → a ≡ l → c < l → ⊥
-            never a c l p q r = omega arith
-
-            by : (b : Bool) → same_name n k ≡ b → same_name n k ≡ false
-            by false h = h
-            by true h = absurd (never (rank_in all n) (rank_in all k) l (ap (λ z. rank_in all z) ((bytes_decides n k).0 h)) e f)
+        apart n k l e f = false_from_ne_true (same_name n k) (λ h. omega (arith, ap (λ z. rank_in all z) ((bytes_decides n k).0 h), e, f))
 
         cross : (o u : Opened) → In o m.jobs → In u (flat_map (λ (k : Made). k.jobs) ms) → OwnBefore o u
         cross o u h i =
@@ -236,37 +200,26 @@ module _ (gives : Giving) (inside : Name → JobName → List (Name × Value) �
             let y = each_in (λ o. (q : Place) × IsAt r.0.step.step s.0 q o) r.0.jobs s.2 u r.2 in
             let l = rank-below ms a.2 r.0 r.1 in
             let d = apart m.step.step r.0.step.step (length ms) a.1 l in
-            ((m.step.step, x.0), (r.0.step.step, y.0), x.1.name, y.1.name, ap (λ c. c && same_name x.0 y.0) d, if-false (same_name m.step.step r.0.step.step) (place_before x.0 y.0) (nat_lt (rank_in all r.0.step.step) (rank_in all m.step.step)) d ∙ lt-ltb (rank_in all r.0.step.step) (rank_in all m.step.step) (subst (λ z. rank_in all r.0.step.step < z) (sym a.1) l))
+            ((m.step.step, x.0), (r.0.step.step, y.0), x.1.name, y.1.name, ap (λ c. c && same_name x.0 y.0) d, left_if (same_name m.step.step r.0.step.step) (place_before x.0 y.0) (nat_lt (rank_in all r.0.step.step) (rank_in all m.step.step)) d ∙ lt-ltb (rank_in all r.0.step.step) (rank_in all m.step.step) (subst (λ z. rank_in all r.0.step.step < z) (sym a.1) l))
 
     pub steps-each : (ms : List Made) → AreMade ms → (o : Opened) → In o (flat_map (λ m. m.jobs) ms) → IsOf o
     steps-each [] a o h = absurd h
-    steps-each (m ∷ ms) a o h = by (in-append o m.jobs (flat_map (λ (k : Made). k.jobs) ms) h) (λ i. steps-each ms a.2 o i)
-      where
-        by : In o m.jobs ⊎ In o (flat_map (λ (k : Made). k.jobs) ms) → (In o (flat_map (λ (k : Made). k.jobs) ms) → IsOf o) → IsOf o
-        by (inl i) rec = let x = each_in (λ o. (q : Place) × IsAt m.step.step a.0.0 q o) m.jobs a.0.2 o i in (m.step.step, a.0.0, x.0, a.0.1, x.1)
-        by (inr i) rec = rec i
+    steps-each (m ∷ ms) a o h = on_either (in-append o m.jobs (flat_map (λ (k : Made). k.jobs) ms) h) (λ z. let x = each_in (λ o. (q : Place) × IsAt m.step.step a.0.0 q o) m.jobs a.0.2 o z in (m.step.step, a.0.0, x.0, a.0.1, x.1)) (λ q. steps-each ms a.2 o q)
 
     -- the steps taken so far, the first first
     found-here : (n : Name) (s : Step) (done ss : List (Name × Step)) → Each (λ d. same_name n d.0 ≡ false) done → (named n (done ++ (n, s) ∷ ss) ≡ Some s) × (rank_in (done ++ (n, s) ∷ ss) n ≡ length done)
-    found-here n s [] ss h = (if-true (same_name n n) (Some s) (named n ss) (same-name n), if-true (same_name n n) 0 (suc (rank_in ss n)) (same-name n))
-    found-here n s (d ∷ done) ss h = let r = found-here n s done ss h.1 in (if-false (same_name n d.0) (Some d.1) (named n (done ++ (n, s) ∷ ss)) h.0 ∙ r.0, if-false (same_name n d.0) 0 (suc (rank_in (done ++ (n, s) ∷ ss) n)) h.0 ∙ ap suc r.1)
+    found-here n s [] ss h = (taken_if (same_name n n) (Some s) (named n ss) (same-name n), taken_if (same_name n n) 0 (suc (rank_in ss n)) (same-name n))
+    found-here n s (d ∷ done) ss h = let r = found-here n s done ss h.1 in (left_if (same_name n d.0) (Some d.1) (named n (done ++ (n, s) ∷ ss)) h.0 ∙ r.0, left_if (same_name n d.0) 0 (suc (rank_in (done ++ (n, s) ∷ ss) n)) h.0 ∙ ap suc r.1)
 
     pub made-all : (given : List (Name × Delivered)) (done : List (Name × Step)) (ms : List Made) (ns : List Name) (ss : List (Name × Step)) → all ≡ done ++ ss → length done ≡ length ms → Each (λ d. is_among ns d.0 ≡ true) done → FreshNames ns ss → AreMade ms → AreMade (steps_made gives inside I given ms ss)
     made-all given done ms ns [] e l h f a = a
     made-all given done ms ns ((n, s) ∷ ss) e l h f a =
-        made-all given (done ++ (n, s) ∷ []) (step_made gives inside I given ms (n, s) ∷ ms) (n ∷ ns) ss (e ∙ sym (append_assoc done ((n, s) ∷ []) ss)) (length-append done ((n, s) ∷ []) ∙ one (length done) (length ms) l)
+        made-all given (done ++ (n, s) ∷ []) (step_made gives inside I given ms (n, s) ∷ ms) (n ∷ ns) ss (e ∙ sym (append_assoc done ((n, s) ∷ []) ss)) (length-append done ((n, s) ∷ []) ∙ (omega (arith, l)))
         (each-append (λ d. is_among (n ∷ ns) d.0 ≡ true) done ((n, s) ∷ []) (each-map (λ d. is_among ns d.0 ≡ true) (λ d. is_among (n ∷ ns) d.0 ≡ true) (λ d k. or_right (same_name d.0 n) (is_among ns d.0) k) done h) (or_left (same_name n n) (is_among ns n) (same-name n), tt)) f.1
         ((s, subst (λ z. named n z ≡ Some s) (sym e) here.0, step-each n s (endings ms s.after) (nodes (step_made gives inside I given ms (n, s)).step.iteration), step-pairs n s (endings ms s.after) (nodes (step_made gives inside I given ms (n, s)).step.iteration) (nodes-ordered (step_made gives inside I given ms (n, s)).step.iteration)), subst (λ z. rank_in z n ≡ length ms) (sym e) (here.1 ∙ l), a)
       where
-        one : (a b : ℕ) → a ≡ b → a + 1 ≡ suc b
-        one a b p = omega arith
-
         apart : (d : Name × Step) → is_among ns d.0 ≡ true → same_name n d.0 ≡ false
-        apart d k = by (same_name n d.0) refl
-          where
-            by : (b : Bool) → same_name n d.0 ≡ b → same_name n d.0 ≡ false
-            by false g = g
-            by true g = absurd (true≠false (sym k ∙ subst (λ z. is_among ns z ≡ false) ((bytes_decides n d.0).0 g) f.0))
+        apart d k = false_from_ne_true (same_name n d.0) (λ g. true≠false (sym k ∙ subst (λ z. is_among ns z ≡ false) ((bytes_decides n d.0).0 g) f.0))
 
         here : (named n (done ++ (n, s) ∷ ss) ≡ Some s) × (rank_in (done ++ (n, s) ∷ ss) n ≡ length done)
         here = found-here n s done ss (each-map (λ d. is_among ns d.0 ≡ true) (λ d. same_name n d.0 ≡ false) apart done h)
@@ -334,20 +287,17 @@ module _ (gives : Giving) (flows : List (Name × Flow)) where
 
     deeper : (x : Name × Place) (s : Step) (g : Name) (a b : JobName) → named x.0 all ≡ Some s → first_nested s.activities ≡ Some g → job_before flows k g a b ≡ true → job_before flows (suc k) f (x ∷ a) (x ∷ b) ≡ true
     deeper x s g a b e h p =
-        at-flow (x ∷ a) (x ∷ b) (if-true (same_spot x x) (option_map_or (λ h. job_before flows k h a b) (step_flow all x.0) false) (spot_before all x x) (same-spot x) ∙ ap (λ o. option_map_or (λ h. job_before flows k h a b) o false) (opens-it (named x.0 all) e) ∙ p)
+        at-flow (x ∷ a) (x ∷ b) (taken_if (same_spot x x) (option_map_or (λ h. job_before flows k h a b) (step_flow all x.0) false) (spot_before all x x) (same-spot x) ∙ ap (λ o. option_map_or (λ h. job_before flows k h a b) o false) (opens-it (named x.0 all) e) ∙ p)
       where
         opens-it : (o : Option Step) → o ≡ Some s → option_and_then (λ (s : Step). first_nested s.activities) o ≡ Some g
         opens-it o q = ap (λ o. option_and_then (λ (s : Step). first_nested s.activities) o) q ∙ h
 
     apart : (x y : Name × Place) (a b : JobName) → same_spot x y ≡ false → spot_before all x y ≡ true → job_before flows (suc k) f (x ∷ a) (y ∷ b) ≡ true
-    apart x y a b e h = at-flow (x ∷ a) (y ∷ b) (if-false (same_spot x y) (option_map_or (λ h. job_before flows k h a b) (step_flow all x.0) false) (spot_before all x y) e ∙ h)
+    apart x y a b e h = at-flow (x ∷ a) (y ∷ b) (left_if (same_spot x y) (option_map_or (λ h. job_before flows k h a b) (step_flow all x.0) false) (spot_before all x y) e ∙ h)
 
     -- a job of a block: the job itself, or one inside it
     block-name : (o : Opened) → Own o → (x : Name × Place) → o.job.name ≡ I ++ x ∷ [] → (j : Job) → In j (jobs_with_inside o) → (r : JobName) × (j.name ≡ I ++ x ∷ r) × (length r < suc k)
-    block-name o w x e j (inl p) = ([], ap (λ (z : Job). z.name) p ∙ e, positive k)
-      where
-        positive : (n : ℕ) → 0 < suc n
-        positive n = omega arith
+    block-name o w x e j (inl p) = ([], ap (λ (z : Job). z.name) p ∙ e, (omega arith))
     block-name o w x e j (inr i) = by o.inside refl i
       where
         by : (p : Option Meaning) → o.inside ≡ p → In j (option_map_or (λ (x : Meaning). x.jobs) p []) → (r : JobName) × (j.name ≡ I ++ x ∷ r) × (length r < suc k)
@@ -355,10 +305,7 @@ module _ (gives : Giving) (flows : List (Name × Flow)) where
         by (Some m) q h =
             let t = subst (λ p. InsideAt gives inside I (λ g m n. IsOrderly k g m n) inside_is w.1 o.job p) q w.4.inside_it in
             let b = t.2.below j h in
-            (b.0 ∷ b.1, b.2 ∙ ap (λ n. n ++ b.0 ∷ b.1) e ∙ append_assoc I (x ∷ []) (b.0 ∷ b.1), more (length b.1) k b.3)
-          where
-            more : (l n : ℕ) → l < n → suc l < suc n
-            more l n p = omega arith
+            (b.0 ∷ b.1, b.2 ∙ ap (λ n. n ++ b.0 ∷ b.1) e ∙ append_assoc I (x ∷ []) (b.0 ∷ b.1), (omega (arith, b.3)))
 
     block-pairs : (o : Opened) → Own o → AllPairs (Within I (job_before flows (suc k) f)) (jobs_with_inside o)
     block-pairs o w = by o.inside refl
@@ -410,10 +357,7 @@ module _ (gives : Giving) (flows : List (Name × Flow)) where
 
     some-levels : (l : ℕ) (g : Name) → NestsWithin flows l g → 1 < suc l
     some-levels zero g h = absurd h
-    some-levels (suc l) g h = less l
-      where
-        less : (n : ℕ) → 1 < suc (suc n)
-        less n = omega arith
+    some-levels (suc l) g h = omega arith
 
     block-opener : NestsWithin flows (suc k) f → (o : Opened) → Own o → (j : Job) → In j (jobs_with_inside o) → is_some j.opens ≡ true → (c : Name × Place) × (r : JobName) × (j.name ≡ I ++ c ∷ r) × (suc (length r) < suc k)
     block-opener nests o w j i op = by o.inside refl i
@@ -427,10 +371,7 @@ module _ (gives : Giving) (flows : List (Name × Flow)) where
         by (Some m) q (inr h) =
             let t = subst (λ p. InsideAt gives inside I (λ g m n. IsOrderly k g m n) inside_is w.1 o.job p) q w.4.inside_it in
             let b = t.2.opener (deeper-nests nests w.0 w.1 t.0 w.3 t.1) j h op in
-            ((w.0, w.2), b.0 ∷ b.1, b.2 ∙ ap (λ n. n ++ b.0 ∷ b.1) w.4.name ∙ append_assoc I ((w.0, w.2) ∷ []) (b.0 ∷ b.1), more (length b.1) k b.3)
-          where
-            more : (l n : ℕ) → suc l < n → suc (suc l) < suc n
-            more l n p = omega arith
+            ((w.0, w.2), b.0 ∷ b.1, b.2 ∙ ap (λ n. n ++ b.0 ∷ b.1) w.4.name ∙ append_assoc I ((w.0, w.2) ∷ []) (b.0 ∷ b.1), (omega (arith, b.3)))
 
     abbrev ms : List Made
     ms = steps_of gives inside I flow vs
@@ -465,6 +406,6 @@ module _ (gives : Giving) (flows : List (Name × Flow)) where
       by (Some flow) e rec = instance-orderly depth f flow e (flow_meaning gives flows depth) rec I vs
 
 -- the jobs of a meaning stand in job order
-pub jobs-in_order : (gives : Giving) (d : Document) → AllPairs (λ j k. job_before d.flows most_nesting d.main j.name k.name ≡ true) (meaning gives d).jobs
+pub jobs-in_order : (gives : Giving) (d : Document) → AllPairs (λ j k. job_before d.flows nesting_limit d.main j.name k.name ≡ true) (meaning gives d).jobs
 jobs-in_order gives d =
-    pairs-map (Within [] (job_before d.flows most_nesting d.main)) (λ j k. job_before d.flows most_nesting d.main j.name k.name ≡ true) (λ j k h. subst (λ a. job_before d.flows most_nesting d.main a k.name ≡ true) (sym h.2) (subst (λ b. job_before d.flows most_nesting d.main h.0 b ≡ true) (sym h.3) h.4)) (meaning gives d).jobs (flow-orderly gives d.flows most_nesting d.main [] d.inputs).ordered
+    pairs-map (Within [] (job_before d.flows nesting_limit d.main)) (λ j k. job_before d.flows nesting_limit d.main j.name k.name ≡ true) (λ j k h. subst (λ a. job_before d.flows nesting_limit d.main a k.name ≡ true) (sym h.2) (subst (λ b. job_before d.flows nesting_limit d.main h.0 b ≡ true) (sym h.3) h.4)) (meaning gives d).jobs (flow-orderly gives d.flows nesting_limit d.main [] d.inputs).ordered

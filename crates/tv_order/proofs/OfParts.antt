@@ -9,7 +9,8 @@ use Rattle.tv_flow.specs.Flows.{Flow, Step}
 use Rattle.tv_depths.specs.Delivered.{StepMeaning}
 use Rattle.tv_depths.specs.Ranks.{ranked}
 use Rattle.tv_model.specs.Agreeing.{NestsWithin}
-use Rattle.tv_model.specs.Earlier.{given_of, job_list}
+use Rattle.tv_model.specs.Earlier.{job_list}
+use Rattle.tv_model.specs.Instances.{given_of}
 use Rattle.tv_model.specs.Instances.{zip_names}
 use Rattle.tv_model.specs.Jobs.{Job}
 use Rattle.tv_model.specs.Made.{Made, Meaning, Opened}
@@ -21,7 +22,7 @@ use Rattle.tv_model.proofs.Fed.{each-all}
 use Rattle.tv_model.proofs.Sound.{AreDistinct}
 use Rattle.tv_model.proofs.Members.{Apart, in-flat, of-flat, once-of_apart}
 use Rattle.tv_model.proofs.Formed.{none-formed, own-apart, steps-formed}
-use Rattle.tv_model.proofs.Instances.{all-sound, given-free, ranked-fresh}
+use Rattle.tv_model.proofs.Instances.{all-distinct, given-free, ranked-fresh}
 use Rattle.tv_model.proofs.Whole.{AnyNumber, IsWhole, StepsHave, flow-whole, not-longer, rank-each, same-head}
 use Rattle.tv_agreed.specs.Opening.{first_nested}
 use Rattle.tv_order.specs.Parts.{IsInstance, OwnPart, made_of, steps_of_made}
@@ -87,7 +88,7 @@ module _ (gives : Giving) (flows : List (Name × Flow)) where
         by (Some m) e i = let t = inner o w m e in ((whole-of k t.0 m o.job.name t.1).steps s i).0
 
     own-instance : (s : StepMeaning) → In s (steps_of_made gives flows ms) → s.instance ≡ I
-    own-instance s h = let r = of-map (λ (x : Made). x.step) s ms h in ap (λ (t : StepMeaning). t.instance) r.2 ∙ distinct ms (all-sound gives inside I flow vs).distinct r.0 r.1
+    own-instance s h = let r = of-map (λ (x : Made). x.step) s ms h in ap (λ (t : StepMeaning). t.instance) r.2 ∙ distinct ms (all-distinct gives inside I flow vs) r.0 r.1
       where
         distinct : (ks : List Made) → AreDistinct I ks → (x : Made) → In x ks → x.step.instance ≡ I
         distinct [] d x i = absurd i

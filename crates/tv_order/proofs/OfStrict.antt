@@ -3,7 +3,7 @@ use Rattle.std.specs.Prelude.{◌≡◌, refl, ℕ, zero, suc, ◌<◌, ◌⊎�
 use Rattle.std.specs.Option.{option_map_or}
 use Rattle.std.specs.Cmp.Lexicographic.{bytes_decides}
 use Rattle.std.proofs.Common.{arith, sym, ap, subst, ◌∙◌, inl, inr, eqb-true}
-use Rattle.std.proofs.lemmas.Bool.{ltb-true}
+use Rattle.std.proofs.lemmas.Bool.{ltb-true, false_from_ne_true}
 use Rattle.tv_value.specs.Nested.{Place}
 use Rattle.tv_value.specs.Orders.{named, same_name}
 use Rattle.tv_value.specs.Values.{JobName, Name}
@@ -19,10 +19,7 @@ use Rattle.tv_order.specs.JobOrder.{AllPairs, job_before, names_before, step_flo
 use Rattle.tv_order.proofs.OfOrder.{Within}
 
 both-less : (i j : ℕ) → nat_lt i j ≡ true → nat_lt j i ≡ true → ⊥
-both-less i j h k = never i j (ltb-true i j h) (ltb-true j i k)
-  where
-    never : (a b : ℕ) → a < b → b < a → ⊥
-    never a b p q = omega arith
+both-less i j h k = omega (arith, ltb-true i j h, ltb-true j i k)
 
 less-itself : (i : ℕ) → nat_lt i i ≡ true → ⊥
 less-itself i h = both-less i i h h
@@ -129,8 +126,4 @@ prefix-first flows k f js p j y h i c r e = by (one-first js j y h i)
         absurd (job-longer flows k f j.name c r (subst (λ n. job_before flows k f n j.name ≡ true) e (subst (λ n. job_before flows k f y.name n ≡ true) (sym w.3) (subst (λ n. job_before flows k f n w.1 ≡ true) (sym w.2) w.4))))
 
 pub order-strict : (flows : List (Name × Flow)) (k : ℕ) (f : Name) (a b : JobName) → job_before flows k f a b ≡ true → job_before flows k f b a ≡ false
-order-strict flows k f a b h = by (job_before flows k f b a) refl
-  where
-    by : (c : Bool) → job_before flows k f b a ≡ c → job_before flows k f b a ≡ false
-    by false e = e
-    by true e = absurd (job-strict flows k f a b h e)
+order-strict flows k f a b h = false_from_ne_true (job_before flows k f b a) (λ e. job-strict flows k f a b h e)

@@ -19,4 +19,4 @@ without_closings past = filter (λ e. not (is_closing e)) past
 abbrev pub OffersReadNoClosing : Type 0
 OffersReadNoClosing =
     (gives : Giving) (m : Meaning) (past : History) (j : Job)
-    → is_offered_by_meaning gives m (without_closings past) j ≡ is_offered_by_meaning gives m past j
+    → is_offered_by_meaning m (without_closings past) j ≡ is_offered_by_meaning m past j

@@ -4,7 +4,6 @@ use Rattle.std.specs.Option.{option_or}
 use Rattle.std.specs.Prelude.{Bool, List, None, Option, Some, [], filter, if◌then◌else◌, is_some, suc, true, zero, ℕ, ◌++◌, ◌||◌, ◌∷◌, ◌≡◌, ◌⊎◌}
 use Rattle.tv_value.specs.Orders.{same_job}
 use Rattle.tv_value.specs.Values.{JobName}
-use Rattle.tv_gate.specs.Outcomes.{Giving}
 use Rattle.tv_model.specs.Jobs.{Job}
 use Rattle.tv_model.specs.Made.{Meaning}
 use Rattle.tv_model.specs.Members.{In}
@@ -42,18 +41,18 @@ module _ (held : JobName → List Job) (walks_into passes : Job → Bool) where
 
 -- of each open instance the list has jobs of it alone, in the order of the meaning, and among them each that passes
 -- or has an open instance
-pub record IsHeld (gives : Giving) (m : Meaning) (past : History) (passes : Job → Bool) (I : JobName) (js : List Job) : Type 0 where
+pub record IsHeld (m : Meaning) (past : History) (passes : Job → Bool) (I : JobName) (js : List Job) : Type 0 where
   pub of_instance : (j : Job) → In j js → In j m.jobs × (j.instance ≡ I)
   pub in_order : AllPairs (λ j k. StandsBefore j k m.jobs) js
   pub all_there :
       (j : Job)
       → In j m.jobs
       → j.instance ≡ I
-      → (has_open_instance gives m past j || passes j) ≡ true
+      → (has_open_instance past j || passes j) ≡ true
       → In j js
 
-abbrev pub AreHeld : Giving → Meaning → History → (JobName → List Job) → (Job → Bool) → Type 0
-AreHeld gives m past held passes = (I : JobName) → is_open gives m past I ≡ true → IsHeld gives m past passes I (held I)
+abbrev pub AreHeld : Meaning → History → (JobName → List Job) → (Job → Bool) → Type 0
+AreHeld m past held passes = (I : JobName) → is_open past I ≡ true → IsHeld m past passes I (held I)
 
 -- the plainest that can be held: all jobs of an instance
 abbrev pub own_jobs : Meaning → JobName → List Job

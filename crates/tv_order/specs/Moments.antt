@@ -1,5 +1,5 @@
 -- A document's run after a history: the words in which the laws speak.
-use Rattle.std.specs.Prelude.{Bool, List, [], count_by, false, true, ℕ, ◌&&◌, ◌++◌, ◌||◌, ◌∷◌, ◌≡◌}
+use Rattle.std.specs.Prelude.{Bool, List, [], false, true, ℕ, ◌&&◌, ◌++◌, ◌||◌, ◌∷◌, ◌≡◌}
 use Rattle.tv_value.specs.Nested.{Place}
 use Rattle.tv_value.specs.Orders.{same_job, same_name}
 use Rattle.tv_value.specs.Values.{JobName, Name}
@@ -8,8 +8,8 @@ use Rattle.tv_flow.specs.Flows.{Document}
 use Rattle.tv_model.specs.Jobs.{Job}
 use Rattle.tv_model.specs.Meanings.{meaning}
 use Rattle.tv_model.specs.Members.{In}
-use Rattle.tv_history.specs.Entries.{History, is_out}
-use Rattle.tv_history.specs.Histories.{can_open, can_settle_more, has_open_instance, is_legal, is_offered, is_open, is_running}
+use Rattle.tv_history.specs.Entries.{History}
+use Rattle.tv_history.specs.Histories.{can_open, can_settle_more, has_open_instance, is_legal, is_offered, is_open, is_running, out_count}
 
 -- the job j stands at the spot x of the instance I
 abbrev pub StandsAt : Job → JobName → Name × Place → Type 0
@@ -32,24 +32,24 @@ module _ (gives : Giving) (d : Document) where
 
     -- nothing can be bounced, closed, passed or ended
     abbrev pub IsQuiet : Type 0
-    IsQuiet = can_settle_more gives (meaning gives d) past ≡ false
+    IsQuiet = can_settle_more (meaning gives d) past ≡ false
 
     abbrev pub IsOpen : JobName → Type 0
-    IsOpen I = is_open gives (meaning gives d) past I ≡ true
+    IsOpen I = is_open past I ≡ true
 
     abbrev pub runs : Job → Bool
-    runs j = is_running gives (meaning gives d) past j
+    runs j = is_running past j
 
     -- the flow that it opened hasn't ended
     abbrev pub has_open : Job → Bool
-    has_open j = has_open_instance gives (meaning gives d) past j
+    has_open j = has_open_instance past j
 
     abbrev pub has_offer : Job → Bool
-    has_offer j = is_offered gives (meaning gives d) past j
+    has_offer j = is_offered (meaning gives d) past j
 
     -- its ask is offered, or its flow can be opened
     abbrev pub goes_on : Job → Bool
-    goes_on j = is_offered gives (meaning gives d) past j || can_open gives (meaning gives d) past j
+    goes_on j = is_offered (meaning gives d) past j || can_open (meaning gives d) past j
 
     abbrev pub tries_out : ℕ
-    tries_out = count_by (λ j. is_out past j.name) all_jobs
+    tries_out = out_count (meaning gives d) past

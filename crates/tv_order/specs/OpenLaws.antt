@@ -6,7 +6,7 @@ use Rattle.tv_gate.specs.Outcomes.{Giving}
 use Rattle.tv_flow.specs.Flows.{Document}
 use Rattle.tv_model.specs.Agreeing.{NestsWithin}
 use Rattle.tv_model.specs.Jobs.{Job}
-use Rattle.tv_model.specs.Meanings.{meaning, most_nesting}
+use Rattle.tv_model.specs.Meanings.{meaning, nesting_limit}
 use Rattle.tv_model.specs.Members.{In}
 use Rattle.tv_history.specs.Entries.{History, is_out}
 use Rattle.tv_history.specs.Going.{IsWellFormed}
@@ -21,7 +21,7 @@ use Rattle.tv_order.specs.Moments.{IsJob, IsLegal, IsOpen, IsQuiet, all_jobs, go
 pub record Opener (gives : Giving) (d : Document) (past : History) (j : Job) : Type 0 where
   pub in_open : IsOpen gives d past j.instance
   pub running : runs gives d past j ≡ true
-  pub waits : may_go_on gives (meaning gives d) past j ≡ false
+  pub waits : may_go_on (meaning gives d) past j ≡ false
 
 -- the instance round an open one is open, and the job that opened it runs and doesn't go on itself
 abbrev pub OpenersRun : Type 0
@@ -40,7 +40,7 @@ GoingIsInside =
     → IsLegal gives d past
     → (j : Job)
     → IsJob gives d j
-    → may_go_on gives (meaning gives d) past j ≡ true
+    → may_go_on (meaning gives d) past j ≡ true
     → IsOpen gives d past j.instance
 
 -- ---- limits of steps
@@ -72,7 +72,7 @@ abbrev pub LimitsAreStated : Type 0
 LimitsAreStated =
     (gives : Giving) (d : Document) (j : Job)
     → IsJob gives d j
-    → j.limit ≡ limit_at d.flows most_nesting d.main j.instance j.step
+    → j.limit ≡ limit_at d.flows nesting_limit d.main j.instance j.step
 
 -- ---- one worker
 
@@ -101,10 +101,10 @@ abbrev pub ChainIsShort : Type 0
 ChainIsShort =
     (gives : Giving) (d : Document)
     → IsWellFormed d
-    → NestsWithin d.flows most_nesting d.main
+    → NestsWithin d.flows nesting_limit d.main
     → (base es : History)
     → IsAlone gives d base es
-    → suc (count_by (has_open gives d (es ++ base)) (all_jobs gives d)) ≤ most_nesting
+    → suc (count_by (has_open gives d (es ++ base)) (all_jobs gives d)) ≤ nesting_limit
 
 -- ---- many workers
 
@@ -125,13 +125,13 @@ OpenIsBusy =
     → IsQuiet gives d past
     → (J : JobName)
     → IsOpen gives d past J
-    → In J (instances gives (meaning gives d))
+    → In J (instances (meaning gives d))
     → BusyJob gives d past J
 
 -- an open instance inside which nothing goes on
 pub record IsStill (gives : Giving) (d : Document) (past : History) (J : JobName) : Type 0 where
   pub is_open : IsOpen gives d past J
-  pub is_instance : In J (instances gives (meaning gives d))
+  pub is_instance : In J (instances (meaning gives d))
   pub still : (k : Job) → IsJob gives d k → is_inside J k.name ≡ true → goes_on gives d past k ≡ false
 
 -- where nothing can be settled, they are at most eight for each try that is out
@@ -145,4 +145,4 @@ FewAreStill =
     → (Js : List JobName)
     → Apart (λ J. J) Js
     → ((J : JobName) → In J Js → IsStill gives d past J)
-    → length Js ≤ most_nesting * tries_out gives d past
+    → length Js ≤ nesting_limit * tries_out gives d past

@@ -5,7 +5,7 @@ use Rattle.tv_value.specs.Values.{JobName, Name}
 use Rattle.tv_gate.specs.Outcomes.{Giving}
 use Rattle.tv_flow.specs.Flows.{Document, Flow}
 use Rattle.tv_model.specs.Jobs.{Job}
-use Rattle.tv_model.specs.Meanings.{most_nesting}
+use Rattle.tv_model.specs.Meanings.{nesting_limit}
 use Rattle.tv_order.specs.FirstIn.{StandsBefore}
 use Rattle.tv_order.specs.JobOrder.{AllPairs, job_before, spot_before, steps_at}
 use Rattle.tv_order.specs.Moments.{IsJob, StandsAt, all_jobs}
@@ -14,7 +14,7 @@ use Rattle.tv_order.specs.Moments.{IsJob, StandsAt, all_jobs}
 abbrev pub JobsAreInOrder : Type 0
 JobsAreInOrder =
     (gives : Giving) (d : Document)
-    → AllPairs (λ j k. job_before d.flows most_nesting d.main j.name k.name ≡ true) (all_jobs gives d)
+    → AllPairs (λ j k. job_before d.flows nesting_limit d.main j.name k.name ≡ true) (all_jobs gives d)
 
 -- no two names stand before each other
 abbrev pub OrderIsStrict : Type 0
@@ -32,5 +32,5 @@ InstancesAreInOrder =
     → (x y : Name × Place)
     → StandsAt j I x
     → StandsAt k I y
-    → spot_before (steps_at d.flows most_nesting d.main I) x y ≡ true
+    → spot_before (steps_at d.flows nesting_limit d.main I) x y ≡ true
     → StandsBefore j k (all_jobs gives d)

@@ -7,7 +7,7 @@ use Rattle.tv_flow.specs.Flows.{Document, Flow, Step}
 use Rattle.tv_model.specs.Agreeing.{NestsWithin}
 use Rattle.tv_model.specs.Instances.{zip_names}
 use Rattle.tv_model.specs.Jobs.{Job}
-use Rattle.tv_model.specs.Meanings.{meaning, most_nesting}
+use Rattle.tv_model.specs.Meanings.{meaning, nesting_limit}
 use Rattle.tv_agreed.specs.Opening.{first_nested}
 use Rattle.tv_order.specs.Moments.{IsJob}
 use Rattle.tv_order.specs.Parts.{IsInstance, OwnPart}
@@ -33,7 +33,7 @@ pub record OpenedPart (gives : Giving) (d : Document) (j : Job) (g : Name) : Typ
 abbrev pub PartsAreInstances : Type 0
 PartsAreInstances =
     (gives : Giving) (d : Document)
-    → NestsWithin d.flows most_nesting d.main
+    → NestsWithin d.flows nesting_limit d.main
     → (j : Job)
     → IsJob gives d j
     → (g : Name)

@@ -3,7 +3,7 @@ use Rattle.std.specs.Prelude.{Bool, Option, Some, [], codes, count_by, false, ma
 use Rattle.tv_value.specs.Values.{JobName}
 use Rattle.tv_flow.specs.Flows.{Document}
 use Rattle.tv_model.specs.Jobs.{Job}
-use Rattle.tv_model.specs.Meanings.{most_nesting}
+use Rattle.tv_model.specs.Meanings.{nesting_limit}
 use Rattle.tv_model.specs.RowsOfFlows.{opening, side_by_side}
 use Rattle.tv_model.specs.TextServices.{text_services}
 use Rattle.tv_model.specs.Writing.{meant}
@@ -14,7 +14,7 @@ use Rattle.tv_order.specs.JobOrder.{job_before}
 use Rattle.tv_order.specs.Moments.{IsLegal, IsOpen, has_offer, has_open, tries_out}
 
 abbrev pub before : Document → JobName → JobName → Bool
-before d a b = job_before d.flows most_nesting d.main a b
+before d a b = job_before d.flows nesting_limit d.main a b
 
 -- of two steps side by side q has the greater rank, so that its jobs come first, the lesser place first; a job comes
 -- before those inside it, and these before the next
@@ -56,5 +56,5 @@ OffersKeepInstancesOpen =
 -- the walk over all jobs of each instance goes into the first open one, and finds the job inside it
 abbrev pub WalksIntoOpenInstance : Type 0
 WalksIntoOpenInstance =
-    (first_name (first_in (own_jobs (meant opening)) has_open_now has_offer_now most_nesting []) ≡ Some inner)
-    × (entered_in (own_jobs (meant opening)) has_open_now has_offer_now most_nesting [] ≡ [] ∷ n0 ∷ [])
+    (first_name (first_in (own_jobs (meant opening)) has_open_now has_offer_now nesting_limit []) ≡ Some inner)
+    × (entered_in (own_jobs (meant opening)) has_open_now has_offer_now nesting_limit [] ≡ [] ∷ n0 ∷ [])

@@ -2,7 +2,6 @@
 use Rattle.std.specs.Prelude.{List, [], codes, reverse, true, ℕ, ◌++◌, ◌∷◌, ◌≡◌}
 use Rattle.tv_flow.specs.Flows.{Document}
 use Rattle.tv_model.specs.RowsOfFlows.{opening, two_steps}
-use Rattle.tv_model.specs.TextServices.{text_services}
 use Rattle.tv_model.specs.Writing.{meant}
 use Rattle.tv_history.specs.Entries.{Entry, closed, ended, opened}
 use Rattle.tv_history.specs.Histories.{kept, room}
@@ -13,8 +12,8 @@ use Rattle.tv_order.specs.Rows.{second}
 abbrev pub Holds : Document → List Entry → ℕ → ℕ → Type 0
 Holds d entries results nodes =
     (is_legal_run d entries ≡ true)
-    × (kept text_services (meant d) (reverse entries) ≡ results)
-    × (room text_services (meant d) (reverse entries) ≡ nodes)
+    × (kept (meant d) (reverse entries) ≡ results)
+    × (room (meant d) (reverse entries) ≡ nodes)
 
 -- each of two steps has a list of two texts at its port and its output, and its iteration is as long; so is the
 -- output of the flow: three nodes each. The first job's result is kept while the next works on it.

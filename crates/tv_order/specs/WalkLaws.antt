@@ -4,7 +4,7 @@ use Rattle.tv_value.specs.Values.{JobName}
 use Rattle.tv_gate.specs.Outcomes.{Giving}
 use Rattle.tv_flow.specs.Flows.{Document}
 use Rattle.tv_model.specs.Jobs.{Job}
-use Rattle.tv_model.specs.Meanings.{meaning, most_nesting}
+use Rattle.tv_model.specs.Meanings.{meaning, nesting_limit}
 use Rattle.tv_history.specs.Entries.{History, opened}
 use Rattle.tv_history.specs.Going.{IsWellFormed}
 use Rattle.tv_history.specs.Histories.{is_legal_after, is_open, may_go_on}
@@ -17,8 +17,8 @@ Finds gives d past passes =
     IsLegal gives d past
     → IsOpen gives d past []
     → (held : JobName → List Job)
-    → AreHeld gives (meaning gives d) past held passes
-    → first_in held (has_open gives d past) passes most_nesting [] ≡ find passes (all_jobs gives d)
+    → AreHeld (meaning gives d) past held passes
+    → first_in held (has_open gives d past) passes nesting_limit [] ≡ find passes (all_jobs gives d)
 
 -- the first offered ask
 abbrev pub FirstOfferedIsFound : Type 0
@@ -35,7 +35,7 @@ GoingIsPlain =
     → IsLegal gives d past
     → (j : Job)
     → IsJob gives d j
-    → goes_on gives d past j ≡ may_go_on gives (meaning gives d) past j
+    → goes_on gives d past j ≡ may_go_on (meaning gives d) past j
 
 -- where nothing can be settled or opened, the first job that goes on is the first that is offered
 abbrev pub FirstGoingIsOffered : Type 0
@@ -50,14 +50,14 @@ abbrev pub NothingGoesOnAtEnd : Type 0
 NothingGoesOnAtEnd =
     (gives : Giving) (d : Document) (past : History)
     → IsLegal gives d past
-    → is_open gives (meaning gives d) past [] ≡ false
+    → is_open past [] ≡ false
     → find (goes_on gives d past) (all_jobs gives d) ≡ None
 
 -- all jobs of each instance may be held
 abbrev pub OwnAreHeld : Type 0
 OwnAreHeld =
     (gives : Giving) (d : Document) (past : History) (passes : Job → Bool)
-    → AreHeld gives (meaning gives d) past (own_jobs (meaning gives d)) passes
+    → AreHeld (meaning gives d) past (own_jobs (meaning gives d)) passes
 
 -- where nothing can be settled, the walk to the first job that goes on enters at most eight instances, and
 -- eight more for each try that is out
@@ -70,6 +70,6 @@ FewAreEntered =
     → IsQuiet gives d past
     → IsOpen gives d past []
     → (held : JobName → List Job)
-    → AreHeld gives (meaning gives d) past held (goes_on gives d past)
-    → length (entered_in held (has_open gives d past) (goes_on gives d past) most_nesting [])
-    ≤ most_nesting * suc (tries_out gives d past)
+    → AreHeld (meaning gives d) past held (goes_on gives d past)
+    → length (entered_in held (has_open gives d past) (goes_on gives d past) nesting_limit [])
+    ≤ nesting_limit * suc (tries_out gives d past)

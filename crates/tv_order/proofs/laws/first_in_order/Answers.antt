@@ -6,4 +6,4 @@ use Rattle.tv_order.proofs.OfHeld.{own-held}
 use Rattle.tv_order.proofs.laws.first_in_order.Goals as goal
 
 pub returns : goal.returns
-returns c = record { offered = λ gives d past l o held are. first-offered gives d past l o held are; going = λ gives d past l o held are. first-going gives d past l o held are; plain = λ gives d past l j i. going-plain gives d past l j i; handing = λ gives d past q s. first-same gives (meaning gives d) past q s; held = λ gives d past passes. own-held gives (meaning gives d) past passes; row = (refl, refl) }
+returns c = record { offered = λ gives d past l o held are. first-offered gives d past l o held are; going = λ gives d past l o held are. first-going gives d past l o held are; plain = λ gives d past l j i. going-plain gives d past l j i; handing = λ gives d past q s. first-same gives (meaning gives d) past q s; held = λ gives d past passes. own-held (meaning gives d) past passes; row = (refl, refl) }
