@@ -1,6 +1,6 @@
 //! What holds of the definitions alone: each law is the clause of a function that does nothing.
 ghost use Rattle.tv_parts.specs.Stated.{StayBelow, ShowMore, ChangeNoWhole, ChangeThere, WholeIsValue, WholeByCount, CounterRises, WholeWhereAllKnown};
-ghost use Rattle.tv_parts.specs.Worked.{PartsInAnyOrder, PassesOver, ClosesFirst};
+ghost use Rattle.tv_parts.specs.Worked.{PartsInAnyOrder, PassesOver, ClosesFirst, KnowsPartsOfList, KnowsNothingElse};
 
 /// What changes a tree keeps it below its value and keeps what was known; it can be where nothing is known yet, and so in
 /// nothing that is whole.
@@ -24,4 +24,6 @@ pub fn worked()
     ensures order { PartsInAnyOrder }
     ensures over { PassesOver }
     ensures first { ClosesFirst }
+    ensures known { KnowsPartsOfList }
+    ensures nothing_else { KnowsNothingElse }
 {}

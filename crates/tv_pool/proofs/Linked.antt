@@ -71,6 +71,13 @@ module _ {T : Type 0} where
         let found = lying-stored (stored_in (get_or (regions_of nodes.slots table.slots begun) number None)) slot item lies in
         (found.0, held nodes table begun laid number found.0 slot (subst (λ o. IsSomeAnd o (λ (s : Stored T). s.slot ≡ slot)) (sym found.1) refl))
 
+    -- a slot is of one region alone
+    pub linked-alone : (number other slot : ℕ) (one two : T) → item_in (shown nodes table begun) number slot ≡ Some one → item_in (shown nodes table begun) other slot ≡ Some two → number ≡ other
+    linked-alone number other slot one two lies also =
+        let h = (linked-held number slot one lies).1 in
+        let k = (linked-held other slot two also).1 in
+        sym h.same ∙ sym h.own ∙ k.own ∙ k.same
+
     pub linked-item : (number slot : ℕ) (item : T) → item_in (shown nodes table begun) number slot ≡ Some item → (p : Placed T) × (get nodes slot ≡ Some p) × (p.item ≡ item)
     linked-item number slot item lies =
         let found = lying-stored (stored_in (get_or (regions_of nodes.slots table.slots begun) number None)) slot item lies in

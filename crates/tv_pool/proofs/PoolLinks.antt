@@ -93,3 +93,25 @@ module _ {T : Type 0} where
 
   pub IsLive-linked : (pool : Pool T) (link : Link) (item : T) (region : Region) → IsLive pool region → IsLive (with_linked pool link item) region
   IsLive-linked pool link item region live = subst (λ o. IsSomeAnd o (λ (c : Contents T). c.entry ≡ region.entry)) (sym (at-written pool.regions link.slot item region.number)) (entry-written (region_at pool region.number) link.slot item region.entry live)
+
+  -- a put leaves what stands under other numbers
+  pub region_at-put_other : (old new : Pool T) (region : Region) (item : T) (node : Node) → Puts old new region item node → (number : ℕ) → number ≢ number_of region → region_at new number ≡ region_at old number
+  region_at-put_other old new region item node puts number other =
+      ap (λ rs. get_or rs number None) puts.regions
+      ∙ get_or-set_other old.regions region.number number (Some (contents_with old region (record { item = item; slot = node.slot }))) None other
+
+  lying-unwritten : (ss : List (Stored T)) (at : ℕ) (item : T) → lying_in ss at ≡ None → map (with_lying at item) ss ≡ ss
+  lying-unwritten [] at item none = refl
+  lying-unwritten (s ∷ ss) at item none = by (lying-unwritten ss at item) (eqb s.slot at) refl none
+    where
+      by : (lying_in ss at ≡ None → map (with_lying at item) ss ≡ ss) → (b : Bool) → eqb s.slot at ≡ b → (if b then Some s.item else lying_in ss at) ≡ None → map (with_lying at item) (s ∷ ss) ≡ s ∷ ss
+      by rec true is none = absurd (cc)
+      by rec false is none = ap (λ b. let r : Stored T = record { item = if b then item else s.item; slot = s.slot } in r ∷ map (with_lying at item) ss) is ∙ ap (λ l. s ∷ l) (rec none)
+
+  -- so does a write through a link of another region
+  pub region_at-linked_other : (pool : Pool T) (link : Link) (item : T) (number : ℕ) → item_in pool number (lies_at link) ≡ None → region_at (with_linked pool link item) number ≡ region_at pool number
+  region_at-linked_other pool link item number none = at-written pool.regions link.slot item number ∙ by (region_at pool number) none
+    where
+      by : (o : Option (Contents T)) → lying_in (stored_in o) link.slot ≡ None → contents_written link.slot item o ≡ o
+      by None h = refl
+      by (Some c) h = ap (λ ss. let r : Contents T = record { entry = c.entry; stored = ss } in Some r) (lying-unwritten c.stored link.slot item h)

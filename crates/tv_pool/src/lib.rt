@@ -200,6 +200,7 @@ impl<T> Pool<T> {
         requires { IsLinked self.old link }
         ensures* writes_back { sem 𝓛 (lends_linked T.row self.entry link result) }
         ensures value { (number : ℕ) (item : T) → item_in self.old number (lies_at link) ≡ Some item → result.now ≡ item }
+        ensures alone { (number other : ℕ) (one two : T) → item_in self.old number (lies_at link) ≡ Some one → item_in self.old other (lies_at link) ≡ Some two → number ≡ other }
     {
         self.nodes[link.slot].item_mut()
     }

@@ -1,7 +1,7 @@
 use Rattle.std.proofs.Common.{refl, sym, ap, ◌∙◌}
 use Rattle.std.proofs.lemmas.Option.{same_Some}
 use Rattle.tv_pool.specs.declared.layout.Placed.{Placed}
-use Rattle.tv_pool.proofs.Linked.{linked-item, linked-laid, linked-view}
+use Rattle.tv_pool.proofs.Linked.{linked-alone, linked-item, linked-laid, linked-view}
 use Rattle.tv_pool.proofs.Pool.at_mut.Goals as goal
 
 pub index_mut-requires : goal.index_mut-requires
@@ -27,5 +27,6 @@ returns g c =
         value = λ number item. rw (← c.self.view_is) (λ lies.
             let l = linked-item nodes table begun c.self.invariant number c.args.link.slot item lies in
             sym c.item_mut.ensures.value ∙ ap (λ (p : Placed _). p.item) (same_Some _ _ (sym c.index_mut.ensures.value ∙ l.1)) ∙ l.2);
+        alone = λ number other one two. rw (← c.self.view_is) (λ lies also. linked-alone nodes table begun c.self.invariant number other c.args.link.slot one two lies also);
       },
     )

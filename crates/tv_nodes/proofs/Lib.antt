@@ -1,0 +1,6 @@
+pub mod Digits
+pub mod Seeks
+pub mod Ways
+pub mod Hanging
+pub mod Bodies
+pub mod Calls

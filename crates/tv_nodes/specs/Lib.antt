@@ -1,0 +1,4 @@
+pub mod Nodes
+pub mod Digits
+pub mod Stands
+pub mod Calls

@@ -1,0 +1,10 @@
+pub mod Listed
+pub mod Same
+pub mod Counting
+pub mod Steps
+pub mod Bases
+pub mod Places
+pub mod Inner
+pub mod Ways
+pub mod Looks
+pub mod Calls

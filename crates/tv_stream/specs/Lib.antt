@@ -1,0 +1,4 @@
+pub mod Trees
+pub mod Stands
+pub mod Answers
+pub mod Inside

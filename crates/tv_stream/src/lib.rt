@@ -1,0 +1,36 @@
+//! Partial trees in a pool: what is known so far of a nested list whose parts arrive in any order.
+//!
+//! A `Partial` is a tree of a stated depth. An item arrives at a place, and a list is closed with its length, in any order; the
+//! tree tells what is known at a place, whether all is, and whether a marked item (a fault, say) stands there or inside.
+//!
+//! **What it promises.** A contract sees of a tree and its pool a partial tree of `tv_parts` (`specs/Trees.antt`, `tree_of`).
+//! `arrive` and `close` make of it exactly `arrive` and `close_at` of that crate, and `kind_at`, `item_at`, `part_at`, `whole_at`
+//! and `marked_at` answer exactly what is known there. So the laws of `tv_parts` hold: what was known stays, a tree below a
+//! value stays below it, and a whole one is the value. A refusal comes exactly by the tree, in the order in which the types of
+//! refusals list them (`specs/Answers.antt`); it changes nothing, and gives the item back. Neither call is refused for want of
+//! memory where the pool's `spare` is greater than the depth. Each call answers the least prefix of its place that is whole by
+//! it, and `whole_by_arrival` and `whole_by_close` answer the same before the call.
+//!
+//! **Other trees.** A tree stands on slots of its own, and goes on to stand on them and on slots in which nothing lay
+//! (`KeepsTrees` in `specs/Stands.antt`); what lies in all other slots of the region stays, and so do all other regions.
+//!
+//! **How it is laid out.** Each part is a node of `tv_nodes`. A list counts its whole parts, so each list becomes whole once,
+//! and nothing is walked from scratch. `proofs/Steps.antt` shows that a change of a part, once it is counted, is that change of
+//! the list.
+//!
+//! - `partial`: the tree and its calls
+//! - `changes`: what changes a tree, from a node on
+//! - `held`: what a node holds, and its counts
+//! - `refusals`: why a call is refused
+#![tactic(auto)]
+
+mod changes;
+mod held;
+mod partial;
+mod refusals;
+#[cfg(test)]
+mod tests;
+
+pub use held::{Held, PartKind};
+pub use partial::{Partial, Slot};
+pub use refusals::{ArriveRefused, CloseRefused};
