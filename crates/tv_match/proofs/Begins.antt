@@ -7,24 +7,25 @@ use Rattle.tv_strategy.specs.Measures.{DotsAgree}
 use Rattle.tv_matching.specs.Matchers.{Starts}
 use Rattle.tv_matching.specs.Stores.{store_for, gain, grown, told_by, worked, worked_items}
 use Rattle.tv_match.specs.Entries.{Entry, kepts, front, AreMore}
+use Rattle.tv_match.specs.Brief.{briefs, brief_store}
 use Rattle.tv_match.specs.Filed.{Filed, kept_store, Adds}
 use Rattle.tv_match.specs.Seen.{seen_as, AreSound}
 use Rattle.tv_match.specs.Working.{unit_news, news_of, news_to, IsFull, IsWorked, IsDone}
 use Rattle.tv_match.proofs.Fronts.{more-early, more-rise}
 use Rattle.tv_match.proofs.Working.{adds-full, full-kept}
 
-module _ (s : Strategy) (mm : List (Name × ℕ)) (empty root : Filed) (out : List Entry) (k : kept_store kepts empty ≡ store_for 0 s) (f : IsFull 0 empty) (a : Adds 0 empty root) (b : AreMore 0 [] out) (g : kept_store kepts root ≡ grown (told_by unit_news) (kept_store kepts empty)) (h : kepts out ≡ gain (told_by unit_news) (kept_store kepts empty)) where
+module _ (s : Strategy) (mm : List (Name × ℕ)) (empty root : Filed) (out : List Entry) (k : kept_store kepts empty ≡ store_for 0 s) (f : IsFull 0 empty) (a : Adds 0 empty root) (b : AreMore 0 [] out) (g : kept_store kepts root ≡ brief_store (grown (told_by unit_news) (kept_store kepts empty))) (h : kepts out ≡ briefs (gain (told_by unit_news) (kept_store kepts empty))) where
   full : IsFull 0 root
   full = adds-full 0 0 empty root (omega arith) f a
 
   out-full : front 0 out ≡ out
   out-full = more-early 0 0 [] out (omega arith) refl b
 
-  stored : kept_store (λ es. kepts (front 0 es)) root ≡ worked (store_for 0 s) (unit_news ∷ [])
-  stored = full-kept 0 root full ∙ g ∙ ap (grown (told_by unit_news)) k
+  stored : kept_store (λ es. kepts (front 0 es)) root ≡ brief_store (worked (store_for 0 s) (unit_news ∷ []))
+  stored = full-kept 0 root full ∙ g ∙ ap (λ st. brief_store (grown (told_by unit_news) st)) k
 
-  put : kepts (front 0 out) ≡ worked_items (store_for 0 s) (unit_news ∷ [])
-  put = ap kepts out-full ∙ h ∙ ap (gain (told_by unit_news)) k ∙ sym (append-nil (gain (told_by unit_news) (store_for 0 s)))
+  put : kepts (front 0 out) ≡ briefs (worked_items (store_for 0 s) (unit_news ∷ []))
+  put = ap kepts out-full ∙ h ∙ ap (λ st. briefs (gain (told_by unit_news) st)) k ∙ ap briefs (sym (append-nil (gain (told_by unit_news) (store_for 0 s))))
 
   none : (j : ℕ) → j ≤ 0 → 0 ≡ j
   none j i = omega arith
@@ -33,8 +34,8 @@ module _ (s : Strategy) (mm : List (Name × ℕ)) (empty root : Filed) (out : Li
   begun =
       record {
         worked = record {
-          store = λ j i. subst (λ n. kept_store (λ es. kepts (front n es)) root ≡ worked (store_for 0 s) (news_to n [])) (none j i) stored;
-          items = λ j i. subst (λ n. kepts (front n out) ≡ worked_items (store_for 0 s) (news_to n [])) (none j i) put;
+          store = λ j i. subst (λ n. kept_store (λ es. kepts (front n es)) root ≡ brief_store (worked (store_for 0 s) (news_to n []))) (none j i) stored;
+          items = λ j i. subst (λ n. kepts (front n out) ≡ briefs (worked_items (store_for 0 s) (news_to n []))) (none j i) put;
         };
         full = full;
         out_full = out-full;

@@ -13,6 +13,8 @@ use Rattle.tv_match.specs.declared.stores.Store.TheViews.{Cross, Dot}
 use Rattle.tv_match.specs.declared.stores.Store.TheFolds.{fold-roll-Store}
 use Rattle.tv_match.specs.declared.stores.Store.TheVariants.{rolls-Cross, rolls-Dot}
 use Rattle.tv_match.specs.declared.stores.Store.TheOpen.{Store-F}
+use Rattle.tv_match.specs.Brief.{briefs, brief_store}
+use Rattle.tv_match.proofs.Briefly.{Alike, briefs-again, briefs-append, only_jobs-brief, append-alike, crossed-alike, below_jobs-alike, first-alike, second-alike, only_jobs-alike}
 use Rattle.tv_match.proofs.Putting.{more-none}
 
 pub filed-is_cross : (es ys fresh : List Entry) (f r : Box Store Global) → filed (Cross es ys fresh f r) ≡ filed_cross es ys (filed f.value) (filed r.value)
@@ -68,39 +70,49 @@ pub on-ok : {A E : Type 0} (r : Result A E) (P Q : Type 0) → (P → Q) → OnO
 on-ok (Ok x) P Q f h = f h
 on-ok (Err e) P Q f h = h
 
-module _ (new : Option ℕ → List Kept) (F R F' R' : spec.Store (Unit {0}) ℕ) (dx dy : List Kept) (x : dx ≡ gain new F) (y : dy ≡ gain new R) where
-  pub cross-items : (es ys es' out mid end : List Kept) → es' ≡ es ++ only_jobs dx → mid ≡ out ++ crossed_items dx ys → end ≡ mid ++ below_jobs es' dy → end ≡ out ++ gain new (cross_store es ys F R)
+module _ (new : Option ℕ → List Kept) (F R F' R' : spec.Store (Unit {0}) ℕ) (dx dy : List Kept) (x : dx ≡ briefs (gain new F)) (y : dy ≡ briefs (gain new R)) where
+  first : Alike dx (gain new F)
+  first = ap briefs x ∙ briefs-again (gain new F)
+
+  rest : Alike dy (gain new R)
+  rest = ap briefs y ∙ briefs-again (gain new R)
+
+  pub cross-items : (es ys es' out mid end : List Kept) → es' ≡ es ++ only_jobs dx → mid ≡ out ++ briefs (crossed_items dx ys) → end ≡ mid ++ briefs (below_jobs es' dy) → end ≡ out ++ briefs (gain new (cross_store es ys F R))
   cross-items es ys es' out mid end a h k =
       k
-      ∙ ap (λ l. l ++ below_jobs es' dy) h
-      ∙ append_assoc out (crossed_items dx ys) (below_jobs es' dy)
-      ∙ ap (λ l. out ++ (crossed_items dx ys ++ below_jobs l dy)) a
-      ∙ ap (λ l. out ++ (crossed_items l ys ++ below_jobs (es ++ only_jobs l) dy)) x
-      ∙ ap (λ l. out ++ (crossed_items (gain new F) ys ++ below_jobs (es ++ only_jobs (gain new F)) l)) y
+      ∙ ap (λ l. l ++ briefs (below_jobs es' dy)) h
+      ∙ append_assoc out (briefs (crossed_items dx ys)) (briefs (below_jobs es' dy))
+      ∙ ap (λ l. out ++ (briefs (crossed_items dx ys) ++ briefs (below_jobs l dy))) a
+      ∙ ap (λ l. out ++ l) (sym (briefs-append (crossed_items dx ys) (below_jobs (es ++ only_jobs dx) dy)))
+      ∙ ap (λ l. out ++ l) (append-alike (crossed_items dx ys) (crossed_items (gain new F) ys) (below_jobs (es ++ only_jobs dx) dy) (below_jobs (es ++ only_jobs (gain new F)) (gain new R))
+      (crossed-alike dx (gain new F) ys ys first refl)
+      (below_jobs-alike (es ++ only_jobs dx) (es ++ only_jobs (gain new F)) dy (gain new R) (append-alike es es (only_jobs dx) (only_jobs (gain new F)) refl (only_jobs-alike dx (gain new F) first)) rest))
 
-  pub dot-items : (xs ys xs' out mid end : List Kept) → xs' ≡ xs ++ dx → mid ≡ out ++ met_by_first dx ys → end ≡ mid ++ met_by_second xs' dy → end ≡ out ++ gain new (dot_store xs ys F R)
+  pub dot-items : (xs ys xs' out mid end : List Kept) → xs' ≡ xs ++ dx → mid ≡ out ++ briefs (met_by_first dx ys) → end ≡ mid ++ briefs (met_by_second xs' dy) → end ≡ out ++ briefs (gain new (dot_store xs ys F R))
   dot-items xs ys xs' out mid end a h k =
       k
-      ∙ ap (λ l. l ++ met_by_second xs' dy) h
-      ∙ append_assoc out (met_by_first dx ys) (met_by_second xs' dy)
-      ∙ ap (λ l. out ++ (met_by_first dx ys ++ met_by_second l dy)) a
-      ∙ ap (λ l. out ++ (met_by_first l ys ++ met_by_second (xs ++ l) dy)) x
-      ∙ ap (λ l. out ++ (met_by_first (gain new F) ys ++ met_by_second (xs ++ gain new F) l)) y
+      ∙ ap (λ l. l ++ briefs (met_by_second xs' dy)) h
+      ∙ append_assoc out (briefs (met_by_first dx ys)) (briefs (met_by_second xs' dy))
+      ∙ ap (λ l. out ++ (briefs (met_by_first dx ys) ++ briefs (met_by_second l dy))) a
+      ∙ ap (λ l. out ++ l) (sym (briefs-append (met_by_first dx ys) (met_by_second (xs ++ dx) dy)))
+      ∙ ap (λ l. out ++ l) (append-alike (met_by_first dx ys) (met_by_first (gain new F) ys) (met_by_second (xs ++ dx) dy) (met_by_second (xs ++ gain new F) (gain new R))
+      (first-alike dx (gain new F) ys ys first refl)
+      (second-alike (xs ++ dx) (xs ++ gain new F) dy (gain new R) (append-alike xs xs dx (gain new F) refl first) rest))
 
-  module _ (p : F' ≡ grown new F) (q : R' ≡ grown new R) where
-    pub cross-store : (es ys es' ys' : List Kept) → es' ≡ es ++ only_jobs dx → ys' ≡ ys ++ dy → cross_store es' ys' F' R' ≡ grown new (cross_store es ys F R)
-    cross-store es ys es' ys' a b =
-        ap (λ l. cross_store l ys' F' R') (a ∙ ap (λ l. es ++ only_jobs l) x)
-        ∙ ap (λ l. cross_store (es ++ only_jobs (gain new F)) l F' R') (b ∙ ap (λ l. ys ++ l) y)
-        ∙ ap (λ s. cross_store (es ++ only_jobs (gain new F)) (ys ++ gain new R) s R') p
-        ∙ ap (λ s. cross_store (es ++ only_jobs (gain new F)) (ys ++ gain new R) (grown new F) s) q
+  module _ (p : F' ≡ brief_store (grown new F)) (q : R' ≡ brief_store (grown new R)) where
+    pub cross-store : (es ys es' ys' : List Kept) → briefs es ≡ es → briefs ys ≡ ys → es' ≡ es ++ only_jobs dx → ys' ≡ ys ++ dy → cross_store es' ys' F' R' ≡ brief_store (grown new (cross_store es ys F R))
+    cross-store es ys es' ys' c d a b =
+        ap (λ l. cross_store l ys' F' R') (a ∙ ap (λ l. es ++ only_jobs l) x ∙ ap (λ l. es ++ l) (only_jobs-brief (gain new F)) ∙ ap (λ l. l ++ briefs (only_jobs (gain new F))) (sym c) ∙ sym (briefs-append es (only_jobs (gain new F))))
+        ∙ ap (λ l. cross_store (briefs (es ++ only_jobs (gain new F))) l F' R') (b ∙ ap (λ l. ys ++ l) y ∙ ap (λ l. l ++ briefs (gain new R)) (sym d) ∙ sym (briefs-append ys (gain new R)))
+        ∙ ap (λ s. cross_store (briefs (es ++ only_jobs (gain new F))) (briefs (ys ++ gain new R)) s R') p
+        ∙ ap (λ s. cross_store (briefs (es ++ only_jobs (gain new F))) (briefs (ys ++ gain new R)) (brief_store (grown new F)) s) q
 
-    pub dot-store : (xs ys xs' ys' : List Kept) → xs' ≡ xs ++ dx → ys' ≡ ys ++ dy → dot_store xs' ys' F' R' ≡ grown new (dot_store xs ys F R)
-    dot-store xs ys xs' ys' a b =
-        ap (λ l. dot_store l ys' F' R') (a ∙ ap (λ l. xs ++ l) x)
-        ∙ ap (λ l. dot_store (xs ++ gain new F) l F' R') (b ∙ ap (λ l. ys ++ l) y)
-        ∙ ap (λ s. dot_store (xs ++ gain new F) (ys ++ gain new R) s R') p
-        ∙ ap (λ s. dot_store (xs ++ gain new F) (ys ++ gain new R) (grown new F) s) q
+    pub dot-store : (xs ys xs' ys' : List Kept) → briefs xs ≡ xs → briefs ys ≡ ys → xs' ≡ xs ++ dx → ys' ≡ ys ++ dy → dot_store xs' ys' F' R' ≡ brief_store (grown new (dot_store xs ys F R))
+    dot-store xs ys xs' ys' c d a b =
+        ap (λ l. dot_store l ys' F' R') (a ∙ ap (λ l. xs ++ l) x ∙ ap (λ l. l ++ briefs (gain new F)) (sym c) ∙ sym (briefs-append xs (gain new F)))
+        ∙ ap (λ l. dot_store (briefs (xs ++ gain new F)) l F' R') (b ∙ ap (λ l. ys ++ l) y ∙ ap (λ l. l ++ briefs (gain new R)) (sym d) ∙ sym (briefs-append ys (gain new R)))
+        ∙ ap (λ s. dot_store (briefs (xs ++ gain new F)) (briefs (ys ++ gain new R)) s R') p
+        ∙ ap (λ s. dot_store (briefs (xs ++ gain new F)) (briefs (ys ++ gain new R)) (brief_store (grown new F)) s) q
 
 pub on-both : {A E : Type 0} (r : Result A E) (P Q R : Type 0) → (P → Q → R) → OnOk r P → OnOk r Q → OnOk r R
 on-both (Ok x) P Q R f h k = f h k

@@ -1,13 +1,17 @@
 pub mod Laying
 pub mod Fronts
+pub mod Briefly
 pub mod Putting
 pub mod Meeting
 pub mod Latest
+pub mod Linking
 pub mod Filing
 pub mod Working
 pub mod Seeing
 pub mod Calls
 pub mod Builds
 pub mod Ahead
+pub mod Faults
 pub mod Reserves
 pub mod Begins
+pub mod AllMade

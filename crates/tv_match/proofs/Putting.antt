@@ -8,6 +8,7 @@ use Rattle.tv_matching.specs.Matchers.{Kept}
 use Rattle.tv_matching.proofs.Lists.{map-append, flat-append, each-append}
 use Rattle.tv_match.specs.declared.kinds.Kind as code
 use Rattle.tv_match.specs.Entries.{Entry, entry, no_entry, entry_at, kind_view, kept_entry, kepts, AreMore}
+use Rattle.tv_match.specs.Brief.{brief, briefs}
 
 -- ---- more of one number
 
@@ -71,15 +72,34 @@ module _ (n : ℕ) (f : Kept → List Kept) (xs : List Entry) where
   pub puts-end : (i : ℕ) (old new : List Entry) → Puts n f xs i old new → length xs ≤ i → kepts new ≡ kepts old ++ flat_map f (kepts xs)
   puts-end i old new h l = sym (append-nil (kepts new)) ∙ ap (λ ys. kepts new ++ flat_map f (kepts ys)) (sym (past xs i l)) ∙ h.items
 
+-- ---- a loop whose items are put in brief
+
+pub record PutsBrief (n : ℕ) (f : Kept → List Kept) (xs : List Entry) (i : ℕ) (old new : List Entry) : Type 0 where
+  pub items : kepts new ++ briefs (flat_map f (kepts (drop i xs))) ≡ kepts old ++ briefs (flat_map f (kepts xs))
+  pub more : AreMore n old new
+
+module _ (n : ℕ) (f : Kept → List Kept) (xs : List Entry) where
+  pub brief-start : (es : List Entry) → PutsBrief n f xs 0 es es
+  brief-start es = record { items = refl; more = more-none n es }
+
+  pub brief-next : (i : ℕ) (old mid new : List Entry) → PutsBrief n f xs i old mid → i < length xs → kepts new ≡ kepts mid ++ briefs (flat_map f (kept_entry (entry_at xs i) ∷ [])) → AreMore n mid new → PutsBrief n f xs (i + 1) old new
+  brief-next i old mid new h l e k =
+      record {
+        items =
+            ap (λ l. l ++ briefs (flat_map f (kepts (drop (i + 1) xs)))) e
+            ∙ append_assoc (kepts mid) (briefs (flat_map f (kept_entry (entry_at xs i) ∷ []))) (briefs (flat_map f (kepts (drop (i + 1) xs))))
+            ∙ ap (λ l. kepts mid ++ l) (sym (map-append brief (flat_map f (kept_entry (entry_at xs i) ∷ [])) (flat_map f (kepts (drop (i + 1) xs)))) ∙ ap briefs (sym (flat-append f (kept_entry (entry_at xs i) ∷ []) (kepts (drop (i + 1) xs)))) ∙ ap (λ ys. briefs (flat_map f (kepts ys))) (sym (from-next xs i l)))
+            ∙ h.items;
+        more = more-then n old mid new h.more k;
+      }
+
+  pub brief-end : (i : ℕ) (old new : List Entry) → PutsBrief n f xs i old new → length xs ≤ i → kepts new ≡ kepts old ++ briefs (flat_map f (kepts xs))
+  brief-end i old new h l = sym (append-nil (kepts new)) ∙ ap (λ ys. kepts new ++ briefs (flat_map f (kepts ys))) (sym (past xs i l)) ∙ h.items
+
 -- ---- one item
 
 pub kepts-one : (n : ℕ) (es fs : List Entry) (q : Place) (k : code.Kind) → fs ≡ es ++ entry n q k ∷ [] → kepts fs ≡ kepts es ++ item q (kind_view k) ∷ []
 kepts-one n es fs q k e = ap kepts e ∙ map-append kept_entry es (entry n q k ∷ [])
-
-pub bound-nothing : (k : code.Kind) → kind_view k ≡ bound [] (kind_view k)
-bound-nothing code.Kind.Job = refl
-bound-nothing (code.Kind.Closed n) = refl
-bound-nothing (code.Kind.Passed l) = refl
 
 pub kepts-same : (n : ℕ) (es fs : List Entry) (q r : Place) (k : code.Kind) → q ≡ r → fs ≡ es ++ entry n q k ∷ [] → kepts fs ≡ kepts es ++ item r (kind_view k) ∷ []
 kepts-same n es fs q r k p e = kepts-one n es fs q k e ∙ ap (λ s. kepts es ++ item s (kind_view k) ∷ []) p

@@ -16,6 +16,7 @@ use Rattle.tv_matching.proofs.Lists.{map-append, each-append}
 use Rattle.tv_matching.proofs.OfLaws.{tellings-count}
 use Rattle.tv_match.specs.declared.told.Told as code
 use Rattle.tv_match.specs.Entries.{Entry, kepts, front}
+use Rattle.tv_match.specs.Brief.{briefs}
 use Rattle.tv_match.specs.Filed.{Filed}
 use Rattle.tv_match.specs.Seen.{telling_of, tellings_of, outcome_of, told_view, leaf_of, NameLeaves, entry_of, seen_as, AreSound, IsProper}
 use Rattle.tv_match.specs.Working.{IsDone, unit_news, news_of}
@@ -28,6 +29,7 @@ module _ (s : Strategy) where
   listed-one : (t : code.Told) → telling_of s (entry_of t) ≡ told_view s t
   listed-one (code.Told.Arrival l q true) = refl
   listed-one (code.Told.Arrival l q false) = refl
+  listed-one (code.Told.Faulty l q) = refl
   listed-one (code.Told.Close l q n) = refl
 
   listed-all : (ts : List code.Told) → tellings_of s (map entry_of ts) ≡ map (told_view s) ts
@@ -45,7 +47,8 @@ all (x ∷ xs) = ap (λ l. x ∷ l) (all xs)
 module _ (s : Strategy) (mm : List (Name × ℕ)) (root : Filed) (log out : List Entry) (n g : ℕ) (a : AreSound s mm root log out n g) (ts : List code.Told) (names : NameLeaves s ts) (two : Filed) (more outs : List Entry) (m : more ≡ take n log ++ map entry_of ts) (d : IsDone s two more outs) (fr : front n outs ≡ front n (front n out)) where
   one-proper : (t : code.Told) → leaf_of t < length (leaf_names s) → IsProper s (entry_of t)
   one-proper (code.Told.Arrival l q true) h = fault-proper s a.suits.leaves_differ l q h
-  one-proper (code.Told.Arrival l q false) h = bound-proper s a.suits.leaves_differ l q h
+  one-proper (code.Told.Arrival l q false) h = bound-proper s a.suits.leaves_differ l q false h
+  one-proper (code.Told.Faulty l q) h = bound-proper s a.suits.leaves_differ l q true h
   one-proper (code.Told.Close l q k) h = closed-proper s a.suits.leaves_differ l q k h
 
   all-proper : (ts : List code.Told) → NameLeaves s ts → Each (IsProper s) (map entry_of ts)
@@ -95,7 +98,7 @@ module _ (s : Strategy) (mm : List (Name × ℕ)) (root : Filed) (log out : List
       }
 
   -- as many are new at the top as the tellings add
-  whole-count : (es xs : List Entry) → Each (IsProper s) es → kepts xs ≡ worked_items (store_for 0 s) (unit_news ∷ map news_of es) → length xs ≡ length (matched_after s (tellings_of s es))
+  whole-count : (es xs : List Entry) → Each (IsProper s) es → kepts xs ≡ briefs (worked_items (store_for 0 s) (unit_news ∷ map news_of es)) → length xs ≡ length (matched_after s (tellings_of s es))
   whole-count es xs h e =
       sym (long-map outcome_of xs)
       ∙ sym (length_permutation (map outcome_of xs) (map (out_of s) (matched_after s (tellings_of s es))) (out-all s a.suits.leaves_differ es xs h e))
@@ -103,7 +106,7 @@ module _ (s : Strategy) (mm : List (Name × ℕ)) (root : Filed) (log out : List
 
   pub held-count : length outs ≡ length (front n out) + count_of_added s (tellings_of s (take n log)) (map (told_view s) ts)
   held-count =
-      whole-count more outs proper (ap kepts (sym d.out_full) ∙ d.worked.items (length more) (omega arith) ∙ ap (λ l. worked_items (store_for 0 s) (unit_news ∷ map news_of l)) (all more))
+      whole-count more outs proper (ap kepts (sym d.out_full) ∙ d.worked.items (length more) (omega arith) ∙ ap (λ l. briefs (worked_items (store_for 0 s) (unit_news ∷ map news_of l))) (all more))
       ∙ ap (λ l. length (matched_after s l)) (ap (tellings_of s) m ∙ map-append (telling_of s) (take n log) (map entry_of ts) ∙ ap (λ l. tellings_of s (take n log) ++ l) (listed-all s ts))
       ∙ (tellings-count s (tellings_of s (take n log)) (map (told_view s) ts) []).0
       ∙ ap (λ k. k + count_of_added s (tellings_of s (take n log)) (map (told_view s) ts)) (sym (whole-count (take n log) (front n out) (each-take (IsProper s) n log a.proper) (a.done.worked.items n a.told_within)))

@@ -16,16 +16,17 @@ use Rattle.tv_matching.specs.Items.{Kind, Item, ends, closes, passes, item, if_s
 use Rattle.tv_matching.specs.Levels.{KindAt}
 use Rattle.tv_matching.specs.Members.{Once}
 use Rattle.tv_matching.specs.Matched.{matched, one_end}
-use Rattle.tv_matching.specs.Told.{Spot, Told, telling, told_to, matched_after, IsFit}
-use Rattle.tv_matching.specs.Matchers.{Outcome, Kept, kept, kept_of, kept_out, leaf_name, leaf_number, out}
+use Rattle.tv_matching.specs.Told.{Spot, Told, told_to, matched_after, Marked, marked, marked_to, marked_after, IsFit}
+use Rattle.tv_matching.specs.Matchers.{Outcome, Kept, kept, kept_of, kept_out, kept_kind_out, leaf_name, leaf_number, out}
 use Rattle.tv_matching.specs.Stores.{store_for, AreNumbered, items, told_by_all, worked_items}
-use Rattle.tv_matching.proofs.Lists.{map-append, map-if, each-map, each-weaken}
+use Rattle.tv_matching.proofs.Lists.{map-append, map-both, map-same, map-if, each-map, each-weaken}
 use Rattle.tv_matching.proofs.OfMembers.{each-permutes}
 use Rattle.tv_matching.proofs.OfStores.{items-none}
 use Rattle.tv_matching.proofs.OfLaws.{matches-once, store-is_matched, store-starts, store-works}
-use Rattle.tv_matching.proofs.Bared.{kept-is_enough}
+use Rattle.tv_matching.proofs.Bared.{plain, marked-is_matched, kept-is_enough}
 use Rattle.tv_match.specs.declared.kinds.Kind as kinds
 use Rattle.tv_match.specs.Entries.{Entry, entry, entry_at, kept_entry, kepts, kind_view}
+use Rattle.tv_match.specs.Brief.{brief, brief_kind, briefs}
 use Rattle.tv_match.specs.Working.{unit_news, news_of, news_to}
 use Rattle.tv_match.specs.Seen.{telling_kind, telling_of, outcome_of, outcome_kind, IsProper}
 
@@ -101,8 +102,9 @@ names-apart ns i j h a b = by (order i j)
 
 -- ---- what each leaf is told
 
-leaf-there : (p : Name) (q : _) (k : kinds.Kind) → (telling (telling_kind p q k)).leaf ≡ p
-leaf-there p q kinds.Kind.Job = refl
+leaf-there : (p : Name) (q : _) (k : kinds.Kind) → (marked (telling_kind p q k)).leaf ≡ p
+leaf-there p q (kinds.Kind.Job true) = refl
+leaf-there p q (kinds.Kind.Job false) = refl
 leaf-there p q (kinds.Kind.Closed n) = refl
 leaf-there p q (kinds.Kind.Passed l) = refl
 
@@ -112,13 +114,13 @@ module _ (s : Strategy) (apart : EachOnce (leaf_names s) (leaf_names s)) where
   told-leaf i l (e ∷ es) h =
       ap (λ r. if_so (e.number == i) (kept_entry e) ++ r) (told-leaf i l es h.1)
       ∙ ap (λ r. r ++ kept_of s (map (telling_of s) es) (leaf_name s i)) here-too
-      ∙ sym (map-append (kept s) (if_so (same_name (leaf_name s i) (telling (telling_of s e)).leaf) (telling (telling_of s e)).item) (told_to (map (telling_of s) es) (leaf_name s i)))
+      ∙ sym (map-append (kept s) (if_so (same_name (leaf_name s i) (marked (telling_of s e)).leaf) (marked (telling_of s e)).item) (marked_to (map (telling_of s) es) (leaf_name s i)))
     where
-      here-too : if_so (e.number == i) (kept_entry e) ≡ map (kept s) (if_so (same_name (leaf_name s i) (telling (telling_of s e)).leaf) (telling (telling_of s e)).item)
+      here-too : if_so (e.number == i) (kept_entry e) ≡ map (kept s) (if_so (same_name (leaf_name s i) (marked (telling_of s e)).leaf) (marked (telling_of s e)).item)
       here-too =
           ap (λ b. if_so b (kept_entry e)) (sym (names-apart (leaf_names s) i e.number apart l h.0.0) ∙ ap (same_name (leaf_name s i)) (sym (leaf-there (leaf_name s e.number) e.place e.kind)))
-          ∙ ap (if_so (same_name (leaf_name s i) (telling (telling_of s e)).leaf)) (sym h.0.1)
-          ∙ sym (map-if (kept s) (same_name (leaf_name s i) (telling (telling_of s e)).leaf) (telling (telling_of s e)).item)
+          ∙ ap (if_so (same_name (leaf_name s i) (marked (telling_of s e)).leaf)) (sym h.0.1)
+          ∙ sym (map-if (kept s) (same_name (leaf_name s i) (marked (telling_of s e)).leaf) (marked (telling_of s e)).item)
 
   none-told : (es : List Entry) → told_by_all (map news_of es) None ≡ []
   none-told [] = refl
@@ -158,14 +160,22 @@ module _ (s : Strategy) (apart : EachOnce (leaf_names s) (leaf_names s)) where
   outs (e ∷ es) = ap (λ o. o ∷ map outcome_of es) (one e.place e.kind) ∙ ap (λ l. kept_out (kept_entry e) ∷ l) (outs es)
     where
       one : (q : _) (k : kinds.Kind) → outcome_kind q k ≡ kept_out (item q (kind_view k))
-      one q kinds.Kind.Job = refl
+      one q (kinds.Kind.Job b) = refl
       one q (kinds.Kind.Closed n) = refl
       one q (kinds.Kind.Passed l) = refl
 
+  brief-outs : (xs : List Kept) → map kept_out (briefs xs) ≡ map kept_out xs
+  brief-outs xs = map-both kept_out brief xs ∙ map-same (λ x. kept_out (brief x)) kept_out (λ x. one x.place x.kind) xs
+    where
+      one : (q : Place) (k : Kind (Unit {0}) ℕ) → kept_kind_out q (brief_kind k) ≡ kept_kind_out q k
+      one q (ends b) = refl
+      one q (closes n) = refl
+      one q (passes l) = refl
+
   -- the items of what was told come out
-  pub out-all : (es xs : List Entry) → Each (IsProper s) es → kepts xs ≡ worked_items (store_for 0 s) (unit_news ∷ map news_of es) → IsPermutation (map outcome_of xs) (map (out s) (matched_after s (map (telling_of s) es)))
+  pub out-all : (es xs : List Entry) → Each (IsProper s) es → kepts xs ≡ briefs (worked_items (store_for 0 s) (unit_news ∷ map news_of es)) → IsPermutation (map outcome_of xs) (map (out s) (matched_after s (map (telling_of s) es)))
   out-all es xs h e =
-      subst (λ l. IsPermutation l (map (out s) (matched_after s (map (telling_of s) es)))) (sym (outs xs ∙ ap (map kept_out) e))
+      subst (λ l. IsPermutation l (map (out s) (matched_after s (map (telling_of s) es)))) (sym (outs xs ∙ ap (map kept_out) e ∙ brief-outs (worked_items (store_for 0 s) (unit_news ∷ map news_of es))))
       (subst (IsPermutation (map kept_out (worked_items (store_for 0 s) (unit_news ∷ map news_of es)))) (kept-is_enough s (map (telling_of s) es)).1
       (IsPermutation-map kept_out (worked_items (store_for 0 s) (unit_news ∷ map news_of es)) (matched (kept_of s (map (telling_of s) es)) s) (worked-matched es h)))
 
@@ -222,18 +232,25 @@ module _ (s : Strategy) (apart : EachOnce (leaf_names s) (leaf_names s)) where
   entries-same : (i j : ℕ) (q r : Place) (k l : kinds.Kind) → i < length (leaf_names s) → j < length (leaf_names s) → leaf_name s i ≡ leaf_name s j → q ≡ r → k ≡ l → entry i q k ≡ entry j r l
   entries-same i j q r k l a b n p m = ap (λ x. entry x q k) (same-number i j a b n) ∙ ap (λ x. entry j x k) p ∙ ap (entry j r) m
 
-  passed-leaf : (p : Name) (q : Place) (l : ℕ) → kept s (telling (telling_kind p q (kinds.Kind.Passed l))).item ≡ item q (kind_view (kinds.Kind.Passed l)) → leaf_number (leaf_names s) p ≡ l
+  passed-leaf : (p : Name) (q : Place) (l : ℕ) → kept s (marked (telling_kind p q (kinds.Kind.Passed l))).item ≡ item q (kind_view (kinds.Kind.Passed l)) → leaf_number (leaf_names s) p ≡ l
   passed-leaf p q l h = passed-same (leaf_number (leaf_names s) p) l (ap (λ (x : Kept). x.kind) h)
 
   tellings-same : (i j : ℕ) (q r : Place) (k l : kinds.Kind) → IsProper s (entry i q k) → IsProper s (entry j r l) → telling_kind (leaf_name s i) q k ≡ telling_kind (leaf_name s j) r l → entry i q k ≡ entry j r l
-  tellings-same i j q r kinds.Kind.Job kinds.Kind.Job a b e = let n : leaf_name s i ≡ leaf_name s j = cc in let p : q ≡ r = cc in entries-same i j q r kinds.Kind.Job kinds.Kind.Job a.0 b.0 n p refl
-  tellings-same i j q r kinds.Kind.Job (kinds.Kind.Closed m) a b e = absurd (cc)
-  tellings-same i j q r kinds.Kind.Job (kinds.Kind.Passed m) a b e = let f : false ≡ true = cc in absurd (cc)
-  tellings-same i j q r (kinds.Kind.Closed n) kinds.Kind.Job a b e = absurd (cc)
+  tellings-same i j q r (kinds.Kind.Job false) (kinds.Kind.Job false) a b e = let n : leaf_name s i ≡ leaf_name s j = cc in let p : q ≡ r = cc in entries-same i j q r (kinds.Kind.Job false) (kinds.Kind.Job false) a.0 b.0 n p refl
+  tellings-same i j q r (kinds.Kind.Job true) (kinds.Kind.Job true) a b e = let n : leaf_name s i ≡ leaf_name s j = cc in let p : q ≡ r = cc in entries-same i j q r (kinds.Kind.Job true) (kinds.Kind.Job true) a.0 b.0 n p refl
+  tellings-same i j q r (kinds.Kind.Job true) (kinds.Kind.Job false) a b e = absurd (cc)
+  tellings-same i j q r (kinds.Kind.Job false) (kinds.Kind.Job true) a b e = absurd (cc)
+  tellings-same i j q r (kinds.Kind.Job true) (kinds.Kind.Closed m) a b e = absurd (cc)
+  tellings-same i j q r (kinds.Kind.Job false) (kinds.Kind.Closed m) a b e = absurd (cc)
+  tellings-same i j q r (kinds.Kind.Job true) (kinds.Kind.Passed m) a b e = absurd (cc)
+  tellings-same i j q r (kinds.Kind.Job false) (kinds.Kind.Passed m) a b e = let f : false ≡ true = cc in absurd (cc)
+  tellings-same i j q r (kinds.Kind.Closed n) (kinds.Kind.Job true) a b e = absurd (cc)
+  tellings-same i j q r (kinds.Kind.Closed n) (kinds.Kind.Job false) a b e = absurd (cc)
   tellings-same i j q r (kinds.Kind.Closed n) (kinds.Kind.Closed m) a b e =
       let x : leaf_name s i ≡ leaf_name s j = cc in let p : q ≡ r = cc in let y : n ≡ m = cc in entries-same i j q r (kinds.Kind.Closed n) (kinds.Kind.Closed m) a.0 b.0 x p (ap kinds.Kind.Closed y)
   tellings-same i j q r (kinds.Kind.Closed n) (kinds.Kind.Passed m) a b e = absurd (cc)
-  tellings-same i j q r (kinds.Kind.Passed n) kinds.Kind.Job a b e = let f : true ≡ false = cc in absurd (cc)
+  tellings-same i j q r (kinds.Kind.Passed n) (kinds.Kind.Job true) a b e = absurd (cc)
+  tellings-same i j q r (kinds.Kind.Passed n) (kinds.Kind.Job false) a b e = let f : true ≡ false = cc in absurd (cc)
   tellings-same i j q r (kinds.Kind.Passed n) (kinds.Kind.Closed m) a b e = absurd (cc)
   tellings-same i j q r (kinds.Kind.Passed n) (kinds.Kind.Passed m) a b e =
       let x : leaf_name s i ≡ leaf_name s j = cc in let p : q ≡ r = cc in
@@ -243,8 +260,9 @@ module _ (s : Strategy) (apart : EachOnce (leaf_names s) (leaf_names s)) where
   telling-same e f a b h = tellings-same e.number f.number e.place f.place e.kind f.kind a b h
 
   -- what the calls list
-  pub bound-proper : (i : ℕ) (q : Place) → i < length (leaf_names s) → IsProper s (entry i q kinds.Kind.Job)
-  bound-proper i q l = (l, refl)
+  pub bound-proper : (i : ℕ) (q : Place) (b : Bool) → i < length (leaf_names s) → IsProper s (entry i q (kinds.Kind.Job b))
+  bound-proper i q true l = (l, refl)
+  bound-proper i q false l = (l, refl)
 
   pub closed-proper : (i : ℕ) (q : Place) (n : ℕ) → i < length (leaf_names s) → IsProper s (entry i q (kinds.Kind.Closed n))
   closed-proper i q n l = (l, refl)
@@ -267,13 +285,18 @@ entry-of P [] i h l = absurd (no-less i l)
 entry-of P (e ∷ es) zero h l = h.0
 entry-of P (e ∷ es) (suc i) h l = entry-of P es i h.1 (omega (arith, l))
 
-pub places-short : (s : Strategy) (mismatch : Name → ℕ) (apart : EachOnce (leaf_names s) (leaf_names s)) (es xs : List Entry) → Each (IsProper s) es → Each (IsFit mismatch) (map (telling_of s) es) → ((p : Name) → Once (told_to (map (telling_of s) es) p)) → DotsAgree mismatch s → kepts xs ≡ worked_items (store_for 0 s) (unit_news ∷ map news_of es) → (i : ℕ) → i < length xs → length (entry_at xs i).place ≤ strategy_depth mismatch s
+each-of-map : {A B : Type 0} (P : B → Type 0) (f : A → B) (xs : List A) → Each P (map f xs) → Each (λ x. P (f x)) xs
+each-of-map P f [] h = tt
+each-of-map P f (x ∷ xs) h = (h.0, each-of-map P f xs h.1)
+
+pub places-short : (s : Strategy) (mismatch : Name → ℕ) (apart : EachOnce (leaf_names s) (leaf_names s)) (es xs : List Entry) → Each (IsProper s) es → Each (IsFit mismatch) (map (telling_of s) es) → ((p : Name) → Once (told_to (map (telling_of s) es) p)) → DotsAgree mismatch s → kepts xs ≡ briefs (worked_items (store_for 0 s) (unit_news ∷ map news_of es)) → (i : ℕ) → i < length xs → length (entry_at xs i).place ≤ strategy_depth mismatch s
 places-short s mismatch apart es xs proper fit once agree e i l =
     let d = strategy_depth mismatch s in
     let short : Kept → Type 0 = λ y. length y.place ≤ d in
     let ts = map (telling_of s) es in
     let leveled = (matches-once mismatch ts fit once s agree).1 in
     let there : Each (λ (x : Item Spot Spot). length x.place ≤ d) (matched_after s ts) = each-weaken (λ (x : Item Spot Spot). KindAt d x.place x.kind) (λ (x : Item Spot Spot). length x.place ≤ d) (kind-short d) (matched_after s ts) leveled in
-    let kept_there : Each short (matched (kept_of s ts) s) = subst (Each short) (sym (kept-is_enough s ts).0) (each-map short (kept s) (matched_after s ts) there) in
+    let marked_there : Each (λ (x : Item Marked Spot). length x.place ≤ d) (marked_after s ts) = each-of-map (λ (x : Item Spot Spot). length x.place ≤ d) plain (marked_after s ts) (subst (Each (λ (x : Item Spot Spot). length x.place ≤ d)) (sym (marked-is_matched s ts)) there) in
+    let kept_there : Each short (matched (kept_of s ts) s) = subst (Each short) (sym (kept-is_enough s ts).0) (each-map short (kept s) (marked_after s ts) marked_there) in
     let all : Each short (worked_items (store_for 0 s) (unit_news ∷ map news_of es)) = each-permutes short (matched (kept_of s ts) s) _ (IsPermutation-sym _ _ (worked-matched s apart es proper)) kept_there in
-    entry-of short xs i (subst (Each short) (sym e) all) l
+    entry-of short xs i (subst (Each short) (sym e) (each-map short brief _ all)) l

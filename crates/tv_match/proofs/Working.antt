@@ -9,6 +9,8 @@ use Rattle.tv_matching.proofs.Lists.{map-append, each-weaken}
 use Rattle.tv_match.specs.Entries.{Entry, kept_entry, kepts, front, AreMore, Rise}
 use Rattle.tv_match.specs.Filed.{Filed, filed_leaf, filed_cross, filed_dot, kept_store, fronted, Adds}
 use Rattle.tv_match.specs.Working.{unit_news, news_of, news_to, IsFull, IsWorked, IsDone}
+use Rattle.tv_match.specs.Brief.{briefs, brief_store}
+use Rattle.tv_match.proofs.Briefly.{briefs-append, gain-brief, grown-brief}
 use Rattle.tv_match.proofs.Fronts.{front-less, front-again, more-late, more-early, more-rise, front-rise}
 
 -- ---- stores
@@ -126,8 +128,8 @@ module _ (s : Strategy) (root next : Filed) (log more out outs : List Entry) (n 
   pub still-worked : length log < n → ((k : ℕ) → k ≤ length log → take k more ≡ take k log) → IsWorked s (length log) next more outs
   still-worked h same =
       record {
-        store = λ k i. adds-front k n root next (omega (arith, i, h)) a ∙ d.worked.store k i ∙ ap (λ l. worked (store_for 0 s) (unit_news ∷ map news_of l)) (sym (same k i));
-        items = λ k i. ap kepts (more-late k n out outs (omega (arith, i, h)) b) ∙ d.worked.items k i ∙ ap (λ l. worked_items (store_for 0 s) (unit_news ∷ map news_of l)) (sym (same k i));
+        store = λ k i. adds-front k n root next (omega (arith, i, h)) a ∙ d.worked.store k i ∙ ap (λ l. brief_store (worked (store_for 0 s) (unit_news ∷ map news_of l))) (sym (same k i));
+        items = λ k i. ap kepts (more-late k n out outs (omega (arith, i, h)) b) ∙ d.worked.items k i ∙ ap (λ l. briefs (worked_items (store_for 0 s) (unit_news ∷ map news_of l))) (sym (same k i));
       }
 
   pub still-rise : length log ≤ n → Rise outs
@@ -139,7 +141,7 @@ module _ (s : Strategy) (root next : Filed) (log more out outs : List Entry) (n 
       let k = length-append log (e ∷ []) in
       (still-worked (omega (arith, l, k, c)) (λ j i. ap (take j) m ∙ take-within j log (e ∷ []) i), still-rise (omega (arith, l, k, c)))
 
-  pub next-done : (e : Entry) → more ≡ log ++ e ∷ [] → n ≡ length more → kept_store kepts next ≡ grown (told_by (news_of e)) (kept_store kepts root) → kepts outs ≡ kepts out ++ gain (told_by (news_of e)) (kept_store kepts root) → IsDone s next more outs
+  pub next-done : (e : Entry) → more ≡ log ++ e ∷ [] → n ≡ length more → kept_store kepts next ≡ brief_store (grown (told_by (news_of e)) (kept_store kepts root)) → kepts outs ≡ kepts out ++ briefs (gain (told_by (news_of e)) (kept_store kepts root)) → IsDone s next more outs
   next-done e m c f g =
       record {
         worked = record { store = λ k i. by_store k i (at_most k i); items = λ k i. by_items k i (at_most k i) };
@@ -174,37 +176,40 @@ module _ (s : Strategy) (root next : Filed) (log more out outs : List Entry) (n 
       same : (k : ℕ) → k ≤ length log → take k more ≡ take k log
       same k i = ap (take k) m ∙ take-within k log (e ∷ []) i
 
-      kept : kept_store kepts root ≡ worked (store_for 0 s) (news_to (length log) log)
+      kept : kept_store kepts root ≡ brief_store (worked (store_for 0 s) (news_to (length log) log))
       kept = sym (full-kept (length log) root d.full) ∙ d.worked.store (length log) (omega arith)
 
-      told : kepts out ≡ worked_items (store_for 0 s) (news_to (length log) log)
+      told : kepts out ≡ briefs (worked_items (store_for 0 s) (news_to (length log) log))
       told = ap kepts (sym d.out_full) ∙ d.worked.items (length log) (omega arith)
 
       last : news_to (length more) more ≡ news_to (length log) log ++ news_of e ∷ []
       last = ap (λ l. news_to (length l) l) m ∙ news-last log e
 
-      by_store : (k : ℕ) → k ≤ length more → data_at k → kept_store (λ es. kepts (front k es)) next ≡ worked (store_for 0 s) (news_to k more)
+      by_store : (k : ℕ) → k ≤ length more → data_at k → kept_store (λ es. kepts (front k es)) next ≡ brief_store (worked (store_for 0 s) (news_to k more))
       by_store k i (inl h) = (still-worked (omega (arith, long, c)) same).store k h
       by_store k i (inr h) =
           ap (λ j. kept_store (λ es. kepts (front j es)) next) (h ∙ sym c)
           ∙ full-kept n next (adds-full (length log) n root next below d.full a)
           ∙ f
-          ∙ ap (grown (told_by (news_of e))) kept
-          ∙ sym (worked-last (store_for 0 s) (news_to (length log) log) (news_of e))
-          ∙ ap (worked (store_for 0 s)) (sym last)
-          ∙ ap (λ j. worked (store_for 0 s) (news_to j more)) (sym h)
+          ∙ ap (λ st. brief_store (grown (told_by (news_of e)) st)) kept
+          ∙ grown-brief (told_by (news_of e)) (worked (store_for 0 s) (news_to (length log) log))
+          ∙ ap brief_store (sym (worked-last (store_for 0 s) (news_to (length log) log) (news_of e)))
+          ∙ ap (λ l. brief_store (worked (store_for 0 s) l)) (sym last)
+          ∙ ap (λ j. brief_store (worked (store_for 0 s) (news_to j more))) (sym h)
 
-      by_items : (k : ℕ) → k ≤ length more → data_at k → kepts (front k outs) ≡ worked_items (store_for 0 s) (news_to k more)
+      by_items : (k : ℕ) → k ≤ length more → data_at k → kepts (front k outs) ≡ briefs (worked_items (store_for 0 s) (news_to k more))
       by_items k i (inl h) = (still-worked (omega (arith, long, c)) same).items k h
       by_items k i (inr h) =
           ap (λ j. kepts (front j outs)) (h ∙ sym c)
           ∙ ap kepts (more-early (length log) n out outs below d.out_full b)
           ∙ g
-          ∙ ap (λ l. l ++ gain (told_by (news_of e)) (kept_store kepts root)) told
-          ∙ ap (λ st. worked_items (store_for 0 s) (news_to (length log) log) ++ gain (told_by (news_of e)) st) kept
-          ∙ sym (items-last (store_for 0 s) (news_to (length log) log) (news_of e))
-          ∙ ap (worked_items (store_for 0 s)) (sym last)
-          ∙ ap (λ j. worked_items (store_for 0 s) (news_to j more)) (sym h)
+          ∙ ap (λ l. l ++ briefs (gain (told_by (news_of e)) (kept_store kepts root))) told
+          ∙ ap (λ st. briefs (worked_items (store_for 0 s) (news_to (length log) log)) ++ briefs (gain (told_by (news_of e)) st)) kept
+          ∙ ap (λ l. briefs (worked_items (store_for 0 s) (news_to (length log) log)) ++ l) (gain-brief (told_by (news_of e)) (worked (store_for 0 s) (news_to (length log) log)))
+          ∙ sym (briefs-append (worked_items (store_for 0 s) (news_to (length log) log)) (gain (told_by (news_of e)) (worked (store_for 0 s) (news_to (length log) log))))
+          ∙ ap briefs (sym (items-last (store_for 0 s) (news_to (length log) log) (news_of e)))
+          ∙ ap (λ l. briefs (worked_items (store_for 0 s) l)) (sym last)
+          ∙ ap (λ j. briefs (worked_items (store_for 0 s) (news_to j more))) (sym h)
 
 -- ---- taken back
 
@@ -214,8 +219,8 @@ cut-done s m n root log out h l w r =
     let parts = front-rise n out r in
     record {
       worked = subst (λ j. IsWorked s j (fronted n root) (take n log) (front n out)) (sym long) (record {
-        store = λ k i. fronted-less k n root i ∙ w.store k (omega (arith, i, h)) ∙ ap (λ l. worked (store_for 0 s) (unit_news ∷ map news_of l)) (sym (take-less k n log i));
-        items = λ k i. ap kepts (front-less k n i out) ∙ w.items k (omega (arith, i, h)) ∙ ap (λ l. worked_items (store_for 0 s) (unit_news ∷ map news_of l)) (sym (take-less k n log i));
+        store = λ k i. fronted-less k n root i ∙ w.store k (omega (arith, i, h)) ∙ ap (λ l. brief_store (worked (store_for 0 s) (unit_news ∷ map news_of l))) (sym (take-less k n log i));
+        items = λ k i. ap kepts (front-less k n i out) ∙ w.items k (omega (arith, i, h)) ∙ ap (λ l. briefs (worked_items (store_for 0 s) (unit_news ∷ map news_of l))) (sym (take-less k n log i));
       });
       full = subst (λ j. IsFull j (fronted n root)) (sym long) (fronted-full n root);
       out_full = subst (λ j. front j (front n out) ≡ front n out) (sym long) (front-again n out);

@@ -3,7 +3,7 @@ use Rattle.std.specs.Prelude.{◌≡◌, ℕ, ◌<◌, ◌≤◌, Bool, true, fa
 use Rattle.tv_value.specs.Nested.{Place}
 use Rattle.tv_strategy.specs.Sources.{Each}
 use Rattle.tv_matching.specs.Items as items
-use Rattle.tv_matching.specs.Items.{ends, closes, passes, item}
+use Rattle.tv_matching.specs.Items.{ends, closes, passes, item, if_so}
 use Rattle.tv_matching.specs.Stores.{latest_at}
 use Rattle.tv_matching.specs.Matchers.{Kept}
 use Rattle.tv_match.specs.declared.kinds.Kind as code
@@ -17,7 +17,7 @@ abbrev pub entry : ℕ → Place → code.Kind → Entry
 entry n q k = record { number = n; place = q; kind = k }
 
 abbrev pub no_entry : Entry
-no_entry = entry 0 [] code.Kind.Job
+no_entry = entry 0 [] (code.Kind.Job false)
 
 abbrev pub entry_at : List Entry → ℕ → Entry
 entry_at es i = get_or es i no_entry
@@ -25,7 +25,7 @@ entry_at es i = get_or es i no_entry
 -- ---- as items
 
 abbrev pub kind_view : code.Kind → items.Kind (Unit {0}) ℕ
-kind_view code.Kind.Job = ends []
+kind_view (code.Kind.Job b) = ends (if_so b tt)
 kind_view (code.Kind.Closed n) = closes n
 kind_view (code.Kind.Passed l) = passes l
 

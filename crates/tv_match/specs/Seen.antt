@@ -8,7 +8,7 @@ use Rattle.tv_strategy.specs.Conditions.{Suits, number_of}
 use Rattle.tv_strategy.specs.Measures.{DotsAgree, leaf_names}
 use Rattle.tv_strategy.specs.Sources.{Each}
 use Rattle.tv_matching.specs.Members.{Once}
-use Rattle.tv_matching.specs.Told.{arrival, close, telling, told_to, IsFit}
+use Rattle.tv_matching.specs.Told.{arrival, faulty, close, marked, told_to, IsFit}
 use Rattle.tv_matching.specs.Told as spec
 use Rattle.tv_matching.specs.Matchers.{Outcome, job_at, list_at, fault_at, Matching, leaf_name, kept}
 use Rattle.tv_match.specs.declared.kinds.Kind as kinds
@@ -20,7 +20,8 @@ use Rattle.tv_match.specs.Filed.{Filed, filed}
 use Rattle.tv_match.specs.Working.{IsDone}
 
 abbrev pub telling_kind : Name → Place → kinds.Kind → spec.Told
-telling_kind p q kinds.Kind.Job = arrival p q false
+telling_kind p q (kinds.Kind.Job false) = arrival p q false
+telling_kind p q (kinds.Kind.Job true) = faulty p q
 telling_kind p q (kinds.Kind.Closed n) = close p q n
 telling_kind p q (kinds.Kind.Passed l) = arrival p q true
 
@@ -29,7 +30,7 @@ abbrev pub telling_of : Strategy → Entry → spec.Told
 telling_of s e = telling_kind (leaf_name s e.number) e.place e.kind
 
 abbrev pub outcome_kind : Place → kinds.Kind → Outcome
-outcome_kind q kinds.Kind.Job = job_at q
+outcome_kind q (kinds.Kind.Job b) = job_at q
 outcome_kind q (kinds.Kind.Closed n) = list_at q n
 outcome_kind q (kinds.Kind.Passed l) = fault_at q l
 
@@ -43,10 +44,12 @@ matched_view (coded.Matched.Passed q l) = fault_at q l
 
 abbrev pub told_view : Strategy → code.Told → spec.Told
 told_view s (code.Told.Arrival l q f) = arrival (leaf_name s l) q f
+told_view s (code.Told.Faulty l q) = faulty (leaf_name s l) q
 told_view s (code.Told.Close l q n) = close (leaf_name s l) q n
 
 abbrev pub leaf_of : code.Told → ℕ
 leaf_of (code.Told.Arrival l q f) = l
+leaf_of (code.Told.Faulty l q) = l
 leaf_of (code.Told.Close l q n) = l
 
 -- each names a leaf of the strategy
@@ -55,7 +58,7 @@ NameLeaves s ts = Each (λ t. leaf_of t < length (leaf_names s)) ts
 
 -- a listed telling names a leaf, and is kept as what it tells
 abbrev pub IsProper : Strategy → Entry → Type 0
-IsProper s e = (e.number < length (leaf_names s)) × (kept s (telling (telling_of s e)).item ≡ kept_entry e)
+IsProper s e = (e.number < length (leaf_names s)) × (kept s (marked (telling_of s e)).item ≡ kept_entry e)
 
 abbrev pub tellings_of : Strategy → List Entry → List spec.Told
 tellings_of s es = map (telling_of s) es
@@ -92,6 +95,10 @@ IsSound m = AreSound (strategy_view m.tree) m.mismatch (filed m.root) m.log m.ou
 abbrev pub IsNext : Matcher → Entry → Type 0
 IsNext m e = (m.told < length m.log) × (entry_at m.log m.told ≡ e)
 
+-- all that follows from what was told, in the order in which it comes out
+abbrev pub in_order : Matcher → List Outcome
+in_order m = map outcome_of (front m.told m.out)
+
 -- something has not come out yet, and this is next
 abbrev pub HasMore : Matcher → Type 0
 HasMore m = (m.given < length m.out) × ((entry_at m.out m.given).number ≤ m.told)
@@ -101,9 +108,16 @@ next_out m = outcome_of (entry_at m.out m.given)
 
 -- how a telling is listed
 abbrev pub entry_of : code.Told → Entry
-entry_of (code.Told.Arrival l q false) = entry l q kinds.Kind.Job
+entry_of (code.Told.Arrival l q false) = entry l q (kinds.Kind.Job false)
 entry_of (code.Told.Arrival l q true) = entry l q (kinds.Kind.Passed l)
+entry_of (code.Told.Faulty l q) = entry l q (kinds.Kind.Job true)
 entry_of (code.Told.Close l q n) = entry l q (kinds.Kind.Closed n)
+
+-- whether a job is told to bind a value that holds a fault
+abbrev pub is_faulty : kinds.Kind → Bool
+is_faulty (kinds.Kind.Job b) = b
+is_faulty (kinds.Kind.Closed n) = false
+is_faulty (kinds.Kind.Passed l) = false
 
 abbrev pub next_place : Matcher → Place
 next_place m = (entry_at m.out m.given).place

@@ -1,20 +1,40 @@
 ghost use Rattle.std.specs.Prelude.{◌≡◌, ◌<◌, ◌++◌, ◌∷◌, [], length, map, drop, OnOk};
-ghost use Rattle.tv_matching.specs.Matched.{below, crossed_items, below_jobs, met as both_met};
+ghost use Rattle.tv_matching.specs.Items.{if_so};
+ghost use Rattle.tv_matching.specs.Matched.{bound as also_bound, below, crossed_items, below_jobs, met as both_met};
 ghost use Rattle.tv_matching.specs.Stores.{only_jobs, met_by_first, met_by_second};
 ghost use Rattle.tv_match.specs.Entries.{kepts, kept_entry, kind_view, entry_at, AreMore};
+ghost use Rattle.tv_match.specs.Brief.{brief_kind, briefs};
 
 use crate::bags::Bag;
 use crate::found::Found;
 use crate::kinds::Kind;
 use tv_value::NoMemory;
 
+/// What stands below a job that binds this.
+fn bound(faulty: bool, kind: Kind) -> Kind
+    ensures { kind_view result ≡ brief_kind (also_bound (if_so faulty tt) (kind_view kind)) }
+{
+    match kind {
+        Kind::Job { faulty: other } => Kind::Job {
+            faulty: faulty || other,
+        },
+        other => other,
+    }
+}
+
 /// Puts what stands below a job at a place. Linear in what it puts.
-pub fn push_below(at: &[u32], ys: &Bag, number: usize, out: &mut Bag) -> Result<(), NoMemory>
-    ensures ok { OnOk result (kepts out.new ≡ kepts out.old ++ map (below at.now []) (kepts ys.now)) }
+pub fn push_below(
+    at: &[u32],
+    faulty: bool,
+    ys: &Bag,
+    number: usize,
+    out: &mut Bag,
+) -> Result<(), NoMemory>
+    ensures ok { OnOk result (kepts out.new ≡ kepts out.old ++ briefs (map (below at.now (if_so faulty tt)) (kepts ys.now))) }
     ensures more { AreMore number out.old out.new }
 {
     for i in 0..ys.len() {
-        out.push(at, ys.place(i), ys.kind(i), number)?;
+        out.push(at, ys.place(i), bound(faulty, ys.kind(i)), number)?;
     }
     Ok(())
 }
@@ -28,11 +48,11 @@ fn push_replaced(
     out: &mut Bag,
 ) -> Result<(), NoMemory>
     requires { at < length xs.now }
-    ensures ok { OnOk result (kepts out.new ≡ kepts out.old ++ crossed_items (kept_entry (entry_at xs.now at) ∷ []) (kepts ys.now)) }
+    ensures ok { OnOk result (kepts out.new ≡ kepts out.old ++ briefs (crossed_items (kept_entry (entry_at xs.now at) ∷ []) (kepts ys.now))) }
     ensures more { AreMore number out.old out.new }
 {
     match xs.kind(at) {
-        Kind::Job => push_below(xs.place(at), ys, number, out),
+        Kind::Job { faulty } => push_below(xs.place(at), faulty, ys, number, out),
         Kind::Closed(length) => out.push(xs.place(at), &[], Kind::Closed(length), number),
         Kind::Passed(leaf) => out.push(xs.place(at), &[], Kind::Passed(leaf), number),
     }
@@ -40,7 +60,7 @@ fn push_replaced(
 
 /// Puts the cross of the first child's new items with what the second child had. Linear in what it puts.
 pub fn push_crossed(xs: &Bag, ys: &Bag, number: usize, out: &mut Bag) -> Result<(), NoMemory>
-    ensures ok { OnOk result (kepts out.new ≡ kepts out.old ++ crossed_items (kepts xs.now) (kepts ys.now)) }
+    ensures ok { OnOk result (kepts out.new ≡ kepts out.old ++ briefs (crossed_items (kepts xs.now) (kepts ys.now))) }
     ensures more { AreMore number out.old out.new }
 {
     for i in 0..xs.len() {
@@ -58,11 +78,11 @@ fn push_below_one(
     out: &mut Bag,
 ) -> Result<(), NoMemory>
     requires { at < length es.now }
-    ensures ok { OnOk result (kepts out.new ≡ kepts out.old ++ below_jobs (kept_entry (entry_at es.now at) ∷ []) (kepts ys.now)) }
+    ensures ok { OnOk result (kepts out.new ≡ kepts out.old ++ briefs (below_jobs (kept_entry (entry_at es.now at) ∷ []) (kepts ys.now))) }
     ensures more { AreMore number out.old out.new }
 {
     match es.kind(at) {
-        Kind::Job => push_below(es.place(at), ys, number, out),
+        Kind::Job { faulty } => push_below(es.place(at), faulty, ys, number, out),
         _ => Ok(()),
     }
 }
@@ -70,7 +90,7 @@ fn push_below_one(
 /// Puts the part of a cross that stands below jobs of the first child, with the second child's new items. Linear in what it
 /// puts, where the first bag has jobs alone.
 pub fn push_below_jobs(es: &Bag, ys: &Bag, number: usize, out: &mut Bag) -> Result<(), NoMemory>
-    ensures ok { OnOk result (kepts out.new ≡ kepts out.old ++ below_jobs (kepts es.now) (kepts ys.now)) }
+    ensures ok { OnOk result (kepts out.new ≡ kepts out.old ++ briefs (below_jobs (kepts es.now) (kepts ys.now))) }
     ensures more { AreMore number out.old out.new }
 {
     if ys.len() == 0 {
@@ -100,7 +120,7 @@ fn push_job(xs: &Bag, at: usize, number: usize, out: &mut Bag) -> Result<(), NoM
     ensures more { AreMore number out.old out.new }
 {
     match xs.kind(at) {
-        Kind::Job => out.push(xs.place(at), &[], Kind::Job, number),
+        Kind::Job { faulty } => out.push(xs.place(at), &[], Kind::Job { faulty }, number),
         _ => Ok(()),
     }
 }
@@ -118,18 +138,18 @@ pub fn push_jobs(xs: &Bag, number: usize, out: &mut Bag) -> Result<(), NoMemory>
 
 /// What stands where these two meet in a dot: the first fault stands, lists are zipped to the shorter.
 fn met(first: Kind, second: Kind) -> Kind
-    ensures { kind_view result ≡ both_met (kind_view first) (kind_view second) }
+    ensures { kind_view result ≡ brief_kind (both_met (kind_view first) (kind_view second)) }
 {
     match (first, second) {
-        (Kind::Job, kind) => kind,
+        (Kind::Job { faulty }, kind) => bound(faulty, kind),
         (Kind::Passed(leaf), _) => Kind::Passed(leaf),
-        (Kind::Closed(_), Kind::Job) => Kind::Job,
+        (Kind::Closed(_), Kind::Job { faulty }) => Kind::Job { faulty },
         (Kind::Closed(m), Kind::Closed(n)) => Kind::Closed(m.min(n)),
         (Kind::Closed(_), Kind::Passed(leaf)) => Kind::Passed(leaf),
     }
 }
 
-/// Puts what an item of the first child of a dot meets in the second. It looks through the other, and is then linear in what it puts.
+/// Puts what an item of the first child of a dot meets in the second. A look-up, and linear in what it puts.
 fn push_met_first(
     xs: &Bag,
     at: usize,
@@ -138,7 +158,7 @@ fn push_met_first(
     out: &mut Bag,
 ) -> Result<(), NoMemory>
     requires { at < length xs.now }
-    ensures ok { OnOk result (kepts out.new ≡ kepts out.old ++ met_by_first (kept_entry (entry_at xs.now at) ∷ []) (kepts ys.now)) }
+    ensures ok { OnOk result (kepts out.new ≡ kepts out.old ++ briefs (met_by_first (kept_entry (entry_at xs.now at) ∷ []) (kepts ys.now))) }
     ensures more { AreMore number out.old out.new }
 {
     let place = xs.place(at);
@@ -151,7 +171,7 @@ fn push_met_first(
     Ok(())
 }
 
-/// Puts what an item of the second child of a dot meets in the first. It looks through the other, and is then linear in what it puts.
+/// Puts what an item of the second child of a dot meets in the first. A look-up, and linear in what it puts.
 fn push_met_second(
     xs: &Found,
     ys: &Bag,
@@ -160,7 +180,7 @@ fn push_met_second(
     out: &mut Bag,
 ) -> Result<(), NoMemory>
     requires { at < length ys.now }
-    ensures ok { OnOk result (kepts out.new ≡ kepts out.old ++ met_by_second (kepts xs.now) (kept_entry (entry_at ys.now at) ∷ [])) }
+    ensures ok { OnOk result (kepts out.new ≡ kepts out.old ++ briefs (met_by_second (kepts xs.now) (kept_entry (entry_at ys.now at) ∷ []))) }
     ensures more { AreMore number out.old out.new }
 {
     let place = ys.place(at);
@@ -180,7 +200,7 @@ pub fn push_all_met_first(
     number: usize,
     out: &mut Bag,
 ) -> Result<(), NoMemory>
-    ensures ok { OnOk result (kepts out.new ≡ kepts out.old ++ met_by_first (kepts xs.now) (kepts ys.now)) }
+    ensures ok { OnOk result (kepts out.new ≡ kepts out.old ++ briefs (met_by_first (kepts xs.now) (kepts ys.now))) }
     ensures more { AreMore number out.old out.new }
 {
     for i in 0..xs.len() {
@@ -196,7 +216,7 @@ pub fn push_all_met_second(
     number: usize,
     out: &mut Bag,
 ) -> Result<(), NoMemory>
-    ensures ok { OnOk result (kepts out.new ≡ kepts out.old ++ met_by_second (kepts xs.now) (kepts ys.now)) }
+    ensures ok { OnOk result (kepts out.new ≡ kepts out.old ++ briefs (met_by_second (kepts xs.now) (kepts ys.now))) }
     ensures more { AreMore number out.old out.new }
 {
     for i in 0..ys.len() {

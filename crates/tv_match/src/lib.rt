@@ -5,7 +5,7 @@
 //! for which tellings it holds room, and what has come out. Each outcome comes once, and nothing is left exactly where all
 //! that follows from what was told has come out. A refused telling, or a refused reservation, changes nothing but that no
 //! room is held; after `reserve` the listed tellings are not refused, and its number is exact. Want of memory is the one
-//! refusal.
+//! refusal. Each job says whether some value that it binds was told to hold a fault.
 //!
 //! **How it is laid out.** For each cross and dot a `Store` keeps what is needed of its two children, the first ones taken
 //! together before the later ones. A telling goes to its leaf, and what is new at a child is joined with what is kept of the
@@ -13,10 +13,10 @@
 //! is made by counting on, and what is held is taken back by cutting the lists at a number (`specs/Working.antt`).
 //!
 //! - `kinds`, `told`: what the calls speak of
-//! - `bags`: lists of items, their places in one list of indices; `found`: bags that are searched by place
+//! - `bags`: lists of items, their places in one list of indices; `found`: bags that are searched by place, by a tree of their items
 //! - `joins`, `stores`: what is new in a cross or dot, and what is kept of a strategy; `building` makes it
 //! - `steps`, `listing`: one telling, or several, worked and taken back
-//! - `matchers`: the calls
+//! - `matchers`: the calls; `matchers/ahead`: what the held tellings will bring, and all of them made
 #![tactic(auto)]
 
 mod bags;
@@ -31,5 +31,5 @@ mod stores;
 mod told;
 
 pub use kinds::Kind;
-pub use matchers::Matcher;
+pub use matchers::{Matcher, what_is_ahead};
 pub use told::{Matched, Told, Tolds};

@@ -26,8 +26,12 @@ fn work_told(root: &mut Store, log: &mut Bag, out: &mut Bag, told: &Told) -> Res
             let kind = if *fault {
                 Kind::Passed(*leaf)
             } else {
-                Kind::Job
+                Kind::Job { faulty: false }
             };
+            work(root, log, out, *leaf, place.as_slice(), kind)
+        }
+        Told::Faulty { leaf, place } => {
+            let kind = Kind::Job { faulty: true };
             work(root, log, out, *leaf, place.as_slice(), kind)
         }
         Told::Close {

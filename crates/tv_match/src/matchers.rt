@@ -1,10 +1,12 @@
-ghost use Rattle.std.specs.Prelude.{◌≡◌, ℕ, ◌+◌, ◌^◌, ◌<◌, ◌≤◌, ◌∷◌, [], length, map, IfOk, OnOk, OnErr, IfSome, IsNone, IsOk, IsTrue, List};
+ghost use Rattle.std.specs.Prelude.{◌≡◌, ℕ, ◌+◌, ◌^◌, ◌<◌, ◌≤◌, ◌∷◌, [], length, map, take, get_or, IsPermutation, IfOk, OnOk, OnErr, IfSome, IsNone, IsOk, IsTrue, List};
 ghost use Rattle.tv_strategy.specs.Measures.{DotsAgree, leaf_names, strategy_depth};
 ghost use Rattle.tv_strategy.specs.Conditions.{Suits, number_of};
-ghost use Rattle.tv_matching.specs.Told.{Told as Telling, arrival, close, count_of_added};
-ghost use Rattle.tv_matching.specs.Matchers.{HasGivenAll, CanTell, CanTellAll, Starts, Holds, IsTold, Gives, IsFreed, leaf_name};
+ghost use Rattle.tv_matching.specs.Told.{Told as Telling, arrival, faulty, close, faulty_at, count_of_added};
+ghost use Rattle.tv_matching.specs.Matchers.{all_out, HasGivenAll, CanTell, CanTellAll, Starts, Holds, IsTold, Gives, IsFreed, leaf_name};
 ghost use Rattle.tv_match.specs.Entries.{entry};
 ghost use Rattle.tv_match.specs.Seen.{matched_view, outcome_kind};
+
+mod ahead;
 
 use crate::bags::Bag;
 use crate::building::build;
@@ -13,6 +15,7 @@ use crate::listing::work_all;
 use crate::steps::{take_back, work};
 use crate::stores::{News, Store};
 use crate::told::{Matched, Tolds};
+pub use ahead::what_is_ahead;
 use std::alloc::Global;
 use tv_value::{Copied, Depths, NoMemory, Place, Tree};
 
@@ -36,7 +39,8 @@ pub struct Matcher {
 
 impl Matcher {
     ghost use Rattle.tv_value.specs.Views.{strategy_view};
-    ghost use Rattle.tv_match.specs.Seen.{told_view, NameLeaves, next_place, matching, IsSound, IsProper, IsNext, HasMore, telling_of, next_out};
+    ghost use Rattle.tv_match.specs.Ahead.{in_order_ahead};
+    ghost use Rattle.tv_match.specs.Seen.{told_view, NameLeaves, next_place, matching, IsSound, IsProper, IsNext, HasMore, telling_of, next_out, is_faulty, in_order};
 
     /// A matcher that was told nothing. What follows from nothing, a job where the strategy has no leaf, is still to come out.
     ///
@@ -53,7 +57,7 @@ impl Matcher {
         let news = News {
             leaf: None,
             place: &[],
-            kind: Kind::Job,
+            kind: Kind::Job { faulty: false },
             number: 0,
         };
         root.tell(&news, &mut out)?;
@@ -80,6 +84,9 @@ impl Matcher {
         ensures ok { OnOk result (Holds (map (told_view (matching self.old).strategy) told.now) (matching self.old) (matching self.new)) }
         ensures count { IfOk result (λ n. n ≡ count_of_added (matching self.old).strategy (matching self.old).told (map (told_view (matching self.old).strategy) told.now)) }
         ensures refused { OnErr result (IsFreed (matching self.old) (matching self.new)) }
+        ensures order { take (length (in_order self.old)) (in_order self.new) ≡ in_order self.old }
+        ensures same_order { in_order self.new ≡ in_order self.old }
+        ensures ahead { IfOk result (λ n. length (in_order_ahead self.new) ≡ length (in_order self.old) + n) }
         ensures sound { IsSound self.new }
     {
         take_back(&mut self.root, &mut self.log, &mut self.out, self.told);
@@ -98,10 +105,10 @@ impl Matcher {
         }
     }
 
-    /// A bound value has arrived, or a fault on the way there.
+    /// A bound value that holds no fault has arrived, or a fault on the way there.
     ///
-    /// Linear in what is new at the nodes of the strategy, and in the strategy; a dot looks through all that it keeps for each
-    /// item. Constant for the next held telling.
+    /// Linear in what is new at the nodes of the strategy, and in the strategy, with a logarithm for each item in a dot. Constant
+    /// for the next held telling.
     pub fn on_arrival(&mut self, leaf: u32, place: &Place, fault: bool) -> Result<(), NoMemory>
         requires sound { IsSound self.old }
         requires leaf { leaf < length (leaf_names (matching self.old).strategy) }
@@ -109,19 +116,37 @@ impl Matcher {
         ensures ok { OnOk result (IsTold (arrival (leaf_name (matching self.old).strategy leaf) place.now fault) (matching self.old) (matching self.new)) }
         ensures refused { OnErr result (IsFreed (matching self.old) (matching self.new)) }
         ensures held { (rest : List Telling) → (matching self.old).held ≡ arrival (leaf_name (matching self.old).strategy leaf) place.now fault ∷ rest → IsOk result × ((matching self.new).held ≡ rest) }
+        ensures order { take (length (in_order self.old)) (in_order self.new) ≡ in_order self.old }
         ensures sound { IsSound self.new }
     {
         if fault {
             self.tell(leaf, place.as_slice(), Kind::Passed(leaf))
         } else {
-            self.tell(leaf, place.as_slice(), Kind::Job)
+            self.tell(leaf, place.as_slice(), Kind::Job { faulty: false })
         }
+    }
+
+    /// A bound value that holds a fault has arrived.
+    ///
+    /// Linear in what is new at the nodes of the strategy, and in the strategy, with a logarithm for each item in a dot. Constant
+    /// for the next held telling.
+    pub fn on_faulty(&mut self, leaf: u32, place: &Place) -> Result<(), NoMemory>
+        requires sound { IsSound self.old }
+        requires leaf { leaf < length (leaf_names (matching self.old).strategy) }
+        requires new { CanTell (matching self.old) (faulty (leaf_name (matching self.old).strategy leaf) place.now) }
+        ensures ok { OnOk result (IsTold (faulty (leaf_name (matching self.old).strategy leaf) place.now) (matching self.old) (matching self.new)) }
+        ensures refused { OnErr result (IsFreed (matching self.old) (matching self.new)) }
+        ensures held { (rest : List Telling) → (matching self.old).held ≡ faulty (leaf_name (matching self.old).strategy leaf) place.now ∷ rest → IsOk result × ((matching self.new).held ≡ rest) }
+        ensures order { take (length (in_order self.old)) (in_order self.new) ≡ in_order self.old }
+        ensures sound { IsSound self.new }
+    {
+        self.tell(leaf, place.as_slice(), Kind::Job { faulty: true })
     }
 
     /// A list on the way is closed.
     ///
-    /// Linear in what is new at the nodes of the strategy, and in the strategy; a dot looks through all that it keeps for each
-    /// item. Constant for the next held telling.
+    /// Linear in what is new at the nodes of the strategy, and in the strategy, with a logarithm for each item in a dot. Constant
+    /// for the next held telling.
     pub fn on_close(&mut self, leaf: u32, place: &Place, length: u32) -> Result<(), NoMemory>
         requires sound { IsSound self.old }
         requires leaf { leaf < Rattle.std.specs.Prelude.length (leaf_names (matching self.old).strategy) }
@@ -129,6 +154,7 @@ impl Matcher {
         ensures ok { OnOk result (IsTold (close (leaf_name (matching self.old).strategy leaf) place.now length) (matching self.old) (matching self.new)) }
         ensures refused { OnErr result (IsFreed (matching self.old) (matching self.new)) }
         ensures held { (rest : List Telling) → (matching self.old).held ≡ close (leaf_name (matching self.old).strategy leaf) place.now length ∷ rest → IsOk result × ((matching self.new).held ≡ rest) }
+        ensures order { take (Rattle.std.specs.Prelude.length (in_order self.old)) (in_order self.new) ≡ in_order self.old }
         ensures sound { IsSound self.new }
     {
         self.tell(leaf, place.as_slice(), Kind::Closed(length))
@@ -142,6 +168,7 @@ impl Matcher {
         requires shallow { strategy_depth (number_of (matching self.old).mismatch) (matching self.old).strategy ≤ 32 }
         ensures some { IfSome result (λ x. Gives (matched_view x) (matching self.old) (matching self.new)) }
         ensures none { IsNone result → HasGivenAll (matching self.old) × (matching self.new ≡ matching self.old) }
+        ensures order { take (length (in_order self.old)) (in_order self.new) ≡ in_order self.old }
         ensures sound { IsSound self.new }
     {
         let next = match self.first() {
@@ -157,6 +184,7 @@ impl Matcher {
         requires { IsSound self.now }
         ensures some { IfSome result (λ x. HasMore self.now × (next_out self.now ≡ outcome_kind x.0.now x.1)) }
         ensures place { IfSome result (λ x. x.0.now ≡ next_place self.now) }
+        ensures faulty { IfSome result (λ x. is_faulty x.1 ≡ faulty_at (matching self.now).strategy (matching self.now).told x.0.now) }
         ensures none { IsNone result → HasGivenAll (matching self.now) }
     {
         if self.given < self.out.len() && self.out.number(self.given) <= self.told {
@@ -171,11 +199,43 @@ impl Matcher {
         requires sound { IsSound self.old }
         requires more { HasMore self.old }
         ensures gives { Gives (next_out self.old) (matching self.old) (matching self.new) }
+        ensures order { take (length (in_order self.old)) (in_order self.new) ≡ in_order self.old }
         ensures sound { IsSound self.new }
     {
         if self.given < self.out.len() {
             self.given += 1;
         }
+    }
+
+    /// How many things follow from what was told so far: those that have come out, and those that are still to come.
+    ///
+    /// They have numbers in the order in which they come out. What a telling brings has those from what this answers before
+    /// it to what it answers after it. Takes no memory. Linear in what is held.
+    pub fn shown(&self) -> usize
+        requires { IsSound self.now }
+        ensures order { result ≡ length (in_order self.now) }
+        ensures all { IsPermutation (in_order self.now) (all_out (matching self.now)) }
+    {
+        self.out.front_len(self.told)
+    }
+
+    /// How many of these have come out.
+    pub fn given(&self) -> usize
+        requires { IsSound self.now }
+        ensures count { result ≡ length (matching self.now).given }
+        ensures first { (matching self.now).given ≡ take result (in_order self.now) }
+    {
+        self.given
+    }
+
+    /// The place and the kind of the thing of that number. Takes no memory.
+    pub fn item(&self, at: usize) -> (&[u32], Kind)
+        requires sound { IsSound self.now }
+        requires within { at < length (in_order self.now) }
+        ensures item { get_or (in_order self.now) at (outcome_kind result.0.now result.1) ≡ outcome_kind result.0.now result.1 }
+        ensures faulty { is_faulty result.1 ≡ faulty_at (matching self.now).strategy (matching self.now).told result.0.now }
+    {
+        (self.out.place(at), self.out.kind(at))
     }
 
     /// Whether the next held telling is this one.
@@ -198,6 +258,7 @@ impl Matcher {
         ensures ok { OnOk result (IsTold (telling_of (strategy_view self.old.tree) (entry leaf place.now kind)) (matching self.old) (matching self.new)) }
         ensures refused { OnErr result (IsFreed (matching self.old) (matching self.new)) }
         ensures held { (rest : List Telling) → (matching self.old).held ≡ telling_of (strategy_view self.old.tree) (entry leaf place.now kind) ∷ rest → IsOk result × ((matching self.new).held ≡ rest) }
+        ensures order { take (length (in_order self.old)) (in_order self.new) ≡ in_order self.old }
         ensures sound { IsSound self.new }
     {
         if self.is_next(leaf, place, kind) {
@@ -234,7 +295,7 @@ fn owned(alloc: Global, place: &[u32], kind: Kind) -> Matched
         unreachable!()
     };
     match kind {
-        Kind::Job => Matched::Job(place),
+        Kind::Job { .. } => Matched::Job(place),
         Kind::Closed(length) => Matched::Closed(place, length),
         Kind::Passed(leaf) => Matched::Passed(place, leaf),
     }

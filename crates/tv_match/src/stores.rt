@@ -2,6 +2,7 @@ ghost use Rattle.std.specs.Prelude.{◌≡◌, ◌++◌, OnOk};
 ghost use Rattle.tv_matching.specs.Matched.{crossed_items, below_jobs};
 ghost use Rattle.tv_matching.specs.Stores.{gain, grown, told_by, same_leaf, only_jobs, met_by_first, met_by_second};
 ghost use Rattle.tv_match.specs.Entries.{kepts, AreMore};
+ghost use Rattle.tv_match.specs.Brief.{briefs, brief_store};
 ghost use Rattle.tv_match.specs.Filed.{filed, kept_store, fronted, Adds, news_view};
 
 use crate::bags::Bag;
@@ -39,8 +40,8 @@ impl Store {
     ///
     /// Linear in what is new at the nodes, and in the strategy. Where memory is wanting some of it is there, all with this number.
     pub fn tell(&mut self, news: &News, out: &mut Bag) -> Result<(), NoMemory>
-        ensures store { OnOk result (kept_store kepts (filed self.new) ≡ grown (told_by (news_view news.now)) (kept_store kepts (filed self.old))) }
-        ensures items { OnOk result (kepts out.new ≡ kepts out.old ++ gain (told_by (news_view news.now)) (kept_store kepts (filed self.old))) }
+        ensures store { OnOk result (kept_store kepts (filed self.new) ≡ brief_store (grown (told_by (news_view news.now)) (kept_store kepts (filed self.old)))) }
+        ensures items { OnOk result (kepts out.new ≡ kepts out.old ++ briefs (gain (told_by (news_view news.now)) (kept_store kepts (filed self.old)))) }
         ensures more { AreMore news.now.number out.old out.new }
         ensures adds { Adds news.now.number (filed self.old) (filed self.new) }
     {
@@ -89,7 +90,7 @@ impl Store {
 
 /// Puts the item if it is for this leaf.
 fn tell_leaf(leaf: Option<u32>, news: &News, out: &mut Bag) -> Result<(), NoMemory>
-    ensures items { OnOk result (kepts out.new ≡ kepts out.old ++ told_by (news_view news.now) leaf) }
+    ensures items { OnOk result (kepts out.new ≡ kepts out.old ++ briefs (told_by (news_view news.now) leaf)) }
     ensures more { AreMore news.now.number out.old out.new }
 {
     if is_for(news.leaf, leaf) {
@@ -117,7 +118,7 @@ fn cross_first(
     ends: &mut Bag,
     out: &mut Bag,
 ) -> Result<(), NoMemory>
-    ensures items { OnOk result (kepts out.new ≡ kepts out.old ++ crossed_items (kepts fresh.now) (kepts rests.now)) }
+    ensures items { OnOk result (kepts out.new ≡ kepts out.old ++ briefs (crossed_items (kepts fresh.now) (kepts rests.now))) }
     ensures keeps { OnOk result (kepts ends.new ≡ kepts ends.old ++ only_jobs (kepts fresh.now)) }
     ensures more { AreMore number out.old out.new }
     ensures more_ends { AreMore number ends.old ends.new }
@@ -134,7 +135,7 @@ fn cross_rest(
     rests: &mut Bag,
     out: &mut Bag,
 ) -> Result<(), NoMemory>
-    ensures items { OnOk result (kepts out.new ≡ kepts out.old ++ below_jobs (kepts ends.now) (kepts fresh.now)) }
+    ensures items { OnOk result (kepts out.new ≡ kepts out.old ++ briefs (below_jobs (kepts ends.now) (kepts fresh.now))) }
     ensures keeps { OnOk result (kepts rests.new ≡ kepts rests.old ++ kepts fresh.now) }
     ensures more { AreMore number out.old out.new }
     ensures more_rests { AreMore number rests.old rests.new }
@@ -151,7 +152,7 @@ fn dot_first(
     firsts: &mut Found,
     out: &mut Bag,
 ) -> Result<(), NoMemory>
-    ensures items { OnOk result (kepts out.new ≡ kepts out.old ++ met_by_first (kepts fresh.now) (kepts rests.now)) }
+    ensures items { OnOk result (kepts out.new ≡ kepts out.old ++ briefs (met_by_first (kepts fresh.now) (kepts rests.now))) }
     ensures keeps { OnOk result (kepts firsts.new ≡ kepts firsts.old ++ kepts fresh.now) }
     ensures more { AreMore number out.old out.new }
     ensures more_firsts { AreMore number firsts.old firsts.new }
@@ -168,7 +169,7 @@ fn dot_rest(
     rests: &mut Found,
     out: &mut Bag,
 ) -> Result<(), NoMemory>
-    ensures items { OnOk result (kepts out.new ≡ kepts out.old ++ met_by_second (kepts firsts.now) (kepts fresh.now)) }
+    ensures items { OnOk result (kepts out.new ≡ kepts out.old ++ briefs (met_by_second (kepts firsts.now) (kepts fresh.now))) }
     ensures keeps { OnOk result (kepts rests.new ≡ kepts rests.old ++ kepts fresh.now) }
     ensures more { AreMore number out.old out.new }
     ensures more_rests { AreMore number rests.old rests.new }

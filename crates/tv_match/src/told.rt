@@ -3,11 +3,16 @@ use tv_value::{Place, Sequence};
 /// A telling.
 #[derive(Debug, Drop)]
 pub enum Told {
-    /// A bound value, or a fault on the way there.
+    /// A bound value that holds no fault, or a fault on the way there.
     Arrival {
         leaf: u32,
         place: Place,
         fault: bool,
+    },
+    /// A bound value that holds a fault.
+    Faulty {
+        leaf: u32,
+        place: Place,
     },
     /// A list on the way, with its length.
     Close {

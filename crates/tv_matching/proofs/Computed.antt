@@ -1,6 +1,6 @@
 -- The worked examples compute.
 use Rattle.std.specs.Prelude.{refl}
-use Rattle.tv_matching.specs.Worked.{MatchesNestedLists, CrossesWhatWasTold, PairsUnlikeLists, PairsFaults, CrossesFaults, MatchesNoPort, PairsWholeValues}
+use Rattle.tv_matching.specs.Worked.{MatchesNestedLists, CrossesWhatWasTold, PairsUnlikeLists, PairsFaults, CrossesFaults, TellsFaultyValues, MatchesNoPort, PairsWholeValues}
 
 pub matches_nested_lists : MatchesNestedLists
 matches_nested_lists = (refl, refl)
@@ -16,6 +16,9 @@ pairs_faults = (refl, refl, refl)
 
 pub crosses_faults : CrossesFaults
 crosses_faults = (refl, refl)
+
+pub tells_faulty_values : TellsFaultyValues
+tells_faulty_values = (refl, refl, refl, refl, refl)
 
 pub matches_no_port : MatchesNoPort
 matches_no_port = refl

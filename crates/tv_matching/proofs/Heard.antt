@@ -17,7 +17,7 @@ use Rattle.tv_strategy.proofs.OfPlaces.{same-equal, same-itself}
 use Rattle.tv_matching.specs.Items.{ends, closes, passes, Item, item, if_so, kind_of, Node, node_at, all_known, known_items}
 use Rattle.tv_matching.specs.Members.{In, at_place, Once}
 use Rattle.tv_matching.specs.Tellings.{Telling}
-use Rattle.tv_matching.specs.Told.{Spot, Told, arrival, close, told_leaf, told_place, telling, tellings, told_to, matched_after, value_there, stop_of, seen, bound_there, stop_there, IsTrueOf, IsThere, IsFaultThere, IsListThere, labelled, some, is_told, node_told}
+use Rattle.tv_matching.specs.Told.{Spot, Told, arrival, faulty, close, told_leaf, told_place, telling, tellings, told_to, matched_after, value_there, stop_of, seen, bound_there, stop_there, IsTrueOf, IsThere, IsFaultThere, IsListThere, labelled, some, is_told, node_told}
 use Rattle.tv_matching.proofs.Lists.{flat-map, flat-same, map-flat, map-if}
 use Rattle.tv_matching.proofs.OfMembers.{in-map, of-map, in-flat, of-flat, in-if, of-if, each-in, in-permutes}
 use Rattle.tv_matching.proofs.FromScratch.{WalkItem, known-more}
@@ -260,6 +260,7 @@ module _ (values : Name → Traced) (mismatch : Name → ℕ) where
   pub told-stands : (t : Told) → IsTrueOf values mismatch t → Stands t
   told-stands (arrival p q false) h = value-stands p q (at (values p) q) refl h.0 h.1
   told-stands (arrival p q true) h = fault-stands p q (at (values p) q) refl h.0 h.1
+  told-stands (faulty p q) h = let r = value-stands p q (at (values p) q) refl h.0 h.1 in record { found = r.found; there = r.there; as_told = r.as_told }
   told-stands (close p q n) h = list-stands p q n (at (values p) q) refl h.0 h.1
 
 -- ---- the items of one leaf

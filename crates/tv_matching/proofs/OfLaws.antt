@@ -15,7 +15,7 @@ use Rattle.tv_matching.specs.Items.{Item, node_at, if_so}
 use Rattle.tv_matching.specs.Levels.{KindAt, AreLeveled}
 use Rattle.tv_matching.specs.Members.{at_place}
 use Rattle.tv_matching.specs.Tellings.{told_of, after, room_for}
-use Rattle.tv_matching.specs.Told.{Spot, Told, arrival, close, told_leaf, told_place, told_kind, telling, tellings, told_to, matched_after, added_after, IsFit, labelled}
+use Rattle.tv_matching.specs.Told.{Spot, Told, arrival, faulty, close, told_leaf, told_place, told_kind, telling, tellings, told_to, matched_after, added_after, IsFit, labelled}
 use Rattle.tv_matching.specs.Stated.{MatchesKnown, MatchesOnlyKnown, MatchesAllKnown, NodesStand, PlacesHaveNodes, MatchesWhatWasTold, MatchesOnce, NewIsOnce, TellingsAdd, TellingsCount, TellingsInAnyOrder, StoreIsMatched, StoreStarts, StoreGrows, StoreWorks, CrossOfOne, CrossesNest}
 use Rattle.tv_matching.proofs.Lists.{map-append, flat-append, each-append}
 use Rattle.tv_matching.proofs.Gains.{told-append, after-more, after-counts, room-parts, after-permutes}
@@ -64,6 +64,7 @@ matches-what_was_told values mismatch deep ts holds once s a =
 levels-of : (mismatch : Name → ℕ) (t : Told) → IsFit mismatch t → KindAt (mismatch (told_leaf t)) (told_place t) (told_kind t)
 levels-of mismatch (arrival p q false) h = h
 levels-of mismatch (arrival p q true) h = h
+levels-of mismatch (faulty p q) h = h
 levels-of mismatch (close p q n) h = h
 
 pub told-leveled : (mismatch : Name → ℕ) (ts : List Told) → Each (IsFit mismatch) ts → (p : Name) → AreLeveled (mismatch p) (told_to ts p)

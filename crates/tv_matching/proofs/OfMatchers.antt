@@ -13,10 +13,11 @@ use Rattle.tv_strategy.specs.Measures.{leaf_names}
 use Rattle.tv_strategy.specs.Splits.{same_place}
 use Rattle.tv_strategy.specs.Sources.{Each}
 use Rattle.tv_matching.specs.Items.{Kind, ends, closes, passes, Item, item, if_so, known_items}
+use Rattle.tv_matching.specs.Members.{at_place}
 use Rattle.tv_matching.specs.Matched.{bound, below, replaced, crossed_items, met, meet, joined_items, same, matched, matched_cross, matched_dot}
 use Rattle.tv_matching.specs.Tellings.{Telling}
-use Rattle.tv_matching.specs.Told.{Spot, Told, arrival, close, told_kind, telling, tellings, told_to, matched_after, added_after, IsFit, seen, stop_there, stop_of, labelled, node_told, IsTrueOf, IsFaultThere}
-use Rattle.tv_matching.specs.Matchers.{Outcome, fault_at, leaf_number, kind_out, out, all_out, AreMatching, mark_number, node_out, OutIsKnown, StartIsMatching, TellingIsMatching, GivesOnlyRest}
+use Rattle.tv_matching.specs.Told.{Spot, Told, arrival, faulty, close, told_leaf, told_place, told_kind, telling, tellings, told_to, matched_after, added_after, IsFit, seen, stop_there, stop_of, labelled, node_told, IsTrueOf, IsFaultThere}
+use Rattle.tv_matching.specs.Matchers.{Outcome, fault_at, leaf_number, kind_out, out, all_out, Matching, AreMatching, CanTellAll, IsTold, mark_number, node_out, OutIsKnown, StartIsMatching, TellingIsMatching, GivesOnlyRest}
 use Rattle.tv_matching.proofs.Lists.{map-append, map-both, each-append, each-map, each-weaken, each-if}
 use Rattle.tv_matching.proofs.Permutes.{perm-from, flat-permutes}
 use Rattle.tv_matching.proofs.OfMembers.{each-permutes}
@@ -100,6 +101,7 @@ module _ (s : Strategy) (values : Name → Value) (mismatch : Name → ℕ) wher
   told-names (arrival p q true) h =
       let e = at-input p q [] (values p) in
       subst (λ o. mark_number s (stop_of o).0 ≡ leaf_number (leaf_names s) p) (sym e) (mark-there p q (at (values p) q) (subst IsFaultThere e h.1))
+  told-names (faulty p q) h = tt
   told-names (close p q n) h = tt
 
   all-name : (ts : List Told) → Each (IsTrueOf (labelled values) mismatch) ts → (p : Name) → AllPass NamesLeaf (told_to ts p)
@@ -137,6 +139,25 @@ told-parts s ts us t gone rest e h =
 
 told-permutes : (ts us : List Told) → IsPermutation ts us → (p : Name) → IsPermutation (told_to ts p) (told_to us p)
 told-permutes ts us h p = flat-permutes (λ t. if_so (same_name p t.leaf) t.item) (tellings ts) (tellings us) (IsPermutation-map telling ts us h)
+
+nothing-permutes : {A : Type 0} (xs ys : List A) → IsPermutation xs ys → xs ≡ [] → ys ≡ []
+nothing-permutes {A} xs ys h e = empty ys (length_permutation xs ys h ∙ ap length e)
+  where
+    empty : (ys : List A) → length ys ≡ 0 → ys ≡ []
+    empty [] e = refl
+    empty (y ∷ ys) e = absurd (omega (arith, e))
+
+-- what can be told one after the other can be told whatever the order of what was told
+pub can-tell_all-permutes : (ts : List Told) (m n : Matching) → n.mismatch ≡ m.mismatch → IsPermutation m.told n.told → CanTellAll m ts → CanTellAll n ts
+can-tell_all-permutes [] m n e h c = tt
+can-tell_all-permutes (t ∷ ts) m n e h c = (
+  (subst (λ r. IsFit (number_of r) t) (sym e) c.0.0, nothing-permutes (at_place (told_place t) (told_to m.told (told_leaf t))) (at_place (told_place t) (told_to n.told (told_leaf t))) (flat-permutes (λ x. if_so (same_place (told_place t) x.place) x) (told_to m.told (told_leaf t)) (told_to n.told (told_leaf t)) (told-permutes m.told n.told h (told_leaf t))) c.0.1),
+  can-tell_all-permutes ts (record m { told = m.told ++ t ∷ [] }) (record n { told = n.told ++ t ∷ [] }) e (IsPermutation-append_left (t ∷ []) m.told n.told h) c.1,
+)
+
+-- what can be told after others can still be told after the first of them
+pub can-tell_all-after : (t : Told) (ts : List Told) (m n : Matching) → IsTold t m n → CanTellAll m (t ∷ ts) → CanTellAll n ts
+can-tell_all-after t ts m n h c = can-tell_all-permutes ts (record m { told = m.told ++ t ∷ [] }) n h.mismatch_is (IsPermutation-sym _ _ h.told_is) c.1
 
 pub start-is_matching : StartIsMatching
 start-is_matching s mismatch m suits agree e =

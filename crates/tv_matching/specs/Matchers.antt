@@ -1,18 +1,18 @@
 -- What a contract sees of a matcher, and what each of its calls does.
-use Rattle.std.specs.Prelude.{◌≡◌, ℕ, suc, ◌+◌, Option, Some, None, if◌then◌else◌, List, [], ◌∷◌, ◌++◌, map, get_or, IsPermutation}
+use Rattle.std.specs.Prelude.{◌≡◌, ℕ, suc, ◌+◌, Bool, flat_map, Option, Some, None, if◌then◌else◌, List, [], ◌∷◌, ◌++◌, map, get_or, IsPermutation}
 use Rattle.tv_value.specs.Nested.{Place}
-use Rattle.tv_value.specs.Values.{Name, Value, HasDepth}
+use Rattle.tv_value.specs.Values.{Name, Value, HasDepth, holds_fault}
 use Rattle.tv_value.specs.Orders.{same_name}
 use Rattle.tv_value.specs.Strategies.{Strategy}
 use Rattle.tv_strategy.specs.Conditions.{Suits, number_of}
 use Rattle.tv_strategy.specs.Measures.{DotsAgree, leaf_names}
 use Rattle.tv_strategy.specs.Sources.{Each}
 use Rattle.tv_strategy.specs.Iterations.{iteration, walks}
-use Rattle.tv_strategy.specs.Origins.{Mark, given, made}
-use Rattle.tv_matching.specs.Items.{Kind, ends, closes, passes, Item, item, Bound, Stopped, known_items}
+use Rattle.tv_strategy.specs.Origins.{Mark, given, made, Traced}
+use Rattle.tv_matching.specs.Items.{Kind, ends, closes, passes, Item, item, if_so, Bound, Stopped, known_items}
 use Rattle.tv_matching.specs.Matched.{matched, gained}
 use Rattle.tv_matching.specs.Members.{Once}
-use Rattle.tv_matching.specs.Told.{Spot, Told, told_to, matched_after, added_after, IsFit, IsNew, IsTrueOf, labelled, node_told}
+use Rattle.tv_matching.specs.Told.{Spot, Told, told_to, matched_after, added_after, Marked, marked_to, marked_after, map_item, some_at, faulty_at, IsFit, IsNew, IsTrueOf, TellsFaults, seen, labelled, node_told}
 
 -- what comes out: a job's place, a list's place and length, or a passed fault's place and the number of its leaf
 pub data Outcome : Type 0 where
@@ -36,20 +36,23 @@ kind_out s q (passes r) = fault_at q (leaf_number (leaf_names s) r.0)
 abbrev pub out : Strategy → Item Spot Spot → Outcome
 out s x = kind_out s x.place x.kind
 
--- what the code may keep of an item: bindings are left out, since a job's place splits into those of its ports' values
-abbrev pub bare_kind : {X F G : Type 0} → (F → G) → Kind X F → Kind (Unit {0}) G
-bare_kind g (ends b) = ends []
-bare_kind g (closes n) = closes n
-bare_kind g (passes f) = passes (g f)
+-- what the code may keep of an item: of bindings only that there are such for which the test is true, since a job's place splits into those of its ports' values
+abbrev pub bare_bound : {X : Type 0} → (X → Bool) → List X → List (Unit {0})
+bare_bound test b = flat_map (λ x. if_so (test x) tt) b
 
-abbrev pub bare : {X F G : Type 0} → (F → G) → Item X F → Item (Unit {0}) G
-bare g x = item x.place (bare_kind g x.kind)
+abbrev pub bare_kind : {X F G : Type 0} → (X → Bool) → (F → G) → Kind X F → Kind (Unit {0}) G
+bare_kind test g (ends b) = ends (bare_bound test b)
+bare_kind test g (closes n) = closes n
+bare_kind test g (passes f) = passes (g f)
+
+abbrev pub bare : {X F G : Type 0} → (X → Bool) → (F → G) → Item X F → Item (Unit {0}) G
+bare test g x = item x.place (bare_kind test g x.kind)
 
 abbrev pub Kept : Type 0
 Kept = Item (Unit {0}) ℕ
 
-abbrev pub kept : Strategy → Item Spot Spot → Kept
-kept s x = bare (λ r. leaf_number (leaf_names s) r.0) x
+abbrev pub kept : Strategy → Item Marked Spot → Kept
+kept s x = bare (λ r. r.1) (λ r. leaf_number (leaf_names s) r.0) x
 
 abbrev pub kept_kind_out : Place → Kind (Unit {0}) ℕ → Outcome
 kept_kind_out q (ends b) = job_at q
@@ -59,9 +62,9 @@ kept_kind_out q (passes l) = fault_at q l
 abbrev pub kept_out : Kept → Outcome
 kept_out x = kept_kind_out x.place x.kind
 
--- what was told of a leaf, as it is kept
+-- what was told of a leaf, as it is kept: of each bound value whether it was told to hold a fault
 abbrev pub kept_of : Strategy → List Told → Name → List Kept
-kept_of s ts p = map (kept s) (told_to ts p)
+kept_of s ts p = map (kept s) (marked_to ts p)
 
 pub record Matching : Type 0 where
   pub strategy : Strategy
@@ -165,11 +168,21 @@ OutIsKnown =
 
 -- what is matched of the kept items is what would be kept of all that is matched, and tells what comes out
 abbrev pub KeptIsEnough : Type 0
-KeptIsEnough = (s : Strategy) (ts : List Told) → (matched (kept_of s ts) s ≡ map (kept s) (matched_after s ts)) × (map kept_out (matched (kept_of s ts) s) ≡ map (out s) (matched_after s ts))
+KeptIsEnough = (s : Strategy) (ts : List Told) → (matched (kept_of s ts) s ≡ map (kept s) (marked_after s ts)) × (map kept_out (matched (kept_of s ts) s) ≡ map (out s) (matched_after s ts))
 
 -- and what is gained of them
 abbrev pub KeptGains : Type 0
-KeptGains = (s : Strategy) (ts more : List Told) → gained (kept_of s ts) (kept_of s more) s ≡ map (kept s) (added_after s ts more)
+KeptGains = (s : Strategy) (ts more : List Told) → gained (kept_of s ts) (kept_of s more) s ≡ map (kept s) (gained (marked_to ts) (marked_to more) s)
+
+-- with what was told of faults in bound values, it is the same that is matched
+abbrev pub MarkedIsMatched : Type 0
+MarkedIsMatched = (s : Strategy) (ts : List Told) → map (map_item (λ r. r.0) (λ r. r)) (marked_after s ts) ≡ matched_after s ts
+
+-- and where that was told truly, it is told truly of each job, whether a value that it binds holds a fault
+abbrev pub FaultsRide : Type 0
+FaultsRide =
+    (values : Name → Traced) (s : Strategy) (ts : List Told) → Each (TellsFaults values) ts
+    → (q : Place) → faulty_at s ts q ≡ some_at (λ v. holds_fault v.1) q (map (seen values) (matched_after s ts))
 
 -- the calls keep what is so of every matcher
 abbrev pub StartIsMatching : Type 0

@@ -1,7 +1,8 @@
--- What a matcher is told by places alone, and what that says of the values that are delivered.
+-- What a matcher is told by places alone, faults in bound values among it, and what that says of the values that are delivered.
 use Rattle.std.specs.Prelude.{◌≡◌, ℕ, ◌<◌, Bool, true, false, List, [], ◌∷◌, map, length, take, Option, Some, None}
 use Rattle.tv_value.specs.Nested.{leaf, list, Place, count, at}
-use Rattle.tv_value.specs.Values.{Name, ErrorDoc, text, fault, Value}
+use Rattle.std.specs.List.{list_any}
+use Rattle.tv_value.specs.Values.{Name, ErrorDoc, text, fault, Value, holds_fault}
 use Rattle.tv_value.specs.Strategies.{Strategy}
 use Rattle.tv_strategy.specs.Origins.{Mark, given, made, Origin, Traced, input_value}
 use Rattle.tv_matching.specs.Items.{Kind, ends, closes, passes, Item, item, Bound, Stopped}
@@ -12,22 +13,26 @@ use Rattle.tv_matching.specs.Tellings.{Telling, told_of, after, added_by}
 abbrev pub Spot : Type 0
 Spot = Name × Place
 
--- a value that is bound, or a fault on the way there; or a list on the way, with its length
+-- a value that is bound, or a fault on the way there; a value that is bound and holds a fault; or a list on the way, with its length
 pub data Told : Type 0 where
   arrival : Name → Place → Bool → Told
+  faulty : Name → Place → Told
   close : Name → Place → ℕ → Told
 
 abbrev pub told_leaf : Told → Name
 told_leaf (arrival p q f) = p
+told_leaf (faulty p q) = p
 told_leaf (close p q n) = p
 
 abbrev pub told_place : Told → Place
 told_place (arrival p q f) = q
+told_place (faulty p q) = q
 told_place (close p q n) = q
 
 abbrev pub told_kind : Told → Kind Spot Spot
 told_kind (arrival p q false) = ends ((p, q) ∷ [])
 told_kind (arrival p q true) = passes (p, q)
+told_kind (faulty p q) = ends ((p, q) ∷ [])
 told_kind (close p q n) = closes n
 
 abbrev pub telling : Told → Telling Spot Spot
@@ -54,11 +59,48 @@ count_of_added s ts more = length (added_after s ts more)
 abbrev pub IsFit : (Name → ℕ) → Told → Type 0
 IsFit mismatch (arrival p q false) = length q ≡ mismatch p
 IsFit mismatch (arrival p q true) = length q < mismatch p
+IsFit mismatch (faulty p q) = length q ≡ mismatch p
 IsFit mismatch (close p q n) = length q < mismatch p
 
 -- nothing was told yet of that place of the leaf
 abbrev pub IsNew : List Told → Told → Type 0
 IsNew ts t = at_place (told_place t) (told_to ts (told_leaf t)) ≡ []
+
+-- ---- the same with what was told of faults in bound values
+
+-- a spot, and whether the value that is bound there was told to hold a fault
+abbrev pub Marked : Type 0
+Marked = Spot × Bool
+
+abbrev pub marked_kind : Told → Kind Marked Spot
+marked_kind (arrival p q false) = ends (((p, q), false) ∷ [])
+marked_kind (arrival p q true) = passes (p, q)
+marked_kind (faulty p q) = ends (((p, q), true) ∷ [])
+marked_kind (close p q n) = closes n
+
+abbrev pub marked : Told → Telling Marked Spot
+marked t = record { leaf = told_leaf t; item = item (told_place t) (marked_kind t) }
+
+abbrev pub marked_to : List Told → Name → List (Item Marked Spot)
+marked_to ts p = told_of (map marked ts) p
+
+abbrev pub marked_after : Strategy → List Told → List (Item Marked Spot)
+marked_after s ts = after s (map marked ts)
+
+module _ {X F : Type 0} (test : X → Bool) where
+  -- a job that binds something of which the test is true
+  abbrev pub binds_some : Kind X F → Bool
+  binds_some (ends b) = list_any test b
+  binds_some (closes n) = false
+  binds_some (passes f) = false
+
+  -- such a job stands at the place
+  abbrev pub some_at : Place → List (Item X F) → Bool
+  some_at q xs = list_any (λ x. binds_some x.kind) (at_place q xs)
+
+-- the job at the place binds a value that was told to hold a fault
+abbrev pub faulty_at : Strategy → List Told → Place → Bool
+faulty_at s ts q = some_at (λ r. r.1) q (marked_after s ts)
 
 -- ---- the same items with the values that stand there
 
@@ -114,7 +156,15 @@ IsListThere n (Some (list o vs)) = count vs ≡ n
 abbrev pub IsTrueOf : (Name → Traced) → (Name → ℕ) → Told → Type 0
 IsTrueOf values mismatch (arrival p q false) = (length q ≡ mismatch p) × IsThere (at (values p) q)
 IsTrueOf values mismatch (arrival p q true) = (length q < mismatch p) × IsFaultThere (at (values p) q)
+IsTrueOf values mismatch (faulty p q) = (length q ≡ mismatch p) × IsThere (at (values p) q)
 IsTrueOf values mismatch (close p q n) = (length q < mismatch p) × IsListThere n (at (values p) q)
+
+-- what was told of faults in bound values is true of these values
+abbrev pub TellsFaults : (Name → Traced) → Told → Type 0
+TellsFaults values (arrival p q false) = holds_fault (value_there (values p) (at (values p) q)) ≡ false
+TellsFaults values (arrival p q true) = Unit {0}
+TellsFaults values (faulty p q) = holds_fault (value_there (values p) (at (values p) q)) ≡ true
+TellsFaults values (close p q n) = Unit {0}
 
 -- ---- the values with each node named by port and place, and the nodes that were told
 

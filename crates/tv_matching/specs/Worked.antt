@@ -7,7 +7,7 @@ use Rattle.tv_strategy.specs.Worked.{a, b, one, crossing, pairing, levels, both,
 use Rattle.tv_strategy.specs.Iterations.{iteration, walks}
 use Rattle.tv_strategy.specs.Origins.{Traced}
 use Rattle.tv_matching.specs.Items.{Kind, ends, closes, passes, Item, item, known_items}
-use Rattle.tv_matching.specs.Told.{Spot, Told, arrival, close, matched_after, added_after, count_of_added}
+use Rattle.tv_matching.specs.Told.{Spot, Told, arrival, faulty, close, matched_after, added_after, count_of_added, faulty_at}
 
 abbrev pub job_of : List Spot → Place → Item Spot Spot
 job_of spots q = item q (ends spots)
@@ -60,6 +60,18 @@ abbrev pub CrossesFaults : Type 0
 CrossesFaults =
     (matched_after crossing (arrival b (0 ∷ []) false ∷ close b [] 1 ∷ arrival a [] true ∷ []) ≡ stopped_by a [] [] ∷ [])
     × (matched_after crossing (arrival b [] true ∷ arrival a (1 ∷ []) false ∷ close a [] 2 ∷ []) ≡ stopped_by b [] (1 ∷ []) ∷ closed [] 2 ∷ [])
+
+-- a job says whether some value that it binds was told to hold a fault
+abbrev pub faulty_values : List Told
+faulty_values = faulty a (1 ∷ []) ∷ arrival a (0 ∷ []) false ∷ arrival b (0 ∷ []) false ∷ faulty b (2 ∷ []) ∷ close a [] 2 ∷ []
+
+abbrev pub TellsFaultyValues : Type 0
+TellsFaultyValues =
+    (faulty_at crossing faulty_values (1 ∷ 0 ∷ []) ≡ true)
+    × (faulty_at crossing faulty_values (0 ∷ 0 ∷ []) ≡ false)
+    × (faulty_at crossing faulty_values (0 ∷ 2 ∷ []) ≡ true)
+    × (faulty_at crossing faulty_values (0 ∷ []) ≡ false)
+    × (faulty_at pairing faulty_values (0 ∷ []) ≡ false)
 
 -- a strategy of no port has one job before anything is told
 abbrev pub MatchesNoPort : Type 0

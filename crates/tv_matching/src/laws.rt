@@ -3,9 +3,9 @@ ghost use Rattle.tv_matching.specs.Stated.{MatchesKnown, MatchesOnlyKnown, Match
 ghost use Rattle.tv_matching.specs.Stated.{PlacesHaveNodes, MatchesWhatWasTold, MatchesOnce, NewIsOnce, TellingsAdd};
 ghost use Rattle.tv_matching.specs.Stated.{TellingsCount, TellingsInAnyOrder, StoreIsMatched, StoreStarts, StoreGrows};
 ghost use Rattle.tv_matching.specs.Stated.{StoreWorks, CrossOfOne, CrossesNest};
-ghost use Rattle.tv_matching.specs.Matchers.{OutIsKnown, KeptIsEnough, KeptGains, StartIsMatching, TellingIsMatching, GivesOnlyRest};
+ghost use Rattle.tv_matching.specs.Matchers.{OutIsKnown, KeptIsEnough, KeptGains, MarkedIsMatched, FaultsRide, StartIsMatching, TellingIsMatching, GivesOnlyRest};
 ghost use Rattle.tv_matching.specs.Worked.{MatchesNestedLists, CrossesWhatWasTold, PairsUnlikeLists, PairsFaults};
-ghost use Rattle.tv_matching.specs.Worked.{CrossesFaults, MatchesNoPort, PairsWholeValues};
+ghost use Rattle.tv_matching.specs.Worked.{CrossesFaults, TellsFaultyValues, MatchesNoPort, PairsWholeValues};
 
 /// What is matched is what stands in the iteration with all its sources known, where of each leaf was told what is known of its walk.
 pub fn matches_iteration()
@@ -41,6 +41,7 @@ pub fn worked()
     ensures paired { PairsUnlikeLists }
     ensures paired_faults { PairsFaults }
     ensures crossed_faults { CrossesFaults }
+    ensures faulty { TellsFaultyValues }
     ensures none { MatchesNoPort }
     ensures whole { PairsWholeValues }
 {}
@@ -60,6 +61,8 @@ pub fn matchers()
     ensures known { OutIsKnown }
     ensures kept { KeptIsEnough }
     ensures gains { KeptGains }
+    ensures marked { MarkedIsMatched }
+    ensures faults { FaultsRide }
     ensures start { StartIsMatching }
     ensures telling { TellingIsMatching }
     ensures rest { GivesOnlyRest }

@@ -7,3 +7,6 @@ returns-after-fault-clause-front c k h = more-late k (length c.args.log.now + 1)
 
 pub returns-in-Close-clause-front : goal.returns-in-Close-clause-front
 returns-in-Close-clause-front c k h = more-late k (length c.args.log.now + 1) c.args.out.now c.work-in-Close.new.out (omega (arith, h)) c.work-in-Close.ensures.more
+
+pub returns-in-Faulty-clause-front : goal.returns-in-Faulty-clause-front
+returns-in-Faulty-clause-front c k h = more-late k (length c.args.log.now + 1) c.args.out.now c.work-in-Faulty.new.out (omega (arith, h)) c.work-in-Faulty.ensures.more

@@ -1,8 +1,9 @@
-use Rattle.std.proofs.Common.{◌≡◌, ◌<◌, ◌≤◌, length, sym, subst, ap, arith}
+use Rattle.std.proofs.Common.{rules, ◌≡◌, ◌<◌, ◌≤◌, length, sym, subst, ap, arith}
 use Rattle.tv_value.specs.Views.{strategy_view}
 use Rattle.tv_match.specs.Entries.{front, entry_at}
 use Rattle.tv_match.specs.Filed.{filed}
-use Rattle.tv_match.proofs.Fronts.{late-behind, front-short}
+use Rattle.tv_match.proofs.Faults.{item-faulty}
+use Rattle.tv_match.proofs.Fronts.{early-in_front, late-behind, front-short}
 use Rattle.tv_match.proofs.Calls.{gave-all}
 use Rattle.tv_match.proofs.matchers.Matcher.first.Goals as goal
 use Rattle.tv_match.proofs.matchers.Matcher.first.Goals.{else-self-len-via-then-self-len+else-number-self, else-self-len-via-else-self-len}
@@ -18,3 +19,10 @@ returns-else-self-len-clause-none c _ =
     ]
     in
     gave-all (strategy_view m.tree) m.mismatch (filed m.root) m.log m.out m.told m.given c.requires behind
+
+pub returns-then-number-self-clause-faulty : goal.returns-then-number-self-clause-faulty
+returns-then-number-self-clause-faulty c =
+    let m = c.args.self.now in
+    let within : m.given < length m.out = search rules in
+    let early : (entry_at m.out m.given).number ≤ m.told = search rules in
+    item-faulty (strategy_view m.tree) m.mismatch (filed m.root) m.log m.out m.told m.given c.requires m.given (early-in_front m.told m.out m.given within early) c.kind.result c.place.result.now c.kind.ensures c.place.ensures

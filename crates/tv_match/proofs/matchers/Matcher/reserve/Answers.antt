@@ -6,6 +6,8 @@ use Rattle.tv_match.specs.Seen.{entry_of}
 use Rattle.tv_match.specs.Working.{IsDone}
 use Rattle.tv_match.proofs.Calls.{first-long, freed-at, back-log, back-out}
 use Rattle.tv_match.proofs.Reserves.{held-sound, held-holds, held-count}
+use Rattle.tv_match.proofs.Faults.{order-stays}
+use Rattle.tv_match.proofs.Fronts.{front-again}
 use Rattle.tv_match.proofs.matchers.Matcher.reserve.Goals as goal
 
 pub returns-in-Ok-clause-ok : goal.returns-in-Ok-clause-ok
@@ -64,3 +66,17 @@ returns-in-Err-clause-refused c =
     let og = c.take_back.ensures.out in
     let within : m.told ≤ length mid.log = first-long m.told mid.log m.log a.told_within lg in
     freed-at s m.mismatch (filed m.root) m.log m.out c.take_back-in-Err.new.log c.take_back-in-Err.new.out m.told m.given a (c.take_back-in-Err.ensures.log ∙ back-log m.told m.log mid.log c.work_all.new.log a.told_within lg c.work_all.ensures.listed) (c.take_back-in-Err.ensures.out ∙ back-out m.told m.out mid.out c.work_all.new.out og (c.work_all.ensures.front m.told within))
+
+pub returns-in-Ok-clause-order : goal.returns-in-Ok-clause-order
+returns-in-Ok-clause-order c =
+    let m = c.args.self.now in
+    let a = c.requires.sound in
+    let within : m.told ≤ length c.take_back.new.log = first-long m.told c.take_back.new.log m.log a.told_within c.take_back.ensures.log in
+    order-stays m.told m.told m.out c.work_all.new.out (omega arith) (c.work_all.ensures.front m.told within ∙ ap (front m.told) c.take_back.ensures.out ∙ front-again m.told m.out)
+
+pub returns-in-Err-clause-order : goal.returns-in-Err-clause-order
+returns-in-Err-clause-order c =
+    let m = c.args.self.now in
+    let a = c.requires.sound in
+    let within : m.told ≤ length c.take_back.new.log = first-long m.told c.take_back.new.log m.log a.told_within c.take_back.ensures.log in
+    order-stays m.told m.told m.out c.take_back-in-Err.new.out (omega arith) (ap (front m.told) c.take_back-in-Err.ensures.out ∙ front-again m.told c.work_all.new.out ∙ c.work_all.ensures.front m.told within ∙ ap (front m.told) c.take_back.ensures.out ∙ front-again m.told m.out)

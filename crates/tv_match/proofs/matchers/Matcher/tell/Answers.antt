@@ -1,4 +1,4 @@
-use Rattle.std.proofs.Common.{rules, ◌≡◌, ◌<◌, ◌≤◌, ◌+◌, ◌++◌, ◌∷◌, [], true, length, take, sym, ap, subst, ◌∙◌, arith}
+use Rattle.std.proofs.Common.{rules, refl, ◌≡◌, ◌<◌, ◌≤◌, ◌+◌, ◌++◌, ◌∷◌, [], true, length, take, sym, ap, subst, ◌∙◌, arith}
 use Rattle.tv_value.specs.Views.{strategy_view}
 use Rattle.tv_matching.specs.Matchers.{IsTold}
 use Rattle.tv_match.specs.Entries.{entry, entry_at, front, AreMore}
@@ -6,6 +6,8 @@ use Rattle.tv_match.specs.Filed.{filed}
 use Rattle.tv_match.specs.Seen.{telling_of, seen_as, AreSound}
 use Rattle.tv_match.specs.Working.{IsDone}
 use Rattle.tv_match.proofs.Calls.{next-sound, not-held, made-sound, made-told, failed-sound, failed-freed, done-at, more-at, listed-at, listed-long, first-long, listed-count, clash}
+use Rattle.tv_match.proofs.Faults.{order-stays}
+use Rattle.tv_match.proofs.Fronts.{more-late, front-again}
 use Rattle.tv_match.proofs.matchers.Matcher.tell.Goals as goal
 
 pub overflow_add-self : goal.overflow_add-self
@@ -96,3 +98,18 @@ pub returns-in-Err-clause-held : goal.returns-in-Err-clause-held
 returns-in-Err-clause-held c rest h =
     let m = c.args.self.now in
     absurd (not-held (strategy_view m.tree) m.mismatch (filed m.root) m.log m.out m.told m.given (entry c.args.leaf c.args.place.now c.args.kind) c.requires.sound c.requires.proper (λ x. clash c.is_next.result (c.is_next.ensures.no x) c.if-is_next.false) rest h)
+
+pub returns-then-is_next-clause-order : goal.returns-then-is_next-clause-order
+returns-then-is_next-clause-order c =
+    let m = c.args.self.now in
+    order-stays m.told (m.told + 1) m.out m.out (omega arith) refl
+
+pub returns-in-Err-clause-order : goal.returns-in-Err-clause-order
+returns-in-Err-clause-order c =
+    let m = c.args.self.now in
+    let a = c.requires.sound in
+    let mid = c.take_back.new in
+    let log = c.take_back.ensures.log in
+    let long : m.told ≤ length mid.log = first-long m.told mid.log m.log a.told_within log in
+    let worked : front m.told c.work.new.out ≡ front m.told m.out = more-late m.told (length mid.log + 1) mid.out c.work.new.out (omega (arith, long)) c.work.ensures.more ∙ ap (front m.told) c.take_back.ensures.out ∙ front-again m.told m.out in
+    order-stays m.told m.told m.out c.take_back-in-Err.new.out (omega arith) (ap (front m.told) c.take_back-in-Err.ensures.out ∙ front-again m.told c.work.new.out ∙ worked)

@@ -1,0 +1,135 @@
+//! What the matcher uses of the libraries below it, in plain Rust.
+use std::ops::{Deref, DerefMut};
+#[derive(Clone, Copy, Debug)]
+pub struct Global;
+#[derive(Debug)]
+pub struct NoMemory;
+#[derive(Debug)]
+pub struct Vec<T>(std::vec::Vec<T>);
+impl<T> Vec<T> {
+    pub fn new(_: Global) -> Self {
+        Vec(std::vec::Vec::new())
+    }
+    #[inline]
+    pub fn push(&mut self, x: T) -> Result<(), NoMemory> {
+        if self.0.len() == self.0.capacity() {
+            self.0.try_reserve(1).map_err(|_| NoMemory)?;
+        }
+        self.0.push(x);
+        Ok(())
+    }
+    #[inline]
+    pub fn truncate(&mut self, n: usize) {
+        self.0.truncate(n)
+    }
+    #[inline]
+    pub fn as_slice(&self) -> &[T] {
+        &self.0
+    }
+}
+impl<T: Copy> Vec<T> {
+    #[inline]
+    pub fn extend_from_slice(&mut self, o: &[T]) -> Result<(), NoMemory> {
+        self.0.try_reserve(o.len()).map_err(|_| NoMemory)?;
+        self.0.extend_from_slice(o);
+        Ok(())
+    }
+}
+impl<T> Deref for Vec<T> {
+    type Target = [T];
+    fn deref(&self) -> &[T] {
+        &self.0
+    }
+}
+impl<T> DerefMut for Vec<T> {
+    fn deref_mut(&mut self) -> &mut [T] {
+        &mut self.0
+    }
+}
+pub struct Box<T>(std::boxed::Box<T>);
+impl<T> Box<T> {
+    pub fn new(_: Global, x: T) -> Result<Self, NoMemory> {
+        Ok(Box(std::boxed::Box::new(x)))
+    }
+}
+impl<T> Deref for Box<T> {
+    type Target = T;
+    fn deref(&self) -> &T {
+        &self.0
+    }
+}
+impl<T> DerefMut for Box<T> {
+    fn deref_mut(&mut self) -> &mut T {
+        &mut self.0
+    }
+}
+#[derive(Debug)]
+pub struct Place {
+    len: usize,
+    idx: [u32; 32],
+}
+impl Place {
+    pub fn of(_: Global, q: &[u32]) -> Result<Place, NoMemory> {
+        if q.len() > 32 {
+            return Err(NoMemory);
+        }
+        let mut idx = [0; 32];
+        idx[..q.len()].copy_from_slice(q);
+        Ok(Place { len: q.len(), idx })
+    }
+    pub fn as_slice(&self) -> &[u32] {
+        &self.idx[..self.len]
+    }
+}
+pub type Name = String;
+pub enum Tree {
+    Leaf(Name),
+    Cross(Trees),
+    Dot(Trees),
+}
+pub struct Trees(pub std::vec::Vec<Tree>);
+impl Trees {
+    pub fn of(trees: std::vec::Vec<Tree>) -> Trees {
+        Trees(trees)
+    }
+    pub fn as_slice(&self) -> &[Tree] {
+        &self.0
+    }
+}
+impl Tree {
+    pub fn copy(&self, a: Global) -> Result<Tree, NoMemory> {
+        Ok(match self {
+            Tree::Leaf(n) => Tree::Leaf(n.clone()),
+            Tree::Cross(t) => Tree::Cross(t.copy(a)?),
+            Tree::Dot(t) => Tree::Dot(t.copy(a)?),
+        })
+    }
+}
+impl Trees {
+    pub fn copy(&self, a: Global) -> Result<Trees, NoMemory> {
+        let mut v = vec![];
+        for t in &self.0 {
+            v.push(t.copy(a)?);
+        }
+        Ok(Trees(v))
+    }
+}
+#[derive(Debug)]
+pub struct Sequence<T>(pub std::vec::Vec<T>);
+impl<T> Sequence<T> {
+    pub fn of(items: std::vec::Vec<T>) -> Self {
+        Sequence(items)
+    }
+    pub fn as_slice(&self) -> &[T] {
+        &self.0
+    }
+}
+pub trait Copied: Sized {
+    fn copy(&self, a: Global) -> Result<Self, NoMemory>;
+}
+pub type Depths = Sequence<(Name, u32)>;
+impl Copied for Depths {
+    fn copy(&self, _: Global) -> Result<Self, NoMemory> {
+        Ok(Sequence(self.0.clone()))
+    }
+}
