@@ -1,0 +1,16 @@
+//! Which ports of a step have their whole value once another step is whole.
+//!
+//! A port that iterates no level takes all that feeds it at once: it has its value as soon as each step that feeds it is
+//! whole. Nothing is counted for that. A merge has at most 16 links, and each step becomes whole once, so the links of the
+//! ports that it feeds are looked at then (`specs/Feeds.antt`).
+//!
+//! - `ports`: the ports that have their value with a step
+//! - `laws`: that a port has it once
+#![tactic(auto)]
+
+pub mod laws;
+mod ports;
+#[cfg(test)]
+mod tests;
+
+pub use ports::{is_whole_with, ports_whole_with};

@@ -1,0 +1,2 @@
+pub mod OfSorting
+pub mod OfIntakes

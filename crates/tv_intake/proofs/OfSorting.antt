@@ -1,0 +1,76 @@
+-- What is sorted of a list of things from a position on.
+use Rattle.std.specs.Prelude.{◌≡◌, ℕ, zero, suc, ◌+◌, ◌<◌, ◌≤◌, List, [], ◌∷◌, ◌++◌, Some, drop, length, slice_get, refl}
+use Rattle.std.proofs.Common.{arith, ap, sym, ◌∙◌, append_assoc, append-nil}
+use Rattle.std.proofs.lemmas.List.{drop_all}
+use Rattle.tv_value.specs.Nested.{Place}
+use Rattle.tv_matching.specs.Matchers.{Outcome}
+use Rattle.tv_match.specs.Seen.{outcome_kind}
+use Rattle.tv_match.specs.declared.kinds.Kind.{Kind}
+use Rattle.tv_match.specs.declared.kinds.Kind.TheVariants.{Job, Closed, Passed}
+use Rattle.tv_intake.specs.declared.found.Found.{Found}
+use Rattle.tv_intake.specs.Sorting.{found_at, found_jobs, found_others, if_job, if_other, job_count, jobs_among}
+
+none : {A : Type 0} (i : ℕ) → i < 0 → A
+none i p = absurd (omega arith)
+
+pub next : (i : ℕ) → suc i ≡ i + 1
+next i = omega arith
+
+drop-here : {A : Type 0} (os : List A) (i : ℕ) (o : A) → slice_get os i ≡ Some o → drop i os ≡ o ∷ drop (suc i) os
+drop-here [] i o e = absurd (cc)
+drop-here (x ∷ os) zero o e = let f : x ≡ o = cc in ap (λ y. y ∷ os) f
+drop-here (x ∷ os) (suc i) o e = drop-here os i o e
+
+pub drop-next : {A : Type 0} (os : List A) (i : ℕ) (o : A) → slice_get os i ≡ Some o → drop i os ≡ o ∷ drop (i + 1) os
+drop-next os i o e = drop-here os i o e ∙ ap (λ k. o ∷ drop k os) (next i)
+
+-- the one at this position has this kind
+module _ (s : ℕ) (os : List Outcome) (i : ℕ) where
+  pub jobs-next : (before : List Found) (k : Kind) (q : Place) → slice_get os i ≡ Some (outcome_kind q k) → (before ++ if_job k (found_at s i)) ++ found_jobs s (i + 1) (drop (i + 1) os) ≡ before ++ found_jobs s i (drop i os)
+  jobs-next before k q e =
+      append_assoc before (if_job k (found_at s i)) (found_jobs s (i + 1) (drop (i + 1) os))
+      ∙ ap (λ j. before ++ (if_job k (found_at s i) ++ found_jobs s j (drop (i + 1) os))) (sym (next i))
+      ∙ ap (λ l. before ++ l) (by k ∙ ap (found_jobs s i) (sym (drop-next os i (outcome_kind q k) e)))
+    where
+      by : (k : Kind) → if_job k (found_at s i) ++ found_jobs s (suc i) (drop (i + 1) os) ≡ found_jobs s i (outcome_kind q k ∷ drop (i + 1) os)
+      by (Job b) = refl
+      by (Closed n) = refl
+      by (Passed l) = refl
+
+  pub others-next : (before : List Found) (k : Kind) (q : Place) → slice_get os i ≡ Some (outcome_kind q k) → (before ++ if_other k (found_at s i)) ++ found_others s (i + 1) (drop (i + 1) os) ≡ before ++ found_others s i (drop i os)
+  others-next before k q e =
+      append_assoc before (if_other k (found_at s i)) (found_others s (i + 1) (drop (i + 1) os))
+      ∙ ap (λ j. before ++ (if_other k (found_at s i) ++ found_others s j (drop (i + 1) os))) (sym (next i))
+      ∙ ap (λ l. before ++ l) (by k ∙ ap (found_others s i) (sym (drop-next os i (outcome_kind q k) e)))
+    where
+      by : (k : Kind) → if_other k (found_at s i) ++ found_others s (suc i) (drop (i + 1) os) ≡ found_others s i (outcome_kind q k ∷ drop (i + 1) os)
+      by (Job b) = refl
+      by (Closed n) = refl
+      by (Passed l) = refl
+
+  pub count-next : (n m : ℕ) (k : Kind) (q : Place) → m ≡ job_count k → slice_get os i ≡ Some (outcome_kind q k) → (n + m) + jobs_among (drop (i + 1) os) ≡ n + jobs_among (drop i os)
+  count-next n m k q c e =
+      let f = ap jobs_among (drop-next os i (outcome_kind q k) e) in
+      let g = by k in
+      omega (arith, f, g, c)
+    where
+      by : (k : Kind) → job_count k + jobs_among (drop (i + 1) os) ≡ jobs_among (outcome_kind q k ∷ drop (i + 1) os)
+      by (Job b) = omega arith
+      by (Closed n) = omega arith
+      by (Passed l) = omega arith
+
+  -- behind the last
+  module _ (h : length os ≤ i) where
+    pub jobs-end : (before : List Found) → before ++ found_jobs s i (drop i os) ≡ before
+    jobs-end before = ap (λ l. before ++ found_jobs s i l) (drop_all i os h) ∙ append-nil before
+
+    pub others-end : (before : List Found) → before ++ found_others s i (drop i os) ≡ before
+    others-end before = ap (λ l. before ++ found_others s i l) (drop_all i os h) ∙ append-nil before
+
+    pub count-end : (n : ℕ) → n + jobs_among (drop i os) ≡ n
+    count-end n = let f = ap jobs_among (drop_all i os h) in omega (arith, f)
+
+pub few : (k : Kind) → job_count k ≤ 1
+few (Job b) = omega arith
+few (Closed n) = omega arith
+few (Passed l) = omega arith

@@ -1,0 +1,8 @@
+use Rattle.std.specs.Prelude.{option_to_list}
+use Rattle.tv_intake.proofs.OfIntakes.{fewer-wait}
+use Rattle.tv_intake.proofs.intakes.Intakes.settle_last.Goals as goal
+
+pub returns-clause-sound : goal.returns-clause-sound
+returns-clause-sound c =
+    let i = c.args.self.now in
+    fewer-wait i.matchers.items i.jobs.items i.waiting.items c.requires c.pop.new.self.items (option_to_list c.pop.result) c.pop.ensures.items

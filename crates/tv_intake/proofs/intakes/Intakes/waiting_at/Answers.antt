@@ -1,0 +1,43 @@
+use Rattle.std.proofs.Common.{◌<◌, length, ap, arith, ◌∙◌, Some, subst}
+use Rattle.std.proofs.lemmas.List.{length-map}
+use Rattle.tv_intake.specs.declared.found.Found.{Found}
+use Rattle.tv_intake.specs.Intaken.{followed_in, thing_in}
+use Rattle.tv_intake.proofs.OfIntakes.{each-get, item-there, waiting-there, map-get, sound-there, step-within, thing-is}
+use Rattle.tv_intake.proofs.intakes.Intakes.waiting_at.Goals as goal
+
+pub index-requires : goal.index-requires
+index-requires c =
+    let i = c.args.self.now in
+    let ms = i.matchers.items in
+    let f = c.index-found.result.now in
+    let n : c.args.at < length i.waiting.items = subst (λ k. c.args.at < k) (length-map i.waiting.items (thing_in ms)) c.requires.at in
+    let here = each-get (λ (f : Found). f.at < length (followed_in ms f.step)) i.waiting.items c.args.at f (waiting-there ms i.jobs.items i.waiting.items c.requires.sound) n c.index-found.ensures in
+    omega (arith, step-within ms f.step f.at here, i.matchers.ok.0)
+
+pub item-kind-requires-clause-sound : goal.item-kind-requires-clause-sound
+item-kind-requires-clause-sound c =
+    let i = c.args.self.now in
+    let ms = i.matchers.items in
+    let f = c.index-found.result.now in
+    let n : c.args.at < length i.waiting.items = subst (λ k. c.args.at < k) (length-map i.waiting.items (thing_in ms)) c.requires.at in
+    let here = each-get (λ (f : Found). f.at < length (followed_in ms f.step)) i.waiting.items c.args.at f (waiting-there ms i.jobs.items i.waiting.items c.requires.sound) n c.index-found.ensures in
+    sound-there ms f c.index.result.now (step-within ms f.step f.at here) c.index.ensures here c.requires.sound.sound
+
+pub item-kind-requires-clause-within : goal.item-kind-requires-clause-within
+item-kind-requires-clause-within c =
+    let i = c.args.self.now in
+    let ms = i.matchers.items in
+    let f = c.index-found.result.now in
+    let n : c.args.at < length i.waiting.items = subst (λ k. c.args.at < k) (length-map i.waiting.items (thing_in ms)) c.requires.at in
+    let here = each-get (λ (f : Found). f.at < length (followed_in ms f.step)) i.waiting.items c.args.at f (waiting-there ms i.jobs.items i.waiting.items c.requires.sound) n c.index-found.ensures in
+    item-there ms f c.index.result.now (step-within ms f.step f.at here) c.index.ensures here
+
+pub returns : goal.returns
+returns c =
+    let i = c.args.self.now in
+    let ms = i.matchers.items in
+    let f = c.index-found.result.now in
+    let n : c.args.at < length i.waiting.items = subst (λ k. c.args.at < k) (length-map i.waiting.items (thing_in ms)) c.requires.at in
+    let here = each-get (λ (f : Found). f.at < length (followed_in ms f.step)) i.waiting.items c.args.at f (waiting-there ms i.jobs.items i.waiting.items c.requires.sound) n c.index-found.ensures in
+    map-get (thing_in ms) i.waiting.items c.args.at f n c.index-found.ensures
+    ∙ ap Some (thing-is ms f c.index.result.now (step-within ms f.step f.at here) c.index.ensures here _ c.item-kind.ensures.item)

@@ -1,0 +1,5 @@
+pub mod Comparing
+pub mod Heaping
+pub mod Keeping
+pub mod Laying
+pub mod Sorting

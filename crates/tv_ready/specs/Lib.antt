@@ -1,0 +1,6 @@
+pub mod Orders
+pub mod Tables
+pub mod Slots
+pub mod Heaps
+pub mod Listed
+pub mod Laid

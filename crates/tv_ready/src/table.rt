@@ -1,0 +1,134 @@
+//! Jobs with their places, by the order in which they were put.
+ghost use Rattle.std.specs.Prelude.{◌≡◌, ◌++◌, ◌∷◌, ◌<◌, ◌-◌, [], length, OnOk, OnErr};
+ghost use Rattle.tv_ready.specs.Orders.{place_at, number_at, is_before};
+
+use std::alloc::Global;
+use std::cmp::Ordering;
+use std::marker::Model;
+use tv_value::NoMemory;
+
+/// Where the place of a job starts among all indices, and its number.
+#[derive(Clone, Copy, Debug)]
+pub struct Slot {
+    start: usize,
+    number: u32,
+}
+
+/// Jobs with places of one number of levels, by the order in which they were put. A contract sees the list of their numbers
+/// and places, the number of levels, and how many more there is room for.
+///
+/// The indices of all places stand in one list.
+#[derive(Debug, Drop)]
+pub struct Table {
+    levels: usize,
+    slots: Vec<Slot>,
+    indices: Vec<u32>,
+    room: usize,
+}
+
+impl Model for Table {
+    ghost use Rattle.tv_ready.specs.Tables.{Rows};
+
+    ghost Value = { Rows };
+
+    ghost use Rattle.tv_ready.specs.Slots.{shown, IsLaid};
+
+    ghost view = { λ t. record { jobs = shown t.levels t.indices.items t.slots.items; levels = t.levels; room = t.room } };
+
+    ghost invariant = { λ t. IsLaid t.levels t.slots t.indices t.room };
+}
+
+impl Table {
+    /// No jobs, with places of so many levels. Takes no memory.
+    pub fn new(alloc: Global, levels: usize) -> Table
+        ensures jobs { result.jobs ≡ [] }
+        ensures levels { result.levels ≡ levels }
+        ensures room { result.room ≡ 0 }
+    {
+        Table {
+            levels,
+            slots: Vec::new(alloc),
+            indices: Vec::new(alloc),
+            room: 0,
+        }
+    }
+
+    /// How many jobs were put.
+    pub fn len(&self) -> usize
+        ensures { result ≡ length self.now.jobs }
+    {
+        self.slots.len()
+    }
+
+    /// How many more there is room for.
+    pub fn room(&self) -> usize
+        ensures { result ≡ self.now.room }
+    {
+        self.room
+    }
+
+    /// Takes the room for so many more jobs.
+    pub fn reserve(&mut self, count: usize) -> Result<(), NoMemory>
+        ensures jobs { self.new.jobs ≡ self.old.jobs }
+        ensures levels { self.new.levels ≡ self.old.levels }
+        ensures ok { OnOk result (self.new.room ≡ count) }
+        ensures refused { OnErr result (self.new.room ≡ self.old.room) }
+    {
+        let Some(indices) = count.checked_mul(self.levels) else {
+            return Err(NoMemory);
+        };
+        self.slots.reserve(count)?;
+        self.indices.reserve(indices)?;
+        self.room = count;
+        Ok(())
+    }
+
+    /// Puts a job at the end. Takes no memory.
+    pub fn push(&mut self, number: u32, place: &[u32])
+        requires room { 0 < self.old.room }
+        requires levels { length place.now ≡ self.old.levels }
+        ensures jobs { self.new.jobs ≡ self.old.jobs ++ (number, place.now) ∷ [] }
+        ensures levels { self.new.levels ≡ self.old.levels }
+        ensures room { self.new.room ≡ self.old.room - 1 }
+    {
+        let start = self.indices.len();
+        match self.indices.extend_from_slice(place) {
+            Ok(()) => (),
+            Err(_full) => unreachable!(),
+        }
+        self.slots.push_reserved(Slot { start, number });
+        self.room -= 1;
+    }
+
+    /// The number of the job that was put so many jobs later than the first.
+    pub fn number(&self, at: usize) -> u32
+        requires { at < length self.now.jobs }
+        ensures { result ≡ number_at self.now.jobs at }
+    {
+        self.slots[at].number
+    }
+
+    /// Its place.
+    pub fn place(&self, at: usize) -> &[u32]
+        requires { at < length self.now.jobs }
+        ensures { result.now ≡ place_at self.now.jobs at }
+    {
+        let slot = self.slots[at];
+        let (_before, from) = self.indices.as_slice().split_at(slot.start);
+        let (place, _after) = from.split_at(self.levels);
+        place
+    }
+
+    /// Whether one job stands before another: by their places, and, where these are the same, by which was put first.
+    pub fn is_before(&self, first: usize, second: usize) -> bool
+        requires first { first < length self.now.jobs }
+        requires second { second < length self.now.jobs }
+        ensures { result ≡ is_before self.now.jobs first second }
+    {
+        match self.place(first).cmp(self.place(second)) {
+            Ordering::Less => true,
+            Ordering::Equal => first < second,
+            Ordering::Greater => false,
+        }
+    }
+}

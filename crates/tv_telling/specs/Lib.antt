@@ -1,0 +1,3 @@
+pub mod ValueTellings
+pub mod WayTellings
+pub mod Views

@@ -1,0 +1,129 @@
+ghost use Rattle.std.specs.Prelude.{◌≡◌, ◌++◌, ◌-◌, ◌<◌, ◌∷◌, [], IfOk, OnOk, flat_map, map};
+ghost use Rattle.tv_cell.specs.PieceValues.{piece_value};
+ghost use Rattle.tv_strategy.specs.Sources.{Each};
+ghost use Rattle.tv_matching.specs.Matchers.{leaf_name};
+ghost use Rattle.tv_telling.specs.Views.{AddsTellings, AreTellings, HasOutput, HasPiece, happening, way_tellings, whole_telling};
+ghost use Rattle.tv_telling.specs.ValueTellings.{value_told};
+ghost use Rattle.tv_telling.specs.WayTellings.{place_of_item, told_there};
+
+use crate::telling::{tell_bound, tell_fault, tell_list};
+use crate::walking::tell_piece;
+use crate::ways::{Event, Happened, Way, Whole};
+use std::alloc::Global;
+use tv_cell::Piece;
+use tv_match::{Told, Tolds};
+use tv_value::NoMemory;
+
+/// What the ports at the ends of these ways are told with an event, way by way, and then that those ports, which take their
+/// values whole, have them.
+///
+/// Linear in the ways and in the tellings. Of a value that a job gave, only the levels are looked at that are walked.
+pub fn tellings_with(
+    alloc: Global,
+    ways: &[Way],
+    whole: &[Whole],
+    event: &Event,
+) -> Result<Tolds, NoMemory>
+    requires { Each (λ w. HasOutput event.now w.output) ways.now }
+    ensures { IfOk result (λ ts. AreTellings ts (λ s. flat_map (way_tellings s event.now) ways.now ++ map (whole_telling s) whole.now)) }
+{
+    let mut tellings = Vec::new(alloc);
+    let mut place = Vec::new(alloc);
+    for way in ways {
+        tell_way(alloc, way, event, &mut place, &mut tellings)?;
+    }
+    for port in whole {
+        tell_bound(alloc, port.leaf, &[], port.faulty, &mut tellings)?;
+    }
+    Ok(Tolds::of(tellings))
+}
+
+/// What a port is told of a value that is known throughout, of which it walks so many levels. Where the port merges links,
+/// the value stands at the link's number.
+pub fn tellings_of(
+    alloc: Global,
+    leaf: u32,
+    levels: u32,
+    item: Option<u32>,
+    piece: &Piece,
+) -> Result<Tolds, NoMemory>
+    ensures { IfOk result (λ ts. AreTellings ts (λ s. value_told (leaf_name s leaf) levels (place_of_item item) (piece_value piece.now))) }
+{
+    let mut tellings = Vec::new(alloc);
+    let mut place = Vec::new(alloc);
+    if let Some(index) = item {
+        place.push(index)?;
+    }
+    tell_piece(
+        alloc,
+        leaf,
+        levels as usize,
+        &mut place,
+        piece,
+        &mut tellings,
+    )?;
+    Ok(Tolds::of(tellings))
+}
+
+/// Tells the port at the end of a way. The place is working room.
+fn tell_way(
+    alloc: Global,
+    way: &Way,
+    event: &Event,
+    place: &mut Vec<u32>,
+    tellings: &mut Vec<Told>,
+) -> Result<(), NoMemory>
+    requires { HasOutput event.now way.now.output }
+    ensures { OnOk result (AddsTellings tellings.old.items tellings.new.items (λ s. way_tellings s event.now way.now)) }
+{
+    place.clear();
+    if let Some(index) = way.item {
+        place.push(index)?;
+    }
+    let levels = way.levels as usize;
+    if levels > event.place.len() {
+        place.extend_from_slice(event.place)?;
+        return tell_there(
+            alloc,
+            way,
+            levels - event.place.len(),
+            place,
+            &event.happened,
+            tellings,
+        );
+    }
+    if event.whole_from > levels {
+        return Ok(());
+    }
+    place.extend_from_slice(&event.place[..levels])?;
+    let faulty = levels < event.faults[way.output as usize];
+    tell_bound(alloc, way.leaf, place.as_slice(), faulty, tellings)
+}
+
+/// Tells the port of what happened at a place of its value, of which it walks so many levels more.
+fn tell_there(
+    alloc: Global,
+    way: &Way,
+    levels: usize,
+    place: &mut Vec<u32>,
+    happened: &Happened,
+    tellings: &mut Vec<Told>,
+) -> Result<(), NoMemory>
+    requires { HasPiece happened.now way.now.output }
+    ensures { OnOk result (AddsTellings tellings.old.items tellings.new.items (λ s. told_there (leaf_name s way.now.leaf) levels place.old.items (happening happened.now way.now.output))) }
+{
+    match happened {
+        Happened::Gave(pieces) => {
+            let piece = &pieces[way.output as usize];
+            tell_piece(alloc, way.leaf, levels, place, piece, tellings)
+        }
+        Happened::Closed(length) => tell_list(
+            alloc,
+            way.leaf,
+            place.as_slice(),
+            *length as usize,
+            tellings,
+        ),
+        Happened::Passed => tell_fault(alloc, way.leaf, place.as_slice(), tellings),
+    }
+}

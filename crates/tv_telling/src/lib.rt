@@ -1,0 +1,23 @@
+//! What the matchers of a flow's steps are told: of the values that are known from the start, and with each event of a step
+//! that feeds them.
+//!
+//! A `Way` leads from an output of a step to a port that walks some levels of it. What an event tells along a way depends on
+//! the event's place alone, on which of its prefixes become whole or hold a fault, and on the value that a job gave
+//! (`specs/WayTellings.antt`, `specs/ValueTellings.antt`); nothing is looked up. A contract sees the tellings as `tv_matching`
+//! has them, whatever strategy the leaves are of.
+//!
+//! - `ways`: ways and events
+//! - `telling`: one telling, at the end of a list
+//! - `walking`: all that is told of a value
+//! - `events`: all that is told with an event
+#![tactic(auto)]
+
+mod events;
+mod telling;
+#[cfg(test)]
+mod tests;
+mod walking;
+mod ways;
+
+pub use events::{tellings_of, tellings_with};
+pub use ways::{Event, Happened, Way, Whole};

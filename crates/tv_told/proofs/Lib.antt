@@ -1,0 +1,2 @@
+pub mod OfWays
+pub mod OfLengths
