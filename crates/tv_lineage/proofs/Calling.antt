@@ -18,7 +18,7 @@ use Rattle.tv_value.specs.Nested.{Place}
 use Rattle.tv_value.specs.Orders.{job_name_cmp, name_cmp, place_cmp, same_job, same_name}
 use Rattle.tv_value.specs.Values.{JobName, Name}
 use Rattle.tv_lineage.specs.Kept as kept
-use Rattle.tv_lineage.specs.Kept.{Kept, all_marks, is_noted, parts_in, records_of}
+use Rattle.tv_lineage.specs.Kept.{Kept, is_noted, parts_in, records_of}
 use Rattle.tv_lineage.specs.Lineages.{Record, backward, is_made_from, leaf_label}
 use Rattle.tv_lineage.specs.Members.{In}
 use Rattle.tv_lineage.specs.Reaching.{AreInside, Begins, IsNumber, IsSearch, Numbers, Search, Sees, is_met, number_of}

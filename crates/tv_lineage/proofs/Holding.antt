@@ -8,7 +8,7 @@ use Rattle.std.proofs.lemmas.List.{length-map, length-reverse, map-append, rever
 use Rattle.tv_value.specs.Orders.{same_job}
 use Rattle.tv_value.specs.Values.{JobName}
 use Rattle.tv_lineage.specs.Kept as kept
-use Rattle.tv_lineage.specs.Kept.{AreBefore, Groups, IsBefore, Kept, KeptRecord, all_marks, element, group, is_noted, marks_of, parts_by, parts_in, record_kept, records_of, result}
+use Rattle.tv_lineage.specs.Kept.{Groups, IsBefore, Kept, KeptRecord, all_marks, element, group, is_noted, parts_by, parts_in, record_kept, records_of, result}
 use Rattle.tv_lineage.specs.Members.{Each, In}
 use Rattle.tv_lineage.specs.Reaching.{AreInside, AreNumbers, IsNumber, Numbers, number_of}
 use Rattle.tv_lineage.specs.Touching as touching

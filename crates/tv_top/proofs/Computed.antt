@@ -2,6 +2,7 @@
 use Rattle.std.specs.Prelude.{refl}
 use Rattle.std.specs.Fmt.{digits}
 use Rattle.json.specs.Print.{escape_byte}
+use Rattle.tv_words.proofs.OnLiterals.{words_on_literals}
 use Rattle.tv_top.specs.Worked.{RunsOneText, RunsChain, RunsFailure, RunsCross, ChecksCross, ChecksChain, RefusesCircle, RefusesNoDocument, RefusesNoJson, RefusesNoCommand, TellsCodes, TellsLines, RefusesDepth, TakesCommands, TakesNothingElse, AsksChain, AsksFailure, AsksAttempts, AsksNoCheck, AsksNoNestedFlow, RunsNoNestedFlow, TracesAttempts, TracesChain, TracesFailure}
 
 pub runs_one_text : RunsOneText
@@ -57,10 +58,12 @@ unfolding digits escape_byte
 refuses_depth = (refl, refl)
 
 pub takes_commands : TakesCommands
-takes_commands = (refl, refl, refl)
+unfolding words_on_literals
+takes_commands = (refl, refl, refl, refl)
 
 pub takes_nothing_else : TakesNothingElse
-takes_nothing_else = (refl, refl, refl, refl)
+unfolding words_on_literals
+takes_nothing_else = (refl, refl, refl, refl, refl, refl, refl)
 
 pub asks_chain : AsksChain
 unfolding digits escape_byte

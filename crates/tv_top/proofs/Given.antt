@@ -1,5 +1,5 @@
 -- Refusals: why they come, with their lines, for what was read and for what is answered to it.
-use Rattle.std.specs.Prelude.{◌≡◌, ℕ, ◌<◌, List, [], length, map, Bool, true, false, nat_lt, Option, Some, None, Result, Ok, Err, if◌then◌else◌, refl, ◌⊎◌}
+use Rattle.std.specs.Prelude.{◌≡◌, ℕ, ◌<◌, List, [], length, Bool, true, false, nat_lt, Option, Some, None, Result, Ok, Err, if◌then◌else◌, refl, ◌⊎◌}
 use Rattle.std.proofs.Common.{ap, sym, subst, ◌∙◌, inl, inr}
 use Rattle.std.proofs.lemmas.Bool.{lt-ltb}
 use Rattle.serde_json.specs.Data.{Data}
@@ -15,8 +15,7 @@ use Rattle.tv_check.specs.declared.run.CheckedRun.{CheckedRun}
 use Rattle.tv_io.specs.ReadOf.{IsReadWhole}
 use Rattle.tv_board.specs.Flat.{opens_nothing}
 use Rattle.tv_top.specs.Words.{Command, run, check, trace}
-use Rattle.tv_top.specs.Lines.{fault_line}
-use Rattle.tv_top.specs.Answers.{Answer, Reading, StatusLine, always, answer_of, answer_to, answer_to_reading, byte_limit, json_of, reading_of, reading_of_json, unless_complaint, unless_misformed}
+use Rattle.tv_top.specs.Answers.{Answer, StatusLine, always, answer_of, answer_to, answer_to_reading, byte_limit, json_of, reading_of, reading_of_json, unless_complaint, unless_misformed}
 use Rattle.tv_top.specs.Asked.{GivesAnswer, GivesRun, line_of, refusal_line, refusal_status}
 use Rattle.tv_top.specs.Headline.{IsAnswered, IsAnswersLine, IsLine, IsRead, IsReadRefusal, IsRefusal, IsRefusedSo, OfDocument, RefusalCause, Source}
 use Rattle.tv_top.specs.declared.status.Status.{Status}

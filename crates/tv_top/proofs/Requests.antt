@@ -1,5 +1,5 @@
 -- Only a run that is answered asks for something.
-use Rattle.std.specs.Prelude.{◌≡◌, ◌≢◌, ℕ, List, [], ◌∷◌, ◌++◌, Bool, true, false, Option, Some, None, ◌⊎◌, Result, Ok, Err, if◌then◌else◌, map, refl}
+use Rattle.std.specs.Prelude.{◌≡◌, ◌≢◌, ℕ, List, [], ◌∷◌, ◌++◌, Bool, true, false, Option, Some, None, ◌⊎◌, Ok, Err, if◌then◌else◌, map, refl}
 use Rattle.std.proofs.Common.{ap, sym, subst, ◌∙◌, true≢false, inl, inr}
 use Rattle.std.proofs.lemmas.List.{append-nil}
 use Rattle.tv_value.specs.Values.{Name, Text}
@@ -7,6 +7,7 @@ use Rattle.tv_gate.specs.Calls.{Call, IsSameCalls}
 use Rattle.tv_gate.specs.Outcomes.{Giving}
 use Rattle.tv_flow.specs.Flows.{Document}
 use Rattle.tv_model.specs.Meanings.{meaning}
+use Rattle.tv_model.specs.Turns.{ask_order}
 use Rattle.tv_board.specs.Flat.{opens_nothing}
 use Rattle.tv_work.specs.Asked.{call_of}
 use Rattle.tv_top.specs.Words.{Command, run, check, trace}
@@ -27,9 +28,9 @@ fits-built false text r cs = refl
 
 module _ (gives : Giving) where
   fits-accepted : (command : Command) (d : Document) → Fits (answer_to gives command d) (asks_to gives command d)
-  fits-accepted run d = fits-built (opens_nothing d) _ (always NotBuilt) (map call_of (meaning gives d).order)
+  fits-accepted run d = fits-built (opens_nothing d) _ (always NotBuilt) (map call_of (ask_order (meaning gives d)))
   fits-accepted check d = tt
-  fits-accepted trace d = fits-built (opens_nothing d) _ (always NotBuilt) (map call_of (meaning gives d).order)
+  fits-accepted trace d = fits-built (opens_nothing d) _ (always NotBuilt) (map call_of (ask_order (meaning gives d)))
 
   fits-reading : (command : Command) (reading : Reading) → Fits (answer_to_reading gives command reading) (asks_to_reading gives command reading)
   fits-reading command (Ok d) = fits-accepted command d

@@ -1,7 +1,7 @@
 -- The jobs of the outcomes that a worked-off board has accepted are those of the order of one worker.
 use Rattle.std.specs.Prelude.{◌≡◌, ◌==◌, ◌&&◌, List, [], ◌∷◌, find, map, Option, Some, None, option_and_then, option_map, refl}
 use Rattle.std.specs.Option.{option_map_or}
-use Rattle.std.proofs.Common.{ap, sym, ◌∙◌, subst}
+use Rattle.std.proofs.Common.{ap, ◌∙◌}
 use Rattle.tv_value.specs.Orders.{same_job}
 use Rattle.tv_value.specs.Values.{JobName}
 use Rattle.tv_gate.specs.Outcomes.{Giving}
@@ -10,6 +10,7 @@ use Rattle.tv_flow.specs.Flows.{Document}
 use Rattle.tv_model.specs.Jobs.{Job}
 use Rattle.tv_model.specs.Made.{Meaning}
 use Rattle.tv_model.specs.Meanings.{meaning}
+use Rattle.tv_model.specs.Turns.{ask_order}
 use Rattle.tv_history.specs.Tries.{NamedTry}
 use Rattle.tv_board.specs.Runs.{Run, meant}
 use Rattle.tv_report.specs.TraceLines.{accepted_jobs}
@@ -40,5 +41,5 @@ names m (t ∷ ts) [] h = absurd (cc h)
 names m ((n, k) ∷ ts) (o ∷ os) h =
     ap (λ x. x ∷ map (λ (t : NamedTry). t.0) ts) (name-by (λ (j : Job). find (λ (a : Ask). k.0 == a.activity && k.1 == a.attempt) j.asks) n (find (λ (j : Job). same_job n j.name) m.jobs) o (ap (first_or None) h)) ∙ ap (λ xs. o.0 ∷ xs) (names m ts os (ap others h))
 
-pub jobs-in_order : (gives : Giving) (d : Document) (r : Run) → r.document ≡ d → AcceptsInOrder gives r → accepted_jobs r ≡ map (λ p. p.0) (meaning gives d).order
-jobs-in_order gives d r e h = names (meant gives r) (accepted_tries r) (meant gives r).order h ∙ ap (λ k. map (λ p. p.0) (meaning gives k).order) e
+pub jobs-in_order : (gives : Giving) (d : Document) (r : Run) → r.document ≡ d → AcceptsInOrder gives r → accepted_jobs r ≡ map (λ p. p.0) (ask_order (meaning gives d))
+jobs-in_order gives d r e h = names (meant gives r) (accepted_tries r) (ask_order (meant gives r)) h ∙ ap (λ k. map (λ p. p.0) (ask_order (meaning gives k))) e

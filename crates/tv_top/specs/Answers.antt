@@ -12,6 +12,7 @@ use Rattle.tv_check.specs.Faulty as checking
 use Rattle.tv_check.specs.Passes.{checked}
 use Rattle.tv_model.specs.Meanings.{meaning}
 use Rattle.tv_model.specs.Results.{result_line}
+use Rattle.tv_model.specs.Turns.{ask_order}
 use Rattle.tv_board.specs.Flat.{opens_nothing}
 use Rattle.tv_report.specs.FormLines.{form_text}
 use Rattle.tv_report.specs.CheckLines.{check_text}
@@ -78,7 +79,7 @@ module _ (gives : Giving) where
   abbrev pub answer_to : Command → Document → Answer
   answer_to run d = if_built d (result_line (meaning gives d))
   answer_to check d = Ok (depth_text d)
-  answer_to trace d = if_built d (trace_text (map (λ p. p.0) (meaning gives d).order))
+  answer_to trace d = if_built d (trace_text (map (λ p. p.0) (ask_order (meaning gives d))))
 
   abbrev pub answer_to_reading : Command → Reading → Answer
   answer_to_reading command (Ok d) = answer_to command d

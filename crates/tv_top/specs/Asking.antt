@@ -5,6 +5,7 @@ use Rattle.tv_gate.specs.Calls.{Call, IsSameCalls}
 use Rattle.tv_gate.specs.Outcomes.{Giving}
 use Rattle.tv_flow.specs.Flows.{Document}
 use Rattle.tv_model.specs.Meanings.{meaning}
+use Rattle.tv_model.specs.Turns.{ask_order}
 use Rattle.tv_history.specs.Alone.{IsFirstPart}
 use Rattle.tv_board.specs.Flat.{opens_nothing}
 use Rattle.tv_work.specs.Asked.{call_of}
@@ -20,7 +21,7 @@ use Rattle.tv_top.specs.declared.status.Status.TheVariants.{Done, Usage, ReadFau
 module _ (gives : Giving) where
   -- the calls of the order of one worker
   abbrev pub asks_of_run : Document → List Call
-  asks_of_run d = if opens_nothing d then map call_of (meaning gives d).order else []
+  asks_of_run d = if opens_nothing d then map call_of (ask_order (meaning gives d)) else []
 
   -- the calls that a command takes for an accepted document
   abbrev pub asks_to : Command → Document → List Call

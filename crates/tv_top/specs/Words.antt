@@ -1,7 +1,7 @@
--- The command that the words give.
-use Rattle.std.specs.Prelude.{List, [], ◌∷◌, codes, Option, Some, None, if◌then◌else◌}
+-- The command that the words give, of those that are carried out.
+use Rattle.std.specs.Prelude.{List, Option, Some, None, option_and_then}
 use Rattle.tv_value.specs.Values.{Text}
-use Rattle.tv_value.specs.Orders.{same_name}
+use Rattle.tv_words.specs.Commands as line
 
 pub data Command : Type 0 where
   -- read a document, run it, and write the result line
@@ -11,11 +11,15 @@ pub data Command : Type 0 where
   -- read a document, run it, and write which jobs asked how often
   trace : Command
 
--- a command is one word
+-- The workers of a run change nothing yet; lineage, forward use and generated documents are still to come.
+abbrev pub carried_out : line.Command → Option Command
+carried_out (line.run workers) = Some run
+carried_out line.check = Some check
+carried_out line.trace = Some trace
+carried_out (line.lineage port place) = None
+carried_out (line.forward port place) = None
+carried_out (line.gen number workers) = None
+
+-- the words are those after the program's name
 abbrev pub command_of : List Text → Option Command
-command_of [] = None
-command_of (w ∷ []) =
-    if same_name w (codes "run") then Some run
-    else (if same_name w (codes "check") then Some check
-    else (if same_name w (codes "trace") then Some trace else None))
-command_of (w ∷ v ∷ ws) = None
+command_of words = option_and_then carried_out (line.command_of words)

@@ -162,11 +162,20 @@ AsksNoCheck = asks_for check two_steps ≡ []
 
 abbrev pub TakesCommands : Type 0
 TakesCommands =
-    (command_of (codes "run" ∷ []) ≡ Some run) × (command_of (codes "check" ∷ []) ≡ Some check) × (command_of (codes "trace" ∷ []) ≡ Some trace)
+    (command_of (codes "run" ∷ []) ≡ Some run)
+    × (command_of (codes "run" ∷ codes "--workers" ∷ codes "4" ∷ []) ≡ Some run)
+    × (command_of (codes "check" ∷ []) ≡ Some check)
+    × (command_of (codes "trace" ∷ []) ≡ Some trace)
 
 abbrev pub TakesNothingElse : Type 0
 TakesNothingElse =
-    (command_of [] ≡ None) × (command_of (codes "Run" ∷ []) ≡ None) × (command_of (codes "lineage" ∷ []) ≡ None) × (command_of (codes "run" ∷ codes "check" ∷ []) ≡ None)
+    (command_of [] ≡ None)
+    × (command_of (codes "Run" ∷ []) ≡ None)
+    × (command_of (codes "run" ∷ codes "check" ∷ []) ≡ None)
+    × (command_of (codes "run" ∷ codes "--workers" ∷ codes "0" ∷ []) ≡ None)
+    × (command_of (codes "run" ∷ codes "--of" ∷ codes "out[]" ∷ []) ≡ None)
+    × (command_of (codes "lineage" ∷ codes "--of" ∷ codes "out[]" ∷ []) ≡ None)
+    × (command_of (codes "gen" ∷ codes "1" ∷ []) ≡ None)
 
 abbrev pub TellsCodes : Type 0
 TellsCodes =

@@ -3,6 +3,7 @@ ghost use Rattle.std.specs.Prelude.{◌≡◌, IfErr, IfOk, OnErr, OnOk, false, 
 ghost use Rattle.tv_check.specs.RunViews.{run_view};
 ghost use Rattle.tv_model.specs.Meanings.{meaning};
 ghost use Rattle.tv_model.specs.Results.{result_line};
+ghost use Rattle.tv_model.specs.Turns.{ask_order};
 ghost use Rattle.tv_board.specs.Flat.{opens_nothing};
 ghost use Rattle.tv_report.specs.TraceLines.{trace_text};
 ghost use Rattle.tv_work.specs.Asked.{call_of};
@@ -73,8 +74,8 @@ fn trace_if_built<A: Asker>(alloc: Global, run: CheckedRun, asker: &mut A) -> Re
 fn result_of_run<A: Asker>(alloc: Global, run: CheckedRun, asker: &mut A) -> Result<Text, NoMemory>
     requires { opens_nothing (run_view run) ≡ true }
     ensures line { IfOk result (λ t. t ≡ result_line (meaning A.Services.gives (run_view run))) }
-    ensures asked { OnOk result (AsksThese (A.calls asker.old) (A.calls asker.new) (map call_of (meaning A.Services.gives (run_view run)).order)) }
-    ensures begun { OnErr result (BeginsThese (A.calls asker.old) (A.calls asker.new) (map call_of (meaning A.Services.gives (run_view run)).order)) }
+    ensures asked { OnOk result (AsksThese (A.calls asker.old) (A.calls asker.new) (map call_of (ask_order (meaning A.Services.gives (run_view run))))) }
+    ensures begun { OnErr result (BeginsThese (A.calls asker.old) (A.calls asker.new) (map call_of (ask_order (meaning A.Services.gives (run_view run))))) }
 {
     let (outputs, totals) = run_whole(alloc, run, asker)?;
     let line = result_line(alloc, &outputs, &totals)?;
@@ -84,9 +85,9 @@ fn result_of_run<A: Asker>(alloc: Global, run: CheckedRun, asker: &mut A) -> Res
 /// The lines of the jobs that asked, of a document that a board runs.
 fn trace_of_run<A: Asker>(alloc: Global, run: CheckedRun, asker: &mut A) -> Result<Text, NoMemory>
     requires { opens_nothing (run_view run) ≡ true }
-    ensures lines { IfOk result (λ t. t ≡ trace_text (map (λ p. p.0) (meaning A.Services.gives (run_view run)).order)) }
-    ensures asked { OnOk result (AsksThese (A.calls asker.old) (A.calls asker.new) (map call_of (meaning A.Services.gives (run_view run)).order)) }
-    ensures begun { OnErr result (BeginsThese (A.calls asker.old) (A.calls asker.new) (map call_of (meaning A.Services.gives (run_view run)).order)) }
+    ensures lines { IfOk result (λ t. t ≡ trace_text (map (λ p. p.0) (ask_order (meaning A.Services.gives (run_view run))))) }
+    ensures asked { OnOk result (AsksThese (A.calls asker.old) (A.calls asker.new) (map call_of (ask_order (meaning A.Services.gives (run_view run))))) }
+    ensures begun { OnErr result (BeginsThese (A.calls asker.old) (A.calls asker.new) (map call_of (ask_order (meaning A.Services.gives (run_view run))))) }
 {
     let board = run_board(alloc, run, asker)?;
     let lines = trace_lines(alloc, &board)?;

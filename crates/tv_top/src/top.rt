@@ -46,8 +46,8 @@ pub fn taverna_alone<S: Source, K: Sink, E: Sink, A: Asker>(
     ensures complete { IsComplete (answer_of A.Services.gives A.Services.knows (asked_for (texts_of words.now)))
         (source_told ⟦<S as Source>⟧ source.old source.new)
         (sink_told ⟦<K as Sink>⟧ out.old out.new) result }
-    // Words that give no command are told from them alone, and then nothing is read.
-    ensures usage { (result ≡ Status.Usage) ↔ (asked_for (texts_of words.now) ≡ None) }
+    // Words that give no command are told from them alone, where memory isn't wanting, and then nothing is read.
+    ensures usage { result ≢ Status.NoMemory → ((result ≡ Status.Usage) ↔ (asked_for (texts_of words.now) ≡ None)) }
     ensures taken { TakesAtMost (byte_limit + 1) (S.left source.old) (S.left source.new) }
     ensures unread { result ≡ Status.Usage → source.new ≡ source.old }
     // The output has nothing but an answer, and the line on `err` is the status's.
@@ -94,7 +94,7 @@ fn carried_out<S: Source, K: Sink, A: Asker>(
         (sink_told ⟦<K as Sink>⟧ out.old out.new) (ended result) }
     ensures line { IfErr result (λ r. IsLine (answer_of A.Services.gives A.Services.knows (asked_for (texts_of words.now)))
         (source_told ⟦<S as Source>⟧ source.old source.new) (refusal_status r) (refusal_line r)) }
-    ensures usage { (ended result ≡ Status.Usage) ↔ (asked_for (texts_of words.now) ≡ None) }
+    ensures usage { ended result ≢ Status.NoMemory → ((ended result ≡ Status.Usage) ↔ (asked_for (texts_of words.now) ≡ None)) }
     ensures taken { TakesAtMost (byte_limit + 1) (S.left source.old) (S.left source.new) }
     ensures unread { ended result ≡ Status.Usage → source.new ≡ source.old }
     ensures silent { ended result ≢ Status.Done → ended result ≢ Status.WriteFault → out.new ≡ out.old }
@@ -118,14 +118,14 @@ fn answered<S: Source, A: Asker>(
 ) -> Result<Text, Refusal>
     ensures answer { IsAnswered (answer_of A.Services.gives A.Services.knows (asked_for (texts_of words.now)))
         (source_told ⟦<S as Source>⟧ source.old source.new) result }
-    ensures usage { (ended result ≡ Status.Usage) ↔ (asked_for (texts_of words.now) ≡ None) }
+    ensures usage { ended result ≢ Status.NoMemory → ((ended result ≡ Status.Usage) ↔ (asked_for (texts_of words.now) ≡ None)) }
     ensures taken { TakesAtMost (byte_limit + 1) (S.left source.old) (S.left source.new) }
     ensures unread { ended result ≡ Status.Usage → source.new ≡ source.old }
     ensures asked { IsAskedFor (asks_of A.Services.gives A.Services.knows (asked_for (texts_of words.now)))
         (source_told ⟦<S as Source>⟧ source.old source.new)
         (A.calls asker.old) (A.calls asker.new) result }
 {
-    match command_of(words) {
+    match command_of(alloc, words)? {
         Some(command) => read_and_answered(alloc, command, source, asker),
         None => Err(Refusal::Plain(Status::Usage)),
     }
@@ -188,7 +188,7 @@ pub fn taverna<
     ensures complete { IsComplete (answer_of G.Services.gives G.Services.knows (asked_for (texts_of words.now)))
         (source_told ⟦<S as Source>⟧ source.old source.new)
         (sink_told ⟦<K as Sink>⟧ out.old out.new) result }
-    ensures usage { (result ≡ Status.Usage) ↔ (asked_for (texts_of words.now) ≡ None) }
+    ensures usage { result ≢ Status.NoMemory → ((result ≡ Status.Usage) ↔ (asked_for (texts_of words.now) ≡ None)) }
     ensures taken { TakesAtMost (byte_limit + 1) (S.left source.old) (S.left source.new) }
     ensures unread { result ≡ Status.Usage → source.new ≡ source.old }
     ensures silent { result ≢ Status.Done → result ≢ Status.WriteFault → out.new ≡ out.old }

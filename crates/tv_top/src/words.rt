@@ -1,8 +1,13 @@
 //! Words and commands.
-ghost use Rattle.std.specs.Prelude.{◌≡◌, ◌∷◌, [], option_map};
-ghost use Rattle.tv_top.specs.Words.{command_of};
+ghost use Rattle.std.specs.Prelude.{◌≡◌, IfOk, option_map};
+ghost use Rattle.tv_words.specs.CommandViews.{command_view as told_view};
+ghost use Rattle.tv_top.specs.Words.{carried_out, command_of};
 ghost use Rattle.tv_top.specs.Asked.{texts_of};
 ghost use Rattle.tv_top.specs.CommandViews.{command_view};
+
+use std::alloc::Global;
+use tv_value::NoMemory;
+use tv_words::{Command as Told, read_words};
 
 /// What the words ask for.
 #[derive(Clone, Copy)]
@@ -15,26 +20,23 @@ pub(crate) enum Command {
     Trace,
 }
 
-/// The command that the words give, or `None` where they give none.
-pub(crate) fn command_of(words: &[String]) -> Option<Command>
-    ensures { option_map command_view result ≡ command_of (texts_of words.now) }
+/// The command that the words give, or `None` where they give none that is carried out.
+pub(crate) fn command_of(alloc: Global, words: &[String]) -> Result<Option<Command>, NoMemory>
+    ensures { IfOk result (λ command. option_map command_view command ≡ command_of (texts_of words.now)) }
 {
-    match words {
-        [word] => command_of_word(word.as_str()),
-        _ => None,
+    match read_words(alloc, words)? {
+        Some(told) => Ok(carried_out(&told)),
+        None => Ok(None),
     }
 }
 
-fn command_of_word(word: &str) -> Option<Command>
-    ensures { option_map command_view result ≡ command_of (word.now ∷ []) }
+fn carried_out(told: &Told) -> Option<Command>
+    ensures { option_map command_view result ≡ carried_out (told_view told.now) }
 {
-    if word == "run" {
-        Some(Command::Run)
-    } else if word == "check" {
-        Some(Command::Check)
-    } else if word == "trace" {
-        Some(Command::Trace)
-    } else {
-        None
+    match told {
+        Told::Run { .. } => Some(Command::Run),
+        Told::Check => Some(Command::Check),
+        Told::Trace => Some(Command::Trace),
+        Told::Lineage { .. } | Told::Forward { .. } | Told::Gen { .. } => None,
     }
 }

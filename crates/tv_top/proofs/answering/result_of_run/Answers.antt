@@ -2,6 +2,7 @@ use Rattle.std.proofs.Common.{ap, map, ◌∙◌}
 use Rattle.tv_check.specs.RunViews.{run_view}
 use Rattle.tv_model.specs.Meanings.{meaning}
 use Rattle.tv_model.specs.TotalsViews.{totals_view}
+use Rattle.tv_model.specs.Turns.{ask_order}
 use Rattle.tv_report.specs.ResultLines.{line_of_result}
 use Rattle.tv_top.proofs.Plainly.{line-plain}
 use Rattle.tv_work.specs.Asked.{call_of}
@@ -20,4 +21,4 @@ returns-clause-line g c =
 -- all was asked, and the text found no memory
 pub returns-in_err-line-clause-begun : goal.returns-in_err-line-clause-begun
 returns-in_err-line-clause-begun g c =
-    on-err c.from_residual-in_err-line.result (all-begin (g.A.Asker.calls c.args.asker.now) (g.A.Asker.calls c.run_whole.new.asker) (map call_of (meaning g.A.Services.Services.gives (run_view c.args.run)).order) c.in_ok-outputs.ensures.asked)
+    on-err c.from_residual-in_err-line.result (all-begin (g.A.Asker.calls c.args.asker.now) (g.A.Asker.calls c.run_whole.new.asker) (map call_of (ask_order (meaning g.A.Services.Services.gives (run_view c.args.run)))) c.in_ok-outputs.ensures.asked)

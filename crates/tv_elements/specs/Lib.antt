@@ -1,0 +1,4 @@
+pub mod Elements
+pub mod Lines
+pub mod Stated
+pub mod Worked

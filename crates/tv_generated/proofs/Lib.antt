@@ -1,0 +1,3 @@
+pub mod OfForm
+pub mod OfTexts
+pub mod Computed

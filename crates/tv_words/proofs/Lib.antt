@@ -1,0 +1,6 @@
+mod Computed
+pub mod OfBounds
+mod OfCommands
+mod OfNumbers
+mod OfReading
+pub mod OnLiterals
