@@ -42,8 +42,8 @@ impl Cell {
         &*self.inside
     }
 
-    /// One more owner of the same value, which is not copied. It is refused only where the count of owners is full. The
-    /// cost is constant.
+    /// One more owner of the same value, which is not copied. Takes no memory, and the cost is constant. It may be refused,
+    /// and no clause says when: the kit's `Arc` refuses where its count of owners is full.
     pub fn share(&self) -> Result<Cell, NoMemory>
         ensures { IfOk result (λ c. c ≡ self.now) }
     {

@@ -4,3 +4,4 @@ pub mod Ways
 pub mod Hanging
 pub mod Bodies
 pub mod Calls
+pub mod Apart

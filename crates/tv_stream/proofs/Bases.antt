@@ -1,5 +1,5 @@
 -- A change of a node itself.
-use Rattle.std.proofs.Common.{◌≡◌, ◌≢◌, ℕ, zero, suc, ◌+◌, ◌<◌, ◌≤◌, ◌^◌, ◌==◌, nat_lt, arith, Result, Ok, Err, Bool, true, false, ◌||◌, if◌then◌else◌, List, [], ◌∷◌, ◌++◌, refl, sym, ap, ◌∙◌, subst, Option, Some, None, ◌⊎◌, inl, inr}
+use Rattle.std.proofs.Common.{◌≡◌, ◌≢◌, ℕ, zero, suc, ◌<◌, ◌≤◌, ◌^◌, ◌==◌, nat_lt, arith, Result, Ok, Err, Bool, true, false, ◌||◌, if◌then◌else◌, List, [], ◌∷◌, ◌++◌, refl, sym, ap, ◌∙◌, subst, Option, Some, None, ◌⊎◌, inl, inr}
 use Rattle.std.specs.Option.{option_map, is_some}
 use Rattle.std.specs.Result.{OnErr}
 use Rattle.std.proofs.lemmas.Bool.{cases_eq}
@@ -21,11 +21,12 @@ use Rattle.tv_stream.specs.declared.held.Counts.{Counts}
 use Rattle.tv_stream.specs.declared.held.Part.TheVariants.{Wanting, Item, Numbered}
 use Rattle.tv_stream.specs.Trees.{Marked, listed, count_of, list_of, optional, parts_by, tree_by, tree_at, least_whole}
 use Rattle.tv_stream.specs.Stands.{is_marked, AreCounted, IsCounted, HasNoParts, IsLeaf, IsSound}
+use Rattle.tv_stream.specs.Answers.{LastIsKnown}
 use Rattle.tv_stream.specs.Inside.{counts_ended, counts_whole, counts_of, has_index, nothing, InTree, Below, Parted, Changes, Changed}
-use Rattle.tv_stream.proofs.Listed.{listed-same, filled-listed, count-filled, holds-filled, count-listed}
+use Rattle.tv_stream.proofs.Listed.{listed-same, filled-listed, count-filled, holds-filled, count-listed, part-listed}
 use Rattle.tv_stream.proofs.Same.{Agrees, same-tree, same-sound, tree-suc, tree-zero, sound-suc, sound-zero, sound-from, sound-leaf}
 use Rattle.tv_stream.proofs.Counting.{some-clash, list-like, beyond, whole-as}
-use Rattle.tv_stream.proofs.Steps.{not-own, part-sound}
+use Rattle.tv_stream.proofs.Steps.{not-own}
 
 or-false : (b : Bool) → b ≡ (b || false)
 or-false true = refl
@@ -100,6 +101,12 @@ module _ {T : Type 0} where
   item-tree : (h : ℕ) (m : ℕ → Option (Entry (Held T))) (s : ℕ) (v : T) (mark : Bool) → body_in m s ≡ Some (record { marked = mark; part = Item v }) → tree_at h m s ≡ item (record { value = v; marked = mark })
   item-tree h m s v mark body = (body-tree h m s (record { marked = mark; part = Item v }) body).1
 
+  item-there : (x : Marked T) → item x ≢ wanting
+  item-there x h = cc
+
+  closed-there : (ps : Parts (Marked T)) → closed ps ≢ wanting
+  closed-there ps h = cc
+
   -- an item arrives at the node itself
   pub base-arrive : (m m' : ℕ → Option (Entry (Held T))) (spots : ℕ → Option Spot) (s h : ℕ) (inside : InTree m spots s h) (b : Held T) → body_in m s ≡ Some b → b.part ≡ Wanting → (v : T) (mark : Bool) → Sets m m' s (record { marked = mark; part = Item v }) → CanArrive [] (tree_at h m s) × Changed m m' spots s inside.spot h [] mark (arrive [] (record { value = v; marked = mark }) (tree_at h m s)) (Some 0)
   base-arrive m m' spots s h inside b body is v mark sets =
@@ -108,6 +115,7 @@ module _ {T : Type 0} where
         record {
           changes = base-changes m m' spots s h inside (record { marked = mark; part = Item v }) sets (item-sound h m' s v mark sets.body (no-parts-after m m' spots s h inside (record { marked = mark; part = Item v }) sets (no-parts h m s b body is inside.sound)));
           tree_is = item-tree h m' s v mark sets.body;
+          there = item-there (record { value = v; marked = mark });
           open_before = ap whole was;
           marks = ap (λ r. holds_some is_marked r || mark) (sym was);
           least_is = refl;
@@ -166,6 +174,7 @@ module _ {T : Type 0} where
       counted = fits;
       few = few n small;
       within = λ i t e. counted.within i t (sym (sets.parts s i) ∙ e);
+      last = λ i e w. counted.last i e (sym (same i) ∙ w);
       sound = λ i t e. let found = sym (sets.parts s i) ∙ e in let w = part-spot m spots inside.nodes s inside.spot i t inside.known found in same-sound m m' spots inside.nodes h t w.0 w.1 (agrees i w.0.place w.2) (counted.sound i t found);
     }
       where
@@ -209,6 +218,7 @@ module _ {T : Type 0} where
       record {
         changes = base-changes m m' spots s (suc h) inside (record { marked = b.marked; part = Numbered d }) sets (sound-from h m' s (record { marked = b.marked; part = Numbered d }) sets.body closed-counted);
         tree_is = tree-suc h m' s (record { marked = b.marked; part = Numbered d }) sets.body ∙ ap closed (sym filled-is) ∙ sym close-tree;
+        there = λ w. closed-there (filled (listed (count_of c) F) n) (sym close-tree ∙ w);
         open_before = ap whole (tree-suc h m s b body) ∙ open-is (tree_at h m) b.part has no-length;
         marks =
             ap (holds_some is_marked) close-tree
@@ -220,7 +230,7 @@ module _ {T : Type 0} where
     )
 
   pub changed-least : (m m' : ℕ → Option (Entry (Held T))) (spots : ℕ → Option Spot) (s : ℕ) (p : Spot) (h : ℕ) (q : List ℕ) (mark : Bool) (tree : Partial (Marked T)) (l k : Option ℕ) → l ≡ k → Changed m m' spots s p h q mark tree l → Changed m m' spots s p h q mark tree k
-  changed-least m m' spots s p h q mark tree l k e x = record { changes = x.changes; tree_is = x.tree_is; open_before = x.open_before; marks = x.marks; least_is = x.least_is ∙ e }
+  changed-least m m' spots s p h q mark tree l k e x = record { changes = x.changes; tree_is = x.tree_is; there = x.there; open_before = x.open_before; marks = x.marks; least_is = x.least_is ∙ e }
 
   -- ---- what a body says of the tree
 
@@ -245,18 +255,28 @@ module _ {T : Type 0} where
       by None h = absurd (cc)
       by (Some n) h = (parts_by f m s (count_of c), refl)
 
-  pub growing-tree : (f : ℕ → Partial (Marked T)) (m : ℕ → Option (Entry (Held T))) (s : ℕ) (marked : Bool) (w : Part T) (n : ℕ) → is_some (counts_of w).length ≡ false → n < (counts_of w).most → (ps : Parts (Marked T)) × (tree_by f m s marked w ≡ growing ps) × ((counts_of w).most ≡ part_count ps)
-  growing-tree f m s marked Wanting n h k = absurd (never n k)
+  -- what the body of a node with levels below it says
+  pub list-body : (h : ℕ) (m : ℕ → Option (Entry (Held T))) (s : ℕ) (b : Held T) → 0 < h → body_in m s ≡ Some b → IsSound h m s → (P : ℕ → Type 0) × ((f : ℕ → Partial (Marked T)) × ((tree_at h m s ≡ tree_by f m s b.marked b.part) × IsCounted P f m s b.marked b.part))
+  list-body zero m s b tall body sound = absurd (never tall)
+    where
+      never : 0 < 0 → ⊥
+      never h = omega arith
+  list-body (suc h) m s b tall body sound = (IsSound h m, (tree_at h m, (tree-suc h m s b body, counted-as h m s b body sound)))
+
+  pub growing-tree : (P : ℕ → Type 0) (f : ℕ → Partial (Marked T)) (m : ℕ → Option (Entry (Held T))) (s : ℕ) (marked : Bool) (w : Part T) (n : ℕ) → IsCounted P f m s marked w → is_some (counts_of w).length ≡ false → n < (counts_of w).most → (ps : Parts (Marked T)) × (tree_by f m s marked w ≡ growing ps) × ((counts_of w).most ≡ part_count ps) × LastIsKnown ps
+  growing-tree P f m s marked Wanting n counted h k = absurd (never n k)
     where
       never : (n : ℕ) → n < 0 → ⊥
       never n h = omega arith
-  growing-tree f m s marked (Item v) n h k = absurd (never n k)
+  growing-tree P f m s marked (Item v) n counted h k = absurd (never n k)
     where
       never : (n : ℕ) → n < 0 → ⊥
       never n h = omega arith
-  growing-tree f m s marked (Numbered c) n h k =
+  growing-tree P f m s marked (Numbered c) n counted h k =
       let none = no-some c.length h in
-      (parts_by f m s (count_of c), ap (λ o. list_of o (parts_by f m s (count_of c))) none, sym (count-listed (count_of c) (λ j. optional f (part_in m s j)) ∙ ap (λ o. elim o [ None ↦ c.most | Some j ↦ j ]) none))
+      let parts : ℕ → Partial (Marked T) = λ j. optional f (part_in m s j) in
+      let count : part_count (listed (count_of c) parts) ≡ c.most = count-listed (count_of c) parts ∙ ap (λ o. elim o [ None ↦ c.most | Some j ↦ j ]) none in
+      (parts_by f m s (count_of c), ap (λ o. list_of o (parts_by f m s (count_of c))) none, sym count, λ i e w. counted.last i (sym count ∙ e) (sym (part-listed (count_of c) parts i (beyond P f f m s marked c counted)) ∙ w))
 
   pub open-index : (w : Part T) (i : ℕ) → ((v : T) → w ≡ Item v → ⊥) → (counts_of w).length ≡ None → has_index w i ≡ true
   open-index Wanting i h k = refl

@@ -1,12 +1,11 @@
 -- The calls, for the whole tree.
-use Rattle.std.proofs.Common.{◌≡◌, ◌≢◌, ℕ, zero, suc, ◌+◌, ◌<◌, ◌≤◌, ◌^◌, arith, length, Bool, true, false, ◌||◌, List, [], ◌∷◌, refl, sym, ap, ◌∙◌, subst, Option, Some, None, ◌⊎◌, inl, inr, Result, Ok, Err}
-use Rattle.std.specs.Result.{IfOk, OnErr}
-use Rattle.tv_parts.specs.Partials.{Partial, wanting, item, growing, closed, Parts, known_at, part_count}
-use Rattle.tv_parts.specs.Changes.{arrive, close_at, is_place, CanArrive, CanClose, MayClose}
+use Rattle.std.proofs.Common.{◌≡◌, ℕ, ◌<◌, ◌≤◌, ◌^◌, arith, length, Bool, List, refl, sym, ap, ◌∙◌, subst, Option, Some, None, inl, Result, Ok, Err}
+use Rattle.std.specs.Result.{OnErr}
+use Rattle.tv_parts.specs.Partials.{Partial, wanting, item, growing, closed, Parts, known_at}
+use Rattle.tv_parts.specs.Changes.{MayClose}
 use Rattle.tv_parts.proofs.Changes.{arrive-there, close-there}
 use Rattle.tv_pool.specs.Pool.{Pool, item_in, region_of, slot_of}
 use Rattle.tv_nodes.specs.declared.nodes.Entry.{Entry}
-use Rattle.tv_nodes.specs.Nodes.{part_in, body_in}
 use Rattle.tv_nodes.specs.Stands.{Spot, AreNodes, with_spot}
 use Rattle.tv_nodes.specs.Calls.{root_spot, Plants}
 use Rattle.tv_nodes.proofs.Hanging.{spot-here, spot-other}
@@ -16,9 +15,9 @@ use Rattle.tv_stream.specs.declared.refusals.ArriveRefused.{ArriveRefused}
 use Rattle.tv_stream.specs.declared.refusals.ArriveRefused.TheVariants.{NoSuchPlace, Occupied, NoMemory}
 use Rattle.tv_stream.specs.declared.refusals.CloseRefused.{CloseRefused}
 use Rattle.tv_stream.specs.declared.refusals.CloseRefused.TheVariants.{NoSuchPlace as NoPlaceToClose, AlreadyClosed, WrongLength, NoMemory as NoMemoryToClose}
-use Rattle.tv_stream.specs.Trees.{Marked, memory_of, tree_at, tree_of, least_whole}
+use Rattle.tv_stream.specs.Trees.{Marked, memory_of}
 use Rattle.tv_stream.specs.Stands.{StandsOn, Grows, Starts, IsSound}
-use Rattle.tv_stream.specs.Answers.{IsItem, IsPlace, IsListPlace, RefusesArrival, RefusesClose}
+use Rattle.tv_stream.specs.Answers.{IsItem, RefusesArrival, RefusesClose}
 use Rattle.tv_stream.specs.Inside.{nothing, InTree, Changed, ArrivesIn, ClosesIn, RefusesArrivalIn, RefusesCloseIn}
 use Rattle.tv_stream.proofs.Bases.{same-memory}
 use Rattle.tv_stream.proofs.Steps.{nothing-sound, nothing-tree}

@@ -1,20 +1,20 @@
 -- What a list's counts say once a part was exchanged.
-use Rattle.std.proofs.Common.{◌≡◌, ◌≢◌, ℕ, zero, suc, ◌+◌, ◌<◌, ◌≤◌, ◌^◌, ◌==◌, max, nat_lt, arith, Bool, true, false, ◌||◌, if◌then◌else◌, List, [], ◌∷◌, refl, sym, ap, ◌∙◌, subst, Option, Some, None, lt-ltb, ltb-true, inl, inr}
+use Rattle.std.proofs.Common.{◌≡◌, ◌≢◌, ℕ, zero, suc, ◌+◌, ◌<◌, ◌≤◌, ◌^◌, ◌==◌, max, nat_lt, arith, Bool, true, false, ◌||◌, if◌then◌else◌, List, ◌∷◌, refl, sym, ap, ◌∙◌, subst, Option, Some, None, ltb-true, inl, inr}
 use Rattle.std.specs.Option.{option_map}
 use Rattle.std.proofs.lemmas.Bool.{cases_eq}
-use Rattle.tv_parts.specs.Partials.{Partial, wanting, item, growing, closed, Parts, no_parts, part, part_count, part_of, part_at, whole, all_whole, one_if, whole_count, holds_some, some_holds}
+use Rattle.tv_parts.specs.Partials.{Partial, wanting, Parts, no_parts, part, part_count, part_of, part_at, whole, one_if, whole_count, holds_some, some_holds}
 use Rattle.tv_parts.specs.Changes.{with_part}
 use Rattle.tv_parts.proofs.Wholeness.{whole-counts, count-with}
 use Rattle.tv_nodes.specs.declared.nodes.Entry.{Entry}
-use Rattle.tv_nodes.specs.Nodes.{part_in, body_in}
+use Rattle.tv_nodes.specs.Nodes.{part_in}
 use Rattle.tv_stream.specs.declared.held.Held.{Held}
 use Rattle.tv_stream.specs.declared.held.Part.{Part}
 use Rattle.tv_stream.specs.declared.held.Counts.{Counts}
 use Rattle.tv_stream.specs.declared.held.Part.TheVariants.{Wanting, Item, Numbered}
-use Rattle.tv_stream.specs.Trees.{Marked, listed, count_of, list_of, optional, parts_by, tree_by, tree_at, least_whole}
-use Rattle.tv_stream.specs.Stands.{is_marked, AreCounted, IsCounted, HasNoParts, IsSound}
+use Rattle.tv_stream.specs.Trees.{Marked, listed, count_of, list_of, optional, parts_by, tree_by, least_whole}
+use Rattle.tv_stream.specs.Stands.{is_marked, AreCounted, IsCounted, HasNoParts}
 use Rattle.tv_stream.specs.Inside.{counts_with, counts_whole, counts_of, has_index}
-use Rattle.tv_stream.proofs.Listed.{cover, cover-max, cover-less, listed-same, part-listed, count-listed, with-listed, holds-with, stepped}
+use Rattle.tv_stream.proofs.Listed.{cover, cover-max, cover-less, part-listed, count-listed, with-listed, holds-with, stepped}
 
 pub bool-clash : (b : Bool) → b ≡ true → b ≡ false → ⊥
 bool-clash true h k = absurd (cc)
@@ -79,6 +79,9 @@ more-few c i w small counted few = by c.length counted few
     by None counted few = both c.most few
     by (Some n) counted few = few
 
+no-last : (j : ℕ) → 0 ≡ suc j → ⊥
+no-last j h = omega arith
+
 module _ {T : Type 0} where
   pub length-has : (w : Part T) (i : ℕ) → has_index w i ≡ true → LengthHas (counts_of w) i
   length-has Wanting i h n is = absurd (cc)
@@ -114,6 +117,7 @@ module _ {T : Type 0} where
       counted = omega arith;
       few = omega arith;
       within = λ j t e. absurd (some-none m s k.1 j t e);
+      last = λ j e. absurd (no-last j e);
       sound = λ j t e. absurd (some-none m s k.1 j t e);
     };
     steps = λ t. refl;
@@ -172,8 +176,8 @@ module _ {T : Type 0} where
         ∙ sym (holds-with is_marked mark new ps i (marks ∙ ap (λ t. holds_some is_marked t || mark) (sym old-part)))
         ∙ sym (ap (some_holds is_marked) parts-with)
 
-    pub counted-with : ((j t : ℕ) → part_in m' s j ≡ Some t → (j ≡ i → ⊥) → part_in m s j ≡ Some t) → ((j t : ℕ) → part_in m' s j ≡ Some t → Q t) → AreCounted Q g m' s (marked || mark) d
-    counted-with old sounds = record {
+    pub counted-with : new ≢ wanting → ((j t : ℕ) → part_in m' s j ≡ Some t → (j ≡ i → ⊥) → part_in m s j ≡ Some t) → ((j t : ℕ) → part_in m' s j ≡ Some t → Q t) → AreCounted Q g m' s (marked || mark) d
+    counted-with there old sounds = record {
       whole = whole-with;
       marks = marks-with;
       counted = more-counted c i (whole new) has h.counted;
@@ -182,9 +186,16 @@ module _ {T : Type 0} where
         | inl same ↦ at_index j i c.most same
         | inr ne ↦ below j c.most (i + 1) (h.within j t (old j t e ne))
       ];
+      last = λ j e. elim (cases_eq j i) [
+        | inl same ↦ subst (λ k. optional g (part_in m' s k) ≢ wanting) (sym same) (λ w. there (sym here ∙ w))
+        | inr ne ↦ λ w. h.last j (last_before j i c.most ne e) (sym (others j ne) ∙ w)
+      ];
       sound = sounds;
     }
       where
+        last_before : (j i a : ℕ) → j ≢ i → max a (i + 1) ≡ suc j → a ≡ suc j
+        last_before j i a ne h = omega arith
+
         at_index : (j i a : ℕ) → j ≡ i → j < max a (i + 1)
         at_index j i a h = omega arith
 

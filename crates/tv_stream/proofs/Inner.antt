@@ -1,10 +1,9 @@
 -- A change inside a part, and then the node, as one change of the node.
-use Rattle.std.proofs.Common.{◌≡◌, ◌≢◌, ℕ, zero, suc, ◌+◌, ◌<◌, ◌≤◌, ◌^◌, ◌==◌, arith, length, Bool, true, false, ◌||◌, if◌then◌else◌, List, [], ◌∷◌, ◌++◌, refl, sym, ap, ◌∙◌, subst, Option, Some, None, ◌⊎◌, inl, inr}
+use Rattle.std.proofs.Common.{◌≡◌, ℕ, zero, suc, ◌+◌, ◌<◌, ◌≤◌, ◌^◌, ◌==◌, arith, length, Bool, true, false, if◌then◌else◌, List, [], ◌∷◌, refl, sym, ap, ◌∙◌, subst, Option, Some, None}
 use Rattle.std.specs.Option.{option_map}
 use Rattle.std.proofs.lemmas.Bool.{ne_eqb}
-use Rattle.std.proofs.lemmas.Option.{same_Some}
-use Rattle.tv_parts.specs.Partials.{Partial, wanting, item, growing, closed, Parts, no_parts, part, part_count, part_at, part_of, whole, whole_count, one_if, known_at}
-use Rattle.tv_parts.specs.Changes.{with_part, arrive, close_at, is_place, CanArrive, CanClose}
+use Rattle.tv_parts.specs.Partials.{Partial, Parts, no_parts, part, part_count, part_at, whole, whole_count, one_if}
+use Rattle.tv_parts.specs.Changes.{with_part, arrive, close_at, CanArrive, CanClose}
 use Rattle.tv_parts.proofs.Changes.{arrive-not_whole, close-not_whole}
 use Rattle.tv_parts.proofs.Wholeness.{count-with}
 use Rattle.tv_nodes.specs.declared.nodes.Entry.{Entry}
@@ -12,14 +11,13 @@ use Rattle.tv_nodes.specs.Nodes.{part_in, body_in}
 use Rattle.tv_nodes.specs.Stands.{Spot, AreNodes}
 use Rattle.tv_nodes.specs.Calls.{Sets}
 use Rattle.tv_stream.specs.declared.held.Held.{Held}
-use Rattle.tv_stream.specs.declared.held.Part.{Part}
 use Rattle.tv_stream.specs.declared.held.Counts.{Counts}
 use Rattle.tv_stream.specs.Trees.{Marked, count_of, list_of, optional, parts_by, tree_by, tree_at, least_whole}
-use Rattle.tv_stream.specs.Stands.{IsSound, IsCounted}
+use Rattle.tv_stream.specs.Stands.{IsSound}
 use Rattle.tv_stream.specs.Inside.{counts_with, counts_whole, counts_of, has_index, noted, is_zero, outer_least, InTree, Parted, Changed, ArrivesIn, ClosesIn}
-use Rattle.tv_stream.proofs.Listed.{stepped, arrive-step, close-step, cover, cover-less, count-listed, part-listed}
-use Rattle.tv_stream.proofs.Same.{tree-suc, sound-suc}
-use Rattle.tv_stream.proofs.Counting.{length-has, ListLike, list-like, part-with, whole-list, list-part, beyond}
+use Rattle.tv_stream.proofs.Listed.{stepped, arrive-step, close-step, cover, cover-less, count-listed}
+use Rattle.tv_stream.proofs.Same.{tree-suc}
+use Rattle.tv_stream.proofs.Counting.{length-has, ListLike, list-like, part-with, whole-list, list-part}
 use Rattle.tv_stream.proofs.Steps.{part-in-tree, part-known, part-tree-is, body-after, node-after, known-after, step}
 use Rattle.tv_stream.proofs.Bases.{changed-least, counted-as}
 use Rattle.tv_stream.proofs.Places.{arrive-can, close-can}

@@ -8,3 +8,5 @@ pub mod Inner
 pub mod Ways
 pub mod Looks
 pub mod Calls
+pub mod Others
+pub mod Mapped

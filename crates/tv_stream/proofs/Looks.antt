@@ -1,33 +1,32 @@
 -- What a walk to a place finds, and what a change there would make whole.
-use Rattle.std.proofs.Common.{◌≡◌, ◌≢◌, ℕ, zero, suc, ◌+◌, ◌<◌, ◌≤◌, ◌^◌, ◌==◌, nat_lt, arith, length, drop, get_or, Bool, true, false, ◌&&◌, if◌then◌else◌, List, [], ◌∷◌, refl, sym, ap, ◌∙◌, subst, Option, Some, None, ◌⊎◌, inl, inr}
+use Rattle.std.proofs.Common.{◌≡◌, ℕ, zero, suc, ◌<◌, ◌≤◌, ◌^◌, ◌==◌, arith, length, Bool, true, false, if◌then◌else◌, List, [], ◌∷◌, refl, sym, ap, ◌∙◌, subst, Option, Some, None}
 use Rattle.std.specs.Option.{option_map}
 use Rattle.std.proofs.lemmas.Bool.{ne_eqb}
 use Rattle.std.proofs.lemmas.Option.{same_Some}
-use Rattle.tv_parts.specs.Partials.{Partial, wanting, item, growing, closed, Parts, no_parts, part, part_at, part_of, part_count, known_at, whole, all_whole, holds_some, some_holds}
-use Rattle.tv_parts.specs.Changes.{with_part, filled, arrive, close_at, CanArrive, CanClose}
+use Rattle.tv_parts.specs.Partials.{Partial, wanting, Parts, no_parts, part_at, whole, all_whole, holds_some}
+use Rattle.tv_parts.specs.Changes.{filled, arrive, close_at, CanArrive, CanClose}
 use Rattle.tv_parts.proofs.Changes.{arrive-not_whole, close-not_whole}
 use Rattle.tv_nodes.specs.declared.nodes.Entry.{Entry}
 use Rattle.tv_nodes.specs.Nodes.{part_in, body_in}
-use Rattle.tv_nodes.specs.Stands.{Spot, AreNodes}
+use Rattle.tv_nodes.specs.Stands.{Spot}
 use Rattle.tv_nodes.proofs.Ways.{part-spot}
 use Rattle.tv_stream.specs.declared.held.Held.{Held}
 use Rattle.tv_stream.specs.declared.held.Part.{Part}
 use Rattle.tv_stream.specs.declared.held.Counts.{Counts}
 use Rattle.tv_stream.specs.declared.held.Part.TheVariants.{Wanting, Item, Numbered}
-use Rattle.tv_stream.specs.declared.held.PartKind.{PartKind}
 use Rattle.tv_stream.specs.declared.held.PartKind.TheVariants.{Wanting as WantingKind, Growing as GrowingKind, Closed as ClosedKind, Item as ItemKind}
-use Rattle.tv_stream.specs.Trees.{Marked, listed, count_of, list_of, optional, parts_by, tree_by, tree_at, memory_of, tree_of, least_whole}
+use Rattle.tv_stream.specs.Trees.{Marked, count_of, list_of, optional, parts_by, tree_by, tree_at, memory_of, tree_of, least_whole}
 use Rattle.tv_pool.specs.Pool.{Pool, slot_of}
 use Rattle.tv_stream.specs.declared.partial.Partial.{Partial as Handle}
-use Rattle.tv_stream.specs.Stands.{StandsOn, is_marked, AreCounted, IsCounted, IsLeaf, HasNoParts, IsSound}
+use Rattle.tv_stream.specs.Stands.{StandsOn, is_marked, IsCounted, IsLeaf, HasNoParts, IsSound}
 use Rattle.tv_stream.specs.Answers.{kind_of, item_of}
 use Rattle.tv_stream.specs.Inside.{counts_of, counts_with, counts_whole, has_index, held_kind, held_whole, is_zero, outer_least, InTree, IsAt}
 use Rattle.tv_stream.proofs.Listed.{count-listed, arrive-step, close-step}
-use Rattle.tv_stream.proofs.Same.{tree-suc, tree-zero, sound-suc, sound-zero, part-tree}
+use Rattle.tv_stream.proofs.Same.{tree-suc, tree-zero, sound-zero, part-tree}
 use Rattle.tv_stream.proofs.Counting.{some-clash, whole-as, list-holds, part-with}
 use Rattle.tv_stream.proofs.Steps.{part-sound}
 use Rattle.tv_stream.proofs.Bases.{body-tree, counted-as}
-use Rattle.tv_stream.proofs.Places.{known-wanting, can-arrive, can-close}
+use Rattle.tv_stream.proofs.Places.{can-arrive, can-close}
 use Rattle.tv_stream.proofs.Inner.{least-stepped}
 use Rattle.tv_stream.proofs.Ways.{whole-small, tall-place, no-tall}
 

@@ -1,6 +1,6 @@
 -- Where a change can be, and where it can't, step by step.
-use Rattle.std.proofs.Common.{◌≡◌, ◌≢◌, ℕ, zero, suc, ◌+◌, ◌<◌, ◌≤◌, nat_lt, arith, Bool, true, false, if◌then◌else◌, List, [], ◌∷◌, refl, sym, ap, ◌∙◌, subst, Option, Some, None, lt-ltb, ltb-true}
-use Rattle.tv_parts.specs.Partials.{Partial, wanting, item, growing, closed, Parts, part_count, part_of, part_at, known_at}
+use Rattle.std.proofs.Common.{◌≡◌, ℕ, ◌<◌, nat_lt, Bool, true, false, if◌then◌else◌, List, [], ◌∷◌, refl, sym, ap, ◌∙◌, subst, Option, Some, None, lt-ltb, ltb-true}
+use Rattle.tv_parts.specs.Partials.{Partial, wanting, part_count, part_of, part_at, known_at}
 use Rattle.tv_parts.specs.Changes.{is_place, CanArrive, CanClose}
 use Rattle.tv_nodes.specs.declared.nodes.Entry.{Entry}
 use Rattle.tv_nodes.specs.Nodes.{part_in}
@@ -8,8 +8,8 @@ use Rattle.tv_stream.specs.declared.held.Held.{Held}
 use Rattle.tv_stream.specs.declared.held.Part.{Part}
 use Rattle.tv_stream.specs.declared.held.Counts.{Counts}
 use Rattle.tv_stream.specs.declared.held.Part.TheVariants.{Wanting, Item, Numbered}
-use Rattle.tv_stream.specs.Trees.{Marked, listed, count_of, list_of, optional, parts_by, tree_by}
-use Rattle.tv_stream.specs.Inside.{counts_of, has_index}
+use Rattle.tv_stream.specs.Trees.{Marked, count_of, list_of, optional, parts_by, tree_by}
+use Rattle.tv_stream.specs.Inside.{has_index}
 use Rattle.tv_stream.proofs.Listed.{count-listed}
 
 pub place-wanting : (A : Type 0) (q : List ℕ) → is_place {A = A} q wanting ≡ true

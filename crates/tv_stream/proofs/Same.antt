@@ -1,7 +1,7 @@
 -- A tree stays as it is where its nodes do.
-use Rattle.std.proofs.Common.{◌≡◌, ◌≢◌, ℕ, zero, suc, ◌+◌, ◌<◌, ◌≤◌, arith, Bool, true, false, List, [], ◌∷◌, ◌++◌, refl, sym, ap, ◌∙◌, subst, Option, Some, None, ◌⊎◌, inl, inr, append_assoc}
+use Rattle.std.proofs.Common.{◌≡◌, ℕ, zero, suc, ◌<◌, ◌≤◌, arith, Bool, List, [], ◌∷◌, ◌++◌, refl, sym, ap, ◌∙◌, Option, Some, None, append_assoc}
 use Rattle.std.proofs.lemmas.List.{append-nil}
-use Rattle.tv_parts.specs.Partials.{Partial, wanting, item, growing, closed, Parts, no_parts, part, part_of, part_at, whole_count, some_holds}
+use Rattle.tv_parts.specs.Partials.{Partial, wanting, Parts, part_of, part_at, whole_count, some_holds}
 use Rattle.tv_nodes.specs.declared.nodes.Entry.{Entry}
 use Rattle.tv_nodes.specs.Nodes.{part_in, body_in}
 use Rattle.tv_nodes.specs.Stands.{Spot, AreNodes}
@@ -10,7 +10,7 @@ use Rattle.tv_stream.specs.declared.held.Held.{Held}
 use Rattle.tv_stream.specs.declared.held.Part.{Part}
 use Rattle.tv_stream.specs.declared.held.Counts.{Counts}
 use Rattle.tv_stream.specs.declared.held.Part.TheVariants.{Wanting, Item, Numbered}
-use Rattle.tv_stream.specs.Trees.{Marked, listed, count_of, list_of, optional, parts_by, tree_by, held_tree, tree_at}
+use Rattle.tv_stream.specs.Trees.{Marked, count_of, list_of, optional, parts_by, tree_by, held_tree, tree_at}
 use Rattle.tv_stream.specs.Stands.{is_marked, AreCounted, IsCounted, HasNoParts, IsLeaf, IsSound}
 use Rattle.tv_stream.proofs.Listed.{listed-same, part-listed}
 
@@ -49,6 +49,7 @@ module _ {T : Type 0} where
         counted = h.counted;
         few = h.few;
         within = λ i t e. h.within i t (sym (parts i) ∙ e);
+        last = λ i e w. h.last i e (sym (trees i) ∙ w);
         sound = λ i t e. sounds i t (sym (parts i) ∙ e) (h.sound i t (sym (parts i) ∙ e));
       }
 

@@ -1,10 +1,10 @@
 -- A change of a part is a change of the node, once the node has counted it.
-use Rattle.std.proofs.Common.{◌≡◌, ◌≢◌, ℕ, zero, suc, ◌+◌, ◌<◌, ◌≤◌, ◌^◌, ◌==◌, arith, Bool, true, false, ◌||◌, if◌then◌else◌, List, [], ◌∷◌, ◌++◌, refl, sym, ap, ◌∙◌, subst, Option, Some, None, ◌⊎◌, inl, inr, append_assoc}
+use Rattle.std.proofs.Common.{◌≡◌, ◌≢◌, ℕ, zero, suc, ◌<◌, ◌^◌, Bool, true, false, ◌||◌, if◌then◌else◌, List, [], ◌∷◌, ◌++◌, refl, sym, ap, ◌∙◌, subst, Option, Some, None, ◌⊎◌, inl, inr, append_assoc}
 use Rattle.std.specs.Option.{option_map}
 use Rattle.std.proofs.lemmas.Bool.{cases_eq}
 use Rattle.std.proofs.lemmas.List.{append-nil, append_cancel_left}
 use Rattle.std.proofs.lemmas.Option.{same_Some}
-use Rattle.tv_parts.specs.Partials.{Partial, wanting, part_at, part_of, whole, holds_some, some_holds}
+use Rattle.tv_parts.specs.Partials.{Partial, Parts, wanting, part_at, whole, holds_some}
 use Rattle.tv_parts.specs.Changes.{with_part}
 use Rattle.tv_nodes.specs.declared.nodes.Entry.{Entry}
 use Rattle.tv_nodes.specs.Nodes.{part_in, body_in}
@@ -15,12 +15,12 @@ use Rattle.tv_stream.specs.declared.held.Held.{Held}
 use Rattle.tv_stream.specs.declared.held.Part.{Part}
 use Rattle.tv_stream.specs.declared.held.Counts.{Counts}
 use Rattle.tv_stream.specs.declared.held.Part.TheVariants.{Wanting, Item, Numbered}
-use Rattle.tv_stream.specs.Trees.{Marked, count_of, list_of, optional, parts_by, tree_by, tree_at, least_whole}
-use Rattle.tv_stream.specs.Stands.{is_marked, AreCounted, IsCounted, HasNoParts, IsSound}
+use Rattle.tv_stream.specs.Trees.{Marked, count_of, list_of, optional, parts_by, tree_at, least_whole}
+use Rattle.tv_stream.specs.Stands.{is_marked, IsCounted, IsSound}
 use Rattle.tv_stream.specs.Inside.{counts_with, counts_whole, counts_of, has_index, nothing, noted, InTree, Below, Parted, Changes, Changed}
-use Rattle.tv_stream.proofs.Listed.{stepped, holds-with, part-listed}
+use Rattle.tv_stream.proofs.Listed.{stepped, holds-with}
 use Rattle.tv_stream.proofs.Same.{Agrees, same-tree, same-sound, tree-suc, tree-zero, sound-suc, sound-from, sound-leaf, part-tree}
-use Rattle.tv_stream.proofs.Counting.{some-clash, length-has, ListLike, list-like, list-holds, parts-with, tree-with, counted-with, least-with}
+use Rattle.tv_stream.proofs.Counting.{some-clash, length-has, ListLike, list-like, list-holds, tree-with, counted-with, least-with}
 
 nil-cons : (i : ℕ) (y : List ℕ) → [] ≡ i ∷ y → ⊥
 nil-cons i y h = cc
@@ -36,6 +36,10 @@ pub same-part : (r : List ℕ) (j i : ℕ) (y z : List ℕ) → (r ++ j ∷ []) 
 same-part r j i y z h = same-head j i y z (append_cancel_left r (j ∷ y) (i ∷ z) (sym (append_assoc r (j ∷ []) y) ∙ h ∙ append_assoc r (i ∷ []) z))
 
 module _ {T : Type 0} where
+  list-there : (o : Option ℕ) (ps : Parts (Marked T)) → list_of o ps ≢ wanting
+  list-there None ps h = cc
+  list-there (Some n) ps h = cc
+
   -- a part of a sound node is sound
   pub part-sound : (h : ℕ) (m : ℕ → Option (Entry (Held T))) (s i t : ℕ) → IsSound (suc h) m s → part_in m s i ≡ Some t → IsSound h m t
   part-sound h m s i t sound found = let b = sound-suc h m s sound in by b.0.marked b.0.part b.2
@@ -193,7 +197,7 @@ module _ {T : Type 0} where
         stepped-is = ap (stepped new i) (tree-suc h m s b body) ∙ like.steps new
 
         sound-after : IsSound (suc h) m3 s
-        sound-after = sound-from h m3 s (noted b i (whole new) mark) sets.body (counted-with (IsSound h m) (IsSound h m3) (tree_at h m) (tree_at h m3) m m3 s i b.marked c like.counts (length-has b.part i has) small new mark here there open_part part-marks (λ j u e ne. sym (part-there j ne) ∙ e) sounds)
+        sound-after = sound-from h m3 s (noted b i (whole new) mark) sets.body (counted-with (IsSound h m) (IsSound h m3) (tree_at h m) (tree_at h m3) m m3 s i b.marked c like.counts (length-has b.part i has) small new mark here there open_part part-marks changed.there (λ j u e ne. sym (part-there j ne) ∙ e) sounds)
 
         step-changes : Changes m m3 spots s p (suc h)
         step-changes = record {
@@ -229,6 +233,7 @@ module _ {T : Type 0} where
         step open_before = record {
           changes = step-changes;
           tree_is = tree-after ∙ sym stepped-is;
+          there = λ w. list-there c.length (with_part new (parts_by (tree_at h m) m s (count_of c)) i) (sym stepped-is ∙ w);
           open_before = open_before;
           marks =
               ap (holds_some is_marked) stepped-is

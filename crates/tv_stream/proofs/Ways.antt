@@ -1,5 +1,5 @@
 -- The way to a part and back, as the calls go it.
-use Rattle.std.proofs.Common.{◌≡◌, ◌≢◌, ℕ, zero, suc, ◌+◌, ◌<◌, ◌≤◌, ◌^◌, ◌==◌, arith, length, Bool, true, false, List, [], ◌∷◌, refl, sym, ap, ◌∙◌, subst, Option, Some, None, ◌⊎◌, inl, inr, get_or}
+use Rattle.std.proofs.Common.{◌≡◌, ℕ, zero, suc, ◌<◌, ◌≤◌, ◌^◌, arith, length, true, false, List, [], ◌∷◌, refl, sym, ap, ◌∙◌, subst, Option, Some, None, ◌⊎◌, inl, inr, get_or}
 use Rattle.tv_pool.specs.Pool.{Pool, item_in}
 use Rattle.tv_parts.specs.Partials.{Partial, wanting, item, growing, closed, Parts, part_at, known_at, whole_count, part_count}
 use Rattle.tv_parts.specs.Changes.{is_place, CanArrive, CanClose}
@@ -8,21 +8,19 @@ use Rattle.tv_nodes.specs.declared.nodes.Entry.{Entry}
 use Rattle.tv_nodes.specs.Nodes.{part_in, body_in}
 use Rattle.tv_nodes.specs.Stands.{Spot, AreNodes, IsNode}
 use Rattle.tv_stream.specs.declared.held.Held.{Held}
-use Rattle.tv_stream.specs.declared.held.Part.{Part}
 use Rattle.tv_stream.specs.declared.refusals.ArriveRefused.{ArriveRefused}
 use Rattle.tv_stream.specs.declared.refusals.ArriveRefused.TheVariants.{NoSuchPlace, Occupied, NoMemory}
 use Rattle.tv_stream.specs.declared.refusals.CloseRefused.{CloseRefused}
 use Rattle.tv_stream.specs.declared.refusals.CloseRefused.TheVariants.{NoSuchPlace as NoPlaceToClose, AlreadyClosed, WrongLength, NoMemory as NoMemoryToClose}
 use Rattle.tv_stream.specs.Trees.{Marked, count_of, optional, parts_by, tree_by, tree_at}
 use Rattle.tv_stream.specs.Stands.{IsSound}
-use Rattle.tv_stream.specs.Answers.{IsItem}
 use Rattle.tv_stream.specs.Inside.{counts_of, has_index, InTree, Parted, ArrivesIn, ClosesIn, RefusesArrivalIn, RefusesCloseIn}
 use Rattle.tv_stream.proofs.Listed.{count-listed}
 use Rattle.tv_stream.proofs.Same.{tree-suc, part-tree}
 use Rattle.tv_stream.proofs.Counting.{list-like}
-use Rattle.tv_stream.proofs.Steps.{part-in-tree, part-known, part-tree-is, body-after, node-after, known-after}
+use Rattle.tv_stream.proofs.Steps.{part-in-tree, part-tree-is, body-after, node-after, known-after}
 use Rattle.tv_stream.proofs.Bases.{counted-as}
-use Rattle.tv_stream.proofs.Places.{place-wanting, known-wanting, place-step, place-none, arrive-can, close-can}
+use Rattle.tv_stream.proofs.Places.{place-wanting, known-wanting, place-step, arrive-can, close-can}
 
 no-less : (n : ℕ) → suc n ≤ 0 → ⊥
 no-less n h = omega arith
@@ -171,7 +169,7 @@ module _ {T : Type 0} where
       pub refuse-close : (spare n : ℕ) (e : CloseRefused) → RefusesCloseIn spare q n inner_tree e → RefusesCloseIn spare (i ∷ q) n tree e
       refuse-close spare n NoPlaceToClose r = λ k. let x = r (sym place-is ∙ k) in (x.0, known-is ∙ x.1)
       refuse-close spare n AlreadyClosed r = (place-is ∙ r.0, (r.1.0, known-is ∙ r.1.1))
-      refuse-close spare n (WrongLength asked needed) r = (place-is ∙ r.0, (r.1.0, known-is ∙ r.1.1, r.1.2), r.2, r.3)
+      refuse-close spare n (WrongLength asked needed) r = (place-is ∙ r.0, (r.1.0, known-is ∙ r.1.1, r.1.2, r.1.3), r.2, r.3)
       refuse-close spare n NoMemoryToClose r = (close-is n r.0, more spare (length q) r.1)
 
       -- where the part is new, nothing is known of it

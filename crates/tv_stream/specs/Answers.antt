@@ -1,6 +1,6 @@
 -- What the calls of a partial tree answer, and when each refusal comes.
-use Rattle.std.specs.Prelude.{◌≡◌, ◌≢◌, ℕ, ◌<◌, ◌≤◌, Bool, true, List, length, Option, Some, None}
-use Rattle.tv_parts.specs.Partials.{Partial, wanting, item, growing, closed, Parts, part_count, known_at}
+use Rattle.std.specs.Prelude.{◌≡◌, ◌≢◌, ℕ, suc, ◌<◌, ◌≤◌, Bool, true, List, length, Option, Some, None}
+use Rattle.tv_parts.specs.Partials.{Partial, wanting, item, growing, closed, Parts, part_count, part_of, known_at}
 use Rattle.tv_parts.specs.Changes.{is_place, CanArrive, CanClose}
 use Rattle.tv_stream.specs.declared.held.PartKind.{PartKind}
 use Rattle.tv_stream.specs.declared.held.PartKind.TheVariants.{Wanting, Growing, Closed, Item}
@@ -46,8 +46,12 @@ module _ {T : Type 0} where
     pub there : is_place q r ≡ true
     pub no_item : IsItem (known_at q r) → ⊥
 
+  -- of the last part something is known
+  abbrev pub LastIsKnown : Parts (Marked T) → Type 0
+  LastIsKnown ps = (i : ℕ) → part_count ps ≡ suc i → part_of ps i ≢ wanting
+
   abbrev pub RefusesClose : ℕ → ℕ → List ℕ → ℕ → Partial (Marked T) → CloseRefused → Type 0
   RefusesClose spare depth q n r NoPlaceToClose = IsListPlace depth q r → ⊥
   RefusesClose spare depth q n r AlreadyClosed = IsListPlace depth q r × ((ps : Parts (Marked T)) × (known_at q r ≡ closed ps))
-  RefusesClose spare depth q n r (WrongLength asked needed) = IsListPlace depth q r × ((ps : Parts (Marked T)) × (known_at q r ≡ growing ps) × (needed ≡ part_count ps)) × (asked ≡ n) × (n < needed)
+  RefusesClose spare depth q n r (WrongLength asked needed) = IsListPlace depth q r × ((ps : Parts (Marked T)) × (known_at q r ≡ growing ps) × (needed ≡ part_count ps) × LastIsKnown ps) × (asked ≡ n) × (n < needed)
   RefusesClose spare depth q n r NoMemoryToClose = IsListPlace depth q r × CanClose q n r × (spare ≤ depth)

@@ -1,5 +1,5 @@
 -- What the steps of a change do, from a node of a tree on. No public clause cites this module.
-use Rattle.std.specs.Prelude.{◌≡◌, ◌≢◌, ℕ, suc, ◌+◌, ◌≤◌, ◌<◌, ◌^◌, ◌==◌, nat_lt, max, Bool, true, false, ◌||◌, if◌then◌else◌, List, [], ◌∷◌, ◌++◌, length, Option, Some, None, ◌⊎◌}
+use Rattle.std.specs.Prelude.{◌≡◌, ◌≢◌, ℕ, suc, ◌+◌, ◌≤◌, ◌<◌, ◌==◌, nat_lt, max, Bool, true, false, ◌||◌, if◌then◌else◌, List, ◌++◌, length, Option, Some, None, ◌⊎◌}
 use Rattle.std.specs.Option.{option_map}
 use Rattle.tv_parts.specs.Partials.{Partial, wanting, growing, closed, Parts, part_count, known_at, whole, one_if, holds_some}
 use Rattle.tv_parts.specs.Changes.{is_place, arrive, close_at, CanArrive, CanClose}
@@ -18,7 +18,7 @@ use Rattle.tv_stream.specs.declared.refusals.CloseRefused.{CloseRefused}
 use Rattle.tv_stream.specs.declared.refusals.CloseRefused.TheVariants.{NoSuchPlace as NoPlaceToClose, AlreadyClosed, WrongLength, NoMemory as NoMemoryToClose}
 use Rattle.tv_stream.specs.Trees.{Marked, tree_at, least_whole}
 use Rattle.tv_stream.specs.Stands.{is_marked, IsSound}
-use Rattle.tv_stream.specs.Answers.{IsItem}
+use Rattle.tv_stream.specs.Answers.{IsItem, LastIsKnown}
 
 -- ---- what a node holds
 
@@ -119,6 +119,7 @@ module _ {T : Type 0} where
   pub record Changed (m m' : ℕ → Option (Entry (Held T))) (spots : ℕ → Option Spot) (s : ℕ) (p : Spot) (height : ℕ) (q : List ℕ) (marked : Bool) (tree : Partial (Marked T)) (least : Option ℕ) : Type 0 where
     pub changes : Changes m m' spots s p height
     pub tree_is : tree_at height m' s ≡ tree
+    pub there : tree ≢ wanting
     pub open_before : whole (tree_at height m s) ≡ false
     pub marks : holds_some is_marked tree ≡ (holds_some is_marked (tree_at height m s) || marked)
     pub least_is : least_whole q tree ≡ least
@@ -140,5 +141,5 @@ module _ {T : Type 0} where
   abbrev pub RefusesCloseIn : ℕ → List ℕ → ℕ → Partial (Marked T) → CloseRefused → Type 0
   RefusesCloseIn spare q n r NoPlaceToClose = is_place q r ≡ true → IsItem (known_at q r)
   RefusesCloseIn spare q n r AlreadyClosed = (is_place q r ≡ true) × ((ps : Parts (Marked T)) × (known_at q r ≡ closed ps))
-  RefusesCloseIn spare q n r (WrongLength asked needed) = (is_place q r ≡ true) × ((ps : Parts (Marked T)) × (known_at q r ≡ growing ps) × (needed ≡ part_count ps)) × (asked ≡ n) × (n < needed)
+  RefusesCloseIn spare q n r (WrongLength asked needed) = (is_place q r ≡ true) × ((ps : Parts (Marked T)) × (known_at q r ≡ growing ps) × (needed ≡ part_count ps) × LastIsKnown ps) × (asked ≡ n) × (n < needed)
   RefusesCloseIn spare q n r NoMemoryToClose = CanClose q n r × (spare < length q)

@@ -1,4 +1,5 @@
 pub mod Trees
 pub mod Stands
+pub mod Mapped
 pub mod Answers
 pub mod Inside

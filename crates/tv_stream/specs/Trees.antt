@@ -1,5 +1,5 @@
 -- The partial tree that stands in the memory of a pool: each node has a body, and parts that are found by their indices.
-use Rattle.std.specs.Prelude.{ℕ, zero, suc, Bool, ◌==◌, if◌then◌else◌, List, [], ◌∷◌, Option, Some, None}
+use Rattle.std.specs.Prelude.{ℕ, zero, suc, Bool, if◌then◌else◌, List, [], ◌∷◌, Option, Some, None}
 use Rattle.std.specs.Option.{option_map}
 use Rattle.tv_parts.specs.Partials.{Partial, wanting, item, growing, closed, Parts, no_parts, part, part_at, whole}
 use Rattle.tv_pool.specs.Pool.{Pool, item_in, region_of, slot_of}

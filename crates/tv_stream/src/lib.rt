@@ -4,15 +4,22 @@
 //! tree tells what is known at a place, whether all is, and whether a marked item (a fault, say) stands there or inside.
 //!
 //! **What it promises.** A contract sees of a tree and its pool a partial tree of `tv_parts` (`specs/Trees.antt`, `tree_of`).
-//! `arrive` and `close` make of it exactly `arrive` and `close_at` of that crate, and `kind_at`, `item_at`, `part_at`, `whole_at`
-//! and `marked_at` answer exactly what is known there. So the laws of `tv_parts` hold: what was known stays, a tree below a
-//! value stays below it, and a whole one is the value. A refusal comes exactly by the tree, in the order in which the types of
-//! refusals list them (`specs/Answers.antt`); it changes nothing, and gives the item back. Neither call is refused for want of
-//! memory where the pool's `spare` is greater than the depth. Each call answers the least prefix of its place that is whole by
-//! it, and `whole_by_arrival` and `whole_by_close` answer the same before the call.
+//! `arrive` and `close` make of it exactly `arrive` and `close_at` of that crate, and `kind_at`, `item_at`, `part_at`,
+//! `whole_at` and `marked_at` answer exactly what is known there. A refusal comes exactly by the tree, in the order in which
+//! the types of refusals list them (`specs/Answers.antt`); it changes nothing, and gives the item back. Neither call is
+//! refused for want of memory where the pool's `spare` is greater than the depth. Each call answers the least prefix of its
+//! place that is whole after it, and `whole_by_arrival` and `whole_by_close` answer the same before the call.
+//!
+//! **What follows** (`laws`, stated in `specs/Mapped.antt`). What was known stays (`KnownStays`). No prefix of the place was
+//! whole before a call that isn't refused, so what it answers became whole by it (`NoneWasWhole`). Where items stand for
+//! values, by any function, a tree below a value stays below it when an item that stands for the value's part arrives, or a
+//! list is closed with its length there, and a whole one shows the value (`ItemsBuildValue`). `tv_parts` says so of trees
+//! whose items are values; with other items a tree changes alike, and the same of it is known, whole and possible
+//! (`ChangesAlike`, `IsAlike`, `CanChangeAlike`).
 //!
 //! **Other trees.** A tree stands on slots of its own, and goes on to stand on them and on slots in which nothing lay
-//! (`KeepsTrees` in `specs/Stands.antt`); what lies in all other slots of the region stays, and so do all other regions.
+//! (`KeepsTrees` in `specs/Stands.antt`); what lies in all other slots of the region stays, and so do all other regions. So a
+//! tree stays what it is while others start and grow, and while other regions are released (`laws`).
 //!
 //! **How it is laid out.** Each part is a node of `tv_nodes`. A list counts its whole parts, so each list becomes whole once,
 //! and nothing is walked from scratch. `proofs/Steps.antt` shows that a change of a part, once it is counted, is that change of
@@ -21,11 +28,15 @@
 //! - `partial`: the tree and its calls
 //! - `changes`: what changes a tree, from a node on
 //! - `held`: what a node holds, and its counts
+//! - `levels`: where marks are on the way to a place
 //! - `refusals`: why a call is refused
+//! - `laws`: what stays of other trees, and what holds of all trees that change
 #![tactic(auto)]
 
 mod changes;
 mod held;
+pub mod laws;
+mod levels;
 mod partial;
 mod refusals;
 #[cfg(test)]

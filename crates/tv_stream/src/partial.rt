@@ -1,5 +1,5 @@
 //! A partial tree, and its calls.
-ghost use Rattle.std.specs.Prelude.{◌≡◌, ◌≢◌, ℕ, ◌+◌, ◌≤◌, ◌<◌, Bool, false, Some, None, length, IfOk, IfErr, OnOk, OnErr, MatchOption};
+ghost use Rattle.std.specs.Prelude.{◌≡◌, ◌≢◌, ℕ, ◌+◌, ◌≤◌, ◌<◌, Bool, false, Some, None, length, nat_lt, take, IfOk, IfErr, OnOk, OnErr, MatchOption};
 ghost use Rattle.tv_pool.specs.Pool.{IsLive, lies_at, number_of};
 ghost use Rattle.tv_nodes.specs.Calls.{KeepsRegions};
 ghost use Rattle.tv_parts.specs.Partials.{wanting, known_at, whole as is_whole_tree, holds_some};
@@ -11,6 +11,7 @@ ghost use Rattle.tv_stream.specs.Answers.{marked_item, kind_of, item_of, Refuses
 
 use crate::changes::{arrive_in, close_in, whole_by_arrival_in, whole_by_close_in};
 use crate::held::{Held, Part, PartKind};
+use crate::levels::marked_in;
 use crate::refusals::{ArriveRefused, CloseRefused};
 use std::marker::PhantomData;
 use tv_nodes::{Entry, Stop, body, plant, seek};
@@ -58,6 +59,13 @@ impl<T> Partial<T> {
         }
     }
 
+    /// The greatest length of a place. The cost is constant.
+    pub fn depth(&self) -> u32
+        ensures { result ≡ self.now.depth }
+    {
+        self.depth
+    }
+
     /// An item arrives at a place, without a mark.
     ///
     /// The refusals come in the order of `ArriveRefused`; each gives the item back and changes nothing. Logarithmic in the
@@ -89,7 +97,8 @@ impl<T> Partial<T> {
         Ok(())
     }
 
-    /// An item arrives at a place, marked or not. Answers the least length of a prefix of the place at which all is known by it.
+    /// An item arrives at a place, marked or not. Answers the least length of a prefix of the place at which all is known by
+    /// it: after it, and not before (`NoneWasWhole`).
     ///
     /// All else is as with `arrive`.
     pub fn arrive_marked(
@@ -156,7 +165,7 @@ impl<T> Partial<T> {
     }
 
     /// The list at a place is closed with its length. Answers the least length of a prefix of the place at which all is known
-    /// by it, or None where parts of the list are still wanting.
+    /// by it, as `arrive_marked` does, or None where parts of the list are still wanting.
     ///
     /// All else is as with `close`.
     pub fn close_whole(
@@ -278,5 +287,31 @@ impl<T> Partial<T> {
             Some(node) => body(pool, node).marked,
             None => false,
         }
+    }
+
+    /// Whether the tree is whole. Takes no memory, and the cost is constant.
+    pub fn is_whole(&self, pool: &Pool<Slot<T>>) -> bool
+        requires stands { Stands pool.now self.now }
+        ensures { result ≡ is_whole_tree (tree_of pool.now self.now) }
+    {
+        body(pool, self.root.link()).is_whole()
+    }
+
+    /// Whether a marked item stands in the tree. Takes no memory, and the cost is constant.
+    pub fn is_marked(&self, pool: &Pool<Slot<T>>) -> bool
+        requires stands { Stands pool.now self.now }
+        ensures { result ≡ holds_some is_marked (tree_of pool.now self.now) }
+    {
+        body(pool, self.root.link()).marked
+    }
+
+    /// At how many prefixes of a place, from the empty one on, a marked item stands there or inside. Takes no memory.
+    /// Logarithmic in the known parts of each list on the way.
+    pub fn marked_levels(&self, pool: &Pool<Slot<T>>, place: &Place) -> usize
+        requires stands { Stands pool.now self.now }
+        ensures levels { (k : ℕ) → k ≤ length place.now → nat_lt k result ≡ holds_some is_marked (known_at (take k place.now) (tree_of pool.now self.now)) }
+        ensures most { result ≤ length place.now + 1 }
+    {
+        marked_in(pool, self.root.link(), place.as_slice())
     }
 }

@@ -16,7 +16,8 @@ enum Event {
     Close(u32),
 }
 
-/// What came of it: the least length of a prefix that is whole by it, or the refusal.
+/// What came of it: the least length of a prefix that is whole by it, or the refusal. An item that is refused is given back:
+/// where it isn't the one that was passed, that is what came of it.
 #[derive(Clone, Copy, Debug, PartialEq, Eq)]
 enum Came {
     Whole(Option<u32>),
@@ -24,9 +25,19 @@ enum Came {
     Taken,
     Short(u32, u64),
     NoMemory,
+    AnotherItem(u64),
 }
 
-// Does it, and says what came of it. An item that is refused is the one that was passed.
+// An item was refused, and this one was given back.
+fn refused(came: Came, item: u64, back: u64) -> Came {
+    if back == item {
+        came
+    } else {
+        Came::AnotherItem(back)
+    }
+}
+
+// Does it, and says what came of it.
 fn done(
     alloc: Global,
     pool: &mut Pool<Slot<u64>>,
@@ -46,9 +57,9 @@ fn done(
     Ok(match event {
         Event::Arrive(item) => match tree.arrive_marked(pool, region, &place, item, item == 9) {
             Ok(least) => Came::Whole(Some(least)),
-            Err(ArriveRefused::NoSuchPlace(_)) => Came::NoPlace,
-            Err(ArriveRefused::Occupied(_)) => Came::Taken,
-            Err(ArriveRefused::NoMemory(_)) => Came::NoMemory,
+            Err(ArriveRefused::NoSuchPlace(back)) => refused(Came::NoPlace, item, back),
+            Err(ArriveRefused::Occupied(back)) => refused(Came::Taken, item, back),
+            Err(ArriveRefused::NoMemory(back)) => refused(Came::NoMemory, item, back),
         },
         Event::Close(length) => match tree.close_whole(pool, region, &place, length) {
             Ok(least) => Came::Whole(least),
@@ -190,4 +201,22 @@ fn what_is_known(rt: HostRuntime) -> Result<(), Fail> {
             (&[1, 1], PartKind::Wanting, None, false, false),
         ],
     )
+}
+
+// The calls that answer no more than that they are done, and those that say before what they will answer.
+#[test]
+fn plain_calls(rt: HostRuntime) -> Result<(), Fail> {
+    let alloc = rt.alloc();
+    let mut pool = Pool::new(alloc);
+    let region = pool.begin()?;
+    let mut tree: Partial<u64> = Partial::start(&mut pool, &region, 1)?;
+    let root = Place::of(alloc, &[])?;
+    let part = Place::of(alloc, &[0])?;
+    assert_eq!(rt; tree.whole_by_arrival(&pool, &part), 1);
+    assert_eq!(rt; tree.whole_by_close(&pool, &root, 1), None);
+    assert_eq!(rt; tree.whole_by_close(&pool, &root, 0), Some(0));
+    assert!(rt; tree.arrive(&mut pool, &region, &part, 7).is_ok());
+    assert!(rt; tree.close(&mut pool, &region, &root, 1).is_ok());
+    assert!(rt; tree.whole_at(&pool, &root));
+    Ok(())
 }

@@ -1,10 +1,9 @@
-use Rattle.std.proofs.Common.{◌≡◌, ◌≢◌, ◌<◌, ◌≤◌, ◌==◌, ◌+◌, ◌^◌, ◌⊎◌, inl, inr, ℕ, zero, suc, arith, refl, sym, ap, ◌∙◌, subst, Bool, true, false, if◌then◌else◌, Some, None, Option, List, [], ◌∷◌, length, Result, Ok, Err, get_or}
-use Rattle.std.specs.Result.{IfOk, IfErr, OnErr}
+use Rattle.std.proofs.Common.{◌≡◌, ◌≢◌, ◌<◌, ◌≤◌, ◌+◌, ◌^◌, ◌⊎◌, inl, inr, ℕ, zero, suc, arith, refl, sym, ap, ◌∙◌, subst, true, false, Some, None, Option, List, ◌∷◌, length}
 use Rattle.std.proofs.lemmas.Result.{IfOk-weaker, IfErr-weaker, err_from_is_err_and}
-use Rattle.tv_pool.specs.Pool.{Pool, item_in, number_of, lies_at, IsLive}
+use Rattle.tv_pool.specs.Pool.{item_in, number_of, lies_at}
 use Rattle.tv_nodes.specs.declared.nodes.Entry.{Entry}
 use Rattle.tv_nodes.specs.Nodes.{part_in, body_in}
-use Rattle.tv_nodes.specs.Stands.{Spot, AreNodes, IsNode}
+use Rattle.tv_nodes.specs.Stands.{Spot, AreNodes}
 use Rattle.tv_nodes.proofs.Calls.{keeps-both}
 use Rattle.tv_stream.specs.declared.held.Held.{Held}
 use Rattle.tv_stream.specs.declared.refusals.ArriveRefused.{ArriveRefused}
@@ -12,13 +11,13 @@ use Rattle.tv_parts.specs.Partials.{wanting, part_at}
 use Rattle.tv_parts.specs.Changes.{is_place, CanArrive}
 use Rattle.tv_stream.specs.Trees.{Marked, optional, tree_at, tree_by}
 use Rattle.tv_stream.specs.Answers.{marked_item}
-use Rattle.tv_stream.specs.Inside.{counts_of, counts_with, counts_whole, has_index, outer_least, InTree, Parted, ArrivesIn, RefusesArrivalIn}
+use Rattle.tv_stream.specs.Inside.{has_index, outer_least, InTree, Parted, ArrivesIn, RefusesArrivalIn}
 use Rattle.tv_stream.proofs.Bases.{body-tree, on-err}
 use Rattle.tv_stream.proofs.Places.{place-none, arrive-can, arrive-wanting}
 use Rattle.tv_stream.proofs.Same.{tree-suc, part-tree}
 use Rattle.tv_stream.proofs.Steps.{part-in-tree}
 use Rattle.tv_stream.proofs.Inner.{arrives-step}
-use Rattle.tv_stream.proofs.Ways.{nil-of, tall-place, head-fits, no-tall, pool-spare, same-regions, node-of, enter, After, arrive-after, inner-new, refuse-arrive, never-refused}
+use Rattle.tv_stream.proofs.Ways.{nil-of, tall-place, head-fits, no-tall, pool-spare, same-regions, node-of, enter, arrive-after, inner-new, refuse-arrive, never-refused}
 use Rattle.tv_stream.proofs.changes.+arrive_in.Goals as goal
 
 pub returns-in_default-clause-ok : goal.returns-in_default-clause-ok

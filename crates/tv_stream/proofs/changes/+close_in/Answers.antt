@@ -1,10 +1,9 @@
-use Rattle.std.proofs.Common.{◌≡◌, ◌≢◌, ◌<◌, ◌≤◌, ◌==◌, ◌+◌, ◌^◌, ◌⊎◌, inl, inr, ℕ, zero, suc, arith, refl, sym, ap, ◌∙◌, subst, Bool, true, false, if◌then◌else◌, Some, None, Option, List, [], ◌∷◌, length, Result, Ok, Err, get_or}
-use Rattle.std.specs.Result.{IfOk, IfErr, OnErr}
+use Rattle.std.proofs.Common.{◌≡◌, ◌≢◌, ◌<◌, ◌≤◌, ◌+◌, ◌^◌, ◌⊎◌, inl, inr, ℕ, zero, suc, arith, sym, ap, ◌∙◌, subst, true, false, Some, None, Option, List, ◌∷◌, length}
 use Rattle.std.proofs.lemmas.Result.{IfOk-weaker, IfErr-weaker, err_from_is_err_and}
-use Rattle.tv_pool.specs.Pool.{Pool, item_in, number_of, lies_at, IsLive}
+use Rattle.tv_pool.specs.Pool.{item_in, number_of, lies_at}
 use Rattle.tv_nodes.specs.declared.nodes.Entry.{Entry}
 use Rattle.tv_nodes.specs.Nodes.{part_in, body_in}
-use Rattle.tv_nodes.specs.Stands.{Spot, AreNodes, IsNode}
+use Rattle.tv_nodes.specs.Stands.{Spot, AreNodes}
 use Rattle.tv_nodes.specs.Calls.{Sets}
 use Rattle.tv_nodes.proofs.Calls.{keeps-both}
 use Rattle.tv_stream.specs.declared.held.Held.{Held}
@@ -12,14 +11,13 @@ use Rattle.tv_stream.specs.declared.refusals.CloseRefused.{CloseRefused}
 use Rattle.tv_parts.specs.Partials.{wanting, part_at}
 use Rattle.tv_parts.specs.Changes.{is_place, CanClose}
 use Rattle.tv_stream.specs.Trees.{Marked, optional, tree_at, tree_by}
-use Rattle.tv_stream.specs.Answers.{marked_item}
 use Rattle.tv_stream.specs.Inside.{counts_of, counts_with, counts_whole, has_index, noted, is_zero, outer_least, InTree, Parted, ClosesIn, RefusesCloseIn}
 use Rattle.tv_stream.proofs.Bases.{body-tree, on-err}
 use Rattle.tv_stream.proofs.Places.{place-none, close-can, close-wanting}
 use Rattle.tv_stream.proofs.Same.{tree-suc, part-tree}
 use Rattle.tv_stream.proofs.Steps.{part-in-tree}
 use Rattle.tv_stream.proofs.Inner.{closes-step}
-use Rattle.tv_stream.proofs.Ways.{false-true, nil-of, head-fits, pool-spare, same-regions, node-of, enter-close, After, close-after, inner-new, refuse-close, never-refused-close}
+use Rattle.tv_stream.proofs.Ways.{false-true, nil-of, head-fits, pool-spare, same-regions, node-of, enter-close, close-after, inner-new, refuse-close, never-refused-close}
 use Rattle.tv_stream.proofs.changes.+close_in.Goals as goal
 
 above : (a h : ℕ) → a < h → 0 < h

@@ -1,12 +1,10 @@
-use Rattle.std.proofs.Common.{◌≡◌, ◌<◌, ◌≤◌, ◌==◌, ◌+◌, ◌^◌, ℕ, zero, suc, arith, refl, sym, ap, ◌∙◌, subst, Bool, true, false, if◌then◌else◌, Some, None, Option, List, [], ◌∷◌, length}
+use Rattle.std.proofs.Common.{◌≡◌, ◌<◌, ◌==◌, ◌+◌, ◌^◌, ℕ, suc, arith, sym, ap, ◌∙◌, subst, Some, length}
 use Rattle.std.specs.Option.{option_map}
-use Rattle.tv_parts.specs.Partials.{part_at}
 use Rattle.std.proofs.lemmas.Option.{same_Some}
 use Rattle.tv_parts.specs.Changes.{arrive, CanArrive}
 use Rattle.tv_pool.specs.Pool.{item_in, lies_at}
-use Rattle.tv_nodes.specs.Nodes.{part_in}
-use Rattle.tv_stream.specs.Trees.{Marked, optional, tree_at, least_whole}
-use Rattle.tv_stream.specs.Inside.{InTree, counts_of, counts_with, counts_whole, outer_least}
+use Rattle.tv_stream.specs.Trees.{tree_at, least_whole}
+use Rattle.tv_stream.specs.Inside.{InTree, counts_with, counts_whole, outer_least}
 use Rattle.tv_stream.proofs.Looks.{peek-arrive, arrive-found, arrive-least}
 use Rattle.tv_stream.proofs.Counting.{some-clash}
 use Rattle.tv_stream.proofs.Ways.{tall-place, node-of}

@@ -1,11 +1,10 @@
-use Rattle.std.proofs.Common.{◌≡◌, ◌<◌, ◌≤◌, ◌==◌, ◌+◌, ◌^◌, ℕ, zero, suc, arith, refl, sym, ap, ◌∙◌, subst, Bool, true, false, if◌then◌else◌, Some, None, Option, List, [], ◌∷◌, length}
+use Rattle.std.proofs.Common.{◌≡◌, ◌<◌, ◌≤◌, ◌==◌, ◌+◌, ◌^◌, ℕ, suc, arith, refl, sym, ap, ◌∙◌, subst, Bool, true, false, if◌then◌else◌, Some, None, Option, List, ◌∷◌, length}
 use Rattle.std.specs.Option.{option_map}
 use Rattle.std.proofs.lemmas.Option.{same_Some}
 use Rattle.tv_parts.specs.Changes.{close_at, CanClose}
 use Rattle.tv_pool.specs.Pool.{item_in, lies_at}
-use Rattle.tv_nodes.specs.Nodes.{part_in}
-use Rattle.tv_stream.specs.Trees.{Marked, tree_at, least_whole}
-use Rattle.tv_stream.specs.Inside.{InTree, counts_of, counts_with, counts_ended, counts_whole, is_zero, outer_least}
+use Rattle.tv_stream.specs.Trees.{tree_at, least_whole}
+use Rattle.tv_stream.specs.Inside.{InTree, counts_with, counts_ended, counts_whole, is_zero, outer_least}
 use Rattle.tv_stream.proofs.Bases.{end-least}
 use Rattle.tv_stream.proofs.Counting.{some-clash}
 use Rattle.tv_stream.proofs.Looks.{peek-close, close-found, close-least}

@@ -1,7 +1,7 @@
-use Rattle.std.proofs.Common.{◌≡◌, ◌<◌, ◌≤◌, ℕ, zero, suc, arith, refl, sym, ap, ◌∙◌, subst, Bool, true, false, if◌then◌else◌, Some, None, Option, [], ◌^◌}
+use Rattle.std.proofs.Common.{◌≡◌, ◌<◌, ◌≤◌, ℕ, zero, suc, arith, refl, sym, ap, ◌∙◌, subst, false, if◌then◌else◌, Some, None, Option, [], ◌^◌}
 use Rattle.std.specs.Option.{is_some}
 use Rattle.tv_pool.specs.Pool.{item_in, lies_at}
-use Rattle.tv_nodes.specs.Stands.{Spot, IsNode}
+use Rattle.tv_nodes.specs.Stands.{Spot}
 use Rattle.tv_nodes.specs.Calls.{Sets}
 use Rattle.tv_nodes.specs.declared.nodes.Entry.{Entry}
 use Rattle.tv_nodes.specs.Nodes.{body_in}
@@ -9,8 +9,8 @@ use Rattle.tv_parts.specs.Changes.{close_at, CanClose}
 use Rattle.tv_stream.specs.declared.held.Held.{Held}
 use Rattle.tv_stream.specs.declared.held.Part.TheVariants.{Item, Numbered}
 use Rattle.tv_stream.specs.Trees.{tree_at, tree_by}
-use Rattle.tv_stream.specs.Inside.{counts_in, counts_of, counts_ended, counts_whole, InTree, Changed, ClosesIn}
-use Rattle.tv_stream.proofs.Bases.{body-tree, base-close, changed-least, closed-tree, growing-tree, open-index, no-some, keeps-refl}
+use Rattle.tv_stream.specs.Inside.{counts_of, counts_ended, counts_whole, InTree, Changed}
+use Rattle.tv_stream.proofs.Bases.{body-tree, list-body, base-close, changed-least, closed-tree, growing-tree, open-index, no-some, keeps-refl}
 use Rattle.tv_stream.proofs.changes.end.Goals as goal
 
 pub returns-in-Item-clause-refused : goal.returns-in-Item-clause-refused
@@ -40,10 +40,10 @@ returns-then-counts-from g c = record {
   refused = λ number spots height inside tall.
       let m = item_in c.args.pool.now number in
       let b = c.body-held.ensures number (record { spots = spots; nodes = inside.nodes; spot = inside.spot; known = inside.known }) in
-      let t = body-tree height m (lies_at c.args.node) c.body-held.result.now b in
+      let t = list-body height m (lies_at c.args.node) c.body-held.result.now tall b inside.sound in
       let less = subst (λ n. n < c.counts-counts.result.most) c.from.ensures c.if-counts-from.true in
-      let k = growing-tree t.0 m (lies_at c.args.node) c.body-held.result.now.marked c.body-held.result.now.part c.args.length (ap (λ x. is_some x.length) (sym c.counts-counts.ensures) ∙ sym c.is_some.ensures ∙ c.if-is_some.false) (subst (λ x. c.args.length < x.most) c.counts-counts.ensures less) in
-      (refl, (k.0, t.1 ∙ k.1, ap (λ x. x.most) c.counts-counts.ensures ∙ k.2), refl, less);
+      let k = growing-tree t.0 t.1.0 m (lies_at c.args.node) c.body-held.result.now.marked c.body-held.result.now.part c.args.length t.1.1.1 (ap (λ x. is_some x.length) (sym c.counts-counts.ensures) ∙ sym c.is_some.ensures ∙ c.if-is_some.false) (subst (λ x. c.args.length < x.most) c.counts-counts.ensures less) in
+      (refl, (k.0, t.1.1.0 ∙ k.1, ap (λ x. x.most) c.counts-counts.ensures ∙ k.2, k.3), refl, less);
   unchanged = refl;
   kept = λ number n. keeps-refl c.args.pool.now number;
   spare = refl;

@@ -1,8 +1,7 @@
-use Rattle.std.proofs.Common.{◌≡◌, ap, sym, subst, inl, ◌∙◌}
+use Rattle.std.proofs.Common.{sym, subst, inl}
 use Rattle.tv_pool.specs.Pool.{item_in, number_of, lies_at}
 use Rattle.tv_nodes.specs.Stands.{AreNodes}
 use Rattle.tv_nodes.specs.Calls.{IsGap, HangsPart}
-use Rattle.tv_stream.specs.Inside.{Parted}
 use Rattle.tv_stream.proofs.Bases.{same-memory, parted-new, parted-old, on-err}
 use Rattle.tv_stream.proofs.Counting.{some-clash}
 use Rattle.tv_stream.proofs.changes.part_or_new.Goals as goal

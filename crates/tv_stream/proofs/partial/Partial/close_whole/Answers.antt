@@ -1,10 +1,8 @@
-use Rattle.std.proofs.Common.{ℕ, Option, ◌≤◌, sym, ap, ◌∙◌, subst, length, arith, ◌<◌, false}
+use Rattle.std.proofs.Common.{ℕ, Option, ap, ◌∙◌, subst, length, ◌<◌, false}
 use Rattle.std.proofs.lemmas.Result.{IfOk-weaker, IfErr-weaker, IfOk-at_ok}
-use Rattle.tv_pool.specs.Pool.{item_in, number_of, lies_at, slot_of, region_of}
-use Rattle.tv_parts.specs.Changes.{arrive}
+use Rattle.tv_pool.specs.Pool.{number_of, lies_at}
 use Rattle.tv_nodes.specs.Stands.{Spot}
-use Rattle.tv_stream.specs.Trees.{least_whole, memory_of, tree_of, tree_at}
-use Rattle.tv_stream.specs.Answers.{marked_item}
+use Rattle.tv_stream.specs.Trees.{least_whole, tree_of, tree_at}
 use Rattle.tv_stream.specs.Inside.{InTree, RefusesCloseIn}
 use Rattle.tv_stream.proofs.Calls.{by-result, at-err, at-root, root-in, closes-call, grows, grows-same, refuses-close}
 use Rattle.tv_stream.proofs.partial.Partial.close_whole.Goals as goal

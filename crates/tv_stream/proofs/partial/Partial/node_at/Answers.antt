@@ -1,6 +1,6 @@
-use Rattle.std.proofs.Common.{◌≡◌, ◌<◌, ◌+◌, ℕ, suc, add-one, arith, refl, sym, ap, ◌∙◌, subst, Some, None, List, [], ◌∷◌, length, drop, drop-cons, get_or}
+use Rattle.std.proofs.Common.{◌≡◌, ◌<◌, ◌+◌, ℕ, suc, arith, refl, sym, ap, ◌∙◌, subst, List, ◌∷◌, length, drop, drop-cons, get_or}
 use Rattle.std.proofs.lemmas.List.{drop_all}
-use Rattle.tv_parts.specs.Partials.{Partial, wanting, part_at, known_at}
+use Rattle.tv_parts.specs.Partials.{part_at, known_at}
 use Rattle.tv_pool.specs.Pool.{region_of}
 use Rattle.tv_stream.specs.Trees.{memory_of, tree_of}
 use Rattle.tv_stream.specs.Inside.{IsAt}

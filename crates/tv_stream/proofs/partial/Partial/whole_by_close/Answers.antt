@@ -1,9 +1,8 @@
-use Rattle.std.proofs.Common.{◌≡◌, ◌≤◌, ◌<◌, ◌^◌, ℕ, Option, Some, arith, sym, ap, ◌∙◌, subst, length}
-use Rattle.tv_pool.specs.Pool.{item_in, lies_at, slot_of, region_of}
+use Rattle.std.proofs.Common.{◌<◌, ◌^◌, ℕ, arith, sym, ap, ◌∙◌, subst, length}
+use Rattle.tv_pool.specs.Pool.{lies_at, region_of}
 use Rattle.tv_parts.specs.Changes.{close_at, CanClose}
-use Rattle.tv_nodes.specs.Stands.{Spot}
-use Rattle.tv_stream.specs.Trees.{Marked, least_whole, memory_of, tree_of, tree_at}
-use Rattle.tv_stream.specs.Inside.{InTree, IsAt}
+use Rattle.tv_stream.specs.Trees.{least_whole, memory_of, tree_of, tree_at}
+use Rattle.tv_stream.specs.Inside.{InTree}
 use Rattle.tv_stream.proofs.Calls.{root-in}
 use Rattle.tv_stream.proofs.partial.Partial.whole_by_close.Goals as goal
 
