@@ -1,8 +1,10 @@
 """The matcher's code as plain Rust, with its contracts taken off: counts its instructions for each thing that comes out, or tries
-it on made-up strategies and values against the iteration of the whole values.
+it on made-up strategies and values against the iteration of the whole values, or that with each allocation refused in turn. What
+is counted is the whole run of the program, from its start on, of each shape without `reserve` and with one before each arrival.
 
     python3 bench/matching.py measure
     python3 bench/matching.py trial SEED COUNT
+    python3 bench/matching.py refused SEED COUNT
 
 Wants a rustc, and valgrind to measure. The code that is tried is that of crates/tv_match; what it uses of the libraries below is
 in bench/matching/shim.rs.
@@ -40,8 +42,8 @@ def plain(text):
 
 def built(folder, program):
     """Builds a program of bench/matching over the crate."""
-    for path in glob.glob(os.path.join(CRATE, "*.rt")):
-        name = os.path.basename(path)[:-3]
+    for path in glob.glob(os.path.join(CRATE, "**", "*.rt"), recursive=True):
+        name = os.path.relpath(path, CRATE)[:-3]
         if name == "tests":
             continue
         with open(path, encoding="utf-8") as it:
@@ -51,6 +53,7 @@ def built(folder, program):
             text = f"#![allow(dead_code, unused_imports)]\n{text}\nmod shim;\nmod {program};\nfn main() {{ {program}::main() }}\n"
         else:
             text = f"use crate::shim::{{Box, Vec}};\n{text}"
+        os.makedirs(os.path.dirname(os.path.join(folder, name)), exist_ok=True)
         with open(os.path.join(folder, f"{name}.rs"), "w", encoding="utf-8") as it:
             it.write(text)
     for name in ("shim", program):
@@ -64,17 +67,20 @@ def measure(folder):
     program = built(folder, "measure")
     for shape, counts in SHAPES.items():
         for count in counts:
-            words = ["valgrind", "--tool=callgrind", "--callgrind-out-file=/dev/null", program, shape, str(count)]
-            run = subprocess.run(words, capture_output=True, text=True, check=True)
-            items = int(run.stdout.split()[0])
-            spent = int(re.search(r"Collected : (\d+)", run.stderr).group(1))
-            print(f"{shape} {count}: {items} items, {spent / items:.0f} instructions each", flush=True)
+            for held in ([], ["held"]):
+                words = ["valgrind", "--tool=callgrind", "--callgrind-out-file=/dev/null", program, shape, str(count), *held]
+                run = subprocess.run(words, capture_output=True, text=True, check=True)
+                items = int(run.stdout.split()[0])
+                spent = int(re.search(r"Collected : (\d+)", run.stderr).group(1))
+                print(f"{' '.join(words[4:])}: {items} items, {spent / items:.0f} instructions each", flush=True)
 
 
 def main():
     with tempfile.TemporaryDirectory() as folder:
         if sys.argv[1:2] == ["trial"]:
             sys.exit(subprocess.run([built(folder, "trial"), *sys.argv[2:]]).returncode)
+        if sys.argv[1:2] == ["refused"]:
+            sys.exit(subprocess.run([built(folder, "trial"), *sys.argv[2:], "refused"]).returncode)
         measure(folder)
 
 

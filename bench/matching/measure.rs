@@ -1,4 +1,5 @@
-//! Matchers on large values, to be measured from outside: `PROGRAM SHAPE COUNT`.
+//! Matchers on large values, to be measured from outside: `PROGRAM SHAPE COUNT`, or `PROGRAM SHAPE COUNT held`, where each arrival is
+//! told after a `reserve` of it alone.
 use crate::shim::*;
 use crate::{Matcher, Told};
 fn name(i: usize) -> Name {

@@ -1,5 +1,29 @@
 //! What the matcher uses of the libraries below it, in plain Rust.
+use std::cell::Cell;
 use std::ops::{Deref, DerefMut};
+
+thread_local! {
+    // How many allocations there were, and which of them are refused: those from a number on to before another.
+    static TAKEN: Cell<u64> = const { Cell::new(0) };
+    static REFUSED: Cell<(u64, u64)> = const { Cell::new((0, 0)) };
+}
+/// Counts the allocations anew; those from the first number on to before the second are refused.
+pub fn refuse(from: u64, end: u64) {
+    TAKEN.set(0);
+    REFUSED.set((from, end));
+}
+/// How many allocations there were since.
+pub fn taken() -> u64 {
+    TAKEN.get()
+}
+fn take() -> Result<(), NoMemory> {
+    let (number, (from, end)) = (TAKEN.get(), REFUSED.get());
+    TAKEN.set(number + 1);
+    if from <= number && number < end {
+        return Err(NoMemory);
+    }
+    Ok(())
+}
 #[derive(Clone, Copy, Debug)]
 pub struct Global;
 #[derive(Debug)]
@@ -13,6 +37,7 @@ impl<T> Vec<T> {
     #[inline]
     pub fn push(&mut self, x: T) -> Result<(), NoMemory> {
         if self.0.len() == self.0.capacity() {
+            take()?;
             self.0.try_reserve(1).map_err(|_| NoMemory)?;
         }
         self.0.push(x);
@@ -30,7 +55,10 @@ impl<T> Vec<T> {
 impl<T: Copy> Vec<T> {
     #[inline]
     pub fn extend_from_slice(&mut self, o: &[T]) -> Result<(), NoMemory> {
-        self.0.try_reserve(o.len()).map_err(|_| NoMemory)?;
+        if self.0.capacity() - self.0.len() < o.len() {
+            take()?;
+            self.0.try_reserve(o.len()).map_err(|_| NoMemory)?;
+        }
         self.0.extend_from_slice(o);
         Ok(())
     }
@@ -49,6 +77,7 @@ impl<T> DerefMut for Vec<T> {
 pub struct Box<T>(std::boxed::Box<T>);
 impl<T> Box<T> {
     pub fn new(_: Global, x: T) -> Result<Self, NoMemory> {
+        take()?;
         Ok(Box(std::boxed::Box::new(x)))
     }
 }
@@ -99,7 +128,10 @@ impl Trees {
 impl Tree {
     pub fn copy(&self, a: Global) -> Result<Tree, NoMemory> {
         Ok(match self {
-            Tree::Leaf(n) => Tree::Leaf(n.clone()),
+            Tree::Leaf(n) => {
+                take()?;
+                Tree::Leaf(n.clone())
+            }
             Tree::Cross(t) => Tree::Cross(t.copy(a)?),
             Tree::Dot(t) => Tree::Dot(t.copy(a)?),
         })
@@ -107,6 +139,7 @@ impl Tree {
 }
 impl Trees {
     pub fn copy(&self, a: Global) -> Result<Trees, NoMemory> {
+        take()?;
         let mut v = vec![];
         for t in &self.0 {
             v.push(t.copy(a)?);
@@ -130,6 +163,7 @@ pub trait Copied: Sized {
 pub type Depths = Sequence<(Name, u32)>;
 impl Copied for Depths {
     fn copy(&self, _: Global) -> Result<Self, NoMemory> {
+        take()?;
         Ok(Sequence(self.0.clone()))
     }
 }

@@ -1,5 +1,6 @@
 //! Matchers on made-up strategies and values, told in made-up orders, and looked at after each telling against the
-//! iteration of the whole values: `PROGRAM SEED COUNT`.
+//! iteration of the whole values: `PROGRAM SEED COUNT`. With a third word, `PROGRAM SEED COUNT refused`, each is told as often as it
+//! takes allocations, with another of them refused each time. A held telling takes none.
 
 use crate::shim::*;
 use crate::{Kind, Matched, Matcher, Told};
@@ -24,8 +25,10 @@ macro_rules! ensure {
 pub fn main() {
     let words: Vec<u64> = std::env::args()
         .skip(1)
+        .take(2)
         .map(|w| w.parse().unwrap())
         .collect();
+    let refused = std::env::args().len() > 3;
     if let Err(why) = worked_row(Global) {
         println!("worked row: {why}");
         std::process::exit(1);
@@ -35,10 +38,11 @@ pub fn main() {
         items: 0,
         faulty: 0,
         reserves: 0,
+        refusals: 0,
     };
     for i in 0..words[1] {
-        let mut random = Random::new(words[0].wrapping_add(i));
-        if let Err(why) = run(Global, &mut random, &mut tally) {
+        let seed = words[0].wrapping_add(i);
+        if let Err(why) = trial(seed, refused, &mut tally) {
             println!("trial {i}: {why}");
             std::process::exit(1);
         }
@@ -48,8 +52,51 @@ pub fn main() {
         items,
         faulty,
         reserves,
+        refusals,
     } = tally;
-    println!("{} strategies, {tellings} tellings, {items} items, {faulty} faulty jobs, {reserves} reserves, no difference", words[1]);
+    println!("{} strategies, {tellings} tellings, {items} items, {faulty} faulty jobs, {reserves} reserves, {refusals} refusals, no difference", words[1]);
+}
+
+/// One strategy, with nothing refused; and then again and again, with each allocation refused in turn.
+fn trial(seed: u64, refused: bool, tally: &mut Tally) -> Result<()> {
+    run(Global, &mut Random::new(seed), tally, None)?;
+    let mut number = 0;
+    while refused {
+        let before = tally.refusals;
+        run(Global, &mut Random::new(seed), tally, Some(number))
+            .map_err(|why| format!("where allocation {number} is refused: {why}"))?;
+        if tally.refusals == before {
+            return Ok(());
+        }
+        number += 1;
+    }
+    Ok(())
+}
+
+/// What contracts see of a matcher where nothing is held: what is shown, in order, and how much of it has come out.
+fn seen(matcher: &Matcher) -> (Vec<(Vec<u32>, Kind)>, usize) {
+    let mut items = Vec::new();
+    for at in 0..matcher.shown() {
+        let (place, kind) = matcher.item(at);
+        items.push((place.to_vec(), kind));
+    }
+    (items, matcher.given())
+}
+
+/// Makes a call, and where it is refused holds what is then seen against what was seen before, and makes it again.
+fn once_more<T>(
+    matcher: &mut Matcher,
+    tally: &mut Tally,
+    mut call: impl FnMut(&mut Matcher) -> std::result::Result<T, NoMemory>,
+) -> Result<T> {
+    let before = seen(matcher);
+    if let Ok(answer) = call(matcher) {
+        return Ok(answer);
+    }
+    tally.refusals += 1;
+    ensure!(seen(matcher) == before, "a refused call changed something");
+    ensure!(matcher.ahead() == before.0.len(), "a refused call holds something");
+    Ok(call(matcher)?)
 }
 
 // ---- one leaf of mismatch 2, told its jobs before the lists that they stand in
@@ -504,6 +551,7 @@ pub struct Tally {
     pub items: u64,
     pub faulty: u64,
     pub reserves: u64,
+    pub refusals: u64,
 }
 
 fn stands(kind: Kind) -> Stands {
@@ -596,7 +644,11 @@ fn look(
     Ok(())
 }
 
-fn tell(alloc: Global, matcher: &mut Matcher, say: &Say) -> Result<()> {
+fn tell(
+    alloc: Global,
+    matcher: &mut Matcher,
+    say: &Say,
+) -> std::result::Result<(), NoMemory> {
     let place = Place::of(alloc, say.place.as_slice())?;
     match say.what {
         What::Value => matcher.on_arrival(say.leaf, &place, false)?,
@@ -638,6 +690,7 @@ fn reserve(
     next: &[usize],
     nodes: &[Node],
     told: &[bool],
+    tally: &mut Tally,
 ) -> Result<()> {
     let mut list = Vec::new();
     let mut later = told.to_vec();
@@ -646,7 +699,8 @@ fn reserve(
         later.as_mut_slice()[*number] = true;
     }
     let due = ready(nodes, later.as_slice()) - ready(nodes, told);
-    let answer = matcher.reserve(&Sequence::of(list))?;
+    let list = Sequence::of(list);
+    let answer = once_more(matcher, tally, |matcher| matcher.reserve(&list))?;
     ensure!(
         answer == due as u64,
         "reserve answers {answer}, and {due} are due"
@@ -666,7 +720,14 @@ fn ordered(alloc: Global, random: &mut Random, count: usize) -> Result<Vec<usize
     Ok(order)
 }
 
-pub fn run(alloc: Global, random: &mut Random, tally: &mut Tally) -> Result<()> {
+/// With the allocation of that number refused, if there is one.
+pub fn run(
+    alloc: Global,
+    random: &mut Random,
+    tally: &mut Tally,
+    refused: Option<u64>,
+) -> Result<()> {
+    let (from, end) = refused.map_or((0, 0), |number| (number, number + 1));
     let mut depths = Vec::new();
     let leaves = random.below(5);
     let depth = random.below(4);
@@ -691,11 +752,15 @@ pub fn run(alloc: Global, random: &mut Random, tally: &mut Tally) -> Result<()> 
     for _ in 0..says.len() {
         told.push(false);
     }
-    let mut matcher = Matcher::start(
-        alloc,
-        &tree(alloc, &form)?,
-        &mismatch(alloc, depths.as_slice())?,
-    )?;
+    let (form, depths) = (tree(alloc, &form)?, mismatch(alloc, depths.as_slice())?);
+    refuse(from, end);
+    let mut matcher = match Matcher::start(alloc, &form, &depths) {
+        Ok(matcher) => matcher,
+        Err(_) => {
+            tally.refusals += 1;
+            Matcher::start(alloc, &form, &depths)?
+        }
+    };
     look(
         alloc,
         random,
@@ -717,6 +782,7 @@ pub fn run(alloc: Global, random: &mut Random, tally: &mut Tally) -> Result<()> 
                 &order.as_slice()[at..at + held],
                 nodes.as_slice(),
                 told.as_slice(),
+                tally,
             )?;
             look(
                 alloc,
@@ -734,11 +800,16 @@ pub fn run(alloc: Global, random: &mut Random, tally: &mut Tally) -> Result<()> 
             order.as_mut_slice().swap(at, other);
             held = 0;
         }
+        let number = order.as_slice()[at];
+        let say = &says.as_slice()[number];
         if held > 0 {
             held -= 1;
+            let before = taken();
+            tell(alloc, &mut matcher, say)?;
+            ensure!(taken() == before, "a held telling takes memory");
+        } else {
+            once_more(&mut matcher, tally, |matcher| tell(alloc, matcher, say))?;
         }
-        let number = order.as_slice()[at];
-        tell(alloc, &mut matcher, &says.as_slice()[number])?;
         told.as_mut_slice()[number] = true;
         tally.tellings += 1;
         look(

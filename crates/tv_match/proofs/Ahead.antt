@@ -1,5 +1,5 @@
 -- Tellings that are worked one after the other.
-use Rattle.std.proofs.Common.{◌≡◌, refl, ℕ, zero, suc, ◌+◌, ◌<◌, ◌≤◌, List, [], ◌∷◌, ◌++◌, map, length, take, get_or, sym, ap, subst, ◌∙◌, arith, append_assoc, append-nil, length-append, take_all}
+use Rattle.std.proofs.Common.{◌≡◌, refl, ℕ, ◌+◌, ◌<◌, ◌≤◌, List, [], ◌∷◌, ◌++◌, map, length, take, get_or, sym, ap, ◌∙◌, arith, append_assoc, append-nil, length-append, take_all}
 use Rattle.std.proofs.lemmas.List.{map_more}
 use Rattle.tv_value.specs.Strategies.{Strategy}
 use Rattle.tv_match.specs.declared.told.Told as code

@@ -12,11 +12,11 @@ use Rattle.tv_matching.specs.Stores.{store_for, worked_items}
 use Rattle.tv_matching.proofs.Lists.{map-append}
 use Rattle.tv_match.specs.Entries.{Entry, no_entry, entry_at, kepts, front}
 use Rattle.tv_match.specs.Filed.{Filed}
-use Rattle.tv_match.specs.Seen.{telling_of, tellings_of, outcome_of, seen_as, AreSound, IsProper}
+use Rattle.tv_match.specs.Seen.{telling_of, tellings_of, outcome_of, seen_as, AreSound}
 use Rattle.tv_match.specs.Ahead.{AheadIsMatched, NoneIsAhead}
 use Rattle.tv_match.specs.Brief.{briefs}
 use Rattle.tv_match.specs.Working.{unit_news, news_of}
-use Rattle.tv_match.proofs.Calls.{each-take, next-sound}
+use Rattle.tv_match.proofs.Calls.{next-sound}
 use Rattle.tv_match.proofs.Putting.{from-next}
 use Rattle.tv_match.proofs.Seeing.{out-all}
 

@@ -1,5 +1,5 @@
 -- A matcher that was told nothing.
-use Rattle.std.proofs.Common.{◌≡◌, refl, ℕ, zero, suc, ◌+◌, ◌≤◌, List, [], ◌∷◌, ◌++◌, map, length, take, sym, ap, subst, ◌∙◌, arith, append-nil}
+use Rattle.std.proofs.Common.{◌≡◌, refl, ℕ, ◌≤◌, List, [], ◌∷◌, sym, ap, subst, ◌∙◌, arith, append-nil}
 use Rattle.tv_value.specs.Values.{Name}
 use Rattle.tv_value.specs.Strategies.{Strategy}
 use Rattle.tv_strategy.specs.Conditions.{Suits, number_of}
@@ -10,7 +10,7 @@ use Rattle.tv_match.specs.Entries.{Entry, kepts, front, AreMore}
 use Rattle.tv_match.specs.Brief.{briefs, brief_store}
 use Rattle.tv_match.specs.Filed.{Filed, kept_store, Adds}
 use Rattle.tv_match.specs.Seen.{seen_as, AreSound}
-use Rattle.tv_match.specs.Working.{unit_news, news_of, news_to, IsFull, IsWorked, IsDone}
+use Rattle.tv_match.specs.Working.{unit_news, news_to, IsFull, IsDone}
 use Rattle.tv_match.proofs.Fronts.{more-early, more-rise}
 use Rattle.tv_match.proofs.Working.{adds-full, full-kept}
 

@@ -1,5 +1,5 @@
 -- The store of a dot of several children.
-use Rattle.std.proofs.Common.{◌≡◌, refl, ℕ, ◌+◌, Bool, true, false, ◌==◌, List, [], ◌∷◌, map, length, eq-eqb, sym, ◌∙◌}
+use Rattle.std.proofs.Common.{◌≡◌, refl, ℕ, ◌+◌, Bool, true, false, ◌==◌, List, [], ◌∷◌, length, eq-eqb, sym, ◌∙◌}
 use Rattle.tv_value.specs.Strategies.{Strategy, Strategies, no_strategies, strategy}
 use Rattle.tv_value.specs.declared.tree.Tree.{Tree}
 use Rattle.tv_strategy.specs.Measures.{leaf_names}

@@ -1,6 +1,6 @@
 -- What the calls of a matcher leave.
 use Rattle.std.specs.Prelude.{IsPermutation}
-use Rattle.std.proofs.Common.{◌≡◌, ◌⊎◌, inl, inr, refl, Bool, true, false, ℕ, zero, suc, ◌+◌, ◌<◌, ◌≤◌, List, [], ◌∷◌, ◌++◌, map, length, take, drop, get_or, sym, ap, subst, ◌∙◌, arith, take-suc, length-append}
+use Rattle.std.proofs.Common.{◌≡◌, ◌⊎◌, inl, inr, refl, Bool, true, false, ℕ, zero, suc, ◌+◌, ◌<◌, ◌≤◌, List, [], ◌∷◌, ◌++◌, map, length, take, drop, sym, ap, subst, ◌∙◌, arith, take-suc, length-append}
 use Rattle.tv_value.specs.Values.{Name}
 use Rattle.tv_value.specs.Strategies.{Strategy}
 use Rattle.tv_strategy.specs.Conditions.{number_of}
@@ -12,9 +12,9 @@ use Rattle.tv_matching.specs.Matchers.{Matching, Outcome, out as out_of, CanTell
 use Rattle.tv_matching.proofs.Lists.{map-append, each-append}
 use Rattle.tv_matching.proofs.Permutes.{perm-from}
 use Rattle.tv_matching.proofs.OfLaws.{new-is_once}
-use Rattle.tv_match.specs.Entries.{Entry, no_entry, entry_at, front, AreMore, Rise}
+use Rattle.tv_match.specs.Entries.{Entry, no_entry, entry_at, front, AreMore}
 use Rattle.tv_match.specs.Filed.{Filed}
-use Rattle.tv_match.specs.Working.{IsWorked, IsDone}
+use Rattle.tv_match.specs.Working.{IsDone}
 use Rattle.tv_match.specs.Seen.{telling_of, tellings_of, outcome_of, seen_as, AreSound, IsProper}
 use Rattle.tv_match.proofs.Fronts.{early-in_front, front-first, front-short, front-again, front-longer, more-late}
 use Rattle.tv_match.proofs.Putting.{from-next, past}

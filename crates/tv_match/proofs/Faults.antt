@@ -2,7 +2,7 @@
 use Rattle.std.specs.Prelude.{◌||◌, IsPermutation}
 use Rattle.std.specs.List.{list_any}
 use Rattle.std.proofs.lemmas.List.Sorted.{IsPermutation-sym}
-use Rattle.std.proofs.Common.{◌≡◌, ◌⊎◌, inl, inr, refl, ℕ, zero, suc, ◌<◌, ◌≤◌, Bool, true, false, List, [], ◌∷◌, ◌++◌, map, flat_map, length, take, get_or, sym, ap, subst, ◌∙◌, arith}
+use Rattle.std.proofs.Common.{◌≡◌, inl, inr, refl, ℕ, zero, suc, ◌<◌, ◌≤◌, Bool, true, false, List, [], ◌∷◌, ◌++◌, map, length, take, get_or, sym, ap, subst, ◌∙◌, arith}
 use Rattle.tv_value.specs.Nested.{Place}
 use Rattle.tv_value.specs.Values.{Name}
 use Rattle.tv_value.specs.Strategies.{Strategy}
@@ -10,9 +10,9 @@ use Rattle.tv_strategy.specs.Conditions.{number_of}
 use Rattle.tv_strategy.specs.Measures.{leaf_names}
 use Rattle.tv_strategy.specs.Splits.{same_place}
 use Rattle.tv_strategy.proofs.OfPlaces.{same-itself}
-use Rattle.tv_matching.specs.Items.{Kind, ends, closes, passes, Item, item, if_so}
+use Rattle.tv_matching.specs.Items.{Kind, ends, closes, passes, Item, if_so}
 use Rattle.tv_matching.specs.Members.{In, at_place, Once}
-use Rattle.tv_matching.specs.Told.{Spot, Told, Marked, marked_after, matched_after, binds_some, some_at, faulty_at}
+use Rattle.tv_matching.specs.Told.{Spot, Told, Marked, marked_after, matched_after, binds_some, faulty_at}
 use Rattle.tv_matching.specs.Matchers.{out as out_of, Kept, kept, kept_of, leaf_number, bare_bound, bare_kind}
 use Rattle.tv_matching.specs.Matched.{matched}
 use Rattle.tv_matching.specs.Stores.{store_for, worked_items}
@@ -22,7 +22,7 @@ use Rattle.tv_matching.proofs.OfLaws.{matches-once}
 use Rattle.tv_matching.proofs.OfMembers.{of-map, in-flat, in-if, in-permutes}
 use Rattle.tv_match.specs.declared.kinds.Kind as kinds
 use Rattle.tv_match.specs.Entries.{Entry, entry_at, kept_entry, kepts, kind_view, front}
-use Rattle.tv_match.specs.Brief.{brief, brief_bound, brief_kind, briefs}
+use Rattle.tv_match.specs.Brief.{brief, brief_kind, briefs}
 use Rattle.tv_match.specs.Filed.{Filed}
 use Rattle.tv_match.specs.Working.{unit_news, news_of}
 use Rattle.tv_match.specs.Seen.{tellings_of, outcome_of, outcome_kind, AreSound, IsProper, is_faulty}

@@ -1,13 +1,12 @@
 -- What the stores of the code show, and what changes in them.
-use Rattle.std.specs.Prelude.{OnOk, Result, Ok, Err, Vec, Box, Option}
-use Rattle.std.proofs.Common.{◌≡◌, refl, ℕ, List, [], ◌∷◌, ◌++◌, map, take, sym, ap, subst, ◌∙◌, append_assoc, Global}
-use Rattle.tv_matching.specs.Items.{Item}
+use Rattle.std.specs.Prelude.{OnOk, Result, Ok, Err, Box, Option}
+use Rattle.std.proofs.Common.{◌≡◌, refl, ℕ, List, ◌++◌, take, sym, ap, subst, ◌∙◌, append_assoc, Global}
 use Rattle.tv_matching.specs.Matched.{crossed_items, below_jobs}
 use Rattle.tv_matching.specs.Matchers.{Kept}
 use Rattle.tv_matching.specs.Stores as spec
 use Rattle.tv_matching.specs.Stores.{cross_store, dot_store, only_jobs, met_by_first, met_by_second, gain, grown}
 use Rattle.tv_match.specs.Entries.{Entry, kepts, front, AreMore}
-use Rattle.tv_match.specs.Filed.{Filed, filed_leaf, filed_cross, filed_dot, filed_step, filed, kept_store, fronted, Adds}
+use Rattle.tv_match.specs.Filed.{Filed, filed_leaf, filed_cross, filed_dot, filed_step, filed, fronted, Adds}
 use Rattle.tv_match.specs.declared.stores.Store.{Store}
 use Rattle.tv_match.specs.declared.stores.Store.TheViews.{Cross, Dot}
 use Rattle.tv_match.specs.declared.stores.Store.TheFolds.{fold-roll-Store}

@@ -15,3 +15,6 @@ pub mod Faults
 pub mod Reserves
 pub mod Begins
 pub mod AllMade
+pub mod FaultsAhead
+pub mod OfLaws
+pub mod Scripts

@@ -1,9 +1,9 @@
 -- The ways to places, by links from item to item.
 use Rattle.std.specs.Prelude.{IfSome}
-use Rattle.std.proofs.Common.{◌≡◌, ◌≢◌, ◌⊎◌, inl, inr, refl, ℕ, zero, suc, ◌==◌, ◌+◌, ◌*◌, ◌/◌, ◌%◌, ◌^◌, ◌-◌, ◌<◌, ◌≤◌, Bool, true, false, nat_lt, if◌then◌else◌, List, [], ◌∷◌, ◌++◌, length, take, get_or, Option, Some, None, sym, ap, subst, ◌∙◌, arith, length-append}
+use Rattle.std.proofs.Common.{◌≡◌, ◌≢◌, ◌⊎◌, inl, inr, refl, ℕ, zero, suc, ◌==◌, ◌+◌, ◌*◌, ◌/◌, ◌%◌, ◌^◌, ◌<◌, ◌≤◌, Bool, true, false, nat_lt, if◌then◌else◌, List, [], ◌∷◌, ◌++◌, length, take, get_or, Option, Some, None, sym, ap, subst, ◌∙◌, arith, length-append}
 use Rattle.tv_value.specs.Nested.{Place}
 use Rattle.tv_matching.specs.Stores.{latest_at}
-use Rattle.tv_match.specs.Entries.{Entry, entry_at, kept_entry, kepts, FoundBefore}
+use Rattle.tv_match.specs.Entries.{Entry, entry_at, kepts, FoundBefore}
 use Rattle.tv_match.specs.Linked.{digit_of, link_at, Reaches, Leads, AreRising, AreLinked, Agree, CanHang}
 use Rattle.tv_match.proofs.Latest.{latest-other, found-here}
 

@@ -1,5 +1,5 @@
 -- The loop over what stands at a place, the latest first.
-use Rattle.std.proofs.Common.{◌≡◌, refl, ℕ, zero, suc, ◌+◌, ◌<◌, ◌≤◌, List, [], ◌∷◌, ◌++◌, map, length, take, get_or, sym, ap, subst, ◌∙◌, arith, append_assoc, append-nil, take_all}
+use Rattle.std.proofs.Common.{◌≡◌, ℕ, ◌≤◌, List, [], ◌∷◌, ◌++◌, map, length, take, sym, ap, ◌∙◌, arith, append_assoc, append-nil, take_all}
 use Rattle.tv_value.specs.Nested.{Place}
 use Rattle.tv_matching.specs.Matchers.{Kept}
 use Rattle.tv_matching.specs.Stores.{latest_at}

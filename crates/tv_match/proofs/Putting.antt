@@ -1,13 +1,12 @@
 -- Loops that put what follows from each item of a list behind others.
-use Rattle.std.proofs.Common.{◌≡◌, refl, ℕ, zero, suc, ◌+◌, ◌<◌, ◌≤◌, List, [], ◌∷◌, ◌++◌, map, flat_map, length, take, drop, get_or, sym, ap, subst, ◌∙◌, arith, append_assoc, append-nil}
+use Rattle.std.proofs.Common.{◌≡◌, refl, ℕ, zero, suc, ◌+◌, ◌<◌, ◌≤◌, List, [], ◌∷◌, ◌++◌, flat_map, length, drop, sym, ap, subst, ◌∙◌, arith, append_assoc, append-nil}
 use Rattle.tv_value.specs.Nested.{Place}
-use Rattle.tv_strategy.specs.Sources.{Each}
-use Rattle.tv_matching.specs.Items.{Item, Kind, ends, closes, passes, item}
-use Rattle.tv_matching.specs.Matched.{bound, below, below_jobs, replaced_below}
+use Rattle.tv_matching.specs.Items.{Kind, ends, closes, passes, item}
+use Rattle.tv_matching.specs.Matched.{below_jobs, replaced_below}
 use Rattle.tv_matching.specs.Matchers.{Kept}
 use Rattle.tv_matching.proofs.Lists.{map-append, flat-append, each-append}
 use Rattle.tv_match.specs.declared.kinds.Kind as code
-use Rattle.tv_match.specs.Entries.{Entry, entry, no_entry, entry_at, kind_view, kept_entry, kepts, AreMore}
+use Rattle.tv_match.specs.Entries.{Entry, entry, entry_at, kind_view, kept_entry, kepts, AreMore}
 use Rattle.tv_match.specs.Brief.{brief, briefs}
 
 -- ---- more of one number

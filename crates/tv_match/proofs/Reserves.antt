@@ -1,6 +1,5 @@
 -- Room for tellings.
-use Rattle.std.specs.Prelude.{IsPermutation}
-use Rattle.std.proofs.Common.{◌≡◌, refl, ℕ, zero, suc, ◌+◌, ◌-◌, ◌<◌, ◌≤◌, true, false, List, [], ◌∷◌, ◌++◌, map, length, take, drop, sym, ap, subst, ◌∙◌, arith, length-append}
+use Rattle.std.proofs.Common.{◌≡◌, refl, ℕ, suc, ◌+◌, ◌<◌, ◌≤◌, true, false, List, [], ◌∷◌, ◌++◌, map, length, take, drop, sym, ap, subst, ◌∙◌, arith, length-append}
 use Rattle.std.proofs.Math.Seq.{drop-append_seam}
 use Rattle.std.proofs.lemmas.List.Sorted.{length_permutation}
 use Rattle.tv_value.specs.Values.{Name}
@@ -9,7 +8,7 @@ use Rattle.tv_strategy.specs.Conditions.{number_of}
 use Rattle.tv_strategy.specs.Measures.{leaf_names}
 use Rattle.tv_strategy.specs.Sources.{Each}
 use Rattle.tv_matching.specs.Members.{Once}
-use Rattle.tv_matching.specs.Told.{Told, told_to, matched_after, count_of_added, IsFit}
+use Rattle.tv_matching.specs.Told.{told_to, matched_after, count_of_added, IsFit}
 use Rattle.tv_matching.specs.Matchers.{out as out_of, Holds}
 use Rattle.tv_matching.specs.Stores.{store_for, worked_items}
 use Rattle.tv_matching.proofs.Lists.{map-append, each-append}

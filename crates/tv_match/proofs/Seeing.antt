@@ -1,23 +1,22 @@
 -- What has come out of a matcher, and what is still to come, is what is matched.
-use Rattle.std.proofs.Common.{◌≡◌, ◌⊎◌, inl, inr, refl, ℕ, zero, suc, ◌+◌, ◌<◌, ◌≤◌, Bool, true, false, ◌==◌, List, [], ◌∷◌, ◌++◌, map, flat_map, length, take, drop, get_or, Option, Some, None, sym, ap, subst, ◌∙◌, arith, append-nil, eq-eqb}
+use Rattle.std.proofs.Common.{◌≡◌, ◌⊎◌, inl, inr, refl, ℕ, zero, suc, ◌+◌, ◌<◌, ◌≤◌, Bool, true, false, ◌==◌, List, [], ◌∷◌, ◌++◌, map, length, get_or, Option, Some, None, sym, ap, subst, ◌∙◌, arith, eq-eqb}
 use Rattle.std.specs.Prelude.{IsPermutation, if◌then◌else◌}
 use Rattle.std.proofs.lemmas.Bool.{eqb-true}
-use Rattle.std.proofs.lemmas.List.{take-append-drop}
-use Rattle.std.proofs.lemmas.List.Sorted.{IsPermutation-refl, IsPermutation-sym, IsPermutation-trans, IsPermutation-map}
+use Rattle.std.proofs.lemmas.List.Sorted.{IsPermutation-sym, IsPermutation-map}
 use Rattle.tv_value.specs.Nested.{Place}
 use Rattle.tv_value.specs.Values.{Name}
 use Rattle.tv_value.specs.Orders.{same_name}
 use Rattle.tv_value.specs.Strategies.{Strategy}
-use Rattle.tv_strategy.specs.Conditions.{times, EachOnce, Suits}
+use Rattle.tv_strategy.specs.Conditions.{times, EachOnce}
 use Rattle.tv_strategy.specs.Measures.{DotsAgree, leaf_names, strategy_depth}
 use Rattle.tv_strategy.specs.Sources.{Each}
-use Rattle.tv_strategy.proofs.OfPlaces.{same-equal, same-itself}
+use Rattle.tv_strategy.proofs.OfPlaces.{same-itself}
 use Rattle.tv_matching.specs.Items.{Kind, Item, ends, closes, passes, item, if_so}
 use Rattle.tv_matching.specs.Levels.{KindAt}
 use Rattle.tv_matching.specs.Members.{Once}
 use Rattle.tv_matching.specs.Matched.{matched, one_end}
-use Rattle.tv_matching.specs.Told.{Spot, Told, told_to, matched_after, Marked, marked, marked_to, marked_after, IsFit}
-use Rattle.tv_matching.specs.Matchers.{Outcome, Kept, kept, kept_of, kept_out, kept_kind_out, leaf_name, leaf_number, out}
+use Rattle.tv_matching.specs.Told.{Spot, told_to, matched_after, Marked, marked, marked_to, marked_after, IsFit}
+use Rattle.tv_matching.specs.Matchers.{Kept, kept, kept_of, kept_out, kept_kind_out, leaf_name, leaf_number, out}
 use Rattle.tv_matching.specs.Stores.{store_for, AreNumbered, items, told_by_all, worked_items}
 use Rattle.tv_matching.proofs.Lists.{map-append, map-both, map-same, map-if, each-map, each-weaken}
 use Rattle.tv_matching.proofs.OfMembers.{each-permutes}
@@ -27,7 +26,7 @@ use Rattle.tv_matching.proofs.Bared.{plain, marked-is_matched, kept-is_enough}
 use Rattle.tv_match.specs.declared.kinds.Kind as kinds
 use Rattle.tv_match.specs.Entries.{Entry, entry, entry_at, kept_entry, kepts, kind_view}
 use Rattle.tv_match.specs.Brief.{brief, brief_kind, briefs}
-use Rattle.tv_match.specs.Working.{unit_news, news_of, news_to}
+use Rattle.tv_match.specs.Working.{unit_news, news_of}
 use Rattle.tv_match.specs.Seen.{telling_kind, telling_of, outcome_of, outcome_kind, IsProper}
 
 -- ---- the names of leaves differ

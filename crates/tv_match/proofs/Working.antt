@@ -1,12 +1,11 @@
 -- Tellings that are worked one after the other, and taken back.
-use Rattle.std.proofs.Common.{◌≡◌, ◌⊎◌, inl, inr, refl, ℕ, zero, suc, ◌+◌, ◌<◌, ◌≤◌, List, [], ◌∷◌, ◌++◌, map, length, take, Option, Some, sym, ap, subst, ◌∙◌, arith, append_assoc, append-nil, length-append}
+use Rattle.std.proofs.Common.{◌≡◌, ◌⊎◌, inl, inr, refl, ℕ, zero, suc, ◌+◌, ◌<◌, ◌≤◌, List, [], ◌∷◌, ◌++◌, map, length, take, sym, ap, subst, ◌∙◌, arith, append_assoc, append-nil, length-append}
 use Rattle.tv_value.specs.Strategies.{Strategy}
 use Rattle.tv_strategy.specs.Sources.{Each}
-use Rattle.tv_matching.specs.Matchers.{Kept}
 use Rattle.tv_matching.specs.Stores as spec
 use Rattle.tv_matching.specs.Stores.{leaf_store, cross_store, dot_store, store_for, News, gain, grown, told_by, worked, worked_items}
 use Rattle.tv_matching.proofs.Lists.{map-append, each-weaken}
-use Rattle.tv_match.specs.Entries.{Entry, kept_entry, kepts, front, AreMore, Rise}
+use Rattle.tv_match.specs.Entries.{Entry, kepts, front, AreMore, Rise}
 use Rattle.tv_match.specs.Filed.{Filed, filed_leaf, filed_cross, filed_dot, kept_store, fronted, Adds}
 use Rattle.tv_match.specs.Working.{unit_news, news_of, news_to, IsFull, IsWorked, IsDone}
 use Rattle.tv_match.specs.Brief.{briefs, brief_store}

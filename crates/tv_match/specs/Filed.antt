@@ -1,12 +1,10 @@
 -- The store that the code keeps, with the number of each item.
 use Rattle.std.specs.Prelude.{◌≡◌, ℕ, List, Option}
-use Rattle.tv_value.specs.Nested.{Place}
 use Rattle.tv_matching.specs.Items.{item}
 use Rattle.tv_matching.specs.Stores as spec
 use Rattle.tv_matching.specs.Stores.{leaf_store, cross_store, dot_store}
 use Rattle.tv_matching.specs.Matchers.{Kept}
 use Rattle.tv_match.specs.Entries.{Entry, kind_view, front, AreMore}
-use Rattle.tv_match.specs.declared.kinds.Kind as code
 use Rattle.tv_match.specs.declared.stores.News.{News}
 use Rattle.tv_match.specs.declared.stores.Store.{Store, fold-Store}
 use Rattle.tv_match.specs.declared.stores.Store.TheOpen.{Store-F}

@@ -6,3 +6,6 @@ pub mod Filed
 pub mod Working
 pub mod Seen
 pub mod Ahead
+pub mod Held
+pub mod Stated
+pub mod Scripts

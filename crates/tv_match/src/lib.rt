@@ -2,10 +2,12 @@
 //! passed fault as soon as all that it waits for was told.
 //!
 //! **What it promises.** A contract sees of a matcher a `Matching` (`tv_matching`, `specs/Matchers.antt`): what it was told,
-//! for which tellings it holds room, and what has come out. Each outcome comes once, and nothing is left exactly where all
-//! that follows from what was told has come out. A refused telling, or a refused reservation, changes nothing but that no
-//! room is held; after `reserve` the listed tellings are not refused, and its number is exact. Want of memory is the one
-//! refusal. Each job says whether some value that it binds was told to hold a fault.
+//! for which tellings it holds room, and what has come out. For all delivered values of which what was told is true, what has
+//! come out are ends, lists and passed faults of their iteration whose sources were told, each once, and nothing follows
+//! exactly where all of these have come out (`laws::what_has_come_out`, stated in `specs/Stated.antt`). A refused telling, or
+//! a refused reservation, changes nothing but that no room is held; after `reserve` the listed tellings are not refused, and
+//! its number is exact; a telling other than the next held one lets go what was held. Want of memory is the one refusal.
+//! Each job says whether some value that it binds was told to hold a fault, also before a held telling is made.
 //!
 //! **How it is laid out.** For each cross and dot a `Store` keeps what is needed of its two children, the first ones taken
 //! together before the later ones. A telling goes to its leaf, and what is new at a child is joined with what is kept of the
@@ -17,6 +19,7 @@
 //! - `joins`, `stores`: what is new in a cross or dot, and what is kept of a strategy; `building` makes it
 //! - `steps`, `listing`: one telling, or several, worked and taken back
 //! - `matchers`: the calls; `matchers/ahead`: what the held tellings will bring, and all of them made
+//! - `laws`: what holds of every matcher
 #![tactic(auto)]
 
 mod bags;
@@ -24,10 +27,13 @@ mod building;
 mod found;
 mod joins;
 mod kinds;
+pub mod laws;
 mod listing;
 mod matchers;
 mod steps;
 mod stores;
+#[cfg(test)]
+mod tests;
 mod told;
 
 pub use kinds::Kind;

@@ -40,6 +40,7 @@ pub struct Matcher {
 impl Matcher {
     ghost use Rattle.tv_value.specs.Views.{strategy_view};
     ghost use Rattle.tv_match.specs.Ahead.{in_order_ahead};
+    ghost use Rattle.tv_match.specs.Held.{LetsGo};
     ghost use Rattle.tv_match.specs.Seen.{told_view, NameLeaves, next_place, matching, IsSound, IsProper, IsNext, HasMore, telling_of, next_out, is_faulty, in_order};
 
     /// A matcher that was told nothing. What follows from nothing, a job where the strategy has no leaf, is still to come out.
@@ -114,6 +115,7 @@ impl Matcher {
         requires leaf { leaf < length (leaf_names (matching self.old).strategy) }
         requires new { CanTell (matching self.old) (arrival (leaf_name (matching self.old).strategy leaf) place.now fault) }
         ensures ok { OnOk result (IsTold (arrival (leaf_name (matching self.old).strategy leaf) place.now fault) (matching self.old) (matching self.new)) }
+        ensures let_go { OnOk result (LetsGo (arrival (leaf_name (matching self.old).strategy leaf) place.now fault) (matching self.old) (matching self.new)) }
         ensures refused { OnErr result (IsFreed (matching self.old) (matching self.new)) }
         ensures held { (rest : List Telling) → (matching self.old).held ≡ arrival (leaf_name (matching self.old).strategy leaf) place.now fault ∷ rest → IsOk result × ((matching self.new).held ≡ rest) }
         ensures order { take (length (in_order self.old)) (in_order self.new) ≡ in_order self.old }
@@ -135,6 +137,7 @@ impl Matcher {
         requires leaf { leaf < length (leaf_names (matching self.old).strategy) }
         requires new { CanTell (matching self.old) (faulty (leaf_name (matching self.old).strategy leaf) place.now) }
         ensures ok { OnOk result (IsTold (faulty (leaf_name (matching self.old).strategy leaf) place.now) (matching self.old) (matching self.new)) }
+        ensures let_go { OnOk result (LetsGo (faulty (leaf_name (matching self.old).strategy leaf) place.now) (matching self.old) (matching self.new)) }
         ensures refused { OnErr result (IsFreed (matching self.old) (matching self.new)) }
         ensures held { (rest : List Telling) → (matching self.old).held ≡ faulty (leaf_name (matching self.old).strategy leaf) place.now ∷ rest → IsOk result × ((matching self.new).held ≡ rest) }
         ensures order { take (length (in_order self.old)) (in_order self.new) ≡ in_order self.old }
@@ -152,6 +155,7 @@ impl Matcher {
         requires leaf { leaf < Rattle.std.specs.Prelude.length (leaf_names (matching self.old).strategy) }
         requires new { CanTell (matching self.old) (close (leaf_name (matching self.old).strategy leaf) place.now length) }
         ensures ok { OnOk result (IsTold (close (leaf_name (matching self.old).strategy leaf) place.now length) (matching self.old) (matching self.new)) }
+        ensures let_go { OnOk result (LetsGo (close (leaf_name (matching self.old).strategy leaf) place.now length) (matching self.old) (matching self.new)) }
         ensures refused { OnErr result (IsFreed (matching self.old) (matching self.new)) }
         ensures held { (rest : List Telling) → (matching self.old).held ≡ close (leaf_name (matching self.old).strategy leaf) place.now length ∷ rest → IsOk result × ((matching self.new).held ≡ rest) }
         ensures order { take (Rattle.std.specs.Prelude.length (in_order self.old)) (in_order self.new) ≡ in_order self.old }
@@ -210,7 +214,7 @@ impl Matcher {
     /// How many things follow from what was told so far: those that have come out, and those that are still to come.
     ///
     /// They have numbers in the order in which they come out. What a telling brings has those from what this answers before
-    /// it to what it answers after it. Takes no memory. Linear in what is held.
+    /// it to what it answers after it. Takes no memory. Linear in what the held tellings will bring, which it counts off the end.
     pub fn shown(&self) -> usize
         requires { IsSound self.now }
         ensures order { result ≡ length (in_order self.now) }
@@ -256,6 +260,7 @@ impl Matcher {
         requires proper { IsProper (strategy_view self.old.tree) (entry leaf place.now kind) }
         requires new { CanTell (matching self.old) (telling_of (strategy_view self.old.tree) (entry leaf place.now kind)) }
         ensures ok { OnOk result (IsTold (telling_of (strategy_view self.old.tree) (entry leaf place.now kind)) (matching self.old) (matching self.new)) }
+        ensures let_go { OnOk result (LetsGo (telling_of (strategy_view self.old.tree) (entry leaf place.now kind)) (matching self.old) (matching self.new)) }
         ensures refused { OnErr result (IsFreed (matching self.old) (matching self.new)) }
         ensures held { (rest : List Telling) → (matching self.old).held ≡ telling_of (strategy_view self.old.tree) (entry leaf place.now kind) ∷ rest → IsOk result × ((matching self.new).held ≡ rest) }
         ensures order { take (length (in_order self.old)) (in_order self.new) ≡ in_order self.old }

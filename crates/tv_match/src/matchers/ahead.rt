@@ -1,5 +1,6 @@
 //! What the held tellings of a matcher will bring, lent by its position, and all of them made at once.
 ghost use Rattle.std.specs.Prelude.{◌≡◌, ◌++◌, ◌<◌, [], Some, length, slice_get};
+ghost use Rattle.tv_matching.specs.Told.{faulty_at};
 ghost use Rattle.tv_matching.specs.Matchers.{CanTellAll};
 ghost use Rattle.tv_match.specs.Ahead.{AheadIsMatched, NoneIsAhead, in_order_ahead};
 
@@ -7,7 +8,7 @@ use super::Matcher;
 use crate::kinds::Kind;
 
 impl Matcher {
-    ghost use Rattle.tv_match.specs.Seen.{matching, IsSound, in_order, outcome_kind};
+    ghost use Rattle.tv_match.specs.Seen.{matching, IsSound, in_order, outcome_kind, is_faulty};
 
     /// How many things follow of what was told and of what is held. Takes no memory.
     pub fn ahead(&self) -> usize
@@ -19,7 +20,8 @@ impl Matcher {
     /// The place and the kind of one of these, by its position among them. Takes no memory.
     pub fn item_ahead(&self, at: usize) -> (&[u32], Kind)
         requires { at < length (in_order_ahead self.now) }
-        ensures { slice_get (in_order_ahead self.now) at ≡ Some (outcome_kind result.0.now result.1) }
+        ensures item { slice_get (in_order_ahead self.now) at ≡ Some (outcome_kind result.0.now result.1) }
+        ensures faulty { IsSound self.now → CanTellAll (matching self.now) (matching self.now).held → is_faulty result.1 ≡ faulty_at (matching self.now).strategy ((matching self.now).told ++ (matching self.now).held) result.0.now }
     {
         (self.out.place(at), self.out.kind(at))
     }

@@ -19,6 +19,6 @@ loop-at-preserved c =
     record {
       end_is = v.end_is;
       from_on = omega arith;
-      counted = count-next 0 (in_order_ahead c.args.matcher.now) c.loop-at.at c.loop-at.count _ _ _ e c.item_ahead-kind.ensures ∙ v.counted;
+      counted = count-next 0 (in_order_ahead c.args.matcher.now) c.loop-at.at c.loop-at.count _ _ _ e c.item_ahead-kind.ensures.item ∙ v.counted;
       within = let w = v.within in omega (arith, f, e, w);
     }

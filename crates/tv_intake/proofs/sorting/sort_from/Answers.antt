@@ -9,7 +9,7 @@ loop-at-preserved c =
     let i = c.loop-at.at in
     let os = in_order_ahead c.args.matcher.now in
     let v = c.loop-at.invariant in
-    let e = c.item_ahead-kind.ensures in
+    let e = c.item_ahead-kind.ensures.item in
     record {
       end_is = v.end_is;
       from_on = omega arith;

@@ -1,6 +1,5 @@
-use Rattle.std.proofs.Common.{◌≡◌, refl, ℕ, ◌+◌, [], ◌∷◌, length, sym, ap, ◌∙◌}
+use Rattle.std.proofs.Common.{refl, [], sym, ap, ◌∙◌}
 use Rattle.tv_value.specs.Views.{strategy_view}
-use Rattle.tv_strategy.specs.Measures.{leaf_names}
 use Rattle.tv_strategy.specs.Views.{children_view}
 use Rattle.tv_matching.specs.Stores.{dot_store, store_for, store_for_dot}
 use Rattle.tv_match.specs.Entries.{kepts}

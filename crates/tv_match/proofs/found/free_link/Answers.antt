@@ -1,5 +1,5 @@
-use Rattle.std.proofs.Common.{rules, ◌≡◌, ◌+◌, ◌*◌, ◌<◌, suc, slice_index_or, ap, ◌∙◌, arith}
-use Rattle.tv_match.specs.Linked.{digit_of, link_at}
+use Rattle.std.proofs.Common.{rules, ◌+◌, ◌*◌, slice_index_or, ap, arith}
+use Rattle.tv_match.specs.Linked.{link_at}
 use Rattle.tv_match.proofs.Linking.{seeks-start, seeks-next}
 use Rattle.tv_match.proofs.found.free_link.Goals as goal
 

@@ -1,9 +1,8 @@
-use Rattle.std.specs.Prelude.{IfSome, IsNone}
-use Rattle.std.proofs.Common.{rules, refl, ◌≡◌, ◌≢◌, ◌+◌, ◌*◌, ◌<◌, ◌≤◌, [], suc, length, take, Option, Some, None, slice_index_or, sym, ap, subst, ◌∙◌, arith}
-use Rattle.tv_matching.specs.Stores.{latest_at}
-use Rattle.tv_match.specs.Entries.{entry_at, kepts, FoundBefore}
+use Rattle.std.specs.Prelude.{IfSome}
+use Rattle.std.proofs.Common.{rules, ◌≡◌, ◌+◌, ◌*◌, ◌<◌, ◌≤◌, suc, Option, Some, None, slice_index_or, sym, ap, subst, arith}
+use Rattle.tv_match.specs.Entries.{FoundBefore}
 use Rattle.tv_match.specs.Linked.{digit_of, link_at}
-use Rattle.tv_match.proofs.Linking.{Searches, digit-small, searches-start, searches-other, searches-here, searches-none, searches-some}
+use Rattle.tv_match.proofs.Linking.{Searches, searches-start, searches-other, searches-here, searches-none, searches-some}
 use Rattle.tv_match.proofs.found.latest.Goals as goal
 use Rattle.tv_match.proofs.found.latest.Goals.{then-eq, else-eq}
 

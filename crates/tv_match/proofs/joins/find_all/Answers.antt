@@ -1,4 +1,4 @@
-use Rattle.std.proofs.Common.{rules, ◌≡◌, ◌≤◌, ◌++◌, [], ◌∷◌, length, ap, ◌∙◌}
+use Rattle.std.proofs.Common.{rules, ◌≤◌, ◌++◌, [], ◌∷◌, length, ap, ◌∙◌}
 use Rattle.tv_match.specs.Entries.{kepts}
 use Rattle.tv_match.proofs.Putting.{puts-end, flat-itself}
 use Rattle.tv_match.proofs.joins.find_all.Goals as goal

@@ -1,4 +1,4 @@
-use Rattle.std.proofs.Common.{[], ◌∷◌, map}
+use Rattle.std.proofs.Common.{[], ◌∷◌}
 use Rattle.tv_match.proofs.Putting.{Puts}
 use Rattle.tv_match.proofs.joins.find_all.Given as goal
 

@@ -1,4 +1,4 @@
-use Rattle.std.proofs.Common.{[], ◌∷◌, map}
+use Rattle.std.proofs.Common.{map}
 use Rattle.tv_matching.specs.Stores.{met_with, latest_at}
 use Rattle.tv_match.specs.Entries.{kepts}
 use Rattle.tv_match.proofs.Putting.{PutsBrief}

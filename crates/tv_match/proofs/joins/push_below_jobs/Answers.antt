@@ -1,4 +1,4 @@
-use Rattle.std.proofs.Common.{rules, ◌≡◌, ◌++◌, [], length, append-nil, sym, ap, ◌∙◌}
+use Rattle.std.proofs.Common.{rules, ◌≡◌, ◌++◌, length, append-nil, sym, ap, ◌∙◌}
 use Rattle.tv_matching.specs.Matched.{below_jobs}
 use Rattle.tv_match.specs.Entries.{kepts}
 use Rattle.tv_match.specs.Brief.{briefs}

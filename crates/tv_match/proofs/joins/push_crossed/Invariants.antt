@@ -1,4 +1,3 @@
-use Rattle.std.proofs.Common.{[], ◌∷◌}
 use Rattle.tv_matching.specs.Matched.{replaced}
 use Rattle.tv_match.specs.Entries.{kepts}
 use Rattle.tv_match.proofs.Putting.{PutsBrief}

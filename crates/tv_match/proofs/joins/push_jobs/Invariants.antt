@@ -1,4 +1,3 @@
-use Rattle.std.proofs.Common.{[], ◌∷◌}
 use Rattle.tv_matching.specs.Items.{if_so}
 use Rattle.tv_matching.specs.Stores.{is_job}
 use Rattle.tv_match.proofs.Putting.{Puts}

@@ -1,6 +1,5 @@
-use Rattle.std.proofs.Common.{◌≡◌, ◌≤◌, ◌++◌, map, length, take}
-use Rattle.tv_matching.specs.Stores.{met_with, latest_at}
-use Rattle.tv_match.specs.Entries.{kepts, kept_entry, entry_at, AreMore}
+use Rattle.tv_matching.specs.Stores.{met_with}
+use Rattle.tv_match.specs.Entries.{kept_entry, entry_at}
 use Rattle.tv_match.specs.Brief.{brief}
 use Rattle.tv_match.proofs.Meeting.{Meets}
 use Rattle.tv_match.proofs.joins.push_met_second.Given as goal

@@ -1,4 +1,3 @@
-use Rattle.std.proofs.Common.{◌≡◌, length}
 use Rattle.tv_match.specs.Entries.{entry}
 use Rattle.tv_match.specs.Filed.{filed}
 use Rattle.tv_match.proofs.Filing.{on-both}

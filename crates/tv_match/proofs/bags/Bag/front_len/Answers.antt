@@ -1,4 +1,4 @@
-use Rattle.std.proofs.Common.{rules, ◌≡◌, suc, ◌-◌, ◌<◌, ◌≤◌, length, take, sym, ap, subst, ◌∙◌, arith}
+use Rattle.std.proofs.Common.{◌≡◌, suc, ◌-◌, ◌<◌, ◌≤◌, length, take, sym, ap, subst, ◌∙◌, arith}
 use Rattle.tv_match.specs.Entries.{front, entry_at}
 use Rattle.tv_match.specs.Slots.{shown}
 use Rattle.tv_match.proofs.Fronts.{front-step, front-ends}

@@ -1,5 +1,5 @@
 use Rattle.std.proofs.Common.{rules, ◌≡◌, ◌-◌, ◌++◌, ◌∷◌, [], length, ap, ◌∙◌}
-use Rattle.tv_match.specs.Entries.{Entry, entry}
+use Rattle.tv_match.specs.Entries.{entry}
 use Rattle.tv_match.specs.declared.bags.Slot.{Slot}
 use Rattle.tv_match.proofs.Laying.{pushed-laid, pushed-shown}
 use Rattle.tv_match.proofs.bags.Bag.push.Goals as goal

@@ -1,4 +1,4 @@
-use Rattle.std.proofs.Common.{rules, ◌≡◌, ◌<◌, ◌≤◌, length, take, get_or, sym, ap, subst, ◌∙◌, arith}
+use Rattle.std.proofs.Common.{rules, ◌<◌, length, take, ap, ◌∙◌}
 use Rattle.tv_match.specs.declared.bags.Slot.{Slot}
 use Rattle.tv_match.proofs.Laying.{cut-laid, cut-shown}
 use Rattle.tv_match.proofs.bags.Bag.truncate.Goals as goal

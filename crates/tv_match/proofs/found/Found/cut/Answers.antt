@@ -1,4 +1,3 @@
-use Rattle.std.proofs.Common.{rules, ◌≡◌, ◌*◌, ◌≤◌, length, take, sym, ap, subst, ◌∙◌, arith}
 use Rattle.tv_match.proofs.Linking.{cut-linked}
 use Rattle.tv_match.proofs.found.Found.cut.Goals as goal
 

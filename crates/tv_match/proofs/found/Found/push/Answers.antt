@@ -1,6 +1,6 @@
-use Rattle.std.proofs.Common.{rules, ◌≡◌, ℕ, ◌+◌, ◌*◌, List, ◌++◌, ◌∷◌, [], length, sym, ap, subst, ◌∙◌, arith, append-nil, length-append}
+use Rattle.std.proofs.Common.{rules, ◌≡◌, ℕ, ◌+◌, ◌*◌, List, ◌++◌, ◌∷◌, [], length, ap, subst, ◌∙◌, arith, append-nil, length-append}
 use Rattle.tv_match.specs.Entries.{entry}
-use Rattle.tv_match.specs.Linked.{AreLinked, Agree, Leads}
+use Rattle.tv_match.specs.Linked.{Agree, Leads}
 use Rattle.tv_match.proofs.Linking.{pushed-linked}
 use Rattle.tv_match.proofs.found.Found.push.Goals as goal
 

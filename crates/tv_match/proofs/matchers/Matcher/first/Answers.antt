@@ -1,4 +1,4 @@
-use Rattle.std.proofs.Common.{rules, ◌≡◌, ◌<◌, ◌≤◌, length, sym, subst, ap, arith}
+use Rattle.std.proofs.Common.{rules, ◌<◌, ◌≤◌, length, subst, arith}
 use Rattle.tv_value.specs.Views.{strategy_view}
 use Rattle.tv_match.specs.Entries.{front, entry_at}
 use Rattle.tv_match.specs.Filed.{filed}

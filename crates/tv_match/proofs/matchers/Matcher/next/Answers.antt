@@ -1,4 +1,4 @@
-use Rattle.std.proofs.Common.{◌≡◌, ◌≤◌, length, ap, arith}
+use Rattle.std.proofs.Common.{length, ap, arith}
 use Rattle.tv_value.specs.Views.{strategy_view}
 use Rattle.tv_match.specs.Filed.{filed}
 use Rattle.tv_match.proofs.Calls.{next-short}

@@ -1,4 +1,4 @@
-use Rattle.std.proofs.Common.{◌≡◌, ◌≤◌, ◌++◌, map, length, take, sym, ap, ◌∙◌, arith}
+use Rattle.std.proofs.Common.{◌≡◌, ◌≤◌, ◌++◌, map, length, take, ap, ◌∙◌, arith}
 use Rattle.tv_value.specs.Views.{strategy_view}
 use Rattle.tv_match.specs.Entries.{front}
 use Rattle.tv_match.specs.Filed.{filed}

@@ -1,4 +1,4 @@
-use Rattle.std.proofs.Common.{◌≡◌, ◌++◌, ap, ◌∙◌}
+use Rattle.std.proofs.Common.{◌++◌, ap, ◌∙◌}
 use Rattle.tv_value.specs.Views.{strategy_view}
 use Rattle.tv_matching.specs.Stores.{gain, told_by}
 use Rattle.tv_match.specs.Entries.{kepts}

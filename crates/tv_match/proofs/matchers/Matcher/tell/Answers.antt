@@ -1,13 +1,14 @@
-use Rattle.std.proofs.Common.{rules, refl, ◌≡◌, ◌<◌, ◌≤◌, ◌+◌, ◌++◌, ◌∷◌, [], true, length, take, sym, ap, subst, ◌∙◌, arith}
+use Rattle.std.proofs.Common.{refl, ◌≡◌, ◌≤◌, ◌+◌, ◌++◌, ◌∷◌, [], length, take, drop, sym, ap, subst, ◌∙◌, arith}
 use Rattle.tv_value.specs.Views.{strategy_view}
 use Rattle.tv_matching.specs.Matchers.{IsTold}
-use Rattle.tv_match.specs.Entries.{entry, entry_at, front, AreMore}
+use Rattle.tv_match.specs.Entries.{entry, front}
 use Rattle.tv_match.specs.Filed.{filed}
-use Rattle.tv_match.specs.Seen.{telling_of, seen_as, AreSound}
+use Rattle.tv_match.specs.Seen.{telling_of, tellings_of, seen_as, AreSound}
 use Rattle.tv_match.specs.Working.{IsDone}
 use Rattle.tv_match.proofs.Calls.{next-sound, not-held, made-sound, made-told, failed-sound, failed-freed, done-at, more-at, listed-at, listed-long, first-long, listed-count, clash}
 use Rattle.tv_match.proofs.Faults.{order-stays}
 use Rattle.tv_match.proofs.Fronts.{more-late, front-again}
+use Rattle.tv_match.proofs.Putting.{from-next, past}
 use Rattle.tv_match.proofs.matchers.Matcher.tell.Goals as goal
 
 pub overflow_add-self : goal.overflow_add-self
@@ -113,3 +114,14 @@ returns-in-Err-clause-order c =
     let long : m.told ≤ length mid.log = first-long m.told mid.log m.log a.told_within log in
     let worked : front m.told c.work.new.out ≡ front m.told m.out = more-late m.told (length mid.log + 1) mid.out c.work.new.out (omega (arith, long)) c.work.ensures.more ∙ ap (front m.told) c.take_back.ensures.out ∙ front-again m.told m.out in
     order-stays m.told m.told m.out c.take_back-in-Err.new.out (omega arith) (ap (front m.told) c.take_back-in-Err.ensures.out ∙ front-again m.told c.work.new.out ∙ worked)
+
+pub returns-then-is_next-clause-let_go : goal.returns-then-is_next-clause-let_go
+returns-then-is_next-clause-let_go c other =
+    let m = c.args.self.now in
+    let s = strategy_view m.tree in
+    let next = c.is_next.ensures.yes c.if-is_next.true in
+    let rest = tellings_of s (drop (m.told + 1) m.log) in
+    absurd (other rest (ap (tellings_of s) (from-next m.log m.told next.0) ∙ ap (λ x. telling_of s x ∷ rest) next.1))
+
+pub returns-in-Ok-clause-let_go : goal.returns-in-Ok-clause-let_go
+returns-in-Ok-clause-let_go c other = ap (tellings_of (strategy_view c.args.self.now.tree)) (past c.work.new.log c.len-self.result (omega (arith, c.len-self.ensures)))

@@ -1,4 +1,4 @@
-use Rattle.std.proofs.Common.{◌≡◌, refl, sym, ap, ◌∙◌}
+use Rattle.std.proofs.Common.{ap, ◌∙◌}
 use Rattle.tv_match.specs.Filed.{filed, fronted}
 use Rattle.tv_match.proofs.Filing.{cross-cut, dot-cut}
 use Rattle.tv_match.proofs.stores.Store.+cut.Goals as goal

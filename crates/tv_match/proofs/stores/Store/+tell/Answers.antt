@@ -1,4 +1,4 @@
-use Rattle.std.proofs.Common.{◌≡◌, ◌++◌, sym, ap, subst, ◌∙◌}
+use Rattle.std.proofs.Common.{◌++◌, sym, ap, subst, ◌∙◌}
 use Rattle.tv_matching.specs.Stores.{told_by, gain, grown}
 use Rattle.tv_match.specs.Entries.{kepts}
 use Rattle.tv_match.specs.Filed.{filed, kept_store, news_view, Adds}

@@ -1,0 +1,17 @@
+//! What holds of every matcher: each law is the clause of a function that does nothing.
+ghost use Rattle.tv_match.specs.Stated.{SoundIsMatching, GivesOnlyKnown, GivesOnce, GivesAllKnown, MoreIsLeft, OrderIsKnown};
+
+/// What a contract sees of a matcher is true of it, so the laws of `tv_matching` speak of every matcher.
+pub fn matchers()
+    ensures { SoundIsMatching }
+{}
+
+/// What has come out are ends, lists and passed faults whose sources were told, each once, of the iteration of all delivered
+/// values of which what was told is true; and nothing follows exactly where all of these have come out.
+pub fn what_has_come_out()
+    ensures known { GivesOnlyKnown }
+    ensures once { GivesOnce }
+    ensures all { GivesAllKnown }
+    ensures more { MoreIsLeft }
+    ensures order { OrderIsKnown }
+{}
