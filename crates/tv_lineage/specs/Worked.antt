@@ -34,7 +34,7 @@ leaf_c q = record { port = out; place = q; used = made (job_c q) ∷ [] }
 abbrev pub leaves : List Leaf
 leaves = map leaf_c ((0 ∷ 0 ∷ []) ∷ (0 ∷ 1 ∷ []) ∷ (1 ∷ 0 ∷ []) ∷ (1 ∷ 1 ∷ []) ∷ [])
 
--- rows 16 and 38, by records
+-- a cross of two lists, by records
 abbrev pub FollowsRecords : Type 0
 FollowsRecords =
     (backward crossed (made (job_c (1 ∷ 0 ∷ [])) ∷ []) ≡ (x, 1 ∷ []) ∷ (y, 0 ∷ []) ∷ [])

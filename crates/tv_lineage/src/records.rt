@@ -163,8 +163,9 @@ impl Records {
 fn parts_of(alloc: Global, marks: Marks) -> Result<Parts, NoMemory>
     ensures { IfOk result (λ ps. map part_view ps ≡ map mark_part marks) }
 {
-    let mut parts = Vec::new(alloc);
-    for mark in marks.into_vec() {
+    let marks = marks.into_vec();
+    let mut parts = Vec::with_capacity(alloc, marks.len())?;
+    for mark in marks {
         parts.push(Part::Single(mark))?;
     }
     Ok(Sequence::of(parts))

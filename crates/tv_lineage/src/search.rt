@@ -139,7 +139,7 @@ impl Search {
         ensures { IfOk result (λ ls. ls ≡ (search_view self).found) }
     {
         let mut found = self.found;
-        let mut labels = Vec::new(alloc);
+        let mut labels = Vec::with_capacity(alloc, found.len())?;
         while let Some(label) = found.pop_first() {
             labels.push(label)?;
         }

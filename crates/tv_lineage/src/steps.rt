@@ -55,9 +55,9 @@ pub(crate) fn names_at(
     ensures { IfOk result (λ ns. ns ≡ map (spec.job_at step.now) places.keys) }
 {
     let mut places = places;
-    let mut names = Vec::new(alloc);
+    let mut names = Vec::with_capacity(alloc, places.len())?;
     while let Some(place) = places.pop_first() {
-        let mut levels = Vec::new(alloc);
+        let mut levels = Vec::with_capacity(alloc, 1)?;
         levels.push((step.copy(alloc)?, place))?;
         names.push(Sequence::of(levels))?;
     }
