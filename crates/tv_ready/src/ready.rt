@@ -3,7 +3,7 @@ ghost use Rattle.std.specs.Prelude.{◌≡◌, ◌<◌, ◌-◌, ◌==◌, [], t
 ghost use Rattle.std.specs.List.{list_all};
 ghost use Rattle.tv_ready.specs.Laid.{is_late_first, rises};
 ghost use Rattle.tv_ready.specs.Listed.{with_job};
-ghost use Rattle.tv_ready.specs.Orders.{are_within, is_before};
+ghost use Rattle.tv_ready.specs.Orders.{are_within, is_before, place_at};
 
 use crate::heap::{rise, sink};
 use crate::table::Table;
@@ -88,6 +88,19 @@ impl Ready {
         match self.queue.front() {
             Some(at) => Some(self.table.number(*at)),
             None => None,
+        }
+    }
+
+    /// The place of the first job, and no index where there is none. Takes no memory.
+    pub fn first_place(&self) -> &[u32]
+        ensures { result.now ≡ place_at self.now.jobs 0 }
+    {
+        if is_late_first(&self.table, &self.queue, self.late.as_slice()) {
+            return self.table.place(self.late[0]);
+        }
+        match self.queue.front() {
+            Some(at) => self.table.place(*at),
+            None => &[],
         }
     }
 

@@ -1,0 +1,4 @@
+pub mod FoundIn
+pub mod Found
+pub mod Delivered
+pub mod Stated

@@ -1,0 +1,17 @@
+use Rattle.std.proofs.Common.{sym, subst, length}
+use Rattle.tv_idle.specs.Kept.{AreAllKept, is_gone}
+use Rattle.tv_idle.proofs.AllSteps.{added-kept}
+use Rattle.tv_idle.proofs.idle.Idle.add_step.Goals as goal
+
+pub invariant_of-self-2 : goal.invariant_of-self-2
+invariant_of-self-2 c =
+    let r = c.self.inside in
+    let i = c.self.invariant in
+    let gs = r.gone.items in
+    record {
+      all =
+          subst (AreAllKept (is_gone gs) (length gs)) (sym c.in_ok-push.ensures.items)
+          (added-kept (is_gone gs) c.args.levels c.new.result c.new.ensures.good c.new.ensures.faulty (length gs) r.queues.items i.all);
+      marks = i.marks;
+      numbers = i.numbers;
+    }

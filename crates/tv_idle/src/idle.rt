@@ -1,0 +1,183 @@
+//! The idle jobs of an instance.
+ghost use Rattle.std.specs.Prelude.{◌≡◌, ◌+◌, ◌-◌, ◌<◌, ◌++◌, ◌∷◌, [], length, true, slice_set, OnErr, OnOk};
+ghost use Rattle.tv_idle.specs.Idles.{first_number, first_of, has_some, is_idle, is_idle_at, none_idle, of_step, room_for, with_idle, with_rooms_of, without};
+
+use crate::queues::Queues;
+use std::alloc::Global;
+use std::marker::Model;
+use tv_value::NoMemory;
+
+/// The known jobs of an instance that neither run nor have a result. The steps are told by their numbers, and so are the jobs.
+///
+/// A contract sees for each step the list of its idle jobs that bind no fault, and the list of those that bind one, in order of
+/// place; how many jobs are known; and the rooms.
+#[derive(Debug, Drop)]
+pub struct Idle {
+    // By step.
+    queues: Vec<Queues>,
+    // By number: whether the job has gone.
+    gone: Vec<bool>,
+    // How many more numbers can be given out.
+    room: usize,
+}
+
+impl Model for Idle {
+    ghost use Rattle.tv_idle.specs.Idles.{Idles};
+
+    ghost Value = { Idles };
+
+    ghost use Rattle.std.specs.Prelude.{map, length, vec_capacity};
+    ghost use Rattle.tv_idle.specs.Kept.{is_gone, shown, IsLaid};
+
+    ghost view = { λ i. record { steps = map (shown (is_gone i.gone.items)) i.queues.items; known = length i.gone.items; room = i.room } };
+
+    ghost invariant = { λ i. IsLaid i.queues.items i.gone.items (vec_capacity i.gone) i.room };
+}
+
+impl Idle {
+    /// Of no step, with no job. Takes no memory.
+    pub fn new(alloc: Global) -> Idle
+        ensures steps { result.steps ≡ [] }
+        ensures known { result.known ≡ 0 }
+        ensures room { result.room ≡ 0 }
+    {
+        Idle {
+            queues: Vec::new(alloc),
+            gone: Vec::new(alloc),
+            room: 0,
+        }
+    }
+
+    /// Adds a step, with no job, whose places have so many indices.
+    pub fn add_step(&mut self, alloc: Global, levels: usize) -> Result<(), NoMemory>
+        ensures refused { OnErr result (self.new ≡ self.old) }
+        ensures steps { OnOk result (self.new.steps ≡ self.old.steps ++ none_idle levels ∷ []) }
+        ensures known { self.new.known ≡ self.old.known }
+        ensures room { self.new.room ≡ self.old.room }
+    {
+        self.queues.push(Queues::new(alloc, levels))?;
+        Ok(())
+    }
+
+    /// How many steps there are.
+    pub fn steps(&self) -> usize
+        ensures { result ≡ length self.now.steps }
+    {
+        self.queues.len()
+    }
+
+    /// How many jobs are known.
+    pub fn known(&self) -> usize
+        ensures { result ≡ self.now.known }
+    {
+        self.gone.len()
+    }
+
+    /// Takes the room of a step for so many more jobs that bind no fault, and so many that bind one. Where it is refused, one of
+    /// the two may have been taken.
+    pub fn reserve(&mut self, step: u32, good: usize, faulty: usize) -> Result<(), NoMemory>
+        requires step { step < length self.old.steps }
+        ensures good { OnOk result ((of_step self.new.steps step).good_room ≡ good) }
+        ensures faulty { OnOk result ((of_step self.new.steps step).faulty_room ≡ faulty) }
+        ensures steps { self.new.steps
+            ≡ slice_set self.old.steps step (with_rooms_of (of_step self.new.steps step) (of_step self.old.steps step)) }
+        ensures known { self.new.known ≡ self.old.known }
+        ensures room { self.new.room ≡ self.old.room }
+    {
+        self.queues[step as usize].reserve(good, faulty)
+    }
+
+    /// Takes the room for the numbers of so many more jobs, of all steps together. Answers want of memory where the last would
+    /// be no number of 32 bits.
+    pub fn reserve_numbers(&mut self, count: usize) -> Result<(), NoMemory>
+        ensures ok { OnOk result (self.new.room ≡ count) }
+        ensures refused { OnErr result (self.new ≡ self.old) }
+        ensures steps { self.new.steps ≡ self.old.steps }
+        ensures known { self.new.known ≡ self.old.known }
+    {
+        let Some(all) = self.gone.len().checked_add(count) else {
+            return Err(NoMemory);
+        };
+        if all > u32::MAX as usize {
+            return Err(NoMemory);
+        }
+        self.gone.reserve(count)?;
+        self.room = count;
+        Ok(())
+    }
+
+    /// One more job is known, of this step, at this place; it binds a fault or none. Answers its number. Takes no memory.
+    /// Constant where it stands after all jobs of its kind that came in order, else logarithmic in those that came late.
+    pub fn add(&mut self, step: u32, place: &[u32], faulty: bool) -> u32
+        requires step { step < length self.old.steps }
+        requires levels { length place.now ≡ (of_step self.old.steps step).levels }
+        requires step_room { 0 < room_for faulty (of_step self.old.steps step) }
+        requires room { 0 < self.old.room }
+        ensures number { result ≡ self.old.known }
+        ensures steps { self.new.steps
+            ≡ slice_set self.old.steps step (with_idle faulty (self.old.known, place.now) (of_step self.old.steps step)) }
+        ensures known { self.new.known ≡ self.old.known + 1 }
+        ensures room { self.new.room ≡ self.old.room - 1 }
+    {
+        let number = self.gone.len() as u32;
+        self.queues[step as usize].put(number, place, faulty);
+        self.gone.push_reserved(false);
+        self.room -= 1;
+        number
+    }
+
+    /// A job of this step, which is idle, is so no more: it was taken, or given a result. Takes no memory.
+    ///
+    /// Drops the jobs that have gone and stand at the front of their queue now, each in the logarithm of those that came late. As
+    /// a job is dropped once, that is a logarithm for each call, spread over all of them.
+    pub fn remove(&mut self, step: u32, number: u32)
+        requires { is_idle_at number (of_step self.old.steps step) ≡ true }
+        ensures steps { self.new.steps ≡ slice_set self.old.steps step (without number (of_step self.old.steps step)) }
+        ensures known { self.new.known ≡ self.old.known }
+        ensures room { self.new.room ≡ self.old.room }
+    {
+        self.gone[number as usize] = true;
+        self.queues[step as usize].trim(self.gone.as_slice());
+    }
+
+    /// Whether a known job is idle.
+    pub fn is_idle(&self, number: u32) -> bool
+        requires { number < self.now.known }
+        ensures { result ≡ is_idle self.now.steps number }
+    {
+        !self.gone[number as usize]
+    }
+
+    /// Whether a step has an idle job.
+    pub fn has_idle(&self, step: u32) -> bool
+        requires { step < length self.now.steps }
+        ensures { result ≡ has_some (of_step self.now.steps step) }
+    {
+        self.queues[step as usize].has_some()
+    }
+
+    /// The number of a step's first idle job in order of place, whether or not it binds a fault; of two at one place, that of the
+    /// one that was known first.
+    pub fn first(&self, step: u32) -> Option<u32>
+        requires { step < length self.now.steps }
+        ensures { result ≡ first_of (of_step self.now.steps step).good (of_step self.now.steps step).faulty }
+    {
+        self.queues[step as usize].first()
+    }
+
+    /// The number of a step's first idle job that binds no fault.
+    pub fn first_good(&self, step: u32) -> Option<u32>
+        requires { step < length self.now.steps }
+        ensures { result ≡ first_number (of_step self.now.steps step).good }
+    {
+        self.queues[step as usize].first_good()
+    }
+
+    /// The number of a step's first idle job that binds a fault.
+    pub fn first_faulty(&self, step: u32) -> Option<u32>
+        requires { step < length self.now.steps }
+        ensures { result ≡ first_number (of_step self.now.steps step).faulty }
+    {
+        self.queues[step as usize].first_faulty()
+    }
+}

@@ -1,0 +1,12 @@
+pub mod OfChanges
+pub mod OfShowing
+pub mod OfPieces
+pub mod OfTurning
+pub mod OfTrees
+pub mod OtherItems
+pub mod OfEndings
+pub mod OfSteps
+pub mod OfLists
+pub mod OfWires
+pub mod OfTold
+pub mod OfAccepted

@@ -1,0 +1,4 @@
+pub mod AlongWires
+pub mod EndedSteps
+pub mod TurningTrees
+pub mod WiredFlows

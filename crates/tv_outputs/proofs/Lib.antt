@@ -1,0 +1,10 @@
+pub mod Mapping
+pub mod Faults
+pub mod Lists
+pub mod Keeping
+pub mod Refusals
+pub mod Turning
+pub mod Ones
+pub mod Looks
+pub mod Counts
+pub mod Tried

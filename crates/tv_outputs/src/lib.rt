@@ -1,0 +1,24 @@
+//! What is known so far of the outputs of an instance's steps.
+//!
+//! `Outputs` has a partial tree of pieces for each output. The trees stand together in one region of a pool, and the frame gives
+//! each step a range of their numbers. A result arrives in each tree of its step at one place, and a list is closed in all of
+//! them.
+//!
+//! **What it promises.** A contract sees for each tree the partial tree of the values that its pieces stand for (`known` in
+//! `specs/Known.antt`). `arrive` and `close` change the trees of a range exactly as `arrive` and `close_at` of `tv_parts` do, and
+//! no other tree (`specs/Changes.antt`). Neither is ever refused: `reserve` takes the room before. What will be whole by a change,
+//! and where faults will stand, can be asked before it.
+//!
+//! **What is kept.** The trees stand on slots of their own, each item is sound, and it is marked exactly where its value holds a
+//! fault (`specs/Kept.antt`). So no value is walked twice for its faults.
+//!
+//! - `outputs`: the trees and their calls
+//! - `one`: a change of one tree
+#![tactic(auto)]
+
+mod one;
+mod outputs;
+#[cfg(test)]
+mod tests;
+
+pub use outputs::{Nodes, Outputs};

@@ -1,0 +1,287 @@
+//! The trees of all outputs, and their calls.
+ghost use Rattle.std.specs.Prelude.{◌≡◌, ◌≤◌, ◌<◌, ◌+◌, ℕ, Some, length, map, slice_index_or, IfOk, OnOk};
+ghost use Rattle.tv_value.specs.Values.{holds_fault};
+ghost use Rattle.tv_parts.specs.Partials.{wanting, whole, holds_some};
+ghost use Rattle.tv_parts.specs.Changes.{arrive as arrived, close_at, CanArrive, CanClose};
+ghost use Rattle.tv_pool.specs.Pool.{IsLive, number_of};
+ghost use Rattle.tv_pool.specs.declared.handles.Region.{Region as InRegion};
+ghost use Rattle.tv_nodes.specs.Calls.{KeepsRegions};
+ghost use Rattle.tv_stream.specs.Trees.{least_whole};
+ghost use Rattle.tv_cell.specs.declared.piece.Piece.{Piece as APiece};
+ghost use Rattle.tv_cell.specs.PieceValues.{piece_value, piece_values};
+ghost use Rattle.tv_cell.specs.Soundness.{IsSound, AreSound};
+ghost use Rattle.tv_outputs.specs.Known.{known, depths as depths_of, tree_in, depth_in, needed};
+ghost use Rattle.tv_outputs.specs.Kept.{Stand};
+ghost use Rattle.tv_outputs.specs.Changes.{Arrive, Close, Turns, AllCanArrive, AllCanClose, least_or_past, HoldsFaults, Counted};
+
+use crate::one::{arrive_in, close_in};
+use std::alloc::Global;
+use tv_cell::{Piece, Pieces};
+use tv_pool::{Pool, Region};
+use tv_stream::{Partial, Slot};
+use tv_value::{NoMemory, Place};
+
+/// The pool in which the trees stand.
+pub type Nodes = Pool<Slot<Piece>>;
+
+/// What is known so far of the outputs of an instance's steps: a partial tree of pieces for each, by their numbers. The trees
+/// stand in one region of a pool, and go with it.
+#[derive(Drop)]
+pub struct Outputs {
+    trees: Vec<Partial<Piece>>,
+}
+
+impl Outputs {
+    /// A tree of each depth, of which nothing is known yet. Takes one node for each. Where it is refused, nodes may lie in the
+    /// region.
+    pub fn start(
+        alloc: Global,
+        pool: &mut Nodes,
+        region: &Region,
+        depths: &[u32],
+    ) -> Result<Outputs, NoMemory>
+        requires { IsLive pool.old region.now }
+        ensures known { IfOk result (λ outputs. known pool.new outputs ≡ map (λ d. wanting) depths.now) }
+        ensures depths { IfOk result (λ outputs. depths_of outputs ≡ depths.now) }
+        ensures stand { IfOk result (λ outputs. Stand pool.new outputs region.now) }
+        ensures kept { KeepsRegions pool.old pool.new (number_of region.now) }
+        ensures spare { pool.old.spare ≤ pool.new.spare + length depths.now }
+    {
+        let mut trees = Vec::with_capacity(alloc, depths.len())?;
+        for depth in depths {
+            match Partial::start(pool, region, *depth) {
+                Ok(tree) => trees.push(tree)?,
+                Err(_full) => return Err(NoMemory),
+            }
+        }
+        Ok(Outputs { trees })
+    }
+
+    /// Takes the room for one change, `arrive` or `close`, of so many trees from the first on. Linear in their number.
+    pub fn reserve(&self, pool: &mut Nodes, first: usize, count: usize) -> Result<(), NoMemory>
+        requires { first + count ≤ length (depths_of self.now) }
+        ensures ok { OnOk result (needed (depths_of self.now) first count ≤ pool.new.spare) }
+        ensures regions { pool.new.regions ≡ pool.old.regions }
+        ensures known { known pool.new self.now ≡ known pool.old self.now }
+        ensures stand { (region : InRegion) → Stand pool.old self.now region → Stand pool.new self.now region }
+        ensures spare { pool.old.spare ≤ pool.new.spare }
+    {
+        let mut nodes: u64 = 0;
+        for number in first..first + count {
+            let Some(more) = nodes.checked_add(u64::from(self.trees[number].depth()) + 1) else {
+                return Err(NoMemory);
+            };
+            nodes = more;
+        }
+        match pool.reserve(nodes) {
+            Ok(()) => Ok(()),
+            Err(_full) => Err(NoMemory),
+        }
+    }
+
+    /// A piece arrives at the place in each of these trees: the first piece in the first tree, the next in the next one. It
+    /// takes no memory beyond the room that `reserve` took. For each tree linear in its piece at the most, and logarithmic in
+    /// the known parts of each list on the way.
+    pub fn arrive(
+        &mut self,
+        pool: &mut Nodes,
+        region: &Region,
+        first: usize,
+        place: &Place,
+        pieces: Pieces,
+    )
+        requires live { IsLive pool.old region.now }
+        requires stand { Stand pool.old self.old region.now }
+        requires can { AllCanArrive first (length pieces) place.now (depths_of self.old) (known pool.old self.old) }
+        requires sound { AreSound pieces }
+        requires room { needed (depths_of self.old) first (length pieces) ≤ pool.old.spare }
+        ensures known { Arrive first place.now (piece_values pieces) (known pool.old self.old) (known pool.new self.new) }
+        ensures depths { depths_of self.new ≡ depths_of self.old }
+        ensures stand { Stand pool.new self.new region.now }
+        ensures kept { KeepsRegions pool.old pool.new (number_of region.now) }
+        ensures spare { pool.old.spare ≤ pool.new.spare + needed (depths_of self.old) first (length pieces) }
+    {
+        let mut number = first;
+        for piece in pieces.into_vec() {
+            self.arrive_at(pool, region, number, place, piece);
+            number += 1;
+        }
+    }
+
+    /// The same in one tree.
+    fn arrive_at(
+        &mut self,
+        pool: &mut Nodes,
+        region: &Region,
+        number: usize,
+        place: &Place,
+        piece: Piece,
+    )
+        requires live { IsLive pool.old region.now }
+        requires stand { Stand pool.old self.old region.now }
+        requires there { number < length (known pool.old self.old) }
+        requires short { length place.now ≤ depth_in (depths_of self.old) number }
+        requires can { CanArrive place.now (tree_in (known pool.old self.old) number) }
+        requires sound { IsSound piece }
+        requires room { depth_in (depths_of self.old) number < pool.old.spare }
+        ensures turns { Turns number (arrived place.now (piece_value piece) (tree_in (known pool.old self.old) number)) (known pool.old self.old) (known pool.new self.new) }
+        ensures same { self.new.trees.items ≡ self.old.trees.items }
+        ensures stand { Stand pool.new self.new region.now }
+        ensures kept { KeepsRegions pool.old pool.new (number_of region.now) }
+        ensures spare { pool.old.spare ≤ pool.new.spare + depth_in (depths_of self.old) number }
+    {
+        arrive_in(&mut self.trees[number], pool, region, place, piece);
+    }
+
+    /// The list at the place is closed with this length in each of so many trees from the first on. It takes no memory beyond
+    /// the room that `reserve` took. For each tree logarithmic in the known parts of each list on the way.
+    pub fn close(
+        &mut self,
+        pool: &mut Nodes,
+        region: &Region,
+        first: usize,
+        count: usize,
+        place: &Place,
+        length: u32,
+    )
+        requires live { IsLive pool.old region.now }
+        requires stand { Stand pool.old self.old region.now }
+        requires can { AllCanClose first count place.now length (depths_of self.old) (known pool.old self.old) }
+        requires room { needed (depths_of self.old) first count ≤ pool.old.spare }
+        ensures known { Close first count place.now length (known pool.old self.old) (known pool.new self.new) }
+        ensures depths { depths_of self.new ≡ depths_of self.old }
+        ensures stand { Stand pool.new self.new region.now }
+        ensures kept { KeepsRegions pool.old pool.new (number_of region.now) }
+        ensures spare { pool.old.spare ≤ pool.new.spare + needed (depths_of self.old) first count }
+    {
+        for number in first..first + count {
+            self.close_one(pool, region, number, place, length);
+        }
+    }
+
+    /// The same in one tree.
+    fn close_one(
+        &mut self,
+        pool: &mut Nodes,
+        region: &Region,
+        number: usize,
+        place: &Place,
+        length: u32,
+    )
+        requires live { IsLive pool.old region.now }
+        requires stand { Stand pool.old self.old region.now }
+        requires there { number < Rattle.std.specs.Prelude.length (known pool.old self.old) }
+        requires short { Rattle.std.specs.Prelude.length place.now < depth_in (depths_of self.old) number }
+        requires can { CanClose place.now length (tree_in (known pool.old self.old) number) }
+        requires room { depth_in (depths_of self.old) number < pool.old.spare }
+        ensures turns { Turns number (close_at place.now length (tree_in (known pool.old self.old) number)) (known pool.old self.old) (known pool.new self.new) }
+        ensures same { self.new.trees.items ≡ self.old.trees.items }
+        ensures stand { Stand pool.new self.new region.now }
+        ensures kept { KeepsRegions pool.old pool.new (number_of region.now) }
+        ensures spare { pool.old.spare ≤ pool.new.spare + depth_in (depths_of self.old) number }
+    {
+        close_in(&mut self.trees[number], pool, region, place, length);
+    }
+
+    /// The least length of a prefix of the place at which all will be known in a tree once a piece has arrived there. Takes no
+    /// memory. Logarithmic in the known parts of each list on the way.
+    pub fn whole_by_arrival(&self, pool: &Nodes, number: usize, place: &Place) -> usize
+        requires stand { (region : InRegion) × Stand pool.now self.now region }
+        requires there { number < length (known pool.now self.now) }
+        requires short { length place.now ≤ depth_in (depths_of self.now) number }
+        requires can { CanArrive place.now (tree_in (known pool.now self.now) number) }
+        ensures { (piece : APiece) → least_whole place.now (arrived place.now (piece_value piece) (tree_in (known pool.now self.now) number)) ≡ Some result }
+    {
+        self.trees[number].whole_by_arrival(pool, place) as usize
+    }
+
+    /// The least length of a prefix of the place at which all will be known in a tree once the list there is closed with this
+    /// length, and one more than the place's length where parts of the list will still be wanting. Takes no memory.
+    /// Logarithmic in the known parts of each list on the way.
+    pub fn whole_by_close(&self, pool: &Nodes, number: usize, place: &Place, length: u32) -> usize
+        requires stand { (region : InRegion) × Stand pool.now self.now region }
+        requires there { number < Rattle.std.specs.Prelude.length (known pool.now self.now) }
+        requires short { Rattle.std.specs.Prelude.length place.now < depth_in (depths_of self.now) number }
+        requires can { CanClose place.now length (tree_in (known pool.now self.now) number) }
+        ensures { result ≡ least_or_past place.now (least_whole place.now (close_at place.now length (tree_in (known pool.now self.now) number))) }
+    {
+        match self.trees[number].whole_by_close(pool, place, length) {
+            Some(least) => least as usize,
+            None => place.as_slice().len() + 1,
+        }
+    }
+
+    /// At how many prefixes of the place, from the empty one on, each of these trees will hold a fault once the pieces have
+    /// arrived there: pushes a number for each. For each tree linear in its piece at the most, and logarithmic in the known
+    /// parts of each list on the way.
+    pub fn faults_by_arrival(
+        &self,
+        pool: &Nodes,
+        first: usize,
+        place: &Place,
+        pieces: &[Piece],
+        faults: &mut Vec<usize>,
+    ) -> Result<(), NoMemory>
+        requires stand { (region : InRegion) × Stand pool.now self.now region }
+        requires can { AllCanArrive first (length pieces.now) place.now (depths_of self.now) (known pool.now self.now) }
+        ensures { OnOk result (Counted (length pieces.now) place.now faults.old.items faults.new.items (λ k. arrived place.now (slice_index_or (piece_values pieces.now) k Rattle.tv_outputs.specs.Changes.no_value) (tree_in (known pool.now self.now) (first + k)))) }
+    {
+        let mut number = first;
+        for piece in pieces {
+            faults.push(self.faults_with(pool, number, place, piece))?;
+            number += 1;
+        }
+        Ok(())
+    }
+
+    /// The same for one tree.
+    fn faults_with(&self, pool: &Nodes, number: usize, place: &Place, piece: &Piece) -> usize
+        requires stand { (region : InRegion) × Stand pool.now self.now region }
+        requires there { number < length (known pool.now self.now) }
+        requires can { CanArrive place.now (tree_in (known pool.now self.now) number) }
+        ensures { HoldsFaults place.now (arrived place.now (piece_value piece.now) (tree_in (known pool.now self.now) number)) result }
+    {
+        if piece.holds_fault() {
+            return place.as_slice().len() + 1;
+        }
+        self.trees[number].marked_levels(pool, place)
+    }
+
+    /// At how many prefixes of the place, from the empty one on, each of so many trees will hold a fault once the list there is
+    /// closed: pushes a number for each. For each tree logarithmic in the known parts of each list on the way.
+    pub fn faults_by_close(
+        &self,
+        pool: &Nodes,
+        first: usize,
+        count: usize,
+        place: &Place,
+        faults: &mut Vec<usize>,
+    ) -> Result<(), NoMemory>
+        requires stand { (region : InRegion) × Stand pool.now self.now region }
+        requires there { first + count ≤ length (known pool.now self.now) }
+        ensures { OnOk result ((size : ℕ) → AllCanClose first count place.now size (depths_of self.now) (known pool.now self.now) → Counted count place.now faults.old.items faults.new.items (λ k. close_at place.now size (tree_in (known pool.now self.now) (first + k)))) }
+    {
+        for number in first..first + count {
+            faults.push(self.trees[number].marked_levels(pool, place))?;
+        }
+        Ok(())
+    }
+
+    /// Whether all of a tree is known. Takes no memory, and the cost is constant.
+    pub fn is_whole(&self, pool: &Nodes, number: usize) -> bool
+        requires stand { (region : InRegion) × Stand pool.now self.now region }
+        requires there { number < length (known pool.now self.now) }
+        ensures { result ≡ whole (tree_in (known pool.now self.now) number) }
+    {
+        self.trees[number].is_whole(pool)
+    }
+
+    /// Whether a tree holds a fault. Takes no memory, and the cost is constant.
+    pub fn holds_fault(&self, pool: &Nodes, number: usize) -> bool
+        requires stand { (region : InRegion) × Stand pool.now self.now region }
+        requires there { number < length (known pool.now self.now) }
+        ensures { result ≡ holds_some holds_fault (tree_in (known pool.now self.now) number) }
+    {
+        self.trees[number].is_marked(pool)
+    }
+}

@@ -1,0 +1,175 @@
+ghost use Rattle.std.specs.Prelude.{◌≡◌, length, IfOk};
+ghost use Rattle.tv_pool.specs.Pool.{IsLive};
+ghost use Rattle.tv_cell.specs.Soundness.{IsSound, AreSound};
+ghost use Rattle.tv_outputs.specs.Tried.{Tried, IsNothing, IsSomething, HasSecond, HasBoth};
+
+use crate::outputs::{Nodes, Outputs};
+use std::alloc::Global;
+use std::process::Abort;
+use std::test::Fail;
+use tv_cell::{Cell, Piece, Pieces, Row};
+use tv_pool::{Pool, Region};
+use tv_value::{ErrorDoc, NoMemory, Place, Sequence, Text, Value};
+
+fn whole(alloc: Global, value: Value) -> Result<Piece, NoMemory>
+    ensures { IfOk result IsSound }
+{
+    let cell = Cell::put(alloc, value)?;
+    Ok(Piece::Part(cell, Place::top(alloc)))
+}
+
+fn text(alloc: Global, letters: &str) -> Result<Piece, NoMemory>
+    ensures { IfOk result IsSound }
+{
+    whole(alloc, Value::Text(Text::from_str(alloc, letters)?))
+}
+
+/// An error document in the place of a text.
+fn fault(alloc: Global) -> Result<Piece, NoMemory>
+    ensures { IfOk result IsSound }
+{
+    let error = ErrorDoc {
+        at: Sequence::empty(alloc),
+        depth: 0,
+        why: Text::from_str(alloc, "no number")?,
+        from: Sequence::empty(alloc),
+    };
+    whole(alloc, Value::Fault(Box::new(alloc, error)?))
+}
+
+fn one(alloc: Global, first: Piece) -> Result<Pieces, NoMemory>
+    requires { IsSound first }
+    ensures sound { IfOk result AreSound }
+    ensures count { IfOk result (λ ps. length ps ≡ 1) }
+{
+    let mut pieces = Vec::with_capacity(alloc, 1)?;
+    pieces.push(first)?;
+    Ok(Row::of(pieces))
+}
+
+fn two(alloc: Global, first: Piece, second: Piece) -> Result<Pieces, NoMemory>
+    requires first { IsSound first }
+    requires second { IsSound second }
+    ensures sound { IfOk result AreSound }
+    ensures count { IfOk result (λ ps. length ps ≡ 2) }
+{
+    let mut pieces = Vec::with_capacity(alloc, 2)?;
+    pieces.push(first)?;
+    pieces.push(second)?;
+    Ok(Row::of(pieces))
+}
+
+/// Two outputs of one step, of lists, and a step without outputs.
+fn begun(alloc: Global, pool: &mut Nodes, region: &Region) -> Result<Outputs, NoMemory>
+    requires { IsLive pool.old region.now }
+    ensures { IfOk result (λ outputs. Tried pool.new outputs region.now IsNothing IsNothing) }
+{
+    Outputs::start(alloc, pool, region, &[1, 1, 0])
+}
+
+/// The second items of both lists come, and it is told what will be whole in the first.
+fn second_items(
+    alloc: Global,
+    outputs: &mut Outputs,
+    pool: &mut Nodes,
+    region: &Region,
+) -> Result<usize, NoMemory>
+    requires { Tried pool.old outputs.old region.now IsNothing IsNothing }
+    ensures { IfOk result (λ least. Tried pool.new outputs.new region.now HasSecond IsNothing) }
+{
+    let place = Place::of(alloc, &[1])?;
+    let pieces = two(alloc, text(alloc, "b")?, text(alloc, "y")?)?;
+    outputs.reserve(pool, 0, 2)?;
+    let least = outputs.whole_by_arrival(pool, 0, &place);
+    outputs.arrive(pool, region, 0, &place, pieces);
+    Ok(least)
+}
+
+/// The result of the step without outputs.
+fn no_outputs(
+    alloc: Global,
+    outputs: &mut Outputs,
+    pool: &mut Nodes,
+    region: &Region,
+) -> Result<usize, NoMemory>
+    requires { Tried pool.old outputs.old region.now HasSecond IsNothing }
+    ensures { IfOk result (λ least. Tried pool.new outputs.new region.now HasSecond IsSomething) }
+{
+    let place = Place::top(alloc);
+    let pieces = one(alloc, text(alloc, "")?)?;
+    outputs.reserve(pool, 2, 1)?;
+    let least = outputs.whole_by_arrival(pool, 2, &place);
+    outputs.arrive(pool, region, 2, &place, pieces);
+    Ok(least)
+}
+
+/// The first items, that of the second list an error document, and it is told where faults will stand.
+fn first_items(
+    alloc: Global,
+    outputs: &mut Outputs,
+    pool: &mut Nodes,
+    region: &Region,
+) -> Result<Vec<usize>, NoMemory>
+    requires { Tried pool.old outputs.old region.now HasSecond IsSomething }
+    ensures { IfOk result (λ faults. Tried pool.new outputs.new region.now HasBoth IsSomething) }
+{
+    let place = Place::of(alloc, &[0])?;
+    let pieces = two(alloc, text(alloc, "a")?, fault(alloc)?)?;
+    let mut faults = Vec::new(alloc);
+    outputs.faults_by_arrival(pool, 0, &place, pieces.as_slice(), &mut faults)?;
+    outputs.reserve(pool, 0, 2)?;
+    outputs.arrive(pool, region, 0, &place, pieces);
+    Ok(faults)
+}
+
+/// Both lists are closed, and it is told what will be whole by that, by a greater length too, and where faults will stand.
+fn closed(
+    alloc: Global,
+    outputs: &mut Outputs,
+    pool: &mut Nodes,
+    region: &Region,
+) -> Result<(usize, usize, Vec<usize>), NoMemory>
+    requires { Tried pool.old outputs.old region.now HasBoth IsSomething }
+    ensures { IfOk result (λ told. Tried pool.new outputs.new region.now IsSomething IsSomething) }
+{
+    let place = Place::top(alloc);
+    let mut faults = Vec::new(alloc);
+    outputs.faults_by_close(pool, 0, 2, &place, &mut faults)?;
+    outputs.reserve(pool, 0, 2)?;
+    let least = outputs.whole_by_close(pool, 0, &place, 2);
+    let none = outputs.whole_by_close(pool, 0, &place, 3);
+    outputs.close(pool, region, 0, 2, &place, 2);
+    Ok((least, none, faults))
+}
+
+/// Whether the third tree and the first two are whole, and whether the first two hold faults.
+fn looks(outputs: &Outputs, pool: &Nodes, _region: &Region) -> ((bool, bool, bool), (bool, bool))
+    requires { Tried pool.now outputs.now _region.now IsSomething IsSomething }
+{
+    let third = outputs.is_whole(pool, 2);
+    let first = outputs.is_whole(pool, 0);
+    let second = outputs.is_whole(pool, 1);
+    let of_first = outputs.holds_fault(pool, 0);
+    let of_second = outputs.holds_fault(pool, 1);
+    ((third, first, second), (of_first, of_second))
+}
+
+#[test]
+fn two_steps(rt: HostRuntime) -> Result<(), Fail> {
+    let alloc = rt.alloc();
+    let mut pool = Pool::new(alloc);
+    let region = pool.begin()?;
+    let mut outputs = begun(alloc, &mut pool, &region)?;
+    assert_eq!(rt; second_items(alloc, &mut outputs, &mut pool, &region)?, 1);
+    assert_eq!(rt; no_outputs(alloc, &mut outputs, &mut pool, &region)?, 0);
+    let faults = first_items(alloc, &mut outputs, &mut pool, &region)?;
+    assert_eq!(rt; faults.as_slice(), [0, 2].as_slice());
+    let (least, none, faults) = closed(alloc, &mut outputs, &mut pool, &region)?;
+    assert_eq!(rt; (least, none), (0, 1));
+    assert_eq!(rt; faults.as_slice(), [0, 1].as_slice());
+    assert_eq!(rt;
+        looks(&outputs, &pool, &region),
+        ((true, true, true), (false, true))
+    );
+    Ok(())
+}
