@@ -83,7 +83,7 @@ fn has_whole(port: &Port, endings: &Endings, step: u32) -> bool
     port.levels == 0 && (is_from(&port.feed, step) && is_whole_with(&port.feed, endings, step))
 }
 
-/// The leaves of those ports of a step that have their whole value once another step is whole, and not before, in the order of
+/// The leaves of those ports of a step that have their whole value once the given step is whole, and not without it, in the order of
 /// the ports. Linear in the ports' links.
 pub fn ports_whole_with(
     alloc: Global,

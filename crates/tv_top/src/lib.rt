@@ -4,7 +4,8 @@
 //! A run goes over a board (`tv_board`), which one worker works off (`run_whole` of `tv_work`).
 //! Their contracts are the headline: what is written is a function of the words and the document's bytes
 //! (`specs/Answers.antt`), and so is what the services are asked (`specs/Asking.antt`), each status has its cause and its line
-//! (`specs/Headline.antt`), and a document that is accepted and, for `run` and `trace`, one that is built is never refused.
+//! (`specs/Headline.antt`), and a document that is accepted and, for `run` and `trace`, one that is built is refused for want of memory or a fault of a
+//! stream alone.
 //!
 //! - `words`, `status`, `refusal`: what goes in and comes out besides bytes
 //! - `reading`: from bytes to a JSON tree
