@@ -9,8 +9,9 @@ use Rattle.std.proofs.lemmas.Bool.{eqb-true, lt-ltb, ltb-true}
 use Rattle.std.proofs.lemmas.Cmp.{nat_list_cmp_total}
 use Rattle.std.proofs.lemmas.List.MinMax.{ranks_by}
 use Rattle.tv_ready.specs.Listed.{with_job}
-use Rattle.tv_idle.specs.Idles.{first_number, has_job, without_job}
-use Rattle.tv_idle.specs.Kept.{IsKept, are_below, are_in_order, live, starts_gone, trimmed}
+use Rattle.tv_ready.specs.Sought.{sought, stands_after}
+use Rattle.tv_idle.specs.Idles.{first_number, has_job, standing_after, without_job}
+use Rattle.tv_idle.specs.Kept.{IsKept, are_below, are_in_order, is_gone, live, starts_gone, trimmed}
 
 abbrev pub Job : Type 0
 Job = ℕ × List ℕ
@@ -190,7 +191,7 @@ grown-all p j (k ∷ ks) h e = by (lt j k) (grown-all p j ks h (both (p k) (list
     by true r = ap (λ b. b && list_all p (k ∷ ks)) h ∙ e
     by false r = ap (λ b. b && list_all p (with_job j ks)) (both (p k) (list_all p ks) e).0 ∙ r
 
-grown-order : (j : Job) (js : List Job) → are_in_order js ≡ true → are_in_order (with_job j js) ≡ true
+pub grown-order : (j : Job) (js : List Job) → are_in_order js ≡ true → are_in_order (with_job j js) ≡ true
 grown-order j [] o = refl
 grown-order j (k ∷ ks) o = by (lt j k) refl (grown-order j ks (both (list_all (λ m. not (lt m k)) ks) (are_in_order ks) o).1)
   where
@@ -295,3 +296,24 @@ without-has m n (j ∷ js) ne = by (j.0 == n) refl (without-has m n js ne)
         → has_job m (cond (not b) (j ∷ without_job n js) (without_job n js)) ≡ ((j.0 == m) || has_job m js)
     by true e r = r ∙ other (j.0 == m) refl e
     by false e r = ap (λ b. (j.0 == m) || b) r
+
+-- ---- those after a place
+
+-- what is looked for among all that are kept are those that are idle and stand after the place
+pub sought-live : (p : List ℕ) (gone : List Bool) (js : List Job) → sought p gone js ≡ standing_after p (live (is_gone gone) js)
+sought-live p gone [] = refl
+sought-live p gone (j ∷ js) = by (is_gone gone j.0) (sought-live p gone js)
+  where
+    none : (a : Bool) → sought p gone js ≡ standing_after p (live (is_gone gone) js) → cond (a && false) (j ∷ sought p gone js) (sought p gone js) ≡ standing_after p (live (is_gone gone) js)
+    none true r = r
+    none false r = r
+
+    one : (a : Bool) → sought p gone js ≡ standing_after p (live (is_gone gone) js)
+        → cond (a && true) (j ∷ sought p gone js) (sought p gone js) ≡ cond a (j ∷ standing_after p (live (is_gone gone) js)) (standing_after p (live (is_gone gone) js))
+    one true r = ap (λ l. j ∷ l) r
+    one false r = r
+
+    by : (g : Bool) → sought p gone js ≡ standing_after p (live (is_gone gone) js)
+        → cond (stands_after p j.1 && not g) (j ∷ sought p gone js) (sought p gone js) ≡ standing_after p (cond (not g) (j ∷ live (is_gone gone) js) (live (is_gone gone) js))
+    by true r = none (stands_after p j.1) r
+    by false r = one (stands_after p j.1) r

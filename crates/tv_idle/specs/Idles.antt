@@ -4,6 +4,7 @@ use Rattle.std.specs.Cmp.Lexicographic.{slice_cmp}
 use Rattle.std.specs.List.{list_any}
 use Rattle.std.specs.Ordering.{is_lt, nat_cmp, ordering_then}
 use Rattle.tv_ready.specs.Listed.{with_job}
+use Rattle.tv_ready.specs.Sought.{stands_after}
 
 -- those of one step, each with its number and its place
 pub record StepIdle : Type 0 where
@@ -57,6 +58,13 @@ abbrev pub first_of : List (ℕ × List ℕ) → List (ℕ × List ℕ) → Opti
 first_of [] fs = first_number fs
 first_of (g ∷ gs) [] = Some g.0
 first_of (g ∷ gs) (f ∷ fs) = if is_before f g then Some f.0 else Some g.0
+
+-- those that stand after a place
+abbrev pub standing_after : List ℕ → List (ℕ × List ℕ) → List (ℕ × List ℕ)
+standing_after p js = filter (λ j. stands_after p j.1) js
+
+abbrev pub first_after : List ℕ → StepIdle → Option ℕ
+first_after p s = first_of (standing_after p s.good) (standing_after p s.faulty)
 
 -- ---- what the calls change
 

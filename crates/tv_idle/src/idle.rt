@@ -1,6 +1,6 @@
 //! The idle jobs of an instance.
 ghost use Rattle.std.specs.Prelude.{◌≡◌, ◌+◌, ◌-◌, ◌<◌, ◌++◌, ◌∷◌, [], length, true, slice_set, OnErr, OnOk};
-ghost use Rattle.tv_idle.specs.Idles.{first_number, first_of, has_some, is_idle, is_idle_at, none_idle, of_step, room_for, with_idle, with_rooms_of, without};
+ghost use Rattle.tv_idle.specs.Idles.{first_after, first_number, first_of, has_some, is_idle, is_idle_at, none_idle, of_step, room_for, with_idle, with_rooms_of, without};
 
 use crate::queues::Queues;
 use std::alloc::Global;
@@ -163,6 +163,18 @@ impl Idle {
         ensures { result ≡ first_of (of_step self.now.steps step).good (of_step self.now.steps step).faulty }
     {
         self.queues[step as usize].first()
+    }
+
+    /// The number of a step's first idle job that stands after a place, whether or not it binds a fault. Places compare index by
+    /// index, and one that begins another stands before it; the place may have any number of indices. Takes no memory.
+    ///
+    /// Logarithmic in the step's known jobs, and linear in those that came late, and in those that are idle no more and stand
+    /// between the place and the answer.
+    pub fn first_after(&self, step: u32, place: &[u32]) -> Option<u32>
+        requires { step < length self.now.steps }
+        ensures { result ≡ first_after place.now (of_step self.now.steps step) }
+    {
+        self.queues[step as usize].first_after(place, self.gone.as_slice())
     }
 
     /// The number of a step's first idle job that binds no fault.

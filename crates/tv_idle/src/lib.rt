@@ -7,7 +7,7 @@
 //!
 //! A job goes from any position. It is only marked then, and lies on in its queue until it comes to the front; no queue has
 //! one that has gone at its front. So the first idle job of a step is told in constant time, and each job is dropped from its
-//! queue once.
+//! queue once. The first after a place is searched for.
 //!
 //! - `queues`: those of one step
 //! - `idle`: the calls

@@ -2,6 +2,7 @@
 ghost use Rattle.std.specs.Prelude.{◌≡◌, ◌<◌, ◌==◌, ◌||◌, not, length, true, OnOk};
 ghost use Rattle.tv_idle.specs.Idles.{first_number, first_of, is_before};
 ghost use Rattle.tv_idle.specs.Kept.{IsEmpty, IsGrown, IsSame, IsTrimmed, are_below, is_gone, starts_gone};
+ghost use Rattle.tv_ready.specs.Sought.{sought};
 
 use std::alloc::Global;
 use std::cmp::Ordering;
@@ -91,6 +92,27 @@ impl Queues {
             Some(faulty)
         } else {
             Some(good)
+        }
+    }
+
+    /// The first job of both queues after a place, of those that haven't gone. Takes no memory. Logarithmic, and linear in those
+    /// that came late, and in those that have gone and stand between the place and the answer.
+    pub(crate) fn first_after(&self, place: &[u32], gone: &[bool]) -> Option<u32>
+        ensures { result ≡ first_of (sought place.now gone.now self.now.good.jobs) (sought place.now gone.now self.now.faulty.jobs) }
+    {
+        let good = self.good.first_after(place, gone);
+        let faulty = self.faulty.first_after(place, gone);
+        match (good, faulty) {
+            (None, None) => None,
+            (Some((good, _)), None) => Some(good),
+            (None, Some((faulty, _))) => Some(faulty),
+            (Some((good, good_place)), Some((faulty, faulty_place))) => {
+                if is_before(faulty, faulty_place, good, good_place) {
+                    Some(faulty)
+                } else {
+                    Some(good)
+                }
+            }
         }
     }
 

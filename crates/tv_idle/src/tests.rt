@@ -146,6 +146,45 @@ fn two_told(alloc: Global) -> Result<String, Fail> {
     Ok(text)
 }
 
+/// The first idle job after each place, of a step whose jobs are known in no order and of which one is idle no more.
+fn after_told(alloc: Global, places: &[&[u32]]) -> Result<String, Fail> {
+    let mut text = String::new(alloc);
+    let mut idle = Idle::new(alloc);
+    idle.add_step(alloc, 2)?;
+    idle.reserve(0, 4, 3)?;
+    idle.reserve_numbers(6)?;
+    let _ = idle.add(0, [2, 0].as_slice(), false);
+    let _ = idle.add(0, [1, 3].as_slice(), true);
+    let _ = idle.add(0, [1, 0].as_slice(), false);
+    let gone = idle.add(0, [1, 2].as_slice(), false);
+    let _ = idle.add(0, [4, 0].as_slice(), true);
+    let _ = idle.add(0, [0, 5].as_slice(), true);
+    idle.remove(0, gone);
+    for place in places {
+        push_number(&mut text, idle.first_after(0, place))?;
+    }
+    Ok(text)
+}
+
+#[test]
+fn after_a_place(rt: HostRuntime) -> Result<(), Fail> {
+    let places: [&[u32]; 10] = [
+        &[],
+        &[0, 5],
+        &[1],
+        &[1, 0],
+        &[1, 2],
+        &[1, 3],
+        &[1, 3, 7],
+        &[2],
+        &[2, 0],
+        &[4, 0],
+    ];
+    let text = after_told(rt.alloc(), places.as_slice())?;
+    assert_eq!(&rt; text.as_str(), "522110004-");
+    Ok(())
+}
+
 #[test]
 fn two_steps(rt: HostRuntime) -> Result<(), Fail> {
     let text = two_told(rt.alloc())?;

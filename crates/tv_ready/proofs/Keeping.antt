@@ -117,7 +117,7 @@ module _ (jobs : List (ℕ × List ℕ)) where
       (list_all-append (is_before jobs q) qs (n ∷ []) ∙ ap (λ c. c && (is_before jobs q n && true)) a.0 ∙ ap (λ c. c && true) b.0)
       ∙ rises-more qs n a.1 b.1
 
-  rises-at : (qs : List ℕ) (i k : ℕ) → rises (is_before jobs) qs ≡ true → i < k → k < length qs → is_before jobs (get_or qs i 0) (get_or qs k 0) ≡ true
+  pub rises-at : (qs : List ℕ) (i k : ℕ) → rises (is_before jobs) qs ≡ true → i < k → k < length qs → is_before jobs (get_or qs i 0) (get_or qs k 0) ≡ true
   rises-at [] i k r a b = absurd (omega arith)
   rises-at (q ∷ qs) i zero r a b = absurd (omega arith)
   rises-at (q ∷ qs) zero (suc k) r a b = at-all (is_before jobs q) qs k (both (list_all (is_before jobs q) qs) (rises (is_before jobs) qs) r).0 (omega arith)

@@ -1,4 +1,5 @@
 pub mod Comparing
+pub mod Finding
 pub mod Heaping
 pub mod Keeping
 pub mod Laying

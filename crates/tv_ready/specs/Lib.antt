@@ -4,3 +4,4 @@ pub mod Slots
 pub mod Heaps
 pub mod Listed
 pub mod Laid
+pub mod Sought

@@ -4,8 +4,10 @@ ghost use Rattle.std.specs.List.{list_all};
 ghost use Rattle.tv_ready.specs.Laid.{is_late_first, rises};
 ghost use Rattle.tv_ready.specs.Listed.{with_job};
 ghost use Rattle.tv_ready.specs.Orders.{are_within, is_before, place_at};
+ghost use Rattle.tv_ready.specs.Sought.{sought};
 
 use crate::heap::{rise, sink};
+use crate::search::{first_late, first_queued, lesser};
 use crate::table::Table;
 use std::alloc::Global;
 use std::collections::VecDeque;
@@ -101,6 +103,20 @@ impl Ready {
         match self.queue.front() {
             Some(at) => self.table.place(*at),
             None => &[],
+        }
+    }
+
+    /// The number and the place of the first job after a place, of those that haven't gone: `gone` tells by number whether a job
+    /// has, and one without a mark there hasn't. Takes no memory. Logarithmic, and linear in those that came late, and in those
+    /// that have gone and stand between the place and the answer.
+    pub fn first_after(&self, place: &[u32], gone: &[bool]) -> Option<(u32, &[u32])>
+        ensures { option_map (λ j. (j.0, j.1.now)) result ≡ slice_get (sought place.now gone.now self.now.jobs) 0 }
+    {
+        let queued = first_queued(&self.table, &self.queue, place, gone);
+        let late = first_late(&self.table, self.late.as_slice(), place, gone);
+        match lesser(&self.table, queued, late) {
+            Some(at) => Some((self.table.number(at), self.table.place(at))),
+            None => None,
         }
     }
 

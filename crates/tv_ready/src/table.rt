@@ -1,6 +1,7 @@
 //! Jobs with their places, by the order in which they were put.
 ghost use Rattle.std.specs.Prelude.{◌≡◌, ◌++◌, ◌∷◌, ◌<◌, ◌-◌, [], length, OnOk, OnErr};
 ghost use Rattle.tv_ready.specs.Orders.{place_at, number_at, is_before};
+ghost use Rattle.tv_ready.specs.Sought.{stands_after};
 
 use std::alloc::Global;
 use std::cmp::Ordering;
@@ -117,6 +118,17 @@ impl Table {
         let (_before, from) = self.indices.as_slice().split_at(slot.start);
         let (place, _after) = from.split_at(self.levels);
         place
+    }
+
+    /// Whether a job stands after a place.
+    pub fn stands_after(&self, at: usize, place: &[u32]) -> bool
+        requires { at < length self.now.jobs }
+        ensures { result ≡ stands_after place.now (place_at self.now.jobs at) }
+    {
+        match place.cmp(self.place(at)) {
+            Ordering::Less => true,
+            Ordering::Equal | Ordering::Greater => false,
+        }
     }
 
     /// Whether one job stands before another: by their places, and, where these are the same, by which was put first.

@@ -91,3 +91,34 @@ fn in_order(rt: HostRuntime) -> Result<(), Fail> {
     }
     Ok(())
 }
+
+/// The number and the place of the first job after each place, of those that haven't gone.
+fn after_told(alloc: Global, places: &[&[u32]]) -> Result<String, Fail> {
+    let mut text = String::new(alloc);
+    let mut ready = Ready::new(alloc, 1);
+    ready.reserve(6)?;
+    ready.put(0, [3].as_slice());
+    ready.put(1, [5].as_slice());
+    ready.put(2, [1].as_slice());
+    ready.put(3, [4].as_slice());
+    ready.put(4, [9].as_slice());
+    ready.put(5, [7].as_slice());
+    let gone = [false, true, false, false, false, true];
+    for place in places {
+        match ready.first_after(place, gone.as_slice()) {
+            Some((number, at)) if at.len() == 1 => write!(text, "{number} at {}, ", at[0])?,
+            Some(_) => text.push_str("? ")?,
+            None => text.push_str("-")?,
+        }
+    }
+    Ok(text)
+}
+
+#[test]
+fn after_a_place(rt: HostRuntime) -> Result<(), Fail> {
+    let places: [&[u32]; 7] = [&[], &[0], &[1], &[1, 6], &[3], &[4], &[9]];
+    let text = after_told(rt.alloc(), places.as_slice())?;
+    let expected = "2 at 1, 2 at 1, 0 at 3, 0 at 3, 3 at 4, 4 at 9, -";
+    assert_eq!(&rt; text.as_str(), expected);
+    Ok(())
+}
