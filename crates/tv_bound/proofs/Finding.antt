@@ -10,7 +10,7 @@ use Rattle.tv_parts.specs.Partials.{Partial, wanting, item, growing, closed, Par
 use Rattle.tv_parts.specs.Below.{Values, Below, FirstBelow, EachBelow, value_in, values_in}
 use Rattle.tv_parts.proofs.Wholeness.{whole-is}
 use Rattle.tv_cell.proofs.OfSameness.{left, right, both}
-use Rattle.tv_bound.specs.FoundIn.{found_in}
+use Rattle.tv_outputs.specs.FoundIn.{found_in}
 
 -- of nothing nothing is found
 pub found-none : (q : Place) (w : Value) → found_in q wanting ≡ Some w → ⊥

@@ -1,3 +1,5 @@
 pub mod Finding
 pub mod Feeding
 pub mod Wraps
+pub mod OfSources
+pub mod Binding

@@ -3,7 +3,7 @@ use Rattle.std.specs.Prelude.{ℕ, List, [], ◌∷◌, map, Option, Some, None,
 use Rattle.tv_value.specs.Nested.{Place, at, trees_of}
 use Rattle.tv_value.specs.Values.{Value, list_value}
 use Rattle.tv_parts.specs.Partials.{Partial}
-use Rattle.tv_bound.specs.FoundIn.{found_in}
+use Rattle.tv_outputs.specs.FoundIn.{found_in}
 use Rattle.tv_wires.specs.declared.feeds.NumberedLink.{NumberedLink}
 use Rattle.tv_wires.specs.declared.feeds.NumberedLink.TheVariants.{Input, Output}
 use Rattle.tv_wires.specs.declared.feeds.NumberedFeed.{NumberedFeed}

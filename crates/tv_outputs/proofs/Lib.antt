@@ -8,3 +8,5 @@ pub mod Ones
 pub mod Looks
 pub mod Counts
 pub mod Tried
+pub mod Building
+pub mod OfPieces

@@ -17,7 +17,7 @@ module _ {A B : Type 0} (f : A → B) where
   map-part (part p ps) zero = refl
   map-part (part p ps) (suc i) = map-part ps i
 
-  map-part_at : (p : Partial A) (i : ℕ) → part_at (map_partial f p) i ≡ map_partial f (part_at p i)
+  pub map-part_at : (p : Partial A) (i : ℕ) → part_at (map_partial f p) i ≡ map_partial f (part_at p i)
   map-part_at wanting i = refl
   map-part_at (item x) i = refl
   map-part_at (growing ps) i = map-part ps i

@@ -1,15 +1,16 @@
 -- The script of the tests, step by step.
-use Rattle.std.proofs.Common.{◌≡◌, ◌≤◌, ◌<◌, ◌+◌, ℕ, zero, suc, List, [], ◌∷◌, length, map, Some, ◌⊎◌, inl, inr, refl, sym, ap, ◌∙◌, subst, arith}
-use Rattle.std.specs.Prelude.{slice_get}
+use Rattle.std.proofs.Common.{◌≡◌, ◌≤◌, ◌<◌, ◌+◌, ℕ, zero, suc, List, [], ◌∷◌, length, map, Some, true, inl, inr, refl, sym, ap, ◌∙◌, subst, arith}
+use Rattle.std.specs.Prelude.{is_some, slice_get}
 use Rattle.std.specs.Prelude.{Result, Ok, Err, IfOk}
 use Rattle.tv_value.specs.Nested.{Place}
 use Rattle.tv_value.specs.Values.{Value}
-use Rattle.tv_parts.specs.Partials.{Partial, wanting}
+use Rattle.tv_parts.specs.Partials.{Partial, wanting, whole}
 use Rattle.tv_parts.specs.Changes.{arrive, close_at, CanArrive, CanClose}
 use Rattle.tv_pool.specs.Pool.{IsLive}
 use Rattle.tv_pool.specs.declared.handles.Region.{Region}
 use Rattle.tv_outputs.specs.declared.outputs.Outputs.{Outputs}
 use Rattle.tv_outputs.specs.Known.{Nodes, known, depths, tree_in, depth_in}
+use Rattle.tv_outputs.specs.FoundIn.{found_in}
 use Rattle.tv_outputs.specs.Kept.{Stand}
 use Rattle.tv_outputs.specs.Changes.{Arrive, Close, AllCanArrive, AllCanClose}
 use Rattle.tv_outputs.specs.Tried.{Tried, IsNothing, IsSomething, HasSecond, HasBoth}
@@ -147,3 +148,22 @@ both-close n fits u h = subst (CanClose [] n) (sym h.1.1) fits
 pub begun-ok : {E : Type 0} (r : Result Outputs E) (pool : Nodes) (region : Region) (ds : List ℕ) → ds ≡ 1 ∷ 1 ∷ 0 ∷ [] → IsLive pool region → IfOk r (λ o. Stand pool o region) → IfOk r (λ o. depths o ≡ ds) → IfOk r (λ o. known pool o ≡ map (λ d. wanting) ds) → IfOk r (λ o. Tried pool o region IsNothing IsNothing)
 begun-ok (Ok o) pool region ds is live stand deep empty = tried-begun pool o region ds is live stand deep empty
 begun-ok (Err e) pool region ds is live stand deep empty = tt
+
+-- ---- pieces of the trees
+
+-- both items are found, and the list is whole once it is closed
+pub second-found : (u : Partial Value) → HasBoth u → is_some (found_in (1 ∷ []) u) ≡ true
+second-found u h = subst (λ x. is_some (found_in (1 ∷ []) x) ≡ true) (sym h.1.1) refl
+
+pub both-whole : (u : Partial Value) → HasBoth u → whole (close_at [] 2 u) ≡ true
+both-whole u h = subst (λ x. whole (close_at [] 2 x) ≡ true) (sym h.1.1) refl
+
+pub second-close : (u : Partial Value) → HasSecond u → CanClose [] 2 u
+second-close u h = subst (CanClose [] 2) (sym h.1) (omega arith)
+
+-- with its second item, the closed list waits for the first
+pub second-waits : (u x : Partial Value) → HasSecond u → x ≡ close_at [] 2 u → CanArrive (0 ∷ []) x
+second-waits u x h e = subst (CanArrive (0 ∷ [])) (sym (e ∙ ap (close_at [] 2) h.1)) (omega arith, tt)
+
+pub second-completes : (u x : Partial Value) (v : Value) → HasSecond u → x ≡ close_at [] 2 u → whole (arrive (0 ∷ []) v x) ≡ true
+second-completes u x v h e = subst (λ y. whole (arrive (0 ∷ []) v y) ≡ true) (sym (e ∙ ap (close_at [] 2) h.1)) refl

@@ -1,5 +1,5 @@
 -- The script of the tests: two outputs of one step, whose items come crosswise, and a step without outputs.
-use Rattle.std.specs.Prelude.{◌≡◌, ℕ, [], ◌∷◌, length}
+use Rattle.std.specs.Prelude.{◌≡◌, [], ◌∷◌, length}
 use Rattle.tv_value.specs.Values.{Value}
 use Rattle.tv_parts.specs.Partials.{Partial, wanting}
 use Rattle.tv_parts.specs.Changes.{arrive}

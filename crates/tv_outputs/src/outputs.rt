@@ -1,7 +1,8 @@
 //! The trees of all outputs, and their calls.
-ghost use Rattle.std.specs.Prelude.{◌≡◌, ◌≤◌, ◌<◌, ◌+◌, ℕ, Some, length, map, slice_index_or, IfOk, OnOk};
+ghost use Rattle.std.specs.Prelude.{◌≡◌, ◌≤◌, ◌<◌, ◌+◌, ℕ, Some, is_some, true, length, map, slice_index_or, IsTrue, IfOk, OnOk};
 ghost use Rattle.tv_value.specs.Values.{holds_fault};
 ghost use Rattle.tv_parts.specs.Partials.{wanting, whole, holds_some};
+ghost use Rattle.tv_parts.specs.Below.{value_in};
 ghost use Rattle.tv_parts.specs.Changes.{arrive as arrived, close_at, CanArrive, CanClose};
 ghost use Rattle.tv_pool.specs.Pool.{IsLive, number_of};
 ghost use Rattle.tv_pool.specs.declared.handles.Region.{Region as InRegion};
@@ -12,9 +13,11 @@ ghost use Rattle.tv_cell.specs.PieceValues.{piece_value, piece_values};
 ghost use Rattle.tv_cell.specs.Soundness.{IsSound, AreSound};
 ghost use Rattle.tv_outputs.specs.Known.{known, depths as depths_of, tree_in, depth_in, needed};
 ghost use Rattle.tv_outputs.specs.Kept.{Stand};
+ghost use Rattle.tv_outputs.specs.FoundIn.{found_in};
 ghost use Rattle.tv_outputs.specs.Changes.{Arrive, Close, Turns, AllCanArrive, AllCanClose, least_or_past, HoldsFaults, Counted};
 
 use crate::one::{arrive_in, close_in};
+use crate::pieces::{found_piece, list_piece, piece_around};
 use std::alloc::Global;
 use tv_cell::{Piece, Pieces};
 use tv_pool::{Pool, Region};
@@ -109,7 +112,7 @@ impl Outputs {
     }
 
     /// The same in one tree.
-    fn arrive_at(
+    pub fn arrive_at(
         &mut self,
         pool: &mut Nodes,
         region: &Region,
@@ -283,5 +286,77 @@ impl Outputs {
         ensures { result ≡ holds_some holds_fault (tree_in (known pool.now self.now) number) }
     {
         self.trees[number].is_marked(pool)
+    }
+
+    /// The piece of what stands at a place in a tree, where all of it is known: at a node of the tree, or inside a piece that
+    /// came. Linear in the parts of the lists there, and as copies of the pieces that came; no value is copied. For each part,
+    /// and each index of the place, a walk from the root, which is logarithmic in the known parts of each list on the way.
+    pub fn piece_at(
+        &self,
+        alloc: Global,
+        pool: &Nodes,
+        number: usize,
+        place: &Place,
+    ) -> Result<Piece, NoMemory>
+        requires stand { (region : InRegion) × Stand pool.now self.now region }
+        requires there { number < length (known pool.now self.now) }
+        requires found { IsTrue (is_some (found_in place.now (tree_in (known pool.now self.now) number))) }
+        ensures value { IfOk result (λ p. found_in place.now (tree_in (known pool.now self.now) number) ≡ Some (piece_value p)) }
+        ensures sound { IfOk result IsSound }
+    {
+        let top = Place::top(alloc);
+        found_piece(alloc, &self.trees[number], pool, &top, place.as_slice())
+    }
+
+    /// The piece of a whole tree as it will be once a piece has arrived at the place. As `piece_at` of the whole.
+    pub fn piece_with(
+        &self,
+        alloc: Global,
+        pool: &Nodes,
+        number: usize,
+        place: &Place,
+        piece: &Piece,
+    ) -> Result<Piece, NoMemory>
+        requires stand { (region : InRegion) × Stand pool.now self.now region }
+        requires there { number < length (known pool.now self.now) }
+        requires can { CanArrive place.now (tree_in (known pool.now self.now) number) }
+        requires whole { whole (arrived place.now (piece_value piece.now) (tree_in (known pool.now self.now) number)) ≡ true }
+        requires sound { IsSound piece.now }
+        ensures value { IfOk result (λ p. piece_value p ≡ value_in (arrived place.now (piece_value piece.now) (tree_in (known pool.now self.now) number))) }
+        ensures sound { IfOk result IsSound }
+    {
+        let top = Place::top(alloc);
+        let piece = piece.copy(alloc)?;
+        piece_around(
+            alloc,
+            &self.trees[number],
+            pool,
+            &top,
+            place.as_slice(),
+            piece,
+        )
+    }
+
+    /// The piece of a whole tree as it will be once the list at the place is closed with this length. As `piece_at` of the
+    /// whole.
+    pub fn piece_closed(
+        &self,
+        alloc: Global,
+        pool: &Nodes,
+        number: usize,
+        place: &Place,
+        length: u32,
+    ) -> Result<Piece, NoMemory>
+        requires stand { (region : InRegion) × Stand pool.now self.now region }
+        requires there { number < Rattle.std.specs.Prelude.length (known pool.now self.now) }
+        requires can { CanClose place.now length (tree_in (known pool.now self.now) number) }
+        requires whole { whole (close_at place.now length (tree_in (known pool.now self.now) number)) ≡ true }
+        ensures value { IfOk result (λ p. piece_value p ≡ value_in (close_at place.now length (tree_in (known pool.now self.now) number))) }
+        ensures sound { IfOk result IsSound }
+    {
+        let top = Place::top(alloc);
+        let tree = &self.trees[number];
+        let list = list_piece(alloc, tree, pool, place, length)?;
+        piece_around(alloc, tree, pool, &top, place.as_slice(), list)
     }
 }

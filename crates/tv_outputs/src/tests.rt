@@ -7,7 +7,7 @@ use crate::outputs::{Nodes, Outputs};
 use std::alloc::Global;
 use std::process::Abort;
 use std::test::Fail;
-use tv_cell::{Cell, Piece, Pieces, Row};
+use tv_cell::{Cell, Piece, Pieces, Row, assemble};
 use tv_pool::{Pool, Region};
 use tv_value::{ErrorDoc, NoMemory, Place, Sequence, Text, Value};
 
@@ -35,6 +35,24 @@ fn fault(alloc: Global) -> Result<Piece, NoMemory>
         from: Sequence::empty(alloc),
     };
     whole(alloc, Value::Fault(Box::new(alloc, error)?))
+}
+
+fn is_text(value: &Value, letters: &str) -> bool {
+    match value {
+        Value::Text(text) => text.as_str() == letters,
+        _ => false,
+    }
+}
+
+/// Whether a value is the list of two texts.
+fn are_texts(value: &Value, first: &str, second: &str) -> bool {
+    match value {
+        Value::List(items) => match items.as_slice() {
+            [a, b] => is_text(a, first) && is_text(b, second),
+            _ => false,
+        },
+        _ => false,
+    }
 }
 
 fn one(alloc: Global, first: Piece) -> Result<Pieces, NoMemory>
@@ -142,6 +160,52 @@ fn closed(
     Ok((least, none, faults))
 }
 
+/// The second item of the first list.
+fn second_item(
+    alloc: Global,
+    outputs: &Outputs,
+    pool: &Nodes,
+    _region: &Region,
+) -> Result<Value, NoMemory>
+    requires { Tried pool.now outputs.now _region.now HasBoth IsSomething }
+{
+    let place = Place::of(alloc, &[1])?;
+    let piece = outputs.piece_at(alloc, pool, 0, &place)?;
+    assemble(alloc, &piece)
+}
+
+/// The first list as it will be once it is closed.
+fn list_ahead(
+    alloc: Global,
+    outputs: &Outputs,
+    pool: &Nodes,
+    _region: &Region,
+) -> Result<Value, NoMemory>
+    requires { Tried pool.now outputs.now _region.now HasBoth IsSomething }
+{
+    let top = Place::top(alloc);
+    let piece = outputs.piece_closed(alloc, pool, 0, &top, 2)?;
+    assemble(alloc, &piece)
+}
+
+/// The first list is closed while its first item is wanting: the list as it will be once it comes.
+fn item_ahead(
+    alloc: Global,
+    outputs: &mut Outputs,
+    pool: &mut Nodes,
+    region: &Region,
+) -> Result<Value, NoMemory>
+    requires { Tried pool.old outputs.old region.now HasSecond IsNothing }
+{
+    let top = Place::top(alloc);
+    outputs.reserve(pool, 0, 1)?;
+    outputs.close(pool, region, 0, 1, &top, 2);
+    let place = Place::of(alloc, &[0])?;
+    let piece = text(alloc, "a")?;
+    let ahead = outputs.piece_with(alloc, pool, 0, &place, &piece)?;
+    assemble(alloc, &ahead)
+}
+
 /// Whether the third tree and the first two are whole, and whether the first two hold faults.
 fn looks(outputs: &Outputs, pool: &Nodes, _region: &Region) -> ((bool, bool, bool), (bool, bool))
     requires { Tried pool.now outputs.now _region.now IsSomething IsSomething }
@@ -164,6 +228,10 @@ fn two_steps(rt: HostRuntime) -> Result<(), Fail> {
     assert_eq!(rt; no_outputs(alloc, &mut outputs, &mut pool, &region)?, 0);
     let faults = first_items(alloc, &mut outputs, &mut pool, &region)?;
     assert_eq!(rt; faults.as_slice(), [0, 2].as_slice());
+    let b = second_item(alloc, &outputs, &pool, &region)?;
+    assert!(rt; is_text(&b, "b"));
+    let list = list_ahead(alloc, &outputs, &pool, &region)?;
+    assert!(rt; are_texts(&list, "a", "b"));
     let (least, none, faults) = closed(alloc, &mut outputs, &mut pool, &region)?;
     assert_eq!(rt; (least, none), (0, 1));
     assert_eq!(rt; faults.as_slice(), [0, 1].as_slice());
@@ -171,5 +239,17 @@ fn two_steps(rt: HostRuntime) -> Result<(), Fail> {
         looks(&outputs, &pool, &region),
         ((true, true, true), (false, true))
     );
+    Ok(())
+}
+
+#[test]
+fn an_item_ahead(rt: HostRuntime) -> Result<(), Fail> {
+    let alloc = rt.alloc();
+    let mut pool = Pool::new(alloc);
+    let region = pool.begin()?;
+    let mut outputs = begun(alloc, &mut pool, &region)?;
+    second_items(alloc, &mut outputs, &mut pool, &region)?;
+    let list = item_ahead(alloc, &mut outputs, &mut pool, &region)?;
+    assert!(rt; are_texts(&list, "a", "b"));
     Ok(())
 }

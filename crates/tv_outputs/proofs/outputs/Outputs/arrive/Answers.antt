@@ -1,4 +1,4 @@
-use Rattle.std.proofs.Common.{rules, refl, ◌≡◌, ◌≤◌, ◌<◌, ◌+◌, ℕ, List, ◌++◌, ◌∷◌, [], sym, ap, ◌∙◌, subst, length, map, arith, get_or}
+use Rattle.std.proofs.Common.{rules, refl, ◌≡◌, ◌≤◌, ◌<◌, ◌+◌, ℕ, List, ◌++◌, ◌∷◌, [], sym, ap, ◌∙◌, subst, length, map, arith}
 use Rattle.std.proofs.lemmas.Iterator.Adapters.{YieldsList-from_vec}
 use Rattle.std.proofs.lemmas.Iterator.Consumers.{YieldsList-turn, YieldsList-end}
 use Rattle.tv_parts.specs.Changes.{arrive, CanArrive}
@@ -9,7 +9,7 @@ use Rattle.tv_cell.proofs.OfPieces.{piece-sound}
 use Rattle.tv_outputs.specs.Known.{known_in, depths_in, needed}
 use Rattle.tv_outputs.specs.Changes.{Arrive}
 use Rattle.tv_outputs.proofs.Lists.{length-more}
-use Rattle.tv_outputs.proofs.Turning.{Asks, Leaves, Arriving, arriving-none, arriving-asks, arriving-more, leaves-at}
+use Rattle.tv_outputs.proofs.Turning.{Asks, arriving-none, arriving-asks, arriving-more, leaves-at}
 use Rattle.tv_outputs.proofs.outputs.Outputs.arrive.Goals as goal
 
 pub loop-piece-init : goal.loop-piece-init

@@ -1,8 +1,8 @@
-use Rattle.std.proofs.Common.{◌≡◌, ◌≤◌, ◌<◌, ◌+◌, ◌-◌, ℕ, sym, ap, ◌∙◌, subst, length, arith}
+use Rattle.std.proofs.Common.{◌≤◌, ◌<◌, ◌+◌, ◌-◌, ℕ, sym, ap, subst, length, arith}
 use Rattle.tv_parts.specs.Changes.{close_at, CanClose}
 use Rattle.tv_outputs.specs.Known.{known_in, depths_in, needed}
 use Rattle.tv_outputs.specs.Changes.{Close}
-use Rattle.tv_outputs.proofs.Turning.{Asks, Leaves, Closing, closing-none, closing-asks, closing-more, leaves-at, within-range, back, next-number, last-number, none-yet}
+use Rattle.tv_outputs.proofs.Turning.{Asks, Closing, closing-none, closing-asks, closing-more, leaves-at, within-range, back, next-number, last-number, none-yet}
 use Rattle.tv_outputs.proofs.outputs.Outputs.close.Goals as goal
 
 pub loop-number-init : goal.loop-number-init

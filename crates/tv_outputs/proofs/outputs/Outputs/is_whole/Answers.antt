@@ -1,4 +1,4 @@
-use Rattle.std.proofs.Common.{◌≡◌, ◌≤◌, ◌<◌, ◌+◌, ◌∙◌, sym, ap, subst, length, Some}
+use Rattle.std.proofs.Common.{◌≡◌, ◌∙◌, length, Some}
 use Rattle.std.specs.Prelude.{slice_get}
 use Rattle.tv_outputs.proofs.Ones.{within, fits, found, one-stands}
 use Rattle.tv_outputs.proofs.Looks.{whole-there}

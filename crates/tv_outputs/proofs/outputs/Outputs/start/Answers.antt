@@ -1,7 +1,6 @@
-use Rattle.std.proofs.Common.{◌≡◌, ◌≤◌, ◌+◌, ◌++◌, ◌∷◌, [], ℕ, List, length, map, take, sym, ap, ◌∙◌, subst, arith, get_or}
+use Rattle.std.proofs.Common.{◌≤◌, ◌+◌, ◌++◌, ◌∷◌, [], ℕ, length, map, take, sym, ap, ◌∙◌, subst, arith, get_or}
 use Rattle.std.proofs.lemmas.List.{take_all, take_more}
-use Rattle.tv_parts.specs.Partials.{Partial, wanting}
-use Rattle.tv_value.specs.Values.{Value}
+use Rattle.tv_parts.specs.Partials.{wanting}
 use Rattle.tv_pool.specs.Pool.{number_of}
 use Rattle.tv_outputs.specs.Known.{known_in, depths_in}
 use Rattle.tv_outputs.specs.Kept.{AreKept}

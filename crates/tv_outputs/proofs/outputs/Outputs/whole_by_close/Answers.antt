@@ -1,4 +1,4 @@
-use Rattle.std.proofs.Common.{◌≡◌, ◌≤◌, ◌<◌, ◌+◌, ◌∙◌, sym, ap, subst, length, Some}
+use Rattle.std.proofs.Common.{◌≡◌, ◌<◌, ◌+◌, ◌∙◌, sym, ap, subst, length, Some}
 use Rattle.std.specs.Prelude.{slice_get}
 use Rattle.tv_outputs.specs.Changes.{least_or_past}
 use Rattle.tv_outputs.proofs.Lists.{depth-at}

@@ -1,0 +1,14 @@
+use Rattle.std.proofs.Common.{◌≡◌, map, take, Some}
+use Rattle.tv_naming.specs.Naming.{numbered}
+use Rattle.tv_cell.specs.PieceValues.{piece_values}
+use Rattle.tv_cell.specs.Soundness.{AreSound}
+use Rattle.tv_bound.specs.Constants.{constants_view}
+use Rattle.tv_bound.specs.Jobs.{port_found}
+use Rattle.tv_bound.specs.Sourced.{known_by}
+use Rattle.tv_bound.proofs.jobs.job_inputs.Given as goal
+
+abbrev pub invariant-loop-number : goal.invariant-loop-number
+invariant-loop-number l = record {
+  values : map Some (piece_values l.pieces.items) ≡ take l.number (map (port_found (known_by l.sources) (constants_view l.constants) l.step l.places) (numbered 0 l.step.ports.now));
+  sound : AreSound l.pieces.items;
+}
