@@ -1,0 +1,3 @@
+pub mod OfDepths
+pub mod OfStarts
+pub mod OfFaults
