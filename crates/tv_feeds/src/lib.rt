@@ -13,4 +13,4 @@ mod ports;
 #[cfg(test)]
 mod tests;
 
-pub use ports::{is_whole_with, ports_whole_with};
+pub use ports::{has_whole, is_whole_with, ports_whole_with};

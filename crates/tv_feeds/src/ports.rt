@@ -75,8 +75,9 @@ fn is_from(feed: &NumberedFeed, step: u32) -> bool
     }
 }
 
-/// Whether a port that takes its feed at once has all of it with a step.
-fn has_whole(port: &Port, endings: &Endings, step: u32) -> bool
+/// Whether a port that takes its feed at once has all of it once the given step is whole, and not without it. Takes no memory.
+/// Linear in the port's links.
+pub fn has_whole(port: &Port, endings: &Endings, step: u32) -> bool
     requires { IsWithin (length endings.now.whole.items) port.now.feed }
     ensures { result ≡ has_whole_with (is_whole endings.now) step port.now }
 {

@@ -1,14 +1,15 @@
 -- What is sorted of a list of things from a position on.
-use Rattle.std.specs.Prelude.{◌≡◌, ℕ, zero, suc, ◌+◌, ◌<◌, ◌≤◌, List, [], ◌∷◌, ◌++◌, Some, drop, length, slice_get, refl}
+use Rattle.std.specs.Prelude.{◌≡◌, ℕ, zero, suc, ◌+◌, ◌<◌, ◌≤◌, not, Bool, true, false, cond, List, [], ◌∷◌, ◌++◌, Some, count_by, drop, length, slice_get, refl}
 use Rattle.std.proofs.Common.{arith, ap, sym, ◌∙◌, append_assoc, append-nil}
 use Rattle.std.proofs.lemmas.List.{drop_all}
+use Rattle.std.proofs.lemmas.List.Sums.{sum_by-cons}
 use Rattle.tv_value.specs.Nested.{Place}
 use Rattle.tv_matching.specs.Matchers.{Outcome}
-use Rattle.tv_match.specs.Seen.{outcome_kind}
+use Rattle.tv_match.specs.Seen.{is_faulty, outcome_kind}
 use Rattle.tv_match.specs.declared.kinds.Kind.{Kind}
 use Rattle.tv_match.specs.declared.kinds.Kind.TheVariants.{Job, Closed, Passed}
 use Rattle.tv_intake.specs.declared.found.Found.{Found}
-use Rattle.tv_intake.specs.Sorting.{found_at, found_jobs, found_others, if_job, if_other, job_count, jobs_among}
+use Rattle.tv_intake.specs.Sorting.{faulty_count, found_at, found_jobs, found_others, good_count, if_job, if_other, job_count, job_places, jobs_among}
 
 none : {A : Type 0} (i : ℕ) → i < 0 → A
 none i p = absurd (omega arith)
@@ -74,3 +75,41 @@ pub few : (k : Kind) → job_count k ≤ 1
 few (Job b) = omega arith
 few (Closed n) = omega arith
 few (Passed l) = omega arith
+
+pub few-good : (k : Kind) → good_count k ≤ 1
+few-good (Job true) = omega arith
+few-good (Job false) = omega arith
+few-good (Closed n) = omega arith
+few-good (Passed l) = omega arith
+
+pub few-faulty : (k : Kind) → faulty_count k ≤ 1
+few-faulty (Job true) = omega arith
+few-faulty (Job false) = omega arith
+few-faulty (Closed n) = omega arith
+few-faulty (Passed l) = omega arith
+
+-- one more thing, of which a job is counted by whether it binds a fault
+module _ (test : Place → Bool) (os : List Outcome) (i : ℕ) (k : Kind) (q : Place) (told : is_faulty k ≡ test q) (here : slice_get os i ≡ Some (outcome_kind q k)) where
+  pub good-next : (n m : ℕ) → m ≡ good_count k → (n + m) + count_by (λ r. not (test r)) (job_places (drop (i + 1) os)) ≡ n + count_by (λ r. not (test r)) (job_places (drop i os))
+  good-next n m c =
+      let f = ap (λ l. count_by (λ r. not (test r)) (job_places l)) (drop-next os i (outcome_kind q k) here) in
+      let g = by k told in
+      omega (arith, f, g, c)
+    where
+      by : (k : Kind) → is_faulty k ≡ test q → good_count k + count_by (λ r. not (test r)) (job_places (drop (i + 1) os)) ≡ count_by (λ r. not (test r)) (job_places (outcome_kind q k ∷ drop (i + 1) os))
+      by (Job true) e = ap (λ b. cond (not b) 1 0 + count_by (λ r. not (test r)) (job_places (drop (i + 1) os))) e ∙ sym (sum_by-cons (λ r. cond (not (test r)) 1 0) q (job_places (drop (i + 1) os)))
+      by (Job false) e = ap (λ b. cond (not b) 1 0 + count_by (λ r. not (test r)) (job_places (drop (i + 1) os))) e ∙ sym (sum_by-cons (λ r. cond (not (test r)) 1 0) q (job_places (drop (i + 1) os)))
+      by (Closed n) e = omega arith
+      by (Passed l) e = omega arith
+
+  pub faulty-next : (n m : ℕ) → m ≡ faulty_count k → (n + m) + count_by test (job_places (drop (i + 1) os)) ≡ n + count_by test (job_places (drop i os))
+  faulty-next n m c =
+      let f = ap (λ l. count_by test (job_places l)) (drop-next os i (outcome_kind q k) here) in
+      let g = by k told in
+      omega (arith, f, g, c)
+    where
+      by : (k : Kind) → is_faulty k ≡ test q → faulty_count k + count_by test (job_places (drop (i + 1) os)) ≡ count_by test (job_places (outcome_kind q k ∷ drop (i + 1) os))
+      by (Job true) e = ap (λ b. cond b 1 0 + count_by test (job_places (drop (i + 1) os))) e ∙ sym (sum_by-cons (λ r. cond (test r) 1 0) q (job_places (drop (i + 1) os)))
+      by (Job false) e = ap (λ b. cond b 1 0 + count_by test (job_places (drop (i + 1) os))) e ∙ sym (sum_by-cons (λ r. cond (test r) 1 0) q (job_places (drop (i + 1) os)))
+      by (Closed n) e = omega arith
+      by (Passed l) e = omega arith

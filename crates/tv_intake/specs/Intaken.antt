@@ -1,6 +1,6 @@
 -- What all steps' matchers have matched: known jobs by number, and lists and faults that wait; and what the calls change.
 use Rattle.std.specs.Option.{option_map_or}
-use Rattle.std.specs.Prelude.{◌≡◌, ℕ, ◌+◌, ◌==◌, ◌≤◌, if◌then◌else◌, Bool, List, [], ◌∷◌, ◌++◌, IsPermutation, Option, Some, None, get_or, map, slice_get, vec_capacity, vec_len}
+use Rattle.std.specs.Prelude.{◌≡◌, ℕ, ◌+◌, ◌==◌, ◌≤◌, if◌then◌else◌, Bool, false, List, [], ◌∷◌, ◌++◌, IsPermutation, Option, Some, None, get_or, map, slice_get, vec_capacity, vec_len}
 use Rattle.tv_value.specs.Nested.{Place}
 use Rattle.tv_value.specs.Strategies.{Strategy}
 use Rattle.tv_value.specs.Values.{Name}
@@ -13,7 +13,7 @@ use Rattle.tv_match.specs.Ahead.{in_order_ahead}
 use Rattle.tv_match.specs.Seen.{in_order}
 use Rattle.tv_intake.specs.declared.found.Found.{Found}
 use Rattle.tv_intake.specs.declared.intakes.Intakes.{Intakes}
-use Rattle.tv_intake.specs.Sorting.{brought, job_positions, other_positions}
+use Rattle.tv_intake.specs.Sorting.{brought, faulty_ahead, job_positions, other_positions}
 
 -- ---- of the matchers of all steps, in the order of their numbers
 
@@ -79,6 +79,11 @@ AreIntaken i = AreSorted i.matchers.items i.jobs.items i.waiting.items
 abbrev pub IsFaultyAt : Option Matcher → Place → Bool → Type 0
 IsFaultyAt None q b = ⊥
 IsFaultyAt (Some m) q b = b ≡ faulty_at (matching m).strategy (matching m).told q
+
+-- the same, held tellings counted
+abbrev pub faulty_ahead_at : Option Matcher → Place → Bool
+faulty_ahead_at None q = false
+faulty_ahead_at (Some m) q = faulty_ahead m q
 
 -- ---- conditions
 

@@ -1,12 +1,13 @@
 -- What follows at a step, sorted into jobs and other things, each with its position.
-use Rattle.std.specs.Prelude.{ℕ, suc, List, [], ◌∷◌, drop, length, map}
+use Rattle.std.specs.Prelude.{ℕ, suc, Bool, true, false, List, [], ◌∷◌, ◌++◌, drop, length, map}
 use Rattle.tv_value.specs.Nested.{Place}
 use Rattle.tv_matching.specs.Matchers.{Outcome, job_at, list_at, fault_at}
+use Rattle.tv_matching.specs.Told.{faulty_at}
 use Rattle.tv_match.specs.declared.kinds.Kind.{Kind}
 use Rattle.tv_match.specs.declared.kinds.Kind.TheVariants.{Job, Closed, Passed}
 use Rattle.tv_match.specs.declared.matchers.Matcher.{Matcher}
 use Rattle.tv_match.specs.Ahead.{in_order_ahead}
-use Rattle.tv_match.specs.Seen.{in_order}
+use Rattle.tv_match.specs.Seen.{in_order, matching}
 use Rattle.tv_intake.specs.declared.found.Found.{Found}
 
 -- the positions of the jobs, where the first of these has position i
@@ -58,6 +59,10 @@ found_others s i os = map (found_at s) (other_positions i os)
 abbrev pub brought : Matcher → List Outcome
 brought m = drop (length (in_order m)) (in_order_ahead m)
 
+-- whether the job at a place binds a value that is told to hold a fault, held tellings counted
+abbrev pub faulty_ahead : Matcher → Place → Bool
+faulty_ahead m q = faulty_at (matching m).strategy ((matching m).told ++ (matching m).held) q
+
 -- ---- by the kind of one of them
 
 abbrev pub if_job : Kind → Found → List Found
@@ -74,3 +79,15 @@ abbrev pub job_count : Kind → ℕ
 job_count (Job b) = 1
 job_count (Closed n) = 0
 job_count (Passed l) = 0
+
+abbrev pub good_count : Kind → ℕ
+good_count (Job false) = 1
+good_count (Job true) = 0
+good_count (Closed n) = 0
+good_count (Passed l) = 0
+
+abbrev pub faulty_count : Kind → ℕ
+faulty_count (Job false) = 0
+faulty_count (Job true) = 1
+faulty_count (Closed n) = 0
+faulty_count (Passed l) = 0

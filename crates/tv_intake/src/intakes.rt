@@ -1,10 +1,10 @@
-ghost use Rattle.std.specs.Prelude.{◌≡◌, ◌++◌, ◌+◌, ◌-◌, ℕ, ◌<◌, ◌^◌, ◌≤◌, [], All, IfOk, IfSome, IsNone, OnErr, OnOk, Some, length, map, slice_get, sum_by, take, vec_capacity, vec_len};
+ghost use Rattle.std.specs.Prelude.{◌≡◌, ◌++◌, ◌+◌, ◌-◌, ℕ, ◌<◌, ◌^◌, ◌≤◌, [], not, count_by, All, IfOk, IfSome, IsNone, OnErr, OnOk, Some, length, map, slice_get, sum_by, take, vec_capacity, vec_len};
 ghost use Rattle.tv_strategy.specs.Conditions.{Suits, number_of};
 ghost use Rattle.tv_strategy.specs.Measures.{DotsAgree};
 ghost use Rattle.tv_match.specs.Seen.{is_faulty};
 
 use crate::found::Found;
-use crate::sorting::{count_jobs, put, sort_from};
+use crate::sorting::{count_each, count_jobs, put, sort_from};
 use std::alloc::Global;
 use tv_match::{Kind, Matcher, Tolds};
 use tv_value::{Depths, NoMemory, Tree};
@@ -26,7 +26,7 @@ impl Intakes {
     ghost use Rattle.tv_match.specs.Ahead.{in_order_ahead};
     ghost use Rattle.tv_match.specs.Seen.{in_order};
     ghost use Rattle.tv_intake.specs.Sorting.{job_places, jobs_among, others_among};
-    ghost use Rattle.tv_intake.specs.Intaken.{AreIntaken, CanHold, CanShow, HasRoom, HoldsNone, HoldsThese, IsFaultyAt, IsMadeAt, IsSame, IsStartedAt, OthersStay, brought_at, followed_at, known_jobs, matcher_at, waiting_things};
+    ghost use Rattle.tv_intake.specs.Intaken.{AreIntaken, CanHold, CanShow, HasRoom, HoldsNone, HoldsThese, IsFaultyAt, IsMadeAt, IsSame, IsStartedAt, OthersStay, brought_at, faulty_ahead_at, followed_at, known_jobs, matcher_at, waiting_things};
 
     /// Of no step. Takes no memory.
     pub fn new(alloc: Global) -> Intakes
@@ -141,6 +141,18 @@ impl Intakes {
         let matcher = &self.matchers[step as usize];
         let shown = matcher.shown();
         (matcher.ahead() - shown, count_jobs(matcher, shown))
+    }
+
+    /// How many jobs the held tellings of a step bring that bind no fault, and how many that bind one. Takes no memory. Linear in
+    /// what is held.
+    pub fn new_jobs(&self, step: u32) -> (usize, usize)
+        requires sound { AreIntaken self.now }
+        requires can { CanShow (matcher_at self.now step) }
+        ensures good { result.0 ≡ count_by (λ q. not (faulty_ahead_at (matcher_at self.now step) q)) (job_places (brought_at self.now step)) }
+        ensures faulty { result.1 ≡ count_by (faulty_ahead_at (matcher_at self.now step)) (job_places (brought_at self.now step)) }
+    {
+        let matcher = &self.matchers[step as usize];
+        count_each(matcher, matcher.shown())
     }
 
     /// Takes room for so many known jobs and waiting things.

@@ -1,7 +1,9 @@
 //! What is new of a matcher, sorted.
-ghost use Rattle.std.specs.Prelude.{◌≡◌, ◌++◌, ◌∷◌, [], ◌+◌, ◌-◌, ◌<◌, ◌≤◌, drop, length, vec_capacity, vec_len};
+ghost use Rattle.std.specs.Prelude.{◌≡◌, ◌++◌, ◌∷◌, [], ◌+◌, ◌-◌, ◌<◌, ◌≤◌, not, count_by, drop, length, vec_capacity, vec_len};
 ghost use Rattle.tv_match.specs.Ahead.{in_order_ahead};
-ghost use Rattle.tv_intake.specs.Sorting.{found_jobs, found_others, if_job, if_other, job_count, jobs_among};
+ghost use Rattle.tv_match.specs.Seen.{IsSound, matching};
+ghost use Rattle.tv_matching.specs.Matchers.{CanTellAll};
+ghost use Rattle.tv_intake.specs.Sorting.{faulty_ahead, faulty_count, found_jobs, found_others, good_count, if_job, if_other, job_count, job_places, jobs_among};
 
 use crate::found::Found;
 use tv_match::{Kind, Matcher};
@@ -81,4 +83,35 @@ pub(crate) fn count_jobs(matcher: &Matcher, from: usize) -> usize
         count += one_if_job(kind);
     }
     count
+}
+
+/// Of one thing, how many jobs that are that bind no fault, and how many that bind one.
+fn one_of_each(kind: Kind) -> (usize, usize)
+    ensures good { result.0 ≡ good_count kind }
+    ensures faulty { result.1 ≡ faulty_count kind }
+{
+    match kind {
+        Kind::Job { faulty: true } => (0, 1),
+        Kind::Job { faulty: false } => (1, 0),
+        Kind::Closed(_) => (0, 0),
+        Kind::Passed(_) => (0, 0),
+    }
+}
+
+/// How many jobs a matcher has from a position on that bind no fault, and how many that bind one.
+pub(crate) fn count_each(matcher: &Matcher, from: usize) -> (usize, usize)
+    requires sound { IsSound matcher.now }
+    requires can { CanTellAll (matching matcher.now) (matching matcher.now).held }
+    ensures good { result.0 ≡ count_by (λ q. not (faulty_ahead matcher.now q)) (job_places (drop from (in_order_ahead matcher.now))) }
+    ensures faulty { result.1 ≡ count_by (faulty_ahead matcher.now) (job_places (drop from (in_order_ahead matcher.now))) }
+{
+    let mut good = 0;
+    let mut faulty = 0;
+    for at in from..matcher.ahead() {
+        let (_place, kind) = matcher.item_ahead(at);
+        let (more_good, more_faulty) = one_of_each(kind);
+        good += more_good;
+        faulty += more_faulty;
+    }
+    (good, faulty)
 }

@@ -1,0 +1,10 @@
+pub mod Lists
+pub mod OfRuns
+pub mod OfWires
+pub mod OfLeaves
+pub mod OfTold
+pub mod OfHolding
+pub mod OfReserving
+pub mod OfAdding
+pub mod OfShowing
+pub mod OfLaws
