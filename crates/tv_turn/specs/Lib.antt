@@ -1,0 +1,5 @@
+pub mod Turns
+pub mod IdleJobs
+pub mod FirstReady
+pub mod Stated
+pub mod Changes
