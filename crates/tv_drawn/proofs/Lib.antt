@@ -1,0 +1,13 @@
+pub mod Permuting
+pub mod OfLeaves
+pub mod OfRanks
+pub mod OfTelling
+pub mod Settled
+pub mod OfSteps
+pub mod OfMatched
+pub mod OfBinding
+pub mod OfJobs
+pub mod OfWaiting
+pub mod OfSettling
+pub mod OfLaws
+pub mod Computed

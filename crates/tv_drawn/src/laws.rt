@@ -1,0 +1,50 @@
+//! What holds of the definitions alone: each law is the clause of a function that does nothing.
+ghost use Rattle.tv_drawn.specs.Stated.{AllWaitAtFirst, FlowsStay, FramesStart, GivenGoesOn, JobsBindParts, KnownJobsAreMatched, NewJobsAreBrought, NextCanBeTold, NothingSettlesWhereNothingWaits, OutcomesAreKnown, OutcomesComeInAnyOrder, PartsAreInputs, PassedFaultsStand, ResultsMayCome, SettlementsMayCome, StepsAreToldInAnyOrder, TakingLeavesWaiting, TakingTellsNothing, WaitingFaultsCanSettle, WaitingGoesOn, WaitingInAnyOrder, WaitingListsCanSettle};
+
+/// What a step's matcher brings are the known items of the step's iteration, and a passed fault is the one at its leaf's
+/// part of the place.
+pub fn outcomes()
+    ensures known { OutcomesAreKnown }
+    ensures faults { PassedFaultsStand }
+{}
+
+/// A matcher can be told what its ports gain; in which order it was told and brings doesn't matter, and a job that is
+/// taken tells nothing.
+pub fn tellings()
+    ensures next { NextCanBeTold }
+    ensures order { StepsAreToldInAnyOrder }
+    ensures outcomes { OutcomesComeInAnyOrder }
+    ensures taking { TakingTellsNothing }
+{}
+
+/// The jobs of a frame are those that its matchers bring, at the start and with each event.
+pub fn jobs()
+    ensures known { KnownJobsAreMatched }
+    ensures start { FramesStart }
+    ensures new { NewJobsAreBrought }
+    ensures given { GivenGoesOn }
+    ensures results { ResultsMayCome }
+    ensures stays { FlowsStay }
+{}
+
+/// A job binds of each port what stands in its value at the port's part of the job's place.
+pub fn inputs()
+    ensures parts { JobsBindParts }
+    ensures answers { PartsAreInputs }
+{}
+
+/// What can be settled are the lists and passed faults that wait, and nothing else.
+pub fn settlements()
+    ensures lists { WaitingListsCanSettle }
+    ensures faults { WaitingFaultsCanSettle }
+    ensures nothing { NothingSettlesWhereNothingWaits }
+    ensures next { SettlementsMayCome }
+{}
+
+/// What waits at the start and after each event.
+pub fn waiting()
+    ensures start { AllWaitAtFirst }
+    ensures goes_on { WaitingGoesOn }
+    ensures taking { TakingLeavesWaiting }
+    ensures order { WaitingInAnyOrder }
+{}

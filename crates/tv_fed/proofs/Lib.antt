@@ -1,0 +1,16 @@
+pub mod OfNames
+pub mod OfOthers
+pub mod OfStays
+pub mod OfDepths
+pub mod OfStanding
+pub mod OfNext
+pub mod OfOutputs
+pub mod OfLinks
+pub mod OfMarks
+pub mod OfPorts
+pub mod OfTold
+pub mod OfSeen
+pub mod OfUntouched
+pub mod OfWholeSteps
+pub mod OfComing
+pub mod Computed
