@@ -1,0 +1,4 @@
+pub mod Starts
+pub mod Numbers
+pub mod Stated
+pub mod Worked

@@ -1,0 +1,17 @@
+//! The start of a frame, in theory: what the matchers of an open instance's steps are told before anything happens.
+//! Definitions and laws, of which the program runs nothing.
+//!
+//! At the start the flow's inputs and constants are known, and so are the lists that merges make; of outputs of steps nothing
+//! is. `specs/Starts.antt` says what follows for a port, by its feed and by the levels that it walks. The laws of
+//! `specs/Stated.antt` promise that
+//! - with these tellings each port was told exactly what is known of its walk, whatever the instance's jobs will give;
+//! - a matcher can be told them one after the other, port by port;
+//! - a view of which nothing was told is a frame;
+//! - by the numbers of inputs and the leaves of strategies, as code has them (`specs/Numbers.antt`), the same is told.
+//!
+//! - `laws`: what holds of these definitions
+//! - `rows`: worked examples
+#![tactic(auto)]
+
+pub mod laws;
+pub mod rows;

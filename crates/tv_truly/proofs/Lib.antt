@@ -1,0 +1,12 @@
+pub mod OfParts
+pub mod OfPlaces
+pub mod OfValues
+pub mod OfBegins
+pub mod OfWays
+pub mod OfWires
+pub mod OfEvents
+pub mod OfLeaves
+pub mod OfBindings
+pub mod OfJobs
+pub mod OfNumbers
+pub mod OfLaws

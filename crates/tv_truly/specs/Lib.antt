@@ -1,0 +1,4 @@
+pub mod Telling
+pub mod Known
+pub mod Numbers
+pub mod Stated
