@@ -229,6 +229,7 @@ impl Intakes {
         ensures waiting { waiting_things self.new ≡ take (length (waiting_things self.old) - 1) (waiting_things self.old) }
         ensures matchers { self.new.matchers.items ≡ self.old.matchers.items }
         ensures jobs { self.new.jobs.items ≡ self.old.jobs.items }
+        ensures room { (n : ℕ) → HasRoom n self.old → HasRoom n self.new }
         ensures sound { AreIntaken self.new }
     {
         let _ = self.waiting.pop();
