@@ -1,0 +1,309 @@
+-- A step added to the idle jobs, with room for its first job, and a frame of no steps yet.
+use Rattle.std.specs.Option.{option_map_or}
+use Rattle.std.specs.Prelude.{Option, Some, None, ◌≡◌, ◌⊎◌, refl, ℕ, zero, suc, ◌+◌, ◌<◌, ◌≤◌, false, List, [], ◌∷◌, ◌++◌, drop, length, map, replicate, slice_get, slice_set, sum_by}
+use Rattle.std.proofs.Common.{arith, sym, ap, subst, ◌∙◌, inl, inr}
+use Rattle.std.proofs.Math.Seq.{drop-append_seam}
+use Rattle.std.proofs.lemmas.List.{length-map}
+use Rattle.std.proofs.lemmas.List.Sorted.{IsPermutation-sym}
+use Rattle.tv_value.specs.Nested.{Place}
+use Rattle.tv_value.specs.Strategies.{Strategy}
+use Rattle.tv_value.specs.Values.{Name}
+use Rattle.tv_value.specs.Views.{strategy_view}
+use Rattle.tv_flow.specs.Flows.{Flow, Step}
+use Rattle.tv_flow.specs.Views.{flow_view}
+use Rattle.tv_lemmas.proofs.Cases.{on_either}
+use Rattle.tv_strategy.specs.Conditions.{number_of}
+use Rattle.tv_strategy.specs.Measures.{strategy_depth}
+use Rattle.tv_strategy.specs.Sources.{Each}
+use Rattle.tv_check.specs.declared.plans.FlowPlan.{FlowPlan}
+use Rattle.tv_check.specs.declared.plans.StepPlan.{StepPlan}
+use Rattle.tv_check.specs.Plans as plan
+use Rattle.tv_check.specs.PlanViews.{step_plan_view}
+use Rattle.tv_depths.specs.Steps.{strategy_of}
+use Rattle.tv_wires.specs.Ports.{mismatches}
+use Rattle.tv_wires.specs.Wirings.{all_after}
+use Rattle.tv_wires.specs.declared.wiring.Wiring.{Wiring}
+use Rattle.tv_endings.specs.declared.endings.Endings.{Endings}
+use Rattle.tv_endings.specs.Ends.{IsSound as IsSoundEndings}
+use Rattle.tv_matching.specs.Items.{Item, Kind, closes, ends, passes}
+use Rattle.tv_matching.specs.Levels.{KindAt}
+use Rattle.tv_matching.specs.Matchers.{Outcome, all_out, fault_at, job_at, list_at, out}
+use Rattle.tv_matching.specs.Told.{Spot, Told, matched_after}
+use Rattle.tv_matching.proofs.Lists.{each-map, each-weaken}
+use Rattle.tv_matching.proofs.OfLaws.{matches-once}
+use Rattle.tv_matching.proofs.OfMembers.{each-permutes}
+use Rattle.tv_match.specs.declared.matchers.Matcher.{Matcher}
+use Rattle.tv_match.specs.Filed.{filed}
+use Rattle.tv_match.specs.Seen.{IsSound, in_order, matching}
+use Rattle.tv_match.proofs.Faults.{all-in_order}
+use Rattle.tv_intake.specs.declared.intakes.Intakes.{Intakes}
+use Rattle.tv_intake.specs.Intaken.{AreIntaken, HoldsThese, IsMadeAt, IsSoundAt, IsStartedAt, OthersStay, brought_at, brought_in, followed_at, known_jobs, matcher_at, placed, thing_in, waiting_things}
+use Rattle.tv_intake.specs.Sorting.{brought, job_places, jobs_among, others_among}
+use Rattle.tv_intake.proofs.OfIntakes.{ahead-parts}
+use Rattle.tv_spread.specs.Spreads.{IsLevelled, new_places}
+use Rattle.tv_spread.proofs.Lists.{each-behind}
+use Rattle.tv_spread.proofs.OfShowing.{Shows, new-there}
+use Rattle.tv_match.specs.declared.told.Told as code
+use Rattle.std.proofs.lemmas.List.Sums.{sum_by-cons}
+use Rattle.tv_idle.specs.Idles.{Idles, StepIdle, none_idle, of_step, with_rooms_of}
+use Rattle.tv_idle.specs.Kept.{IsKept}
+use Rattle.tv_spread.specs.Spreads.{IsAt}
+use Rattle.tv_fed.proofs.OfWholeSteps.{endings-start}
+use Rattle.tv_joined.specs.EndedSteps.{AreEndingsOf}
+use Rattle.tv_model.specs.Members.{In}
+use Rattle.tv_turn.specs.IdleJobs.{IsIdle}
+use Rattle.tv_frame.specs.Started.{HaveBegun}
+use Rattle.tv_frame.specs.Tables.{levels_at, levels_in}
+use Rattle.tv_frame.proofs.OfBeginning.{HasSameJobs, IsAdded}
+use Rattle.tv_frame.proofs.OfTables.{wiring-is}
+
+-- ---- one step of all
+
+set-at : (steps : List StepIdle) (x c : ℕ) (s : StepIdle) → ((c ≡ x) × (of_step (slice_set steps x s) c ≡ s)) ⊎ (of_step (slice_set steps x s) c ≡ of_step steps c)
+set-at [] x c s = inr refl
+set-at (t ∷ ts) zero zero s = inl (refl, refl)
+set-at (t ∷ ts) zero (suc c) s = inr refl
+set-at (t ∷ ts) (suc x) zero s = inr refl
+set-at (t ∷ ts) (suc x) (suc c) s = on_either (set-at ts x c s) (λ h. inl (ap suc h.0, h.1)) (λ h. inr h)
+
+set-many : (steps : List StepIdle) (x : ℕ) (s : StepIdle) → length (slice_set steps x s) ≡ length steps
+set-many [] x s = refl
+set-many (t ∷ ts) zero s = refl
+set-many (t ∷ ts) (suc x) s = ap suc (set-many ts x s)
+
+push-at : (steps : List StepIdle) (s : StepIdle) (c : ℕ) → ((c ≡ length steps) × (of_step (steps ++ s ∷ []) c ≡ s)) ⊎ ((of_step (steps ++ s ∷ []) c ≡ of_step steps c) × (c ≡ length steps → ⊥))
+push-at [] s zero = inl (refl, refl)
+push-at [] s (suc c) = inr (refl, not-zero c)
+  where
+    not-zero : (c : ℕ) → suc c ≡ 0 → ⊥
+    not-zero c p = omega (arith, p)
+push-at (t ∷ ts) s zero = inr (refl, not-zero (length ts))
+  where
+    not-zero : (c : ℕ) → 0 ≡ suc c → ⊥
+    not-zero c p = omega (arith, p)
+push-at (t ∷ ts) s (suc c) = on_either (push-at ts s c) (λ h. inl (ap suc h.0, h.1)) (λ h. inr (h.0, λ e. h.1 (less c (length ts) e)))
+  where
+    less : (c n : ℕ) → suc c ≡ suc n → c ≡ n
+    less c n p = omega (arith, p)
+
+past-at : (steps : List StepIdle) → of_step steps (length steps) ≡ none_idle 0
+past-at [] = refl
+past-at (t ∷ ts) = past-at ts
+
+push-many : (steps : List StepIdle) (s : StepIdle) → length (steps ++ s ∷ []) ≡ length steps + 1
+push-many [] s = refl
+push-many (t ∷ ts) s = let m = push-many ts s in omega (arith, m)
+
+-- a step was added, of jobs with so many indices, and its rooms were taken
+module _ (idle a r m : Idles) (count depth : ℕ) (many : length idle.steps ≡ count) (added : a.steps ≡ idle.steps ++ none_idle depth ∷ []) (a_known : a.known ≡ idle.known) (rooms : r.steps ≡ slice_set a.steps count (with_rooms_of (of_step r.steps count) (of_step a.steps count))) (r_known : r.known ≡ a.known) (m_steps : m.steps ≡ r.steps) (m_known : m.known ≡ r.known) where
+  pub room-within : count < length a.steps
+  room-within = let n = ap length added in let p = push-many idle.steps (none_idle depth) in omega (arith, n, p, many)
+
+  pub as-many : length m.steps ≡ count + 1
+  as-many =
+      let e = ap length m_steps in
+      let s = ap length rooms in
+      let t = set-many a.steps count (with_rooms_of (of_step r.steps count) (of_step a.steps count)) in
+      let n = ap length added in
+      let p = push-many idle.steps (none_idle depth) in
+      omega (arith, e, s, t, n, p, many)
+
+  -- P of a step's own parts, whatever its rooms are
+  parts : {B : Type 0} (g : StepIdle → B) → ((x y : StepIdle) → g (with_rooms_of x y) ≡ g y) → (c : ℕ) → g (of_step m.steps c) ≡ g (of_step (idle.steps ++ none_idle depth ∷ []) c)
+  parts g free c =
+      ap (λ l. g (of_step l c)) (m_steps ∙ rooms)
+      ∙ on_either (set-at a.steps count c (with_rooms_of (of_step r.steps count) (of_step a.steps count)))
+      (λ h. ap g h.1 ∙ free (of_step r.steps count) (of_step a.steps count) ∙ ap (λ k. g (of_step a.steps k)) (sym h.0))
+      (λ h. ap g h)
+      ∙ ap (λ l. g (of_step l c)) added
+
+  none-there : {B : Type 0} (g : StepIdle → B) → g (none_idle depth) ≡ g (none_idle 0) → (c : ℕ) → g (of_step (idle.steps ++ none_idle depth ∷ []) c) ≡ g (of_step idle.steps c)
+  none-there g free c =
+      on_either (push-at idle.steps (none_idle depth) c)
+      (λ h. ap g h.1 ∙ free ∙ ap g (sym (past-at idle.steps)) ∙ ap (λ k. g (of_step idle.steps k)) (sym h.0))
+      (λ h. ap g h.0)
+
+  pub same-jobs : HasSameJobs idle m
+  same-jobs = record {
+    known = m_known ∙ r_known ∙ a_known;
+    good = λ c. parts (λ s. s.good) (λ x y. refl) c ∙ none-there (λ s. s.good) refl c;
+    faulty = λ c. parts (λ s. s.faulty) (λ x y. refl) c ∙ none-there (λ s. s.faulty) refl c;
+  }
+
+  pub levels-last : (of_step m.steps count).levels ≡ depth
+  levels-last =
+      parts (λ s. s.levels) (λ x y. refl) count
+      ∙ on_either (push-at idle.steps (none_idle depth) count) (λ h. ap (λ (s : StepIdle). s.levels) h.1) (λ h. absurd (h.1 (sym many)))
+
+  pub levels-before : (n : ℕ) → n < count → (of_step m.steps n).levels ≡ (of_step idle.steps n).levels
+  levels-before n lt =
+      parts (λ s. s.levels) (λ x y. refl) n
+      ∙ on_either (push-at idle.steps (none_idle depth) n) (λ h. absurd (below n (length idle.steps) count lt many h.0)) (λ h. ap (λ (s : StepIdle). s.levels) h.0)
+    where
+      below : (n l c : ℕ) → n < c → l ≡ c → n ≡ l → ⊥
+      below n l c p q e = omega (arith, p, q, e)
+
+-- ---- the places of jobs have as many indices as the strategy has levels
+
+abbrev OutAt : ℕ → Outcome → Type 0
+OutAt d (job_at q) = length q ≡ d
+OutAt d (list_at q n) = Unit {0}
+OutAt d (fault_at q l) = Unit {0}
+
+places-at : (d : ℕ) (os : List Outcome) → Each (OutAt d) os → Each (λ q. length q ≡ d) (job_places os)
+places-at d [] h = tt
+places-at d (job_at q ∷ os) h = (h.0, places-at d os h.1)
+places-at d (list_at q n ∷ os) h = places-at d os h.1
+places-at d (fault_at q l ∷ os) h = places-at d os h.1
+
+ordered-at : (m : Matcher) → IsSound m → Each (OutAt (strategy_depth (number_of (matching m).mismatch) (matching m).strategy)) (in_order m)
+ordered-at m a =
+    let n = matching m in
+    let d = strategy_depth (number_of n.mismatch) n.strategy in
+    let leveled = (matches-once (number_of n.mismatch) n.told a.fit a.once n.strategy a.agree).1 in
+    each-permutes (OutAt d) (all_out n) (in_order m)
+    (IsPermutation-sym _ _ (all-in_order (strategy_view m.tree) m.mismatch (filed m.root) m.log m.out m.told m.given a))
+    (each-map (OutAt d) (out n.strategy) (matched_after n.strategy n.told)
+    (each-weaken (λ (x : Item Spot Spot). KindAt d x.place x.kind) (λ x. OutAt d (out n.strategy x)) (λ x k. one d x.place x.kind k) (matched_after n.strategy n.told) leveled))
+  where
+    one : (d : ℕ) (q : Place) (k : Kind Spot Spot) → KindAt d q k → OutAt d (out (matching m).strategy (record { place = q; kind = k }))
+    one d q (ends b) h = h
+    one d q (closes n) h = tt
+    one d q (passes f) h = tt
+
+new-at : (c levels : ℕ) (qs : List Place) → Each (λ q. length q ≡ levels) qs → Each (IsAt c levels) (map (λ q. (c, q)) qs)
+new-at c levels [] h = tt
+new-at c levels (q ∷ qs) h = ((refl, h.0), new-at c levels qs h.1)
+
+-- the jobs that a step has from the start
+pub first-jobs : (j : Intakes) (c d levels : ℕ) (st : Strategy) (mm : List (Name × ℕ)) (before : List (ℕ × Place)) → AreIntaken j → IsStartedAt st mm (matcher_at j c) → d ≡ strategy_depth (number_of mm) st → levels ≡ d → known_jobs j ≡ before ++ map (λ q. (c, q)) (job_places (followed_at j c)) → (known : ℕ) → known ≡ length before → Each (IsAt c levels) (drop known (known_jobs j))
+first-jobs j c d levels st mm before a started deep e jobs known k =
+    subst (Each (IsAt c levels)) (sym (ap (λ n. drop n (known_jobs j)) k ∙ ap (drop (length before)) jobs ∙ drop-append_seam before (map (λ q. (c, q)) (job_places (followed_at j c)))))
+    (new-at c levels (job_places (followed_at j c)) (by (matcher_at j c) (a.sound c) started))
+  where
+    by : (o : Option Matcher) → IsSoundAt o → IsStartedAt st mm o → Each (λ q. length q ≡ levels) (job_places (option_map_or in_order o []))
+    by None s w = absurd w
+    by (Some m) s w =
+        let depth : strategy_depth (number_of (matching m).mismatch) (matching m).strategy ≡ levels = (λ i. strategy_depth (number_of (w.mismatch_is i)) (w.strategy_is i)) ∙ sym deep ∙ sym e in
+        subst (λ n. Each (λ q. length q ≡ n) (job_places (in_order m))) depth (places-at (strategy_depth (number_of (matching m).mismatch) (matching m).strategy) (in_order m) (ordered-at m s))
+
+-- ---- no step yet
+
+pub none-begun : (f : Flow) (tells : ℕ → Step → List Told) (i : Intakes) (idle : Idles) → i.matchers.items ≡ [] → i.jobs.items ≡ [] → i.waiting.items ≡ [] → AreIntaken i → idle.steps ≡ [] → idle.known ≡ 0 → HaveBegun f tells 0 i idle
+none-begun f tells i idle ms js ws a ss k = record {
+  intaken = a;
+  as_many = ap length ms;
+  matchers = λ n s lt e. absurd (none n lt);
+  jobs_are = no-jobs;
+  waiting_are = ap (map (thing_in i.matchers.items)) ws;
+  steps = ap length ss;
+  levels = λ n s lt e. absurd (none n lt);
+  idle_are = record {
+    known = k ∙ sym (ap length no-jobs);
+    good_kept = λ c. subst (λ l. IsKept (λ n. false) idle.known (of_step l c).good) (sym ss) (empty idle.known);
+    faulty_kept = λ c. subst (λ l. IsKept (λ n. false) idle.known (of_step l c).faulty) (sym ss) (empty idle.known);
+    all = λ n x e. absurd (no-entry (known_jobs i) n x no-jobs e);
+    none_else = λ c j d. absurd (no-idle c j (subst (λ l. IsIdle l c j) ss d));
+    good = λ n j d. absurd (no-idle n j (inl (subst (λ l. In j (of_step l n).good) ss d)));
+    faulty = λ n j d. absurd (no-idle n j (inr (subst (λ l. In j (of_step l n).faulty) ss d)));
+  };
+}
+  where
+    none : (n : ℕ) → n < 0 → ⊥
+    none n p = omega (arith, p)
+
+    no-jobs : known_jobs i ≡ []
+    no-jobs = ap (map (λ f. placed (thing_in i.matchers.items f))) js
+
+    empty : (n : ℕ) → IsKept (λ m. false) n []
+    empty n = record { below = refl; front = refl; order = refl }
+
+    no-entry : (xs : List (ℕ × Place)) (n : ℕ) (x : ℕ × Place) → xs ≡ [] → slice_get xs n ≡ Some x → ⊥
+    no-entry [] n x e g = cc
+    no-entry (y ∷ xs) n x e g = cc
+
+    no-idle : (c : ℕ) (j : ℕ × List ℕ) → IsIdle [] c j → ⊥
+    no-idle c j (inl h) = h
+    no-idle c j (inr h) = h
+
+-- ---- endings
+
+pub endings-of : (p : FlowPlan) (after : List (List ℕ)) (e : Endings) → after ≡ p.wiring.after → IsSoundEndings after e → e.whole.items ≡ replicate (length after) false → AreEndingsOf (flow_view p.flow) (levels_in (flow_view p.flow)) [] e × (e.whole.items ≡ replicate (length (flow_view p.flow).steps) false)
+endings-of p after e is sound whole =
+    let all : after ≡ all_after (flow_view p.flow) = is ∙ ap (λ (w : Wiring). w.after) (wiring-is p) in
+    let marks : e.whole.items ≡ replicate (length (all_after (flow_view p.flow))) false = whole ∙ ap (λ l. replicate (length l) false) all in
+    (endings-start (flow_view p.flow) (levels_in (flow_view p.flow)) e (subst (λ l. IsSoundEndings l e) all sound) marks, marks ∙ ap (λ n. replicate n false) (length-map (flow_view p.flow).steps _))
+
+-- ---- a step's plan
+
+pub plan-parts : (f : Flow) (q : StepPlan) (s : Name × Step) → step_plan_view q ≡ plan.step_plan f s → (strategy_view q.tree ≡ strategy_of s.1) × (q.mismatch ≡ mismatches f s.1) × (q.depth ≡ levels_at f s.1)
+plan-parts f q (n, s) e = (ap (λ (r : plan.StepPlan). r.tree) e, ap (λ (r : plan.StepPlan). r.mismatch) e, ap (λ (r : plan.StepPlan). r.depth) e)
+
+pub step-room : (old new : List StepIdle) (s : StepIdle) (count : ℕ) → new ≡ old ++ s ∷ [] → length old ≡ count → count < length new
+step-room old new s count e many = let n = ap length e in let p = push-many old s in omega (arith, n, p, many)
+
+pub added-at : (i j : Intakes) (n count : ℕ) → n ≡ count → (st : Strategy) (mm : List (Name × ℕ)) → IsStartedAt st mm (matcher_at j n) → OthersStay n i j → known_jobs j ≡ known_jobs i ++ map (λ q. (n, q)) (job_places (followed_at j n)) → waiting_things j ≡ waiting_things i ++ map (λ o. (n, o)) (others_among (followed_at j n)) → AreIntaken j → IsAdded count st mm i j
+added-at i j n count e st mm s o js ws a = subst (λ k. IsAdded k st mm i j) e (record { started = s; others = o; jobs = js; waiting = ws; intaken = a })
+
+-- ---- rooms of a step that is there
+
+module _ (idle r m : Idles) (count : ℕ) (rooms : r.steps ≡ slice_set idle.steps count (with_rooms_of (of_step r.steps count) (of_step idle.steps count))) (r_known : r.known ≡ idle.known) (m_steps : m.steps ≡ r.steps) (m_known : m.known ≡ r.known) where
+  own-parts : {B : Type 0} (g : StepIdle → B) → ((x y : StepIdle) → g (with_rooms_of x y) ≡ g y) → (c : ℕ) → g (of_step m.steps c) ≡ g (of_step idle.steps c)
+  own-parts g free c =
+      ap (λ l. g (of_step l c)) (m_steps ∙ rooms)
+      ∙ on_either (set-at idle.steps count c (with_rooms_of (of_step r.steps count) (of_step idle.steps count)))
+      (λ h. ap g h.1 ∙ free (of_step r.steps count) (of_step idle.steps count) ∙ ap (λ k. g (of_step idle.steps k)) (sym h.0))
+      (λ h. ap g h)
+
+  pub taken-jobs : HasSameJobs idle m
+  taken-jobs = record {
+    known = m_known ∙ r_known;
+    good = λ c. own-parts (λ s. s.good) (λ x y. refl) c;
+    faulty = λ c. own-parts (λ s. s.faulty) (λ x y. refl) c;
+  }
+
+  pub taken-many : length m.steps ≡ length idle.steps
+  taken-many = ap length (m_steps ∙ rooms) ∙ set-many idle.steps count (with_rooms_of (of_step r.steps count) (of_step idle.steps count))
+
+  pub taken-levels : (n : ℕ) → (of_step m.steps n).levels ≡ (of_step idle.steps n).levels
+  taken-levels n = own-parts (λ s. s.levels) (λ x y. refl) n
+
+-- ---- what a step brings with what it holds
+
+brought-places : (o p : Option Matcher) → IsMadeAt o p → IsSoundAt p → (s : StepIdle) → IsLevelled o s → Each (λ q. length q ≡ s.levels) (job_places (option_map_or brought o []))
+brought-places None p h a s l = absurd h
+brought-places (Some m) None h a s l = absurd h
+brought-places (Some m) (Some n) h a s l =
+    let same : strategy_depth (number_of (matching n).mismatch) (matching n).strategy ≡ s.levels = (λ i. strategy_depth (number_of (h.mismatch i)) (h.strategy i)) ∙ sym l in
+    places-at s.levels (brought m)
+    (each-behind (OutAt s.levels) (in_order m) (brought m)
+    (subst (Each (OutAt s.levels)) (h.follows ∙ sym (ahead-parts m)) (subst (λ k. Each (OutAt k) (in_order n)) same (ordered-at n a))))
+
+held-levels : (o p : Option Matcher) (ts : List code.Told) (s t : StepIdle) → HoldsThese ts o p → t.levels ≡ s.levels → IsLevelled o s → IsLevelled p t
+held-levels None p ts s t h e l = absurd h
+held-levels (Some m) None ts s t h e l = absurd h
+held-levels (Some m) (Some n) ts s t h e l = e ∙ l ∙ (λ i. strategy_depth (number_of (sym h.0.mismatch_is i)) (sym h.0.strategy_is i))
+
+module _ (c : ℕ) (i r k : Intakes) (ts : List code.Told) (holds : HoldsThese ts (matcher_at i c) (matcher_at r c)) (shows : Shows c r k) (known : ℕ) (known_is : known ≡ length (known_jobs r)) where
+  there : drop known (known_jobs k) ≡ map (λ q. (c, q)) (new_places r c)
+  there = ap (λ n. drop n (known_jobs k)) known_is ∙ new-there c r k shows
+
+  pub new-places-at : (s t : StepIdle) → t.levels ≡ s.levels → IsLevelled (matcher_at i c) s → Each (IsAt c t.levels) (drop known (known_jobs k))
+  new-places-at s t e l =
+      subst (Each (IsAt c t.levels)) (sym there)
+      (new-at c t.levels (new_places r c) (brought-places (matcher_at r c) (matcher_at k c) shows.made (shows.intaken.sound c) t (held-levels (matcher_at i c) (matcher_at r c) ts s t holds e l)))
+
+  places-many : (os : List Outcome) → length (job_places os) ≡ jobs_among os
+  places-many [] = refl
+  places-many (job_at q ∷ os) = ap suc (places-many os)
+  places-many (list_at q n ∷ os) = places-many os
+  places-many (fault_at q l ∷ os) = places-many os
+
+  pub new-numbers : (steps : List ℕ) (j : Intakes) (room jobs : ℕ) → steps ≡ c ∷ [] → r.matchers.items ≡ j.matchers.items → room ≡ jobs → jobs ≡ sum_by (λ s. jobs_among (brought_at j s)) steps → length (drop known (known_jobs k)) ≤ room
+  new-numbers steps j room jobs one same is count =
+      let e = ap length there in
+      let m = length-map {B = ℕ × Place} (new_places r c) (λ q. (c, q)) in
+      let p = places-many (brought_at r c) in
+      let n = count ∙ ap (sum_by (λ s. jobs_among (brought_at j s))) one ∙ sum_by-cons (λ s. jobs_among (brought_at j s)) c [] in
+      let q = ap (λ ms. jobs_among (brought_in ms c)) same in
+      omega (arith, e, m, p, n, q, is)

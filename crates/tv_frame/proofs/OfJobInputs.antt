@@ -1,0 +1,422 @@
+-- What a known job binds is found, and in all instances it is what stands at the parts of the job's place.
+use Rattle.std.specs.List.{list_all, list_any}
+use Rattle.std.specs.Option.{option_map_or}
+use Rattle.std.specs.Prelude.{◌≡◌, refl, ℕ, zero, suc, ◌+◌, ◌-◌, ◌&&◌, Bool, true, false, IsTrue, if◌then◌else◌, find, is_some, ◌<◌, length, List, [], ◌∷◌, map, IfOk, Ok, Err, Result, Option, Some, option_and_then, slice_get}
+use Rattle.std.proofs.Common.{arith, sym, ap, ap₂, subst, ◌∙◌, get_or}
+use Rattle.std.proofs.lemmas.Bool.{and_parts}
+use Rattle.std.proofs.lemmas.List.{length-map}
+use Rattle.std.proofs.lemmas.List.Sorted.{IsPermutation-sym}
+use Rattle.std.proofs.lemmas.Option.{get_or_from_slice_get, none-some, same_Some, slice_get_within}
+use Rattle.tv_value.specs.Nested.{Place, at, item_at, leaf, list, no_trees, tree}
+use Rattle.tv_value.specs.Orders.{named, same_name}
+use Rattle.tv_value.specs.Values.{JobName, Name, Value}
+use Rattle.tv_value.specs.Views.{strategy_view}
+use Rattle.tv_flow.specs.Flows.{Feed, Flow, Step, StepInput}
+use Rattle.tv_flow.specs.Formed.{are_named, is_ascending, is_depth, is_feed, is_step_input}
+use Rattle.tv_flow.specs.Forms.{is_name}
+use Rattle.tv_flow.specs.Views.{flow_view, step_input_view, step_view}
+use Rattle.tv_flow.specs.declared.document.Step.{Step as CodeStep}
+use Rattle.tv_flow.specs.declared.document.StepInput.{StepInput as CodeInput}
+use Rattle.tv_strategy.specs.Conditions.{Suits, number_of, place_of}
+use Rattle.tv_strategy.specs.Iterations.{Binding, Iteration, Iterations, job, passed}
+use Rattle.tv_strategy.specs.Levels.{AllHaveLevels, HasLevels}
+use Rattle.tv_strategy.specs.Measures.{DotsAgree, leaf_names, strategy_depth}
+use Rattle.tv_strategy.specs.Origins.{Origin, plain}
+use Rattle.tv_strategy.specs.Sources.{Each}
+use Rattle.tv_strategy.specs.Splits.{split}
+use Rattle.tv_strategy.proofs.OfLaws.{split-names_leaves}
+use Rattle.tv_naming.specs.Naming.{feed_links, is_there, numbered}
+use Rattle.tv_naming.proofs.ByPosition.{named-at, names_of}
+use Rattle.tv_naming.proofs.FormedParts.{all-pass, ascending, passes, step-at, step-inputs}
+use Rattle.tv_naming.proofs.OfTold.{get-map, got-in}
+use Rattle.tv_depths.specs.CheckedDepths.{feed_depth, flow_depths}
+use Rattle.tv_depths.specs.Delivered.{Delivered, Ported, feed_delivers, ported}
+use Rattle.tv_depths.specs.Steps.{strategy_of}
+use Rattle.tv_depths.proofs.OfRanked.{inside}
+use Rattle.tv_check.specs.declared.plans.FlowPlan.{FlowPlan}
+use Rattle.tv_check.specs.declared.plans.StepPlan.{StepPlan}
+use Rattle.tv_check.specs.Plans as plans
+use Rattle.tv_check.specs.PlanViews.{IsOfDocument, step_plan_view}
+use Rattle.tv_matching.specs.Items.{Bound, Item, Stopped, known_items, kind_of}
+use Rattle.tv_matching.proofs.OfMembers.{each-in, in-permutes}
+use Rattle.tv_model.specs.Members.{In}
+use Rattle.tv_wires.specs.declared.ports.Port.{Port}
+use Rattle.tv_wires.specs.declared.wiring.Wiring.{Wiring}
+use Rattle.tv_wires.specs.Ports.{mismatches, port_among, ports_of}
+use Rattle.tv_outputs.specs.Known.{Nodes}
+use Rattle.tv_intake.specs.Intaken.{IsFaultyAt, known_jobs, matcher_at}
+use Rattle.tv_cell.specs.declared.piece.Piece.{Piece}
+use Rattle.tv_cell.specs.PieceValues.{piece_values}
+use Rattle.tv_bound.specs.declared.jobs.StepPorts.{StepPorts}
+use Rattle.tv_bound.specs.declared.sources.Sources.{Sources}
+use Rattle.tv_bound.specs.Constants.{FlowConstants, constant_of_port, constants_view, flow_constants}
+use Rattle.tv_bound.specs.Found.{all_found}
+use Rattle.tv_bound.specs.Jobs.{job_found, port_found}
+use Rattle.tv_bound.specs.Sourced.{IsCounted, known_by as sourced_by}
+use Rattle.tv_model.specs.Instances.{given_of}
+use Rattle.tv_instance.specs.ByResults.{InstanceStep, Results, step_of}
+use Rattle.tv_instance.specs.Events.{Extends, gave, known_by}
+use Rattle.tv_instances.specs.Stated.{HasItsLevels}
+use Rattle.tv_instances.proofs.OfLevels.{steps-have_their_levels}
+use Rattle.tv_framing.specs.Answers.{AreInputs, numbered as numbered_job}
+use Rattle.tv_framing.specs.Frames as frames
+use Rattle.tv_framing.specs.Frames.{FitsKind}
+use Rattle.tv_framing.specs.Views.{AreOfDepth, View, steps_with}
+use Rattle.tv_framing.proofs.OfFrames.{AreDistinct, in-finds, job-end, known-stands, steps-distinct}
+use Rattle.tv_framing.proofs.OfPossible.{some-possible}
+use Rattle.tv_joined.specs.WiredFlows.{IsWired}
+use Rattle.tv_fed.proofs.OfStanding.{fed-depth, stands}
+use Rattle.tv_drawn.specs.Items.{StandAtParts}
+use Rattle.tv_drawn.specs.Steps.{IsOfRankedFlow}
+use Rattle.tv_drawn.proofs.OfLaws.{parts-are_inputs}
+use Rattle.tv_drawn.proofs.OfRanks.{at-in}
+use Rattle.tv_drawn.proofs.OfSteps.{IsMadeOf, made-step, rising, steps-paired}
+use Rattle.tv_frame.specs.declared.frame.Frame.{Frame}
+use Rattle.tv_frame.specs.Kept.{Keeps, named_job}
+use Rattle.tv_frame.specs.Tables.{levels_in}
+use Rattle.tv_frame.proofs.OfFirstRooms.{plan-parts}
+use Rattle.tv_frame.proofs.OfGiven.{constant-at, ports-at}
+use Rattle.tv_frame.proofs.OfHoldAround.{fewer-trees, levels-measured, wiring-kept}
+use Rattle.tv_frame.proofs.OfIdling.{mapped-get}
+use Rattle.tv_frame.proofs.OfJobPorts.{AreBoundAt, IsPortHere, job-binds}
+use Rattle.tv_frame.proofs.OfJobs as jobs
+use Rattle.tv_frame.proofs.OfJobValues.{job-leaves}
+use Rattle.tv_frame.proofs.OfKeeping.{kept-ranked, kept-wired, levels-are}
+use Rattle.tv_frame.proofs.OfKnownFeeds.{IsKnownIn}
+use Rattle.tv_frame.proofs.OfFaultingKnown.{feed-counted}
+use Rattle.tv_frame.proofs.OfOuts.{IsSourcesOf, tree-known, tree-named}
+use Rattle.tv_frame.proofs.OfPlans.{dots-agree, step-suits}
+use Rattle.tv_frame.proofs.OfTables.{as-many-steps, step-of}
+
+-- ---- a job stands as deep as its iteration
+
+mutual
+  pub job-deep : (t : Iteration) (d : ℕ) (q : Place) (r : List Origin) (b : Binding) → HasLevels t d → at t q ≡ Some (leaf r (job b)) → length q ≡ d
+  job-deep t d [] r b h e = sym (subst (λ u. HasLevels u d) (same_Some t (leaf r (job b)) e) h)
+  job-deep (leaf s g) d (i ∷ q) r b h e = absurd (none-some (leaf r (job b)) e)
+  job-deep (list s ts) zero (i ∷ q) r b h e = absurd h
+  job-deep (list s ts) (suc d) (i ∷ q) r b h e = ap suc (jobs-deep ts i d q r b h e)
+
+  jobs-deep : (ts : Iterations) (i d : ℕ) (q : Place) (r : List Origin) (b : Binding) → AllHaveLevels ts d → option_and_then (λ (y : Iteration). at y q) (item_at ts i) ≡ Some (leaf r (job b)) → length q ≡ d
+  jobs-deep no_trees i d q r b h e = absurd (none-some (leaf r (job b)) e)
+  jobs-deep (tree t ts) zero d q r b h e = job-deep t d q r b h.0 e
+  jobs-deep (tree t ts) (suc i) d q r b h e = jobs-deep ts i d q r b h.1 e
+
+item-deep : (t : Iteration) (d : ℕ) (q : Place) (s : Name) (u : Iteration) → HasLevels t d → at t q ≡ Some u → FitsKind (gave s q []) (kind_of u) → length q ≡ d
+item-deep t d q s (leaf r (job b)) h e k = job-deep t d q r b h e
+item-deep t d q s (leaf r (passed m x)) h e k = absurd k
+item-deep t d q s (list r ts) h e k = absurd k
+
+-- ---- one step of a name
+
+same-step : (fs : List InstanceStep) → AreDistinct fs → (g h : InstanceStep) → In g fs → In h fs → g.step.step ≡ h.step.step → g ≡ h
+same-step fs d g h i j e =
+    same_Some g h (sym (in-finds fs d g i) ∙ ap (λ t. find (λ (k : InstanceStep). same_name t k.step.step) fs) e ∙ in-finds fs d h j)
+
+-- ---- an input of a name
+
+named-there : {A : Type 0} (xs : List (Name × A)) (k : ℕ) (x : Name × A) → is_ascending (names_of xs) ≡ true → slice_get xs k ≡ Some x → named x.0 xs ≡ Some x.1
+named-there {A = A} xs k x rise e =
+    let same = get_or_from_slice_get xs k x x e in
+    ap (λ (y : Name × A). named y.0 xs) (sym same) ∙ named-at xs k x rise (inside xs k x e) ∙ ap (λ (y : Name × A). Some y.1) same
+
+named-mapped : {A B : Type 0} (g : A → B) (n : Name) (xs : List (Name × A)) (x : A) → named n xs ≡ Some x → named n (map (λ (y : Name × A). (y.0, g y.1)) xs) ≡ Some (g x)
+named-mapped g n [] x e = absurd (none-some x e)
+named-mapped {A = A} {B = B} g n (y ∷ xs) x e = by (same_name n y.0) e (named-mapped g n xs x)
+  where
+    by : (b : Bool) → (if b then Some y.1 else named n xs) ≡ Some x → (named n xs ≡ Some x → named n (map (λ (z : Name × A). (z.0, g z.1)) xs) ≡ Some (g x)) → (if b then Some (g y.1) else named n (map (λ (z : Name × A). (z.0, g z.1)) xs)) ≡ Some (g x)
+    by true h k = ap (λ z. Some (g z)) (same_Some y.1 x h)
+    by false h k = k h
+
+-- ---- what the code hands to the search
+
+pub record ArePortsOf (plan : FlowPlan) (n : ℕ) (p : StepPorts) : Type 0 where
+  pub number : p.number ≡ n
+  pub planned : StepPlan
+  pub at_plan : slice_get plan.steps n ≡ Some planned
+  pub tree : p.tree.now ≡ planned.tree
+  pub mismatch : p.mismatch.now ≡ planned.mismatch
+  pub described : Name × CodeStep
+  pub at_flow : slice_get plan.flow.steps n ≡ Some described
+  pub inputs : p.inputs.now ≡ described.1.inputs
+  pub delivered : p.delivered.now ≡ planned.delivered
+  pub at_ports : slice_get plan.wiring.ports n ≡ Some p.ports.now
+
+delivered-of : (f : Flow) (q : StepPlan) (s : Name × Step) → step_plan_view q ≡ plans.step_plan f s → q.delivered ≡ map (λ (i : Name × StepInput). (i.0, feed_depth f.inputs (flow_depths f) i.1.from)) s.1.inputs
+delivered-of f q (n, s) e = ap (λ (r : plans.StepPlan). r.delivered) e
+
+abbrev seen_input : Name × CodeInput → Name × StepInput
+seen_input i = (i.0, step_input_view i.1)
+
+abbrev seen_step : Name × CodeStep → Name × Step
+seen_step t = (t.0, step_view t.1)
+
+depth-at : (is : List (Name × CodeInput)) (k : ℕ) (i : Name × StepInput) → slice_get (map seen_input is) k ≡ Some i → option_map_or (λ (j : Name × CodeInput). j.1.depth) (slice_get is k) 0 ≡ i.1.depth
+depth-at [] k i e = absurd (none-some i e)
+depth-at (j ∷ is) zero i e = ap (λ (t : Name × StepInput). t.1.depth) (same_Some (seen_input j) i e)
+depth-at (j ∷ is) (suc k) i e = depth-at is k i e
+
+module _ (flows : List (Name × Flow)) (plan : FlowPlan) (pool : Nodes) (f : Frame) (v : View) (keeps : Keeps flows plan pool f v) (a : Sources) (of : IsSourcesOf pool f a) (number n : ℕ) (q : Place) (there : slice_get (known_jobs f.intakes) number ≡ Some (n, q)) (faulty : Bool) (said : IsFaultyAt (matcher_at f.intakes n) q faulty)
+    (p : StepPorts) (own : ArePortsOf plan n p) where
+  abbrev levels : Name → ℕ
+  levels = levels_in v.flow
+
+  abbrev s : Name × Step
+  s = (jobs.step flows plan pool f v keeps number n q there faulty said).0
+
+  its-place : slice_get v.flow.steps n ≡ Some s
+  its-place = (jobs.step flows plan pool f v keeps number n q there faulty said).1
+
+  wired : IsWired v.flow
+  wired = kept-wired flows plan pool f v keeps
+
+  ranked-flow : IsOfRankedFlow flows levels v
+  ranked-flow = kept-ranked flows plan pool f v keeps
+
+  of-document : IsOfDocument v.flow
+  of-document = subst IsOfDocument (sym keeps.flow_is) plan.kept.1
+
+  one-step : (t : Name × Step) → slice_get (flow_view plan.flow).steps n ≡ Some t → t ≡ s
+  one-step t e = same_Some t s (sym e ∙ ap (λ (g : Flow). slice_get g.steps n) (sym keeps.flow_is) ∙ its-place)
+
+  plan-is : step_plan_view own.planned ≡ plans.step_plan v.flow s
+  plan-is =
+      let r = step-of plan n own.planned own.at_plan in
+      subst (λ g. step_plan_view own.planned ≡ plans.step_plan g s) (sym keeps.flow_is)
+      (subst (λ t. step_plan_view own.planned ≡ plans.step_plan (flow_view plan.flow) t) (one-step r.0 r.1.0) r.1.1)
+
+  strategy-is : strategy_view p.tree.now ≡ strategy_of s.1
+  strategy-is = ap strategy_view own.tree ∙ (plan-parts v.flow own.planned s plan-is).0
+
+  mismatch-is : p.mismatch.now ≡ mismatches v.flow s.1
+  mismatch-is = own.mismatch ∙ (plan-parts v.flow own.planned s plan-is).1
+
+  delivered-is : p.delivered.now ≡ map (λ (i : Name × StepInput). (i.0, feed_depth v.flow.inputs (flow_depths v.flow) i.1.from)) s.1.inputs
+  delivered-is = own.delivered ∙ delivered-of v.flow own.planned s plan-is
+
+  inputs-are : map seen_input p.inputs.now ≡ s.1.inputs
+  inputs-are =
+      ap (map seen_input) own.inputs
+      ∙ ap (λ (t : Name × Step). t.1.inputs) (one-step (seen_step own.described) (get-map seen_step plan.flow.steps n own.described own.at_flow))
+
+  ports-are : p.ports.now ≡ ports_of v.flow s.1
+  ports-are =
+      let r = ports-at plan n p.ports.now own.at_ports in
+      r.1.1 ∙ ap (λ (t : Name × Step). ports_of (flow_view plan.flow) t.1) (one-step r.0 r.1.0) ∙ ap (λ g. ports_of g s.1) (sym keeps.flow_is)
+
+  -- THE STRATEGY
+  pub suits : Suits p.mismatch.now (strategy_view p.tree.now)
+  suits = subst (λ m. Suits m (strategy_view p.tree.now)) (sym mismatch-is) (subst (Suits (mismatches v.flow s.1)) (sym strategy-is) (step-suits v.flow of-document n s its-place))
+
+  pub agree : DotsAgree (number_of p.mismatch.now) (strategy_view p.tree.now)
+  agree = subst (λ m. DotsAgree (number_of m) (strategy_view p.tree.now)) (sym mismatch-is) (subst (DotsAgree (number_of (mismatches v.flow s.1))) (sym strategy-is) (dots-agree flows v.flow wired keeps.of_depths.flow n s its-place))
+
+  -- THE PORTS
+  pub inputs-many : length p.inputs.now ≡ length p.ports.now
+  inputs-many =
+      sym (length-map p.inputs.now seen_input) ∙ ap length inputs-are
+      ∙ sym (length-map s.1.inputs (port_among v.flow (leaf_names (strategy_of s.1)))) ∙ sym (ap length ports-are)
+
+  pub delivered-many : length p.delivered.now ≡ length p.ports.now
+  delivered-many =
+      ap length delivered-is ∙ length-map s.1.inputs (λ (i : Name × StepInput). (i.0, feed_depth v.flow.inputs (flow_depths v.flow) i.1.from))
+      ∙ sym (length-map s.1.inputs (port_among v.flow (leaf_names (strategy_of s.1)))) ∙ sym (ap length ports-are)
+
+  ports-counted : (is : List (Name × StepInput)) → list_all (λ (i : Name × StepInput). is_name i.0 && is_step_input i.1) is ≡ true → Each (λ (r : Port). IsCounted r.feed) (map (port_among v.flow (leaf_names (strategy_of s.1))) is)
+  ports-counted [] h = tt
+  ports-counted (i ∷ is) h =
+      let b = and_parts (is_name i.0 && is_step_input i.1) (list_all (λ (j : Name × StepInput). is_name j.0 && is_step_input j.1) is) h in
+      (feed-counted v.flow i.1.from (and_parts (is_depth i.1.depth) (is_feed i.1.from) (and_parts (is_name i.0) (is_step_input i.1) b.0).1).1, ports-counted is b.1)
+
+  formed-inputs : are_named is_step_input 0 16 s.1.inputs ≡ true
+  formed-inputs = step-inputs s.1 (step-at v.flow wired.formed n s its-place)
+
+  pub counted : Each (λ (r : Port). IsCounted r.feed) p.ports.now
+  counted = subst (Each (λ (r : Port). IsCounted r.feed)) (sym ports-are) (ports-counted s.1.inputs (all-pass is_step_input 0 16 s.1.inputs formed-inputs))
+
+  -- ---- in an instance
+
+  known-in : IsKnownIn levels v (sourced_by a)
+  known-in = record {
+    names = keeps.inputs_are.names;
+    inputs = ap piece_values of.inputs ∙ sym keeps.inputs_are.values;
+    outputs = λ t o h. tree-named flows plan pool f v keeps a of v.events t o h (sourced_by a).outputs (λ m u e k l. tree-known flows plan pool f v keeps a of m u e k (fewer-trees u k l));
+  }
+
+  module _ (instance : JobName) (results : Results) (depth : AreOfDepth v instance results) (x : Extends results v.events) where
+    abbrev fs : List InstanceStep
+    fs = steps_with v instance results
+
+    abbrev delivers : Feed → Delivered
+    delivers = feed_delivers step_of (given_of v.flow v.inputs) fs
+
+    its-end : (g : InstanceStep) × In g fs × (g.step.step ≡ s.0) × (y : Item Bound Stopped) × In y (known_items (known_by instance v.events) g.step.iteration) × (y.place ≡ q) × FitsKind (gave s.0 q []) y.kind
+    its-end =
+        job-end (known_by instance v.events) fs s.0 q
+        (in-permutes (s.0, q) (frames.known_jobs (known_by instance v.events) fs) v.jobs (IsPermutation-sym _ _ (keeps.frame.known instance results depth x)) (jobs.known flows plan pool f v keeps number n q there faulty said))
+
+    abbrev g : InstanceStep
+    g = its-end.0
+
+    made : IsMadeOf v.flow s g
+    made = made-step v.flow fs v.flow.steps (rising flows levels v ranked-flow) (steps-paired flows levels v ranked-flow instance results depth) s (at-in v.flow.steps n s its-place) g its-end.1 its-end.2
+
+    -- as deep as the levels of its step
+    deep-here : length q ≡ strategy_depth (number_of p.mismatch.now) (strategy_view p.tree.now)
+    deep-here =
+        let has = (each-in (HasItsLevels levels) g fs (steps-have_their_levels flows v.flow keeps.of_depths.flow v.inputs keeps.of_depths.inputs instance results depth levels keeps.of_depths.levels_are) its-end.1).levels_told in
+        let st = known-stands (known_by instance v.events) g.step.iteration its-end.3 its-end.4 in
+        item-deep g.step.iteration (levels g.step.step) q s.0 st.0 has (ap (at g.step.iteration) (sym its-end.5) ∙ st.1) (subst (FitsKind (gave s.0 q [])) st.2 its-end.6)
+        ∙ ap levels its-end.2 ∙ levels-are v.flow wired n s its-place ∙ levels-measured v.flow s.1
+        ∙ ap (λ m. strategy_depth (number_of m) (strategy_of s.1)) (sym mismatch-is) ∙ ap (strategy_depth (number_of p.mismatch.now)) (sym strategy-is)
+
+    -- the inputs of its step
+    inputs-here : g.step.inputs ≡ map (λ (i : Name × StepInput). (i.0, ported i.1.depth (delivers i.1.from))) s.1.inputs
+    inputs-here =
+        let h = stands flows levels v keeps.of_depths wired instance results n s its-place in
+        ap (λ (k : InstanceStep). k.step.inputs) (same-step fs (steps-distinct v instance results) g h.step its-end.1 h.there (its-end.2 ∙ sym h.stands.name)) ∙ h.stands.inputs
+
+    module _ (cs : FlowConstants) (constants : cs ≡ flow_constants v.flow) where
+      port-here : (k : ℕ) (i : Name × StepInput) → slice_get s.1.inputs k ≡ Some i → IsPortHere flows levels v keeps.of_depths wired keeps.frame.legal instance results depth x (sourced_by a) known-in g cs p s.1 k i
+      port-here k i e = record {
+        there = passes (λ (j : Name × StepInput). list_all (is_there v.flow) (feed_links j.1.from)) s.1.inputs k i (passes (λ (t : Name × Step). list_all (λ j. list_all (is_there v.flow) (feed_links j.1.from)) t.1.inputs) v.flow.steps n s wired.links its-place) e;
+        constant = ap₂ (λ c m. constant_of_port c m k) constants own.number ∙ constant-at v.flow n k s i its-place e;
+        wrapping =
+            ap₂ (λ b c. b - c)
+            (depth-at p.inputs.now k i (ap (λ is. slice_get is k) inputs-are ∙ e))
+            (ap (λ ds. option_map_or (λ (d : Name × ℕ). d.1) (slice_get ds k) 0) delivered-is
+            ∙ ap (λ o. option_map_or (λ (d : Name × ℕ). d.1) o 0) (get-map (λ (j : Name × StepInput). (j.0, feed_depth v.flow.inputs (flow_depths v.flow) j.1.from)) s.1.inputs k i e)
+            ∙ sym (fed-depth flows levels v keeps.of_depths wired instance results i.1.from));
+        found =
+            ap (named i.0) inputs-here
+            ∙ named-mapped (λ (j : StepInput). ported j.depth (delivers j.from)) i.0 s.1.inputs i.1 (named-there s.1.inputs k i (ascending is_step_input 0 16 s.1.inputs formed-inputs) e);
+        leaf = passes (λ (j : Name × StepInput). list_any (same_name j.0) (leaf_names (strategy_of s.1))) s.1.inputs k i (passes (λ (t : Name × Step). list_all (λ j. list_any (same_name j.0) (leaf_names (strategy_of t.1))) t.1.inputs) v.flow.steps n s wired.leaves its-place) e;
+      }
+
+      bound : AreBoundAt flows levels v keeps.of_depths wired keeps.frame.legal instance results depth x (sourced_by a) known-in g cs p s.1 (split (number_of (mismatches v.flow s.1)) (strategy_of s.1) q) 0 s.1.inputs
+      bound =
+          job-binds flows levels v keeps.of_depths wired keeps.frame.legal instance results depth x (sourced_by a) known-in g cs p s.1
+          (split (number_of (mismatches v.flow s.1)) (strategy_of s.1) q) (split-names_leaves (number_of (mismatches v.flow s.1)) (strategy_of s.1) q)
+          (job-leaves (known_by instance v.events) v.flow s g made its-end.3 its-end.4 q its-end.5 its-end.6) 0 s.1.inputs
+          (λ k i e. subst (λ m. IsPortHere flows levels v keeps.of_depths wired keeps.frame.legal instance results depth x (sourced_by a) known-in g cs p s.1 m i) (none k) (port-here k i e))
+        where
+          none : (m : ℕ) → m ≡ 0 + m
+          none m = omega arith
+
+      -- WHAT IS FOUND
+      found-values : job_found (sourced_by a) cs p q ≡ Some bound.values
+      found-values =
+          ap (λ rs. all_found (map (port_found (sourced_by a) cs p rs) (numbered 0 p.ports.now))) (ap₂ (λ m g. split (number_of m) g q) mismatch-is strategy-is)
+          ∙ ap (λ ps. all_found (map (port_found (sourced_by a) cs p (split (number_of (mismatches v.flow s.1)) (strategy_of s.1) q)) (numbered 0 ps))) ports-are
+          ∙ bound.all
+
+      -- stands at the parts
+      stand-here : (vs : List Value) → job_found (sourced_by a) cs p q ≡ Some vs → (h : InstanceStep) → In h fs → h.step.step ≡ s.0 → StandAtParts v.flow s.1 h q vs
+      stand-here vs e h i m =
+          subst (λ k. StandAtParts v.flow s.1 k q vs) (same-step fs (steps-distinct v instance results) g h its-end.1 i (its-end.2 ∙ sym m))
+          (subst (StandAtParts v.flow s.1 g q) (same_Some bound.values vs (sym found-values ∙ e))
+          (bound.stand ∙ ap (map {B = Option Value} (λ (d : Name × Ported). at (plain d.1.value) (place_of (split (number_of (mismatches v.flow s.1)) (strategy_of s.1) q) d.0))) (sym inputs-here)))
+
+  -- ---- for the call
+
+  pub deep : length q ≡ strategy_depth (number_of p.mismatch.now) (strategy_view p.tree.now)
+  deep = let r = some-possible v [] keeps.frame.given in deep-here [] r.0 r.1 r.2
+
+  module _ (cs : FlowConstants) (constants : cs ≡ constants_view f.tables.constants) where
+    constants-are : cs ≡ flow_constants v.flow
+    constants-are = constants ∙ keeps.tables_are.constants_are
+
+    pub found : IsTrue (is_some (job_found (sourced_by a) cs p q))
+    found = let r = some-possible v [] keeps.frame.given in ap is_some (found-values [] r.0 r.1 r.2 cs constants-are)
+
+    -- so values that are found are the job's
+    pub are-inputs : (j : Name × Place) → numbered_job v number ≡ Some j → (vs : List Value) → job_found (sourced_by a) cs p q ≡ Some vs → AreInputs v j vs
+    are-inputs j e vs h =
+        let same : (s.0, q) ≡ j =
+        same_Some (s.0, q) j
+        (sym
+        (ap (λ l. slice_get l number) keeps.jobs_are
+        ∙ mapped-get (named_job v.flow) (known_jobs f.intakes) number (n, q) there
+        ∙ ap (λ t. Some (t, q)) (jobs.its-name flows plan pool f v keeps number n q there faulty said))
+        ∙ e) in
+        subst (λ k. AreInputs v k vs) same
+        (parts-are_inputs flows levels v ranked-flow n s its-place q vs
+        (λ instance results depth x. stand-here instance results depth x cs constants-are vs h))
+
+-- ---- in the words of the call
+
+-- the ports and the job that the call hands over
+pub record IsCallOf (plan : FlowPlan) (f : Frame) (number n : ℕ) (q : Place) (p : StepPorts) : Type 0 where
+  pub there : slice_get (known_jobs f.intakes) number ≡ Some (n, q)
+  pub faulty : Bool
+  pub said : IsFaultyAt (matcher_at f.intakes n) q faulty
+  pub number_is : p.number ≡ n
+  pub steps : List (Name × CodeStep)
+  pub steps_are : steps ≡ plan.flow.steps
+  pub described : Name × CodeStep
+  pub described_is : described ≡ get_or steps n described
+  pub plans : List StepPlan
+  pub plans_are : plans ≡ plan.steps
+  pub planned : StepPlan
+  pub planned_is : planned ≡ get_or plans n planned
+  pub lists : List (List Port)
+  pub lists_are : lists ≡ plan.wiring.ports
+  pub ports : List Port
+  pub ports_is : ports ≡ get_or lists n ports
+  pub tree : p.tree.now ≡ planned.tree
+  pub mismatch : p.mismatch.now ≡ planned.mismatch
+  pub inputs : p.inputs.now ≡ (get_or steps n described).1.inputs
+  pub delivered : p.delivered.now ≡ planned.delivered
+  pub ports_are : p.ports.now ≡ ports
+
+module _ (flows : List (Name × Flow)) (plan : FlowPlan) (pool : Nodes) (f : Frame) (v : View) (keeps : Keeps flows plan pool f v) (number n : ℕ) (q : Place) (p : StepPorts) (call : IsCallOf plan f number n q p) where
+  within : n < length v.flow.steps
+  within = let t = jobs.step flows plan pool f v keeps number n q call.there call.faulty call.said in slice_get_within v.flow.steps n t.0 t.1
+
+  pub own-ports : ArePortsOf plan n p
+  own-ports =
+      let flow = ap (λ (g : Flow). length g.steps) keeps.flow_is in
+      let codes : n < length call.steps = subst (λ m. n < m) (flow ∙ length-map plan.flow.steps (λ (t : Name × CodeStep). (t.0, step_view t.1)) ∙ sym (ap length call.steps_are)) within in
+      let planned : n < length call.plans = subst (λ m. n < m) (flow ∙ sym (as-many-steps plan) ∙ sym (ap length call.plans_are)) within in
+      let lists : n < length call.lists = subst (λ m. n < m) (sym (ap length call.lists_are ∙ ap (λ (w : Wiring). length w.ports) (wiring-kept flows plan pool f v keeps) ∙ length-map v.flow.steps (λ (t : Name × Step). ports_of v.flow t.1))) within in
+      record {
+        number = call.number_is;
+        planned = call.planned;
+        at_plan = got-in call.plans plan.steps n call.planned call.plans_are planned call.planned_is;
+        tree = call.tree;
+        mismatch = call.mismatch;
+        described = call.described;
+        at_flow = got-in call.steps plan.flow.steps n call.described call.steps_are codes call.described_is;
+        inputs = call.inputs ∙ ap (λ (t : Name × CodeStep). t.1.inputs) (sym call.described_is);
+        delivered = call.delivered;
+        at_ports = got-in call.lists plan.wiring.ports n call.ports call.lists_are lists call.ports_is ∙ ap Some (sym call.ports_are);
+      }
+
+  module _ (a : Sources) (of : IsSourcesOf pool f a) where
+    pub call-suits : Suits p.mismatch.now (strategy_view p.tree.now)
+    call-suits = suits flows plan pool f v keeps a of number n q call.there call.faulty call.said p own-ports
+
+    pub call-agrees : DotsAgree (number_of p.mismatch.now) (strategy_view p.tree.now)
+    call-agrees = agree flows plan pool f v keeps a of number n q call.there call.faulty call.said p own-ports
+
+    pub call-deep : length q ≡ strategy_depth (number_of p.mismatch.now) (strategy_view p.tree.now)
+    call-deep = deep flows plan pool f v keeps a of number n q call.there call.faulty call.said p own-ports
+
+    pub call-inputs : length p.inputs.now ≡ length p.ports.now
+    call-inputs = inputs-many flows plan pool f v keeps a of number n q call.there call.faulty call.said p own-ports
+
+    pub call-delivered : length p.delivered.now ≡ length p.ports.now
+    call-delivered = delivered-many flows plan pool f v keeps a of number n q call.there call.faulty call.said p own-ports
+
+    pub call-counted : Each (λ (r : Port). IsCounted r.feed) p.ports.now
+    call-counted = counted flows plan pool f v keeps a of number n q call.there call.faulty call.said p own-ports
+
+    pub call-found : IsTrue (is_some (job_found (sourced_by a) (constants_view f.tables.constants) p q))
+    call-found = found flows plan pool f v keeps a of number n q call.there call.faulty call.said p own-ports (constants_view f.tables.constants) refl
+
+pub inputs-where_ok : {E : Type 0} (plan : FlowPlan) (pool : Nodes) (f : Frame) (number n : ℕ) (q : Place) (p : StepPorts) (call : IsCallOf plan f number n q p) (a : Sources) (of : IsSourcesOf pool f a)
+    → (r : Result (List Piece) E) → IfOk r (λ ps. job_found (sourced_by a) (constants_view f.tables.constants) p q ≡ Some (piece_values ps))
+    → IfOk r (λ ps. (flows : List (Name × Flow)) (v : View) (j : Name × Place) → Keeps flows plan pool f v → numbered_job v number ≡ Some j → AreInputs v j (piece_values ps))
+inputs-where_ok plan pool f number n q p call a of (Err x) h = tt
+inputs-where_ok plan pool f number n q p call a of (Ok ps) h = λ flows v j keeps e.
+    are-inputs flows plan pool f v keeps a of number n q call.there call.faulty call.said p (own-ports flows plan pool f v keeps number n q p call) (constants_view f.tables.constants) refl j e (piece_values ps) h

@@ -1,0 +1,5 @@
+use Rattle.tv_frame.proofs.OfJobs.{job-holds}
+use Rattle.tv_frame.proofs.frame.Frame.job.Goals as goal
+
+pub returns-clause-error : goal.returns-clause-error
+returns-clause-error c = λ plan pool flows v k. job-holds flows plan pool c.args.self.now v k c.args.number _ _ c.job-step.ensures.job _ c.job-step.ensures.faulty

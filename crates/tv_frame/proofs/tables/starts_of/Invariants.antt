@@ -1,0 +1,6 @@
+use Rattle.std.specs.Prelude.{◌≡◌, map, take}
+use Rattle.tv_frame.proofs.OfTables.{begins}
+use Rattle.tv_frame.proofs.tables.starts_of.Given as goal
+
+abbrev pub invariant-loop-step : goal.invariant-loop-step
+invariant-loop-step l = map (λ is. is.items) l.starts.items ≡ map begins (take l.step-index l.plan.steps)

@@ -1,0 +1,9 @@
+pub mod Tables
+pub mod Kept
+pub mod Prepared
+pub mod Outs
+pub mod FirstTellings
+pub mod Started
+pub mod Calls
+pub mod Shown
+pub mod Ready

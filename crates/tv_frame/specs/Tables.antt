@@ -1,0 +1,56 @@
+-- What a frame looks up of its flow, by the numbers of steps.
+use Rattle.std.specs.Prelude.{◌≡◌, ℕ, zero, suc, ◌+◌, List, [], ◌∷◌, flat_map, length, map, replicate}
+use Rattle.std.specs.List.{range_with_len}
+use Rattle.std.specs.Option.{option_map_or}
+use Rattle.tv_value.specs.Orders.{named}
+use Rattle.tv_value.specs.Values.{Name}
+use Rattle.tv_flow.specs.Flows.{Flow, Step}
+use Rattle.tv_strategy.specs.Conditions.{number_of}
+use Rattle.tv_strategy.specs.Measures.{strategy_depth}
+use Rattle.tv_depths.specs.CheckedDepths.{flow_depths, port_depth}
+use Rattle.tv_depths.specs.Steps.{strategy_of}
+use Rattle.tv_wires.specs.Ports.{mismatches}
+use Rattle.tv_bound.specs.Constants.{constants_view, flow_constants}
+use Rattle.tv_starts.specs.Starts.{starts}
+use Rattle.tv_turn.specs.FirstReady.{by_falling_rank}
+use Rattle.tv_frame.specs.declared.tables.Tables.{Tables}
+
+-- the levels of a step's iteration, by the depths of its flow
+abbrev pub levels_at : Flow → Step → ℕ
+levels_at f s = strategy_depth (port_depth f.inputs (flow_depths f) s) (strategy_of s)
+
+abbrev pub levels_in : Flow → Name → ℕ
+levels_in f n = option_map_or (levels_at f) (named n f.steps) 0
+
+-- ---- trees: one for each output of a step, and one for a step without outputs
+
+abbrev pub at_least_one : ℕ → ℕ
+at_least_one zero = 1
+at_least_one (suc n) = suc n
+
+abbrev pub trees_of : Name × Step → ℕ
+trees_of s = at_least_one (length s.1.outputs)
+
+-- the number of a step's first tree
+abbrev pub first_tree : List (Name × Step) → ℕ → ℕ
+first_tree [] n = 0
+first_tree (s ∷ ss) zero = 0
+first_tree (s ∷ ss) (suc n) = trees_of s + first_tree ss n
+
+-- the depth of each tree
+abbrev pub tree_depths : Flow → List ℕ
+tree_depths f = flat_map (λ s. replicate (trees_of s) (levels_at f s.1)) f.steps
+
+-- ---- where the leaves of a step begin in the places of its jobs
+
+abbrev pub step_starts : Flow → Name × Step → List (Name × ℕ)
+step_starts f s = starts (number_of (mismatches f s.1)) 0 (strategy_of s.1)
+
+-- ---- all of it
+
+-- the tables of a flow: first trees, starts, the steps with the greatest rank first, and constants
+pub record AreTables (f : Flow) (t : Tables) : Type 0 where
+  pub firsts_are : t.firsts.items ≡ map (first_tree f.steps) (range_with_len 0 (length f.steps))
+  pub starts_are : map (λ is. is.items) t.starts.items ≡ map (λ s. map (λ x. x.1) (step_starts f s)) f.steps
+  pub order_is : t.order.items ≡ by_falling_rank f
+  pub constants_are : constants_view t.constants ≡ flow_constants f

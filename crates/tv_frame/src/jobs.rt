@@ -1,0 +1,196 @@
+//! Known jobs: which are ready, and what they bind.
+ghost use Rattle.std.specs.Prelude.{◌≡◌, false, true, ◌<◌, ◌≤◌, ◌^◌, ℕ, List, [], Some, IfOk, IfSome, IsNone, length, option_map, slice_get};
+ghost use Rattle.tv_value.specs.Values.{Name};
+ghost use Rattle.tv_flow.specs.Flows.{Flow, Step};
+ghost use Rattle.tv_depths.specs.Ranks.{ranked};
+ghost use Rattle.tv_cell.specs.PieceValues.{piece_values};
+ghost use Rattle.tv_cell.specs.Soundness.{AreSound};
+ghost use Rattle.tv_value.specs.Nested.{Place};
+ghost use Rattle.tv_check.specs.declared.plans.FlowPlan.{FlowPlan};
+ghost use Rattle.tv_outputs.specs.Known.{Nodes};
+ghost use Rattle.tv_intake.specs.Intaken.{known_jobs};
+ghost use Rattle.tv_spread.specs.Spreads.{is_faulty_now};
+ghost use Rattle.tv_instance.specs.ByResults.{last_first};
+ghost use Rattle.tv_instance.specs.Counting.{have_ended_by};
+ghost use Rattle.tv_instance.specs.Events.{took};
+ghost use Rattle.tv_framing.specs.Answers.{AreInputs, IsReadyJob, after_of, numbered};
+ghost use Rattle.tv_framing.specs.Frames.{with_event};
+ghost use Rattle.tv_framing.specs.Views.{View};
+ghost use Rattle.tv_drawn.specs.Steps.{IsStepAt};
+ghost use Rattle.tv_turn.specs.FirstReady.{IsFirstReady};
+ghost use Rattle.tv_turn.specs.Turns.{first_in_turn, may_settle};
+ghost use Rattle.tv_frame.specs.Calls.{HoldsError};
+ghost use Rattle.tv_frame.specs.Kept.{Keeps, named_job};
+ghost use Rattle.tv_frame.specs.Ready.{HasIdle, IsFirstOfStep};
+ghost use Rattle.tv_frame.specs.Tables.{levels_in};
+
+use crate::frame::Frame;
+use std::alloc::Global;
+use tv_bound::{StepPorts, job_inputs};
+use tv_cell::Pieces;
+use tv_check::FlowPlan;
+use tv_outputs::Nodes;
+use tv_turn::first_ready;
+use tv_value::{NoMemory, Place};
+
+/// A known job of an instance.
+#[derive(Clone, Copy, Debug)]
+pub struct FrameJob<'a> {
+    /// The number of its step.
+    pub step: u32,
+    /// Its place in the step's iteration.
+    pub place: &'a [u32],
+    /// Whether a value that it binds is a fault or holds one.
+    pub holds_error: bool,
+}
+
+impl Frame {
+    /// How many jobs are known.
+    pub fn known(&self) -> u64
+        ensures { result ≡ length (known_jobs self.now.intakes) }
+    {
+        self.intakes.known() as u64
+    }
+
+    /// A known job by its number, `None` where none has it.
+    pub fn job(&self, number: u64) -> Option<FrameJob>
+        requires { (plan : FlowPlan) × (pool : Nodes) × (flows : List (Name × Flow)) × (v : View) × Keeps flows plan pool self.now v }
+        ensures none { IsNone result → length (known_jobs self.now.intakes) ≤ number }
+        ensures some { IfSome result (λ j. slice_get (known_jobs self.now.intakes) number ≡ Some (j.step, j.place.now)) }
+        ensures error { IfSome result (λ j. (plan : FlowPlan) (pool : Nodes) (flows : List (Name × Flow)) (v : View) → Keeps flows plan pool self.now v → HoldsError v (named_job v.flow (j.step, j.place.now)) j.holds_error) }
+    {
+        if number >= self.intakes.known() as u64 {
+            return None;
+        }
+        let (step, place, holds_error) = self.intakes.job(number as usize);
+        Some(FrameJob {
+            step,
+            place,
+            holds_error,
+        })
+    }
+
+    /// The job runs from now on. Takes no memory. Amortized a logarithm in the idle jobs of its step.
+    pub fn take(&mut self, plan: &FlowPlan, pool: &Nodes, number: u64)
+        requires few { number < 2 ^ 32 }
+        requires ready { (flows : List (Name × Flow)) × (v : View) × (j : Name × Place) × Keeps flows plan.now pool.now self.old v × (numbered v number ≡ Some j) × IsReadyJob (levels_in v.flow) v j }
+        ensures kept { (flows : List (Name × Flow)) (v : View) (j : Name × Place) → Keeps flows plan.now pool.now self.old v → numbered v number ≡ Some j → IsReadyJob (levels_in v.flow) v j → Keeps flows plan.now pool.now self.new (with_event v (took j.0 j.1) []) }
+        ensures region { self.new.region ≡ self.old.region }
+    {
+        let (step, _, _) = self.intakes.job(number as usize);
+        self.idle.remove(step, number as u32);
+    }
+
+    /// The first ready job in job order, of those that stand after the given one: of the greatest rank, then with the least place.
+    /// Linear in the steps, and in the known jobs of `after`'s step that came out of order.
+    pub fn first_ready(&self, plan: &FlowPlan, pool: &Nodes, after: Option<u64>) -> Option<u64>
+        requires keeps { (flows : List (Name × Flow)) × (v : View) × Keeps flows plan.now pool.now self.now v }
+        requires known { IfSome after (λ n. n < length (known_jobs self.now.intakes)) }
+        ensures { (flows : List (Name × Flow)) (v : View) → Keeps flows plan.now pool.now self.now v → IsFirstReady (levels_in v.flow) v after result }
+    {
+        match after {
+            Some(number) => {
+                let (step, place, _) = self.intakes.job(number as usize);
+                self.first_in_turn(plan, pool, Some((step, place)))
+            }
+            None => self.first_in_turn(plan, pool, None),
+        }
+    }
+
+    /// The first job in turn, of those that stand after a place of a step where one is given.
+    fn first_in_turn(
+        &self,
+        plan: &FlowPlan,
+        pool: &Nodes,
+        after: Option<(u32, &[u32])>,
+    ) -> Option<u64>
+        requires { (flows : List (Name × Flow)) × (v : View) × Keeps flows plan.now pool.now self.now v }
+        ensures { result ≡ first_in_turn (may_settle plan.now.wiring self.now.endings) self.now.idle.steps self.now.tables.order.items (option_map (λ a. (a.0, a.1.now)) after.entry) }
+    {
+        let order = self.tables.order.as_slice();
+        match first_ready(&self.idle, &self.endings, &plan.wiring, order, after) {
+            Some(number) => Some(number as u64),
+            None => None,
+        }
+    }
+
+    /// Whether a step's jobs may settle: the steps that it runs after have ended.
+    pub fn may_settle(&self, plan: &FlowPlan, pool: &Nodes, step: u32) -> bool
+        requires { (flows : List (Name × Flow)) × (v : View) × Keeps flows plan.now pool.now self.now v × (step < length v.flow.steps) }
+        ensures { (flows : List (Name × Flow)) (v : View) (s : Name × Step) → Keeps flows plan.now pool.now self.now v → IsStepAt v step s → result ≡ have_ended_by v.events (levels_in v.flow) (last_first (ranked v.flow.steps) []) (after_of v s.0) }
+    {
+        self.endings.may_settle(&plan.wiring, step)
+    }
+
+    /// Whether some known job of a step neither runs nor has a result.
+    pub fn has_idle(&self, step: u32) -> bool
+        requires { (plan : FlowPlan) × (pool : Nodes) × (flows : List (Name × Flow)) × (v : View) × Keeps flows plan pool self.now v × (step < length v.flow.steps) }
+        ensures { (plan : FlowPlan) (pool : Nodes) (flows : List (Name × Flow)) (v : View) (s : Name × Step) → Keeps flows plan pool self.now v → IsStepAt v step s → HasIdle v s.0 result }
+    {
+        self.idle.has_idle(step)
+    }
+
+    /// The first ready job of a step, in order of place, of those that bind no fault.
+    pub fn first_good(&self, plan: &FlowPlan, pool: &Nodes, step: u32) -> Option<u64>
+        requires { (flows : List (Name × Flow)) × (v : View) × Keeps flows plan.now pool.now self.now v × (step < length v.flow.steps) }
+        ensures { (flows : List (Name × Flow)) (v : View) (s : Name × Step) → Keeps flows plan.now pool.now self.now v → IsStepAt v step s → IsFirstOfStep (levels_in v.flow) v (λ q. is_faulty_now self.now.intakes (step, q)) s.0 false result }
+    {
+        if !self.may_settle(plan, pool, step) {
+            return None;
+        }
+        match self.idle.first_good(step) {
+            Some(number) => Some(number as u64),
+            None => None,
+        }
+    }
+
+    /// The first ready job of a step, in order of place, of those that bind a fault.
+    pub fn first_faulty(&self, plan: &FlowPlan, pool: &Nodes, step: u32) -> Option<u64>
+        requires { (flows : List (Name × Flow)) × (v : View) × Keeps flows plan.now pool.now self.now v × (step < length v.flow.steps) }
+        ensures { (flows : List (Name × Flow)) (v : View) (s : Name × Step) → Keeps flows plan.now pool.now self.now v → IsStepAt v step s → IsFirstOfStep (levels_in v.flow) v (λ q. is_faulty_now self.now.intakes (step, q)) s.0 true result }
+    {
+        if !self.may_settle(plan, pool, step) {
+            return None;
+        }
+        match self.idle.first_faulty(step) {
+            Some(number) => Some(number as u64),
+            None => None,
+        }
+    }
+
+    /// What a known job binds, port by port in byte order of their names. Linear in the ports, with a walk for each; no
+    /// value is copied.
+    pub fn inputs(
+        &self,
+        alloc: Global,
+        plan: &FlowPlan,
+        pool: &Nodes,
+        number: u64,
+    ) -> Result<Pieces, NoMemory>
+        requires keeps { (flows : List (Name × Flow)) × (v : View) × Keeps flows plan.now pool.now self.now v }
+        requires known { number < length (known_jobs self.now.intakes) }
+        ensures sound { IfOk result AreSound }
+        ensures values { IfOk result (λ ps. (flows : List (Name × Flow)) (v : View) (j : Name × Place) → Keeps flows plan.now pool.now self.now v → numbered v number ≡ Some j → AreInputs v j (piece_values ps)) }
+    {
+        let (step, place, _) = self.intakes.job(number as usize);
+        let place = Place::of(alloc, place)?;
+        let number = step as usize;
+        let described = &plan.flow.steps.as_slice()[number].1;
+        let planned = &plan.steps.as_slice()[number];
+        let ports = StepPorts {
+            number,
+            tree: &planned.tree,
+            mismatch: &planned.mismatch,
+            inputs: described.inputs.as_slice(),
+            delivered: planned.delivered.as_slice(),
+            ports: plan.wiring.ports.as_slice()[number].as_slice(),
+        };
+        job_inputs(
+            alloc,
+            &self.sources(pool),
+            &self.tables.constants,
+            &ports,
+            &place,
+        )
+    }
+}

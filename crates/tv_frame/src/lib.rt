@@ -1,0 +1,28 @@
+//! One open instance of a flow: it is told what its jobs give, and knows at once what follows.
+//!
+//! A frame is told the events of its instance: a job's result, a list closed, a fault passed. Each becomes tellings of the ports
+//! that it feeds, and the matchers of these steps bring new jobs, lists and faults. Nothing is worked out anew: an event costs its
+//! own tellings and what comes out of them, with a logarithm.
+//!
+//! An event comes in two halves. `room_for_result` and `room_for_settle` take all memory that it needs, and tell how many
+//! jobs it will make known; they may be refused, and then nothing has changed but rooms. `result` and `settle` take no memory.
+//!
+//! - `tables`: what a frame looks up of its flow
+//! - `frame`: the frame, its start and its end
+//! - `starting`: what the steps are told at the start
+//! - `rooms`, `events`: both halves of an event
+//! - `outs`: the flow's outputs as they will be once an event has happened
+//! - `jobs`: known jobs, which are ready, and what they bind
+#![tactic(auto)]
+
+mod events;
+mod frame;
+mod jobs;
+mod outs;
+mod rooms;
+mod starting;
+mod tables;
+
+pub use events::Settled;
+pub use frame::Frame;
+pub use jobs::FrameJob;
