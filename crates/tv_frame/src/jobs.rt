@@ -86,7 +86,8 @@ impl Frame {
     pub fn first_ready(&self, plan: &FlowPlan, pool: &Nodes, after: Option<u64>) -> Option<u64>
         requires keeps { (flows : List (Name × Flow)) × (v : View) × Keeps flows plan.now pool.now self.now v }
         requires known { IfSome after (λ n. n < length (known_jobs self.now.intakes)) }
-        ensures { (flows : List (Name × Flow)) (v : View) → Keeps flows plan.now pool.now self.now v → IsFirstReady (levels_in v.flow) v after result }
+        ensures first { (flows : List (Name × Flow)) (v : View) → Keeps flows plan.now pool.now self.now v → IsFirstReady (levels_in v.flow) v after result }
+        ensures few { IfSome result (λ n. n < 2 ^ 32) }
     {
         match after {
             Some(number) => {
@@ -105,7 +106,8 @@ impl Frame {
         after: Option<(u32, &[u32])>,
     ) -> Option<u64>
         requires { (flows : List (Name × Flow)) × (v : View) × Keeps flows plan.now pool.now self.now v }
-        ensures { result ≡ first_in_turn (may_settle plan.now.wiring self.now.endings) self.now.idle.steps self.now.tables.order.items (option_map (λ a. (a.0, a.1.now)) after.entry) }
+        ensures turn { result ≡ first_in_turn (may_settle plan.now.wiring self.now.endings) self.now.idle.steps self.now.tables.order.items (option_map (λ a. (a.0, a.1.now)) after.entry) }
+        ensures few { IfSome result (λ n. n < 2 ^ 32) }
     {
         let order = self.tables.order.as_slice();
         match first_ready(&self.idle, &self.endings, &plan.wiring, order, after) {
@@ -133,7 +135,8 @@ impl Frame {
     /// The first ready job of a step, in order of place, of those that bind no fault.
     pub fn first_good(&self, plan: &FlowPlan, pool: &Nodes, step: u32) -> Option<u64>
         requires { (flows : List (Name × Flow)) × (v : View) × Keeps flows plan.now pool.now self.now v × (step < length v.flow.steps) }
-        ensures { (flows : List (Name × Flow)) (v : View) (s : Name × Step) → Keeps flows plan.now pool.now self.now v → IsStepAt v step s → IsFirstOfStep (levels_in v.flow) v (λ q. is_faulty_now self.now.intakes (step, q)) s.0 false result }
+        ensures first { (flows : List (Name × Flow)) (v : View) (s : Name × Step) → Keeps flows plan.now pool.now self.now v → IsStepAt v step s → IsFirstOfStep (levels_in v.flow) v (λ q. is_faulty_now self.now.intakes (step, q)) s.0 false result }
+        ensures few { IfSome result (λ n. n < 2 ^ 32) }
     {
         if !self.may_settle(plan, pool, step) {
             return None;
@@ -147,7 +150,8 @@ impl Frame {
     /// The first ready job of a step, in order of place, of those that bind a fault.
     pub fn first_faulty(&self, plan: &FlowPlan, pool: &Nodes, step: u32) -> Option<u64>
         requires { (flows : List (Name × Flow)) × (v : View) × Keeps flows plan.now pool.now self.now v × (step < length v.flow.steps) }
-        ensures { (flows : List (Name × Flow)) (v : View) (s : Name × Step) → Keeps flows plan.now pool.now self.now v → IsStepAt v step s → IsFirstOfStep (levels_in v.flow) v (λ q. is_faulty_now self.now.intakes (step, q)) s.0 true result }
+        ensures first { (flows : List (Name × Flow)) (v : View) (s : Name × Step) → Keeps flows plan.now pool.now self.now v → IsStepAt v step s → IsFirstOfStep (levels_in v.flow) v (λ q. is_faulty_now self.now.intakes (step, q)) s.0 true result }
+        ensures few { IfSome result (λ n. n < 2 ^ 32) }
     {
         if !self.may_settle(plan, pool, step) {
             return None;
