@@ -9,10 +9,10 @@ use Rattle.std.proofs.lemmas.List.Sorted.{IsPermutation-refl}
 use Rattle.std.proofs.lemmas.Option.{none-some, same_Some}
 use Rattle.tv_value.specs.Nested.{Place, list, no_trees}
 use Rattle.tv_value.specs.Orders.{named, same_name}
-use Rattle.tv_value.specs.Strategies.{Strategies, Strategy, cross, no_strategies, port, strategy}
+use Rattle.tv_value.specs.Strategies.{Strategy}
 use Rattle.tv_value.specs.Values.{Name, Value, holds_fault}
 use Rattle.tv_flow.specs.Flows.{Flow, Step, StepInput}
-use Rattle.tv_strategy.specs.Measures.{all_leaf_names, leaf_names}
+use Rattle.tv_strategy.specs.Measures.{leaf_names}
 use Rattle.tv_strategy.specs.Sources.{Each}
 use Rattle.tv_naming.specs.Naming.{has_name}
 use Rattle.tv_naming.specs.Numbers.{position}
@@ -28,13 +28,12 @@ use Rattle.tv_matching.proofs.OfMembers.{each-from}
 use Rattle.tv_matching.proofs.Onces.{each-flat}
 use Rattle.tv_parts.specs.Partials.{holds_some}
 use Rattle.tv_match.specs.declared.matchers.Matcher.{Matcher}
-use Rattle.tv_match.specs.declared.told.Told as listed
-use Rattle.tv_match.specs.Seen.{leaf_of, matching, told_view}
+use Rattle.tv_match.specs.Seen.{matching}
 use Rattle.tv_telling.specs.declared.ways.Event as code
 use Rattle.tv_telling.specs.declared.ways.Way.{Way}
 use Rattle.tv_telling.specs.declared.ways.Whole.{Whole}
 use Rattle.tv_telling.specs.ValueTellings.{bound_told}
-use Rattle.tv_telling.specs.Views.{AreTellings, happening, way_tellings, whole_telling}
+use Rattle.tv_telling.specs.Views.{happening, way_tellings, whole_telling}
 use Rattle.tv_telling.specs.WayTellings.{Happening, closed, gave, passed, place_of_item, told_on_way, told_there}
 use Rattle.tv_wires.specs.declared.ports.Port.{Port}
 use Rattle.tv_wires.specs.declared.wires.Wire.{Wire}
@@ -52,7 +51,6 @@ use Rattle.tv_spread.specs.Along.{ways_into, wires_from}
 use Rattle.tv_spread.specs.Arounds.{IsAround, delivers_fault, input_faulty, is_told, output_faulty, ports_at, tellings_by, told_at, tree_number, ways_at, wholes_at}
 use Rattle.tv_spread.specs.Spreads.{CanBeTold, CanHoldTold}
 use Rattle.tv_spread.specs.Wholes.{wholes_with}
-use Rattle.tv_spread.proofs.Lists.{each-unmap}
 use Rattle.tv_spread.proofs.OfLaws.{wholes-leaves}
 use Rattle.tv_spread.proofs.OfTold.{untold}
 use Rattle.tv_spread.proofs.OfWires.{wires-within}
@@ -129,13 +127,13 @@ below-or (suc m) (suc n) = elim (below-or m n) [ inl p ↦ inl (omega (arith, p)
 
 -- ---- leaves by numbers
 
--- a name among the leaves has a number that there is
 -- what a mapped list has at a place
 row-of : {A B : Type 0} (g : A → B) (xs : List A) (k : ℕ) (x : A) (d : B) → slice_get xs k ≡ Some x → slice_index_or (map g xs) k d ≡ g x
 row-of g [] k x d e = absurd (none-some x e)
 row-of g (y ∷ ys) zero x d e = ap g (same_Some y x e)
 row-of g (y ∷ ys) (suc k) x d e = row-of g ys k x d e
 
+-- a name among the leaves has a number that there is
 leaf-below : (n : Name) (ns : List Name) → list_any (same_name n) ns ≡ true → leaf_number n ns < length ns
 leaf-below n [] h = absurd (true≢false (sym h))
 leaf-below n (m ∷ ns) h = by (same_name n m) h (λ k. leaf-below n ns k)
@@ -171,60 +169,6 @@ leaves-told P g c ways whole h k =
     (way-to (leaf_name g w.leaf) w.levels (place_of_item w.item) c.whole_from (get_or c.faults.now w.output 0) c.place.now (happening c.happened w.output))) ways h))
     (each-map (λ t. P (told_leaf t)) (whole_telling g) whole
     (each-weaken (λ (y : Whole). P (leaf_name g y.leaf)) (λ (y : Whole). P (told_leaf (whole_telling g y))) (λ y p. subst P (sym (bound-to (leaf_name g y.leaf) [] y.faulty)) p) whole k))
-
--- ---- listed tellings name leaves that there are: so many leaves of one name tell them from others
-
-abbrev mark : Name
-mark = 0 ∷ []
-
-abbrev marks_of : ℕ → List Name
-marks_of zero = []
-marks_of (suc n) = mark ∷ marks_of n
-
-abbrev ports_named : List Name → Strategies
-ports_named [] = no_strategies
-ports_named (n ∷ ns) = strategy (port n) (ports_named ns)
-
-abbrev marked_leaves : ℕ → Strategy
-marked_leaves n = cross (ports_named (marks_of n))
-
-its-leaves : (n : ℕ) → leaf_names (marked_leaves n) ≡ marks_of n
-its-leaves n = by (marks_of n)
-  where
-    by : (ns : List Name) → all_leaf_names (ports_named ns) ≡ ns
-    by [] = refl
-    by (m ∷ ns) = ap (λ l. m ∷ l) (by ns)
-
-mark-at : (n k : ℕ) → k < n → get_or (marks_of n) k [] ≡ mark
-mark-at zero k l = absurd (omega arith)
-mark-at (suc n) zero l = refl
-mark-at (suc n) (suc k) l = mark-at n k (omega (arith, l))
-
-marked-below : (n k : ℕ) → get_or (marks_of n) k [] ≡ mark → k < n
-marked-below zero k e = absurd (cc)
-marked-below (suc n) zero e = omega arith
-marked-below (suc n) (suc k) e = omega (arith, marked-below n k e)
-
-listed-leaf : (g : Strategy) (t : listed.Told) → told_leaf (told_view g t) ≡ leaf_name g (leaf_of t)
-listed-leaf g (listed.Told.Arrival l q b) = refl
-listed-leaf g (listed.Told.Faulty l q) = refl
-listed-leaf g (listed.Told.Close l q n) = refl
-
-pub leaves-named : (n : ℕ) (c : code.Event) (ways : List Way) (whole : List Whole) → Each (λ (w : Way). w.leaf < n) ways → Each (λ (y : Whole). y.leaf < n) whole → (ts : List listed.Told) → AreTellings ts (tellings_by c ways whole) → Each (λ t. leaf_of t < n) ts
-leaves-named n c ways whole h k ts are =
-    each-weaken (λ t. told_leaf (told_view g t) ≡ mark) (λ t. leaf_of t < n)
-    (λ t e. marked-below n (leaf_of t) (ap (λ ns. get_or ns (leaf_of t) []) (sym (its-leaves n)) ∙ sym (listed-leaf g t) ∙ e)) ts
-    (each-unmap (λ t. told_leaf t ≡ mark) (told_view g) ts
-    (subst (Each (λ t. told_leaf t ≡ mark)) (sym (are g))
-    (leaves-told (λ m. m ≡ mark) g c ways whole
-    (each-weaken (λ (w : Way). w.leaf < n) (λ (w : Way). leaf_name g w.leaf ≡ mark) (λ w l. at w.leaf l) ways h)
-    (each-weaken (λ (y : Whole). y.leaf < n) (λ (y : Whole). leaf_name g y.leaf ≡ mark) (λ y l. at y.leaf l) whole k))))
-  where
-    g : Strategy
-    g = marked_leaves n
-
-    at : (l : ℕ) → l < n → leaf_name g l ≡ mark
-    at l m = ap (λ ns. get_or ns l []) (its-leaves n) ∙ mark-at n l m
 
 -- ---- an event that comes in a frame
 

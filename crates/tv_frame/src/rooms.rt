@@ -58,6 +58,7 @@ impl Frame {
         requires sound { AreSound outputs.now }
         ensures same { (flows : List (Name × Flow)) (v : View) → Keeps flows plan.now pool.old self.old v → Keeps flows plan.now pool.new self.new v }
         ensures regions { pool.new.regions ≡ pool.old.regions }
+        ensures region { self.new.region ≡ self.old.region }
         ensures ready { OnOk result ((flows : List (Name × Flow)) (v : View) (s : Name × Step) → Keeps flows plan.now pool.old self.old v → IsStepAt v step s → MayGive v s place.now (piece_values outputs.now) → IsReadyFor flows plan.now pool.new self.new v step s (gave s.0 place.now (piece_values outputs.now))) }
         ensures count { IfOk result (λ n. (flows : List (Name × Flow)) (v : View) (s : Name × Step) → Keeps flows plan.now pool.old self.old v → IsStepAt v step s → MayGive v s place.now (piece_values outputs.now) → Brings v (gave s.0 place.now (piece_values outputs.now)) n) }
     {
@@ -99,6 +100,7 @@ impl Frame {
         requires { (flows : List (Name × Flow)) × (v : View) × Keeps flows plan.now pool.old self.old v }
         ensures same { (flows : List (Name × Flow)) (v : View) → Keeps flows plan.now pool.old self.old v → Keeps flows plan.now pool.new self.new v }
         ensures regions { pool.new.regions ≡ pool.old.regions }
+        ensures region { self.new.region ≡ self.old.region }
         ensures none { IfOk result (λ r. IsNone r → (flows : List (Name × Flow)) (v : View) → Keeps flows plan.now pool.old self.old v → NothingSettles v) }
         ensures some { IfOk result (λ r. IfSome r (λ jobs. (flows : List (Name × Flow)) (v : View) → Keeps flows plan.now pool.old self.old v → (n : ℕ) × (s : Name × Step) × (e : TheEvent) × IsReadyToSettle flows plan.now pool.new self.new v n s e × CanSettle v e × Brings v e jobs)) }
     {
