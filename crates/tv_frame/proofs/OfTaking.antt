@@ -2,6 +2,7 @@
 use Rattle.std.specs.Option.{option_map_or}
 use Rattle.std.specs.Prelude.{◌≡◌, refl, ℕ, ◌<◌, ◌==◌, ◌||◌, Bool, true, false, List, [], ◌∷◌, IsPermutation, Option, Some, None, length, slice_get, slice_set}
 use Rattle.std.proofs.Common.{sym, ap, subst, ◌∙◌, append-nil, eq-eqb, inl, inr}
+use Rattle.std.proofs.lemmas.List.{length-map}
 use Rattle.std.proofs.lemmas.Option.{same_Some, slice_get_within}
 use Rattle.tv_value.specs.Nested.{Place}
 use Rattle.tv_value.specs.Values.{Name}
@@ -155,3 +156,10 @@ module _ (flows : List (Name × Flow)) (plan : FlowPlan) (pool : Nodes) (f : Fra
       idle_are = idle-so;
       outs_are = outs-stay f.outs k.outs_are;
     }
+
+-- a known job's number is below those that are given out
+pub number-below : (flows : List (Name × Flow)) (plan : FlowPlan) (pool : Nodes) (f : Frame) (v : View) → Keeps flows plan pool f v → (n : ℕ) (j : Name × Place) → numbered v n ≡ Some j → n < f.idle.known
+number-below flows plan pool f v k n j e =
+    subst (λ m. n < m)
+    (ap length k.jobs_are ∙ length-map (known_jobs f.intakes) (named_job v.flow) ∙ sym k.idle_are.known)
+    (slice_get_within v.jobs n j e)

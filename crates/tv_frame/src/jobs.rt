@@ -72,12 +72,13 @@ impl Frame {
 
     /// The job runs from now on. Takes no memory. Amortized a logarithm in the idle jobs of its step.
     pub fn take(&mut self, plan: &FlowPlan, pool: &Nodes, number: u64)
-        requires few { number < 2 ^ 32 }
         requires ready { (flows : List (Name × Flow)) × (v : View) × (j : Name × Place) × Keeps flows plan.now pool.now self.old v × (numbered v number ≡ Some j) × IsReadyJob (levels_in v.flow) v j }
         ensures kept { (flows : List (Name × Flow)) (v : View) (j : Name × Place) → Keeps flows plan.now pool.now self.old v → numbered v number ≡ Some j → IsReadyJob (levels_in v.flow) v j → Keeps flows plan.now pool.now self.new (with_event v (took j.0 j.1) []) }
         ensures region { self.new.region ≡ self.old.region }
     {
         let (step, _, _) = self.intakes.job(number as usize);
+        // Fewer than 2^32 are known, so the number is below that.
+        let _known = self.idle.known();
         self.idle.remove(step, number as u32);
     }
 

@@ -1,5 +1,5 @@
 //! The idle jobs of an instance.
-ghost use Rattle.std.specs.Prelude.{◌≡◌, ◌+◌, ◌-◌, ◌<◌, ◌++◌, ◌∷◌, [], length, true, slice_set, OnErr, OnOk};
+ghost use Rattle.std.specs.Prelude.{◌≡◌, ◌^◌, ◌+◌, ◌-◌, ◌<◌, ◌++◌, ◌∷◌, [], length, true, slice_set, OnErr, OnOk};
 ghost use Rattle.tv_idle.specs.Idles.{first_after, first_number, first_of, has_some, is_idle, is_idle_at, none_idle, of_step, room_for, with_idle, with_rooms_of, without};
 
 use crate::queues::Queues;
@@ -66,9 +66,10 @@ impl Idle {
         self.queues.len()
     }
 
-    /// How many jobs are known.
+    /// How many jobs are known. Each of their numbers is below that, and there are fewer than 2^32.
     pub fn known(&self) -> usize
-        ensures { result ≡ self.now.known }
+        ensures known { result ≡ self.now.known }
+        ensures few { result < 2 ^ 32 }
     {
         self.gone.len()
     }

@@ -1,5 +1,14 @@
-use Rattle.tv_frame.proofs.OfTaking.{idle-there, taken-keeps}
+use Rattle.std.proofs.Common.{arith}
+use Rattle.tv_frame.proofs.OfTaking.{idle-there, number-below, taken-keeps}
 use Rattle.tv_frame.proofs.frame.Frame.take.Goals as goal
+
+pub overflow_cast-number : goal.overflow_cast-number
+overflow_cast-number c =
+    let r = c.requires.ready in
+    let below = number-below r.0 c.args.plan.now c.args.pool.now c.args.self.now r.1 r.3 c.args.number r.2 r.4 in
+    let known = c.known-known.ensures.known in
+    let few = c.known-known.ensures.few in
+    omega (arith, below, known, few)
 
 pub remove-requires : goal.remove-requires
 remove-requires c =
