@@ -1,5 +1,5 @@
 -- What stands inside a piece.
-use Rattle.std.specs.Prelude.{◌≡◌, ℕ, zero, suc, ◌-◌, ◌<◌, ◌≤◌, List, [], ◌∷◌, ◌++◌, length, take, drop, refl, true, Option, Some, None, is_some, option_and_then, ◌==◌, map, option_map, slice_get}
+use Rattle.std.specs.Prelude.{◌≡◌, ℕ, zero, suc, ◌-◌, ◌<◌, ◌≤◌, List, [], ◌∷◌, ◌++◌, length, take, drop, refl, true, Option, Some, None, is_some, option_and_then, ◌==◌, ◌&&◌, map, option_map, slice_get}
 use Rattle.std.proofs.Common.{arith, ap, sym, ◌∙◌, get_or, ne_eqb, true≢false}
 use Rattle.std.proofs.lemmas.List.{take_all}
 use Rattle.tv_value.specs.Nested.{Place, at, children, item_at, leaf, trees_of}
@@ -13,6 +13,7 @@ use Rattle.tv_cell.specs.declared.piece.Piece.TheVariants as plain
 use Rattle.tv_cell.specs.declared.piece.Piece.TheViews as code
 use Rattle.tv_cell.specs.Found.{found_value, document_of, with_depth}
 use Rattle.tv_cell.specs.PieceValues.{piece_value, piece_values}
+use Rattle.tv_cell.specs.Sameness.{is_at, same_value}
 use Rattle.tv_cell.specs.Soundness.{IsSound, is_sound}
 use Rattle.tv_cell.proofs.OfPieces.{fault-value, list-value, part-sound, part-value, piece-sound, pieces-sound}
 
@@ -116,15 +117,22 @@ inside f r None = refl
 inside f r (Some x) = refl
 
 -- what stands in a list stands in the item of the first index
+pub first-at : {X : Type 0} (f : X → spec.Value) (t : spec.Value) (xs : List X) (q : Place) (o : Option X) → t ≡ list_value (trees_of (map f xs)) → 1 ≤ length q → o ≡ slice_get xs (get_or q 0 0) → option_and_then (λ x. at (f x) (take (length q - 1) (drop 1 q))) o ≡ at t q
+first-at f t xs [] o e n g = absurd (omega arith)
+first-at f t xs (i ∷ r) o e n g =
+    (λ k. option_and_then (λ x. at (f x) (rest-is i r k)) (g k))
+    ∙ sym (inside f r (slice_get xs i))
+    ∙ sym (ap (λ p. option_and_then (λ u. at u r) p) (got f xs i))
+    ∙ sym (ap (λ v. at v (i ∷ r)) e)
+
 pub first-stands : {X : Type 0} (f : X → spec.Value) (t : spec.Value) (xs : List X) (q : Place) (o : Option X) → t ≡ list_value (trees_of (map f xs)) → 1 ≤ length q → o ≡ slice_get xs (get_or q 0 0) → is_some (option_and_then (λ x. at (f x) (take (length q - 1) (drop 1 q))) o) ≡ is_some (at t q)
-first-stands f t xs [] o e n g = absurd (omega arith)
-first-stands f t xs (i ∷ r) o e n g =
-    (λ k. is_some (option_and_then (λ x. at (f x) (rest-is i r k)) (g k)))
-    ∙ sym (ap is_some (inside f r (slice_get xs i)))
-    ∙ sym (ap (λ p. is_some (option_and_then (λ u. at u r) p)) (got f xs i))
-    ∙ sym (ap (λ v. is_some (at v (i ∷ r))) e)
+first-stands f t xs q o e n g = ap is_some (first-at f t xs q o e n g)
 
 -- nothing stands inside a text or a fault
 pub leaf-stands : (t : spec.Value) (a : Scalar) (q : Place) → t ≡ leaf tt a → (length q == 0) ≡ is_some (at t q)
 leaf-stands t a [] e = ap (λ v. is_some (at v [])) (sym e)
 leaf-stands t a (i ∷ q) e = ne_eqb (length (i ∷ q)) 0 (λ h. omega (arith, h)) ∙ ap (λ v. is_some (at v (i ∷ q))) (sym e)
+
+pub leaf-is : (t u : spec.Value) (a : Scalar) (q : Place) → t ≡ leaf tt a → (length q == 0 && same_value t u) ≡ is_at t q u
+leaf-is t u a [] e = refl
+leaf-is t u a (i ∷ q) e = ap (λ b. b && same_value t u) (ne_eqb (length (i ∷ q)) 0 (λ h. omega (arith, h))) ∙ ap (λ v. is_at v (i ∷ q) u) (sym e)

@@ -1,5 +1,6 @@
 -- What a piece of each kind stands for, and when it is sound.
-use Rattle.std.specs.Prelude.{◌≡◌, ℕ, zero, suc, ◌<◌, List, [], ◌∷◌, length, map, refl, ◌&&◌, ◌||◌, Some, is_some, nat_lt}
+use Rattle.std.specs.Prelude.{◌≡◌, ℕ, zero, suc, ◌<◌, List, [], ◌∷◌, length, map, refl, ◌&&◌, ◌||◌, Option, Some, is_some, nat_lt, slice_get, true}
+use Rattle.std.specs.Option.{option_map_or}
 use Rattle.std.specs.List.{list_all, list_any}
 use Rattle.std.proofs.Common.{arith, ap, sym, ◌∙◌, get_or}
 use Rattle.std.proofs.lemmas.List.{length-map}
@@ -66,6 +67,14 @@ each-sound (p ∷ ps) (suc i) d h k = each-sound ps i d (omega arith) (right (is
 
 pub piece-sound : (ps : List Piece) (i : ℕ) (x : Piece) → i < length ps → x ≡ get_or ps i x → AreSound ps → IsSound x
 piece-sound ps i x h e k = ap is_sound e ∙ each-sound ps i x h k
+
+got-all : (ps : List Piece) (i : ℕ) → AreSound ps → option_map_or is_sound (slice_get ps i) true ≡ true
+got-all [] i k = refl
+got-all (p ∷ ps) zero k = left (is_sound p) (list_all is_sound ps) k
+got-all (p ∷ ps) (suc i) k = got-all ps i (right (is_sound p) (list_all is_sound ps) k)
+
+pub got-sound : (ps : List Piece) (i : ℕ) (x : Piece) → AreSound ps → Some x ≡ slice_get ps i → IsSound x
+got-sound ps i x k e = ap (λ o. option_map_or is_sound o true) e ∙ got-all ps i k
 
 -- ---- lists, one by one
 

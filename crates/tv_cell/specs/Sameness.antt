@@ -1,7 +1,8 @@
 -- Whether two values are the same, as a test.
+use Rattle.std.specs.Option.{option_map_or}
 use Rattle.std.specs.Prelude.{Bool, List, false, true, ◌&&◌, ◌==◌}
 use Rattle.std.specs.Cmp.Lexicographic.{pointwise}
-use Rattle.tv_value.specs.Nested.{leaf, list, Trees, no_trees, tree}
+use Rattle.tv_value.specs.Nested.{Place, at, leaf, list, Trees, no_trees, tree}
 use Rattle.tv_value.specs.Orders.{same_job, same_name}
 use Rattle.tv_value.specs.Values.{ErrorDoc, Scalar, Value, fault, text}
 
@@ -30,3 +31,7 @@ abbrev mutual
 
 abbrev pub same_values : List Value → List Value → Bool
 same_values = pointwise same_value
+
+-- whether a value stands at a place of another
+abbrev pub is_at : Value → Place → Value → Bool
+is_at v q u = option_map_or (λ w. same_value w u) (at v q) false

@@ -8,7 +8,8 @@
 //!
 //! The crate promises that a cell reads as the value that was put, wherever it was shared; that a copy of a piece is equal
 //! to it; that the part of a piece stands for the part of its value; that `same` tells exactly whether two pieces stand
-//! for one value; and that `assemble` makes exactly the value that a piece stands for. Want of memory is the one refusal.
+//! for one value, `stands_for` and `part_stands_for` whether a piece, or a part of it, stands for a value that is given; and that
+//! `assemble` makes exactly the value that a piece stands for. Want of memory is the one refusal.
 //! Cells and pieces may be sent to other threads and shared by them (`threads`).
 //!
 //! - `cell`: a value that never changes

@@ -226,7 +226,7 @@ fn is_fault(value: &Value) -> bool
     }
 }
 
-fn thing_at<T>(things: &[T], index: u32) -> Option<&T>
+pub(crate) fn thing_at<T>(things: &[T], index: u32) -> Option<&T>
     ensures { option_copied result ≡ slice_get things.now index }
 {
     things.get(index as usize)

@@ -1,10 +1,10 @@
 ghost use Rattle.std.specs.Prelude.{◌≡◌, ◌↔◌, IsTrue, map};
 ghost use Rattle.tv_value.specs.Views.{error_view, items_view, view};
 ghost use Rattle.tv_cell.specs.PieceValues.{piece_value, piece_values};
-ghost use Rattle.tv_cell.specs.Sameness.{same_document, same_trees, same_value, same_values};
+ghost use Rattle.tv_cell.specs.Sameness.{is_at, same_document, same_trees, same_value, same_values};
 ghost use Rattle.tv_cell.specs.Soundness.{AreSound, IsSound};
 
-use crate::piece::Piece;
+use crate::piece::{Piece, thing_at};
 use tv_value::{ErrorDoc, Items, Value};
 
 /// Whether two values are the same. Linear in what they have in common. Takes no memory.
@@ -93,9 +93,9 @@ impl Piece {
         }
     }
 
-    /// Whether the piece stands for that value.
+    /// Whether the piece stands for that value. Linear in what they have in common. Takes no memory.
     #[cycle(stands_for)]
-    fn stands_for(&self, value: &Value) -> bool
+    pub fn stands_for(&self, value: &Value) -> bool
         requires { IsSound self.now }
         ensures { result ≡ same_value (piece_value self.now) (view value.now) }
     {
@@ -113,6 +113,41 @@ impl Piece {
                     && same_document(cell.document_at(place), error),
             },
         }
+    }
+
+    /// Whether what stands inside, at a place that is given by its indices, is that value. Linear in the place and in what the two
+    /// have in common. Takes no memory.
+    pub fn part_stands_for(&self, place: &[u32], value: &Value) -> bool
+        requires { IsSound self.now }
+        ensures { result ≡ is_at (piece_value self.now) place.now (view value.now) }
+    {
+        match self {
+            Piece::Part(cell, start) => value_is_at(cell.value_at(start), place, value),
+            Piece::List(pieces) => match place {
+                [] => self.stands_for(value),
+                [first, rest @ ..] => match thing_at(pieces.as_slice(), *first) {
+                    Some(piece) => piece.part_stands_for(rest, value),
+                    None => false,
+                },
+            },
+            Piece::Fault(_, _, _) => place.is_empty() && self.stands_for(value),
+        }
+    }
+}
+
+/// Whether what stands at a place of the first value is the second.
+fn value_is_at(first: &Value, place: &[u32], second: &Value) -> bool
+    ensures { result ≡ is_at (view first.now) place.now (view second.now) }
+{
+    match place {
+        [] => same_value(first, second),
+        [index, rest @ ..] => match first {
+            Value::List(items) => match thing_at(items.as_slice(), *index) {
+                Some(item) => value_is_at(item, rest, second),
+                None => false,
+            },
+            _ => false,
+        },
     }
 }
 
