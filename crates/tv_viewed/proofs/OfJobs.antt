@@ -7,16 +7,15 @@ use Rattle.std.proofs.lemmas.Bool.{and_parts, true≢false, or_right}
 use Rattle.std.proofs.lemmas.List.Sorted.{IsPermutation-sym}
 use Rattle.tv_value.specs.Nested.{Place, at, leaf, list, nodes, note}
 use Rattle.tv_value.specs.Orders.{same_name}
-use Rattle.tv_value.specs.Values.{JobName, Name, Value}
+use Rattle.tv_value.specs.Values.{JobName, Name, Value, holds_fault}
 use Rattle.tv_gate.specs.Outcomes.{Giving}
 use Rattle.tv_flow.specs.Flows.{Flow}
 use Rattle.tv_strategy.specs.Iterations.{Binding, Iteration, job, passed}
-use Rattle.tv_strategy.specs.Origins.{Origin}
-use Rattle.tv_strategy.specs.Sources.{Each}
+use Rattle.tv_strategy.specs.Origins.{Origin, Traced}
 use Rattle.tv_depths.specs.Steps.{spot}
 use Rattle.tv_matching.specs.Items.{item, kind_of, known_items}
 use Rattle.tv_matching.proofs.OfMembers.{in-permutes}
-use Rattle.tv_instance.specs.ByResults.{InstanceStep, PlacedJob}
+use Rattle.tv_instance.specs.ByResults.{InstanceStep}
 use Rattle.tv_instance.specs.Events as events
 use Rattle.tv_instance.specs.Events.{Event, Events, fault_set, gave, gives_at, has_result, is_taken, known_by, takes_at, took}
 use Rattle.tv_instance.specs.Fitting.{FitsNode}
@@ -25,19 +24,19 @@ use Rattle.tv_model.specs.Jobs.{Job}
 use Rattle.tv_model.specs.Made.{Made, Meaning, Opened}
 use Rattle.tv_model.specs.Meanings.{flow_meaning}
 use Rattle.tv_model.specs.Members.{In}
+use Rattle.tv_model.specs.Turns.{is_bounced}
 use Rattle.tv_model.proofs.Members.{each_in, in-flat, of-flat}
 use Rattle.tv_model.proofs.Sound.{all-stand, nodes-stand, spot-step, StandsAt}
 use Rattle.tv_model.proofs.Tests.{all_weaken}
 use Rattle.tv_history.specs.Entries.{History, is_begun_entry}
 use Rattle.tv_history.specs.Histories.{is_running, is_settled, is_settled_name}
-use Rattle.tv_agreed.proofs.Opening.{IsAt}
 use Rattle.tv_instances.proofs.OfEvents.{hits, one-more}
 use Rattle.tv_instances.proofs.OfSettling.{node-listed}
 use Rattle.tv_framing.specs.Frames.{FitsKind, job_places, known_jobs}
-use Rattle.tv_framing.specs.Views.{InAll, View}
+use Rattle.tv_framing.specs.Views.{View}
 use Rattle.tv_framing.proofs.OfFrames.{in-finds, job-end, known-stands, stands-known, steps-distinct}
 use Rattle.tv_viewed.proofs.OfRuns.{Runs, in-all, results_here, settled-same, steps_here}
-use Rattle.tv_viewed.proofs.OfSteps.{Standing, as_made, as_step, job-inputs, job-is_at, job-made, job-placed, made-in, made_job, of-jobs, of-made, of-step, own_made, placed_job, step-in}
+use Rattle.tv_viewed.proofs.OfSteps.{Standing, StandsAtEnd, as_made, as_step, job-bounced, job-inputs, job-is_at, job-made, made-in, made_job, of-jobs, of-made, of-step, own_made, step-in}
 
 -- what is found passes, and is there
 pub found : {A : Type 0} (p : A → Bool) (xs : List A) (x : A) → find p xs ≡ Some x → In x xs × (p x ≡ true)
@@ -152,6 +151,12 @@ module _ (gives : Giving) (flows : List (Name × Flow)) (m : Meaning) (past : Hi
   abbrev Stands : Type 0
   Stands = Standing gives inside I v.flow v.inputs
 
+  abbrev step_at : Stands → InstanceStep
+  step_at t = as_step gives inside I v.flow v.inputs t
+
+  abbrev job_at : Stands → Place → List Origin → Binding → Opened
+  job_at t q s b = made_job gives inside I v.flow v.inputs t q s b
+
   abbrev pub EndsHere : Name × Place → Type 0
   EndsHere x = EndsThere I fs v.events x
 
@@ -181,50 +186,64 @@ module _ (gives : Giving) (flows : List (Name × Flow)) (m : Meaning) (past : Hi
 
   -- ---- jobs of the run
 
-  -- the run's job at a spot
+  -- the run has this job at that spot
   pub record Finds (j : Job) (x : Name × Place) : Type 0 where
     pub listed : In j m.jobs
     pub within : j.instance ≡ I
     pub step : j.step ≡ x.0
     pub name : j.name ≡ spot I x.0 x.1
 
+  -- it is that of a step, which ends there
   pub record IsHere (j : Job) (x : Name × Place) : Type 0 where
     pub stands : Stands
     pub sources : List Origin
     pub binding : Binding
     pub name : stands.step.0 ≡ x.0
-    pub node : at (as_step gives inside I v.flow v.inputs stands).step.iteration x.1 ≡ Some (leaf sources (job binding))
-    pub is_job : j ≡ (made_job gives inside I v.flow v.inputs stands x.1 sources binding).job
+    pub node : at (step_at stands).step.iteration x.1 ≡ Some (leaf sources (job binding))
+    pub is_job : j ≡ (job_at stands x.1 sources binding).job
+
+  -- a step's job is one of the run
+  job-finds : (t : Stands) (q : Place) (s : List Origin) (b : Binding) → at (step_at t).step.iteration q ≡ Some (leaf s (job b)) → Finds (job_at t q s b).job (t.step.0, q)
+  job-finds t q s b node =
+      let is = job-is_at gives inside I v.flow v.inputs t q s b in
+      let mine = job-made gives inside I v.flow v.inputs t q s b (node-listed (step_at t).step.iteration q (leaf s (job b)) node) in
+      record {
+        listed =
+            r.part.all_jobs (job_at t q s b)
+            (in-flat (λ (n : Made). n.jobs) (as_made gives inside I v.flow v.inputs t) (job_at t q s b) (own_made gives inside I v.flow v.inputs) (made-in gives inside I v.flow v.inputs t) mine);
+        within = is.in_instance;
+        step = is.step;
+        name = is.name;
+      }
+
+  job-here : (t : Stands) (q : Place) (s : List Origin) (b : Binding) → at (step_at t).step.iteration q ≡ Some (leaf s (job b)) → IsHere (job_at t q s b).job (t.step.0, q)
+  job-here t q s b node = record { stands = t; sources = s; binding = b; name = refl; node = node; is_job = refl }
 
   -- where a job ends there is one of the run
   pub ends-find : (x : Name × Place) → EndsHere x → (j : Job) × Finds j x
   ends-find x w =
-      let t = of-step gives inside I v.flow v.inputs w.step w.is_step in
-      let a = as_step gives inside I v.flow v.inputs t.0 in
-      let o = made_job gives inside I v.flow v.inputs t.0 x.1 w.sources w.binding in
-      let node : In (x.1, leaf w.sources (job w.binding)) (nodes a.step.iteration) =
-      node-listed a.step.iteration x.1 (leaf w.sources (job w.binding)) (ap (λ (f : InstanceStep). at f.step.iteration x.1) (sym t.1) ∙ w.node) in
-      let is = job-is_at gives inside I v.flow v.inputs t.0 x.1 w.sources w.binding in
-      let name : t.0.step.0 ≡ x.0 = ap (λ (f : InstanceStep). f.step.step) (sym t.1) ∙ w.name in
-      (o.job, record {
-        listed = r.part.all_jobs o (in-flat (λ (n : Made). n.jobs) (as_made gives inside I v.flow v.inputs t.0) o (own_made gives inside I v.flow v.inputs) (made-in gives inside I v.flow v.inputs t.0) (job-made gives inside I v.flow v.inputs t.0 x.1 w.sources w.binding node));
-        within = is.in_instance;
-        step = is.step ∙ name;
-        name = is.name ∙ ap (λ n. spot I n x.1) name;
-      })
+      let t = of-step gives inside I v.flow v.inputs w.step w.is_step in (
+        (job_at t.0 x.1 w.sources w.binding).job,
+        subst (λ n. Finds (job_at t.0 x.1 w.sources w.binding).job (n, x.1)) (ap (λ (f : InstanceStep). f.step.step) (sym t.1) ∙ w.name)
+            (job-finds t.0 x.1 w.sources w.binding (ap (λ (f : InstanceStep). at f.step.iteration x.1) (sym t.1) ∙ w.node)),
+      )
+
+  abbrev Somewhere : Job → Type 0
+  Somewhere j = (x : Name × Place) × Finds j x × IsHere j x
 
   -- each job of the instance is one of a step's
-  pub somewhere : (j : Job) → In j m.jobs → j.instance ≡ I → (x : Name × Place) × Finds j x × IsHere j x
+  pub somewhere : (j : Job) → In j m.jobs → j.instance ≡ I → Somewhere j
   somewhere j h e =
       let o = r.part.jobs j h e in
       let n = of-flat (λ (n : Made). n.jobs) o.0 (own_made gives inside I v.flow v.inputs) o.1 in
       let t = of-made gives inside I v.flow v.inputs n.0 n.1 in
-      let s = of-jobs gives inside I v.flow v.inputs t.0 o.0 (subst (λ (y : Made). In o.0 y.jobs) t.1 n.2) in
-      let is = subst (IsAt gives inside I t.0.step.0 t.0.step.1 s.place) (sym s.is_job) (job-is_at gives inside I v.flow v.inputs t.0 s.place s.sources s.binding) in (
-        (t.0.step.0, s.place),
-        record { listed = h; within = e; step = ap (λ (i : Job). i.step) o.2 ∙ is.step; name = ap (λ (i : Job). i.name) o.2 ∙ is.name },
-        record { stands = t.0; sources = s.sources; binding = s.binding; name = refl; node = node-at _ s.place (leaf s.sources (job s.binding)) s.node; is_job = o.2 ∙ ap (λ (y : Opened). y.job) s.is_job },
-      )
+      subst Somewhere (sym o.2) (by t.0 o.0 (of-jobs gives inside I v.flow v.inputs t.0 o.0 (subst (λ (y : Made). In o.0 y.jobs) t.1 n.2)))
+    where
+      by : (t : Stands) (o : Opened) → StandsAtEnd gives inside I v.flow v.inputs t o → Somewhere o.job
+      by t o s =
+          let node = node-at (step_at t).step.iteration s.place (leaf s.sources (job s.binding)) s.node in
+          subst (λ (y : Opened). Somewhere y.job) (sym s.is_job)
+          ((t.step.0, s.place), job-finds t s.place s.sources s.binding node, job-here t s.place s.sources s.binding node)
 
   -- a job that was found at a spot is the one of its step there
   pub found-here : (j : Job) (x : Name × Place) → Finds j x → IsHere j x
@@ -236,7 +255,7 @@ module _ (gives : Giving) (flows : List (Name × Flow)) (m : Meaning) (past : Hi
   -- the sources of what ends there are those of the job
   pub same-sources : (x : Name × Place) → EndsHere x → (j : Job) → (is : IsHere j x) → list_all (known_by I v.events) is.sources ≡ true
   same-sources x w j is =
-      let a = as_step gives inside I v.flow v.inputs is.stands in
+      let a = step_at is.stands in
       let first = in-finds fs (steps-distinct v I (results_here gives flows m past I levels v r)) in
       let same : Some w.step ≡ Some a =
       sym (first w.step w.is_step) ∙ ap (λ n. find (λ (g : InstanceStep). same_name n g.step.step) fs) (w.name ∙ sym is.name) ∙ first a (step-in gives inside I v.flow v.inputs is.stands) in
@@ -261,17 +280,10 @@ module _ (gives : Giving) (flows : List (Name × Flow)) (m : Meaning) (past : Hi
       begun true b h = refl
       begun false b h = h
 
-  -- ---- what it binds
-
-  -- what is so of all placed jobs at a spot is so of the one there, which binds what the run's job binds
-  pub placed-so : (P : PlacedJob → Type 0) (j : Job) (x : Name × Place) → Finds j x
-      → InAll v (λ instance results fs. Each (λ (f : InstanceStep). Each (λ (k : PlacedJob). k.step ≡ x.0 → k.place ≡ x.1 → P k) f.jobs) fs)
-      → (k : PlacedJob) × P k × (k.step ≡ x.0) × (k.place ≡ x.1) × (k.inputs ≡ j.inputs)
-  placed-so P j x w h =
+  -- it is bounced where it binds a value that holds a fault
+  pub bounced-told : (j : Job) (x : Name × Place) → Finds j x → list_any (λ u. holds_fault u) j.inputs ≡ is_bounced j.ending
+  bounced-told j x w =
       let t = found-here j x w in
-      let a = as_step gives inside I v.flow v.inputs t.stands in
-      let k = placed_job gives inside I v.flow v.inputs t.stands x.1 t.sources t.binding in
-      let all = in-all gives flows m past I levels v r (λ instance results fs. Each (λ (f : InstanceStep). Each (λ (k : PlacedJob). k.step ≡ x.0 → k.place ≡ x.1 → P k) f.jobs) fs) h in
-      let each = each_in (λ (f : InstanceStep). Each (λ (k : PlacedJob). k.step ≡ x.0 → k.place ≡ x.1 → P k) f.jobs) fs all a (step-in gives inside I v.flow v.inputs t.stands) in
-      let one = each_in (λ (k : PlacedJob). k.step ≡ x.0 → k.place ≡ x.1 → P k) a.jobs each k (job-placed gives inside I v.flow v.inputs t.stands x.1 t.sources t.binding (node-listed a.step.iteration x.1 (leaf t.sources (job t.binding)) t.node)) in
-      (k, one t.name refl, t.name, refl, sym (ap (λ (i : Job). i.inputs) t.is_job ∙ job-inputs gives inside I v.flow v.inputs t.stands x.1 t.sources t.binding))
+      let inputs = job-inputs gives inside I v.flow v.inputs t.stands x.1 t.sources t.binding in
+      subst (λ (i : Job). list_any (λ u. holds_fault u) i.inputs ≡ is_bounced i.ending) (sym t.is_job)
+      (ap (λ (us : List Traced). list_any (λ u. holds_fault u) us) inputs ∙ job-bounced gives inside I v.flow v.inputs t.stands x.1 t.sources t.binding)

@@ -1,5 +1,5 @@
 -- The laws as they are stated.
-use Rattle.std.specs.Prelude.{◌≡◌, refl, ℕ, List, map}
+use Rattle.std.specs.Prelude.{◌≡◌, refl, ℕ, Bool, List, map}
 use Rattle.std.specs.List.{list_any}
 use Rattle.std.proofs.Common.{sym, ap, subst, ◌∙◌}
 use Rattle.tv_value.specs.Nested.{Place, leaf}
@@ -8,20 +8,22 @@ use Rattle.tv_gate.specs.Outcomes.{Giving}
 use Rattle.tv_flow.specs.Flows.{Document}
 use Rattle.tv_strategy.specs.Iterations.{job}
 use Rattle.tv_strategy.specs.Origins.{Traced, plain}
+use Rattle.tv_strategy.specs.Sources.{Each}
+use Rattle.tv_instance.specs.ByResults.{InstanceStep, PlacedJob}
+use Rattle.tv_model.proofs.Members.{each_in}
 use Rattle.tv_instances.proofs.OfSettling.{node-listed}
 use Rattle.tv_model.specs.Jobs.{Job}
 use Rattle.tv_model.specs.Meanings.{flow_meaning, meaning}
-use Rattle.tv_model.specs.Turns.{is_bounced}
 use Rattle.tv_history.specs.Entries.{History}
-use Rattle.tv_framing.specs.Views.{View}
+use Rattle.tv_framing.specs.Views.{InAll, View, steps_with}
 use Rattle.tv_viewed.specs.InRun.{IsJobThere}
-use Rattle.tv_viewed.specs.Stated.{BegunIsKnown, InputsAreTold, InstancesEndAsTold, JobsAreSomewhere, KnownJobsAreThere, LevelsSettleAsTold, OutputsAreMeant, PlacedJobsAreJobs, ReadyIsTold, TakenIsRunning}
+use Rattle.tv_viewed.specs.Stated.{BegunIsKnown, InputsAreTold, InstancesEndAsTold, IsPlaced, JobsAreSomewhere, KnownJobsAreThere, LevelsSettleAsTold, OutputsAreMeant, PlacedJobsAreJobs, ReadyIsTold, TakenIsRunning}
 use Rattle.tv_viewed.proofs.OfEndings.{ending-told, main-told}
-use Rattle.tv_viewed.proofs.OfJobs.{Finds, begun-known, begun-told, ends-find, found-here, known-ends, placed-so, settled-told, somewhere}
+use Rattle.tv_viewed.proofs.OfJobs.{Finds, begun-known, begun-told, bounced-told, ends-find, found-here, known-ends, settled-told, somewhere}
 use Rattle.tv_viewed.proofs.OfReady.{ready-told, told-ready}
 use Rattle.tv_viewed.proofs.OfRuns.{Runs, results_here, runs}
 use Rattle.tv_viewed.proofs.OfSettling.{nothing-settles, settling-legal}
-use Rattle.tv_viewed.proofs.OfSteps.{as_step, job-bounced, job-inputs, job-placed, placed_job, step-in}
+use Rattle.tv_viewed.proofs.OfSteps.{as_step, job-inputs, job-placed, placed_job, step-in}
 
 abbrev RunsIn : Giving → Document → History → JobName → (Name → ℕ) → View → Type 0
 RunsIn gives d past I levels v = Runs gives d.flows (meaning gives d) past I levels v
@@ -88,24 +90,28 @@ placed_jobs-are_jobs gives d past I levels v w x j k =
       inputs = sym (ap (λ (i : Job). i.inputs) t.is_job ∙ job-inputs gives inside I v.flow v.inputs t.stands x.1 t.sources t.binding);
     }
 
+-- what is so of all placed jobs at a spot is so of the one that is the run's job
+module _ (I : JobName) (v : View) (j : Job) (x : Name × Place) (p : IsPlaced I v j x) (P : PlacedJob → Type 0) where
+  abbrev pub IsSo : PlacedJob → Type 0
+  IsSo k = k.step ≡ x.0 → k.place ≡ x.1 → P k
+
+  pub placed-so : InAll v (λ instance results fs. Each (λ (f : InstanceStep). Each IsSo f.jobs) fs) → P p.job
+  placed-so h =
+      let all = each_in (λ (f : InstanceStep). Each IsSo f.jobs) (steps_with v I p.results) (h I p.results p.depths p.extends) p.step p.is_step in
+      each_in IsSo p.step.jobs all p.job p.listed p.its_step p.its_place
+
+abbrev holds_any : List Traced → Bool
+holds_any vs = list_any (λ u. holds_fault u) vs
+
 pub inputs-are_told : InputsAreTold
 inputs-are_told gives d past I levels v w x j k =
     let r = runs gives d past I levels v w in
-    let f = finds gives d past I levels v r j x k in
-    let t = found-here gives d.flows (meaning gives d) past I levels v r j x f in
+    let p = placed_jobs-are_jobs gives d past I levels v w x j k in
     record {
-      values = λ vs h. let p = placed-so gives d.flows (meaning gives d) past I levels v r (λ k. vs ≡ map plain k.inputs) j x f h in p.1 ∙ ap (map plain) p.4;
-      fault = λ b h. let p = placed-so gives d.flows (meaning gives d) past I levels v r (λ k. b ≡ list_any (λ u. holds_fault u) k.inputs) j x f h in p.1 ∙ ap (λ (us : List Traced). list_any (λ u. holds_fault u) us) p.4;
-      bounced = bounced gives d past I levels v r j x f;
+      values = λ vs h. placed-so I v j x p (λ k. vs ≡ map plain k.inputs) h ∙ ap (map plain) p.inputs;
+      fault = λ b h. placed-so I v j x p (λ k. b ≡ holds_any k.inputs) h ∙ ap holds_any p.inputs;
+      bounced = bounced-told gives d.flows (meaning gives d) past I levels v r j x (finds gives d past I levels v r j x k);
     }
-  where
-    bounced : (gives : Giving) (d : Document) (past : History) (I : JobName) (levels : Name → ℕ) (v : View) (r : RunsIn gives d past I levels v) (j : Job) (x : Name × Place) → Finds gives d.flows (meaning gives d) past I levels v r j x → list_any (λ u. holds_fault u) j.inputs ≡ is_bounced j.ending
-    bounced gives d past I levels v r j x f =
-        let t = found-here gives d.flows (meaning gives d) past I levels v r j x f in
-        let inside = flow_meaning gives d.flows r.nesting in
-        ap (λ (us : List Traced). list_any (λ u. holds_fault u) us) (ap (λ (i : Job). i.inputs) t.is_job ∙ job-inputs gives inside I v.flow v.inputs t.stands x.1 t.sources t.binding)
-        ∙ job-bounced gives inside I v.flow v.inputs t.stands x.1 t.sources t.binding
-        ∙ sym (ap (λ (i : Job). is_bounced i.ending) t.is_job)
 
 -- ---- the instance
 

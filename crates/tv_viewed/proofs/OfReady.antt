@@ -4,7 +4,7 @@ use Rattle.std.specs.Cmp.Lexicographic.{bytes_decides}
 use Rattle.std.specs.List.{list_all}
 use Rattle.std.proofs.Common.{sym, ap, ap₂, subst, ◌∙◌}
 use Rattle.std.proofs.lemmas.Bool.{and_from, and_parts, not-true, or_right, true≢false}
-use Rattle.tv_value.specs.Nested.{Place, at, leaf}
+use Rattle.tv_value.specs.Nested.{Place, leaf}
 use Rattle.tv_value.specs.Orders.{named, same_name}
 use Rattle.tv_value.specs.Values.{JobName, Name, Value}
 use Rattle.tv_gate.specs.Outcomes.{Giving}
@@ -21,7 +21,7 @@ use Rattle.tv_instance.specs.ByResults.{InstanceStep, Results, last_first, step_
 use Rattle.tv_instance.specs.Counting.{have_ended_by}
 use Rattle.tv_instance.specs.Endings.{IsOwn, has_ended, have_ended}
 use Rattle.tv_instance.specs.Events.{has_result, is_taken, known_by}
-use Rattle.tv_instance.specs.Readiness.{are_known, ready_by}
+use Rattle.tv_instance.specs.Readiness.{are_known}
 use Rattle.tv_instances.specs.InHistory.{IsJobAt}
 use Rattle.tv_instances.specs.OwnNodes.{NodesHave}
 use Rattle.tv_instances.proofs.OfLaws.{nodes-are_own}

@@ -1,8 +1,8 @@
 -- Which lists can be closed and which faults passed in the run, by the view.
-use Rattle.std.specs.Prelude.{◌≡◌, refl, ℕ, Bool, true, false, List, ◌∷◌, Option, Some, None, find, filter_map, option_and_then}
+use Rattle.std.specs.Prelude.{◌≡◌, refl, ℕ, Bool, true, false, List, Option, Some, None, find, filter_map, option_and_then}
 use Rattle.std.specs.Cmp.Lexicographic.{bytes_decides}
 use Rattle.std.specs.List.{list_all}
-use Rattle.std.proofs.Common.{sym, ap, subst, ◌∙◌}
+use Rattle.std.proofs.Common.{sym, subst, ◌∙◌}
 use Rattle.std.proofs.lemmas.Bool.{true≢false}
 use Rattle.tv_lemmas.proofs.Cases.{on_test}
 use Rattle.tv_value.specs.Nested.{Place, at, count, leaf, list, nodes, note}

@@ -1,6 +1,6 @@
 -- The steps of an instance, each as a meaning has made it and as it is by the results of the instance's own jobs.
-use Rattle.std.specs.Prelude.{◌≡◌, refl, ◌⊎◌, ◌&&◌, ◌++◌, Bool, true, false, List, [], ◌∷◌, flat_map, map, None, if◌then◌else◌}
-use Rattle.std.specs.List.{list_all, list_any}
+use Rattle.std.specs.Prelude.{◌≡◌, refl, ◌⊎◌, ◌++◌, Bool, true, false, List, [], ◌∷◌, flat_map, map, None, if◌then◌else◌}
+use Rattle.std.specs.List.{list_any}
 use Rattle.std.proofs.Common.{sym, ap, ap₂, subst, ◌∙◌, inl, inr}
 use Rattle.tv_value.specs.Nested.{Place, leaf, list, nodes}
 use Rattle.tv_value.specs.Values.{JobName, Name, Value, holds_fault}
@@ -8,10 +8,9 @@ use Rattle.tv_gate.specs.Outcomes.{Giving}
 use Rattle.tv_flow.specs.Flows.{Flow, Step}
 use Rattle.tv_strategy.specs.Iterations.{Binding, Iteration, job, passed}
 use Rattle.tv_strategy.specs.Origins.{Origin, Traced, plain}
-use Rattle.tv_strategy.specs.Sources.{Each}
 use Rattle.tv_dispatch.specs.Jobs.{Fate, opens, right, taken, tries, wrong}
 use Rattle.tv_depths.specs.Delivered.{StepMeaning}
-use Rattle.tv_depths.specs.Ranks.{is_among, ranked}
+use Rattle.tv_depths.specs.Ranks.{ranked}
 use Rattle.tv_depths.specs.Steps.{bound_values, declared_depths, endings_of}
 use Rattle.tv_depths.proofs.OfRanked.{IsOrdered, ranked-ordered}
 use Rattle.tv_model.specs.Instances.{bounced_job, given_of, job_on, node_jobs, step_made, steps_made, tried_job, with_fate}

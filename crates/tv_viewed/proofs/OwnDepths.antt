@@ -1,8 +1,8 @@
 -- The jobs of an instance of a flow of an accepted document give values of the declared depths.
-use Rattle.std.specs.Prelude.{◌≡◌, refl, ◌&&◌, ℕ, suc, Bool, true, false, List, [], ◌∷◌, Some, None, length, map, if◌then◌else◌}
+use Rattle.std.specs.Prelude.{◌≡◌, refl, ◌&&◌, ℕ, suc, true, List, [], ◌∷◌, Some, None, length, map, if◌then◌else◌}
 use Rattle.std.specs.Cmp.Lexicographic.{bytes_decides}
 use Rattle.std.proofs.Common.{sym, ap, subst}
-use Rattle.tv_value.specs.Orders.{named, same_name}
+use Rattle.tv_value.specs.Orders.{named}
 use Rattle.tv_value.specs.Values.{JobName, Name, Value}
 use Rattle.tv_gate.specs.Outcomes.{Giving}
 use Rattle.tv_flow.specs.Flows.{Document, Flow, Step}
