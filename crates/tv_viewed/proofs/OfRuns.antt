@@ -47,14 +47,14 @@ runs gives d past I levels v r =
       nesting = w.levels;
       part = w.part;
       whole = meaning-whole gives AnyNumber d (each-all (λ f. StepsHave gives AnyNumber f.1) (λ f. each-all (λ s. AnyNumber s.1.jobs) (λ s. tt) f.1.steps) d.flows);
-      steps = formed-named v.flow (formed-flow d r.formed w.flow_name v.flow w.is_flow);
+      steps = formed-named v.flow (formed-flow d r.formed r.flow_name v.flow r.is_flow);
       is_open = w.is_open;
       told = w.told;
       frame = r.frame;
       depths = r.depths;
       right =
           own_results-are_of_depth gives (flow_meaning gives d.flows w.levels) I v.flow v.inputs
-          (jobs-give gives d r.formed r.accepted w.levels w.flow_name v.flow w.is_flow w.nests r.depths.flow I v.inputs r.depths.inputs);
+          (jobs-give gives d r.formed r.accepted w.levels v.flow w.nests r.depths.flow I v.inputs r.depths.inputs);
       gave = w.gave;
     }
 

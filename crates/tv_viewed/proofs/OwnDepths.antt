@@ -1,5 +1,5 @@
 -- The jobs of an instance of a flow of an accepted document give values of the declared depths.
-use Rattle.std.specs.Prelude.{◌≡◌, refl, ◌&&◌, ℕ, suc, true, List, [], ◌∷◌, Some, None, length, map, if◌then◌else◌}
+use Rattle.std.specs.Prelude.{◌≡◌, refl, ◌&&◌, ℕ, true, List, [], ◌∷◌, Some, None, length, map, if◌then◌else◌}
 use Rattle.std.specs.Cmp.Lexicographic.{bytes_decides}
 use Rattle.std.proofs.Common.{sym, ap, subst}
 use Rattle.tv_value.specs.Orders.{named}
@@ -27,7 +27,7 @@ use Rattle.tv_model.proofs.Whole.{rank-each}
 use Rattle.tv_agreed.specs.PlannedDepths.{OutputsGive}
 use Rattle.tv_agreed.proofs.Accepted.{accepted-agrees}
 use Rattle.tv_agreed.proofs.Lists.{all-each, named-each}
-use Rattle.tv_agreed.proofs.OneInstance.{AllSound, flow-delivers, steps-nest}
+use Rattle.tv_agreed.proofs.OneInstance.{AllSound, flow-delivers}
 use Rattle.tv_agreed.proofs.OneStep.{AnyMeaning, made-is, results}
 use Rattle.tv_instances.specs.OwnResults.{AllMadeGive}
 
@@ -88,10 +88,10 @@ each-nests : (P : Name → Type 0) (ss : List (Name × Step)) → StepsNest P ss
 each-nests P [] h = tt
 each-nests P (s ∷ ss) h = (h.0, each-nests P ss h.1)
 
--- the flow of that name nests within k levels, and this is its instance on inputs of their depths
-pub jobs-give : (gives : Giving) (d : Document) → is_formed d ≡ true → IsAccepted d → (k : ℕ) (n : Name) (flow : Flow) → named n d.flows ≡ Some flow → NestsWithin d.flows (suc k) n → FlowAgrees d.flows flow → (I : JobName) (vs : List (Name × Value)) → InputsHave flow.inputs vs
+-- the steps of the flow nest within k levels, and this is its instance on inputs of their depths
+pub jobs-give : (gives : Giving) (d : Document) → is_formed d ≡ true → IsAccepted d → (k : ℕ) (flow : Flow) → StepsNest (NestsWithin d.flows k) flow.steps → FlowAgrees d.flows flow → (I : JobName) (vs : List (Name × Value)) → InputsHave flow.inputs vs
     → AllMadeGive gives (flow_meaning gives d.flows k) I (given_of flow vs) [] (ranked flow.steps)
-jobs-give gives d formed accepted k n flow is_flow nests agree I vs have =
+jobs-give gives d formed accepted k flow nests agree I vs have =
     steps-give gives d.flows (flow_meaning gives d.flows k) k (flow-delivers gives d.flows (accepted-sound d formed accepted) k) I (given_of flow vs) (given-right vs flow.inputs have) [] tt (ranked flow.steps)
     (subst (λ x. StepsAgree d.flows x [] (ranked flow.steps)) (sym (given-depths vs flow.inputs)) agree.steps)
-    (rank-each gives (λ n. Unit {0}) (λ (s : Name × Step). ActivitiesNest (NestsWithin d.flows k) s.1.activities) (length flow.steps) [] flow.steps (each-nests (NestsWithin d.flows k) flow.steps (steps-nest d.flows k n flow is_flow nests)))
+    (rank-each gives (λ n. Unit {0}) (λ (s : Name × Step). ActivitiesNest (NestsWithin d.flows k) s.1.activities) (length flow.steps) [] flow.steps (each-nests (NestsWithin d.flows k) flow.steps nests))

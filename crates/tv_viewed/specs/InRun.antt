@@ -1,5 +1,5 @@
 -- The view of a frame as that of an instance in a run.
-use Rattle.std.specs.Prelude.{◌≡◌, ℕ, suc, true, Some}
+use Rattle.std.specs.Prelude.{◌≡◌, ℕ, true, Some}
 use Rattle.tv_value.specs.Nested.{Place}
 use Rattle.tv_value.specs.Orders.{named}
 use Rattle.tv_value.specs.Values.{JobName, Name}
@@ -9,7 +9,7 @@ use Rattle.tv_flow.specs.Formed.{is_formed}
 use Rattle.tv_depths.specs.Steps.{spot}
 use Rattle.tv_check.specs.Plans.{IsAccepted}
 use Rattle.tv_instance.specs.Events.{Extends}
-use Rattle.tv_model.specs.Agreeing.{NestsWithin}
+use Rattle.tv_model.specs.Agreeing.{NestsWithin, StepsNest}
 use Rattle.tv_model.specs.Jobs.{Job}
 use Rattle.tv_model.specs.Meanings.{meaning}
 use Rattle.tv_model.specs.Members.{In}
@@ -24,13 +24,11 @@ use Rattle.tv_framing.specs.Views.{View}
 
 -- the view tells of the instance I after this history of the document's run
 pub record IsViewOf (gives : Giving) (d : Document) (past : History) (I : JobName) (v : View) : Type 0 where
-  -- its flow is one of the document's, and nests within so many levels
-  pub flow_name : Name
-  pub is_flow : named flow_name d.flows ≡ Some v.flow
+  -- the instance is of the view's flow on its inputs
   pub levels : ℕ
-  pub nests : NestsWithin d.flows (suc levels) flow_name
-  -- the instance is of this flow on the view's inputs
   pub part : IsInstance gives d.flows (meaning gives d) I levels v.flow v.inputs
+  -- whose steps nest no more levels of flows than that
+  pub nests : StepsNest (NestsWithin d.flows levels) v.flow.steps
   pub is_open : is_open past I ≡ true
   -- the events are the instance's part of the history
   pub told : IsPartOf (meaning gives d) past I v.events
@@ -43,6 +41,9 @@ pub record IsInRun (gives : Giving) (d : Document) (past : History) (I : JobName
   pub formed : is_formed d ≡ true
   pub accepted : IsAccepted d
   pub legal : is_legal gives (meaning gives d) past ≡ true
+  -- its flow is one of the document's
+  pub flow_name : Name
+  pub is_flow : named flow_name d.flows ≡ Some v.flow
   pub frame : IsFrame v
   pub depths : IsOfDepths d.flows levels v
   pub view : IsViewOf gives d past I v
