@@ -50,7 +50,8 @@ none-found : {A : Type 0} (p : A → Bool) (xs : List A) → find p xs ≡ None 
 none-found p [] e x i h = i
 none-found {A = A} p (y ∷ ys) e x i h = by (p y) refl e i (λ k j. none-found p ys k x j h)
   where
-    by : (b : Bool) → p y ≡ b → (if b then Some y else find p ys) ≡ None → In x (y ∷ ys) → (find p ys ≡ None → In x ys → ⊥) → ⊥
+    by : (b : Bool) → p y ≡ b → (if b then Some y else find p ys) ≡ None → In x (y ∷ ys)
+        → (find p ys ≡ None → In x ys → ⊥) → ⊥
     by true q k j rec = cc
     by false q k (inl s) rec = true≢false (sym h ∙ ap p s ∙ q)
     by false q k (inr j) rec = rec k j
@@ -72,18 +73,21 @@ module _ (xs ys : List StepMeaning) (there : (s : StepMeaning) → In s xs → I
           let w = found (of_name n) ys b f in
           ap Some (once a b v.0 (here b w.0) (sym ((bytes_decides n a.step).0 v.1) ∙ (bytes_decides n b.step).0 w.1))
 
-  link-same : (given : List (Name × Delivered)) (l : Link) → link_delivers itself given xs l ≡ link_delivers itself given ys l
+  link-same : (given : List (Name × Delivered)) (l : Link)
+      → link_delivers itself given xs l ≡ link_delivers itself given ys l
   link-same given (input x) = refl
   link-same given (output s p) = ap (λ o. option_map_or (λ (n : StepMeaning). unwrap_or (named p n.outputs) nothing_delivered) o nothing_delivered) (found-same s)
 
-  pub feed-same : (given : List (Name × Delivered)) (f : Feed) → feed_delivers itself given xs f ≡ feed_delivers itself given ys f
+  pub feed-same : (given : List (Name × Delivered)) (f : Feed)
+      → feed_delivers itself given xs f ≡ feed_delivers itself given ys f
   feed-same given (link l) = link-same given l
   feed-same given (merge ls) = ap (λ (g : Link → Delivered). merged (map g ls)) (λ i l. link-same given l i)
   feed-same given (constant c) = refl
 
 -- ---- the outputs of a meaning
 
-main-outputs : (gives : Giving) (flows : List (Name × Flow)) (k : ℕ) (f : Name) (flow : Flow) → named f flows ≡ Some flow → (I : JobName) (vs : List (Name × Value))
+main-outputs : (gives : Giving) (flows : List (Name × Flow)) (k : ℕ) (f : Name) (flow : Flow)
+    → named f flows ≡ Some flow → (I : JobName) (vs : List (Name × Value))
     → (flow_meaning gives flows (suc k) f I vs).outputs ≡ map (λ o. (o.0, (feed_value (given_of flow vs) (made_of gives flows k flow I vs) o.1).value)) flow.outputs
 main-outputs gives flows k f flow e I vs = ap (λ (o : Option Flow). (option_map_or (λ fl. instance_meaning gives (flow_meaning gives flows k) I fl vs) o no_meaning).outputs) e
 
@@ -126,14 +130,16 @@ module _ (gives : Giving) (flows : List (Name × Flow)) (m : Meaning) (past : Hi
   of-run : list_all ends m.steps ≡ true → list_all (has_ended known) fs ≡ true
   of-run h = from_all (has_ended known) fs (λ f i. sym (ended-same f i) ∙ by f (same_job I f.step.instance) ((same_job_decides I f.step.instance).1 (sym (own-instance f i))) (all_in ends m.steps h f.step (step-listed f i)))
     where
-      by : (f : InstanceStep) (b : Bool) → b ≡ true → (if b then all_known m past f.step.ending else true) ≡ true → all_known m past f.step.ending ≡ true
+      by : (f : InstanceStep) (b : Bool) → b ≡ true → (if b then all_known m past f.step.ending else true) ≡ true
+          → all_known m past f.step.ending ≡ true
       by f true e k = k
       by f false e k = absurd (true≢false (sym e))
 
   of-view : list_all (has_ended known) fs ≡ true → list_all ends m.steps ≡ true
   of-view h = from_all ends m.steps (λ s i. by s i (same_job I s.instance) refl)
     where
-      by : (s : StepMeaning) → In s m.steps → (b : Bool) → same_job I s.instance ≡ b → (if b then all_known m past s.ending else true) ≡ true
+      by : (s : StepMeaning) → In s m.steps → (b : Bool) → same_job I s.instance ≡ b
+          → (if b then all_known m past s.ending else true) ≡ true
       by s i false e = refl
       by s i true e =
           let f = listed-step s i (sym ((same_job_decides I s.instance).0 e)) in
@@ -166,14 +172,16 @@ module _ (gives : Giving) (flows : List (Name × Flow)) (m : Meaning) (past : Hi
         once-of_apart step_key m.steps r.whole.steps_apart a b (r.part.all_steps a i) (r.part.all_steps b j)
         (ap₂ (λ (x : JobName) (y : Name). (x, y)) (of-instance a i ∙ sym (of-instance b j)) e)
 
-    fed-same : (f : Feed) → feed_value (given_of v.flow vs) others f ≡ feed_delivers step_of (given_of v.flow v.inputs) fs f
+    fed-same : (f : Feed)
+        → feed_value (given_of v.flow vs) others f ≡ feed_delivers step_of (given_of v.flow v.inputs) fs f
     fed-same f =
         feed-map step_in (given_of v.flow vs) others f
         ∙ sym (feed-same (map step_in ms) (map step_in others) (λ s i. other.steps s (r.part.all_steps s i) (of-instance s i)) (λ s i. r.part.steps s (other.all_steps s i) (in-instance s i)) once (given_of v.flow vs) f)
         ∙ ap₂ (λ (g : List (Name × Delivered)) (l : List StepMeaning). feed_delivers itself g l f) (sym given) alike
         ∙ sym (feed-map step_of (given_of v.flow v.inputs) fs f)
 
-    pub outputs-told : (ws : List Value) → AreOutputs v ws → ws ≡ map (λ (o : Name × Feed). plain (feed_value (given_of v.flow vs) others o.1).value) v.flow.outputs
+    pub outputs-told : (ws : List Value) → AreOutputs v ws
+        → ws ≡ map (λ (o : Name × Feed). plain (feed_value (given_of v.flow vs) others o.1).value) v.flow.outputs
     outputs-told ws h =
         in-all gives flows m past I levels v r (λ instance results fs. ws ≡ map (λ o. plain (feed_delivers step_of (given_of v.flow v.inputs) fs o.1).value) v.flow.outputs) h
         ∙ sym (ap (λ (g : Feed → Delivered). map (λ (o : Name × Feed). plain (g o.1).value) v.flow.outputs) (λ i f. fed-same f i))

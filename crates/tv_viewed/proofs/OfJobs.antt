@@ -43,7 +43,8 @@ pub found : {A : Type 0} (p : A → Bool) (xs : List A) (x : A) → find p xs �
 found p [] x e = cc
 found {A = A} p (y ∷ ys) x e = by (p y) refl e (λ k. found p ys x k)
   where
-    by : (b : Bool) → p y ≡ b → (if b then Some y else find p ys) ≡ Some x → (find p ys ≡ Some x → In x ys × (p x ≡ true)) → In x (y ∷ ys) × (p x ≡ true)
+    by : (b : Bool) → p y ≡ b → (if b then Some y else find p ys) ≡ Some x
+        → (find p ys ≡ Some x → In x ys × (p x ≡ true)) → In x (y ∷ ys) × (p x ≡ true)
     by true q k rec = let same : y ≡ x = cc in (inl (sym same), ap p (sym same) ∙ q)
     by false q k rec = let r = rec k in (inr r.0, r.1)
 
@@ -67,10 +68,12 @@ pub record EndsThere (I : JobName) (fs : List InstanceStep) (es : Events) (x : N
   pub node : at step.step.iteration x.1 ≡ Some (leaf sources (job binding))
   pub known : list_all (known_by I es) sources ≡ true
 
-more-known : (I : JobName) (e : Event) (es : Events) (os : List Origin) → list_all (known_by I es) os ≡ true → list_all (known_by I (e ∷ es)) os ≡ true
+more-known : (I : JobName) (e : Event) (es : Events) (os : List Origin) → list_all (known_by I es) os ≡ true
+    → list_all (known_by I (e ∷ es)) os ≡ true
 more-known I e es os h = all_weaken (known_by I es) (known_by I (e ∷ es)) (λ o k. one-more I e es o ∙ or_right (hits I e o) (known_by I es o) k) os h
 
-pub ends-still : (I : JobName) (fs : List InstanceStep) (e : Event) (es : Events) (x : Name × Place) → EndsThere I fs es x → EndsThere I fs (e ∷ es) x
+pub ends-still : (I : JobName) (fs : List InstanceStep) (e : Event) (es : Events) (x : Name × Place)
+    → EndsThere I fs es x → EndsThere I fs (e ∷ es) x
 ends-still I fs e es x w = record { step = w.step; is_step = w.is_step; name = w.name; sources = w.sources; binding = w.binding; node = w.node; known = more-known I e es w.sources w.known }
 
 -- the event is of the job at that spot
@@ -81,7 +84,8 @@ IsOfJob (fault_set s q d) x = ⊥
 IsOfJob (took s q) x = (s ≡ x.0) × (q ≡ x.1)
 
 module _ (I : JobName) (fs : List InstanceStep) (es : Events) (x : Name × Place) where
-  ends-found : (s : Name) (q : Place) → s ≡ x.0 → q ≡ x.1 → (o : Option InstanceStep) → find (λ (f : InstanceStep). same_name s f.step.step) fs ≡ o
+  ends-found : (s : Name) (q : Place) → s ≡ x.0 → q ≡ x.1 → (o : Option InstanceStep)
+      → find (λ (f : InstanceStep). same_name s f.step.step) fs ≡ o
       → FitsNode (took s q) (option_and_then (λ (f : InstanceStep). at f.step.iteration q) o) → HasSources (known_by I es) (option_and_then (λ (f : InstanceStep). at f.step.iteration q) o) → EndsThere I fs es x
   ends-found s q n p None f h k = absurd h
   ends-found s q n p (Some f) g h k = by (at f.step.iteration q) refl h k
@@ -89,7 +93,8 @@ module _ (I : JobName) (fs : List InstanceStep) (es : Events) (x : Name × Place
       there : In f fs × (same_name s f.step.step ≡ true)
       there = found (λ (f : InstanceStep). same_name s f.step.step) fs f g
 
-      by : (u : Option Iteration) → at f.step.iteration q ≡ u → FitsNode (took s q) u → HasSources (known_by I es) u → EndsThere I fs es x
+      by : (u : Option Iteration) → at f.step.iteration q ≡ u → FitsNode (took s q) u → HasSources (known_by I es) u
+          → EndsThere I fs es x
       by None a h k = absurd h
       by (Some (leaf r (job b))) a h k =
           record { step = f; is_step = there.0; name = sym ((bytes_decides s f.step.step).0 there.1) ∙ n; sources = r; binding = b; node = ap (at f.step.iteration) (sym p) ∙ a; known = k }
@@ -126,7 +131,8 @@ module _ (I : JobName) (fs : List InstanceStep) (x : Name × Place) where
       either true h = refl
       either false h = h
 
-  pub ends-told : (es : Events) → AreLegal I fs es → (is_taken es x.0 x.1 || has_result es x.0 x.1) ≡ true → EndsThere I fs es x
+  pub ends-told : (es : Events) → AreLegal I fs es → (is_taken es x.0 x.1 || has_result es x.0 x.1) ≡ true
+      → EndsThere I fs es x
   ends-told [] l h = absurd (true≢false (sym h))
   ends-told (e ∷ es) l h = by (takes_at x.0 x.1 e || gives_at x.0 x.1 e) refl (λ k. ends-told es l.1 k)
     where
@@ -135,7 +141,8 @@ module _ (I : JobName) (fs : List InstanceStep) (x : Name × Place) where
       crossed false b true d h k = absurd (true≢false k)
       crossed false b false d h k = h
 
-      by : (b : Bool) → (takes_at x.0 x.1 e || gives_at x.0 x.1 e) ≡ b → ((is_taken es x.0 x.1 || has_result es x.0 x.1) ≡ true → EndsThere I fs es x) → EndsThere I fs (e ∷ es) x
+      by : (b : Bool) → (takes_at x.0 x.1 e || gives_at x.0 x.1 e) ≡ b
+          → ((is_taken es x.0 x.1 || has_result es x.0 x.1) ≡ true → EndsThere I fs es x) → EndsThere I fs (e ∷ es) x
       by true k rec = ends-still I fs e es x (ends-legal I fs es x e (one-of_job e k) l.0)
       by false k rec = ends-still I fs e es x (rec (crossed (takes_at x.0 x.1 e) (is_taken es x.0 x.1) (gives_at x.0 x.1 e) (has_result es x.0 x.1) h k))
 
@@ -170,7 +177,8 @@ module _ (gives : Giving) (flows : List (Name × Flow)) (m : Meaning) (past : Hi
       let u = known-stands (known_by I v.events) w.0.step.iteration w.3 w.4 in
       by w.0 w.1 w.2 u.0 (ap (at w.0.step.iteration) (sym w.5) ∙ u.1) (subst (FitsKind (gave x.0 x.1 [])) u.2 w.6) u.3
     where
-      by : (f : InstanceStep) → In f fs → f.step.step ≡ x.0 → (u : Iteration) → at f.step.iteration x.1 ≡ Some u → FitsKind (gave x.0 x.1 []) (kind_of u) → list_all (known_by I v.events) (note u) ≡ true → EndsHere x
+      by : (f : InstanceStep) → In f fs → f.step.step ≡ x.0 → (u : Iteration) → at f.step.iteration x.1 ≡ Some u
+          → FitsKind (gave x.0 x.1 []) (kind_of u) → list_all (known_by I v.events) (note u) ≡ true → EndsHere x
       by f i n (leaf s (job b)) a k w = record { step = f; is_step = i; name = n; sources = s; binding = b; node = a; known = w }
       by f i n (leaf s (passed c d)) a k w = absurd k
       by f i n (list s ts) a k w = absurd k
@@ -203,7 +211,8 @@ module _ (gives : Giving) (flows : List (Name × Flow)) (m : Meaning) (past : Hi
     pub is_job : j ≡ (job_at stands x.1 sources binding).job
 
   -- a step's job is one of the run
-  job-finds : (t : Stands) (q : Place) (s : List Origin) (b : Binding) → at (step_at t).step.iteration q ≡ Some (leaf s (job b)) → Finds (job_at t q s b).job (t.step.0, q)
+  job-finds : (t : Stands) (q : Place) (s : List Origin) (b : Binding)
+      → at (step_at t).step.iteration q ≡ Some (leaf s (job b)) → Finds (job_at t q s b).job (t.step.0, q)
   job-finds t q s b node =
       let is = job-is_at gives inside I v.flow v.inputs t q s b in
       let mine = job-made gives inside I v.flow v.inputs t q s b (node-listed (step_at t).step.iteration q (leaf s (job b)) node) in
@@ -216,7 +225,8 @@ module _ (gives : Giving) (flows : List (Name × Flow)) (m : Meaning) (past : Hi
         name = is.name;
       }
 
-  job-here : (t : Stands) (q : Place) (s : List Origin) (b : Binding) → at (step_at t).step.iteration q ≡ Some (leaf s (job b)) → IsHere (job_at t q s b).job (t.step.0, q)
+  job-here : (t : Stands) (q : Place) (s : List Origin) (b : Binding)
+      → at (step_at t).step.iteration q ≡ Some (leaf s (job b)) → IsHere (job_at t q s b).job (t.step.0, q)
   job-here t q s b node = record { stands = t; sources = s; binding = b; name = refl; node = node; is_job = refl }
 
   -- where a job ends there is one of the run
@@ -253,7 +263,8 @@ module _ (gives : Giving) (flows : List (Name × Flow)) (m : Meaning) (past : Hi
       subst (IsHere j) (ap₂ (λ a b. (a, b)) e.0 e.1) s.2
 
   -- the sources of what ends there are those of the job
-  pub same-sources : (x : Name × Place) → EndsHere x → (j : Job) → (is : IsHere j x) → list_all (known_by I v.events) is.sources ≡ true
+  pub same-sources : (x : Name × Place) → EndsHere x → (j : Job) → (is : IsHere j x)
+      → list_all (known_by I v.events) is.sources ≡ true
   same-sources x w j is =
       let a = step_at is.stands in
       let first = in-finds fs (steps-distinct v I (results_here gives flows m past I levels v r)) in
@@ -267,10 +278,12 @@ module _ (gives : Giving) (flows : List (Name × Flow)) (m : Meaning) (past : Hi
   pub settled-told : (j : Job) (x : Name × Place) → Finds j x → is_settled past j ≡ has_result v.events x.0 x.1
   settled-told j x w = sym (settled-same gives flows m past I levels v r j w.listed) ∙ ap (is_settled_name m past) w.name ∙ r.told.results x.0 x.1
 
-  pub begun-told : (j : Job) (x : Name × Place) → Finds j x → list_any (is_begun_entry j.name) past ≡ is_taken v.events x.0 x.1
+  pub begun-told : (j : Job) (x : Name × Place) → Finds j x
+      → list_any (is_begun_entry j.name) past ≡ is_taken v.events x.0 x.1
   begun-told j x w = ap (λ n. list_any (is_begun_entry n) past) w.name ∙ r.told.taken x.0 x.1
 
-  pub begun-known : (j : Job) (x : Name × Place) → Finds j x → (is_running past j || is_settled past j) ≡ true → In x v.jobs
+  pub begun-known : (j : Job) (x : Name × Place) → Finds j x → (is_running past j || is_settled past j) ≡ true
+      → In x v.jobs
   begun-known j x w h =
       ends-known x
       (ends-told I fs x v.events (in-all gives flows m past I levels v r (λ instance results fs. AreLegal instance fs v.events) r.frame.legal)
@@ -281,7 +294,8 @@ module _ (gives : Giving) (flows : List (Name × Flow)) (m : Meaning) (past : Hi
       begun false b h = h
 
   -- it is bounced where it binds a value that holds a fault
-  pub bounced-told : (j : Job) (x : Name × Place) → Finds j x → list_any (λ u. holds_fault u) j.inputs ≡ is_bounced j.ending
+  pub bounced-told : (j : Job) (x : Name × Place) → Finds j x
+      → list_any (λ u. holds_fault u) j.inputs ≡ is_bounced j.ending
   bounced-told j x w =
       let t = found-here j x w in
       let inputs = job-inputs gives inside I v.flow v.inputs t.stands x.1 t.sources t.binding in

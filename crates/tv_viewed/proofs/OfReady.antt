@@ -51,7 +51,8 @@ use Rattle.tv_viewed.proofs.OfSteps.{Standing, as_step, earlier-in, job-waits, s
 -- ---- the steps after which a job runs
 
 -- what is taken by rank later is among none of these
-not-among : (done ns : List Name) (n : Name) → list_all (is_among done) ns ≡ true → is_among done n ≡ false → is_among ns n ≡ false
+not-among : (done ns : List Name) (n : Name) → list_all (is_among done) ns ≡ true → is_among done n ≡ false
+    → is_among ns n ≡ false
 not-among done [] n h f = refl
 not-among done (m ∷ ns) n h f = by (same_name n m) refl (not-among done ns n (and_parts (is_among done m) (list_all (is_among done) ns) h).1 f)
   where
@@ -59,7 +60,8 @@ not-among done (m ∷ ns) n h f = by (same_name n m) refl (not-among done ns n (
     by true e k = absurd (true≢false (sym (subst (λ x. is_among done x ≡ true) (sym ((bytes_decides n m).0 e)) (and_parts (is_among done m) (list_all (is_among done) ns) h).0) ∙ f))
     by false e k = k
 
-still-among : (done : List Name) (n : Name) (ns : List Name) → list_all (is_among done) ns ≡ true → list_all (is_among (n ∷ done)) ns ≡ true
+still-among : (done : List Name) (n : Name) (ns : List Name) → list_all (is_among done) ns ≡ true
+    → list_all (is_among (n ∷ done)) ns ≡ true
 still-among done n [] h = refl
 still-among done n (m ∷ ns) h =
     let p = and_parts (is_among done m) (list_all (is_among done) ns) h in
@@ -71,17 +73,22 @@ right-all p (m ∷ ms) ns h = right-all p ms ns (and_parts (p m) (list_all p (ms
 
 module _ (known : Origin → Bool) (I : JobName) (results : Results) (given : List (Name × Delivered)) where
   -- steps that are taken later don't change whether earlier ones have ended
-  ended-earlier : (done : List Name) (fs : List InstanceStep) (ns : List Name) (ss : List (Name × Step)) → list_all (is_among done) ns ≡ true → IsOrdered done ss → have_ended known (steps_by I results given fs ss) ns ≡ have_ended known fs ns
+  ended-earlier : (done : List Name) (fs : List InstanceStep) (ns : List Name) (ss : List (Name × Step))
+      → list_all (is_among done) ns ≡ true → IsOrdered done ss
+      → have_ended known (steps_by I results given fs ss) ns ≡ have_ended known fs ns
   ended-earlier done fs ns [] h o = refl
   ended-earlier done fs ns (s ∷ ss) h o =
       ended-earlier (s.0 ∷ done) (step_by I results given fs s ∷ fs) ns ss (still-among done s.0 ns h) o.1.1
       ∙ ap (λ b. (if b then has_ended known (step_by I results given fs s) else true) && have_ended known fs ns) (not-among done ns s.0 h o.1.0)
 
-find-named : (steps : List (Name × Step)) (n : Name) (s : Step) → named n steps ≡ Some s → find (λ (t : Name × Step). same_name n t.0) steps ≡ Some (n, s)
+find-named : (steps : List (Name × Step)) (n : Name) (s : Step) → named n steps ≡ Some s
+    → find (λ (t : Name × Step). same_name n t.0) steps ≡ Some (n, s)
 find-named [] n s e = cc
 find-named (t ∷ ts) n s e = by (same_name n t.0) refl e (λ k. find-named ts n s k)
   where
-    by : (b : Bool) → same_name n t.0 ≡ b → (if b then Some t.1 else named n ts) ≡ Some s → (named n ts ≡ Some s → find (λ (u : Name × Step). same_name n u.0) ts ≡ Some (n, s)) → (if b then Some t else find (λ (u : Name × Step). same_name n u.0) ts) ≡ Some (n, s)
+    by : (b : Bool) → same_name n t.0 ≡ b → (if b then Some t.1 else named n ts) ≡ Some s
+        → (named n ts ≡ Some s → find (λ (u : Name × Step). same_name n u.0) ts ≡ Some (n, s))
+        → (if b then Some t else find (λ (u : Name × Step). same_name n u.0) ts) ≡ Some (n, s)
     by true q k rec =
         let name : t.0 ≡ n = sym ((bytes_decides n t.0).0 q) in
         let step : t.1 ≡ s = cc in
@@ -108,7 +115,8 @@ module _ (gives : Giving) (flows : List (Name × Flow)) (m : Meaning) (past : Hi
       (each-map (λ (d : Name × Delivered). AtNodes IsFree d.1.value) (λ (d : Name × Delivered). AtNodes Own d.1.value)
       (λ d h. at_nodes-weaken IsFree Own (λ o k. subst (IsOwn I) (sym k.0) tt) d.1.value h) (given_of v.flow v.inputs) (given-free v.flow v.inputs))
 
-  endings-own : (gs : List InstanceStep) → Each (NodesHave Own) gs → (ns : List Name) → Each Own (endings_of step_of gs ns)
+  endings-own : (gs : List InstanceStep) → Each (NodesHave Own) gs → (ns : List Name)
+      → Each Own (endings_of step_of gs ns)
   endings-own gs h ns =
       each-flat_map (NodesHave Own) Own (λ (f : InstanceStep). if is_among ns f.step.step then f.step.ending else [])
       (λ f w. either (Each Own) (is_among ns f.step.step) f.step.ending [] w.ending tt) gs h
@@ -117,7 +125,8 @@ module _ (gives : Giving) (flows : List (Name × Flow)) (m : Meaning) (past : Hi
   earlier-own t = in_each (NodesHave Own) t.earlier (λ f i. each_in (NodesHave Own) fs all-own f (earlier-in gives inside I v.flow v.inputs t f i))
 
   -- the steps after which it runs have ended where they have by the view
-  ended-told : (t : Stands) → have_ended (known_by I v.events) t.earlier t.step.1.after ≡ have_ended_by v.events levels (last_first (ranked v.flow.steps) []) t.step.1.after
+  ended-told : (t : Stands)
+      → have_ended (known_by I v.events) t.earlier t.step.1.after ≡ have_ended_by v.events levels (last_first (ranked v.flow.steps) []) t.step.1.after
   ended-told t =
       let known = known_by I v.events in
       sym (ended-earlier known I (results_here gives flows m past I levels v r) (given_of v.flow v.inputs) t.done t.earlier t.step.1.after (t.step ∷ t.later) (right-all (is_among t.done) _ t.step.1.after t.ordered.0) t.ordered)

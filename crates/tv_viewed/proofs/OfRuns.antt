@@ -40,7 +40,8 @@ pub record Runs (gives : Giving) (flows : List (Name × Flow)) (m : Meaning) (pa
   pub right : AreOfDepth v I (own_results gives (flow_meaning gives flows nesting) I v.flow v.inputs)
   pub gave : Extends (own_results gives (flow_meaning gives flows nesting) I v.flow v.inputs) v.events
 
-pub runs : (gives : Giving) (d : Document) (past : History) (I : JobName) (levels : Name → ℕ) (v : View) → IsInRun gives d past I levels v → Runs gives d.flows (meaning gives d) past I levels v
+pub runs : (gives : Giving) (d : Document) (past : History) (I : JobName) (levels : Name → ℕ) (v : View)
+    → IsInRun gives d past I levels v → Runs gives d.flows (meaning gives d) past I levels v
 runs gives d past I levels v r =
     let w = r.view in
     record {

@@ -69,7 +69,8 @@ module _ (gives : Giving) (flows : List (Name × Flow)) (m : Meaning) (past : Hi
   legal-step : (e : Event) → IsLegalNext I fs v.events e → (f : InstanceStep) × In f fs × (event_step e ≡ f.step.step)
   legal-step e l = by (find (λ (f : InstanceStep). same_name (event_step e) f.step.step) fs) refl l.sources
     where
-      by : (o : Option InstanceStep) → find (λ (f : InstanceStep). same_name (event_step e) f.step.step) fs ≡ o → HasSources known (option_and_then (λ (f : InstanceStep). at f.step.iteration (event_place e)) o)
+      by : (o : Option InstanceStep) → find (λ (f : InstanceStep). same_name (event_step e) f.step.step) fs ≡ o
+          → HasSources known (option_and_then (λ (f : InstanceStep). at f.step.iteration (event_place e)) o)
           → (f : InstanceStep) × In f fs × (event_step e ≡ f.step.step)
       by None k h = absurd h
       by (Some f) k h = let w = found (λ (g : InstanceStep). same_name (event_step e) g.step.step) fs f k in (f, w.0, (bytes_decides (event_step e) f.step.step).0 w.1)
@@ -77,7 +78,8 @@ module _ (gives : Giving) (flows : List (Name × Flow)) (m : Meaning) (past : Hi
   pub settling-legal : (e : Event) → CanSettle v e → is_legal_after gives m past (entry_of I e) ≡ true
   settling-legal e h = by e h.0 (in-all gives flows m past I depths v r (λ instance results fs. IsLegalNext instance fs v.events e) h.1)
     where
-      by : (e : Event) → is_settlement e ≡ true → IsLegalNext I fs v.events e → is_legal_after gives m past (entry_of I e) ≡ true
+      by : (e : Event) → is_settlement e ≡ true → IsLegalNext I fs v.events e
+          → is_legal_after gives m past (entry_of I e) ≡ true
       by (gave s q vs) k l = absurd (true≢false (sym k))
       by (events.closed s q n) k l =
           let w = legal-step (events.closed s q n) l in
@@ -90,7 +92,9 @@ module _ (gives : Giving) (flows : List (Name × Flow)) (m : Meaning) (past : Hi
       by (took s q) k l = absurd (true≢false (sym k))
 
   -- what stands there is legal as this event
-  legal-there : (f : InstanceStep) → In f fs → (e : Event) → f.step.step ≡ event_step e → (u : Iteration) → at f.step.iteration (event_place e) ≡ Some u → FitsNode e (Some u) → list_all known (note u) ≡ true → IsFresh v.events e → IsLegalNext I fs v.events e
+  legal-there : (f : InstanceStep) → In f fs → (e : Event) → f.step.step ≡ event_step e → (u : Iteration)
+      → at f.step.iteration (event_place e) ≡ Some u → FitsNode e (Some u) → list_all known (note u) ≡ true
+      → IsFresh v.events e → IsLegalNext I fs v.events e
   legal-there f i e n u a fits k fresh =
       let here : node_of fs e ≡ Some u = node-here I fs f (first-step f i) e ((bytes_decides f.step.step (event_step e)).1 n) ∙ a in
       record { fits = subst (FitsNode e) (sym here) fits; sources = subst (HasSources known) (sym here) k; fresh = fresh }
@@ -98,7 +102,8 @@ module _ (gives : Giving) (flows : List (Name × Flow)) (m : Meaning) (past : Hi
   none-legal : NothingSettles v → (e : Event) → is_settlement e ≡ true → IsLegalNext I fs v.events e → ⊥
   none-legal h e s l = in-all gives flows m past I depths v r (λ instance results fs. IsLegalNext instance fs v.events e → ⊥) (h e s) l
 
-  none-at : NothingSettles v → (f : InstanceStep) → In f fs → (q : Place) (u : Iteration) (l : Level) → at f.step.iteration q ≡ Some u → level_at f.step (q, u) ≡ Some l → can_settle m past l ≡ true → ⊥
+  none-at : NothingSettles v → (f : InstanceStep) → In f fs → (q : Place) (u : Iteration) (l : Level)
+      → at f.step.iteration q ≡ Some u → level_at f.step (q, u) ≡ Some l → can_settle m past l ≡ true → ⊥
   none-at h f i q (leaf s (job b)) l a e k = cc
   none-at h f i q (leaf s (passed c d)) l a e k =
       let w = (settles-here f i).new q (leaf s (passed c d)) l a e k in
@@ -107,7 +112,8 @@ module _ (gives : Giving) (flows : List (Name × Flow)) (m : Meaning) (past : Hi
       let w = (settles-here f i).new q (list s ts) l a e k in
       none-legal h (events.closed f.step.step q (count ts)) refl (legal-there f i (events.closed f.step.step q (count ts)) refl (list s ts) a refl w.0 w.1)
 
-  pub nothing-settles : NothingSettles v → (l : Level) → In l (levels m.steps) → l.instance ≡ I → can_settle m past l ≡ false
+  pub nothing-settles : NothingSettles v → (l : Level) → In l (levels m.steps) → l.instance ≡ I
+      → can_settle m past l ≡ false
   nothing-settles h l i e = on_test (can_settle m past l) (λ k. absurd (none k)) (λ k. k)
     where
       none : can_settle m past l ≡ true → ⊥

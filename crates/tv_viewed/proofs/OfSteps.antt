@@ -68,7 +68,8 @@ module _ (gives : Giving) (inside : Name → JobName → List (Name × Value) �
   older-made [] ms x h = h
   older-made (s ∷ ss) ms x h = older-made ss (step_made gives inside I (given_of flow vs) ms s ∷ ms) x (inr h)
 
-  older-steps : (ss : List (Name × Step)) (fs : List InstanceStep) (f : InstanceStep) → In f fs → In f (steps_from fs ss)
+  older-steps : (ss : List (Name × Step)) (fs : List InstanceStep) (f : InstanceStep) → In f fs
+      → In f (steps_from fs ss)
   older-steps [] fs f h = h
   older-steps (s ∷ ss) fs f h = older-steps ss (step_by I own_results (given_of flow vs) fs s ∷ fs) f (inr h)
 
@@ -81,7 +82,8 @@ module _ (gives : Giving) (inside : Name → JobName → List (Name × Value) �
   pub earlier-in : (t : Standing) (f : InstanceStep) → In f t.earlier → In f own_steps
   earlier-in t f h = subst (In f) t.all_steps (older-steps t.later (as_step t ∷ t.earlier) f (inr h))
 
-  before-same : (ms : List Made) (fs : List InstanceStep) → map outside_of_made ms ≡ map (outside_by_results I) fs → map step_in ms ≡ map step_of fs
+  before-same : (ms : List Made) (fs : List InstanceStep) → map outside_of_made ms ≡ map (outside_by_results I) fs
+      → map step_in ms ≡ map step_of fs
   before-same ms fs e = steps-core gives inside I (given_of flow vs) own_results ms fs e
 
   outside-same : (t : Standing) → outside_of_made (as_made t) ≡ outside_by_results I (as_step t)
@@ -100,26 +102,32 @@ module _ (gives : Giving) (inside : Name → JobName → List (Name × Value) �
     next-alike : map outside_of_made (as_made first ∷ ms) ≡ map (outside_by_results I) (as_step first ∷ fs)
     next-alike = ap₂ (λ c l. c ∷ l) (outside-same first) e
 
-  made-stand : (done : List Name) (ms : List Made) (fs : List InstanceStep) (ss : List (Name × Step)) → FromFlow ss → IsOrdered done ss → map outside_of_made ms ≡ map (outside_by_results I) fs → made_from ms ss ≡ own_made → steps_from fs ss ≡ own_steps
+  made-stand : (done : List Name) (ms : List Made) (fs : List InstanceStep) (ss : List (Name × Step)) → FromFlow ss
+      → IsOrdered done ss → map outside_of_made ms ≡ map (outside_by_results I) fs → made_from ms ss ≡ own_made
+      → steps_from fs ss ≡ own_steps
       → (x : Made) → In x (made_from ms ss) → In x ms ⊎ ((t : Standing) × (x ≡ as_made t))
   made-stand done ms fs [] w o e a b x h = inl h
   made-stand done ms fs (s ∷ ss) w o e a b x h =
       let t = first s done ms fs ss w o e a b in
       by t (made-stand (s.0 ∷ done) (as_made t ∷ ms) (as_step t ∷ fs) ss (λ y i. w y (inr i)) o.1.1 (next-alike s done ms fs ss w o e a b) a b x h)
     where
-      by : (t : Standing) → In x (as_made t ∷ ms) ⊎ ((t : Standing) × (x ≡ as_made t)) → In x ms ⊎ ((t : Standing) × (x ≡ as_made t))
+      by : (t : Standing) → In x (as_made t ∷ ms) ⊎ ((t : Standing) × (x ≡ as_made t))
+          → In x ms ⊎ ((t : Standing) × (x ≡ as_made t))
       by t (inl (inl p)) = inr (t, p)
       by t (inl (inr i)) = inl i
       by t (inr k) = inr k
 
-  steps-stand : (done : List Name) (ms : List Made) (fs : List InstanceStep) (ss : List (Name × Step)) → FromFlow ss → IsOrdered done ss → map outside_of_made ms ≡ map (outside_by_results I) fs → made_from ms ss ≡ own_made → steps_from fs ss ≡ own_steps
+  steps-stand : (done : List Name) (ms : List Made) (fs : List InstanceStep) (ss : List (Name × Step)) → FromFlow ss
+      → IsOrdered done ss → map outside_of_made ms ≡ map (outside_by_results I) fs → made_from ms ss ≡ own_made
+      → steps_from fs ss ≡ own_steps
       → (f : InstanceStep) → In f (steps_from fs ss) → In f fs ⊎ ((t : Standing) × (f ≡ as_step t))
   steps-stand done ms fs [] w o e a b f h = inl h
   steps-stand done ms fs (s ∷ ss) w o e a b f h =
       let t = first s done ms fs ss w o e a b in
       by t (steps-stand (s.0 ∷ done) (as_made t ∷ ms) (as_step t ∷ fs) ss (λ y i. w y (inr i)) o.1.1 (next-alike s done ms fs ss w o e a b) a b f h)
     where
-      by : (t : Standing) → In f (as_step t ∷ fs) ⊎ ((t : Standing) × (f ≡ as_step t)) → In f fs ⊎ ((t : Standing) × (f ≡ as_step t))
+      by : (t : Standing) → In f (as_step t ∷ fs) ⊎ ((t : Standing) × (f ≡ as_step t))
+          → In f fs ⊎ ((t : Standing) × (f ≡ as_step t))
       by t (inl (inl p)) = inr (t, p)
       by t (inl (inr i)) = inl i
       by t (inr k) = inr k
@@ -159,17 +167,20 @@ module _ (gives : Giving) (inside : Name → JobName → List (Name × Value) �
       endings-map step_in t.made t.step.1.after ∙ ap (λ l. endings_of itself l t.step.1.after) (before-same t.made t.earlier t.alike)
       ∙ sym (endings-map step_of t.earlier t.step.1.after)
 
-  made-jobs : (t : Standing) → (as_made t).jobs ≡ flat_map (node_jobs gives inside I t.step.0 t.step.1 (before t)) (nodes (as_step t).step.iteration)
+  made-jobs : (t : Standing)
+      → (as_made t).jobs ≡ flat_map (node_jobs gives inside I t.step.0 t.step.1 (before t)) (nodes (as_step t).step.iteration)
   made-jobs t =
       ap₂ (λ (os : List Origin) (u : Iteration). flat_map (node_jobs gives inside I t.step.0 t.step.1 os) (nodes u)) (before-made t)
       (ap (λ (s : StepMeaning). s.iteration) (same-step t))
 
-  pub job-made : (t : Standing) (q : Place) (r : List Origin) (b : Binding) → In (q, leaf r (job b)) (nodes (as_step t).step.iteration) → In (made_job t q r b) (as_made t).jobs
+  pub job-made : (t : Standing) (q : Place) (r : List Origin) (b : Binding)
+      → In (q, leaf r (job b)) (nodes (as_step t).step.iteration) → In (made_job t q r b) (as_made t).jobs
   job-made t q r b h =
       subst (In (made_job t q r b)) (sym (made-jobs t))
       (in-flat (node_jobs gives inside I t.step.0 t.step.1 (before t)) (q, leaf r (job b)) (made_job t q r b) (nodes (as_step t).step.iteration) h (inl refl))
 
-  pub job-placed : (t : Standing) (q : Place) (r : List Origin) (b : Binding) → In (q, leaf r (job b)) (nodes (as_step t).step.iteration) → In (placed_job t q r b) (as_step t).jobs
+  pub job-placed : (t : Standing) (q : Place) (r : List Origin) (b : Binding)
+      → In (q, leaf r (job b)) (nodes (as_step t).step.iteration) → In (placed_job t q r b) (as_step t).jobs
   job-placed t q r b h = in-flat (jobs_at_node t.step.0 t.step.1 (before t)) (q, leaf r (job b)) (placed_job t q r b) (nodes (as_step t).step.iteration) h (inl refl)
 
   -- a job of a step stands at an end of its iteration
@@ -185,7 +196,8 @@ module _ (gives : Giving) (inside : Name → JobName → List (Name × Value) �
       let w = of-flat (node_jobs gives inside I t.step.0 t.step.1 (before t)) o (nodes (as_step t).step.iteration) (subst (In o) (made-jobs t) h) in
       by w.0 w.1 w.2
     where
-      by : (x : Place × Iteration) → In x (nodes (as_step t).step.iteration) → In o (node_jobs gives inside I t.step.0 t.step.1 (before t) x) → StandsAtEnd t o
+      by : (x : Place × Iteration) → In x (nodes (as_step t).step.iteration)
+          → In o (node_jobs gives inside I t.step.0 t.step.1 (before t) x) → StandsAtEnd t o
       by (q, leaf r (job b)) i (inl e) = record { place = q; sources = r; binding = b; node = i; is_job = e }
       by (q, leaf r (job b)) i (inr e) = absurd e
       by (q, leaf r (passed m d)) i e = absurd e
@@ -193,13 +205,16 @@ module _ (gives : Giving) (inside : Name → JobName → List (Name × Value) �
 
   -- ---- what a job says
 
-  pub job-is_at : (t : Standing) (q : Place) (r : List Origin) (b : Binding) → IsAt gives inside I t.step.0 t.step.1 q (made_job t q r b)
+  pub job-is_at : (t : Standing) (q : Place) (r : List Origin) (b : Binding)
+      → IsAt gives inside I t.step.0 t.step.1 q (made_job t q r b)
   job-is_at t q r b = node_job-is gives inside I t.step.0 t.step.1 (before t) (q, leaf r (job b)) (made_job t q r b) (inl refl)
 
-  pub job-inputs : (t : Standing) (q : Place) (r : List Origin) (b : Binding) → (made_job t q r b).job.inputs ≡ bound_values t.step.1 b
+  pub job-inputs : (t : Standing) (q : Place) (r : List Origin) (b : Binding)
+      → (made_job t q r b).job.inputs ≡ bound_values t.step.1 b
   job-inputs t q r b = ap (λ (x : JobOutside). x.inputs) (job-core gives inside I t.step.0 t.step.1 (r ++ before t) q (bound_values t.step.1 b))
 
-  pub job-waits : (t : Standing) (q : Place) (r : List Origin) (b : Binding) → (made_job t q r b).job.waits ≡ r ++ before t
+  pub job-waits : (t : Standing) (q : Place) (r : List Origin) (b : Binding)
+      → (made_job t q r b).job.waits ≡ r ++ before t
   job-waits t q r b = ap (λ (x : JobOutside). x.waits) (job-core gives inside I t.step.0 t.step.1 (r ++ before t) q (bound_values t.step.1 b))
 
   fate-tried : (s : Step) (j : Job) (f : Fate) → is_bounced (with_fate gives inside I s j f).job.ending ≡ false
@@ -207,18 +222,21 @@ module _ (gives : Giving) (inside : Name → JobName → List (Name × Value) �
   fate-tried s j (wrong why) = refl
   fate-tried s j (opens g) = refl
 
-  on-bounced : (n : Name) (s : Step) (waits : List Origin) (q : Place) (ws : List Traced) → list_any (λ w. holds_fault w) ws ≡ is_bounced (job_on gives inside I n s waits q ws).job.ending
+  on-bounced : (n : Name) (s : Step) (waits : List Origin) (q : Place) (ws : List Traced)
+      → list_any (λ w. holds_fault w) ws ≡ is_bounced (job_on gives inside I n s waits q ws).job.ending
   on-bounced n s waits q ws = by (list_any (λ w. holds_fault w) ws)
     where
       bounced : Job
       bounced = bounced_job gives inside I n s waits q ws
 
-      by : (b : Bool) → b ≡ is_bounced (if b then record { job = bounced; inside = None } else tried_job gives inside I s bounced).job.ending
+      by : (b : Bool)
+          → b ≡ is_bounced (if b then record { job = bounced; inside = None } else tried_job gives inside I s bounced).job.ending
       by true = refl
       by false =
           let t = taken gives [] (tries (map plain ws) (declared_depths s) s.retries 0 s.activities) in
           sym (fate-tried s (record bounced { asks = t.asks }) t.fate)
 
   -- it is bounced where it binds a value that holds a fault
-  pub job-bounced : (t : Standing) (q : Place) (r : List Origin) (b : Binding) → list_any (λ w. holds_fault w) (bound_values t.step.1 b) ≡ is_bounced (made_job t q r b).job.ending
+  pub job-bounced : (t : Standing) (q : Place) (r : List Origin) (b : Binding)
+      → list_any (λ w. holds_fault w) (bound_values t.step.1 b) ≡ is_bounced (made_job t q r b).job.ending
   job-bounced t q r b = on-bounced t.step.0 t.step.1 (r ++ before t) q (bound_values t.step.1 b)

@@ -33,7 +33,8 @@ use Rattle.tv_instances.specs.OwnResults.{AllMadeGive}
 
 -- ---- the flows of a document
 
-pub formed-flow : (d : Document) → is_formed d ≡ true → (n : Name) (flow : Flow) → named n d.flows ≡ Some flow → is_flow flow ≡ true
+pub formed-flow : (d : Document) → is_formed d ≡ true → (n : Name) (flow : Flow) → named n d.flows ≡ Some flow
+    → is_flow flow ≡ true
 formed-flow d formed n flow e = named-each (λ f. is_flow f.1 ≡ true) n d.flows flow forms e
   where
     forms : Each (λ (f : Name × Flow). is_flow f.1 ≡ true) d.flows
@@ -54,7 +55,8 @@ accepted-sound d formed accepted f flow e = ((accepted-agrees d formed accepted)
 
 -- ---- one step after another
 
-gives-right : (levels : ℕ) (os : List (Name × ℕ)) (ds : List (Name × Delivered)) → OutputsGive levels os ds → AreRight ds
+gives-right : (levels : ℕ) (os : List (Name × ℕ)) (ds : List (Name × Delivered)) → OutputsGive levels os ds
+    → AreRight ds
 gives-right levels [] [] h = tt
 gives-right levels [] (d ∷ ds) h = absurd h
 gives-right levels (o ∷ os) [] h = absurd h
@@ -71,12 +73,16 @@ module _ (gives : Giving) (flows : List (Name × Flow)) (inside : Name → JobNa
   abbrev RightSteps : List Made → Type 0
   RightSteps ms = Each (λ (m : Made). AreRight m.step.outputs) ms
 
-  next-right : (ms : List Made) → RightSteps ms → (n : Name) (s : Step) → StepAgrees flows (depths_of given) (map forget ms) s → ActivitiesNest (NestsWithin flows k) s.activities → AreRight (next ms n s).step.outputs
+  next-right : (ms : List Made) → RightSteps ms → (n : Name) (s : Step)
+      → StepAgrees flows (depths_of given) (map forget ms) s → ActivitiesNest (NestsWithin flows k) s.activities
+      → AreRight (next ms n s).step.outputs
   next-right ms right n s agree nest =
       let w = made-is gives flows inside k inside_is I given given_right ms right n s agree nest ((n, s) ∷ []) (own-name n s) [] tt in
       gives-right _ w.step.outputs (next ms n s).step.outputs w.outputs
 
-  steps-give : (ms : List Made) → RightSteps ms → (ss : List (Name × Step)) → StepsAgree flows (depths_of given) (map forget ms) ss → Each (λ s. ActivitiesNest (NestsWithin flows k) s.1.activities) ss → AllMadeGive gives inside I given ms ss
+  steps-give : (ms : List Made) → RightSteps ms → (ss : List (Name × Step))
+      → StepsAgree flows (depths_of given) (map forget ms) ss
+      → Each (λ s. ActivitiesNest (NestsWithin flows k) s.1.activities) ss → AllMadeGive gives inside I given ms ss
   steps-give ms right [] agree nest = tt
   steps-give ms right ((n, s) ∷ ss) agree nest = (
     results gives flows inside k inside_is I given given_right ms right n s agree.0 nest.0,
@@ -84,12 +90,15 @@ module _ (gives : Giving) (flows : List (Name × Flow)) (inside : Name → JobNa
         (subst (λ x. StepsAgree flows (depths_of given) (x ∷ map forget ms) ss) (sym (forget-step gives inside I given ms (n, s))) agree.1) nest.1,
   )
 
-each-nests : (P : Name → Type 0) (ss : List (Name × Step)) → StepsNest P ss → Each (λ s. ActivitiesNest P s.1.activities) ss
+each-nests : (P : Name → Type 0) (ss : List (Name × Step)) → StepsNest P ss
+    → Each (λ s. ActivitiesNest P s.1.activities) ss
 each-nests P [] h = tt
 each-nests P (s ∷ ss) h = (h.0, each-nests P ss h.1)
 
 -- the steps of the flow nest within k levels, and this is its instance on inputs of their depths
-pub jobs-give : (gives : Giving) (d : Document) → is_formed d ≡ true → IsAccepted d → (k : ℕ) (flow : Flow) → StepsNest (NestsWithin d.flows k) flow.steps → FlowAgrees d.flows flow → (I : JobName) (vs : List (Name × Value)) → InputsHave flow.inputs vs
+pub jobs-give : (gives : Giving) (d : Document) → is_formed d ≡ true → IsAccepted d → (k : ℕ) (flow : Flow)
+    → StepsNest (NestsWithin d.flows k) flow.steps → FlowAgrees d.flows flow
+    → (I : JobName) (vs : List (Name × Value)) → InputsHave flow.inputs vs
     → AllMadeGive gives (flow_meaning gives d.flows k) I (given_of flow vs) [] (ranked flow.steps)
 jobs-give gives d formed accepted k flow nests agree I vs have =
     steps-give gives d.flows (flow_meaning gives d.flows k) k (flow-delivers gives d.flows (accepted-sound d formed accepted) k) I (given_of flow vs) (given-right vs flow.inputs have) [] tt (ranked flow.steps)
