@@ -1,0 +1,30 @@
+//! What holds of the view of every frame in a run: each law is the clause of a function that does nothing.
+ghost use Rattle.tv_viewed.specs.Stated.{BegunIsKnown, InputsAreTold, InstancesEndAsTold, JobsAreSomewhere, KnownJobsAreThere, LevelsSettleAsTold, OutputsAreMeant, PlacedJobsAreJobs, ReadyIsTold, TakenIsRunning};
+
+/// The known jobs of a view are jobs of the run, all that were begun are known, and each job of the instance stands at
+/// a step and place.
+pub fn jobs_of_the_run()
+    ensures known { KnownJobsAreThere }
+    ensures begun { BegunIsKnown }
+    ensures somewhere { JobsAreSomewhere }
+{}
+
+/// By the view it is told which of the run's jobs are ready, which were begun and which are settled.
+pub fn going_of_jobs()
+    ensures ready { ReadyIsTold }
+    ensures taken { TakenIsRunning }
+{}
+
+/// What a job binds in all instances that have what was told it binds in the run, and it is bounced where that holds a fault.
+pub fn inputs_of_jobs()
+    ensures placed { PlacedJobsAreJobs }
+    ensures inputs { InputsAreTold }
+{}
+
+/// By the view it is told whether the instance can end, which lists and faults can be settled, and of the main instance what
+/// the document means.
+pub fn instance_in_the_run()
+    ensures ends { InstancesEndAsTold }
+    ensures settles { LevelsSettleAsTold }
+    ensures outputs { OutputsAreMeant }
+{}
