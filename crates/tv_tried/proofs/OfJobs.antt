@@ -45,7 +45,9 @@ module _ (gives : Giving) (s : Step) where
     pub bounced_or : (IsBouncedJob s j × (is_bounced j.ending ≡ true)) ⊎ IsTried j
 
   module _ (inside : Name → JobName → List (Name × Value) → Meaning) (I : JobName) (n : Name) where
-    made-of : (waits : List Origin) (q : Place) (inputs : List Traced) → IsJobOf n (job_on gives inside I n s waits q inputs).job
+    made-of :
+        (waits : List Origin) (q : Place) (inputs : List Traced)
+        → IsJobOf n (job_on gives inside I n s waits q inputs).job
     made-of waits q inputs = by (list_any (λ v. holds_fault v) inputs) refl
       where
         first : Job
@@ -54,13 +56,25 @@ module _ (gives : Giving) (s : Step) where
         t : Taken
         t = taken_of first
 
-        ends : (f : Fate) → t.fate ≡ f → list_any (λ v. holds_fault v) inputs ≡ false → IsJobOf n (with_fate gives inside I s (record first { asks = t.asks }) f).job
-        ends (right vs) e h = record { step = refl; limit = refl; bounced_or = inr (record { sound = h; tried = refl; asks = refl; ends = subst (EndsBy (with_fate gives inside I s (record first { asks = t.asks }) (right vs)).job) (sym e) (refl, refl, refl) }) }
-        ends (opens f) e h = record { step = refl; limit = refl; bounced_or = inr (record { sound = h; tried = refl; asks = refl; ends = subst (EndsBy (with_fate gives inside I s (record first { asks = t.asks }) (opens f)).job) (sym e) refl }) }
-        ends (wrong why) e h = record { step = refl; limit = refl; bounced_or = inr (record { sound = h; tried = refl; asks = refl; ends = subst (EndsBy (with_fate gives inside I s (record first { asks = t.asks }) (wrong why)).job) (sym e) (refl, refl, refl) }) }
+        tried : Fate → Opened
+        tried f = with_fate gives inside I s (record first { asks = t.asks }) f
 
-        by : (b : Bool) → list_any (λ v. holds_fault v) inputs ≡ b → IsJobOf n (if b then record { job = first; inside = None } else tried_job gives inside I s first).job
-        by true h = record { step = refl; limit = refl; bounced_or = inl (record { faulty = h; asks = refl; opens = refl; result = refl }, refl) }
+        ends : (f : Fate) → t.fate ≡ f → list_any (λ v. holds_fault v) inputs ≡ false → IsJobOf n (tried f).job
+        ends (right vs) e h =
+            let by_fate = subst (EndsBy (tried (right vs)).job) (sym e) (refl, refl, refl) in
+            record { step = refl; limit = refl; bounced_or = inr (record { sound = h; tried = refl; asks = refl; ends = by_fate }) }
+        ends (opens f) e h =
+            let by_fate = subst (EndsBy (tried (opens f)).job) (sym e) refl in
+            record { step = refl; limit = refl; bounced_or = inr (record { sound = h; tried = refl; asks = refl; ends = by_fate }) }
+        ends (wrong why) e h =
+            let by_fate = subst (EndsBy (tried (wrong why)).job) (sym e) (refl, refl, refl) in
+            record { step = refl; limit = refl; bounced_or = inr (record { sound = h; tried = refl; asks = refl; ends = by_fate }) }
+
+        by :
+            (b : Bool) → list_any (λ v. holds_fault v) inputs ≡ b
+            → IsJobOf n (if b then record { job = first; inside = None } else tried_job gives inside I s first).job
+        by true h =
+            record { step = refl; limit = refl; bounced_or = inl (record { faulty = h; asks = refl; opens = refl; result = refl }, refl) }
         by false h = ends t.fate refl h
 
     pub job-of : (o : Opened) → IsMade gives inside I n s o → IsJobOf n o.job

@@ -50,7 +50,9 @@ module _ (past : History) (j : Job) where
   settled-by_tries : is_bounced j.ending ≡ false → j.opens ≡ None → is_settled past j ≡ is_none (next_ask past j)
   settled-by_tries b o = ap (λ x. SettledBy x (is_some j.opens)) b ∙ ap (λ x. SettledBy false (is_some x)) o
 
-  settled-by_flow : (f : Name) → is_bounced j.ending ≡ false → j.opens ≡ Some f → is_settled past j ≡ list_any (is_ended_entry j.name) past
+  settled-by_flow :
+      (f : Name) → is_bounced j.ending ≡ false → j.opens ≡ Some f
+      → is_settled past j ≡ list_any (is_ended_entry j.name) past
   settled-by_flow f b o = ap (λ x. SettledBy x (is_some j.opens)) b ∙ ap (λ x. SettledBy false (is_some x)) o
 
 module _ (gives : Giving) (d : Document) where
@@ -58,12 +60,15 @@ module _ (gives : Giving) (d : Document) where
   m = meaning gives d
 
   -- who has something to ask isn't settled
-  asks-unsettled : (past : History) → is_legal gives m past ≡ true → (j : Job) → In j m.jobs → (k : Ask) → next_ask past j ≡ Some k → is_settled past j ≡ false
+  asks-unsettled :
+      (past : History) → is_legal gives m past ≡ true → (j : Job) → In j m.jobs → (k : Ask)
+      → next_ask past j ≡ Some k → is_settled past j ≡ false
   asks-unsettled past l j i k h =
       on_test (is_settled past j)
       (λ s. absurd (none-some k (sym (ap first_of_list (settled-none gives AnyNumber m (document-whole gives d) past l j i s)) ∙ h))) (λ s. s)
 
-  module _ (past : History) (legal : is_legal gives m past ≡ true) (j : Job) (s : Step) (own : IsOwnStep gives d j s) (t : IsTried gives s j) where
+  module _ (past : History) (legal : is_legal gives m past ≡ true) (j : Job) (s : Step) (own : IsOwnStep gives d j s)
+      (t : IsTried gives s j) where
     abbrev left : List Ask
     left = asks_left past j.name j.asks
 
@@ -72,12 +77,15 @@ module _ (gives : Giving) (d : Document) where
 
     -- ---- as the turns that are left say
 
-    asks-as_said : (why : Text) (x : Next) → Says s j gives why end left x → (a n : ℕ) → x ≡ next.Ask a n → AsksNext past j s a n
+    asks-as_said :
+        (why : Text) (x : Next) → Says s j gives why end left x → (a n : ℕ) → x ≡ next.Ask a n
+        → AsksNext past j s a n
     asks-as_said why x h a n e =
         let r = subst (Says s j gives why end left) e h in
         record { ask = r.0; is_next = r.1; of_step = r.2; unsettled = asks-unsettled past legal j own.listed r.0 r.1 }
 
-    opens-as_said : (why : Text) (x : Next) → Says s j gives why end left x → (a : ℕ) → x ≡ next.Nest a → OpensNext past j s a
+    opens-as_said :
+        (why : Text) (x : Next) → Says s j gives why end left x → (a : ℕ) → x ≡ next.Nest a → OpensNext past j s a
     opens-as_said why x h a e =
         let r = subst (Says s j gives why end left) e h in
         record { no_ask = ap first_of_list r.0; flow = r.1; opens = subst (EndsBy gives s j) r.2 t.ends; of_step = r.3 }
@@ -125,7 +133,8 @@ module _ (gives : Giving) (d : Document) where
 
   -- ---- after an outcome
 
-  module _ (past : History) (legal : is_legal gives m past ≡ true) (j : Job) (s : Step) (own : IsOwnStep gives d j s) (k : Ask) (asks : next_ask past j ≡ Some k) (out : is_out past j.name ≡ true) where
+  module _ (past : History) (legal : is_legal gives m past ≡ true) (j : Job) (s : Step) (own : IsOwnStep gives d j s)
+      (k : Ask) (asks : next_ask past j ≡ Some k) (out : is_out past j.name ≡ true) where
     abbrev now : History
     now = accepting gives j k ∷ past
 
@@ -139,7 +148,9 @@ module _ (gives : Giving) (d : Document) where
     legal-next : is_legal_after gives m past (accepting gives j k) ≡ true
     legal-next =
         both_true (is_out past j.name) (list_any is_it m.jobs) out
-        (any-in is_it j m.jobs own.listed (both_true (same_job j.name j.name) (option_map_or is_this (next_ask past j) false) (same-itself j.name) (ap (λ o. option_map_or is_this o false) asks ∙ this)))
+        (any-in is_it j m.jobs own.listed
+        (both_true (same_job j.name j.name) (option_map_or is_this (next_ask past j) false) (same-itself j.name)
+        (ap (λ o. option_map_or is_this o false) asks ∙ this)))
       where
         is_this : Ask → Bool
         is_this a = is_ask k.activity k.attempt a && same_bool (is_right gives k) (is_right gives a)
@@ -168,17 +179,23 @@ module _ (gives : Giving) (d : Document) where
     said-after : SaysAfter s j gives end_now (asks_left now j.name j.asks) k after
     said-after = subst (λ l. SaysAfter s j gives end_now l k after) (sym left-now) (next-heads gives s j t past k asks).after
 
-    asks-after : (x : Next) → SaysAfter s j gives end_now (asks_left now j.name j.asks) k x → (a n : ℕ) → x ≡ next.Ask a n → AsksNext now j s a n
+    asks-after :
+        (x : Next) → SaysAfter s j gives end_now (asks_left now j.name j.asks) k x → (a n : ℕ) → x ≡ next.Ask a n
+        → AsksNext now j s a n
     asks-after x (was_right vs e l f o) a n q = absurd (true≠false (ap is_done_word (sym e ∙ q)))
     asks-after x (was_wrong why o h) a n q = asks-as_said now legal-now j s own t why x h a n q
 
-    opens-after : (x : Next) → SaysAfter s j gives end_now (asks_left now j.name j.asks) k x → (a : ℕ) → x ≡ next.Nest a → OpensNext now j s a
+    opens-after :
+        (x : Next) → SaysAfter s j gives end_now (asks_left now j.name j.asks) k x → (a : ℕ) → x ≡ next.Nest a
+        → OpensNext now j s a
     opens-after x (was_right vs e l f o) a q = absurd (true≠false (ap is_done_word (sym e ∙ q)))
     opens-after x (was_wrong why o h) a q = opens-as_said now legal-now j s own t why x h a q
 
     -- a flow that isn't opened yet hasn't ended
     still-unsettled : (f : Name) → j.opens ≡ Some f → is_settled now j ≡ false
-    still-unsettled f o = settled-by_flow now j f t.tried o ∙ sym (settled-by_flow past j f t.tried o) ∙ asks-unsettled past legal j own.listed k asks
+    still-unsettled f o =
+        settled-by_flow now j f t.tried o ∙ sym (settled-by_flow past j f t.tried o)
+        ∙ asks-unsettled past legal j own.listed k asks
 
     never-bounced : (x : Next) → SaysAfter s j gives end_now (asks_left now j.name j.asks) k x → x ≡ next.Bounce → ⊥
     never-bounced x (was_right vs e l f o) q = true≠false (ap is_done_word (sym e ∙ q))

@@ -26,13 +26,18 @@ use Rattle.tv_tried.proofs.OfTurns.{Goes, Heads, Stands, at-start, heads, plan-i
 -- ---- what is left after a history
 
 -- where an entry accepts no outcome of the job, as much is left as before
-left-kept : (past : History) (e : Entry) (n : JobName) (as' : List Ask) → is_accepted n e ≡ false → asks_left (e ∷ past) n as' ≡ asks_left past n as'
+left-kept :
+    (past : History) (e : Entry) (n : JobName) (as' : List Ask) → is_accepted n e ≡ false
+    → asks_left (e ∷ past) n as' ≡ asks_left past n as'
 left-kept past e n as' h = ap (λ b. if b then rest_of (asks_left past n as') else asks_left past n as') h
 
-pub others-keep : (past : History) (e : Entry) (j : Job) → is_accepted j.name e ≡ false → next_ask (e ∷ past) j ≡ next_ask past j
+pub others-keep :
+    (past : History) (e : Entry) (j : Job) → is_accepted j.name e ≡ false → next_ask (e ∷ past) j ≡ next_ask past j
 others-keep past e j h = ap first_of_list (left-kept past e j.name j.asks h)
 
-pub all-left : (past : History) (n : JobName) (as' : List Ask) → list_any (is_accepted n) past ≡ false → asks_left past n as' ≡ as'
+pub all-left :
+    (past : History) (n : JobName) (as' : List Ask) → list_any (is_accepted n) past ≡ false
+    → asks_left past n as' ≡ as'
 all-left [] n as' h = refl
 all-left (e ∷ past) n as' h =
     left-kept past e n as' (false_left (is_accepted n e) (list_any (is_accepted n) past) h)
@@ -42,7 +47,9 @@ first-in : (k : Ask) (l : List Ask) → first_of_list l ≡ Some k → In k l
 first-in k [] h = absurd (none-some k h)
 first-in k (a ∷ l) h = inl (sym (same_Some a k h))
 
-pub few : (gives : Giving) (d : Document) (past : History) (j : Job) (k : Ask) → is_formed d ≡ true → In j (meaning gives d).jobs → next_ask past j ≡ Some k → k.activity < 8
+pub few :
+    (gives : Giving) (d : Document) (past : History) (j : Job) (k : Ask) → is_formed d ≡ true
+    → In j (meaning gives d).jobs → next_ask past j ≡ Some k → k.activity < 8
 few gives d past j k f i h = activities-few gives d f j i k (left-in past j.name j.asks k (first-in k (asks_left past j.name j.asks) h))
 
 -- ---- a job that goes through its tries
@@ -55,11 +62,14 @@ module _ (gives : Giving) (s : Step) (j : Job) (t : IsTried gives s j) where
   left-stands [] = inr (subst (λ l. Goes s j gives end l) (sym t.asks) (at-start s j gives))
   left-stands (e ∷ past) = by (is_accepted j.name e) (left-stands past)
     where
-      by : (b : Bool) → Stands s j gives end (asks_left past j.name j.asks) → Stands s j gives end (if b then rest_of (asks_left past j.name j.asks) else asks_left past j.name j.asks)
+      by :
+          (b : Bool) → Stands s j gives end (asks_left past j.name j.asks)
+          → Stands s j gives end (if b then rest_of (asks_left past j.name j.asks) else asks_left past j.name j.asks)
       by true h = stands-on s j gives end (asks_left past j.name j.asks) h
       by false h = h
 
-  pub next-heads : (past : History) (k : Ask) → next_ask past j ≡ Some k → Heads s j gives end (asks_left past j.name j.asks) k
+  pub next-heads :
+      (past : History) (k : Ask) → next_ask past j ≡ Some k → Heads s j gives end (asks_left past j.name j.asks) k
   next-heads past k h = heads s j gives end (asks_left past j.name j.asks) (left-stands past) k h
 
 -- ---- a job of a meaning
