@@ -1,0 +1,6 @@
+pub mod OfMade
+pub mod OfJobs
+pub mod OfTurns
+pub mod OfTries
+pub mod OfNext
+pub mod OfParts
