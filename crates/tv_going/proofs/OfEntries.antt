@@ -1,13 +1,13 @@
 -- A view after one entry more.
-use Rattle.std.specs.Prelude.{◌≡◌, refl, ℕ, [], ◌∷◌, Bool, true, false, not, ◌&&◌, ◌||◌, Some}
+use Rattle.std.specs.Prelude.{◌≡◌, refl, ℕ, List, [], ◌∷◌, Bool, true, false, not, ◌&&◌, ◌||◌, Some}
 use Rattle.std.specs.List.{list_any}
 use Rattle.std.proofs.Common.{ap, ap₂, subst, sym, ◌∙◌}
 use Rattle.tv_lemmas.proofs.Cases.{on_test}
 use Rattle.tv_value.specs.Nested.{Place}
 use Rattle.tv_value.specs.Orders.{named, same_job}
-use Rattle.tv_value.specs.Values.{JobName, Name}
+use Rattle.tv_value.specs.Values.{JobName, Name, Value}
 use Rattle.tv_gate.specs.Outcomes.{Giving}
-use Rattle.tv_flow.specs.Flows.{Document}
+use Rattle.tv_flow.specs.Flows.{Document, Flow}
 use Rattle.tv_depths.specs.Steps.{spot}
 use Rattle.tv_instance.specs.Events as events
 use Rattle.tv_instance.specs.Events.{Event, Events, Extends, fault_set, is_taken, took}
@@ -41,7 +41,9 @@ stays-open past x [] e h = ap (λ b. not (b || list_any (is_ended_entry []) past
 stays-open past x (k ∷ n) e h =
     let opened = list_any (is_opened_entry (k ∷ n)) past in
     let ended = list_any (is_ended_entry (k ∷ n)) past in
-    both_true (is_opened_entry (k ∷ n) x || opened) (not (is_ended_entry (k ∷ n) x || ended)) (or_right (is_opened_entry (k ∷ n) x) opened (left_true opened (not ended) h)) (ap (λ b. not (b || ended)) e ∙ right_true opened (not ended) h)
+    both_true (is_opened_entry (k ∷ n) x || opened) (not (is_ended_entry (k ∷ n) x || ended))
+    (or_right (is_opened_entry (k ∷ n) x) opened (left_true opened (not ended) h))
+    (ap (λ b. not (b || ended)) e ∙ right_true opened (not ended) h)
 
 -- ---- jobs by name
 
@@ -60,21 +62,37 @@ module _ (gives : Giving) (d : Document) (past : History) (I : JobName) (v : Vie
   abbrev m : Meaning
   m = meaning gives d
 
+  -- the instance of this flow on these inputs, and that its jobs gave what these events say
+  abbrev Is : Flow → List (Name × Value) → Type 0
+  Is g vs = IsInstance gives d.flows m I r.levels g vs
+
+  abbrev Gave : Flow → List (Name × Value) → Events → Type 0
+  Gave g vs es = Extends (results_of I (made_of gives d.flows r.levels g I vs)) es
+
   -- after an entry it is of every view of the same flow on the same inputs with the events that the entry leaves
-  pub later : (x : Entry) → is_open (x ∷ past) I ≡ true → (es : Events) → IsPartOf m (x ∷ past) I es → Extends (results_of I (made_of gives d.flows r.levels v.flow I v.inputs)) es → (w : View) → w.flow ≡ v.flow → w.inputs ≡ v.inputs → w.events ≡ es → IsViewOf gives d (x ∷ past) I w
+  later :
+      (x : Entry) → is_open (x ∷ past) I ≡ true
+      → (es : Events) → IsPartOf m (x ∷ past) I es → Gave v.flow v.inputs es
+      → (w : View) → w.flow ≡ v.flow → w.inputs ≡ v.inputs → w.events ≡ es
+      → IsViewOf gives d (x ∷ past) I w
   later x now es told gave w f i e = record {
     flow_name = r.flow_name;
     is_flow = subst (λ g. named r.flow_name d.flows ≡ Some g) (sym f) r.is_flow;
     levels = r.levels;
     nests = r.nests;
-    part = subst (λ vs. IsInstance gives d.flows m I r.levels w.flow vs) (sym i) (subst (λ g. IsInstance gives d.flows m I r.levels g v.inputs) (sym f) r.part);
+    part = subst (λ vs. Is w.flow vs) (sym i) (subst (λ g. Is g v.inputs) (sym f) r.part);
     is_open = now;
     told = subst (λ l. IsPartOf m (x ∷ past) I l) (sym e) told;
-    gave = subst (λ vs. Extends (results_of I (made_of gives d.flows r.levels w.flow I vs)) w.events) (sym i) (subst (λ g. Extends (results_of I (made_of gives d.flows r.levels g I v.inputs)) w.events) (sym f) (subst (λ l. Extends (results_of I (made_of gives d.flows r.levels v.flow I v.inputs)) l) (sym e) gave));
+    gave =
+        subst (λ vs. Gave w.flow vs w.events) (sym i)
+        (subst (λ g. Gave g v.inputs w.events) (sym f) (subst (λ l. Gave v.flow v.inputs l) (sym e) gave));
   }
 
   -- an entry that is an event
-  pub is-event : (x : Entry) (e : Event) → is_open (x ∷ past) I ≡ true → IsPartOf m (x ∷ past) I (e ∷ v.events) → Extends (results_of I (made_of gives d.flows r.levels v.flow I v.inputs)) (e ∷ v.events) → IsEvent gives d past I v x e
+  pub is-event :
+      (x : Entry) (e : Event) → is_open (x ∷ past) I ≡ true
+      → IsPartOf m (x ∷ past) I (e ∷ v.events) → Gave v.flow v.inputs (e ∷ v.events)
+      → IsEvent gives d past I v x e
   is-event x e now told gave w f = later x now (e ∷ v.events) told gave w f.flow f.inputs f.events
 
   -- and one that tells nothing
@@ -103,13 +121,20 @@ module _ (gives : Giving) (d : Document) (past : History) (I : JobName) (v : Vie
 
   -- an outcome with which its job isn't settled settles none
   other-try : (j : Job) → In j m.jobs → (a t : ℕ) (b : Bool) → is_settled (accepted j.name a t b ∷ past) j ≡ false → TellsNothing m past (accepted j.name a t b) I
-  other-try j i a t b h = record { jobs = λ s q. on_test (same_job (spot I s q) j.name) (λ e. itself s q e) (λ e. others-stay_settled gives m past x (spot I s q) (record { accepted = e; bounced = refl; ended = refl })); rest = record { levels = λ s q. refl; begins = λ s q. refl } }
+  other-try j i a t b h = record {
+    jobs = λ s q. on_test (same_job (spot I s q) j.name) (λ e. itself s q e) (λ e. another s q e);
+    rest = record { levels = λ s q. refl; begins = λ s q. refl };
+  }
     where
       x : Entry
       x = accepted j.name a t b
 
       before : is_settled past j ≡ false
       before = on_test (is_settled past j) (λ g. g ∙ sym (stays_settled gives m x past j g) ∙ h) (λ g. g)
+
+      another : (s : Name) (q : Place) → same_job (spot I s q) j.name ≡ false → StaysSettled m past x (spot I s q)
+      another s q e =
+          others-stay_settled gives m past x (spot I s q) (record { accepted = e; bounced = refl; ended = refl })
 
       itself : (s : Name) (q : Place) → same_job (spot I s q) j.name ≡ true → StaysSettled m past x (spot I s q)
       itself s q e = subst (λ n. StaysSettled m past x n) (sym ((same_job_decides (spot I s q) j.name).0 e)) (by-name gives d (x ∷ past) j i ∙ h ∙ sym (by-name gives d past j i ∙ before))

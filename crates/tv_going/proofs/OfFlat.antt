@@ -51,8 +51,11 @@ module _ (gives : Giving) (m : Meaning) (own : (j : Job) → In j m.jobs → (j.
   never : (past : History) (n : JobName) → is_legal_after gives m past (opened n) ≡ false
   never past n =
       false_from_ne_true (is_legal_after gives m past (opened n))
-      (λ h. let r = found_in (λ j. is_at j n && can_open m past j) (λ j. is_offered m past j || can_open m past j) m.jobs (right_true (not (can_settle_more m past)) (option_map_or (λ j. is_at j n && can_open m past j) (find (λ j. is_offered m past j || can_open m past j) m.jobs) false) h) in
+      (λ h. let r = found_in (λ j. is_at j n && can_open m past j) Goes m.jobs (right_true (not (can_settle_more m past)) (option_map_or (λ j. is_at j n && can_open m past j) (find Goes m.jobs) false) h) in
       true≠false (sym (right_true (is_at r.0 n) (can_open m past r.0) r.3) ∙ shut past r.0 r.1))
+    where
+      Goes : Job → Bool
+      Goes j = is_offered m past j || can_open m past j
 
   main-alone : IsMainAlone gives m
   main-alone = record {
@@ -86,7 +89,10 @@ module _ (gives : Giving) (inside : Name → JobName → List (Name × Value) �
   Own o = IsOf gives inside [] Anything (λ f n us. tt) (ranked flow.steps) o
 
   own : (o : Opened) → In o (job_list ms) → Own o
-  own o h = steps-each gives inside [] Anything (λ f n us. tt) (ranked flow.steps) ms (made-all gives inside [] Anything (λ f n us. tt) (ranked flow.steps) (given_of flow vs) [] [] [] (ranked flow.steps) refl refl tt (ranked-fresh flow.steps) tt) o h
+  own o h =
+      let all = ranked flow.steps in
+      let made = made-all gives inside [] Anything (λ f n us. tt) all (given_of flow vs) [] [] [] all refl refl tt (ranked-fresh flow.steps) tt in
+      steps-each gives inside [] Anything (λ f n us. tt) all ms made o h
 
   services : Each (λ s. list_all is_service s.1.activities ≡ true) (ranked flow.steps)
   services = rank-each gives AnyNumber (λ s. list_all is_service s.1.activities ≡ true) (length flow.steps) [] flow.steps (all-each (λ s. list_all is_service s.1.activities) flow.steps flat)
@@ -118,8 +124,15 @@ module _ (gives : Giving) (inside : Name → JobName → List (Name × Value) �
       by o e f (inr k) = absurd k
 
   own-step : (s : StepMeaning) → In s (instance_meaning gives inside [] flow vs).steps → s.instance ≡ []
-  own-step s i = on_either (in-append s (map (λ (n : Made). n.step) ms) (flat_map steps_inside (job_list ms)) i) (λ k. let r = of-map (λ (n : Made). n.step) s ms k in ap (λ (t : StepMeaning). t.instance) r.2 ∙ distinct ms (all-distinct gives inside [] flow vs) r.0 r.1) (λ k. let r = of-flat steps_inside s (job_list ms) k in absurd (subst (λ p. In s (option_map_or (λ (m : Meaning). m.steps) p [])) (closed r.0 r.1).1 r.2))
+  own-step s i =
+      on_either (in-append s (map (λ (n : Made). n.step) ms) (flat_map steps_inside (job_list ms)) i)
+      (λ k. let r = of-map (λ (n : Made). n.step) s ms k in
+      ap (λ (t : StepMeaning). t.instance) r.2 ∙ distinct ms (all-distinct gives inside [] flow vs) r.0 r.1)
+      (λ k. let r = of-flat steps_inside s (job_list ms) k in absurd (none-inside r.0 r.1 r.2))
     where
+      none-inside : (o : Opened) → In o (job_list ms) → In s (steps_inside o) → ⊥
+      none-inside o h k = subst (λ p. In s (option_map_or (λ (m : Meaning). m.steps) p [])) (closed o h).1 k
+
       distinct : (ks : List Made) → AreDistinct [] ks → (x : Made) → In x ks → x.step.instance ≡ []
       distinct [] a x k = absurd k
       distinct (y ∷ ks) a x (inl p) = ap (λ (z : Made). z.step.instance) p ∙ a.0
@@ -134,4 +147,5 @@ flat-runs gives d flat = by (named d.main d.flows) refl
     by None e = main-alone gives no_meaning (λ j i. absurd i) (λ s i. absurd i)
     by (Some flow) e =
         let alone = named-each (λ f. only_services f ≡ true) d.main d.flows flow (all-each only_services d.flows flat) e in
-        main-alone gives (instance_meaning gives (flow_meaning gives d.flows 7) [] flow d.inputs) (own-job gives (flow_meaning gives d.flows 7) flow d.inputs alone) (own-step gives (flow_meaning gives d.flows 7) flow d.inputs alone)
+        let inside = flow_meaning gives d.flows 7 in
+        main-alone gives (instance_meaning gives inside [] flow d.inputs) (own-job gives inside flow d.inputs alone) (own-step gives inside flow d.inputs alone)

@@ -52,7 +52,9 @@ module _ (gives : Giving) (d : Document) (levels : ℕ) (flow : Flow) (I : JobNa
   step-found : (s : Name) (z : Made) → In z ms → z.step.step ≡ s → find (λ (y : Made). same_name s y.step.step) ms ≡ Some z
   step-found s z i e =
       let apart = distinct-apart I ms formed.distinct in
-      find-first (λ (y : Made). y.step.step) (λ (y : Made). same_name s y.step.step) ms apart z i ((bytes_decides s z.step.step).1 (sym e)) (λ y k h. inl (once-of_apart (λ (x : Made). x.step.step) ms apart y z k i (sym ((bytes_decides s y.step.step).0 h) ∙ sym e)))
+      let once = λ (y : Made) (k : In y ms) (h : same_name s y.step.step ≡ true). once-of_apart (λ (x : Made). x.step.step) ms apart y z k i (sym ((bytes_decides s y.step.step).0 h) ∙ sym e) in
+      find-first (λ (y : Made). y.step.step) (λ (y : Made). same_name s y.step.step) ms apart z i
+      ((bytes_decides s z.step.step).1 (sym e)) (λ y k h. inl (once y k h))
 
   pub result-is : (o : Opened) → In o (job_list ms) → (s : Name) (q : Place) → o.job.name ≡ spot I s q → results_of I ms s q ≡ o.job.result
   result-is o h s q e =

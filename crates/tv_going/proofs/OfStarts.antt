@@ -69,10 +69,13 @@ module _ (gives : Giving) (d : Document) (formed : is_formed d ≡ true) where
 
   none-told : IsPartOf m [] [] []
   none-told = record {
-    results = λ s q. false_from_ne_true (is_settled_name m [] (spot [] s q)) (λ h. let f = found_in (is_settled []) (λ (j : Job). same_job (spot [] s q) j.name) m.jobs h in true≠false (sym f.3 ∙ unsettled f.0 f.1));
+    results = λ s q. false_from_ne_true (is_settled_name m [] (spot [] s q)) (not-found (spot [] s q));
     levels = λ s q. refl;
     taken = λ s q. refl;
   }
+    where
+      not-found : (n : JobName) → is_settled_name m [] n ≡ true → ⊥
+      not-found n h = let f = found_in (is_settled []) (λ (j : Job). same_job n j.name) m.jobs h in true≠false (sym f.3 ∙ unsettled f.0 f.1)
 
 pub main-starts : MainStarts
 main-starts gives d flow is v f i e = record {
@@ -80,7 +83,9 @@ main-starts gives d flow is v f i e = record {
   is_flow = is.is_main ∙ ap (λ g. Some g) (sym f);
   levels = 7;
   nests = (accepted-agrees d is.formed is.accepted).nests;
-  part = subst (λ vs. IsInstance gives d.flows (meaning gives d) [] 7 v.flow vs) (sym i) (subst (λ g. IsInstance gives d.flows (meaning gives d) [] 7 g d.inputs) (sym f) (main-instance gives d.flows 7 d.main flow is.is_main [] d.inputs));
+  part =
+      subst (λ vs. IsInstance gives d.flows (meaning gives d) [] 7 v.flow vs) (sym i)
+      (subst (λ g. IsInstance gives d.flows (meaning gives d) [] 7 g d.inputs) (sym f) (main-instance gives d.flows 7 d.main flow is.is_main [] d.inputs));
   is_open = refl;
   told = subst (λ es. IsPartOf (meaning gives d) [] [] es) (sym e) (none-told gives d is.formed);
   gave = subst (λ es. Extends (results_of [] (made_of gives d.flows 7 v.flow [] v.inputs)) es) (sym e) tt;
@@ -93,11 +98,16 @@ not-both : (x y : Name) → is_lt (name_cmp x y) ≡ true → is_lt (name_cmp y 
 not-both x y h k = true≠false (sym h ∙ ap is_lt (nat_list_cmp_total.antisymm x y ∙ ap ordering_reverse (less (name_cmp y x) k)))
 
 -- there is one list of the same members
-one-order : (xs ys : List Name) → is_ascending xs ≡ true → is_ascending ys ≡ true → ((n : Name) → In n xs → In n ys) → ((n : Name) → In n ys → In n xs) → xs ≡ ys
+one-order :
+    (xs ys : List Name) → is_ascending xs ≡ true → is_ascending ys ≡ true
+    → ((n : Name) → In n xs → In n ys) → ((n : Name) → In n ys → In n xs)
+    → xs ≡ ys
 one-order [] [] a b f g = refl
 one-order [] (y ∷ ys) a b f g = absurd (g y (inl refl))
 one-order (x ∷ xs) [] a b f g = absurd (f x (inl refl))
-one-order (x ∷ xs) (y ∷ ys) a b f g = ap₂ (λ n ns. n ∷ ns) same (one-order xs ys (rises x xs a) (rises y ys b) (λ n i. later x y xs ys a same n i (f n (inr i))) (λ n i. later y x ys xs b (sym same) n i (g n (inr i))))
+one-order (x ∷ xs) (y ∷ ys) a b f g =
+    ap₂ (λ n ns. n ∷ ns) same
+    (one-order xs ys (rises x xs a) (rises y ys b) (λ n i. later x y xs ys a same n i (f n (inr i))) (λ n i. later y x ys xs b (sym same) n i (g n (inr i))))
   where
     above : (z : Name) (zs : List Name) → is_ascending (z ∷ zs) ≡ true → (n : Name) → In n zs → is_lt (name_cmp z n) ≡ true
     above z zs h n i = all_in (λ k. is_lt (name_cmp z k)) zs (left_true (list_all (λ k. is_lt (name_cmp z k)) zs) (is_ascending zs) h) n i
@@ -114,7 +124,8 @@ one-order (x ∷ xs) (y ∷ ys) a b f g = ap₂ (λ n ns. n ∷ ns) same (one-or
     same = first (f x (inl refl)) (g y (inl refl))
 
     later : (z w : Name) (zs ws : List Name) → is_ascending (z ∷ zs) ≡ true → z ≡ w → (n : Name) → In n zs → (n ≡ w) ⊎ In n ws → In n ws
-    later z w zs ws h e n i (inl p) = let l = above z zs h n i in let s = subst (λ k. is_lt (name_cmp z k) ≡ true) (p ∙ sym e) l in absurd (not-both z z s s)
+    later z w zs ws h e n i (inl p) =
+        let s = subst (λ k. is_lt (name_cmp z k) ≡ true) (p ∙ sym e) (above z zs h n i) in absurd (not-both z z s s)
     later z w zs ws h e n i (inr k) = k
 
 -- a name that is there is among the names
@@ -130,7 +141,10 @@ all-in xs ys h n i =
 -- ---- what is given
 
 -- values in the order of the inputs have the depths of these
-in-order : (given : List (Name × Value)) (xs : List (Name × ℕ)) (ys : List (Name × Value)) → map (λ y. y.0) ys ≡ map (λ x. x.0) xs → Each (IsThere given) ys → InputsHave xs given → HaveTheseDepths (map (λ x. x.1) xs) (map (λ y. y.1) ys)
+in-order :
+    (given : List (Name × Value)) (xs : List (Name × ℕ)) (ys : List (Name × Value))
+    → map (λ y. y.0) ys ≡ map (λ x. x.0) xs → Each (IsThere given) ys → InputsHave xs given
+    → HaveTheseDepths (map (λ x. x.1) xs) (map (λ y. y.1) ys)
 in-order given [] [] e t h = tt
 in-order given [] (y ∷ ys) e t h = cc
 in-order given (x ∷ xs) [] e t h = cc
@@ -143,7 +157,11 @@ is-none None h = refl
 is-none (Some x) h = cc
 
 pub inputs-are_in_order : InputsAreInOrder
-inputs-are_in_order d flow is = record { agrees = agrees.flows d.main flow is.is_main; names = names; right = in-order d.inputs flow.inputs d.inputs names (each-there d.inputs given_rise) (agrees.inputs flow is.is_main) }
+inputs-are_in_order d flow is = record {
+  agrees = agrees.flows d.main flow is.is_main;
+  names = names;
+  right = in-order d.inputs flow.inputs d.inputs names (each-there d.inputs given_rise) (agrees.inputs flow is.is_main);
+}
   where
     agrees : Agrees d
     agrees = accepted-agrees d is.formed is.accepted
@@ -166,8 +184,14 @@ inputs-are_in_order d flow is = record { agrees = agrees.flows d.main flow is.is
 
     names : map (λ x. x.0) d.inputs ≡ map (λ x. x.0) flow.inputs
     names =
-        let p = nil-parts (flat_map (missing_against d.inputs) flow.inputs ++ flat_map (unknown_against flow.inputs) d.inputs) (flat_map (depth_against flow.inputs) d.inputs) nothing_said in
-        let q = nil-parts (flat_map (missing_against d.inputs) flow.inputs) (flat_map (unknown_against flow.inputs) d.inputs) p.0 in
-        let known = each-map (λ v. unknown_against flow.inputs v ≡ []) (λ v. has_name flow.inputs v.0 ≡ true) (λ v e. silent (has_name flow.inputs v.0) (plainly input_unknown (at_given v.0)) e) d.inputs (nil-each (unknown_against flow.inputs) d.inputs q.1) in
-        let given = each-map (λ x. missing_against d.inputs x ≡ []) (λ x. has_name d.inputs x.0 ≡ true) (λ x e. silent (has_name d.inputs x.0) (plainly input_missing (at_given x.0)) e) flow.inputs (nil-each (missing_against d.inputs) flow.inputs q.0) in
+        let missing = flat_map (missing_against d.inputs) flow.inputs in
+        let unknown = flat_map (unknown_against flow.inputs) d.inputs in
+        let p = nil-parts (missing ++ unknown) (flat_map (depth_against flow.inputs) d.inputs) nothing_said in
+        let q = nil-parts missing unknown p.0 in
+        let known =
+        each-map (λ v. unknown_against flow.inputs v ≡ []) (λ v. has_name flow.inputs v.0 ≡ true)
+        (λ v e. silent (has_name flow.inputs v.0) (plainly input_unknown (at_given v.0)) e) d.inputs (nil-each (unknown_against flow.inputs) d.inputs q.1) in
+        let given =
+        each-map (λ x. missing_against d.inputs x ≡ []) (λ x. has_name d.inputs x.0 ≡ true)
+        (λ x e. silent (has_name d.inputs x.0) (plainly input_missing (at_given x.0)) e) flow.inputs (nil-each (missing_against d.inputs) flow.inputs q.0) in
         one-order (map (λ x. x.0) d.inputs) (map (λ x. x.0) flow.inputs) given_rise inputs_rise (all-in d.inputs flow.inputs known) (all-in flow.inputs d.inputs given)

@@ -39,19 +39,22 @@ AnyView P =
 abbrev pub ClosingGoesOn : Type 0
 ClosingGoesOn =
     AnyView (λ gives d past I v.
-    (s : Name) (q : Place) (n : ℕ) → IsEvent gives d past I v (closed (spot I s q) n) (events.closed s q n))
+    (s : Name) (q : Place) (n : ℕ)
+    → IsEvent gives d past I v (closed (spot I s q) n) (events.closed s q n))
 
 -- whatever the document of the fault is
 abbrev pub PassingGoesOn : Type 0
 PassingGoesOn =
     AnyView (λ gives d past I v.
-    (s : Name) (q : Place) (e : ErrorDoc) → IsEvent gives d past I v (fault_passed (spot I s q)) (fault_set s q e))
+    (s : Name) (q : Place) (e : ErrorDoc)
+    → IsEvent gives d past I v (fault_passed (spot I s q)) (fault_set s q e))
 
 -- the first try of a job, whichever it is
 abbrev pub FirstTryGoesOn : Type 0
 FirstTryGoesOn =
     AnyView (λ gives d past I v.
-    (s : Name) (q : Place) (a t : ℕ) → IsEvent gives d past I v (handed_out (spot I s q) a t) (took s q))
+    (s : Name) (q : Place) (a t : ℕ)
+    → IsEvent gives d past I v (handed_out (spot I s q) a t) (took s q))
 
 -- an entry with which a job is settled and its instance stays open: the job gave its result
 abbrev pub SettledGoesOn : Type 0
@@ -79,7 +82,8 @@ OtherTriesTellNothing =
     → IsViewOf gives d (accepted j.name a t r ∷ past) I v)
 
 abbrev pub RecallsTellNothing : Type 0
-RecallsTellNothing = AnyView (λ gives d past I v. (k : ℕ) → IsViewOf gives d (recalled k ∷ past) I v)
+RecallsTellNothing =
+    AnyView (λ gives d past I v. (k : ℕ) → IsViewOf gives d (recalled k ∷ past) I v)
 
 -- ---- with which entries a job is settled
 
@@ -107,14 +111,14 @@ pub record IsMainFlow (d : Document) (flow : Flow) : Type 0 where
   pub accepted : IsAccepted d
   pub is_main : named d.main d.flows ≡ Some flow
 
--- before any entry a view of it on the document's inputs that was told nothing is that of the main instance
+-- before any entry a view of it on the document's inputs that was told nothing is of the main instance
 abbrev pub MainStarts : Type 0
 MainStarts =
     (gives : Giving) (d : Document) (flow : Flow) → IsMainFlow d flow
     → (v : View) → v.flow ≡ flow → v.inputs ≡ d.inputs → v.events ≡ []
     → IsViewOf gives d [] [] v
 
--- its depths agree, and it is given a value for each input, in their order, each of its declared depth
+-- its depths agree, and it is given a value of its declared depth for each input, in their order
 pub record IsGivenInOrder (d : Document) (flow : Flow) : Type 0 where
   pub agrees : FlowAgrees d.flows flow
   pub names : map (λ x. x.0) d.inputs ≡ map (λ x. x.0) flow.inputs
@@ -126,4 +130,5 @@ InputsAreInOrder = (d : Document) (flow : Flow) → IsMainFlow d flow → IsGive
 -- ---- documents in which nothing is opened
 
 abbrev pub FlatRuns : Type 0
-FlatRuns = (gives : Giving) (d : Document) → opens_nothing d ≡ true → IsMainAlone gives (meaning gives d)
+FlatRuns =
+    (gives : Giving) (d : Document) → opens_nothing d ≡ true → IsMainAlone gives (meaning gives d)
