@@ -1,16 +1,17 @@
 -- A view after one entry more.
-use Rattle.std.specs.Prelude.{◌≡◌, refl, ℕ, List, [], ◌∷◌, Bool, true, false, not, ◌&&◌, ◌||◌, Some}
+use Rattle.std.specs.Prelude.{◌≡◌, refl, ℕ, List, [], ◌∷◌, Bool, true, false, not, ◌||◌}
 use Rattle.std.specs.List.{list_any}
 use Rattle.std.proofs.Common.{ap, ap₂, subst, sym, ◌∙◌}
 use Rattle.tv_lemmas.proofs.Cases.{on_test}
 use Rattle.tv_value.specs.Nested.{Place}
-use Rattle.tv_value.specs.Orders.{named, same_job}
+use Rattle.tv_value.specs.Orders.{same_job}
 use Rattle.tv_value.specs.Values.{JobName, Name, Value}
 use Rattle.tv_gate.specs.Outcomes.{Giving}
 use Rattle.tv_flow.specs.Flows.{Document, Flow}
 use Rattle.tv_depths.specs.Steps.{spot}
 use Rattle.tv_instance.specs.Events as events
 use Rattle.tv_instance.specs.Events.{Event, Events, Extends, fault_set, is_taken, took}
+use Rattle.tv_model.specs.Agreeing.{NestsWithin, StepsNest}
 use Rattle.tv_model.specs.Jobs.{Job}
 use Rattle.tv_model.specs.Made.{Meaning}
 use Rattle.tv_model.specs.Meanings.{meaning}
@@ -76,11 +77,9 @@ module _ (gives : Giving) (d : Document) (past : History) (I : JobName) (v : Vie
       → (w : View) → w.flow ≡ v.flow → w.inputs ≡ v.inputs → w.events ≡ es
       → IsViewOf gives d (x ∷ past) I w
   later x now es told gave w f i e = record {
-    flow_name = r.flow_name;
-    is_flow = subst (λ g. named r.flow_name d.flows ≡ Some g) (sym f) r.is_flow;
     levels = r.levels;
-    nests = r.nests;
     part = subst (λ vs. Is w.flow vs) (sym i) (subst (λ g. Is g v.inputs) (sym f) r.part);
+    nests = subst (λ (g : Flow). StepsNest (NestsWithin d.flows r.levels) g.steps) (sym f) r.nests;
     is_open = now;
     told = subst (λ l. IsPartOf m (x ∷ past) I l) (sym e) told;
     gave =

@@ -1,5 +1,5 @@
 -- Where no activity opens a flow, the meaning has the main instance alone.
-use Rattle.std.specs.Prelude.{◌≡◌, refl, ℕ, ◌⊎◌, [], ◌∷◌, List, ◌++◌, Bool, true, false, not, ◌&&◌, ◌||◌, Option, Some, None, filter_map, find, flat_map, if◌then◌else◌, is_none, is_some, length, map}
+use Rattle.std.specs.Prelude.{◌≡◌, refl, [], ◌∷◌, List, Bool, true, false, not, ◌&&◌, ◌||◌, Option, Some, None, filter_map, find, flat_map, if◌then◌else◌, is_none, is_some, length, map}
 use Rattle.std.specs.List.{cons_option, list_all}
 use Rattle.std.specs.Option.{option_map_or}
 use Rattle.std.proofs.Common.{ap, inl, inr, subst, sym, ◌∙◌}
@@ -9,7 +9,7 @@ use Rattle.tv_value.specs.Activities.{Activity, nested, service}
 use Rattle.tv_value.specs.Orders.{named}
 use Rattle.tv_value.specs.Values.{JobName, Name, Value}
 use Rattle.tv_gate.specs.Outcomes.{Giving}
-use Rattle.tv_flow.specs.Flows.{Document, Flow, Step}
+use Rattle.tv_flow.specs.Flows.{Flow}
 use Rattle.tv_strategy.specs.Sources.{Each}
 use Rattle.tv_depths.specs.Delivered.{StepMeaning}
 use Rattle.tv_depths.specs.Ranks.{ranked}
@@ -17,7 +17,7 @@ use Rattle.tv_model.specs.Earlier.{job_list}
 use Rattle.tv_model.specs.Instances.{given_of, steps_made}
 use Rattle.tv_model.specs.Jobs.{Job}
 use Rattle.tv_model.specs.Made.{Made, Meaning, Opened}
-use Rattle.tv_model.specs.Meanings.{flow_meaning, instance_meaning, jobs_with_inside, meaning, no_meaning, steps_inside}
+use Rattle.tv_model.specs.Meanings.{flow_meaning, instance_meaning, jobs_with_inside, no_meaning, steps_inside}
 use Rattle.tv_model.specs.Members.{In}
 use Rattle.tv_model.proofs.Instances.{all-distinct, ranked-fresh}
 use Rattle.tv_model.proofs.Members.{of-flat}
@@ -26,12 +26,12 @@ use Rattle.tv_model.proofs.Sound.{AreDistinct}
 use Rattle.tv_model.proofs.Tests.{left_true, right_true, true≠false}
 use Rattle.tv_model.proofs.Whole.{AnyNumber, rank-each}
 use Rattle.tv_history.specs.Entries.{History, opened}
-use Rattle.tv_history.specs.Histories.{can_open, can_settle_more, instances, is_at, is_legal_after, is_offered, may_go_on, next_ask}
+use Rattle.tv_history.specs.Histories.{can_open, can_settle_more, is_at, is_legal_after, is_offered, may_go_on, next_ask}
 use Rattle.tv_history.proofs.Tests.{found_in}
 use Rattle.tv_agreed.specs.Opening.{first_nested}
 use Rattle.tv_agreed.proofs.Lists.{all-each, named-each}
 use Rattle.tv_order.proofs.OfOrder.{InsideAt, IsOf, made-all, steps-each}
-use Rattle.tv_going.specs.Flat.{IsMainAlone, is_service, only_services, opens_nothing}
+use Rattle.tv_going.specs.Flat.{IsMainAlone, is_service, only_services}
 use Rattle.tv_going.specs.Stated.{FlatRuns}
 
 -- ---- a meaning of which no job opens a flow

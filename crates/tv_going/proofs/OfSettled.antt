@@ -17,25 +17,22 @@ use Rattle.tv_model.specs.Jobs.{Job}
 use Rattle.tv_model.specs.Made.{Made, Meaning, Opened}
 use Rattle.tv_model.specs.Meanings.{flow_meaning, meaning}
 use Rattle.tv_model.specs.Members.{In}
-use Rattle.tv_model.specs.Turns.{is_bounced}
 use Rattle.tv_model.proofs.Earlier.{job_list}
 use Rattle.tv_model.proofs.Fed.{each-all}
 use Rattle.tv_model.proofs.Formed.{AreFormed, distinct-apart}
 use Rattle.tv_model.proofs.Instances.{given-free, instance-formed}
 use Rattle.tv_model.proofs.Members.{Apart, each_in, of-flat, once-of_apart}
 use Rattle.tv_model.proofs.Sound.{spot-step}
-use Rattle.tv_model.proofs.Tests.{same_job_decides}
 use Rattle.tv_history.specs.Entries.{Entry, History, accepted, bounced, is_bounced_entry, is_ended_entry}
 use Rattle.tv_history.specs.Histories.{is_settled, is_settled_name, next_ask}
 use Rattle.tv_history.proofs.Tests.{same-itself}
 use Rattle.tv_outcomes.proofs.Steps.{find-own}
 use Rattle.tv_order.specs.Parts.{made_of}
 use Rattle.tv_order.proofs.OfFirst.{find-first}
-use Rattle.tv_instances.specs.InHistory.{Settles}
 use Rattle.tv_instances.specs.OwnResults.{given_by, results_of}
 use Rattle.tv_instances.proofs.OfEvents.{spot-test}
 use Rattle.tv_instances.proofs.OfHistory.{entries-are_events, others-stay_settled}
-use Rattle.tv_viewed.specs.InRun.{IsJobThere, IsViewOf}
+use Rattle.tv_viewed.specs.InRun.{IsJobThere}
 use Rattle.tv_going.specs.Stated.{AcceptingSettles, BouncingSettles, SettledGoesOn}
 use Rattle.tv_going.proofs.OfEntries.{by-name, is-event}
 

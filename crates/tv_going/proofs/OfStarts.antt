@@ -1,5 +1,5 @@
 -- The main instance before any entry, and what it is given.
-use Rattle.std.specs.Prelude.{◌≡◌, refl, ℕ, ◌⊎◌, [], ◌∷◌, List, ◌++◌, Bool, true, false, ◌&&◌, Option, Some, None, find, flat_map, if◌then◌else◌, is_none, is_some, map, unwrap_or}
+use Rattle.std.specs.Prelude.{◌≡◌, refl, ℕ, ◌⊎◌, [], ◌∷◌, List, ◌++◌, Bool, true, false, ◌&&◌, Option, Some, None, flat_map, if◌then◌else◌, is_none, is_some, map, unwrap_or}
 use Rattle.std.specs.List.{list_all}
 use Rattle.std.specs.Ordering.{is_lt, ordering_reverse}
 use Rattle.std.specs.Option.{option_map_or}
@@ -7,8 +7,9 @@ use Rattle.std.specs.Cmp.Lexicographic.{bytes_decides}
 use Rattle.std.proofs.Common.{ap, ap₂, inl, inr, subst, sym, ◌∙◌}
 use Rattle.std.proofs.lemmas.Bool.{false_from_ne_true}
 use Rattle.std.proofs.lemmas.Cmp.{nat_list_cmp_total}
+use Rattle.std.proofs.lemmas.Option.{same_Some}
 use Rattle.tv_lemmas.proofs.Cases.{on_test}
-use Rattle.tv_value.specs.Nested.{Place, list, no_trees}
+use Rattle.tv_value.specs.Nested.{list, no_trees}
 use Rattle.tv_value.specs.Orders.{name_cmp, named, same_job, same_name}
 use Rattle.tv_value.specs.Values.{HasDepth, JobName, Name, Value}
 use Rattle.tv_gate.specs.Outcomes.{Giving}
@@ -16,7 +17,7 @@ use Rattle.tv_dispatch.specs.Jobs.{Ask}
 use Rattle.tv_flow.specs.Flows.{Document, Flow}
 use Rattle.tv_flow.specs.Formed.{are_entries, is_ascending, is_between, is_depth, is_flow, is_formed, is_value, are_named}
 use Rattle.tv_flow.specs.Forms.{is_name}
-use Rattle.tv_naming.specs.Faulty.{Complaint, at_given, input_missing, input_unknown, plainly}
+use Rattle.tv_naming.specs.Faulty.{at_given, input_missing, input_unknown, plainly}
 use Rattle.tv_naming.specs.Inputs.{depth_against, given_against, given_complaints, missing_against, unknown_against}
 use Rattle.tv_naming.specs.Naming.{has_name}
 use Rattle.tv_naming.proofs.ByPosition.{less}
@@ -28,7 +29,7 @@ use Rattle.tv_check.proofs.Accepting.{first-none}
 use Rattle.tv_check.proofs.Inside.{nil-each, nil-parts, silent}
 use Rattle.tv_check.proofs.OfCycles.{IsThere, each-there}
 use Rattle.tv_instance.specs.Events.{Extends}
-use Rattle.tv_model.specs.Agreeing.{Agrees, InputsHave}
+use Rattle.tv_model.specs.Agreeing.{Agrees, InputsHave, NestsWithin, StepsNest}
 use Rattle.tv_model.specs.Jobs.{Job}
 use Rattle.tv_model.specs.Lists.{first_of_list, rest_of}
 use Rattle.tv_model.specs.Made.{Meaning}
@@ -49,7 +50,7 @@ use Rattle.tv_order.specs.Parts.{IsInstance, made_of}
 use Rattle.tv_order.proofs.OfParts.{main-instance}
 use Rattle.tv_instances.specs.InHistory.{IsPartOf}
 use Rattle.tv_instances.specs.OwnResults.{results_of}
-use Rattle.tv_going.specs.Stated.{InputsAreInOrder, IsMainFlow, MainStarts}
+use Rattle.tv_going.specs.Stated.{InputsAreInOrder, MainStarts}
 
 -- ---- before any entry
 
@@ -78,18 +79,19 @@ module _ (gives : Giving) (d : Document) (formed : is_formed d ≡ true) where
       not-found n h = let f = found_in (is_settled []) (λ (j : Job). same_job n j.name) m.jobs h in true≠false (sym f.3 ∙ unsettled f.0 f.1)
 
 pub main-starts : MainStarts
-main-starts gives d flow is v f i e = record {
-  flow_name = d.main;
-  is_flow = is.is_main ∙ ap (λ g. Some g) (sym f);
-  levels = 7;
-  nests = (accepted-agrees d is.formed is.accepted).nests;
-  part =
-      subst (λ vs. IsInstance gives d.flows (meaning gives d) [] 7 v.flow vs) (sym i)
-      (subst (λ g. IsInstance gives d.flows (meaning gives d) [] 7 g d.inputs) (sym f) (main-instance gives d.flows 7 d.main flow is.is_main [] d.inputs));
-  is_open = refl;
-  told = subst (λ es. IsPartOf (meaning gives d) [] [] es) (sym e) (none-told gives d is.formed);
-  gave = subst (λ es. Extends (results_of [] (made_of gives d.flows 7 v.flow [] v.inputs)) es) (sym e) tt;
-}
+main-starts gives d flow is v f i e =
+    let nests = (accepted-agrees d is.formed is.accepted).nests in
+    let same = same_Some nests.0 flow (sym nests.1 ∙ is.is_main) in
+    record {
+      levels = 7;
+      part =
+          subst (λ vs. IsInstance gives d.flows (meaning gives d) [] 7 v.flow vs) (sym i)
+          (subst (λ g. IsInstance gives d.flows (meaning gives d) [] 7 g d.inputs) (sym f) (main-instance gives d.flows 7 d.main flow is.is_main [] d.inputs));
+      nests = subst (λ (g : Flow). StepsNest (NestsWithin d.flows 7) g.steps) (same ∙ sym f) nests.2;
+      is_open = refl;
+      told = subst (λ es. IsPartOf (meaning gives d) [] [] es) (sym e) (none-told gives d is.formed);
+      gave = subst (λ es. Extends (results_of [] (made_of gives d.flows 7 v.flow [] v.inputs)) es) (sym e) tt;
+    }
 
 -- ---- names in byte order
 
@@ -156,11 +158,22 @@ is-none : {X : Type 0} (o : Option X) → is_none o ≡ true → o ≡ None
 is-none None h = refl
 is-none (Some x) h = cc
 
+-- of the same names and values there is one list
+same-pairs : (xs ys : List (Name × Value)) → map (λ x. x.0) xs ≡ map (λ y. y.0) ys → map (λ x. x.1) xs ≡ map (λ y. y.1) ys → xs ≡ ys
+same-pairs [] [] e f = refl
+same-pairs [] (y ∷ ys) e f = cc
+same-pairs (x ∷ xs) [] e f = cc
+same-pairs (x ∷ xs) (y ∷ ys) e f =
+    let n : x.0 ≡ y.0 = cc in
+    let v : x.1 ≡ y.1 = cc in
+    ap₂ (λ z zs. z ∷ zs) (λ i. (n i, v i)) (same-pairs xs ys (ap rest_of e) (ap rest_of f))
+
 pub inputs-are_in_order : InputsAreInOrder
 inputs-are_in_order d flow is = record {
   agrees = agrees.flows d.main flow is.is_main;
   names = names;
   right = in-order d.inputs flow.inputs d.inputs names (each-there d.inputs given_rise) (agrees.inputs flow is.is_main);
+  only = λ given e f. same-pairs given d.inputs (e ∙ sym names) f;
 }
   where
     agrees : Agrees d

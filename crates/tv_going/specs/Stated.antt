@@ -1,8 +1,8 @@
 -- Laws of how the view of a frame goes on with an entry of the history, and of where it starts.
-use Rattle.std.specs.Prelude.{◌≡◌, ℕ, Bool, Some, [], ◌∷◌, false, map, true}
+use Rattle.std.specs.Prelude.{◌≡◌, ℕ, Bool, List, Some, [], ◌∷◌, false, map, true}
 use Rattle.tv_value.specs.Nested.{Place}
 use Rattle.tv_value.specs.Orders.{named}
-use Rattle.tv_value.specs.Values.{ErrorDoc, JobName, Name}
+use Rattle.tv_value.specs.Values.{ErrorDoc, JobName, Name, Value}
 use Rattle.tv_gate.specs.Outcomes.{Giving}
 use Rattle.tv_flow.specs.Flows.{Document, Flow}
 use Rattle.tv_flow.specs.Formed.{is_formed}
@@ -111,7 +111,7 @@ pub record IsMainFlow (d : Document) (flow : Flow) : Type 0 where
   pub accepted : IsAccepted d
   pub is_main : named d.main d.flows ≡ Some flow
 
--- before any entry a view of it on the document's inputs that was told nothing is of the main instance
+-- before any entry a view of it on the document's inputs, told nothing, is of the main instance
 abbrev pub MainStarts : Type 0
 MainStarts =
     (gives : Giving) (d : Document) (flow : Flow) → IsMainFlow d flow
@@ -123,6 +123,10 @@ pub record IsGivenInOrder (d : Document) (flow : Flow) : Type 0 where
   pub agrees : FlowAgrees d.flows flow
   pub names : map (λ x. x.0) d.inputs ≡ map (λ x. x.0) flow.inputs
   pub right : HaveTheseDepths (map (λ x. x.1) flow.inputs) (map (λ x. x.1) d.inputs)
+  -- no other list has the inputs' names and these values
+  pub only :
+      (given : List (Name × Value)) → map (λ x. x.0) given ≡ map (λ x. x.0) flow.inputs
+      → map (λ x. x.1) given ≡ map (λ x. x.1) d.inputs → given ≡ d.inputs
 
 abbrev pub InputsAreInOrder : Type 0
 InputsAreInOrder = (d : Document) (flow : Flow) → IsMainFlow d flow → IsGivenInOrder d flow
