@@ -1,5 +1,6 @@
 //! What holds of every view of every run: each law is the clause of a function that does nothing.
 ghost use Rattle.tv_going.specs.Stated.{AcceptingSettles, BouncingSettles, ClosingGoesOn, FirstTryGoesOn, FlatRuns, InputsAreInOrder, MainStarts, NextTryGoesOn, OtherTriesTellNothing, PassingGoesOn, RecallsTellNothing, SettledGoesOn};
+ghost use Rattle.tv_going.specs.Worked.{TellsWhatOpens};
 
 /// Lists that are closed, faults that are passed and jobs that are taken are events of the view.
 pub fn entries_are_events()
@@ -28,7 +29,8 @@ pub fn main_starts()
     ensures inputs { InputsAreInOrder }
 {}
 
-/// Where no activity opens a flow, the main instance is the only one.
+/// Where no activity opens a flow, the main instance is the only one; and which worked documents are so.
 pub fn flat_runs()
-    ensures { FlatRuns }
+    ensures runs { FlatRuns }
+    ensures rows { TellsWhatOpens }
 {}

@@ -4,7 +4,7 @@
 //! the view (`tv_viewed`), which tells it nothing, and that a frame of the main flow that was told nothing yet is the main
 //! instance before any entry. Where no activity of a document opens a flow (`specs/Flat.antt`), there is no other instance.
 //!
-//! All laws are stated in `specs/Stated.antt`.
+//! All laws are stated in `specs/Stated.antt`, worked documents in `specs/Worked.antt`.
 //!
 //! - `laws`: the laws, each the clause of a function that does nothing
 #![tactic(auto)]
