@@ -1,0 +1,4 @@
+pub mod OfEntries
+pub mod OfSettled
+pub mod OfStarts
+pub mod OfFlat

@@ -1,0 +1,5 @@
+use Rattle.tv_going.proofs.OfEntries.{next_try-goes_on, other_tries-tell_nothing, recalls-tell_nothing}
+use Rattle.tv_going.proofs.laws.entries_tell_nothing.Goals as goal
+
+pub returns : goal.returns
+returns c = record { next_try = next_try-goes_on; other_tries = other_tries-tell_nothing; recalls = recalls-tell_nothing }

@@ -1,0 +1,5 @@
+use Rattle.tv_going.proofs.OfSettled.{accepting-settles, bouncing-settles, settled-goes_on}
+use Rattle.tv_going.proofs.laws.settled_jobs_gave.Goals as goal
+
+pub returns : goal.returns
+returns c = record { settled = settled-goes_on; accepting = accepting-settles; bouncing = bouncing-settles }

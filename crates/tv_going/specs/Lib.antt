@@ -1,0 +1,4 @@
+pub mod Follows
+pub mod Flat
+pub mod Stated
+pub mod Worked
