@@ -30,7 +30,7 @@ class Compared:
         self.lines = lines
         flow = case["document"]["flows"]["m"]
         self.names = sorted(flow["steps"])
-        self.jobs = []
+        self.jobs, self.bound = [], []
         self.events = self.comparisons = self.refusals = 0
         values = case.get("given") or [case["document"]["inputs"][name] for name in sorted(flow["inputs"])]
         inputs = dict(zip(sorted(flow["inputs"]), map(given, values)))
@@ -67,7 +67,7 @@ class Compared:
                 self.end(line)
             elif "board" in line:
                 self.board(line["board"])
-            elif "case" not in line and "looked" not in line:
+            elif not {"case", "checked", "looked"} & line.keys():
                 self.events += 1
                 self.event(line)
                 known = (len(self.jobs), line.get("brings", 0))
@@ -109,12 +109,14 @@ class Compared:
     def all_told(self, line):
         """All that the frame tells, against the model."""
         told = self.told
-        jobs = [(self.names[step], tuple(place)) for step, place, _, _ in line["known"]]
+        jobs = [(self.names[job[0]], tuple(job[1])) for job in line["known"]]
+        # What a job binds stands in the line only where it is another than was told before.
+        self.bound = [job[3] if len(job) == 4 else self.bound[number] for number, job in enumerate(line["known"])]
         same("jobs known before", jobs[: len(self.jobs)], self.jobs)
         self.jobs = jobs
         same("known jobs", sorted(jobs), sorted(told.known()))
         numbers = {job: number for number, job in enumerate(jobs)}
-        for job, (_, _, holds_error, inputs) in zip(jobs, line["known"]):
+        for job, inputs, (_, _, holds_error, *_) in zip(jobs, self.bound, line["known"]):
             same(f"whether {job} holds an error", holds_error, told.holds_error(job))
             same(f"what {job} binds", inputs, told.binds(job))
         ready = told.ready()
