@@ -31,7 +31,7 @@ class Compared:
         flow = case["document"]["flows"]["m"]
         self.names = sorted(flow["steps"])
         self.jobs, self.bound = [], []
-        self.events = self.comparisons = self.refusals = 0
+        self.events = self.closed = self.passed = self.comparisons = 0
         values = case.get("given") or [case["document"]["inputs"][name] for name in sorted(flow["inputs"])]
         inputs = dict(zip(sorted(flow["inputs"]), map(given, values)))
         self.told = Told(Instance(flow, inputs, self.results()))
@@ -59,10 +59,6 @@ class Compared:
             elif "settles" in line:
                 self.comparisons += 1
                 same("whether something settles", line["settles"], bool(self.told.settleable()))
-            elif "refused" in line:
-                self.refusals += 1
-                if line["refused"] == "start":
-                    same("items after a refused start", line["live"], 0)
             elif "finished" in line:
                 self.end(line)
             elif "board" in line:
@@ -85,7 +81,9 @@ class Compared:
                 self.bounced(job, line["values"])
             told.happened.add(("job", *job))
         else:
-            where = (self.names[line["closed" if "closed" in line else "passed"]], tuple(line["place"]))
+            kind = "closed" if "closed" in line else "passed"
+            setattr(self, kind, getattr(self, kind) + 1)
+            where = (self.names[line[kind]], tuple(line["place"]))
             same("it can be settled", where in told.settleable(), True)
             same(f"the length at {where}", line.get("length"), told.settleable()[where])
             told.happened.add(("level", *where))

@@ -123,7 +123,7 @@ class Maker:
             depth = self.random.choice([0, 1, 1, 2, 2])
             self.flow["inputs"][name] = depth
             self.sources.append(({"input": name}, depth))
-        for _ in range(self.random.choice([0, 1, 2, 3, 3, 4, 5])):
+        for _ in range(self.random.choice([0, 1, 2, 3, 4, 5, 6, 7])):
             self.step()
         for name in self.random.sample(["out", "r", "Z"], self.random.randint(1, 3)):
             self.flow["outputs"][name] = self.feed()[0]

@@ -218,6 +218,17 @@ def out_of_order():
     return case({"x": ["A", "B", "C", "D"]}, steps, {"out": out("r")}, script)
 
 
+def deeper_than_places():
+    """A step without outputs may iterate deeper than any value is: its places take memory of their own."""
+
+    def nested(levels, *items):
+        return [nested(levels - 1, *items)] if levels > 1 else list(items)
+
+    deep = {"a": (0, {"constant": nested(16, "a", "b")}), "b": (0, {"constant": nested(16, "c")}), "c": (0, X)}
+    steps = {"mute": step("upper", deep, {}), "next": step("lower", {"a": (0, Y)}, after=["mute"])}
+    return case({"x": nested(5, "d", "e"), "y": "T"}, steps, {"out": out("next")}, [["settle"], ["settle"]])
+
+
 def left_early():
     """An instance that is left before its end releases what it holds."""
     steps = {"p": step("upper", {"a": (0, X)}), "q": step("count", {"a": (1, out("p"))})}
@@ -239,6 +250,7 @@ FEATURES = [
     depths,
     control,
     out_of_order,
+    deeper_than_places,
     left_early,
 ]
 
