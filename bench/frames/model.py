@@ -235,10 +235,15 @@ class Told:
         self.instance = instance
         self.happened = {None}
         self.taken = set()
+        self.seen, self.jobs = 0, set()
 
     def known(self):
-        """The known jobs: all nodes that they bind are known."""
-        return {(name, place) for name, step in self.instance.steps.items() for place, job in step.jobs.items() if job[2] <= self.happened}
+        """The known jobs: all nodes that they bind are known. They are looked for anew once something has happened."""
+        if self.seen < len(self.happened):
+            steps = self.instance.steps.items()
+            self.jobs = {(name, place) for name, step in steps for place, job in step.jobs.items() if job[2] <= self.happened}
+            self.seen = len(self.happened)
+        return self.jobs
 
     def settleable(self):
         """The lists and faults that have no entry, and of which all sources are known, each with a list's length."""
