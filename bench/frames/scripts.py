@@ -181,6 +181,18 @@ def dot_of_faults():
     return case({}, steps, {"out": out("dot"), "cross": out("cross")}, script)
 
 
+def two_faults():
+    """A dot in which both children have a fault: the first child's stands, and tells who made it."""
+    steps = {
+        "p": step("range", {"a": (0, X), "b": (0, {"constant": "2"})}, {"o": 1}),
+        "q": step("split", {"a": (0, X), "b": (0, {"constant": ""})}, {"o": 1}),
+        "dot": step("concat", {"a": (0, out("p")), "b": (0, out("q"))}, strategy={"dot": ["b", "a"]}),
+        "other": step("concat", {"a": (0, out("p")), "b": (0, out("q"))}, strategy={"dot": ["a", "b"]}),
+    }
+    script = [*both("p", 1), *both("q", 1), ["settle"], *both("q", 0), ["settle"], *both("p", 0)]
+    return case({"x": ["no", "1", "nor"]}, steps, {"out": out("dot"), "other": out("other")}, script)
+
+
 def depths():
     """Ports and outputs of declared depths above 0, that are walked, wrapped and taken as they are."""
     steps = {
@@ -247,6 +259,7 @@ FEATURES = [
     without_steps,
     trees,
     dot_of_faults,
+    two_faults,
     depths,
     control,
     out_of_order,
@@ -305,6 +318,13 @@ def add_dot(flow):
     flow.pass_on(flow.add("d", "concat", {"a": (0, other), "b": (0, flow.feed)}, strategy={"dot": ["b", "a"]}), flow.depth)
 
 
+def add_two_faults(flow):
+    """Both children of a dot have a fault at the same places, of other jobs."""
+    ranges = flow.add("r", "range", {"a": (0, flow.feed), "b": (0, {"constant": "2"})}, {"o": 1})
+    taken = flow.add("t", "take", {"a": (1, {"constant": ["k", "l"]}), "b": (0, flow.feed)}, {"o": 1})
+    flow.pass_on(flow.add("d", "concat", {"a": (0, ranges), "b": (0, taken)}, strategy={"dot": ["b", "a"]}), flow.depth + 1)
+
+
 def add_depths(flow):
     parts = flow.add("s", "split", {"a": (0, flow.feed), "b": (0, {"constant": ","})}, {"o": 1})
     flow.pass_on(flow.add("j", "reverse", {"a": (1, parts)}, {"o": 1}), flow.depth + 1)
@@ -329,6 +349,7 @@ PARTS = [
     add_mute,
     add_constant,
     add_dot,
+    add_two_faults,
     add_depths,
     add_control,
     add_portless,
