@@ -1,0 +1,36 @@
+/* The calls by which a program of `rt try` takes memory: they refuse the one of which FRAMES_REFUSED has the number, from 1. */
+struct taken {
+    unsigned long given;
+    void *at;
+};
+
+char *getenv(const char *name);
+unsigned long strtoul(const char *text, char **end, int base);
+struct taken rattle_alloc(unsigned long size, unsigned long align);
+struct taken rattle_realloc(void *at, unsigned long before, unsigned long size, unsigned long align);
+
+static unsigned long calls;
+static unsigned long refused;
+
+static int is_refused(void)
+{
+    const char *number;
+    if (calls == 0) {
+        number = getenv("FRAMES_REFUSED");
+        refused = number ? strtoul(number, 0, 10) : 0;
+    }
+    calls += 1;
+    return calls == refused;
+}
+
+struct taken try_rattle_alloc(unsigned long size, unsigned long align)
+{
+    struct taken none = {0, 0};
+    return is_refused() ? none : rattle_alloc(size, align);
+}
+
+struct taken try_rattle_realloc(void *at, unsigned long before, unsigned long size, unsigned long align)
+{
+    struct taken none = {0, 0};
+    return is_refused() ? none : rattle_realloc(at, before, size, align);
+}
