@@ -24,11 +24,14 @@ IsOneOf j (k ∷ ks) = (j ≡ k) ⊎ IsOneOf j ks
 abbrev pub IsIdleJob : List Seat → ℕ → ℕ × List ℕ → Type 0
 IsIdleJob seats k j = (s : Seat) × IsIdleSeat seats k j.0 s × (s.place ≡ j.1)
 
+-- the idle jobs of step k, in order of place
+pub record AreIdleJobs (seats : List Seat) (k : ℕ) (js : List (ℕ × List ℕ)) : Type 0 where
+  pub in_order : rises js ≡ true
+  pub idle : (j : ℕ × List ℕ) → IsOneOf j js → IsIdleJob seats k j
+  pub all : (j : ℕ × List ℕ) → IsIdleJob seats k j → IsOneOf j js
+
 pub record StepIsKept (seats : List Seat) (k : ℕ) (x : StepSeats) : Type 0 where
-  -- the idle jobs
-  pub in_order : rises x.idle.jobs ≡ true
-  pub idle : (j : ℕ × List ℕ) → IsOneOf j x.idle.jobs → IsIdleJob seats k j
-  pub all : (j : ℕ × List ℕ) → IsIdleJob seats k j → IsOneOf j x.idle.jobs
+  pub listed : AreIdleJobs seats k x.idle.jobs
   pub running : x.running ≡ count_at runs k seats
   pub out : x.out ≡ count_at is_out k seats
 

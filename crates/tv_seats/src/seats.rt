@@ -141,10 +141,8 @@ impl Seats {
     {
         let at = number as usize;
         let step = self.table.step(at) as usize;
-        match self.table.stage(at) {
-            Stage::Waiting => self.steps[step].begin(),
-            _ => self.steps[step].begin_again(),
-        }
+        let waited = self.table.is_waiting(at);
+        self.steps[step].hand_out(waited);
         self.table.set_stage(at, Stage::Out { activity, attempt });
         self.out += 1;
     }
@@ -188,12 +186,11 @@ impl Seats {
         ensures back_rooms { self.new.back_rooms ≡ self.old.back_rooms }
     {
         let at = number as usize;
-        if let Stage::Out { .. } = self.table.stage(at) {
-            let step = self.table.step(at) as usize;
-            self.steps[step].end();
-            self.out -= 1;
-        }
+        let step = self.table.step(at) as usize;
+        let was_out = self.table.is_out(at);
+        self.steps[step].settle(was_out);
         self.table.set_stage(at, Stage::Settled);
+        self.out -= u64::from(was_out);
     }
 
     /// Takes the room to put all jobs back that are out. Where it is refused, it may have been taken for some steps. Linear in the

@@ -1,5 +1,5 @@
 //! The seats of one step, counted.
-ghost use Rattle.std.specs.Prelude.{◌≡◌, ◌+◌, ◌-◌, ◌<◌, ◌^◌, [], drop, length, OnErr, OnOk};
+ghost use Rattle.std.specs.Prelude.{◌≡◌, ◌+◌, ◌-◌, ◌<◌, ◌≤◌, ◌^◌, if◌then◌else◌, [], drop, length, OnErr, OnOk};
 ghost use Rattle.tv_ready.specs.Listed.{with_job};
 
 use std::alloc::Global;
@@ -42,29 +42,22 @@ impl StepSeats {
         self.idle.reserve(count)
     }
 
-    /// One that waited is out.
-    pub(crate) fn begin(&mut self)
-        requires running { self.old.running + 1 < 2 ^ 32 }
+    /// One more is out: one that waited, or the first idle one. Takes no memory.
+    pub(crate) fn hand_out(&mut self, waited: bool)
+        requires running { self.old.running + (if waited then 1 else 0) < 2 ^ 32 }
         requires out { self.old.out + 1 < 2 ^ 32 }
-        ensures idle { self.new.idle ≡ self.old.idle }
-        ensures running { self.new.running ≡ self.old.running + 1 }
-        ensures out { self.new.out ≡ self.old.out + 1 }
-    {
-        self.running += 1;
-        self.out += 1;
-    }
-
-    /// The first idle one is out.
-    pub(crate) fn begin_again(&mut self)
-        requires out { self.old.out + 1 < 2 ^ 32 }
-        ensures jobs { self.new.idle.jobs ≡ drop 1 self.old.idle.jobs }
+        ensures jobs { self.new.idle.jobs ≡ (if waited then self.old.idle.jobs else drop 1 self.old.idle.jobs) }
         ensures levels { self.new.idle.levels ≡ self.old.idle.levels }
         ensures room { self.new.idle.room ≡ self.old.idle.room }
-        ensures running { self.new.running ≡ self.old.running }
+        ensures running { self.new.running ≡ self.old.running + (if waited then 1 else 0) }
         ensures out { self.new.out ≡ self.old.out + 1 }
     {
-        let _first = self.idle.take_first();
         self.out += 1;
+        if waited {
+            self.running += 1;
+        } else {
+            let _first = self.idle.take_first();
+        }
     }
 
     /// One that was out is idle. Takes no memory.
@@ -82,15 +75,15 @@ impl StepSeats {
         self.out -= 1;
     }
 
-    /// One that was out is done.
-    pub(crate) fn end(&mut self)
-        requires running { 0 < self.old.running }
-        requires out { 0 < self.old.out }
+    /// One that was out or waited is done.
+    pub(crate) fn settle(&mut self, was_out: bool)
+        requires running { (if was_out then 1 else 0) ≤ self.old.running }
+        requires out { (if was_out then 1 else 0) ≤ self.old.out }
         ensures idle { self.new.idle ≡ self.old.idle }
-        ensures running { self.new.running ≡ self.old.running - 1 }
-        ensures out { self.new.out ≡ self.old.out - 1 }
+        ensures running { self.new.running + (if was_out then 1 else 0) ≡ self.old.running }
+        ensures out { self.new.out + (if was_out then 1 else 0) ≡ self.old.out }
     {
-        self.running -= 1;
-        self.out -= 1;
+        self.running -= u32::from(was_out);
+        self.out -= u32::from(was_out);
     }
 }
