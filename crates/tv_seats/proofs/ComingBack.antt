@@ -1,5 +1,6 @@
 -- A job that is out is idle or done, and one that waits is done.
 use Rattle.std.specs.Prelude.{◌≡◌, ℕ, ◌+◌, ◌-◌, ◌<◌, ◌≤◌, ◌||◌, if◌then◌else◌, Bool, true, false, List, Some, slice_get, refl}
+use mir.Val.{bool_byte}
 use Rattle.std.specs.Option.{option_map_or}
 use Rattle.std.proofs.Common.{arith, ap, subst, sym, ◌∙◌}
 use Rattle.tv_ready.specs.Listed.{with_job, Listed}
@@ -40,6 +41,10 @@ ends seats n was_out w may =
     let e = ends-only f.0.stage f.2 in
     let out : is_out f.0.stage ≡ was_out = sym (w ∙ ap (λ e. option_map_or (λ (s : Seat). is_out s.stage) e false) f.1) in
     (f.0, record { there = f.1; out = out; idle = e.0; running = e.1 ∙ out })
+
+pub byte-one : (w : Bool) → bool_byte w ≡ one w
+byte-one true = refl
+byte-one false = refl
 
 pub one-if : (w : Bool) → one w ≡ (if w then 1 else 0)
 one-if true = refl
