@@ -40,28 +40,26 @@ goes seats n waited w may =
       | inl h ↦
           let f = stands-there is_waiting seats n h in
           let o = waits-only f.0.stage f.2 in
-          let is : waited ≡ true = w ∙ h in
-          (
-          f.0,
-          record {
-            there = f.1;
-            not_out = o.0;
-            idle = o.1 ∙ ap not (sym is);
-            first = λ no. let bad : true ≡ false = sym is ∙ no in cc;
-          }
+          let is : waited ≡ true = w ∙ h in (
+            f.0,
+            record {
+              there = f.1;
+              not_out = o.0;
+              idle = o.1 ∙ ap not (sym is);
+              first = λ no. let bad : true ≡ false = sym is ∙ no in cc;
+            },
           )
       | inr h ↦
           let f = h.1 in
           let o = idles-only f.seat.stage f.is.idle in
-          let is : waited ≡ false = w ∙ ap (λ e. option_map_or (λ (s : Seat). is_waiting s.stage) e false) f.is.there ∙ o.1 in
-          (
-          f.seat,
-          record {
-            there = f.is.there;
-            not_out = o.0;
-            idle = f.is.idle ∙ ap not (sym is);
-            first = λ no. subst (λ k. IsFirstIdle seats k n) (sym f.is.of_step) f;
-          }
+          let is : waited ≡ false = w ∙ ap (λ e. option_map_or (λ (s : Seat). is_waiting s.stage) e false) f.is.there ∙ o.1 in (
+            f.seat,
+            record {
+              there = f.is.there;
+              not_out = o.0;
+              idle = f.is.idle ∙ ap not (sym is);
+              first = λ no. subst (λ k. IsFirstIdle seats k n) (sym f.is.of_step) f;
+            },
           )
     ]
 

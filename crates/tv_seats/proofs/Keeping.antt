@@ -93,10 +93,9 @@ module _ (seats : List Seat) (n : ℕ) (s : Seat) (x : Stage) (there : slice_get
   still-of-steps : (levels : List ℕ) → AreOfSteps levels seats → AreOfSteps levels after
   still-of-steps levels a m t e =
       let b = seat-before m t e in
-      let c = a m b.0 b.1 in
-      (
-      subst (λ k. k < length levels) (sym b.2) c.0,
-      ap length b.3 ∙ c.1 ∙ ap (levels_of levels) (sym b.2)
+      let c = a m b.0 b.1 in (
+        subst (λ k. k < length levels) (sym b.2) c.0,
+        ap length b.3 ∙ c.1 ∙ ap (levels_of levels) (sym b.2),
       )
 
   count-after : (p : Stage → Bool) (k : ℕ) → count_at p k after + one ((s.step == k) && p s.stage) ≡ count_at p k seats + one ((s.step == k) && p x)

@@ -26,7 +26,7 @@ module _ (indices place : List ℕ) where
       let inside : r.start ≤ length indices = omega (arith, le) in
       let rest : r.levels ≤ length (drop r.start indices) = let e = length-drop r.start indices in omega (arith, e, le) in
       let same : take r.levels (drop r.start (indices ++ place)) ≡ take r.levels (drop r.start indices) =
-          ap (take r.levels) (drop-append-le r.start indices place inside) ∙ take-append-le r.levels (drop r.start indices) place rest
+      ap (take r.levels) (drop-append-le r.start indices place inside) ∙ take-append-le r.levels (drop r.start indices) place rest
       in
       ap (λ q. record { step = r.step; place = q; stage = r.stage }) same
 
@@ -51,9 +51,9 @@ module _ (indices place : List ℕ) where
     pub pushed-shown : shown (indices ++ place) (rows ++ r ∷ []) ≡ shown indices rows ++ record { step = r.step; place = place; stage = r.stage } ∷ []
     pushed-shown =
         let at : take r.levels (drop r.start (indices ++ place)) ≡ place =
-            ap (λ k. take r.levels (drop k (indices ++ place))) starts
-            ∙ ap (take r.levels) (drop-append_seam indices place)
-            ∙ take_all r.levels place (omega (arith, long))
+        ap (λ k. take r.levels (drop k (indices ++ place))) starts
+        ∙ ap (take r.levels) (drop-append_seam indices place)
+        ∙ take_all r.levels place (omega (arith, long))
         in
         map-append (seat_of (indices ++ place)) rows (r ∷ [])
         ∙ ap (λ ss. ss ++ seat_of (indices ++ place) r ∷ []) (still-shown rows h)

@@ -174,7 +174,7 @@ module _ (seats : List Seat) (k : ℕ) where
             let here = a.idle j (inl refl) in
             let before : lt j (n, f.seat.place) ≡ true = all-one (lt j) (n, f.seat.place) js (both (list_all (lt j) js) (rises js) a.in_order).0 there in
             let not_before : lt j (n, f.seat.place) ≡ false =
-                ap (λ q. is_lt (slice_cmp nat_cmp q f.seat.place)) (sym here.2) ∙ f.first j.0 here.0 here.1
+            ap (λ q. is_lt (slice_cmp nat_cmp q f.seat.place)) (sym here.2) ∙ f.first j.0 here.0 here.1
             in
             let bad : true ≡ false = sym before ∙ not_before in
             cc
@@ -239,16 +239,15 @@ module _ (seats : List Seat) (n : ℕ) (s : Seat) (x : Stage) (there : slice_get
     in_order = put-rises (n, s.place) js free a.in_order;
     idle = λ j o.
         elim (put-one j (n, s.place) js o) [
-          | inl e ↦
-              (
-              staged x s,
-              record {
-                there = ap (slice_get after) (ap (λ (j : Job). j.0) e) ∙ staged-here seats n s x there;
-                of_step = of_step;
-                idle = becomes;
-              },
-              sym (ap (λ (j : Job). j.1) e)
-              )
+          | inl e ↦ (
+            staged x s,
+            record {
+              there = ap (slice_get after) (ap (λ (j : Job). j.0) e) ∙ staged-here seats n s x there;
+              of_step = of_step;
+              idle = becomes;
+            },
+            sym (ap (λ (j : Job). j.1) e),
+          )
           | inr in_js ↦ still j (a.idle j in_js)
         ];
     all = λ j i.

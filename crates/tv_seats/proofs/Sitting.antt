@@ -86,11 +86,10 @@ module _ (seats : List Seat) (k : ℕ) (q : List ℕ) where
   of-steps-still levels step long a n s e =
       elim (get-last seats (new_seat k q) n s e) [
         | inl h ↦ a n s h
-        | inr h ↦
-            (
-            subst (λ l. l < length levels) (sym (ap (λ (s : Seat). s.step) h.1)) step,
-            ap (λ (s : Seat). length s.place) h.1 ∙ long ∙ ap (λ (s : Seat). levels_of levels s.step) (sym h.1)
-            )
+        | inr h ↦ (
+          subst (λ l. l < length levels) (sym (ap (λ (s : Seat). s.step) h.1)) step,
+          ap (λ (s : Seat). length s.place) h.1 ∙ long ∙ ap (λ (s : Seat). levels_of levels s.step) (sym h.1),
+        )
       ]
 
 -- the seat of table u that t hasn't

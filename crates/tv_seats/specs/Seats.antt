@@ -1,5 +1,5 @@
 -- The known jobs of one instance as a contract sees them: each has a seat, which tells where it stands.
-use Rattle.std.specs.Prelude.{◌≡◌, ◌==◌, ◌&&◌, Bool, false, ℕ, List, Option, Some, count_by, option_map, slice_get, slice_index_or, slice_set}
+use Rattle.std.specs.Prelude.{◌≡◌, ◌==◌, ◌&&◌, ◌<◌, ◌≤◌, Bool, false, ℕ, List, Option, Some, count_by, length, option_map, slice_get, slice_index_or, slice_set}
 use Rattle.std.specs.Option.{option_map_or}
 use Rattle.tv_seats.specs.declared.stage.Stage.{Stage}
 use Rattle.tv_seats.specs.declared.stage.Stage.TheVariants as stage
@@ -55,6 +55,10 @@ levels_of levels k = slice_index_or levels k 0
 abbrev pub back_room : List ℕ → ℕ → ℕ
 back_room rooms k = slice_index_or rooms k 0
 
+-- there is room to put all back that are out
+abbrev pub HasBackRooms : Seated → Type 0
+HasBackRooms s = (k : ℕ) → k < length s.levels → count_at is_out k s.seats ≤ back_room s.back_rooms k
+
 -- ---- what the calls change
 
 -- the seat of a job that hasn't begun
@@ -71,3 +75,6 @@ with_stage n x seats = option_map_or (λ s. slice_set seats n (staged x s)) (sli
 -- what is out is idle again
 abbrev pub back : Seat → Seat
 back s = staged (called_back s.stage) s
+
+abbrev pub with_back : ℕ → List Seat → List Seat
+with_back n seats = option_map_or (λ s. slice_set seats n (back s)) (slice_get seats n) seats

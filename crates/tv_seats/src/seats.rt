@@ -1,8 +1,8 @@
 //! The seats of an instance's known jobs.
-ghost use Rattle.std.specs.Prelude.{◌≡◌, ◌^◌, ◌+◌, ◌-◌, ◌<◌, ◌≤◌, ◌++◌, ◌∷◌, [], ℕ, true, length, map, slice_set, IfOk, OnErr, OnOk};
+ghost use Rattle.std.specs.Prelude.{◌≡◌, ◌^◌, ◌+◌, ◌-◌, ◌<◌, ◌++◌, ◌∷◌, [], true, length, map, slice_set, IfOk, OnErr, OnOk};
 ghost use Rattle.tv_seats.specs.declared.stage.Stage.TheVariants.{Idle as AnIdle, Out as AnOut, Settled as ASettled};
 ghost use Rattle.tv_seats.specs.Firsts.{IsFirstOf, MayGoOut};
-ghost use Rattle.tv_seats.specs.Seats.{IsFree, back, back_room, count_at, levels_of, new_seat, out_count, running_count, stage_at, stands, step_at, with_stage};
+ghost use Rattle.tv_seats.specs.Seats.{HasBackRooms, IsFree, back, back_room, count_at, levels_of, new_seat, out_count, running_count, stage_at, stands, step_at, with_back, with_stage};
 ghost use Rattle.tv_seats.specs.Stages.{is_out, may_settle};
 
 use crate::stage::Stage;
@@ -156,7 +156,19 @@ impl Seats {
         ensures levels { self.new.levels ≡ self.old.levels }
         ensures room { self.new.room ≡ self.old.room }
     {
-        self.steps[step as usize].reserve(1)
+        self.reserve_for(step as usize, 1)
+    }
+
+    /// Takes the room to put so many jobs of a step back.
+    fn reserve_for(&mut self, step: usize, count: usize) -> Result<(), NoMemory>
+        requires { step < length self.old.levels }
+        ensures ok { OnOk result (self.new.back_rooms ≡ slice_set self.old.back_rooms step count) }
+        ensures refused { OnErr result (self.new.back_rooms ≡ self.old.back_rooms) }
+        ensures seats { self.new.seats ≡ self.old.seats }
+        ensures levels { self.new.levels ≡ self.old.levels }
+        ensures room { self.new.room ≡ self.old.room }
+    {
+        self.steps[step].reserve(count)
     }
 
     /// A job that is out is idle from now on, with this try as its next. Takes no memory. Constant where its place is behind those
@@ -196,40 +208,53 @@ impl Seats {
     /// Takes the room to put all jobs back that are out. Where it is refused, it may have been taken for some steps. Linear in the
     /// steps.
     pub fn reserve_all_back(&mut self) -> Result<(), NoMemory>
-        ensures ok { OnOk result ((k : ℕ) → k < length self.old.levels → back_room self.new.back_rooms k ≡ count_at is_out k self.old.seats) }
+        ensures ok { OnOk result (HasBackRooms self.new) }
         ensures seats { self.new.seats ≡ self.old.seats }
         ensures levels { self.new.levels ≡ self.old.levels }
         ensures room { self.new.room ≡ self.old.room }
     {
         for step in 0..self.steps.len() {
-            let out = self.steps[step].out as usize;
-            self.steps[step].reserve(out)?;
+            self.reserve_for(step, self.out_of(step))?;
         }
         Ok(())
+    }
+
+    /// How many jobs of a step are out.
+    fn out_of(&self, step: usize) -> usize
+        requires { step < length self.now.levels }
+        ensures { result ≡ count_at is_out step self.now.seats }
+    {
+        self.steps[step].out as usize
     }
 
     /// Each job that is out is idle from now on, with the same try as its next. Answers how many were out. Takes no memory. Linear in
     /// the seats, and for each that was out as `put_back`.
     pub fn put_all_back(&mut self) -> u64
-        requires { (k : ℕ) → k < length self.old.levels → count_at is_out k self.old.seats ≤ back_room self.old.back_rooms k }
+        requires { HasBackRooms self.old }
         ensures count { result ≡ out_count self.old.seats }
         ensures seats { self.new.seats ≡ map back self.old.seats }
         ensures levels { self.new.levels ≡ self.old.levels }
         ensures room { self.new.room ≡ self.old.room }
     {
         let count = self.out;
-        for number in 0..self.table.len() as u64 {
+        for number in 0..self.len() {
             self.call_back(number);
         }
         count
     }
 
-    /// The same for one job.
+    /// A job is idle from now on, if it is out.
     fn call_back(&mut self, number: u64)
         requires number { number < length self.old.seats }
+        requires rooms { HasBackRooms self.old }
+        ensures seats { self.new.seats ≡ with_back number self.old.seats }
+        ensures levels { self.new.levels ≡ self.old.levels }
+        ensures room { self.new.room ≡ self.old.room }
+        ensures rooms { HasBackRooms self.new }
     {
-        if let Some(Stage::Out { activity, attempt }) = self.stage(number) {
-            self.put_back(number, activity, attempt);
+        match self.stage(number) {
+            Some(Stage::Out { activity, attempt }) => self.put_back(number, activity, attempt),
+            _ => (),
         }
     }
 }
