@@ -33,11 +33,6 @@ step-there seats n s e = ap (λ o. option_map_or (λ s. s.step) o 0) e
 
 -- ---- the steps
 
-set-same : (xs : List StepSeats) (k : ℕ) (y : StepSeats) → slice_get xs k ≡ Some y → slice_set xs k y ≡ xs
-set-same [] k y e = refl
-set-same (x ∷ xs) zero y e = ap (λ z. z ∷ xs) (sym (some-same e))
-set-same (x ∷ xs) (suc k) y e = ap (λ l. x ∷ l) (set-same xs k y e)
-
 -- what is the same of the new one is the same of all
 pub set-kept : (f : StepSeats → ℕ) (xs : List StepSeats) (k : ℕ) (y z : StepSeats) → slice_get xs k ≡ Some y → f z ≡ f y → map f (slice_set xs k z) ≡ map f xs
 set-kept f [] k y z e h = refl
@@ -98,7 +93,7 @@ module _ (seats : List Seat) (n : ℕ) (s : Seat) (x : Stage) (there : slice_get
         ap length b.3 ∙ c.1 ∙ ap (levels_of levels) (sym b.2),
       )
 
-  count-after : (p : Stage → Bool) (k : ℕ) → count_at p k after + one ((s.step == k) && p s.stage) ≡ count_at p k seats + one ((s.step == k) && p x)
+  pub count-after : (p : Stage → Bool) (k : ℕ) → count_at p k after + one ((s.step == k) && p s.stage) ≡ count_at p k seats + one ((s.step == k) && p x)
   count-after p k = staged-count seats n s x there (λ (t : Seat). (t.step == k) && p t.stage)
 
   pub count-here : (p : Stage → Bool) → count_at p s.step after + one (p s.stage) ≡ count_at p s.step seats + one (p x)
@@ -236,3 +231,42 @@ module _ (t : Rows) (steps : List StepSeats) (out : ℕ) (kept : AreKept t steps
       let a = staged-count t.seats n s stage.Settled there (λ (t : Seat). is_out t.stage) in
       let b = kept.outs in
       omega (arith, a, b)
+
+-- ---- the room of a step
+
+pub reserved-kept : (t : Rows) (steps : List StepSeats) (out k : ℕ) (y z : StepSeats) → slice_get steps k ≡ Some y
+    → z.idle.jobs ≡ y.idle.jobs
+    → z.idle.levels ≡ y.idle.levels
+    → z.running ≡ y.running
+    → z.out ≡ y.out
+    → AreKept t steps out
+    → AreKept t (slice_set steps k z) out
+reserved-kept t steps out k y z step jobs levels running outs kept = record {
+  each = λ l w e. by l w (l == k) refl e;
+  of_steps = subst (λ ls. AreOfSteps ls t.seats) (sym same) kept.of_steps;
+  apart = kept.apart;
+  wide = λ l. subst (λ ls. levels_of ls l ≤ t.widest) (sym same) (kept.wide l);
+  outs = kept.outs;
+  numbers = kept.numbers;
+}
+  where
+    same : all_levels (slice_set steps k z) ≡ all_levels steps
+    same = set-levels steps k y z step levels
+
+    new : StepIsKept t.seats k z
+    new =
+        let old = kept.each k y step in
+        record {
+          listed = subst (AreIdleJobs t.seats k) (sym jobs) old.listed;
+          running = running ∙ old.running;
+          out = outs ∙ old.out;
+        }
+
+    by : (l : ℕ) (w : StepSeats) (b : Bool) → (l == k) ≡ b → slice_get (slice_set steps k z) l ≡ Some w → StepIsKept t.seats l w
+    by l w true e h =
+        let is : l ≡ k = eqb-true l k e in
+        let at : w ≡ z = sym (some-same (sym (set-here steps k y z step) ∙ (ap (slice_get (slice_set steps k z)) (sym is) ∙ h))) in
+        subst (λ m. StepIsKept t.seats m w) (sym is) (subst (StepIsKept t.seats k) (sym at) new)
+    by l w false e h =
+        let ne : l ≢ k = λ is. let f : false ≡ true = sym e ∙ eq-eqb l k is in cc in
+        kept.each l w (sym (set-other steps k l z ne) ∙ h)

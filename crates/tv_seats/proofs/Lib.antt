@@ -5,3 +5,5 @@ pub mod Keeping
 pub mod HandingOut
 pub mod ComingBack
 pub mod Sitting
+pub mod Looking
+pub mod CallingBack

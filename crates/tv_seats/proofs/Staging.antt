@@ -26,6 +26,11 @@ module _ {A : Type 0} where
   pub some-same : {x y : A} → Some x ≡ Some y → x ≡ y
   some-same e = cc
 
+  pub set-same : (xs : List A) (n : ℕ) (x : A) → slice_get xs n ≡ Some x → slice_set xs n x ≡ xs
+  set-same [] n x e = refl
+  set-same (z ∷ xs) zero x e = ap (λ y. y ∷ xs) (sym (some-same e))
+  set-same (z ∷ xs) (suc n) x e = ap (λ l. z ∷ l) (set-same xs n x e)
+
 abbrev pub one : Bool → ℕ
 one b = cond b 1 0
 

@@ -151,6 +151,7 @@ impl Seats {
     pub fn reserve_back(&mut self, step: u32) -> Result<(), NoMemory>
         requires { step < length self.old.levels }
         ensures ok { OnOk result (self.new.back_rooms ≡ slice_set self.old.back_rooms step 1) }
+        ensures taken { OnOk result (back_room self.new.back_rooms step ≡ 1) }
         ensures refused { OnErr result (self.new.back_rooms ≡ self.old.back_rooms) }
         ensures seats { self.new.seats ≡ self.old.seats }
         ensures levels { self.new.levels ≡ self.old.levels }
@@ -163,6 +164,7 @@ impl Seats {
     fn reserve_for(&mut self, step: usize, count: usize) -> Result<(), NoMemory>
         requires { step < length self.old.levels }
         ensures ok { OnOk result (self.new.back_rooms ≡ slice_set self.old.back_rooms step count) }
+        ensures taken { OnOk result (back_room self.new.back_rooms step ≡ count) }
         ensures refused { OnErr result (self.new.back_rooms ≡ self.old.back_rooms) }
         ensures seats { self.new.seats ≡ self.old.seats }
         ensures levels { self.new.levels ≡ self.old.levels }
@@ -252,8 +254,8 @@ impl Seats {
         ensures room { self.new.room ≡ self.old.room }
         ensures rooms { HasBackRooms self.new }
     {
-        match self.stage(number) {
-            Some(Stage::Out { activity, attempt }) => self.put_back(number, activity, attempt),
+        match self.table.stage(number as usize) {
+            Stage::Out { activity, attempt } => self.put_back(number, activity, attempt),
             _ => (),
         }
     }
