@@ -7,3 +7,4 @@ pub mod ComingBack
 pub mod Sitting
 pub mod Looking
 pub mod CallingBack
+pub mod Starting

@@ -1,5 +1,5 @@
 //! The seats of an instance's known jobs.
-ghost use Rattle.std.specs.Prelude.{◌≡◌, ◌^◌, ◌+◌, ◌-◌, ◌<◌, ◌++◌, ◌∷◌, [], true, length, map, slice_set, IfOk, OnErr, OnOk};
+ghost use Rattle.std.specs.Prelude.{◌≡◌, ◌^◌, ◌+◌, ◌-◌, ◌<◌, ◌≤◌, ◌++◌, ◌∷◌, [], true, length, map, slice_set, IfOk, OnErr, OnOk};
 ghost use Rattle.tv_seats.specs.declared.stage.Stage.TheVariants.{Idle as AnIdle, Out as AnOut, Settled as ASettled};
 ghost use Rattle.tv_seats.specs.Firsts.{IsFirstOf, MayGoOut};
 ghost use Rattle.tv_seats.specs.Seats.{HasBackRooms, IsFree, back, back_room, count_at, levels_of, new_seat, out_count, running_count, stage_at, stands, step_at, with_back, with_stage};
@@ -48,7 +48,7 @@ impl Seats {
         let mut widest = 0;
         for count in levels {
             steps.push(StepSeats::new(alloc, *count as usize))?;
-            widest = widest.max(*count as usize);
+            widest = wider(widest, *count as usize);
         }
         Ok(Seats {
             table: Table::new(alloc, widest),
@@ -259,4 +259,12 @@ impl Seats {
             _ => (),
         }
     }
+}
+
+/// The greater of two.
+fn wider(first: usize, second: usize) -> usize
+    ensures first { first ≤ result }
+    ensures second { second ≤ result }
+{
+    if first < second { second } else { first }
 }
