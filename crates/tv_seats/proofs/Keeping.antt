@@ -232,7 +232,19 @@ module _ (t : Rows) (steps : List StepSeats) (out : ℕ) (kept : AreKept t steps
       let b = kept.outs in
       omega (arith, a, b)
 
--- ---- the room of a step
+-- ---- rooms
+
+-- the same seats with another room
+pub roomy-kept : (t u : Rows) (steps : List StepSeats) (out : ℕ) → u.seats ≡ t.seats → u.widest ≡ t.widest → length u.seats + u.room < 2 ^ 32
+    → AreKept t steps out → AreKept u steps out
+roomy-kept t u steps out seats widest numbers kept = record {
+  each = λ k x e. subst (λ ss. StepIsKept ss k x) (sym seats) (kept.each k x e);
+  of_steps = subst (AreOfSteps (all_levels steps)) (sym seats) kept.of_steps;
+  apart = subst AreApart (sym seats) kept.apart;
+  wide = λ k. subst (λ w. levels_of (all_levels steps) k ≤ w) (sym widest) (kept.wide k);
+  outs = kept.outs ∙ ap out_count (sym seats);
+  numbers = numbers;
+}
 
 pub reserved-kept : (t : Rows) (steps : List StepSeats) (out k : ℕ) (y z : StepSeats) → slice_get steps k ≡ Some y
     → z.idle.jobs ≡ y.idle.jobs

@@ -67,7 +67,7 @@ impl Table {
         ensures seats { self.new.seats ≡ self.old.seats }
         ensures widest { self.new.widest ≡ self.old.widest }
         ensures ok { OnOk result (self.new.room ≡ count) }
-        ensures numbers { OnOk result (length self.new.seats + self.new.room < 2 ^ 32) }
+        ensures numbers { length self.new.seats + self.new.room < 2 ^ 32 }
         ensures refused { OnErr result (self.new.room ≡ self.old.room) }
     {
         let Some(all) = self.rows.len().checked_add(count) else {

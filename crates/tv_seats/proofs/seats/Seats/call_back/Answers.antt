@@ -1,6 +1,5 @@
 use Rattle.std.proofs.Common.{◌≡◌, ◌<◌, Some, ap, subst, sym, ◌∙◌, refl, slice_set, ◌-◌}
 use Rattle.tv_seats.specs.declared.stage.Stage.TheVariants as stage
-use Rattle.tv_seats.specs.Kept.{all_levels, all_rooms}
 use Rattle.tv_seats.specs.Seats.{HasBackRooms, Seated, back_room, step_at, with_back, with_stage}
 use Rattle.tv_seats.proofs.CallingBack.{has-room, rooms-left, stays}
 use Rattle.tv_seats.proofs.seats.Seats.call_back.Goals as goal

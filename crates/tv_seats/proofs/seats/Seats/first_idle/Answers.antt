@@ -1,4 +1,4 @@
-use Rattle.std.proofs.Common.{None, Some, ◌<◌, ap, subst, sym, ◌∙◌, length}
+use Rattle.std.proofs.Common.{None, Some, ◌<◌, subst, sym, ◌∙◌, length}
 use Rattle.tv_seats.specs.Firsts.{IsFirstOf}
 use Rattle.tv_seats.specs.Seats.{Seated}
 use Rattle.tv_seats.proofs.Looking.{first-of, kept-of}

@@ -1,6 +1,5 @@
-use Rattle.std.proofs.Common.{◌≡◌, ◌<◌, ◌+◌, Some, arith, ap, subst, sym, ◌∙◌, cond, length, not, refl, slice_get, slice_index_or, slice_set}
+use Rattle.std.proofs.Common.{◌+◌, arith, ap, subst, sym, ◌∙◌, slice_index_or, slice_set}
 use Rattle.std.proofs.lemmas.Option.{slice_get_within}
-use Rattle.tv_seats.specs.declared.steps.StepSeats.{StepSeats}
 use Rattle.tv_seats.specs.Firsts.{MayGoOut}
 use Rattle.tv_seats.specs.Kept.{all_levels, all_rooms}
 use Rattle.tv_seats.specs.Seats.{Seated}

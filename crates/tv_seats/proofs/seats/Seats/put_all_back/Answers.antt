@@ -1,5 +1,5 @@
-use Rattle.std.proofs.Common.{◌≡◌, ◌<◌, ◌≤◌, ap, arith, subst, sym, ◌∙◌, length}
-use Rattle.tv_seats.specs.Seats.{Seat, with_back}
+use Rattle.std.proofs.Common.{◌≡◌, ap, arith, ◌∙◌, length}
+use Rattle.tv_seats.specs.Seats.{with_back}
 use Rattle.tv_seats.proofs.CallingBack.{backed, backed-all, backed-long, backed-more}
 use Rattle.tv_seats.proofs.seats.Seats.put_all_back.Goals as goal
 

@@ -1,4 +1,4 @@
-use Rattle.std.proofs.Common.{◌≡◌, ◌<◌, Some, ap, arith, subst, sym, ◌∙◌, length, slice_set}
+use Rattle.std.proofs.Common.{◌<◌, ap, arith, subst, sym, ◌∙◌, length, slice_set}
 use Rattle.std.proofs.lemmas.List.{get_or-set_same}
 use Rattle.std.proofs.lemmas.Result.{on_err_weaker, on_ok_weaker}
 use Rattle.tv_seats.specs.Kept.{all_rooms}

@@ -1,4 +1,4 @@
-use Rattle.std.proofs.Common.{◌≡◌, ◌<◌, ◌≤◌, ◌+◌, ◌-◌, Some, true, arith, ap, subst, sym, ◌∙◌, length, slice_get, slice_index_or, slice_set}
+use Rattle.std.proofs.Common.{◌≤◌, ◌-◌, arith, ap, subst, sym, ◌∙◌, slice_index_or, slice_set}
 use Rattle.std.proofs.lemmas.Option.{slice_get_within}
 use Rattle.tv_ready.specs.Listed.{Listed}
 use Rattle.tv_seats.specs.declared.stage.Stage.TheVariants as stage

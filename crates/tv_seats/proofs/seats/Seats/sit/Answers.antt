@@ -1,8 +1,6 @@
-use Rattle.std.proofs.Common.{◌≡◌, ◌<◌, ◌≤◌, ap, arith, length, subst, sym, ◌∙◌}
-use Rattle.tv_seats.specs.Kept.{all_levels}
-use Rattle.tv_seats.specs.Seats.{IsFree, Seated, levels_of, new_seat}
+use Rattle.std.proofs.Common.{◌≡◌, ◌<◌, length, subst, sym}
+use Rattle.tv_seats.specs.Seats.{IsFree, Seated, levels_of}
 use Rattle.tv_seats.proofs.Sitting.{kept-sat}
-use Rattle.tv_seats.proofs.ComingBack.{ends}
 use Rattle.tv_seats.proofs.seats.Seats.sit.Goals as goal
 
 pub invariant_of-self : goal.invariant_of-self

@@ -1,4 +1,4 @@
-use Rattle.std.proofs.Common.{◌≡◌, ◌<◌, ◌≤◌, ◌++◌, ◌∷◌, [], ap, arith, length, subst, sym, take, ◌∙◌, slice_index_or}
+use Rattle.std.proofs.Common.{◌<◌, ◌++◌, ◌∷◌, [], ap, arith, length, subst, sym, take, ◌∙◌}
 use Rattle.std.proofs.lemmas.List.{take_more}
 use Rattle.tv_seats.specs.Kept.{all_levels}
 use Rattle.tv_seats.proofs.Starting.{AreFresh, AreWithin, fresh-more, kept-at-start, levels-more, within-more}

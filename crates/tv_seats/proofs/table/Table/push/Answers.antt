@@ -1,4 +1,4 @@
-use Rattle.std.proofs.Common.{◌≡◌, ◌+◌, ◌-◌, ◌*◌, ◌<◌, ◌≤◌, ◌++◌, ◌∷◌, [], ap, sym, subst, ◌∙◌, length, arith, vec_capacity, refl}
+use Rattle.std.proofs.Common.{◌≡◌, ◌<◌, ◌≤◌, ◌++◌, ◌∷◌, [], ap, sym, subst, ◌∙◌, length, arith, refl}
 use Rattle.std.specs.List.{list_all}
 use Rattle.std.proofs.lemmas.List.{length-append}
 use Rattle.tv_seats.specs.declared.stage.Stage.TheVariants as stage
@@ -7,7 +7,6 @@ use Rattle.tv_seats.specs.Laid.{shown}
 use Rattle.tv_seats.specs.Seats.{new_seat}
 use Rattle.tv_seats.specs.Tables.{Rows}
 use Rattle.tv_seats.proofs.Laying.{lies, pushed-lies, pushed-shown, split-room}
-use Rattle.tv_seats.proofs.Keeping.{kept-changed}
 use Rattle.tv_seats.proofs.table.Table.push.Goals as goal
 
 pub invariant_of-self : goal.invariant_of-self

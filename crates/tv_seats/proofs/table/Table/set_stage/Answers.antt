@@ -1,11 +1,10 @@
-use Rattle.std.proofs.Common.{◌≡◌, ◌+◌, ◌<◌, ◌≤◌, Some, refl, ap, arith, length, length-set, nat_le, subst, sym, true, vec_capacity, slice_get, ◌∙◌}
-use Rattle.std.specs.List.{list_all}
+use Rattle.std.proofs.Common.{◌≡◌, ◌+◌, ◌<◌, Some, refl, ap, arith, length, length-set, subst, sym, slice_get, ◌∙◌}
 use Rattle.std.proofs.lemmas.Bool.{le-leb}
 use Rattle.std.proofs.lemmas.Option.{slice_get_read}
 use Rattle.tv_seats.specs.declared.table.Row.{Row}
 use Rattle.tv_seats.specs.Seats.{with_stage}
 use Rattle.tv_seats.specs.Tables.{Rows}
-use Rattle.tv_seats.proofs.Laying.{lies, lies-at, set-lies, shown-at, shown-long, shown-set}
+use Rattle.tv_seats.proofs.Laying.{lies-at, set-lies, shown-at, shown-long, shown-set}
 use Rattle.tv_seats.proofs.Staging.{as-set}
 use Rattle.tv_seats.proofs.table.Table.set_stage.Goals as goal
 
