@@ -1,11 +1,10 @@
 -- How an entry changes where jobs stand.
-use Rattle.std.specs.Prelude.{◌≡◌, ◌≢◌, ◌&&◌, ◌||◌, not, if◌then◌else◌, Bool, true, false, ℕ, List, [], ◌∷◌, None, Some, Option, is_none, is_some, refl}
+use Rattle.std.specs.Prelude.{◌≡◌, ◌≢◌, ◌&&◌, ◌||◌, not, if◌then◌else◌, Bool, true, false, ℕ, ◌∷◌, None, Some, Option, is_none, is_some, refl}
 use Rattle.std.specs.List.{list_any}
 use Rattle.std.specs.Option.{option_map_or}
 use Rattle.std.proofs.Common.{ap, subst, sym, ◌∙◌}
 use Rattle.tv_lemmas.proofs.Cases.{on_test}
 use Rattle.tv_value.specs.Orders.{same_job}
-use Rattle.tv_value.specs.Values.{JobName}
 use Rattle.tv_gate.specs.Outcomes.{Giving}
 use Rattle.tv_flow.specs.Flows.{Document}
 use Rattle.tv_dispatch.specs.Jobs.{Ask}
@@ -17,7 +16,7 @@ use Rattle.tv_model.proofs.Order.{some_in}
 use Rattle.tv_model.proofs.Tests.{true≠false, left_true, right_true, both_true, same_job_decides}
 use Rattle.tv_model.proofs.Turns.{In, or_left}
 use Rattle.tv_history.specs.Entries.{Entry, History, accepted, bounced, closed, ended, fault_passed, handed_out, is_accepted, is_begun_entry, is_bounced_entry, is_ended_entry, is_out, opened, recalled}
-use Rattle.tv_history.specs.Histories.{asks_left, can_bounce, is_ask, is_at, is_idle, is_legal_after, is_offered, is_ready, is_right, is_running, is_settled, may_go_on, next_ask, same_bool}
+use Rattle.tv_history.specs.Histories.{asks_left, can_bounce, is_ask, is_at, is_offered, is_ready, is_right, is_running, is_settled, may_go_on, next_ask, same_bool}
 use Rattle.tv_history.proofs.Ready.{AnyNumber, document-whole}
 use Rattle.tv_history.proofs.Running.{out-begun}
 use Rattle.tv_history.proofs.Stuck.{begun-tried}

@@ -1,6 +1,6 @@
 -- Jobs counted by their names.
 use Rattle.std.specs.Prelude.{◌≡◌, ℕ, ◌+◌, ◌&&◌, Bool, true, false, List, [], ◌∷◌, count_by, refl}
-use Rattle.std.proofs.Common.{arith, ap, subst, sym, ◌∙◌, inl, inr}
+use Rattle.std.proofs.Common.{arith, ap, sym, ◌∙◌, inl, inr}
 use Rattle.tv_lemmas.proofs.Cases.{on_test}
 use Rattle.tv_value.specs.Orders.{same_job}
 use Rattle.tv_value.specs.Values.{JobName}
@@ -8,7 +8,7 @@ use Rattle.tv_gate.specs.Outcomes.{Giving}
 use Rattle.tv_flow.specs.Flows.{Document}
 use Rattle.tv_model.specs.Jobs.{Job}
 use Rattle.tv_model.specs.Meanings.{meaning}
-use Rattle.tv_model.proofs.Tests.{true≠false, left_true, right_true, both_true, same_job_decides}
+use Rattle.tv_model.proofs.Tests.{right_true, both_true, same_job_decides}
 use Rattle.tv_model.proofs.Turns.{In}
 use Rattle.tv_history.proofs.Counts.{bit, count-total, tally, total}
 use Rattle.tv_history.proofs.Ready.{document-whole}

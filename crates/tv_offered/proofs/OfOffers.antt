@@ -1,20 +1,18 @@
 -- What is on offer where no job opens a flow.
-use Rattle.std.specs.Prelude.{◌≡◌, ◌⊎◌, ◌+◌, ◌++◌, ◌&&◌, ◌||◌, not, if◌then◌else◌, Bool, true, false, ℕ, List, [], ◌∷◌, Some, None, Option, cond, count_by, find, is_none, is_some, nat_lt, refl}
-use Rattle.std.specs.List.{list_any}
+use Rattle.std.specs.Prelude.{◌≡◌, ◌⊎◌, ◌+◌, ◌++◌, ◌&&◌, ◌||◌, if◌then◌else◌, Bool, true, false, ℕ, List, [], ◌∷◌, Some, cond, count_by, find, is_none, is_some, nat_lt, refl}
 use Rattle.std.specs.Option.{option_map_or}
 use Rattle.std.proofs.Common.{ap, subst, sym, ◌∙◌, inl, inr}
-use Rattle.tv_lemmas.proofs.Cases.{on_either, on_test}
+use Rattle.tv_lemmas.proofs.Cases.{on_either}
 use Rattle.tv_lemmas.proofs.Counts.{count-cons}
 use Rattle.tv_value.specs.Nested.{Place}
 use Rattle.tv_value.specs.Orders.{named, same_job, same_name}
-use Rattle.tv_value.specs.Values.{JobName, Name}
+use Rattle.tv_value.specs.Values.{Name}
 use Rattle.tv_gate.specs.Outcomes.{Giving}
 use Rattle.tv_flow.specs.Flows.{Document, Flow}
 use Rattle.tv_depths.specs.Ranks.{ranked}
 use Rattle.tv_model.specs.Jobs.{Job}
 use Rattle.tv_model.specs.Meanings.{meaning, nesting_limit}
-use Rattle.tv_model.specs.Turns.{is_bounced}
-use Rattle.tv_model.proofs.Tests.{true≠false, left_true, right_true, both_true, same_job_decides}
+use Rattle.tv_model.proofs.Tests.{true≠false, both_true, same_job_decides}
 use Rattle.tv_model.proofs.Turns.{In}
 use Rattle.tv_model.proofs.Whole.{IsWhole}
 use Rattle.tv_history.specs.Entries.{History, handed_out}

@@ -1,7 +1,7 @@
 -- What is so of the meaning of a document, and of two of its jobs.
-use Rattle.std.specs.Prelude.{◌≡◌, ◌≢◌, ◌&&◌, ◌||◌, not, Bool, true, false, List, [], ◌∷◌, None, Some, Option, is_some, refl}
+use Rattle.std.specs.Prelude.{◌≡◌, ◌≢◌, ◌&&◌, ◌||◌, not, Bool, true, false, List, [], ◌∷◌, refl}
 use Rattle.std.specs.List.{list_any}
-use Rattle.std.proofs.Common.{ap, subst, sym, ◌∙◌, inl, inr}
+use Rattle.std.proofs.Common.{ap, sym, ◌∙◌, inl, inr}
 use Rattle.std.proofs.lemmas.Bool.{false_from_ne_true, not-true}
 use Rattle.tv_lemmas.proofs.Cases.{on_or}
 use Rattle.tv_value.specs.Orders.{same_job}
@@ -11,9 +11,8 @@ use Rattle.tv_model.specs.Jobs.{Job}
 use Rattle.tv_model.specs.Made.{Meaning}
 use Rattle.tv_model.specs.Meanings.{meaning}
 use Rattle.tv_model.specs.Turns.{is_bounced}
-use Rattle.tv_model.proofs.Tests.{true≠false, left_true, right_true, or_right, same_job_decides}
+use Rattle.tv_model.proofs.Tests.{left_true, right_true, or_right, same_job_decides}
 use Rattle.tv_model.proofs.Turns.{In, or_left}
-use Rattle.tv_model.proofs.Whole.{IsWhole}
 use Rattle.tv_history.specs.Entries.{Entry, History, is_begun_entry, is_out}
 use Rattle.tv_history.specs.Histories.{all_known, has_open_instance, has_place, is_idle, is_legal, is_legal_after, is_open, is_ready, is_running, is_settled, may_go_on}
 use Rattle.tv_history.proofs.Ready.{AnyNumber, are-jobs, document-whole}

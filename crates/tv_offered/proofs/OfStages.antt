@@ -1,5 +1,5 @@
 -- Where a job stands where no job opens a flow.
-use Rattle.std.specs.Prelude.{◌≡◌, ◌&&◌, not, if◌then◌else◌, Bool, true, false, List, [], ◌∷◌, None, Some, Option, is_none, is_some, refl}
+use Rattle.std.specs.Prelude.{◌≡◌, ◌&&◌, not, if◌then◌else◌, Bool, true, false, [], ◌∷◌, None, Some, Option, is_none, is_some, refl}
 use Rattle.std.specs.List.{list_any}
 use Rattle.std.specs.Option.{option_map_or}
 use Rattle.std.proofs.Common.{ap, subst, sym, ◌∙◌}
@@ -15,7 +15,7 @@ use Rattle.tv_model.specs.Turns.{is_bounced}
 use Rattle.tv_model.proofs.Tests.{true≠false, left_true, right_true, both_true, same_job_decides}
 use Rattle.tv_model.proofs.Turns.{In}
 use Rattle.tv_history.specs.Entries.{Entry, History, accepted, handed_out, is_begun_entry, is_bounced_entry, is_ended_entry, is_out, recalled}
-use Rattle.tv_history.specs.Histories.{asks_left, has_open_instance, is_ask, is_at, is_idle, is_legal, is_legal_after, is_offered, is_open, is_running, is_settled, may_go_on, next_ask}
+use Rattle.tv_history.specs.Histories.{asks_left, is_ask, is_at, is_idle, is_legal, is_legal_after, is_offered, is_open, is_running, is_settled, may_go_on, next_ask}
 use Rattle.tv_history.proofs.Ready.{AnyNumber, document-whole}
 use Rattle.tv_history.proofs.Running.{out-begun}
 use Rattle.tv_history.proofs.Stuck.{begun-tried}

@@ -1,7 +1,6 @@
 -- The laws of how an entry changes where jobs stand, where no job opens a flow.
-use Rattle.std.specs.Prelude.{◌≡◌, ◌≢◌, not, Bool, true, false, ℕ, Option, ◌∷◌, is_none}
+use Rattle.std.specs.Prelude.{◌≡◌, ◌≢◌, not, Bool, true, false, ℕ, ◌∷◌, is_none}
 use Rattle.std.specs.Option.{option_map_or}
-use Rattle.tv_value.specs.Values.{JobName}
 use Rattle.tv_gate.specs.Outcomes.{Giving}
 use Rattle.tv_flow.specs.Flows.{Document}
 use Rattle.tv_model.specs.Jobs.{Job}
