@@ -5,10 +5,9 @@ use Rattle.tv_gate.specs.Outcomes.{Giving}
 use Rattle.tv_flow.specs.Flows.{Document}
 use Rattle.tv_model.specs.Jobs.{Job}
 use Rattle.tv_model.specs.Lists.{first_of_list, rest_of}
-use Rattle.tv_model.specs.Meanings.{meaning}
-use Rattle.tv_model.specs.Members.{In}
 use Rattle.tv_history.specs.Entries.{Entry, History, accepted, bounced, closed, ended, fault_passed, handed_out, is_out, recalled}
 use Rattle.tv_history.specs.Histories.{asks_left, is_ask, is_idle, is_running, is_settled, next_ask}
+use Rattle.tv_order.specs.Moments.{IsJob}
 use Rattle.tv_offered.specs.Runs.{GoesOn}
 
 -- the job stands where it stood
@@ -22,20 +21,21 @@ pub record StandsAsBefore (past after : History) (k : Job) : Type 0 where
 -- and so do all but this one
 abbrev pub OthersStand : Giving → Document → History → History → Job → Type 0
 OthersStand gives d past after j =
-    (k : Job) → In k (meaning gives d).jobs → k ≢ j → StandsAsBefore past after k
+    (k : Job) → IsJob gives d k → k ≢ j → StandsAsBefore past after k
 
 -- the law of an entry that speaks of a job
 abbrev pub ChangesJob : (Job → Entry) → (Giving → Document → History → Job → Type 0) → Type 0
 ChangesJob entry Changed =
     (gives : Giving) (d : Document) (past : History) (j : Job)
-    → In j (meaning gives d).jobs
+    → IsJob gives d j
     → GoesOn gives d past (entry j)
     → Changed gives d past j
 
 -- ---- handed out
 
 -- the job is out with its next try
-pub record IsHandedOut (a t : ℕ) (gives : Giving) (d : Document) (past : History) (j : Job) : Type 0 where
+pub record IsHandedOut (a t : ℕ) (gives : Giving) (d : Document) (past : History) (j : Job)
+    : Type 0 where
   pub running : is_running (handed_out j.name a t ∷ past) j ≡ true
   pub out : is_out (handed_out j.name a t ∷ past) j.name ≡ true
   pub settled : is_settled (handed_out j.name a t ∷ past) j ≡ false
@@ -49,13 +49,20 @@ HandingOut = (a t : ℕ) → ChangesJob (λ j. handed_out j.name a t) (IsHandedO
 -- ---- accepted
 
 -- the job was out; it runs on with the try after that, or is settled
-pub record IsAccepted (a t : ℕ) (r : Bool) (gives : Giving) (d : Document) (past : History) (j : Job) : Type 0 where
+pub record IsAccepted (a t : ℕ) (r : Bool) (gives : Giving) (d : Document) (past : History) (j : Job)
+    : Type 0 where
   pub was_out : is_out past j.name ≡ true
   pub asked : option_map_or (is_ask a t) (next_ask past j) false ≡ true
   pub out : is_out (accepted j.name a t r ∷ past) j.name ≡ false
-  pub next : next_ask (accepted j.name a t r ∷ past) j ≡ first_of_list (rest_of (asks_left past j.name j.asks))
-  pub settled : is_settled (accepted j.name a t r ∷ past) j ≡ is_none (next_ask (accepted j.name a t r ∷ past) j)
-  pub running : is_running (accepted j.name a t r ∷ past) j ≡ not (is_settled (accepted j.name a t r ∷ past) j)
+  pub next :
+      next_ask (accepted j.name a t r ∷ past) j
+      ≡ first_of_list (rest_of (asks_left past j.name j.asks))
+  pub settled :
+      is_settled (accepted j.name a t r ∷ past) j
+      ≡ is_none (next_ask (accepted j.name a t r ∷ past) j)
+  pub running :
+      is_running (accepted j.name a t r ∷ past) j
+      ≡ not (is_settled (accepted j.name a t r ∷ past) j)
   pub others : OthersStand gives d past (accepted j.name a t r ∷ past) j
 
 abbrev pub Accepting : Type 0
@@ -87,7 +94,7 @@ Recalling =
     (gives : Giving) (d : Document) (past : History) (n : ℕ)
     → GoesOn gives d past (recalled n)
     → (k : Job)
-    → In k (meaning gives d).jobs
+    → IsJob gives d k
     → IsCalledBack past (recalled n ∷ past) k
 
 -- ---- what no job takes part in
@@ -105,5 +112,5 @@ Settling =
     → speaks_of_no_job e ≡ true
     → GoesOn gives d past e
     → (k : Job)
-    → In k (meaning gives d).jobs
+    → IsJob gives d k
     → StandsAsBefore past (e ∷ past) k

@@ -3,11 +3,10 @@ use Rattle.std.specs.Prelude.{◌≡◌, ◌&&◌, not, true, false, is_none, is
 use Rattle.tv_gate.specs.Outcomes.{Giving}
 use Rattle.tv_flow.specs.Flows.{Document}
 use Rattle.tv_model.specs.Jobs.{Job}
-use Rattle.tv_model.specs.Meanings.{meaning}
-use Rattle.tv_model.specs.Members.{In}
 use Rattle.tv_model.specs.Turns.{is_bounced}
 use Rattle.tv_history.specs.Entries.{History, is_out}
 use Rattle.tv_history.specs.Histories.{is_idle, is_running, is_settled, next_ask}
+use Rattle.tv_order.specs.Moments.{IsJob}
 use Rattle.tv_offered.specs.Runs.{IsAlone}
 
 -- what is so of each job
@@ -29,5 +28,5 @@ StagesOfJobs =
     (gives : Giving) (d : Document) (past : History)
     → IsAlone gives d past
     → (j : Job)
-    → In j (meaning gives d).jobs
+    → IsJob gives d j
     → Stands past j
