@@ -1,5 +1,5 @@
 -- All jobs that are out are idle again, one after the other.
-use Rattle.std.specs.Prelude.{◌≡◌, ◌≢◌, ℕ, zero, suc, ◌+◌, ◌-◌, ◌<◌, ◌≤◌, ◌&&◌, ◌==◌, Bool, true, false, List, [], ◌∷◌, Option, Some, None, length, map, option_map, slice_get, slice_index_or, slice_set, refl}
+use Rattle.std.specs.Prelude.{◌≡◌, ◌≢◌, ℕ, zero, suc, ◌+◌, ◌-◌, ◌<◌, ◌≤◌, ◌&&◌, ◌==◌, Bool, true, false, List, [], ◌∷◌, Option, Some, None, length, map, option_map, slice_get, slice_set, refl}
 use Rattle.std.specs.Option.{option_map_or}
 use Rattle.std.proofs.Common.{arith, ap, subst, sym, ◌∙◌}
 use Rattle.std.proofs.lemmas.Bool.{eq-eqb, eqb-true}
@@ -11,7 +11,7 @@ use Rattle.tv_seats.specs.Kept.{AreKept, all_levels, all_rooms}
 use Rattle.tv_seats.specs.Seats.{Seat, Seated, HasBackRooms, back, back_room, count_at, stage_at, staged, step_at, with_back, with_stage}
 use Rattle.tv_seats.specs.Stages.{called_back, is_out}
 use Rattle.tv_seats.specs.Tables.{Rows}
-use Rattle.tv_seats.proofs.Keeping.{count-after, count-here, many-levels, step-there}
+use Rattle.tv_seats.proofs.Keeping.{count-after, count-here, step-there}
 use Rattle.tv_seats.proofs.Staging.{one, set-same, some-same}
 
 -- ---- one of them

@@ -1,5 +1,5 @@
 -- A job that is out is idle or done, and one that waits is done.
-use Rattle.std.specs.Prelude.{◌≡◌, ℕ, ◌+◌, ◌-◌, ◌<◌, ◌≤◌, ◌||◌, if◌then◌else◌, Bool, true, false, List, Some, slice_get, refl}
+use Rattle.std.specs.Prelude.{◌≡◌, ℕ, ◌+◌, ◌-◌, ◌<◌, if◌then◌else◌, Bool, true, false, List, Some, slice_get, refl}
 use mir.Val.{bool_byte}
 use Rattle.std.specs.Option.{option_map_or}
 use Rattle.std.proofs.Common.{arith, ap, subst, sym, ◌∙◌}
@@ -9,7 +9,7 @@ use Rattle.tv_seats.specs.declared.stage.Stage.TheVariants as stage
 use Rattle.tv_seats.specs.declared.steps.StepSeats.{StepSeats}
 use Rattle.tv_seats.specs.Kept.{AreIdleJobs, AreKept, StepIsKept}
 use Rattle.tv_seats.specs.Seats.{Seat, stands, with_stage}
-use Rattle.tv_seats.specs.Stages.{is_idle, is_out, is_waiting, may_settle, runs}
+use Rattle.tv_seats.specs.Stages.{is_idle, is_out, may_settle, runs}
 use Rattle.tv_seats.specs.Tables.{Rows}
 use Rattle.tv_seats.proofs.Keeping.{stands-there, step-changed}
 use Rattle.tv_seats.proofs.Listing.{put-idle, same-idle}

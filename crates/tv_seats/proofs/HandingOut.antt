@@ -1,5 +1,5 @@
 -- A job that waits, or is the first idle one of its step, goes out.
-use Rattle.std.specs.Prelude.{◌≡◌, ℕ, ◌+◌, ◌^◌, ◌<◌, ◌||◌, not, if◌then◌else◌, Bool, true, false, List, ◌∷◌, Some, drop, slice_get, slice_set, refl}
+use Rattle.std.specs.Prelude.{◌≡◌, ℕ, ◌+◌, ◌^◌, ◌<◌, ◌||◌, not, if◌then◌else◌, Bool, true, false, List, ◌∷◌, Some, drop, slice_get, refl}
 use Rattle.std.specs.Option.{option_map_or}
 use Rattle.std.proofs.Common.{arith, ap, subst, sym, ◌∙◌, inl, inr}
 use Rattle.tv_seats.specs.declared.stage.Stage.{Stage}
@@ -11,7 +11,7 @@ use Rattle.tv_seats.specs.Seats.{Seat, stands, with_stage}
 use Rattle.tv_seats.specs.Stages.{is_idle, is_out, is_waiting, runs}
 use Rattle.tv_seats.specs.Tables.{Rows}
 use Rattle.tv_seats.proofs.Keeping.{stands-there, step-changed}
-use Rattle.tv_seats.proofs.Listing.{Job, first-one, same-idle, taken-idle}
+use Rattle.tv_seats.proofs.Listing.{first-one, same-idle, taken-idle}
 use Rattle.tv_seats.proofs.Staging.{one, some-same}
 
 -- the seat of a job that may go out

@@ -1,5 +1,5 @@
 -- What is kept beside the seats, where one seat stands at another stage, or one more sits down.
-use Rattle.std.specs.Prelude.{◌≡◌, ◌≢◌, ℕ, zero, suc, ◌+◌, ◌<◌, ◌≤◌, ◌^◌, ◌&&◌, ◌==◌, ◌++◌, Bool, true, false, List, [], ◌∷◌, Option, Some, None, count_by, length, map, slice_get, slice_index_or, slice_set, refl}
+use Rattle.std.specs.Prelude.{◌≡◌, ◌≢◌, ℕ, zero, suc, ◌+◌, ◌<◌, ◌≤◌, ◌^◌, ◌&&◌, ◌==◌, Bool, true, false, List, [], ◌∷◌, Option, Some, None, length, map, slice_get, slice_index_or, slice_set, refl}
 use Rattle.std.specs.Option.{option_map_or}
 use Rattle.std.proofs.Common.{arith, ap, subst, sym, ◌∙◌}
 use Rattle.std.proofs.lemmas.Bool.{eq-eqb, eqb-true}
@@ -8,7 +8,6 @@ use Rattle.std.proofs.lemmas.Option.{slice_get_read}
 use Rattle.tv_seats.specs.declared.stage.Stage.{Stage}
 use Rattle.tv_seats.specs.declared.stage.Stage.TheVariants as stage
 use Rattle.tv_seats.specs.declared.steps.StepSeats.{StepSeats}
-use Rattle.tv_seats.specs.Firsts.{IsIdleSeat}
 use Rattle.tv_seats.specs.Kept.{AreApart, AreIdleJobs, AreKept, AreOfSteps, StepIsKept, all_levels, all_rooms}
 use Rattle.tv_seats.specs.Seats.{Seat, count_at, levels_of, out_count, staged, stands, step_at, with_stage}
 use Rattle.tv_seats.specs.Stages.{is_out, runs}

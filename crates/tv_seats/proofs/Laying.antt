@@ -9,7 +9,6 @@ use Rattle.std.proofs.lemmas.List.{drop-append-le, length-append, length-drop, m
 use Rattle.std.proofs.lemmas.List.Folds.{list_all-append}
 use Rattle.tv_seats.specs.declared.table.Row.{Row}
 use Rattle.tv_seats.specs.Laid.{seat_of, shown}
-use Rattle.tv_seats.specs.Seats.{Seat, staged}
 use Rattle.tv_seats.proofs.Listing.{both}
 use Rattle.tv_seats.proofs.Staging.{some-same}
 

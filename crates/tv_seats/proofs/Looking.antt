@@ -1,6 +1,6 @@
 -- What is told of a step.
-use Rattle.std.specs.Prelude.{◌≡◌, ℕ, zero, suc, ◌<◌, List, [], ◌∷◌, Option, Some, None, length, option_map, slice_get, slice_index_or, refl}
-use Rattle.std.proofs.Common.{arith, ap, subst, sym, ◌∙◌}
+use Rattle.std.specs.Prelude.{◌≡◌, ℕ, ◌<◌, List, [], ◌∷◌, Option, Some, length, option_map, slice_get, slice_index_or, refl}
+use Rattle.std.proofs.Common.{arith, subst, sym}
 use Rattle.std.proofs.lemmas.Option.{slice_get_read}
 use Rattle.tv_seats.specs.declared.steps.StepSeats.{StepSeats}
 use Rattle.tv_seats.specs.Firsts.{IsFirstOf}

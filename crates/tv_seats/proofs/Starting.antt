@@ -1,8 +1,8 @@
 -- Steps of which no job is known.
-use Rattle.std.specs.Prelude.{◌≡◌, ℕ, zero, suc, ◌+◌, ◌<◌, ◌≤◌, ◌^◌, ◌++◌, List, [], ◌∷◌, Some, max, length, map, slice_get, slice_index_or, refl}
-use Rattle.std.proofs.Common.{arith, ap, subst, sym, ◌∙◌}
+use Rattle.std.specs.Prelude.{◌≡◌, ℕ, zero, suc, ◌≤◌, ◌++◌, List, [], ◌∷◌, Some, slice_get, refl}
+use Rattle.std.proofs.Common.{arith, ap, subst, sym}
 use Rattle.tv_seats.specs.declared.steps.StepSeats.{StepSeats}
-use Rattle.tv_seats.specs.Kept.{AreIdleJobs, AreKept, StepIsKept, all_levels}
+use Rattle.tv_seats.specs.Kept.{AreIdleJobs, AreKept, all_levels}
 use Rattle.tv_seats.specs.Seats.{levels_of}
 use Rattle.tv_seats.specs.Tables.{Rows}
 

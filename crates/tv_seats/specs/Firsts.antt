@@ -15,7 +15,10 @@ pub record IsIdleSeat (seats : List Seat) (k n : ℕ) (s : Seat) : Type 0 where
 pub record IsFirstIdle (seats : List Seat) (k n : ℕ) : Type 0 where
   pub seat : Seat
   pub is : IsIdleSeat seats k n seat
-  pub first : (m : ℕ) (t : Seat) → IsIdleSeat seats k m t → is_lt (slice_cmp nat_cmp t.place seat.place) ≡ false
+  pub first :
+      (m : ℕ) (t : Seat)
+      → IsIdleSeat seats k m t
+      → is_lt (slice_cmp nat_cmp t.place seat.place) ≡ false
 
 -- none exactly where no seat of the step is idle
 abbrev pub IsFirstOf : List Seat → ℕ → Option ℕ → Type 0

@@ -1,5 +1,5 @@
 -- The known jobs of one instance as a contract sees them: each has a seat, which tells where it stands.
-use Rattle.std.specs.Prelude.{◌≡◌, ◌==◌, ◌&&◌, ◌<◌, ◌≤◌, Bool, false, ℕ, List, Option, Some, count_by, length, option_map, slice_get, slice_index_or, slice_set}
+use Rattle.std.specs.Prelude.{◌≡◌, ◌==◌, ◌&&◌, ◌-◌, ◌<◌, ◌≤◌, Bool, false, ℕ, List, Option, Some, count_by, length, option_map, slice_get, slice_index_or, slice_set}
 use Rattle.std.specs.Option.{option_map_or}
 use Rattle.tv_seats.specs.declared.stage.Stage.{Stage}
 use Rattle.tv_seats.specs.declared.stage.Stage.TheVariants as stage
@@ -57,9 +57,14 @@ back_room rooms k = slice_index_or rooms k 0
 
 -- there is room to put all back that are out
 abbrev pub HasBackRooms : Seated → Type 0
-HasBackRooms s = (k : ℕ) → k < length s.levels → count_at is_out k s.seats ≤ back_room s.back_rooms k
+HasBackRooms s =
+    (k : ℕ) → k < length s.levels → count_at is_out k s.seats ≤ back_room s.back_rooms k
 
 -- ---- what the calls change
+
+-- one less of a step
+abbrev pub one_less : ℕ → List ℕ → List ℕ
+one_less k rooms = slice_set rooms k (back_room rooms k - 1)
 
 -- the seat of a job that hasn't begun
 abbrev pub new_seat : ℕ → List ℕ → Seat

@@ -2,7 +2,7 @@
 ghost use Rattle.std.specs.Prelude.{◌≡◌, ◌^◌, ◌+◌, ◌-◌, ◌<◌, ◌≤◌, ◌++◌, ◌∷◌, [], true, length, map, slice_set, IfOk, OnErr, OnOk};
 ghost use Rattle.tv_seats.specs.declared.stage.Stage.TheVariants.{Idle as AnIdle, Out as AnOut, Settled as ASettled};
 ghost use Rattle.tv_seats.specs.Firsts.{IsFirstOf, MayGoOut};
-ghost use Rattle.tv_seats.specs.Seats.{HasBackRooms, IsFree, back, back_room, count_at, levels_of, new_seat, out_count, running_count, stage_at, stands, step_at, with_back, with_stage};
+ghost use Rattle.tv_seats.specs.Seats.{HasBackRooms, IsFree, back, back_room, count_at, levels_of, new_seat, one_less, out_count, running_count, stage_at, stands, step_at, with_back, with_stage};
 ghost use Rattle.tv_seats.specs.Stages.{is_out, may_settle};
 
 use crate::stage::Stage;
@@ -178,11 +178,12 @@ impl Seats {
     pub fn put_back(&mut self, number: u64, activity: u32, attempt: u32)
         requires out { stands is_out self.old.seats number ≡ true }
         requires room { 0 < back_room self.old.back_rooms (step_at self.old.seats number) }
-        ensures seats { self.new.seats ≡ with_stage number (AnIdle activity attempt) self.old.seats }
+        ensures seats { self.new.seats
+            ≡ with_stage number (AnIdle activity attempt) self.old.seats }
         ensures levels { self.new.levels ≡ self.old.levels }
         ensures room { self.new.room ≡ self.old.room }
         ensures back_rooms { self.new.back_rooms
-            ≡ slice_set self.old.back_rooms (step_at self.old.seats number) (back_room self.old.back_rooms (step_at self.old.seats number) - 1) }
+            ≡ one_less (step_at self.old.seats number) self.old.back_rooms }
     {
         let at = number as usize;
         let step = self.table.step(at) as usize;
