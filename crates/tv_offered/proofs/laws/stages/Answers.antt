@@ -1,0 +1,5 @@
+use Rattle.tv_offered.proofs.OfStages.{stages}
+use Rattle.tv_offered.proofs.laws.stages.Goals as goal
+
+pub returns : goal.returns
+returns c = λ gives d past a j i. stages gives d past a j i

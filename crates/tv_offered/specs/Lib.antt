@@ -1,0 +1,5 @@
+pub mod Runs
+pub mod Offers
+pub mod Ends
+pub mod Stages
+pub mod Changes

@@ -1,0 +1,10 @@
+pub mod Laying
+pub mod Staging
+pub mod Listing
+pub mod Keeping
+pub mod HandingOut
+pub mod ComingBack
+pub mod Sitting
+pub mod Looking
+pub mod CallingBack
+pub mod Starting

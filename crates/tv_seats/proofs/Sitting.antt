@@ -1,0 +1,120 @@
+-- One more job sits down.
+use Rattle.std.specs.Prelude.{◌≡◌, ℕ, zero, suc, ◌-◌, ◌<◌, ◌≤◌, ◌⊎◌, ◌&&◌, ◌==◌, ◌++◌, Bool, true, false, List, [], ◌∷◌, Some, length, slice_get, refl}
+use Rattle.std.proofs.Common.{arith, ap, subst, sym, ◌∙◌, inl, inr, length-append}
+use Rattle.tv_seats.specs.declared.stage.Stage.{Stage}
+use Rattle.tv_seats.specs.declared.stage.Stage.TheVariants as stage
+use Rattle.tv_seats.specs.declared.steps.StepSeats.{StepSeats}
+use Rattle.tv_seats.specs.Firsts.{IsIdleSeat}
+use Rattle.tv_seats.specs.Kept.{AreApart, AreKept, AreOfSteps, StepIsKept, all_levels}
+use Rattle.tv_seats.specs.Seats.{IsFree, Seat, count_at, levels_of, new_seat, out_count}
+use Rattle.tv_seats.specs.Stages.{is_idle, is_out, runs}
+use Rattle.tv_seats.specs.Tables.{Rows}
+use Rattle.tv_seats.proofs.Staging.{count-last, one, some-same}
+
+module _ {A : Type 0} where
+  pub get-front : (xs ys : List A) (n : ℕ) (x : A) → slice_get xs n ≡ Some x → slice_get (xs ++ ys) n ≡ Some x
+  get-front [] ys n x e = cc
+  get-front (z ∷ xs) ys zero x e = e
+  get-front (z ∷ xs) ys (suc n) x e = get-front xs ys n x e
+
+  get-last : (xs : List A) (y : A) (n : ℕ) (x : A) → slice_get (xs ++ y ∷ []) n ≡ Some x → (slice_get xs n ≡ Some x) ⊎ ((n ≡ length xs) × (x ≡ y))
+  get-last [] y zero x e = inr (refl, sym (some-same e))
+  get-last [] y (suc n) x e = cc
+  get-last (z ∷ xs) y zero x e = inl e
+  get-last (z ∷ xs) y (suc n) x e =
+      elim (get-last xs y n x e) [
+        | inl h ↦ inl h
+        | inr h ↦ inr (ap suc h.0, h.1)
+      ]
+
+module _ (seats : List Seat) (k : ℕ) (q : List ℕ) where
+  abbrev after : List Seat
+  after = seats ++ new_seat k q ∷ []
+
+  idle-before : (l n : ℕ) (s : Seat) → IsIdleSeat after l n s → IsIdleSeat seats l n s
+  idle-before l n s i =
+      elim (get-last seats (new_seat k q) n s i.there) [
+        | inl h ↦ record { there = h; of_step = i.of_step; idle = i.idle }
+        | inr h ↦ let bad : true ≡ false = sym i.idle ∙ ap (λ (s : Seat). is_idle s.stage) h.1 in cc
+      ]
+
+  idle-after : (l n : ℕ) (s : Seat) → IsIdleSeat seats l n s → IsIdleSeat after l n s
+  idle-after l n s i = record {
+    there = get-front seats (new_seat k q ∷ []) n s i.there;
+    of_step = i.of_step;
+    idle = i.idle;
+  }
+
+  count-same : (p : Stage → Bool) (l : ℕ) → p stage.Waiting ≡ false → count_at p l after ≡ count_at p l seats
+  count-same p l e =
+      let c = count-last (λ (s : Seat). (s.step == l) && p s.stage) seats (new_seat k q) in
+      let z : one ((k == l) && p stage.Waiting) ≡ 0 = ap (λ b. one ((k == l) && b)) e ∙ none (k == l) in
+      omega (arith, c, z)
+    where
+      none : (b : Bool) → one (b && false) ≡ 0
+      none true = refl
+      none false = refl
+
+  step-still : (l : ℕ) (y : StepSeats) → StepIsKept seats l y → StepIsKept after l y
+  step-still l y kept = record {
+    listed = record {
+      in_order = kept.listed.in_order;
+      idle = λ j o. let i = kept.listed.idle j o in (i.0, idle-after l j.0 i.0 i.1, i.2);
+      all = λ j i. kept.listed.all j (i.0, idle-before l j.0 i.0 i.1, i.2);
+    };
+    running = kept.running ∙ sym (count-same runs l refl);
+    out = kept.out ∙ sym (count-same is_out l refl);
+  }
+
+  apart-still : IsFree seats k q → AreApart seats → AreApart after
+  apart-still free a n m s t e f step place =
+      elim (get-last seats (new_seat k q) n s e) [
+        | inl g ↦
+            elim (get-last seats (new_seat k q) m t f) [
+              | inl h ↦ a n m s t g h step place
+              | inr h ↦ absurd (free n s g (step ∙ ap (λ (t : Seat). t.step) h.1) (place ∙ ap (λ (t : Seat). t.place) h.1))
+            ]
+        | inr g ↦
+            elim (get-last seats (new_seat k q) m t f) [
+              | inl h ↦
+                  absurd (free m t h (sym step ∙ ap (λ (t : Seat). t.step) g.1) (sym place ∙ ap (λ (t : Seat). t.place) g.1))
+              | inr h ↦ g.0 ∙ sym h.0
+            ]
+      ]
+
+  of-steps-still : (levels : List ℕ) → k < length levels → length q ≡ levels_of levels k → AreOfSteps levels seats → AreOfSteps levels after
+  of-steps-still levels step long a n s e =
+      elim (get-last seats (new_seat k q) n s e) [
+        | inl h ↦ a n s h
+        | inr h ↦ (
+          subst (λ l. l < length levels) (sym (ap (λ (s : Seat). s.step) h.1)) step,
+          ap (λ (s : Seat). length s.place) h.1 ∙ long ∙ ap (λ (s : Seat). levels_of levels s.step) (sym h.1),
+        )
+      ]
+
+-- the seat of table u that t hasn't
+pub kept-sat : (t u : Rows) (steps : List StepSeats) (out k : ℕ) (q : List ℕ)
+    → u.seats ≡ t.seats ++ new_seat k q ∷ []
+    → u.widest ≡ t.widest
+    → u.room ≡ t.room - 1
+    → 0 < t.room
+    → k < length (all_levels steps)
+    → length q ≡ levels_of (all_levels steps) k
+    → IsFree t.seats k q
+    → AreKept t steps out
+    → AreKept u steps out
+kept-sat t u steps out k q seats widest room some step long free kept = record {
+  each = λ l y e. subst (λ ss. StepIsKept ss l y) (sym seats) (step-still t.seats k q l y (kept.each l y e));
+  of_steps = subst (AreOfSteps (all_levels steps)) (sym seats) (of-steps-still t.seats k q (all_levels steps) step long kept.of_steps);
+  apart = subst AreApart (sym seats) (apart-still t.seats k q free kept.apart);
+  wide = λ l. subst (λ w. levels_of (all_levels steps) l ≤ w) (sym widest) (kept.wide l);
+  outs =
+      let c = count-last (λ (s : Seat). is_out s.stage) t.seats (new_seat k q) in
+      let e = ap out_count seats in
+      let o = kept.outs in
+      omega (arith, c, e, o);
+  numbers =
+      let a = kept.numbers in
+      let b = ap length seats ∙ length-append t.seats (new_seat k q ∷ []) in
+      omega (arith, a, b, room, some);
+}

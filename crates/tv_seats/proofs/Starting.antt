@@ -1,0 +1,66 @@
+-- Steps of which no job is known.
+use Rattle.std.specs.Prelude.{◌≡◌, ℕ, zero, suc, ◌≤◌, ◌++◌, List, [], ◌∷◌, Some, slice_get, refl}
+use Rattle.std.proofs.Common.{arith, ap, subst, sym}
+use Rattle.tv_seats.specs.declared.steps.StepSeats.{StepSeats}
+use Rattle.tv_seats.specs.Kept.{AreIdleJobs, AreKept, all_levels}
+use Rattle.tv_seats.specs.Seats.{levels_of}
+use Rattle.tv_seats.specs.Tables.{Rows}
+
+pub record IsFresh (x : StepSeats) : Type 0 where
+  pub jobs : x.idle.jobs ≡ []
+  pub running : x.running ≡ 0
+  pub out : x.out ≡ 0
+
+abbrev pub AreFresh : List StepSeats → Type 0
+AreFresh [] = Unit {0}
+AreFresh (x ∷ xs) = IsFresh x × AreFresh xs
+
+pub fresh-more : (xs : List StepSeats) (x : StepSeats) → AreFresh xs → IsFresh x → AreFresh (xs ++ x ∷ [])
+fresh-more [] x f g = (g, tt)
+fresh-more (y ∷ xs) x f g = (f.0, fresh-more xs x f.1 g)
+
+fresh-at : (xs : List StepSeats) (k : ℕ) (x : StepSeats) → AreFresh xs → slice_get xs k ≡ Some x → IsFresh x
+fresh-at [] k x f e = cc
+fresh-at (y ∷ xs) zero x f e = let same : y ≡ x = cc in subst IsFresh same f.0
+fresh-at (y ∷ xs) (suc k) x f e = fresh-at xs k x f.1 e
+
+pub levels-more : (xs : List StepSeats) (x : StepSeats) → all_levels (xs ++ x ∷ []) ≡ all_levels xs ++ x.idle.levels ∷ []
+levels-more [] x = refl
+levels-more (y ∷ xs) x = ap (λ l. y.idle.levels ∷ l) (levels-more xs x)
+
+-- no places are wider
+abbrev pub AreWithin : List ℕ → ℕ → Type 0
+AreWithin ls w = (k : ℕ) → levels_of ls k ≤ w
+
+pub within-more : (ls : List ℕ) (l w v : ℕ) → AreWithin ls w → w ≤ v → l ≤ v → AreWithin (ls ++ l ∷ []) v
+within-more [] l w v a b c zero = c
+within-more [] l w v a b c (suc k) = omega arith
+within-more (m ∷ ls) l w v a b c zero = let h = a 0 in omega (arith, h, b)
+within-more (m ∷ ls) l w v a b c (suc k) = within-more ls l w v (λ k. a (suc k)) b c k
+
+pub kept-at-start : (t : Rows) (steps : List StepSeats) → t.seats ≡ [] → t.room ≡ 0 → AreFresh steps → AreWithin (all_levels steps) t.widest → AreKept t steps 0
+kept-at-start t steps seats room fresh wide =
+    subst (λ (u : Rows). AreKept u steps 0) (sym same)
+    (record {
+      each = λ k x e.
+          let f = fresh-at steps k x fresh e in
+          record {
+            listed =
+                subst (AreIdleJobs [] k) (sym f.jobs)
+                (record {
+                  in_order = refl;
+                  idle = λ j o. absurd o;
+                  all = λ j i. let bad = i.1.there in cc;
+                });
+            running = f.running;
+            out = f.out;
+          };
+      of_steps = λ n s e. cc;
+      apart = λ n m s u e. cc;
+      wide = wide;
+      outs = refl;
+      numbers = let r = room in omega (arith, r);
+    })
+  where
+    same : t ≡ record { seats = []; widest = t.widest; room = t.room }
+    same = ap (λ ss. record { seats = ss; widest = t.widest; room = t.room }) seats

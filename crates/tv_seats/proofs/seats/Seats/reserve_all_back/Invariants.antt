@@ -1,0 +1,12 @@
+use Rattle.std.proofs.Common.{◌≡◌, ◌<◌, ◌≤◌, ℕ}
+use Rattle.tv_seats.specs.Seats.{back_room, count_at}
+use Rattle.tv_seats.specs.Stages.{is_out}
+use Rattle.tv_seats.proofs.seats.Seats.reserve_all_back.Given as goal
+
+abbrev pub invariant-loop-step : goal.invariant-loop-step
+invariant-loop-step l = record {
+  seats : l.self.seats ≡ l.fn.self.seats;
+  levels : l.self.levels ≡ l.fn.self.levels;
+  room : l.self.room ≡ l.fn.self.room;
+  rooms : (k : ℕ) → k < l.step → count_at is_out k l.fn.self.seats ≤ back_room l.self.back_rooms k;
+}

@@ -1,0 +1,12 @@
+use Rattle.std.proofs.Common.{◌<◌, ap, subst, sym, ◌∙◌, length}
+use Rattle.tv_seats.specs.Seats.{Seated, running_count}
+use Rattle.tv_seats.proofs.Looking.{kept-of}
+use Rattle.tv_seats.proofs.seats.Seats.running.Goals as goal
+
+pub returns : goal.returns
+returns c =
+    let r = c.self.inside in
+    let k = c.args.step in
+    let inside = subst (λ (v : Seated). k < length v.levels) (sym c.self.view_is) c.requires in
+    (kept-of r.table r.steps.items r.out c.self.invariant k c.index.result.now inside c.index.ensures).running
+    ∙ ap (λ (v : Seated). running_count k v.seats) c.self.view_is

@@ -1,0 +1,24 @@
+//! The seats of one instance's known jobs: where each stands.
+//!
+//! Known jobs have numbers, which are given out in order from 0. A contract sees of `Seats` the list of its seats by number, each
+//! with the number of its step, its place and its stage, and the rooms (`specs/Seats.antt`). A job of a step that isn't done waits,
+//! is out with a try, or is idle: it has begun, and waits for its next try. Idle jobs of a step are handed out in order of place.
+//!
+//! Rooms are taken ahead, and may be refused; then jobs sit down and change their stage without memory. No call but those that
+//! speak of all seats walks over them.
+//!
+//! - `stage`: where a job stands
+//! - `table`: the seats by number
+//! - `steps`: of one step, how many of its jobs run, and which are idle
+//! - `seats`: the calls
+#![tactic(auto)]
+
+mod seats;
+mod stage;
+mod steps;
+mod table;
+#[cfg(test)]
+mod tests;
+
+pub use seats::Seats;
+pub use stage::Stage;

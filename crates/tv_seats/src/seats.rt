@@ -1,0 +1,271 @@
+//! The seats of an instance's known jobs.
+ghost use Rattle.std.specs.Prelude.{◌≡◌, ◌^◌, ◌+◌, ◌-◌, ◌<◌, ◌≤◌, ◌++◌, ◌∷◌, [], true, length, map, slice_set, IfOk, OnErr, OnOk};
+ghost use Rattle.tv_seats.specs.declared.stage.Stage.TheVariants.{Idle as AnIdle, Out as AnOut, Settled as ASettled};
+ghost use Rattle.tv_seats.specs.Firsts.{IsFirstOf, MayGoOut};
+ghost use Rattle.tv_seats.specs.Seats.{HasBackRooms, IsFree, back, back_room, count_at, levels_of, new_seat, one_less, out_count, running_count, stage_at, stands, step_at, with_back, with_stage};
+ghost use Rattle.tv_seats.specs.Stages.{is_out, may_settle};
+
+use crate::stage::Stage;
+use crate::steps::StepSeats;
+use crate::table::Table;
+use std::alloc::Global;
+use std::marker::Model;
+use tv_value::NoMemory;
+
+/// The seats of one instance's known jobs. The steps are told by their numbers, and so are the jobs, from 0 in the order in which
+/// they sat down.
+///
+/// A contract sees the list of the seats by number, each with its step, its place and its stage; how many indices the places of each
+/// step have; and the rooms.
+#[derive(Debug, Drop)]
+pub struct Seats {
+    table: Table,
+    // By step.
+    steps: Vec<StepSeats>,
+    // How many jobs are out.
+    out: u64,
+}
+
+impl Model for Seats {
+    ghost use Rattle.tv_seats.specs.Seats.{Seated};
+
+    ghost Value = { Seated };
+
+    ghost use Rattle.tv_seats.specs.Kept.{all_levels, all_rooms, AreKept};
+
+    ghost view = { λ s. record { seats = s.table.seats; levels = all_levels s.steps.items; room = s.table.room; back_rooms = all_rooms s.steps.items } };
+
+    ghost invariant = { λ s. AreKept s.table s.steps.items s.out };
+}
+
+impl Seats {
+    /// No seats, where the places of each step have so many indices. Linear in the steps.
+    pub fn start(alloc: Global, levels: &[u32]) -> Result<Seats, NoMemory>
+        ensures seats { IfOk result (λ s. s.seats ≡ []) }
+        ensures levels { IfOk result (λ s. s.levels ≡ levels.now) }
+    {
+        let mut steps = Vec::with_capacity(alloc, levels.len())?;
+        let mut widest = 0;
+        for count in levels {
+            steps.push(StepSeats::new(alloc, *count as usize))?;
+            widest = wider(widest, *count as usize);
+        }
+        Ok(Seats {
+            table: Table::new(alloc, widest),
+            steps,
+            out: 0,
+        })
+    }
+
+    /// How many jobs have a seat. Each of their numbers is below that, and there are fewer than 2^32.
+    pub fn len(&self) -> u64
+        ensures len { result ≡ length self.now.seats }
+        ensures few { result < 2 ^ 32 }
+    {
+        self.table.len() as u64
+    }
+
+    /// Takes the room for so many more seats. Answers want of memory where the last would have no number of 32 bits.
+    pub fn reserve(&mut self, count: usize) -> Result<(), NoMemory>
+        ensures ok { OnOk result (self.new.room ≡ count) }
+        ensures refused { OnErr result (self.new.room ≡ self.old.room) }
+        ensures seats { self.new.seats ≡ self.old.seats }
+        ensures levels { self.new.levels ≡ self.old.levels }
+        ensures back_rooms { self.new.back_rooms ≡ self.old.back_rooms }
+    {
+        self.table.reserve(count)
+    }
+
+    /// One more job sits down, of this step, at a place at which none of the step sits yet. It waits. Answers its number. Takes no
+    /// memory.
+    pub fn sit(&mut self, step: u32, place: &[u32]) -> u64
+        requires step { step < length self.old.levels }
+        requires levels { length place.now ≡ levels_of self.old.levels step }
+        requires free { IsFree self.old.seats step place.now }
+        requires room { 0 < self.old.room }
+        ensures number { result ≡ length self.old.seats }
+        ensures seats { self.new.seats ≡ self.old.seats ++ new_seat step place.now ∷ [] }
+        ensures levels { self.new.levels ≡ self.old.levels }
+        ensures room { self.new.room ≡ self.old.room - 1 }
+        ensures back_rooms { self.new.back_rooms ≡ self.old.back_rooms }
+    {
+        let number = self.table.len() as u64;
+        self.table.push(step, place);
+        number
+    }
+
+    /// Where a job stands, `None` where none has that number.
+    pub fn stage(&self, number: u64) -> Option<Stage>
+        ensures { result ≡ stage_at self.now.seats number }
+    {
+        if number >= self.table.len() as u64 {
+            return None;
+        }
+        Some(self.table.stage(number as usize))
+    }
+
+    /// How many jobs of a step run: they are out or idle.
+    pub fn running(&self, step: u32) -> u32
+        requires { step < length self.now.levels }
+        ensures { result ≡ running_count step self.now.seats }
+    {
+        self.steps[step as usize].running
+    }
+
+    /// How many jobs are out, of all steps together.
+    pub fn out_count(&self) -> u64
+        ensures { result ≡ out_count self.now.seats }
+    {
+        self.out
+    }
+
+    /// The number of the idle job of a step with the least place.
+    pub fn first_idle(&self, step: u32) -> Option<u64>
+        requires { step < length self.now.levels }
+        ensures { IsFirstOf self.now.seats step result }
+    {
+        match self.steps[step as usize].idle.first() {
+            Some(number) => Some(number as u64),
+            None => None,
+        }
+    }
+
+    /// This try of a job is out from now on. The job waits, or is the first idle one of its step. Takes no memory. Constant, and
+    /// for an idle one logarithmic in those of its step that came back out of order.
+    pub fn hand_out(&mut self, number: u64, activity: u32, attempt: u32)
+        requires { MayGoOut self.old.seats number }
+        ensures seats { self.new.seats ≡ with_stage number (AnOut activity attempt) self.old.seats }
+        ensures levels { self.new.levels ≡ self.old.levels }
+        ensures room { self.new.room ≡ self.old.room }
+        ensures back_rooms { self.new.back_rooms ≡ self.old.back_rooms }
+    {
+        let at = number as usize;
+        let step = self.table.step(at) as usize;
+        let waited = self.table.is_waiting(at);
+        self.steps[step].hand_out(waited);
+        self.table.set_stage(at, Stage::Out { activity, attempt });
+        self.out += 1;
+    }
+
+    /// Takes the room to put one job of a step back.
+    pub fn reserve_back(&mut self, step: u32) -> Result<(), NoMemory>
+        requires { step < length self.old.levels }
+        ensures ok { OnOk result (self.new.back_rooms ≡ slice_set self.old.back_rooms step 1) }
+        ensures taken { OnOk result (back_room self.new.back_rooms step ≡ 1) }
+        ensures refused { OnErr result (self.new.back_rooms ≡ self.old.back_rooms) }
+        ensures seats { self.new.seats ≡ self.old.seats }
+        ensures levels { self.new.levels ≡ self.old.levels }
+        ensures room { self.new.room ≡ self.old.room }
+    {
+        self.reserve_for(step as usize, 1)
+    }
+
+    /// Takes the room to put so many jobs of a step back.
+    fn reserve_for(&mut self, step: usize, count: usize) -> Result<(), NoMemory>
+        requires { step < length self.old.levels }
+        ensures ok { OnOk result (self.new.back_rooms ≡ slice_set self.old.back_rooms step count) }
+        ensures taken { OnOk result (back_room self.new.back_rooms step ≡ count) }
+        ensures refused { OnErr result (self.new.back_rooms ≡ self.old.back_rooms) }
+        ensures seats { self.new.seats ≡ self.old.seats }
+        ensures levels { self.new.levels ≡ self.old.levels }
+        ensures room { self.new.room ≡ self.old.room }
+    {
+        self.steps[step].reserve(count)
+    }
+
+    /// A job that is out is idle from now on, with this try as its next. Takes no memory. Constant where its place is behind those
+    /// of all that came back in order, else logarithmic in those of its step that came back out of order.
+    pub fn put_back(&mut self, number: u64, activity: u32, attempt: u32)
+        requires out { stands is_out self.old.seats number ≡ true }
+        requires room { 0 < back_room self.old.back_rooms (step_at self.old.seats number) }
+        ensures seats { self.new.seats
+            ≡ with_stage number (AnIdle activity attempt) self.old.seats }
+        ensures levels { self.new.levels ≡ self.old.levels }
+        ensures room { self.new.room ≡ self.old.room }
+        ensures back_rooms { self.new.back_rooms
+            ≡ one_less (step_at self.old.seats number) self.old.back_rooms }
+    {
+        let at = number as usize;
+        let step = self.table.step(at) as usize;
+        self.steps[step].put_back(number as u32, self.table.place(at));
+        self.table.set_stage(at, Stage::Idle { activity, attempt });
+        self.out -= 1;
+    }
+
+    /// A job that waits or is out is done. Takes no memory.
+    pub fn settle(&mut self, number: u64)
+        requires { stands may_settle self.old.seats number ≡ true }
+        ensures seats { self.new.seats ≡ with_stage number ASettled self.old.seats }
+        ensures levels { self.new.levels ≡ self.old.levels }
+        ensures room { self.new.room ≡ self.old.room }
+        ensures back_rooms { self.new.back_rooms ≡ self.old.back_rooms }
+    {
+        let at = number as usize;
+        let step = self.table.step(at) as usize;
+        let was_out = self.table.is_out(at);
+        self.steps[step].settle(was_out);
+        self.table.set_stage(at, Stage::Settled);
+        self.out -= u64::from(was_out);
+    }
+
+    /// Takes the room to put all jobs back that are out. Where it is refused, it may have been taken for some steps. Linear in the
+    /// steps.
+    pub fn reserve_all_back(&mut self) -> Result<(), NoMemory>
+        ensures ok { OnOk result (HasBackRooms self.new) }
+        ensures seats { self.new.seats ≡ self.old.seats }
+        ensures levels { self.new.levels ≡ self.old.levels }
+        ensures room { self.new.room ≡ self.old.room }
+    {
+        for step in 0..self.steps.len() {
+            self.reserve_for(step, self.out_of(step))?;
+        }
+        Ok(())
+    }
+
+    /// How many jobs of a step are out.
+    fn out_of(&self, step: usize) -> usize
+        requires { step < length self.now.levels }
+        ensures { result ≡ count_at is_out step self.now.seats }
+    {
+        self.steps[step].out as usize
+    }
+
+    /// Each job that is out is idle from now on, with the same try as its next. Answers how many were out. Takes no memory. Linear in
+    /// the seats, and for each that was out as `put_back`.
+    pub fn put_all_back(&mut self) -> u64
+        requires { HasBackRooms self.old }
+        ensures count { result ≡ out_count self.old.seats }
+        ensures seats { self.new.seats ≡ map back self.old.seats }
+        ensures levels { self.new.levels ≡ self.old.levels }
+        ensures room { self.new.room ≡ self.old.room }
+    {
+        let count = self.out;
+        for number in 0..self.len() {
+            self.call_back(number);
+        }
+        count
+    }
+
+    /// A job is idle from now on, if it is out.
+    fn call_back(&mut self, number: u64)
+        requires number { number < length self.old.seats }
+        requires rooms { HasBackRooms self.old }
+        ensures seats { self.new.seats ≡ with_back number self.old.seats }
+        ensures levels { self.new.levels ≡ self.old.levels }
+        ensures room { self.new.room ≡ self.old.room }
+        ensures rooms { HasBackRooms self.new }
+    {
+        match self.table.stage(number as usize) {
+            Stage::Out { activity, attempt } => self.put_back(number, activity, attempt),
+            _ => (),
+        }
+    }
+}
+
+/// The greater of two.
+fn wider(first: usize, second: usize) -> usize
+    ensures first { first ≤ result }
+    ensures second { second ≤ result }
+{
+    if first < second { second } else { first }
+}

@@ -1,0 +1,14 @@
+//! Where a known job stands.
+
+/// Where a known job stands. Activities and attempts count from 0.
+#[derive(Clone, Copy, Debug, PartialEq, Eq)]
+pub enum Stage {
+    /// It hasn't begun.
+    Waiting,
+    /// This try of it is out.
+    Out { activity: u32, attempt: u32 },
+    /// It runs, nothing of it is out, and this is its next try.
+    Idle { activity: u32, attempt: u32 },
+    /// It is done.
+    Settled,
+}

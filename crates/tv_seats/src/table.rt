@@ -1,0 +1,162 @@
+//! The seats by number.
+ghost use Rattle.std.specs.Prelude.{◌≡◌, ◌++◌, ◌∷◌, ◌<◌, ◌≤◌, ◌-◌, ◌+◌, ◌^◌, [], Some, length, option_map, slice_get, OnOk, OnErr};
+ghost use Rattle.tv_seats.specs.Seats.{new_seat, stage_at, stands, step_at, with_stage};
+ghost use Rattle.tv_seats.specs.Stages.{is_out, is_waiting};
+
+use crate::stage::Stage;
+use std::alloc::Global;
+use std::marker::Model;
+use tv_value::NoMemory;
+
+/// A seat: its step, where its place starts among all indices and how many it has, and its stage.
+#[derive(Clone, Copy, Debug)]
+pub struct Row {
+    step: u32,
+    start: usize,
+    levels: usize,
+    stage: Stage,
+}
+
+/// The seats by number. A contract sees their list, the most indices that a place has, and how many more there is room for.
+///
+/// The indices of all places stand in one list.
+#[derive(Debug, Drop)]
+pub struct Table {
+    widest: usize,
+    rows: Vec<Row>,
+    indices: Vec<u32>,
+    room: usize,
+}
+
+impl Model for Table {
+    ghost use Rattle.tv_seats.specs.Tables.{Rows};
+
+    ghost Value = { Rows };
+
+    ghost use Rattle.tv_seats.specs.Laid.{shown, IsLaid};
+
+    ghost view = { λ t. record { seats = shown t.indices.items t.rows.items; widest = t.widest; room = t.room } };
+
+    ghost invariant = { λ t. IsLaid t.rows t.indices t.widest t.room };
+}
+
+impl Table {
+    /// No seats, with places of at most so many indices. Takes no memory.
+    pub fn new(alloc: Global, widest: usize) -> Table
+        ensures seats { result.seats ≡ [] }
+        ensures widest { result.widest ≡ widest }
+        ensures room { result.room ≡ 0 }
+    {
+        Table {
+            widest,
+            rows: Vec::new(alloc),
+            indices: Vec::new(alloc),
+            room: 0,
+        }
+    }
+
+    /// How many seats there are.
+    pub fn len(&self) -> usize
+        ensures { result ≡ length self.now.seats }
+    {
+        self.rows.len()
+    }
+
+    /// Takes the room for so many more seats, where fewer than 2^32 are in all.
+    pub fn reserve(&mut self, count: usize) -> Result<(), NoMemory>
+        ensures seats { self.new.seats ≡ self.old.seats }
+        ensures widest { self.new.widest ≡ self.old.widest }
+        ensures ok { OnOk result (self.new.room ≡ count) }
+        ensures numbers { length self.new.seats + self.new.room < 2 ^ 32 }
+        ensures refused { OnErr result (self.new.room ≡ self.old.room) }
+    {
+        let Some(all) = self.rows.len().checked_add(count) else {
+            return Err(NoMemory);
+        };
+        if all > u32::MAX as usize {
+            return Err(NoMemory);
+        }
+        let Some(indices) = count.checked_mul(self.widest) else {
+            return Err(NoMemory);
+        };
+        self.rows.reserve(count)?;
+        self.indices.reserve(indices)?;
+        self.room = count;
+        Ok(())
+    }
+
+    /// One more seat, which waits. Takes no memory.
+    pub fn push(&mut self, step: u32, place: &[u32])
+        requires room { 0 < self.old.room }
+        requires width { length place.now ≤ self.old.widest }
+        ensures seats { self.new.seats ≡ self.old.seats ++ new_seat step place.now ∷ [] }
+        ensures widest { self.new.widest ≡ self.old.widest }
+        ensures room { self.new.room ≡ self.old.room - 1 }
+    {
+        let start = self.indices.len();
+        match self.indices.extend_from_slice(place) {
+            Ok(()) => (),
+            Err(_full) => unreachable!(),
+        }
+        self.rows.push_reserved(Row {
+            step,
+            start,
+            levels: place.len(),
+            stage: Stage::Waiting,
+        });
+        self.room -= 1;
+    }
+
+    /// The number of the seat's step.
+    pub fn step(&self, at: usize) -> u32
+        requires { at < length self.now.seats }
+        ensures { result ≡ step_at self.now.seats at }
+    {
+        self.rows[at].step
+    }
+
+    /// Its place.
+    pub fn place(&self, at: usize) -> &[u32]
+        requires { at < length self.now.seats }
+        ensures { Some result.now ≡ option_map (λ s. s.place) (slice_get self.now.seats at) }
+    {
+        let row = self.rows[at];
+        let (_before, from) = self.indices.as_slice().split_at(row.start);
+        let (place, _after) = from.split_at(row.levels);
+        place
+    }
+
+    /// Where its job stands.
+    pub fn stage(&self, at: usize) -> Stage
+        requires { at < length self.now.seats }
+        ensures { Some result ≡ stage_at self.now.seats at }
+    {
+        self.rows[at].stage
+    }
+
+    /// Whether its job waits.
+    pub fn is_waiting(&self, at: usize) -> bool
+        requires { at < length self.now.seats }
+        ensures { result ≡ stands is_waiting self.now.seats at }
+    {
+        matches!(self.rows[at].stage, Stage::Waiting)
+    }
+
+    /// Whether its job is out.
+    pub fn is_out(&self, at: usize) -> bool
+        requires { at < length self.now.seats }
+        ensures { result ≡ stands is_out self.now.seats at }
+    {
+        matches!(self.rows[at].stage, Stage::Out { .. })
+    }
+
+    /// The job stands there from now on.
+    pub fn set_stage(&mut self, at: usize, stage: Stage)
+        requires { at < length self.old.seats }
+        ensures seats { self.new.seats ≡ with_stage at stage self.old.seats }
+        ensures widest { self.new.widest ≡ self.old.widest }
+        ensures room { self.new.room ≡ self.old.room }
+    {
+        self.rows[at].stage = stage;
+    }
+}
