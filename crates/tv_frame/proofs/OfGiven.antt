@@ -1,9 +1,10 @@
 -- The feeds of a flow's ports by numbers: each input is there, each constant too, and merges are short.
 use Rattle.std.specs.List.{list_all}
-use Rattle.std.specs.Prelude.{◌≡◌, ℕ, ◌≤◌, true, List, [], ◌∷◌, is_some, length, map, Option, Some, option_and_then, slice_get}
+use Rattle.std.specs.Prelude.{◌≡◌, ℕ, ◌<◌, ◌≤◌, true, List, [], ◌∷◌, is_some, length, map, Option, Some, option_and_then, slice_get}
 use Rattle.std.proofs.Common.{arith, sym, ap, subst, ◌∙◌}
 use Rattle.std.proofs.lemmas.Bool.{leb-true}
 use Rattle.std.proofs.lemmas.List.{length-map}
+use Rattle.tv_value.specs.Readings.{length_limit}
 use Rattle.tv_value.specs.Values.{Name, Value}
 use Rattle.tv_flow.specs.Flows.{Feed, Flow, Link, Step, StepInput, constant, input, link, merge, output}
 use Rattle.tv_flow.specs.Formed.{is_feed, is_step_input}
@@ -21,9 +22,17 @@ use Rattle.tv_wires.specs.declared.wiring.Wiring.{Wiring}
 use Rattle.tv_wires.specs.Feeds.{feed_numbered, link_numbered}
 use Rattle.tv_wires.specs.Ports.{port_among, ports_of}
 use Rattle.tv_bound.specs.Constants.{constant_in, constant_of_port, flow_constants, port_constants, there}
+use Rattle.tv_bound.specs.Sourced.{IsCounted}
+use Rattle.tv_bound.proofs.OfSources.{links-many}
 use Rattle.tv_opening.specs.Openings.{IsFedFrom, IsInput}
 use Rattle.tv_frame.proofs.OfTables.{got-map, plan-wired, wiring-is}
 use Rattle.tv_frame.proofs.OfTrees.{position-within}
+
+few-links : (ls : List Link) → is_feed (merge ls) ≡ true → length ls ≤ 16
+few-links ls k = leb-true _ _ (both _ _ (both _ _ k).0).1
+
+small : (n : ℕ) → n ≤ 16 → n < length_limit
+small n l = omega (arith, l)
 
 module _ (f : Flow) where
   link-given : (l : Link) → is_there f l ≡ true → IsInput (length f.inputs) (link_numbered f l)
@@ -37,10 +46,17 @@ module _ (f : Flow) where
   pub feed-given : (d : Feed) → is_feed d ≡ true → list_all (is_there f) (feed_links d) ≡ true → (c : Option Value) → c ≡ constant_in d → IsFedFrom (length f.inputs) (is_some c) (feed_numbered f d)
   feed-given (link l) k h c e = link-given l (both _ _ h).0
   feed-given (merge ls) k h c e =
-      let few : length ls ≤ 16 = leb-true _ _ (both _ _ (both _ _ k).0).1 in
+      let few = few-links ls k in
       let many = length-map ls (link_numbered f) in
       (links-given ls h, omega (arith, few, many))
   feed-given (constant v) k h c e = ap is_some e
+
+  pub feed-counted : (d : Feed) → is_feed d ≡ true → IsCounted (feed_numbered f d)
+  feed-counted (link l) k = small 1 (omega arith)
+  feed-counted (merge ls) k =
+      subst (λ n. n < length_limit) (sym (links-many (map (link_numbered f) ls) ∙ length-map ls (link_numbered f)))
+      (small (length ls) (few-links ls k))
+  feed-counted (constant v) k = small 0 (omega arith)
 
   -- the constant of a step's port
   pub constant-at : (n m : ℕ) (s : Name × Step) (i : Name × StepInput) → slice_get f.steps n ≡ Some s → slice_get s.1.inputs m ≡ Some i → constant_of_port (flow_constants f) n m ≡ constant_in i.1.from
