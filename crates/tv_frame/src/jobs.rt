@@ -54,10 +54,15 @@ impl Frame {
 
     /// A known job by its number, `None` where none has it.
     pub fn job(&self, number: u64) -> Option<FrameJob>
-        requires { (plan : FlowPlan) × (pool : Nodes) × (flows : List (Name × Flow)) × (v : View) × Keeps flows plan pool self.now v }
+        requires { (plan : FlowPlan) × (pool : Nodes) × (flows : List (Name × Flow)) × (v : View)
+            × Keeps flows plan pool self.now v }
         ensures none { IsNone result → length (known_jobs self.now.intakes) ≤ number }
-        ensures some { IfSome result (λ j. slice_get (known_jobs self.now.intakes) number ≡ Some (j.step, j.place.now)) }
-        ensures error { IfSome result (λ j. (plan : FlowPlan) (pool : Nodes) (flows : List (Name × Flow)) (v : View) → Keeps flows plan pool self.now v → HoldsError v (named_job v.flow (j.step, j.place.now)) j.holds_error) }
+        ensures some { IfSome result (λ j. slice_get (known_jobs self.now.intakes) number
+            ≡ Some (j.step, j.place.now)) }
+        ensures error { IfSome result (λ j. (plan : FlowPlan) (pool : Nodes)
+            (flows : List (Name × Flow)) (v : View)
+            → Keeps flows plan pool self.now v
+            → HoldsError v (named_job v.flow (j.step, j.place.now)) j.holds_error) }
     {
         if number >= self.intakes.known() as u64 {
             return None;
@@ -72,8 +77,13 @@ impl Frame {
 
     /// The job runs from now on. Takes no memory. Amortized a logarithm in the idle jobs of its step.
     pub fn take(&mut self, plan: &FlowPlan, pool: &Nodes, number: u64)
-        requires ready { (flows : List (Name × Flow)) × (v : View) × (j : Name × Place) × Keeps flows plan.now pool.now self.old v × (numbered v number ≡ Some j) × IsReadyJob (levels_in v.flow) v j }
-        ensures kept { (flows : List (Name × Flow)) (v : View) (j : Name × Place) → Keeps flows plan.now pool.now self.old v → numbered v number ≡ Some j → IsReadyJob (levels_in v.flow) v j → Keeps flows plan.now pool.now self.new (with_event v (took j.0 j.1) []) }
+        requires ready { (flows : List (Name × Flow)) × (v : View) × (j : Name × Place)
+            × Keeps flows plan.now pool.now self.old v × (numbered v number ≡ Some j)
+            × IsReadyJob (levels_in v.flow) v j }
+        ensures kept { (flows : List (Name × Flow)) (v : View) (j : Name × Place)
+            → Keeps flows plan.now pool.now self.old v → numbered v number ≡ Some j
+            → IsReadyJob (levels_in v.flow) v j
+            → Keeps flows plan.now pool.now self.new (with_event v (took j.0 j.1) []) }
         ensures region { self.new.region ≡ self.old.region }
     {
         let (step, _, _) = self.intakes.job(number as usize);
@@ -85,9 +95,12 @@ impl Frame {
     /// The first ready job in job order, of those that stand after the given one: of the greatest rank, then with the least place.
     /// Linear in the steps, and in the known jobs of `after`'s step that came out of order.
     pub fn first_ready(&self, plan: &FlowPlan, pool: &Nodes, after: Option<u64>) -> Option<u64>
-        requires keeps { (flows : List (Name × Flow)) × (v : View) × Keeps flows plan.now pool.now self.now v }
+        requires keeps { (flows : List (Name × Flow)) × (v : View)
+            × Keeps flows plan.now pool.now self.now v }
         requires known { IfSome after (λ n. n < length (known_jobs self.now.intakes)) }
-        ensures first { (flows : List (Name × Flow)) (v : View) → Keeps flows plan.now pool.now self.now v → IsFirstReady (levels_in v.flow) v after result }
+        ensures first { (flows : List (Name × Flow)) (v : View)
+            → Keeps flows plan.now pool.now self.now v
+            → IsFirstReady (levels_in v.flow) v after result }
         ensures few { IfSome result (λ n. n < 2 ^ 32) }
     {
         match after {
@@ -106,8 +119,11 @@ impl Frame {
         pool: &Nodes,
         after: Option<(u32, &[u32])>,
     ) -> Option<u64>
-        requires { (flows : List (Name × Flow)) × (v : View) × Keeps flows plan.now pool.now self.now v }
-        ensures turn { result ≡ first_in_turn (may_settle plan.now.wiring self.now.endings) self.now.idle.steps self.now.tables.order.items (option_map (λ a. (a.0, a.1.now)) after.entry) }
+        requires { (flows : List (Name × Flow)) × (v : View)
+            × Keeps flows plan.now pool.now self.now v }
+        ensures turn { result
+            ≡ first_in_turn (may_settle plan.now.wiring self.now.endings) self.now.idle.steps
+            self.now.tables.order.items (option_map (λ a. (a.0, a.1.now)) after.entry) }
         ensures few { IfSome result (λ n. n < 2 ^ 32) }
     {
         let order = self.tables.order.as_slice();
@@ -119,24 +135,36 @@ impl Frame {
 
     /// Whether a step's jobs may settle: the steps that it runs after have ended.
     pub fn may_settle(&self, plan: &FlowPlan, pool: &Nodes, step: u32) -> bool
-        requires { (flows : List (Name × Flow)) × (v : View) × Keeps flows plan.now pool.now self.now v × (step < length v.flow.steps) }
-        ensures { (flows : List (Name × Flow)) (v : View) (s : Name × Step) → Keeps flows plan.now pool.now self.now v → IsStepAt v step s → result ≡ have_ended_by v.events (levels_in v.flow) (last_first (ranked v.flow.steps) []) (after_of v s.0) }
+        requires { (flows : List (Name × Flow)) × (v : View)
+            × Keeps flows plan.now pool.now self.now v × (step < length v.flow.steps) }
+        ensures { (flows : List (Name × Flow)) (v : View) (s : Name × Step)
+            → Keeps flows plan.now pool.now self.now v → IsStepAt v step s
+            → result
+            ≡ have_ended_by v.events (levels_in v.flow) (last_first (ranked v.flow.steps) [])
+            (after_of v s.0) }
     {
         self.endings.may_settle(&plan.wiring, step)
     }
 
     /// Whether some known job of a step neither runs nor has a result.
     pub fn has_idle(&self, step: u32) -> bool
-        requires { (plan : FlowPlan) × (pool : Nodes) × (flows : List (Name × Flow)) × (v : View) × Keeps flows plan pool self.now v × (step < length v.flow.steps) }
-        ensures { (plan : FlowPlan) (pool : Nodes) (flows : List (Name × Flow)) (v : View) (s : Name × Step) → Keeps flows plan pool self.now v → IsStepAt v step s → HasIdle v s.0 result }
+        requires { (plan : FlowPlan) × (pool : Nodes) × (flows : List (Name × Flow)) × (v : View)
+            × Keeps flows plan pool self.now v × (step < length v.flow.steps) }
+        ensures { (plan : FlowPlan) (pool : Nodes) (flows : List (Name × Flow)) (v : View)
+            (s : Name × Step)
+            → Keeps flows plan pool self.now v → IsStepAt v step s → HasIdle v s.0 result }
     {
         self.idle.has_idle(step)
     }
 
     /// The first ready job of a step, in order of place, of those that bind no fault.
     pub fn first_good(&self, plan: &FlowPlan, pool: &Nodes, step: u32) -> Option<u64>
-        requires { (flows : List (Name × Flow)) × (v : View) × Keeps flows plan.now pool.now self.now v × (step < length v.flow.steps) }
-        ensures first { (flows : List (Name × Flow)) (v : View) (s : Name × Step) → Keeps flows plan.now pool.now self.now v → IsStepAt v step s → IsFirstOfStep (levels_in v.flow) v (λ q. is_faulty_now self.now.intakes (step, q)) s.0 false result }
+        requires { (flows : List (Name × Flow)) × (v : View)
+            × Keeps flows plan.now pool.now self.now v × (step < length v.flow.steps) }
+        ensures first { (flows : List (Name × Flow)) (v : View) (s : Name × Step)
+            → Keeps flows plan.now pool.now self.now v → IsStepAt v step s
+            → IsFirstOfStep (levels_in v.flow) v (λ q. is_faulty_now self.now.intakes (step, q)) s.0
+            false result }
         ensures few { IfSome result (λ n. n < 2 ^ 32) }
     {
         if !self.may_settle(plan, pool, step) {
@@ -150,8 +178,12 @@ impl Frame {
 
     /// The first ready job of a step, in order of place, of those that bind a fault.
     pub fn first_faulty(&self, plan: &FlowPlan, pool: &Nodes, step: u32) -> Option<u64>
-        requires { (flows : List (Name × Flow)) × (v : View) × Keeps flows plan.now pool.now self.now v × (step < length v.flow.steps) }
-        ensures first { (flows : List (Name × Flow)) (v : View) (s : Name × Step) → Keeps flows plan.now pool.now self.now v → IsStepAt v step s → IsFirstOfStep (levels_in v.flow) v (λ q. is_faulty_now self.now.intakes (step, q)) s.0 true result }
+        requires { (flows : List (Name × Flow)) × (v : View)
+            × Keeps flows plan.now pool.now self.now v × (step < length v.flow.steps) }
+        ensures first { (flows : List (Name × Flow)) (v : View) (s : Name × Step)
+            → Keeps flows plan.now pool.now self.now v → IsStepAt v step s
+            → IsFirstOfStep (levels_in v.flow) v (λ q. is_faulty_now self.now.intakes (step, q)) s.0
+            true result }
         ensures few { IfSome result (λ n. n < 2 ^ 32) }
     {
         if !self.may_settle(plan, pool, step) {
@@ -172,10 +204,14 @@ impl Frame {
         pool: &Nodes,
         number: u64,
     ) -> Result<Pieces, NoMemory>
-        requires keeps { (flows : List (Name × Flow)) × (v : View) × Keeps flows plan.now pool.now self.now v }
+        requires keeps { (flows : List (Name × Flow)) × (v : View)
+            × Keeps flows plan.now pool.now self.now v }
         requires known { number < length (known_jobs self.now.intakes) }
         ensures sound { IfOk result AreSound }
-        ensures values { IfOk result (λ ps. (flows : List (Name × Flow)) (v : View) (j : Name × Place) → Keeps flows plan.now pool.now self.now v → numbered v number ≡ Some j → AreInputs v j (piece_values ps)) }
+        ensures values { IfOk result (λ ps. (flows : List (Name × Flow)) (v : View)
+            (j : Name × Place)
+            → Keeps flows plan.now pool.now self.now v → numbered v number ≡ Some j
+            → AreInputs v j (piece_values ps)) }
     {
         let (step, place, _) = self.intakes.job(number as usize);
         let place = Place::of(alloc, place)?;

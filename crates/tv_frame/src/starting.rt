@@ -43,10 +43,16 @@ pub(crate) fn start_steps(
     intakes: &mut Intakes,
     idle: &mut Idle,
 ) -> Result<(), NoMemory>
-    requires can { (flows : List (Name × Flow)) × CanStart flows plan.now (piece_values inputs.now) }
-    requires constants { constants_view tables.now.constants ≡ flow_constants (flow_view plan.now.flow) }
-    requires none { HaveBegun (flow_view plan.now.flow) (at_start (flow_view plan.now.flow) (given_values plan.now inputs.now)) 0 intakes.old idle.old }
-    ensures { OnOk result (HaveBegun (flow_view plan.now.flow) (at_start (flow_view plan.now.flow) (given_values plan.now inputs.now)) (length (flow_view plan.now.flow).steps) intakes.new idle.new) }
+    requires can { (flows : List (Name × Flow))
+        × CanStart flows plan.now (piece_values inputs.now) }
+    requires constants { constants_view tables.now.constants
+        ≡ flow_constants (flow_view plan.now.flow) }
+    requires none { HaveBegun (flow_view plan.now.flow)
+        (at_start (flow_view plan.now.flow) (given_values plan.now inputs.now)) 0 intakes.old
+        idle.old }
+    ensures { OnOk result (HaveBegun (flow_view plan.now.flow)
+        (at_start (flow_view plan.now.flow) (given_values plan.now inputs.now))
+        (length (flow_view plan.now.flow).steps) intakes.new idle.new) }
 {
     for (number, step) in plan.steps.as_slice().iter().enumerate() {
         let ports = plan.wiring.ports.as_slice()[number].as_slice();
@@ -65,11 +71,16 @@ fn start_step(
     intakes: &mut Intakes,
     idle: &mut Idle,
 ) -> Result<(), NoMemory>
-    requires begun { (f : Flow) × (tells : ℕ → Step → List TheTold) × HaveBegun f tells number intakes.old idle.old }
+    requires begun { (f : Flow) × (tells : ℕ → Step → List TheTold)
+        × HaveBegun f tells number intakes.old idle.old }
     requires suits { Suits step.now.mismatch (strategy_view step.now.tree) }
     requires agree { DotsAgree (number_of step.now.mismatch) (strategy_view step.now.tree) }
-    requires deep { step.now.depth ≡ strategy_depth (number_of step.now.mismatch) (strategy_view step.now.tree) }
-    ensures { OnOk result ((f : Flow) (tells : ℕ → Step → List TheTold) (s : Name × Step) → HaveBegun f tells number intakes.old idle.old → slice_get f.steps number ≡ Some s → step_plan_view step.now ≡ step_plan f s → HaveBegun f (but_at number tells) (number + 1) intakes.new idle.new) }
+    requires deep { step.now.depth
+        ≡ strategy_depth (number_of step.now.mismatch) (strategy_view step.now.tree) }
+    ensures { OnOk result ((f : Flow) (tells : ℕ → Step → List TheTold) (s : Name × Step)
+        → HaveBegun f tells number intakes.old idle.old → slice_get f.steps number ≡ Some s
+        → step_plan_view step.now ≡ step_plan f s
+        → HaveBegun f (but_at number tells) (number + 1) intakes.new idle.new) }
 {
     let known = intakes.known();
     intakes.add(alloc, &step.tree, &step.mismatch)?;
@@ -83,9 +94,16 @@ fn start_step(
 
 /// Makes these tellings of the last step, which was told nothing.
 fn tell(intakes: &mut Intakes, idle: &mut Idle, step: u32, told: &Tolds) -> Result<(), NoMemory>
-    requires begun { (f : Flow) × (tells : ℕ → Step → List TheTold) × (s : Name × Step) × HaveBegun f (but_at step tells) (step + 1) intakes.old idle.old × (slice_get f.steps step ≡ Some s) × IsLevelled (matcher_at intakes.old step) (of_step idle.old.steps step) }
+    requires begun { (f : Flow) × (tells : ℕ → Step → List TheTold) × (s : Name × Step)
+        × HaveBegun f (but_at step tells) (step + 1) intakes.old idle.old
+        × (slice_get f.steps step ≡ Some s)
+        × IsLevelled (matcher_at intakes.old step) (of_step idle.old.steps step) }
     requires can { CanHold (matcher_at intakes.old step) told.now }
-    ensures { OnOk result ((f : Flow) (tells : ℕ → Step → List TheTold) (s : Name × Step) → HaveBegun f (but_at step tells) (step + 1) intakes.old idle.old → slice_get f.steps step ≡ Some s → IsPermutation (map (told_view (strategy_of s.1)) told.now) (tells step s.1) → HaveBegun f tells (step + 1) intakes.new idle.new) }
+    ensures { OnOk result ((f : Flow) (tells : ℕ → Step → List TheTold) (s : Name × Step)
+        → HaveBegun f (but_at step tells) (step + 1) intakes.old idle.old
+        → slice_get f.steps step ≡ Some s
+        → IsPermutation (map (told_view (strategy_of s.1)) told.now) (tells step s.1)
+        → HaveBegun f tells (step + 1) intakes.new idle.new) }
 {
     intakes.hold(step, told)?;
     let jobs = intakes.make_room([step].as_slice())?;
@@ -106,8 +124,10 @@ fn step_start(
     step: usize,
     ports: &[Port],
 ) -> Result<Tolds, NoMemory>
-    requires fed { AreFed (length inputs.now) (constant_of_port (constants_view constants.now) step) ports.now }
-    ensures { IfOk result (λ ts. AreTellings ts (λ s. ports_start (piece_values inputs.now) (constant_of_port (constants_view constants.now) step) s ports.now)) }
+    requires fed { AreFed (length inputs.now) (constant_of_port (constants_view constants.now) step)
+        ports.now }
+    ensures { IfOk result (λ ts. AreTellings ts (λ s. ports_start (piece_values inputs.now)
+        (constant_of_port (constants_view constants.now) step) s ports.now)) }
 {
     let mut tellings = Vec::new(alloc);
     let count = ports.len();
