@@ -19,7 +19,7 @@ ghost use Rattle.tv_framing.specs.Views.{View};
 ghost use Rattle.tv_drawn.specs.Steps.{IsStepAt};
 ghost use Rattle.tv_turn.specs.FirstReady.{IsFirstReady};
 ghost use Rattle.tv_turn.specs.Turns.{first_in_turn, may_settle};
-ghost use Rattle.tv_frame.specs.Calls.{HoldsError};
+ghost use Rattle.tv_frame.specs.Calls.{HoldsError, IsJob};
 ghost use Rattle.tv_frame.specs.Kept.{Keeps, named_job};
 ghost use Rattle.tv_frame.specs.Ready.{HasIdle, IsFirstOfStep};
 ghost use Rattle.tv_frame.specs.Tables.{levels_in};
@@ -63,6 +63,9 @@ impl Frame {
             (flows : List (Name × Flow)) (v : View)
             → Keeps flows plan pool self.now v
             → HoldsError v (named_job v.flow (j.step, j.place.now)) j.holds_error) }
+        ensures stands { IfSome result (λ j. (plan : FlowPlan) (pool : Nodes)
+            (flows : List (Name × Flow)) (v : View)
+            → Keeps flows plan pool self.now v → IsJob v (named_job v.flow (j.step, j.place.now))) }
     {
         if number >= self.intakes.known() as u64 {
             return None;
@@ -165,6 +168,9 @@ impl Frame {
             → Keeps flows plan.now pool.now self.now v → IsStepAt v step s
             → IsFirstOfStep (levels_in v.flow) v (λ q. is_faulty_now self.now.intakes (step, q)) s.0
             false result }
+        ensures binds { (flows : List (Name × Flow)) (v : View) (s : Name × Step)
+            → Keeps flows plan.now pool.now self.now v → IsStepAt v step s
+            → IfSome result (λ n. (j : Name × Place) → numbered v n ≡ Some j → HoldsError v j false) }
         ensures few { IfSome result (λ n. n < 2 ^ 32) }
     {
         if !self.may_settle(plan, pool, step) {
@@ -184,6 +190,9 @@ impl Frame {
             → Keeps flows plan.now pool.now self.now v → IsStepAt v step s
             → IsFirstOfStep (levels_in v.flow) v (λ q. is_faulty_now self.now.intakes (step, q)) s.0
             true result }
+        ensures binds { (flows : List (Name × Flow)) (v : View) (s : Name × Step)
+            → Keeps flows plan.now pool.now self.now v → IsStepAt v step s
+            → IfSome result (λ n. (j : Name × Place) → numbered v n ≡ Some j → HoldsError v j true) }
         ensures few { IfSome result (λ n. n < 2 ^ 32) }
     {
         if !self.may_settle(plan, pool, step) {
