@@ -42,7 +42,8 @@ pub enum Settled {
 }
 
 impl Frame {
-    /// The job at a place of a step, which runs, has given these. Takes no memory.
+    /// The job at a place of a step, which runs, has given these. Takes no memory. A job that is idle is taken first, if need
+    /// be after `room_for_result`: only of one that was taken is it promised what follows.
     ///
     /// Costs what the steps that it feeds are told and what that brings, and for each output what arriving in its tree costs.
     pub fn result(

@@ -12,7 +12,7 @@ ghost use Rattle.tv_intake.specs.Intaken.{known_jobs};
 ghost use Rattle.tv_spread.specs.Spreads.{is_faulty_now};
 ghost use Rattle.tv_instance.specs.ByResults.{last_first};
 ghost use Rattle.tv_instance.specs.Counting.{have_ended_by};
-ghost use Rattle.tv_instance.specs.Events.{took};
+ghost use Rattle.tv_instance.specs.Events.{Event as TheEvent, took};
 ghost use Rattle.tv_framing.specs.Answers.{AreInputs, IsReadyJob, after_of, numbered};
 ghost use Rattle.tv_framing.specs.Frames.{with_event};
 ghost use Rattle.tv_framing.specs.Views.{View};
@@ -21,6 +21,7 @@ ghost use Rattle.tv_turn.specs.FirstReady.{IsFirstReady};
 ghost use Rattle.tv_turn.specs.Turns.{first_in_turn, may_settle};
 ghost use Rattle.tv_frame.specs.Calls.{HoldsError, IsJob};
 ghost use Rattle.tv_frame.specs.Kept.{Keeps, named_job};
+ghost use Rattle.tv_frame.specs.Prepared.{IsReadyFor};
 ghost use Rattle.tv_frame.specs.Ready.{HasIdle, IsFirstOfStep};
 ghost use Rattle.tv_frame.specs.Tables.{levels_in};
 
@@ -78,7 +79,8 @@ impl Frame {
         })
     }
 
-    /// The job runs from now on. Takes no memory. Amortized a logarithm in the idle jobs of its step.
+    /// The job runs from now on. What a room call made the frame ready for, it stays ready for. Takes no memory. Amortized a
+    /// logarithm in the idle jobs of its step.
     pub fn take(&mut self, plan: &FlowPlan, pool: &Nodes, number: u64)
         requires ready { (flows : List (Name × Flow)) × (v : View) × (j : Name × Place)
             × Keeps flows plan.now pool.now self.old v × (numbered v number ≡ Some j)
@@ -87,6 +89,11 @@ impl Frame {
             → Keeps flows plan.now pool.now self.old v → numbered v number ≡ Some j
             → IsReadyJob (levels_in v.flow) v j
             → Keeps flows plan.now pool.now self.new (with_event v (took j.0 j.1) []) }
+        ensures stays { (flows : List (Name × Flow)) (v : View) (j : Name × Place)
+            (n : ℕ) (s : Name × Step) (e : TheEvent)
+            → IsReadyFor flows plan.now pool.now self.old v n s e
+            → numbered v number ≡ Some j → IsReadyJob (levels_in v.flow) v j
+            → IsReadyFor flows plan.now pool.now self.new (with_event v (took j.0 j.1) []) n s e }
         ensures region { self.new.region ≡ self.old.region }
     {
         let (step, _, _) = self.intakes.job(number as usize);

@@ -50,7 +50,7 @@ settlements-may_come flows levels v frame depths e can = record {
   legal = λ instance results d x. can.1 instance results d (extends-parts results e v.events x).1;
 }
 
-taken-known : (instance : JobName) (s : Name) (q : Place) (es : Events) (o : Origin) → known_by instance es o ≡ known_by instance (took s q ∷ es) o
+pub taken-known : (instance : JobName) (s : Name) (q : Place) (es : Events) (o : Origin) → known_by instance es o ≡ known_by instance (took s q ∷ es) o
 taken-known instance s q es o = by o.known
   where
     by : (k : Known) → is_known_by instance es k ≡ is_known_by instance (took s q ∷ es) k
