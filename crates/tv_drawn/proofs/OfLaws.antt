@@ -1,16 +1,14 @@
 -- The laws as they are stated.
-use Rattle.std.specs.Prelude.{◌≡◌, refl, ℕ, ◌++◌, Bool, true, List, [], ◌∷◌, map, Option, Some, slice_get, IsPermutation}
+use Rattle.std.specs.Prelude.{◌≡◌, refl, ℕ, ◌++◌, Bool, List, [], ◌∷◌, map, Option, Some, slice_get, IsPermutation}
 use Rattle.std.proofs.Common.{sym, ap, subst, ◌∙◌}
-use Rattle.std.proofs.Math.Path.{fun_ext}
 use Rattle.std.proofs.lemmas.List.Sorted.{IsPermutation-sym, IsPermutation-trans, IsPermutation-map}
 use Rattle.tv_value.specs.Nested.{at}
 use Rattle.tv_value.specs.Orders.{same_name}
 use Rattle.tv_value.specs.Values.{JobName, Name, Value}
 use Rattle.tv_flow.specs.Flows.{Flow, Step}
 use Rattle.tv_strategy.specs.Conditions.{number_of}
-use Rattle.tv_strategy.specs.Iterations.{walk}
 use Rattle.tv_strategy.specs.Measures.{leaf_names}
-use Rattle.tv_strategy.specs.Origins.{Known, Origin, at_start, by_job, by_level, plain}
+use Rattle.tv_strategy.specs.Origins.{Origin, plain}
 use Rattle.tv_strategy.specs.Sources.{Each}
 use Rattle.tv_naming.specs.Numbers.{position}
 use Rattle.tv_naming.proofs.OfForms.{steps-named}
@@ -30,20 +28,19 @@ use Rattle.tv_matching.proofs.OfMembers.{each-from, each-in, in-permutes, in-rig
 use Rattle.tv_matching.proofs.Onces.{known-once}
 use Rattle.tv_matching.proofs.Permutes.{flat-permutes}
 use Rattle.tv_instance.specs.ByResults.{InstanceStep, PlacedJob, Results}
-use Rattle.tv_instance.specs.Events as events
-use Rattle.tv_instance.specs.Events.{Event, Events, Extends, event_step, fault_set, gave, has_result, is_known_by, is_telling, known_by, took}
+use Rattle.tv_instance.specs.Events.{Event, Events, Extends, known_by}
 use Rattle.tv_instance.specs.Legality.{AreLegal}
 use Rattle.tv_model.specs.RightDepths.{HaveTheseDepths}
 use Rattle.tv_framing.proofs.OfArriving.{extends-parts}
-use Rattle.tv_framing.proofs.OfFrames.{frame-comes, in-finds, result-legal, steps-distinct}
+use Rattle.tv_framing.proofs.OfFrames.{frame-comes, in-finds, steps-distinct}
 use Rattle.tv_framing.proofs.OfPossible.{some-possible}
-use Rattle.tv_framing.specs.Answers.{AreInputsOf, is_settlement}
+use Rattle.tv_framing.specs.Answers.{AreInputsOf}
 use Rattle.tv_framing.specs.Frames.{new_jobs, with_event}
 use Rattle.tv_framing.specs.Gaining.{gained_items}
 use Rattle.tv_framing.specs.Views.{AreGiven, AreOfDepth, View, steps_with}
 use Rattle.tv_kept.specs.Told.{PortIsTold}
 use Rattle.tv_drawn.specs.Items.{StandAtParts, part_of_port}
-use Rattle.tv_drawn.specs.Stated.{AllWaitAtFirst, FlowsStay, FramesStart, GivenGoesOn, JobsBindParts, KnownJobsAreMatched, NewJobsAreBrought, NextCanBeTold, NothingSettlesWhereNothingWaits, OutcomesAreKnown, OutcomesComeInAnyOrder, PartsAreInputs, PassedFaultsStand, ResultsMayCome, SettlementsMayCome, StepsAreToldInAnyOrder, TakingLeavesWaiting, TakingTellsNothing, WaitingFaultsCanSettle, WaitingGoesOn, WaitingInAnyOrder, WaitingListsCanSettle}
+use Rattle.tv_drawn.specs.Stated.{AllWaitAtFirst, FlowsStay, FramesStart, GivenGoesOn, JobsBindParts, KnownJobsAreMatched, NewJobsAreBrought, NextCanBeTold, NothingSettlesWhereNothingWaits, OutcomesAreKnown, OutcomesComeInAnyOrder, PartsAreInputs, PassedFaultsStand, StepsAreToldInAnyOrder, TakingLeavesWaiting, WaitingFaultsCanSettle, WaitingGoesOn, WaitingInAnyOrder, WaitingListsCanSettle}
 use Rattle.tv_drawn.specs.Steps.{IsOfRankedFlow, IsStepAt}
 use Rattle.tv_drawn.proofs.OfBinding.{job-of, same-values}
 use Rattle.tv_drawn.proofs.OfJobs.{all-steps, ends-permute, gained-jobs}
@@ -116,20 +113,6 @@ outcomes-come_in_any_order v s ts us os ps h k w = record {
       (IsPermutation-map (out (strategy_of s.1)) (matched_after (strategy_of s.1) ts) (matched_after (strategy_of s.1) us) (tellings-in_any_order (strategy_of s.1) ts us h)));
 }
 
-pub taking-tells_nothing : TakingTellsNothing
-taking-tells_nothing v t s q ts k instance results depth x f i e =
-    each-weaken (PortIsTold instance v.events ts) (PortIsTold instance (took t q ∷ v.events) ts)
-    (λ d g values same. subst (λ (known : Origin → Bool). IsPermutation (map (seen values) (told_to ts d.0)) (known_items known (walk d.0 d.1.mismatch d.1.value))) (sym (fun_ext one)) (g values same))
-    f.step.inputs (k instance results depth x f i e)
-  where
-    by : (k : Known) → is_known_by instance (took t q ∷ v.events) k ≡ is_known_by instance v.events k
-    by at_start = refl
-    by (by_job n) = refl
-    by (by_level n) = refl
-
-    one : (o : Origin) → known_by instance (took t q ∷ v.events) o ≡ known_by instance v.events o
-    one o = by o.known
-
 pub next-can_be_told : NextCanBeTold
 next-can_be_told flows levels v w given n s a ts more h leaves m mismatch_is told_is =
     let r = some-possible v [] given in
@@ -199,15 +182,6 @@ given-goes_on flows levels v w given n s a q vs depths fresh = (
   given,
 )
 
-pub results-may_come : ResultsMayCome
-results-may_come flows levels v w frame n s a q vs i depths fresh = record {
-  frame = frame;
-  depths = w.depths;
-  tells = refl;
-  given = given-goes_on flows levels v w frame.given n s a q vs depths fresh;
-  legal = λ instance results depth x. result-legal v frame s.0 q vs i fresh instance results depth (older results (gave s.0 q vs) v.events x);
-}
-
 -- ---- what jobs bind
 
 pub jobs-bind_parts : JobsBindParts
@@ -228,27 +202,6 @@ parts-are_inputs flows levels v w n s a q vs h instance results depth x =
     (h instance results depth x f i e ∙ ap (λ y. map {B = Option Value} (λ (d : Name × Ported). at (plain d.1.value) (part_of_port v.flow s.1 y d.0)) f.step.inputs) (sym place) ∙ sym g.parts)))
 
 -- ---- lists and faults
-
-settlement-tells : (e : Event) → is_settlement e ≡ true → is_telling e ≡ true
-settlement-tells (gave s q vs) h = refl
-settlement-tells (events.closed s q n) h = refl
-settlement-tells (fault_set s q d) h = refl
-settlement-tells (took s q) h = h
-
-settlement-given : (ss : List (Name × Step)) (es : Events) (e : Event) → is_settlement e ≡ true → AreGiven ss es → AreGiven ss (e ∷ es)
-settlement-given ss es (gave s q vs) h k = absurd (cc)
-settlement-given ss es (events.closed s q n) h k = k
-settlement-given ss es (fault_set s q d) h k = k
-settlement-given ss es (took s q) h k = k
-
-pub settlements-may_come : SettlementsMayCome
-settlements-may_come flows levels v w frame e can = record {
-  frame = frame;
-  depths = w.depths;
-  tells = settlement-tells e can.0;
-  given = settlement-given (ranked v.flow.steps) v.events e can.0 frame.given;
-  legal = λ instance results depth x. can.1 instance results depth (older results e v.events x);
-}
 
 pub waiting_lists-can_settle : WaitingListsCanSettle
 waiting_lists-can_settle flows levels v w n s a ts os h q m i fresh = (

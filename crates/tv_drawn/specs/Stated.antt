@@ -75,12 +75,6 @@ OutcomesComeInAnyOrder =
     (v : View) (s : Name × Step) (ts us : List Told) (os ps : List Outcome)
     → IsPermutation ts us → IsPermutation os ps → IsStepTold v s ts os → IsStepTold v s us ps
 
--- a job that is taken tells no port anything
-abbrev pub TakingTellsNothing : Type 0
-TakingTellsNothing =
-    (v : View) (t s : Name) (q : Place) (ts : List Told) → StepIsTold v s ts
-    → StepIsTold (with_event v (took t q) []) s ts
-
 -- where more tellings name a port each, and with them each port of the step was told what is known
 -- of its walk, a matcher that was told the others can be told these
 abbrev pub NextCanBeTold : Type 0
@@ -137,16 +131,6 @@ GivenGoesOn =
     → HaveTheseDepths (declared_depths s.1) vs → has_result v.events s.0 q ≡ false
     → AreGiven (ranked v.flow.steps) (gave s.0 q vs ∷ v.events)
 
--- so that is an event that may come next
-abbrev pub ResultsMayCome : Type 0
-ResultsMayCome =
-    (flows : List (Name × Flow)) (levels : Name → ℕ) (v : View) → IsOfRankedFlow flows levels v
-    → IsFrame v
-    → (n : ℕ) (s : Name × Step) → IsStepAt v n s → (q : Place) (vs : List Value)
-    → In (s.0, q) v.jobs
-    → HaveTheseDepths (declared_depths s.1) vs → has_result v.events s.0 q ≡ false
-    → IsNextEvent flows levels v (gave s.0 q vs)
-
 -- ---- what jobs bind
 
 -- of each port what stands in its value at the port's part of the job's place
@@ -166,13 +150,6 @@ PartsAreInputs =
     → AreInputs v (s.0, q) vs
 
 -- ---- lists and faults
-
--- what can be settled is an event that may come next
-abbrev pub SettlementsMayCome : Type 0
-SettlementsMayCome =
-    (flows : List (Name × Flow)) (levels : Name → ℕ) (v : View) → IsOfRankedFlow flows levels v
-    → IsFrame v
-    → (e : Event) → CanSettle v e → IsNextEvent flows levels v e
 
 -- a list of which nothing was told can be closed
 abbrev pub WaitingListsCanSettle : Type 0

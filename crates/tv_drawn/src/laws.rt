@@ -1,5 +1,5 @@
 //! What holds of the definitions alone: each law is the clause of a function that does nothing.
-ghost use Rattle.tv_drawn.specs.Stated.{AllWaitAtFirst, FlowsStay, FramesStart, GivenGoesOn, JobsBindParts, KnownJobsAreMatched, NewJobsAreBrought, NextCanBeTold, NothingSettlesWhereNothingWaits, OutcomesAreKnown, OutcomesComeInAnyOrder, PartsAreInputs, PassedFaultsStand, ResultsMayCome, SettlementsMayCome, StepsAreToldInAnyOrder, TakingLeavesWaiting, TakingTellsNothing, WaitingFaultsCanSettle, WaitingGoesOn, WaitingInAnyOrder, WaitingListsCanSettle};
+ghost use Rattle.tv_drawn.specs.Stated.{AllWaitAtFirst, FlowsStay, FramesStart, GivenGoesOn, JobsBindParts, KnownJobsAreMatched, NewJobsAreBrought, NextCanBeTold, NothingSettlesWhereNothingWaits, OutcomesAreKnown, OutcomesComeInAnyOrder, PartsAreInputs, PassedFaultsStand, StepsAreToldInAnyOrder, TakingLeavesWaiting, WaitingFaultsCanSettle, WaitingGoesOn, WaitingInAnyOrder, WaitingListsCanSettle};
 
 /// What a step's matcher brings are the known items of the step's iteration, and a passed fault is the one at its leaf's
 /// part of the place.
@@ -8,13 +8,11 @@ pub fn outcomes()
     ensures faults { PassedFaultsStand }
 {}
 
-/// A matcher can be told what its ports gain; in which order it was told and brings doesn't matter, and a job that is
-/// taken tells nothing.
+/// A matcher can be told what its ports gain; in which order it was told and brings doesn't matter.
 pub fn tellings()
     ensures next { NextCanBeTold }
     ensures order { StepsAreToldInAnyOrder }
     ensures outcomes { OutcomesComeInAnyOrder }
-    ensures taking { TakingTellsNothing }
 {}
 
 /// The jobs of a frame are those that its matchers bring, at the start and with each event.
@@ -23,7 +21,6 @@ pub fn jobs()
     ensures start { FramesStart }
     ensures new { NewJobsAreBrought }
     ensures given { GivenGoesOn }
-    ensures results { ResultsMayCome }
     ensures stays { FlowsStay }
 {}
 
@@ -38,7 +35,6 @@ pub fn settlements()
     ensures lists { WaitingListsCanSettle }
     ensures faults { WaitingFaultsCanSettle }
     ensures nothing { NothingSettlesWhereNothingWaits }
-    ensures next { SettlementsMayCome }
 {}
 
 /// What waits at the start and after each event.

@@ -3,14 +3,12 @@ use Rattle.std.specs.Prelude.{◌≡◌, refl, ℕ, ◌+◌, ◌==◌, ◌∷◌
 use Rattle.std.specs.Option.{option_map_or}
 use Rattle.std.specs.Cmp.Lexicographic.{bytes_decides}
 use Rattle.std.proofs.Common.{sym, ap, subst, ◌∙◌}
-use Rattle.std.proofs.lemmas.Bool.{true≢false}
 use Rattle.tv_value.specs.Nested.{Place, list, no_trees}
 use Rattle.tv_value.specs.Orders.{same_name}
 use Rattle.tv_value.specs.Values.{Name, Value, fault_value}
 use Rattle.tv_flow.specs.Flows.{Flow, Step}
 use Rattle.tv_strategy.specs.Levels.{HasLevels}
 use Rattle.tv_naming.proofs.FormedParts.{steps-ascend}
-use Rattle.tv_depths.specs.Ranks.{ranked}
 use Rattle.tv_matching.specs.Items.{Bound, Kind, Stopped, closes, ends, passes}
 use Rattle.tv_matching.proofs.OfMembers.{each-in, in-permutes}
 use Rattle.tv_matching.proofs.Permutes.{perm-from}
@@ -20,61 +18,27 @@ use Rattle.std.proofs.lemmas.List.Sorted.{IsPermutation-sym}
 use Rattle.tv_instance.specs.ByResults.{InstanceStep}
 use Rattle.tv_instance.specs.Counting.{whole_by}
 use Rattle.tv_instance.specs.Events as events
-use Rattle.tv_instance.specs.Events.{Event, event_place, event_step, fault_set, gave, has_result, is_taken, is_telling, known_by, took}
+use Rattle.tv_instance.specs.Events.{Event, event_place, event_step, fault_set, gave, has_result, is_taken, known_by, took}
 use Rattle.tv_instance.specs.Legality.{IsLegalNext}
 use Rattle.tv_instances.proofs.OfLegal.{legal-fit}
 use Rattle.tv_model.specs.Members.{In}
-use Rattle.tv_framing.specs.Answers.{is_settlement}
 use Rattle.tv_framing.specs.Arriving.{levels_below, part_so_far, put_event}
 use Rattle.tv_framing.specs.Frames.{FitsKind, IsFrame, known_jobs, new_jobs, with_event}
 use Rattle.tv_framing.specs.Stated.{IsOfDepths}
-use Rattle.tv_framing.specs.Views.{AreGiven, InAll, View, steps_with}
-use Rattle.tv_framing.proofs.OfArriving.{extends-parts}
+use Rattle.tv_framing.specs.Views.{InAll, View, steps_with}
 use Rattle.tv_framing.proofs.OfEndings.{leveled-in_all}
-use Rattle.tv_framing.proofs.OfFrames.{frame-comes, in-finds, job-end, known-legal, result-legal, steps-distinct, taken-gains}
+use Rattle.tv_framing.proofs.OfFrames.{frame-comes, in-finds, job-end, known-legal, steps-distinct, taken-gains}
 use Rattle.tv_framing.proofs.OfPossible.{some-possible}
 use Rattle.tv_told.specs.Stated.{IsFrom}
 use Rattle.tv_joined.specs.TurningTrees.{CanPut, HasRightLength, IsNextOf, whole_from}
 use Rattle.tv_joined.proofs.OfTrees.{events-put, trees-turn, trees-whole}
 use Rattle.tv_joined.proofs.OfWires.{position-same}
 use Rattle.tv_fed.specs.Fed.{event_number}
-use Rattle.tv_fed.specs.Coming.{EventsAreInTrees, NextMakesFrame, ResultsMayCome, SettlementsMayCome, TakingMakesFrame, TreesAreWholeWithSteps, TreesGoOn, put_here}
+use Rattle.tv_fed.specs.Coming.{EventsAreInTrees, NextMakesFrame, TakingMakesFrame, TreesAreWholeWithSteps, TreesGoOn, put_here}
 use Rattle.tv_framing.specs.PortTellings.{newly_by}
 use Rattle.tv_fed.proofs.OfNext.{first, fit, fs, legal, leveled, of-event}
 use Rattle.tv_fed.proofs.OfStanding.{stands}
 use Rattle.tv_fed.proofs.OfWholeSteps.{named-there, position-of}
-
--- ---- which events may come
-
-pub results-may_come : ResultsMayCome
-results-may_come flows levels v frame depths s q vs known new given = record {
-  frame = frame;
-  depths = depths;
-  tells = refl;
-  given = given;
-  legal = λ instance results d x. result-legal v frame s q vs known new instance results d x.1;
-}
-
-settled-given : (steps : List (Name × Step)) (e : Event) (es : List Event) → is_settlement e ≡ true → AreGiven steps es → AreGiven steps (e ∷ es)
-settled-given steps (gave s q vs) es h g = absurd (true≢false (sym h))
-settled-given steps (events.closed s q n) es h g = g
-settled-given steps (fault_set s q d) es h g = g
-settled-given steps (took s q) es h g = absurd (true≢false (sym h))
-
-settled-tells : (e : Event) → is_settlement e ≡ true → is_telling e ≡ true
-settled-tells (gave s q vs) h = refl
-settled-tells (events.closed s q n) h = refl
-settled-tells (fault_set s q d) h = refl
-settled-tells (took s q) h = h
-
-pub settlements-may_come : SettlementsMayCome
-settlements-may_come flows levels v frame depths e can = record {
-  frame = frame;
-  depths = depths;
-  tells = settled-tells e can.0;
-  given = settled-given (ranked v.flow.steps) e v.events can.0 frame.given;
-  legal = λ instance results d x. can.1 instance results d (extends-parts results e v.events x).1;
-}
 
 -- ---- what a frame is after one
 

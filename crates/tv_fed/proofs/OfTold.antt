@@ -1,16 +1,15 @@
 -- What the matcher of a step was told goes on with each event.
-use Rattle.std.specs.Prelude.{◌≡◌, refl, ℕ, suc, ◌+◌, ◌≤◌, ◌==◌, ◌&&◌, ◌++◌, Bool, true, nat_le, flat_map, length, List, [], ◌∷◌, map, slice_get, Some, IsPermutation}
+use Rattle.std.specs.Prelude.{◌≡◌, refl, ℕ, suc, ◌+◌, ◌≤◌, ◌==◌, ◌&&◌, ◌++◌, true, nat_le, flat_map, length, List, [], ◌∷◌, map, slice_get, Some, IsPermutation}
 use Rattle.std.proofs.Common.{arith, sym, ap, subst, ◌∙◌}
 use Rattle.std.proofs.lemmas.Bool.{eq-eqb, eqb-true, leb-true, or_right, le-leb}
 use Rattle.std.proofs.lemmas.Grind.{flat_map-append}
 use Rattle.std.proofs.lemmas.List.{map-append}
 use Rattle.std.proofs.lemmas.List.Sorted.{IsPermutation-append_left, IsPermutation-map, IsPermutation-sym, IsPermutation-trans}
-use Rattle.tv_value.specs.Nested.{Place}
 use Rattle.tv_value.specs.Orders.{same_name}
 use Rattle.tv_value.specs.Values.{JobName, Name}
 use Rattle.tv_flow.specs.Flows.{Flow, Step, StepInput}
 use Rattle.tv_strategy.specs.Iterations.{walk}
-use Rattle.tv_strategy.specs.Origins.{Known, Origin, Traced, at_start, by_job, by_level}
+use Rattle.tv_strategy.specs.Origins.{Origin, Traced}
 use Rattle.tv_strategy.specs.Sources.{Each}
 use Rattle.tv_depths.specs.Steps.{strategy_of}
 use Rattle.tv_matching.specs.Items.{Bound, Item, Stopped, if_so, known_items}
@@ -20,11 +19,10 @@ use Rattle.tv_matching.proofs.Permutes.{flat-permutes, perm-from}
 use Rattle.tv_telling.specs.Views.{whole_telling}
 use Rattle.tv_wires.specs.Ports.{levels_of}
 use Rattle.tv_instance.specs.ByResults.{InstanceStep, Results}
-use Rattle.tv_instance.specs.Events.{Event, Events, Extends, event_place, event_step, is_known_by, known_by, took}
+use Rattle.tv_instance.specs.Events.{Event, Events, Extends, event_place, event_step, known_by}
 use Rattle.tv_instance.proofs.OfWholeness.{same_tests}
 use Rattle.tv_instances.proofs.OfEvents.{hits, one-more}
 use Rattle.tv_model.specs.Members.{In}
-use Rattle.tv_model.proofs.Turns.{each-map}
 use Rattle.tv_framing.specs.Gaining.{gained_items}
 use Rattle.tv_framing.specs.PortTellings.{placed, port_told, seen_told}
 use Rattle.tv_framing.specs.Views.{AreOfDepth, View}
@@ -36,7 +34,7 @@ use Rattle.tv_joined.proofs.OfTold.{events-tell}
 use Rattle.tv_kept.specs.NextEvents.{IsNextEvent, is_whole_step}
 use Rattle.tv_kept.specs.Told.{PortIsTold}
 use Rattle.tv_fed.specs.Fed.{IsFed, event_number, given_at, has_all_now, newly, port_of}
-use Rattle.tv_fed.specs.Stated.{TakingTellsNothing, ToldGoesOn}
+use Rattle.tv_fed.specs.Stated.{ToldGoesOn}
 use Rattle.tv_fed.proofs.OfNext.{fs, legal, of-event, older}
 use Rattle.tv_fed.proofs.OfPorts.{ports-are_fed}
 
@@ -137,19 +135,3 @@ told-goes_on flows levels v e next wired n s stands_at ts was faults from c seen
     ∙ ap (λ b. map (seen_told values) (port_told (newly levels v e) e (given_at v.flow e) i.0 (b && takes_whole_with v.flow (is_whole_step levels v) (event_number v e) s.1 i) (levels_of v.flow i.1) i.1.from))
     (sym (turned-is flows levels v e next wired instance results depth told from turns)))
     f there name (was instance results depth (older flows levels v e next wired instance results depth told) f there name)
-
--- ---- a job that is taken
-
-taken-known : (instance : JobName) (s : Name) (q : Place) (es : Events) (o : Origin) → known_by instance es o ≡ known_by instance (took s q ∷ es) o
-taken-known instance s q es o = by o.known
-  where
-    by : (k : Known) → is_known_by instance es k ≡ is_known_by instance (took s q ∷ es) k
-    by at_start = refl
-    by (by_job n) = refl
-    by (by_level n) = refl
-
-pub taking-tells_nothing : TakingTellsNothing
-taking-tells_nothing v s q new t ts was instance results depth told f there name =
-    each-map (PortIsTold instance v.events ts) (PortIsTold instance (took s q ∷ v.events) ts)
-    (λ d h values have. subst (λ (known : Origin → Bool). IsPermutation (map (seen values) (told_to ts d.0)) (known_items known (walk d.0 d.1.mismatch d.1.value))) (λ i o. taken-known instance s q v.events o i) (h values have))
-    f.step.inputs (was instance results depth told f there name)

@@ -1,39 +1,22 @@
--- Laws of the events that come in a frame: which may come next, what a frame is after one, and how it is put into trees.
+-- Laws of the events that come in a frame: what a frame is after one, and how it is put into trees.
 use Rattle.std.specs.Prelude.{◌≡◌, ℕ, ◌+◌, ◌==◌, false, true, List, [], ◌∷◌, Some, slice_get, unwrap_or}
 use Rattle.tv_value.specs.Nested.{Place, list, no_trees}
 use Rattle.tv_value.specs.Values.{Name, Value, fault_value}
 use Rattle.tv_flow.specs.Flows.{Flow, Step}
-use Rattle.tv_depths.specs.Ranks.{ranked}
 use Rattle.tv_parts.specs.Changes.{arrive, close_at}
 use Rattle.tv_parts.specs.Partials.{Partial, whole}
 use Rattle.tv_instance.specs.Events as events
 use Rattle.tv_instance.specs.Events.{Event, event_place, event_step, fault_set, gave, has_result, is_taken, took}
 use Rattle.tv_model.specs.Members.{In}
-use Rattle.tv_framing.specs.Answers.{CanSettle}
 use Rattle.tv_framing.specs.Arriving.{levels_below, part_so_far}
 use Rattle.tv_framing.specs.Frames.{AreNewWith, IsFrame, with_event}
 use Rattle.tv_framing.specs.Stated.{IsOfDepths}
-use Rattle.tv_framing.specs.Views.{AreGiven, View}
+use Rattle.tv_framing.specs.Views.{View}
 use Rattle.tv_told.specs.Stated.{IsFrom}
 use Rattle.tv_joined.specs.TurningTrees.{CanPut, HasRightLength, whole_from}
 use Rattle.tv_joined.specs.WiredFlows.{IsWired}
 use Rattle.tv_kept.specs.NextEvents.{IsNextEvent, is_whole_step}
 use Rattle.tv_fed.specs.Fed.{event_number, newly}
-
--- ---- which events may come
-
--- the result of a known job that has none, where its values are of the declared depths
-abbrev pub ResultsMayCome : Type 0
-ResultsMayCome =
-    (flows : List (Name × Flow)) (levels : Name → ℕ) (v : View) → IsFrame v → IsOfDepths flows levels v
-    → (s : Name) (q : Place) (vs : List Value) → In (s, q) v.jobs → has_result v.events s q ≡ false
-    → AreGiven (ranked v.flow.steps) (gave s q vs ∷ v.events) → IsNextEvent flows levels v (gave s q vs)
-
--- a list or a fault that can settle
-abbrev pub SettlementsMayCome : Type 0
-SettlementsMayCome =
-    (flows : List (Name × Flow)) (levels : Name → ℕ) (v : View) → IsFrame v → IsOfDepths flows levels v
-    → (e : Event) → CanSettle v e → IsNextEvent flows levels v e
 
 -- ---- what a frame is after one
 

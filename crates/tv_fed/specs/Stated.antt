@@ -55,12 +55,6 @@ UntouchedStayTold =
     → (ts : List Told) → StepIsTold v s.0 ts
     → (new : List (Name × Place)) → StepIsTold (with_event v e new) s.0 ts
 
--- nor does any step where a job is taken
-abbrev pub TakingTellsNothing : Type 0
-TakingTellsNothing =
-    (v : View) (s : Name) (q : Place) (new : List (Name × Place)) (t : Name) (ts : List Told)
-    → StepIsTold v t ts → StepIsTold (with_event v (took s q) new) t ts
-
 -- ---- which steps are whole
 
 -- the event's step becomes whole where all prefixes of the event's place do, and wasn't so before; no other step does

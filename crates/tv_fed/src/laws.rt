@@ -1,8 +1,8 @@
 //! What holds of the definitions alone: each law is the clause of a function that does nothing.
-ghost use Rattle.tv_fed.specs.Coming.{EventsAreInTrees, NextMakesFrame, ResultsMayCome, SettlementsMayCome, TakingMakesFrame, TreesAreWholeWithSteps, TreesGoOn};
+ghost use Rattle.tv_fed.specs.Coming.{EventsAreInTrees, NextMakesFrame, TakingMakesFrame, TreesAreWholeWithSteps, TreesGoOn};
 ghost use Rattle.tv_fed.specs.Fed.{PortsAreFed};
 ghost use Rattle.tv_fed.specs.Seen.{EventsAreSeen};
-ghost use Rattle.tv_fed.specs.Stated.{EndingsGoOn, EndingsStart, MarksAreWholeSteps, TakingEndsNothing, TakingTellsNothing, ToldGoesOn, UntouchedStayTold, WholeStepsGoOn};
+ghost use Rattle.tv_fed.specs.Stated.{EndingsGoOn, EndingsStart, MarksAreWholeSteps, TakingEndsNothing, ToldGoesOn, UntouchedStayTold, WholeStepsGoOn};
 
 /// How the ports of steps are fed when an event comes.
 pub fn feeding()
@@ -13,7 +13,6 @@ pub fn feeding()
 pub fn telling()
     ensures touched { ToldGoesOn }
     ensures untouched { UntouchedStayTold }
-    ensures taking { TakingTellsNothing }
     ensures seen { EventsAreSeen }
 {}
 
@@ -26,10 +25,8 @@ pub fn wholeness()
     ensures marks { MarksAreWholeSteps }
 {}
 
-/// Which events may come next in a frame, and that it is one after them.
+/// A frame is one after each event that comes next.
 pub fn coming()
-    ensures results { ResultsMayCome }
-    ensures settlements { SettlementsMayCome }
     ensures next { NextMakesFrame }
     ensures taking { TakingMakesFrame }
 {}

@@ -6,7 +6,7 @@
 //! - so what the matcher of each step was told, with what is told to it along the wires from the event's step and of the ports
 //!   that have all of their feeds now, is what is known of the step's ports; and no step is whole that wasn't so but the event's,
 //!   as the counters of steps mark it (`specs/Stated.antt`);
-//! - which events may come next, that it is a frame after them, and that they can be put into the trees of outputs
+//! - it is a frame after each event that may come next, and the event can be put into the trees of outputs
 //!   (`specs/Coming.antt`); how the code has them (`specs/Seen.antt`).
 //!
 //! All of it is so for every instance of the flow on its inputs, with all results that have what was told.

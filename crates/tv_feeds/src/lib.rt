@@ -4,7 +4,7 @@
 //! whole. Nothing is counted for that. A merge has at most 16 links, and each step becomes whole once, so the links of the
 //! ports that it feeds are looked at then (`specs/Feeds.antt`).
 //!
-//! - `ports`: the ports that have their value with a step
+//! - `ports`: whether a port has its value with a step
 //! - `laws`: that a port has it once
 #![tactic(auto)]
 
@@ -13,4 +13,4 @@ mod ports;
 #[cfg(test)]
 mod tests;
 
-pub use ports::{has_whole, is_whole_with, ports_whole_with};
+pub use ports::{has_whole, is_whole_with};

@@ -1,12 +1,10 @@
-ghost use Rattle.std.specs.Prelude.{◌≡◌, length, IfOk};
+ghost use Rattle.std.specs.Prelude.{◌≡◌, length};
 ghost use Rattle.std.specs.List.{list_all, list_any};
 ghost use Rattle.tv_strategy.specs.Sources.{Each};
 ghost use Rattle.tv_endings.specs.Ends.{is_whole};
-ghost use Rattle.tv_feeds.specs.Feeds.{IsLinkWithin, IsWithin, feed_from, feed_whole, has_whole_with, leaves_whole_with, link_from, link_whole, with_step};
+ghost use Rattle.tv_feeds.specs.Feeds.{IsLinkWithin, IsWithin, feed_from, feed_whole, has_whole_with, link_from, link_whole, with_step};
 
-use std::alloc::Global;
 use tv_endings::Endings;
-use tv_value::NoMemory;
 use tv_wires::{NumberedFeed, NumberedLink, Port};
 
 /// Whether all that a link delivers is known once a step is whole, beside those that are.
@@ -82,24 +80,4 @@ pub fn has_whole(port: &Port, endings: &Endings, step: u32) -> bool
     ensures { result ≡ has_whole_with (is_whole endings.now) step port.now }
 {
     port.levels == 0 && (is_from(&port.feed, step) && is_whole_with(&port.feed, endings, step))
-}
-
-/// The leaves of those ports of a step that have their whole value once the given step is whole, and not without it, in the order of
-/// the ports. Linear in the ports' links.
-pub fn ports_whole_with(
-    alloc: Global,
-    ports: &[Port],
-    endings: &Endings,
-    step: u32,
-) -> Result<Vec<u32>, NoMemory>
-    requires { Each (λ p. IsWithin (length endings.now.whole.items) p.feed) ports.now }
-    ensures { IfOk result (λ ls. ls.items ≡ leaves_whole_with (is_whole endings.now) step ports.now) }
-{
-    let mut leaves = Vec::new(alloc);
-    for port in ports {
-        if has_whole(port, endings, step) {
-            leaves.push(port.leaf)?;
-        }
-    }
-    Ok(leaves)
 }

@@ -2,14 +2,14 @@
 ghost use Rattle.std.specs.Prelude.{◌<◌, IfOk};
 ghost use Rattle.tv_feeds.specs.Feeds.{IsWithin};
 
-use crate::ports_whole_with;
+use crate::has_whole;
 use std::alloc::Global;
 use std::test::Fail;
 use tv_endings::Endings;
 use tv_value::{NoMemory, Sequence};
 use tv_wires::{NumberedFeed, NumberedLink, Port};
 
-fn merging(alloc: Global, levels: u32, leaf: u32, step: u32) -> Result<Port, NoMemory>
+fn merging(alloc: Global, levels: u32, step: u32) -> Result<Port, NoMemory>
     requires { step < 3 }
     ensures { IfOk result (λ p. IsWithin 3 p.feed) }
 {
@@ -17,7 +17,7 @@ fn merging(alloc: Global, levels: u32, leaf: u32, step: u32) -> Result<Port, NoM
     Ok(Port {
         feed: NumberedFeed::Merge(Sequence::of(links)),
         levels,
-        leaf,
+        leaf: 0,
     })
 }
 
@@ -30,12 +30,8 @@ fn ports_have_their_values_with_the_last_step(rt: HostRuntime) -> Result<(), Fai
         Sequence::empty(alloc),
     ];
     let endings = Endings::start(alloc, &after)?;
-    let ports = [
-        merging(alloc, 0, 5, 1)?,
-        merging(alloc, 1, 6, 1)?,
-        merging(alloc, 0, 7, 2)?,
-    ];
-    let leaves = ports_whole_with(alloc, &ports, &endings, 1)?;
-    assert!(rt; leaves.as_slice() == [5].as_slice());
+    assert!(rt; has_whole(&merging(alloc, 0, 1)?, &endings, 1));
+    assert!(rt; !has_whole(&merging(alloc, 1, 1)?, &endings, 1));
+    assert!(rt; !has_whole(&merging(alloc, 0, 2)?, &endings, 1));
     Ok(())
 }

@@ -48,6 +48,7 @@ pub mod OfJobPorts
 pub mod OfTakingOnce
 pub mod OfTakingIdle
 pub mod OfTaking
+pub mod OfReadyStays
 pub mod OfFaultingTrees
 pub mod OfFaultingSteps
 pub mod OfFaultingFeeds

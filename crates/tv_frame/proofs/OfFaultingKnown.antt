@@ -1,28 +1,23 @@
 -- What a frame's sources tell is all that is known of inputs and outputs, the feeds of ports are counted, and tables are read.
 use Rattle.std.specs.List.{range_with_len}
 use Rattle.std.specs.Option.{option_map_or}
-use Rattle.std.specs.Prelude.{◌≡◌, refl, ℕ, zero, suc, ◌+◌, ◌<◌, ◌≤◌, nat_le, true, List, [], ◌∷◌, length, map, Option, Some, slice_get, slice_index_or, unwrap_or}
+use Rattle.std.specs.Prelude.{◌≡◌, refl, ℕ, zero, suc, ◌+◌, ◌<◌, true, List, [], ◌∷◌, length, map, Option, Some, slice_get, slice_index_or, unwrap_or}
 use Rattle.std.proofs.Common.{arith, sym, ap, subst, ◌∙◌}
-use Rattle.std.proofs.lemmas.Bool.{and_parts, leb-true}
-use Rattle.std.proofs.lemmas.List.{length-map}
 use Rattle.std.proofs.lemmas.List.FromFn.{get_or-map-range_with_len, length-map-range_with_len}
 use Rattle.std.proofs.lemmas.Option.{get_or_from_slice_get, none-some, same_Some}
 use Rattle.tv_value.specs.Nested.{list, no_trees}
-use Rattle.tv_value.specs.Readings.{length_limit}
 use Rattle.tv_value.specs.Values.{Name, Value}
-use Rattle.tv_flow.specs.Flows.{Feed, Flow, Step, constant, link, merge, output}
-use Rattle.tv_flow.specs.Formed.{is_between, is_feed}
-use Rattle.tv_naming.specs.Naming.{has_name, is_there, numbered}
+use Rattle.tv_flow.specs.Flows.{Flow, Step, output}
+use Rattle.tv_naming.specs.Naming.{has_name, is_there}
 use Rattle.tv_naming.specs.Numbers.{position}
 use Rattle.tv_naming.proofs.ByPosition.{there}
-use Rattle.tv_wires.specs.declared.feeds.NumberedLink.{NumberedLink}
-use Rattle.tv_wires.specs.Feeds.{feed_numbered, link_numbered, outputs_of}
+use Rattle.tv_wires.specs.Feeds.{outputs_of}
 use Rattle.tv_outputs.specs.Kept as outputs
 use Rattle.tv_outputs.specs.Known.{Nodes, known, tree_in}
 use Rattle.tv_cell.specs.PieceValues.{piece_values}
 use Rattle.tv_cell.specs.Soundness.{AreSound}
 use Rattle.tv_bound.specs.declared.sources.Sources.{Sources}
-use Rattle.tv_bound.specs.Sourced.{IsCounted, Stand, known_by, tree_from}
+use Rattle.tv_bound.specs.Sourced.{Stand, known_by, tree_from}
 use Rattle.tv_check.specs.declared.plans.FlowPlan.{FlowPlan}
 use Rattle.tv_depths.proofs.OfRanked.{inside}
 use Rattle.tv_model.specs.Instances.{value_given}
@@ -87,23 +82,6 @@ module _ (flows : List (Name × Flow)) (plan : FlowPlan) (pool : Nodes) (f : Fra
 
   pub knows-all : KnowsAll levels v (known_by a)
   knows-all = record { inputs = input-so; outputs = tree-so }
-
--- ---- the feeds of ports are counted
-
-length-numbered : (ls : List NumberedLink) (b : ℕ) → length (numbered b ls) ≡ length ls
-length-numbered [] b = refl
-length-numbered (l ∷ ls) b = ap suc (length-numbered ls (suc b))
-
-small : (n : ℕ) → n ≤ 16 → n < length_limit
-small n l = omega (arith, l)
-
-pub feed-counted : (f : Flow) (d : Feed) → is_feed d ≡ true → IsCounted (feed_numbered f d)
-feed-counted f (link l) h = small 1 (omega arith)
-feed-counted f (merge ls) h =
-    let b = and_parts (is_between 1 16 (length ls)) _ h in
-    subst (λ n. n < length_limit) (sym (length-map (numbered 0 (map (link_numbered f) ls)) _ ∙ length-numbered (map (link_numbered f) ls) 0 ∙ length-map ls (link_numbered f)))
-    (small (length ls) (leb-true (length ls) 16 (and_parts (nat_le 1 (length ls)) (nat_le (length ls) 16) b.0).1))
-feed-counted f (constant w) h = small 0 (omega arith)
 
 -- ---- tables
 

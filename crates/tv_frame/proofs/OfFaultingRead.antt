@@ -36,7 +36,8 @@ use Rattle.tv_frame.specs.declared.frame.Frame.{Frame}
 use Rattle.tv_frame.specs.Kept.{Keeps, followed_by}
 use Rattle.tv_frame.specs.Tables.{levels_at, step_starts}
 use Rattle.tv_frame.proofs.OfFaulting.{begins, fault-found, from, port-there, takes}
-use Rattle.tv_frame.proofs.OfFaultingKnown.{feed-counted, index-mapped, knows-all, read-there}
+use Rattle.tv_frame.proofs.OfFaultingKnown.{index-mapped, knows-all, read-there}
+use Rattle.tv_frame.proofs.OfGiven.{feed-counted}
 use Rattle.tv_frame.proofs.OfHoldAround.{wiring-kept}
 use Rattle.tv_frame.proofs.OfHoldTold.{at-mapped}
 use Rattle.tv_frame.proofs.OfKeeping.{kept-wired}

@@ -1,10 +1,8 @@
 -- What a step is told at the start can be told.
-use Rattle.std.specs.List.{list_all, list_any}
-use Rattle.std.specs.Prelude.{◌≡◌, refl, ℕ, zero, suc, ◌+◌, ◌<◌, ◌≤◌, true, ◌&&◌, List, [], ◌∷◌, ◌++◌, IsPermutation, if◌then◌else◌, length, map, Option, Some, None, slice_get}
+use Rattle.std.specs.Prelude.{◌≡◌, refl, ℕ, zero, suc, ◌+◌, ◌<◌, ◌≤◌, true, ◌&&◌, List, [], ◌∷◌, ◌++◌, IsPermutation, if◌then◌else◌, is_some, length, map, Option, Some, None, slice_get}
 use Rattle.std.proofs.Common.{arith, sym, ap, subst, ◌∙◌, append-nil, eq-eqb, get_or}
 use Rattle.std.proofs.lemmas.List.{length-map}
 use Rattle.std.proofs.lemmas.List.Sorted.{IsPermutation-append, IsPermutation-map, IsPermutation-sym}
-use Rattle.tv_value.specs.Orders.{same_name}
 use Rattle.tv_value.specs.Strategies.{Strategy}
 use Rattle.tv_value.specs.Values.{Name, Value}
 use Rattle.tv_value.specs.Views.{strategy_view}
@@ -15,7 +13,6 @@ use Rattle.tv_flow.specs.Views.{flow_view}
 use Rattle.tv_strategy.specs.Conditions.{Suits, number_of}
 use Rattle.tv_strategy.specs.Measures.{DotsAgree, leaf_names, strategy_depth}
 use Rattle.tv_strategy.specs.Sources.{Each}
-use Rattle.tv_naming.specs.Naming.{feed_links, is_there}
 use Rattle.tv_naming.proofs.FormedParts.{all-pass, passes, step-at, step-inputs}
 use Rattle.tv_naming.proofs.OfLists.{both}
 use Rattle.tv_naming.proofs.OfTold.{get-map, got-in}
@@ -44,12 +41,13 @@ use Rattle.tv_spread.specs.Spreads.{IsLevelled}
 use Rattle.tv_telling.specs.Views.{AreTellings}
 use Rattle.tv_bound.specs.Constants.{FlowConstants, constant_of_port, flow_constants}
 use Rattle.tv_framing.specs.Views.{View}
+use Rattle.tv_opening.specs.Openings.{IsFedFrom}
 use Rattle.tv_begun.specs.Starts.{port_start, step_start}
 use Rattle.tv_begun.specs.Stated.{IsBegun}
 use Rattle.tv_begun.proofs.OfLaws.{start-can_be_told}
 use Rattle.tv_begun.proofs.OfStarts.{feed-to}
 use Rattle.tv_frame.specs.Calls.{CanStart}
-use Rattle.tv_frame.specs.FirstTellings.{IsGivenFeed, ports_start}
+use Rattle.tv_frame.specs.FirstTellings.{AreFed, ports_start}
 use Rattle.tv_frame.specs.Started.{HasBegun, HaveBegun, but_at, named_values}
 use Rattle.tv_frame.specs.Tables.{levels_in}
 use Rattle.tv_frame.proofs.OfFirstTellings.{ports-start}
@@ -122,9 +120,7 @@ module _ (flows : List (Name × Flow)) (p : FlowPlan) (vs : List Value) (can : C
   pub told-is : (ts : List code.Told) (ports : List Port) (constants : ℕ → Option Value) → constants ≡ constant_of_port (flow_constants (flow_view p.flow)) n → ports ≡ ports_of (flow_view p.flow) s.1 → AreTellings ts (λ g. ports_start vs constants g ports) → IsPermutation (map (told_view (strategy_of s.1)) ts) (step_start (flow_view p.flow) (named_values (flow_view p.flow).inputs vs) s.1)
   told-is ts ports constants c e h =
       subst (λ l. IsPermutation l (step_start (flow_view p.flow) (named_values (flow_view p.flow).inputs vs) s.1)) (sym (h (strategy_of s.1) ∙ ap (λ k. ports_start vs k (strategy_of s.1) ports) c ∙ ap (ports_start vs (constant_of_port (flow_constants (flow_view p.flow)) n) (strategy_of s.1)) e))
-      (ports-start (flow_view p.flow) vs (many flows p vs can) s.1 (constant_of_port (flow_constants (flow_view p.flow)) n) (λ j i there. constant-at (flow_view p.flow) n j s i at there)
-      (passes (λ (t : Name × Step). list_all (λ i. list_any (same_name i.0) (leaf_names (strategy_of t.1))) t.1.inputs) (flow_view p.flow).steps n s (plan-wired p).leaves at)
-      (passes (λ (t : Name × Step). list_all (λ i. list_all (is_there (flow_view p.flow)) (feed_links i.1.from)) t.1.inputs) (flow_view p.flow).steps n s (plan-wired p).links at))
+      (ports-start (flow_view p.flow) (plan-wired p) vs (many flows p vs can) n s at (constant_of_port (flow_constants (flow_view p.flow)) n) (λ k i there. constant-at (flow_view p.flow) n k s i at there))
 
   -- ---- a step's plan
 
@@ -169,11 +165,11 @@ ports-own p n s r at e =
     let g : Some r ≡ Some (ports_of (flow_view p.flow) s.1) = sym e ∙ ap (λ (w : Wiring). slice_get w.ports n) (wiring-is p) ∙ get-map (λ (t : Name × Step). ports_of (flow_view p.flow) t.1) (flow_view p.flow).steps n s at in
     cc
 
-pub given-ports : (flows : List (Name × Flow)) (p : FlowPlan) (inputs : List Piece) → CanStart flows p (piece_values inputs) → (n : ℕ) (r ports : List Port) → slice_get p.wiring.ports n ≡ Some r → ports ≡ r → (k : FlowConstants) → k ≡ flow_constants (flow_view p.flow) → (number : ℕ) (port : Port) → slice_get ports number ≡ Some port → IsGivenFeed (length inputs) (constant_of_port k n number) port.feed
+pub given-ports : (flows : List (Name × Flow)) (p : FlowPlan) (inputs : List Piece) → CanStart flows p (piece_values inputs) → (n : ℕ) (r ports : List Port) → slice_get p.wiring.ports n ≡ Some r → ports ≡ r → (k : FlowConstants) → k ≡ flow_constants (flow_view p.flow) → AreFed (length inputs) (constant_of_port k n) ports
 given-ports flows p inputs can n r ports e is k k_is number port there =
     let count : length inputs ≡ length (flow_view p.flow).inputs = sym (length-map inputs piece_value) ∙ many flows p (piece_values inputs) can in
-    subst (λ c. IsGivenFeed c (constant_of_port k n number) port.feed) (sym count)
-    (subst (λ m. IsGivenFeed (length (flow_view p.flow).inputs) (constant_of_port m n number) port.feed) (sym k_is)
+    subst (λ c. IsFedFrom c (is_some (constant_of_port k n number)) port.feed) (sym count)
+    (subst (λ m. IsFedFrom (length (flow_view p.flow).inputs) (is_some (constant_of_port m n number)) port.feed) (sym k_is)
     (ports-given p n r e number port (ap (λ l. slice_get l number) (sym is) ∙ there)))
 
 pub all-begun : (p : FlowPlan) (steps : List StepPlan) → steps ≡ p.steps → (n : ℕ) → length steps ≤ n → n ≤ length steps → n ≡ length (flow_view p.flow).steps

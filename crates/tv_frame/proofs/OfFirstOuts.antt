@@ -1,16 +1,15 @@
 -- The outputs of a flow without steps: they come from inputs and constants, so all of them are there at the start.
 use Rattle.std.specs.List.{list_all}
 use Rattle.std.specs.Option.{option_map_or}
-use Rattle.std.specs.Prelude.{◌≡◌, refl, ℕ, ◌+◌, ◌<◌, ◌≤◌, ◌&&◌, true, false, IsTrue, is_some, length, List, [], ◌∷◌, map, nat_le, Some, option_and_then, slice_index_or, unwrap_or}
+use Rattle.std.specs.Prelude.{◌≡◌, refl, ℕ, ◌+◌, ◌<◌, ◌&&◌, true, false, IsTrue, is_some, length, List, [], ◌∷◌, map, Some, option_and_then, slice_index_or, unwrap_or}
 use Rattle.std.proofs.Common.{arith, sym, ap, ap₂, subst, ◌∙◌, true≢false}
-use Rattle.std.proofs.lemmas.Bool.{and_parts, leb-true}
+use Rattle.std.proofs.lemmas.Bool.{and_parts}
 use Rattle.std.proofs.lemmas.List.{length-map}
 use Rattle.std.proofs.lemmas.Option.{same_Some}
 use Rattle.tv_value.specs.Orders.{named}
-use Rattle.tv_value.specs.Readings.{length_limit}
 use Rattle.tv_value.specs.Values.{Name, Value}
-use Rattle.tv_flow.specs.Flows.{Feed, Flow, Step, constant, input, link, merge, output}
-use Rattle.tv_flow.specs.Formed.{is_between, is_feed, is_link}
+use Rattle.tv_flow.specs.Flows.{Feed, Flow, Step, input, output}
+use Rattle.tv_flow.specs.Formed.{is_feed}
 use Rattle.tv_flow.specs.Forms.{is_name}
 use Rattle.tv_flow.specs.Views.{flow_view}
 use Rattle.tv_strategy.specs.Origins.{plain}
@@ -27,13 +26,12 @@ use Rattle.tv_cell.specs.Soundness.{AreSound}
 use Rattle.tv_check.specs.declared.plans.FlowPlan.{FlowPlan}
 use Rattle.tv_wires.specs.declared.feeds.NumberedFeed.{NumberedFeed}
 use Rattle.tv_wires.specs.declared.wiring.Wiring.{Wiring}
-use Rattle.tv_wires.specs.Feeds.{feed_numbered, link_numbered}
+use Rattle.tv_wires.specs.Feeds.{feed_numbered}
 use Rattle.tv_bound.specs.Constants.{FlowConstants, constant_in, constant_of_output, flow_constants}
 use Rattle.tv_bound.specs.Delivered.{FlowValues, feed_value, no_items}
 use Rattle.tv_bound.specs.Found.{Known}
 use Rattle.tv_bound.specs.Jobs.{outputs_found}
 use Rattle.tv_bound.specs.Sourced.{IsCounted}
-use Rattle.tv_bound.proofs.OfSources.{links-many}
 use Rattle.tv_model.specs.Instances.{given_of, value_given}
 use Rattle.tv_instance.specs.ByResults.{InstanceStep, step_of}
 use Rattle.tv_framing.specs.Answers.{AreOutputs}
@@ -44,30 +42,20 @@ use Rattle.tv_frame.specs.Calls.{CanStart}
 use Rattle.tv_frame.specs.Started.{AreFirstOuts}
 use Rattle.tv_frame.proofs.OfComing.{as-declared}
 use Rattle.tv_frame.proofs.OfFeeds.{AreLinkValues, feed-numbered, input-numbered}
+use Rattle.tv_frame.proofs.OfGiven.{feed-counted}
 use Rattle.tv_frame.proofs.OfHoldAround.{within-get}
 use Rattle.tv_frame.proofs.OfOutputLinks.{has_output_links, output-links}
 use Rattle.tv_frame.proofs.OfOutsFound.{IsAllWhole, constant_or, outputs-whole, whole_values}
 use Rattle.tv_frame.proofs.OfTables.{plan-wired, wiring-is}
 
--- ---- merges are short
-
-small : (n : ℕ) → n ≤ 16 → n < length_limit
-small n l = omega (arith, l)
+-- ---- feeds are counted
 
 module _ (f : Flow) where
-  feed-counted : (d : Feed) → is_feed d ≡ true → IsCounted (feed_numbered f d)
-  feed-counted (link l) h = small 1 (omega arith)
-  feed-counted (merge ls) h =
-      let b = and_parts (is_between 1 16 (length ls)) (list_all is_link ls) h in
-      subst (λ n. n < length_limit) (sym (links-many (map (link_numbered f) ls) ∙ length-map ls (link_numbered f)))
-      (small (length ls) (leb-true (length ls) 16 (and_parts (nat_le 1 (length ls)) (nat_le (length ls) 16) b.0).1))
-  feed-counted (constant w) h = small 0 (omega arith)
-
   all-counted : (os : List (Name × Feed)) → list_all (λ (o : Name × Feed). is_name o.0 && is_feed o.1) os ≡ true → Each IsCounted (map (λ (o : Name × Feed). feed_numbered f o.1) os)
   all-counted [] h = tt
   all-counted (o ∷ os) h =
       let b = and_parts (is_name o.0 && is_feed o.1) (list_all (λ (u : Name × Feed). is_name u.0 && is_feed u.1) os) h in
-      (feed-counted o.1 (and_parts (is_name o.0) (is_feed o.1) b.0).1, all-counted os b.1)
+      (feed-counted f o.1 (and_parts (is_name o.0) (is_feed o.1) b.0).1, all-counted os b.1)
 
 outputs-are : (plan : FlowPlan) → plan.wiring.outputs ≡ map (λ (o : Name × Feed). feed_numbered (flow_view plan.flow) o.1) (flow_view plan.flow).outputs
 outputs-are plan = ap (λ (w : Wiring). w.outputs) (wiring-is plan)

@@ -75,7 +75,7 @@ use Rattle.tv_frame.specs.declared.frame.Frame.{Frame}
 use Rattle.tv_frame.specs.Kept.{Keeps, named_job}
 use Rattle.tv_frame.specs.Tables.{levels_in}
 use Rattle.tv_frame.proofs.OfFirstRooms.{plan-parts}
-use Rattle.tv_frame.proofs.OfGiven.{constant-at, ports-at}
+use Rattle.tv_frame.proofs.OfGiven.{constant-at, feed-counted, ports-at}
 use Rattle.tv_frame.proofs.OfHoldAround.{fewer-trees, levels-measured, wiring-kept}
 use Rattle.tv_frame.proofs.OfIdling.{mapped-get}
 use Rattle.tv_frame.proofs.OfJobPorts.{AreBoundAt, IsPortHere, job-binds}
@@ -83,7 +83,6 @@ use Rattle.tv_frame.proofs.OfJobs as jobs
 use Rattle.tv_frame.proofs.OfJobValues.{job-leaves}
 use Rattle.tv_frame.proofs.OfKeeping.{kept-ranked, kept-wired, levels-are}
 use Rattle.tv_frame.proofs.OfKnownFeeds.{IsKnownIn}
-use Rattle.tv_frame.proofs.OfFaultingKnown.{feed-counted}
 use Rattle.tv_frame.proofs.OfOuts.{IsSourcesOf, tree-known, tree-named}
 use Rattle.tv_frame.proofs.OfPlans.{dots-agree, step-suits}
 use Rattle.tv_frame.proofs.OfTables.{as-many-steps, step-of}

@@ -21,7 +21,7 @@ use Rattle.tv_framing.specs.Views.{View}
 use Rattle.tv_told.specs.Stated.{IsFrom}
 use Rattle.tv_kept.specs.NextEvents.{IsNextEvent}
 use Rattle.tv_drawn.specs.Steps.{IsStepAt}
-use Rattle.tv_drawn.proofs.OfLaws.{settlements-may_come}
+use Rattle.tv_kept.proofs.OfLaws.{settlements-may_come}
 use Rattle.tv_fed.specs.Fed.{newly}
 use Rattle.tv_fed.specs.Seen.{IsCodeOf}
 use Rattle.tv_frame.specs.declared.frame.Frame.{Frame}
@@ -30,7 +30,7 @@ use Rattle.tv_frame.specs.Kept.{Keeps}
 use Rattle.tv_frame.specs.Prepared.{IsComing, IsReadyFor, event_value}
 use Rattle.tv_frame.specs.Tables.{first_tree, levels_in, trees_of}
 use Rattle.tv_frame.proofs.OfComing.{counts-of, is-coming}
-use Rattle.tv_frame.proofs.OfKeeping.{keeps-ahead, kept-ranked}
+use Rattle.tv_frame.proofs.OfKeeping.{keeps-ahead}
 use Rattle.tv_frame.proofs.OfPutting.{all-arrive, can-put, depth-here, one-tree, outputs-few, right-length, trees-there, turns-at}
 
 -- ---- what is put aside
@@ -73,7 +73,7 @@ module _ (flows : List (Name × Flow)) (plan : FlowPlan) (pool : Nodes) (f : Fra
   levels = levels_in v.flow
 
   pub fault-next : IsNextEvent flows levels v passing
-  fault-next = settlements-may_come flows levels v (kept-ranked flows plan pool f v k) k.frame passing can
+  fault-next = settlements-may_come flows levels v k.frame k.of_depths passing can
 
   fault-short : length q ≤ levels s.0
   fault-short = let l : length q < levels s.0 = right-length flows plan pool f v n s k at passing fault-next refl in omega (arith, l)

@@ -24,8 +24,9 @@ use Rattle.tv_framing.specs.Frames.{with_event}
 use Rattle.tv_framing.specs.Views.{View}
 use Rattle.tv_told.specs.Stated.{IsFrom}
 use Rattle.tv_kept.specs.NextEvents.{IsNextEvent}
+use Rattle.tv_kept.proofs.OfLaws.{results-may_come, settlements-may_come}
 use Rattle.tv_drawn.specs.Steps.{IsStepAt}
-use Rattle.tv_drawn.proofs.OfLaws.{results-may_come, settlements-may_come}
+use Rattle.tv_drawn.proofs.OfLaws.{given-goes_on}
 use Rattle.tv_fed.specs.Fed.{newly}
 use Rattle.tv_fed.specs.Seen.{IsCodeOf}
 use Rattle.tv_frame.specs.declared.frame.Frame.{Frame}
@@ -96,7 +97,9 @@ module _ (flows : List (Name × Flow)) (plan : FlowPlan) (pool : Nodes) (f : Fra
   levels = levels_in v.flow
 
   pub result-next : IsNextEvent flows levels v result
-  result-next = results-may_come flows levels v (kept-ranked flows plan pool f v k) k.frame n s at q (piece_values ps) may.known may.right may.new
+  result-next =
+      results-may_come flows levels v k.frame k.of_depths s.0 q (piece_values ps) may.known may.new
+      (given-goes_on flows levels v (kept-ranked flows plan pool f v k) k.frame.given n s at q (piece_values ps) may.right may.new)
 
   result-many : length ps ≡ length s.1.outputs
   result-many = given-many s ps may.right
@@ -167,7 +170,7 @@ module _ (flows : List (Name × Flow)) (plan : FlowPlan) (pool : Nodes) (f : Fra
   its_levels = levels_in v.flow
 
   pub close-next : IsNextEvent flows its_levels v closing
-  close-next = settlements-may_come flows its_levels v (kept-ranked flows plan pool f v k) k.frame closing can
+  close-next = settlements-may_come flows its_levels v k.frame k.of_depths closing can
 
   close-short : length q < its_levels s.0
   close-short = right-length flows plan pool f v n s k at closing close-next refl

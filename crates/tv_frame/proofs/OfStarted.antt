@@ -96,12 +96,12 @@ have-many [] (v ∷ vs) h = absurd h
 have-many (d ∷ ds) [] h = absurd h
 have-many (d ∷ ds) (v ∷ vs) h = ap suc (have-many ds vs h.1)
 
-value-names : (xs : List (Name × ℕ)) (vs : List Value) → length vs ≡ length xs → map (λ x. x.0) (named_values xs vs) ≡ map (λ x. x.0) xs
+pub value-names : (xs : List (Name × ℕ)) (vs : List Value) → length vs ≡ length xs → map (λ x. x.0) (named_values xs vs) ≡ map (λ x. x.0) xs
 value-names [] vs e = refl
 value-names (x ∷ xs) [] e = cc
 value-names (x ∷ xs) (v ∷ vs) e = ap (λ l. x.0 ∷ l) (value-names xs vs (omega (arith, e)))
 
-values-named : (xs : List (Name × ℕ)) (vs : List Value) → length vs ≡ length xs → map (λ x. x.1) (named_values xs vs) ≡ vs
+pub values-named : (xs : List (Name × ℕ)) (vs : List Value) → length vs ≡ length xs → map (λ x. x.1) (named_values xs vs) ≡ vs
 values-named [] [] e = refl
 values-named [] (v ∷ vs) e = cc
 values-named (x ∷ xs) [] e = cc

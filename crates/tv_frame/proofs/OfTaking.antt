@@ -26,7 +26,7 @@ use Rattle.tv_joined.specs.WiredFlows.{IsWired}
 use Rattle.tv_joined.proofs.OfSteps.{all-have_ended}
 use Rattle.tv_fed.specs.Coming.{IsFrameOf}
 use Rattle.tv_fed.proofs.OfComing.{taking-makes_frame}
-use Rattle.tv_fed.proofs.OfTold.{taking-tells_nothing}
+use Rattle.tv_kept.proofs.OfLaws.{taking-tells_nothing}
 use Rattle.tv_fed.proofs.OfWholeSteps.{position-of, taking-ends_nothing}
 use Rattle.tv_drawn.proofs.OfLaws.{taking-leaves_waiting}
 use Rattle.tv_drawn.proofs.OfRanks.{at-in}

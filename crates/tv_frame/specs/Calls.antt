@@ -18,6 +18,7 @@ use Rattle.tv_instance.specs.ByResults.{InstanceStep, PlacedJob}
 use Rattle.tv_instance.specs.Events as events
 use Rattle.tv_instance.specs.Events.{Event, fault_set, gave, known_by, took}
 use Rattle.tv_model.specs.Agreeing.{FlowAgrees}
+use Rattle.tv_model.specs.Members.{In}
 use Rattle.tv_model.specs.RightDepths.{HaveTheseDepths}
 use Rattle.tv_framing.specs.Frames.{Comes, new_jobs, with_event}
 use Rattle.tv_framing.specs.Views.{InAll, View}
@@ -111,3 +112,16 @@ HoldsErrorAt j b k = k.step ≡ j.0 → k.place ≡ j.1 → b ≡ holds_error k
 abbrev pub HoldsError : View → Name × Place → Bool → Type 0
 HoldsError v j b =
     InAll v (λ instance results fs. Each (λ (f : InstanceStep). Each (HoldsErrorAt j b) f.jobs) fs)
+
+-- a job at this place of the step of this name
+pub record IsJobAmong (j : Name × Place) (fs : List InstanceStep) : Type 0 where
+  pub step : InstanceStep
+  pub among : In step fs
+  pub job : PlacedJob
+  pub of_step : In job step.jobs
+  pub name : job.step ≡ j.0
+  pub place : job.place ≡ j.1
+
+-- it is one in all instances
+abbrev pub IsJob : View → Name × Place → Type 0
+IsJob v j = InAll v (λ instance results fs. IsJobAmong j fs)

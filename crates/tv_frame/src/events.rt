@@ -42,7 +42,8 @@ pub enum Settled {
 }
 
 impl Frame {
-    /// The job at a place of a step, which runs, has given these. Takes no memory.
+    /// The job at a place of a step, which runs, has given these. Takes no memory. A job that is idle is taken first, if need
+    /// be after `room_for_result`: only of one that was taken is it promised what follows.
     ///
     /// Costs what the steps that it feeds are told and what that brings, and for each output what arriving in its tree costs.
     pub fn result(
@@ -53,9 +54,16 @@ impl Frame {
         place: &Place,
         outputs: Pieces,
     )
-        requires ready { (flows : List (Name × Flow)) × (v : View) × (s : Name × Step) × IsReadyFor flows plan.now pool.old self.old v step s (gave s.0 place.now (piece_values outputs)) }
+        requires ready { (flows : List (Name × Flow)) × (v : View) × (s : Name × Step)
+            × IsReadyFor flows plan.now pool.old self.old v step s
+            (gave s.0 place.now (piece_values outputs)) }
         requires sound { AreSound outputs }
-        ensures goes_on { (flows : List (Name × Flow)) (v : View) (s : Name × Step) → IsReadyFor flows plan.now pool.old self.old v step s (gave s.0 place.now (piece_values outputs)) → is_taken v.events s.0 place.now ≡ true → GoesOn flows plan.now pool.new self.new v (gave s.0 place.now (piece_values outputs)) }
+        ensures goes_on { (flows : List (Name × Flow)) (v : View) (s : Name × Step)
+            → IsReadyFor flows plan.now pool.old self.old v step s
+            (gave s.0 place.now (piece_values outputs))
+            → is_taken v.events s.0 place.now ≡ true
+            → GoesOn flows plan.now pool.new self.new v
+            (gave s.0 place.now (piece_values outputs)) }
         ensures regions { KeepsRegions pool.old pool.new (number_of self.old.region) }
         ensures region { self.new.region ≡ self.old.region }
     {
@@ -66,8 +74,12 @@ impl Frame {
 
     /// Closes a list or passes a fault: the thing that waits last. Takes no memory. Costs as `result` does.
     pub fn settle(&mut self, plan: &FlowPlan, pool: &mut Nodes) -> Settled
-        requires ready { (flows : List (Name × Flow)) × (v : View) × (n : ℕ) × (s : Name × Step) × (e : TheEvent) × IsReadyToSettle flows plan.now pool.old self.old v n s e }
-        ensures goes_on { (flows : List (Name × Flow)) (v : View) (n : ℕ) (s : Name × Step) (e : TheEvent) → IsReadyToSettle flows plan.now pool.old self.old v n s e → GoesOn flows plan.now pool.new self.new v e × Tells result n e }
+        requires ready { (flows : List (Name × Flow)) × (v : View) × (n : ℕ) × (s : Name × Step)
+            × (e : TheEvent) × IsReadyToSettle flows plan.now pool.old self.old v n s e }
+        ensures goes_on { (flows : List (Name × Flow)) (v : View) (n : ℕ) (s : Name × Step)
+            (e : TheEvent)
+            → IsReadyToSettle flows plan.now pool.old self.old v n s e
+            → GoesOn flows plan.now pool.new self.new v e × Tells result n e }
         ensures regions { KeepsRegions pool.old pool.new (number_of self.old.region) }
         ensures region { self.new.region ≡ self.old.region }
     {
@@ -105,10 +117,13 @@ impl Frame {
     fn put(&mut self, pool: &mut Nodes, first: usize, place: &Place, pieces: Pieces)
         requires live { IsLive pool.old self.old.region }
         requires stand { Stand pool.old self.old.outputs self.old.region }
-        requires can { AllCanArrive first (length (values_put (piece_values pieces))) place.now (depths self.old.outputs) (known pool.old self.old.outputs) }
+        requires can { AllCanArrive first (length (values_put (piece_values pieces))) place.now
+            (depths self.old.outputs) (known pool.old self.old.outputs) }
         requires sound { AreSound pieces }
-        requires room { needed (depths self.old.outputs) first (length (values_put (piece_values pieces))) ≤ pool.old.spare }
-        ensures known { Arrive first place.now (values_put (piece_values pieces)) (known pool.old self.old.outputs) (known pool.new self.new.outputs) }
+        requires room { needed (depths self.old.outputs) first
+            (length (values_put (piece_values pieces))) ≤ pool.old.spare }
+        ensures known { Arrive first place.now (values_put (piece_values pieces))
+            (known pool.old self.old.outputs) (known pool.new self.new.outputs) }
         ensures depths { depths self.new.outputs ≡ depths self.old.outputs }
         ensures stand { Stand pool.new self.new.outputs self.old.region }
         ensures regions { KeepsRegions pool.old pool.new (number_of self.old.region) }
@@ -128,7 +143,8 @@ impl Frame {
     fn show(&mut self, plan: &FlowPlan, step: u32)
         requires intaken { AreIntaken self.old.intakes }
         requires ready { CanShowAll self.old.spread.touched.items self.old.intakes self.old.idle }
-        requires ends { self.old.ahead.whole ≡ true → CanTurnWhole plan.now.wiring step self.old.endings }
+        requires ends { self.old.ahead.whole ≡ true
+            → CanTurnWhole plan.now.wiring step self.old.endings }
         ensures { IsShown plan.now.wiring step self.old self.new }
     {
         self.spread.show(&mut self.intakes, &mut self.idle);
@@ -138,8 +154,10 @@ impl Frame {
 
     /// Where the step turns whole with the event, it is marked so.
     fn mark(&mut self, plan: &FlowPlan, step: u32)
-        requires { self.old.ahead.whole ≡ true → CanTurnWhole plan.now.wiring step self.old.endings }
-        ensures marked { IsMarked self.old.ahead.whole plan.now.wiring step self.old.endings self.new.endings }
+        requires { self.old.ahead.whole ≡ true
+            → CanTurnWhole plan.now.wiring step self.old.endings }
+        ensures marked { IsMarked self.old.ahead.whole plan.now.wiring step self.old.endings
+            self.new.endings }
         ensures others { HasOtherEndings self.old self.new }
     {
         if self.ahead.whole {

@@ -75,9 +75,12 @@ impl Frame {
         inputs: Pieces,
         pool: &mut Nodes,
     ) -> Result<Frame, NoMemory>
-        requires can { (flows : List (Name × Flow)) × CanStart flows plan.now (piece_values inputs) }
+        requires can { (flows : List (Name × Flow))
+            × CanStart flows plan.now (piece_values inputs) }
         requires sound { AreSound inputs }
-        ensures ok { IfOk result (λ f. (flows : List (Name × Flow)) → CanStart flows plan.now (piece_values inputs) → Starts flows plan.now (piece_values inputs) pool.new f) }
+        ensures ok { IfOk result (λ f. (flows : List (Name × Flow))
+            → CanStart flows plan.now (piece_values inputs)
+            → Starts flows plan.now (piece_values inputs) pool.new f) }
         ensures kept { IfOk result (λ f. KeepsRegions pool.old pool.new (number_of f.region)) }
         ensures refused { OnErr result (SameRegions pool.old pool.new) }
     {
@@ -106,17 +109,22 @@ impl Frame {
         region: Region,
         outputs: Outputs,
     ) -> Result<Frame, NoMemory>
-        requires can { (flows : List (Name × Flow)) × CanStart flows plan.now (piece_values inputs) }
+        requires can { (flows : List (Name × Flow))
+            × CanStart flows plan.now (piece_values inputs) }
         requires sound { AreSound inputs }
         requires parts { AreParts plan.now inputs parts }
         requires live { IsLive pool.old region }
         requires stand { Stand pool.old outputs region }
         requires depths { depths outputs ≡ tree_depths (flow_view plan.now.flow) }
-        requires known { known pool.old outputs ≡ map (λ d. wanting) (tree_depths (flow_view plan.now.flow)) }
-        ensures ok { IfOk result (λ f. (flows : List (Name × Flow)) → CanStart flows plan.now (piece_values inputs) → Starts flows plan.now (piece_values inputs) pool.new f) }
+        requires known { known pool.old outputs
+            ≡ map (λ d. wanting) (tree_depths (flow_view plan.now.flow)) }
+        ensures ok { IfOk result (λ f. (flows : List (Name × Flow))
+            → CanStart flows plan.now (piece_values inputs)
+            → Starts flows plan.now (piece_values inputs) pool.new f) }
         ensures region { IfOk result (λ f. f.region ≡ region) }
         ensures kept { OnOk result (pool.new ≡ pool.old) }
-        ensures refused { OnErr result (pool.new.regions ≡ regions_with pool.old (number_of region) None) }
+        ensures refused { OnErr result (pool.new.regions
+            ≡ regions_with pool.old (number_of region) None) }
     {
         match first_outs(
             alloc,
@@ -154,22 +162,28 @@ impl Frame {
 
     /// Whether the instance has ended.
     pub fn ended(&self) -> bool
-        ensures { (flows : List (Name × Flow)) (plan : ThePlan) (pool : TheNodes) (v : View) → Keeps flows plan pool self.now v → result ≡ has_ended_now (levels_in v.flow) v }
+        ensures { (flows : List (Name × Flow)) (plan : ThePlan) (pool : TheNodes) (v : View)
+            → Keeps flows plan pool self.now v → result ≡ has_ended_now (levels_in v.flow) v }
     {
         self.outs.is_some()
     }
 
     /// The flow's outputs, once the instance has ended.
     pub fn outputs(&self) -> Option<&Pieces>
-        ensures { (flows : List (Name × Flow)) (plan : ThePlan) (pool : TheNodes) (v : View) → Keeps flows plan pool self.now v → AreOuts v (has_ended_now (levels_in v.flow) v) (option_map (λ ps. ps.now) result) }
+        ensures { (flows : List (Name × Flow)) (plan : ThePlan) (pool : TheNodes) (v : View)
+            → Keeps flows plan pool self.now v
+            → AreOuts v (has_ended_now (levels_in v.flow) v) (option_map (λ ps. ps.now) result) }
     {
         self.outs.as_ref()
     }
 
     /// Gives the outputs of an instance that has ended, and releases its region. Takes no memory.
     pub fn finish(self, pool: &mut Nodes) -> Pieces
-        requires ended { (flows : List (Name × Flow)) × (plan : ThePlan) × (v : View) × Keeps flows plan pool.old self v × (has_ended_now (levels_in v.flow) v ≡ true) }
-        ensures outputs { (flows : List (Name × Flow)) (plan : ThePlan) (v : View) → Keeps flows plan pool.old self v → AreSound result × AreOutputs v (piece_values result) }
+        requires ended { (flows : List (Name × Flow)) × (plan : ThePlan) × (v : View)
+            × Keeps flows plan pool.old self v × (has_ended_now (levels_in v.flow) v ≡ true) }
+        ensures outputs { (flows : List (Name × Flow)) (plan : ThePlan) (v : View)
+            → Keeps flows plan pool.old self v
+            → AreSound result × AreOutputs v (piece_values result) }
         ensures gone { pool.new.regions ≡ regions_with pool.old (number_of self.region) None }
     {
         let Frame { region, outs, .. } = self;
@@ -200,7 +214,8 @@ struct Parts {
 }
 
 fn parts_of(alloc: Global, plan: &FlowPlan, inputs: &[Piece]) -> Result<Parts, NoMemory>
-    requires can { (flows : List (Name × Flow)) × CanStart flows plan.now (piece_values inputs.now) }
+    requires can { (flows : List (Name × Flow))
+        × CanStart flows plan.now (piece_values inputs.now) }
     ensures { IfOk result (λ p. AreParts plan.now inputs.now p) }
 {
     let tables = tables_of(alloc, plan)?;
@@ -238,7 +253,8 @@ fn first_outs(
     outputs: &Outputs,
     pool: &Nodes,
 ) -> Result<Option<Pieces>, NoMemory>
-    requires can { (flows : List (Name × Flow)) × CanStart flows plan.now (piece_values inputs.now) }
+    requires can { (flows : List (Name × Flow))
+        × CanStart flows plan.now (piece_values inputs.now) }
     requires sound { AreSound inputs.now }
     requires tables { AreTables (flow_view plan.now.flow) tables.now }
     requires stand { (region : TheRegion) × Stand pool.now outputs.now region }

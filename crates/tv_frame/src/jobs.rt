@@ -12,15 +12,16 @@ ghost use Rattle.tv_intake.specs.Intaken.{known_jobs};
 ghost use Rattle.tv_spread.specs.Spreads.{is_faulty_now};
 ghost use Rattle.tv_instance.specs.ByResults.{last_first};
 ghost use Rattle.tv_instance.specs.Counting.{have_ended_by};
-ghost use Rattle.tv_instance.specs.Events.{took};
+ghost use Rattle.tv_instance.specs.Events.{Event as TheEvent, took};
 ghost use Rattle.tv_framing.specs.Answers.{AreInputs, IsReadyJob, after_of, numbered};
 ghost use Rattle.tv_framing.specs.Frames.{with_event};
 ghost use Rattle.tv_framing.specs.Views.{View};
 ghost use Rattle.tv_drawn.specs.Steps.{IsStepAt};
 ghost use Rattle.tv_turn.specs.FirstReady.{IsFirstReady};
 ghost use Rattle.tv_turn.specs.Turns.{first_in_turn, may_settle};
-ghost use Rattle.tv_frame.specs.Calls.{HoldsError};
+ghost use Rattle.tv_frame.specs.Calls.{HoldsError, IsJob};
 ghost use Rattle.tv_frame.specs.Kept.{Keeps, named_job};
+ghost use Rattle.tv_frame.specs.Prepared.{IsReadyFor};
 ghost use Rattle.tv_frame.specs.Ready.{HasIdle, IsFirstOfStep};
 ghost use Rattle.tv_frame.specs.Tables.{levels_in};
 
@@ -54,10 +55,18 @@ impl Frame {
 
     /// A known job by its number, `None` where none has it.
     pub fn job(&self, number: u64) -> Option<FrameJob>
-        requires { (plan : FlowPlan) × (pool : Nodes) × (flows : List (Name × Flow)) × (v : View) × Keeps flows plan pool self.now v }
+        requires { (plan : FlowPlan) × (pool : Nodes) × (flows : List (Name × Flow)) × (v : View)
+            × Keeps flows plan pool self.now v }
         ensures none { IsNone result → length (known_jobs self.now.intakes) ≤ number }
-        ensures some { IfSome result (λ j. slice_get (known_jobs self.now.intakes) number ≡ Some (j.step, j.place.now)) }
-        ensures error { IfSome result (λ j. (plan : FlowPlan) (pool : Nodes) (flows : List (Name × Flow)) (v : View) → Keeps flows plan pool self.now v → HoldsError v (named_job v.flow (j.step, j.place.now)) j.holds_error) }
+        ensures some { IfSome result (λ j. slice_get (known_jobs self.now.intakes) number
+            ≡ Some (j.step, j.place.now)) }
+        ensures error { IfSome result (λ j. (plan : FlowPlan) (pool : Nodes)
+            (flows : List (Name × Flow)) (v : View)
+            → Keeps flows plan pool self.now v
+            → HoldsError v (named_job v.flow (j.step, j.place.now)) j.holds_error) }
+        ensures stands { IfSome result (λ j. (plan : FlowPlan) (pool : Nodes)
+            (flows : List (Name × Flow)) (v : View)
+            → Keeps flows plan pool self.now v → IsJob v (named_job v.flow (j.step, j.place.now))) }
     {
         if number >= self.intakes.known() as u64 {
             return None;
@@ -70,10 +79,21 @@ impl Frame {
         })
     }
 
-    /// The job runs from now on. Takes no memory. Amortized a logarithm in the idle jobs of its step.
+    /// The job runs from now on. What a room call made the frame ready for, it stays ready for. Takes no memory. Amortized a
+    /// logarithm in the idle jobs of its step.
     pub fn take(&mut self, plan: &FlowPlan, pool: &Nodes, number: u64)
-        requires ready { (flows : List (Name × Flow)) × (v : View) × (j : Name × Place) × Keeps flows plan.now pool.now self.old v × (numbered v number ≡ Some j) × IsReadyJob (levels_in v.flow) v j }
-        ensures kept { (flows : List (Name × Flow)) (v : View) (j : Name × Place) → Keeps flows plan.now pool.now self.old v → numbered v number ≡ Some j → IsReadyJob (levels_in v.flow) v j → Keeps flows plan.now pool.now self.new (with_event v (took j.0 j.1) []) }
+        requires ready { (flows : List (Name × Flow)) × (v : View) × (j : Name × Place)
+            × Keeps flows plan.now pool.now self.old v × (numbered v number ≡ Some j)
+            × IsReadyJob (levels_in v.flow) v j }
+        ensures kept { (flows : List (Name × Flow)) (v : View) (j : Name × Place)
+            → Keeps flows plan.now pool.now self.old v → numbered v number ≡ Some j
+            → IsReadyJob (levels_in v.flow) v j
+            → Keeps flows plan.now pool.now self.new (with_event v (took j.0 j.1) []) }
+        ensures stays { (flows : List (Name × Flow)) (v : View) (j : Name × Place)
+            (n : ℕ) (s : Name × Step) (e : TheEvent)
+            → IsReadyFor flows plan.now pool.now self.old v n s e
+            → numbered v number ≡ Some j → IsReadyJob (levels_in v.flow) v j
+            → IsReadyFor flows plan.now pool.now self.new (with_event v (took j.0 j.1) []) n s e }
         ensures region { self.new.region ≡ self.old.region }
     {
         let (step, _, _) = self.intakes.job(number as usize);
@@ -85,9 +105,12 @@ impl Frame {
     /// The first ready job in job order, of those that stand after the given one: of the greatest rank, then with the least place.
     /// Linear in the steps, and in the known jobs of `after`'s step that came out of order.
     pub fn first_ready(&self, plan: &FlowPlan, pool: &Nodes, after: Option<u64>) -> Option<u64>
-        requires keeps { (flows : List (Name × Flow)) × (v : View) × Keeps flows plan.now pool.now self.now v }
+        requires keeps { (flows : List (Name × Flow)) × (v : View)
+            × Keeps flows plan.now pool.now self.now v }
         requires known { IfSome after (λ n. n < length (known_jobs self.now.intakes)) }
-        ensures first { (flows : List (Name × Flow)) (v : View) → Keeps flows plan.now pool.now self.now v → IsFirstReady (levels_in v.flow) v after result }
+        ensures first { (flows : List (Name × Flow)) (v : View)
+            → Keeps flows plan.now pool.now self.now v
+            → IsFirstReady (levels_in v.flow) v after result }
         ensures few { IfSome result (λ n. n < 2 ^ 32) }
     {
         match after {
@@ -106,8 +129,11 @@ impl Frame {
         pool: &Nodes,
         after: Option<(u32, &[u32])>,
     ) -> Option<u64>
-        requires { (flows : List (Name × Flow)) × (v : View) × Keeps flows plan.now pool.now self.now v }
-        ensures turn { result ≡ first_in_turn (may_settle plan.now.wiring self.now.endings) self.now.idle.steps self.now.tables.order.items (option_map (λ a. (a.0, a.1.now)) after.entry) }
+        requires { (flows : List (Name × Flow)) × (v : View)
+            × Keeps flows plan.now pool.now self.now v }
+        ensures turn { result
+            ≡ first_in_turn (may_settle plan.now.wiring self.now.endings) self.now.idle.steps
+            self.now.tables.order.items (option_map (λ a. (a.0, a.1.now)) after.entry) }
         ensures few { IfSome result (λ n. n < 2 ^ 32) }
     {
         let order = self.tables.order.as_slice();
@@ -119,24 +145,39 @@ impl Frame {
 
     /// Whether a step's jobs may settle: the steps that it runs after have ended.
     pub fn may_settle(&self, plan: &FlowPlan, pool: &Nodes, step: u32) -> bool
-        requires { (flows : List (Name × Flow)) × (v : View) × Keeps flows plan.now pool.now self.now v × (step < length v.flow.steps) }
-        ensures { (flows : List (Name × Flow)) (v : View) (s : Name × Step) → Keeps flows plan.now pool.now self.now v → IsStepAt v step s → result ≡ have_ended_by v.events (levels_in v.flow) (last_first (ranked v.flow.steps) []) (after_of v s.0) }
+        requires { (flows : List (Name × Flow)) × (v : View)
+            × Keeps flows plan.now pool.now self.now v × (step < length v.flow.steps) }
+        ensures { (flows : List (Name × Flow)) (v : View) (s : Name × Step)
+            → Keeps flows plan.now pool.now self.now v → IsStepAt v step s
+            → result
+            ≡ have_ended_by v.events (levels_in v.flow) (last_first (ranked v.flow.steps) [])
+            (after_of v s.0) }
     {
         self.endings.may_settle(&plan.wiring, step)
     }
 
     /// Whether some known job of a step neither runs nor has a result.
     pub fn has_idle(&self, step: u32) -> bool
-        requires { (plan : FlowPlan) × (pool : Nodes) × (flows : List (Name × Flow)) × (v : View) × Keeps flows plan pool self.now v × (step < length v.flow.steps) }
-        ensures { (plan : FlowPlan) (pool : Nodes) (flows : List (Name × Flow)) (v : View) (s : Name × Step) → Keeps flows plan pool self.now v → IsStepAt v step s → HasIdle v s.0 result }
+        requires { (plan : FlowPlan) × (pool : Nodes) × (flows : List (Name × Flow)) × (v : View)
+            × Keeps flows plan pool self.now v × (step < length v.flow.steps) }
+        ensures { (plan : FlowPlan) (pool : Nodes) (flows : List (Name × Flow)) (v : View)
+            (s : Name × Step)
+            → Keeps flows plan pool self.now v → IsStepAt v step s → HasIdle v s.0 result }
     {
         self.idle.has_idle(step)
     }
 
     /// The first ready job of a step, in order of place, of those that bind no fault.
     pub fn first_good(&self, plan: &FlowPlan, pool: &Nodes, step: u32) -> Option<u64>
-        requires { (flows : List (Name × Flow)) × (v : View) × Keeps flows plan.now pool.now self.now v × (step < length v.flow.steps) }
-        ensures first { (flows : List (Name × Flow)) (v : View) (s : Name × Step) → Keeps flows plan.now pool.now self.now v → IsStepAt v step s → IsFirstOfStep (levels_in v.flow) v (λ q. is_faulty_now self.now.intakes (step, q)) s.0 false result }
+        requires { (flows : List (Name × Flow)) × (v : View)
+            × Keeps flows plan.now pool.now self.now v × (step < length v.flow.steps) }
+        ensures first { (flows : List (Name × Flow)) (v : View) (s : Name × Step)
+            → Keeps flows plan.now pool.now self.now v → IsStepAt v step s
+            → IsFirstOfStep (levels_in v.flow) v (λ q. is_faulty_now self.now.intakes (step, q)) s.0
+            false result }
+        ensures binds { (flows : List (Name × Flow)) (v : View) (s : Name × Step)
+            → Keeps flows plan.now pool.now self.now v → IsStepAt v step s
+            → IfSome result (λ n. (j : Name × Place) → numbered v n ≡ Some j → HoldsError v j false) }
         ensures few { IfSome result (λ n. n < 2 ^ 32) }
     {
         if !self.may_settle(plan, pool, step) {
@@ -150,8 +191,15 @@ impl Frame {
 
     /// The first ready job of a step, in order of place, of those that bind a fault.
     pub fn first_faulty(&self, plan: &FlowPlan, pool: &Nodes, step: u32) -> Option<u64>
-        requires { (flows : List (Name × Flow)) × (v : View) × Keeps flows plan.now pool.now self.now v × (step < length v.flow.steps) }
-        ensures first { (flows : List (Name × Flow)) (v : View) (s : Name × Step) → Keeps flows plan.now pool.now self.now v → IsStepAt v step s → IsFirstOfStep (levels_in v.flow) v (λ q. is_faulty_now self.now.intakes (step, q)) s.0 true result }
+        requires { (flows : List (Name × Flow)) × (v : View)
+            × Keeps flows plan.now pool.now self.now v × (step < length v.flow.steps) }
+        ensures first { (flows : List (Name × Flow)) (v : View) (s : Name × Step)
+            → Keeps flows plan.now pool.now self.now v → IsStepAt v step s
+            → IsFirstOfStep (levels_in v.flow) v (λ q. is_faulty_now self.now.intakes (step, q)) s.0
+            true result }
+        ensures binds { (flows : List (Name × Flow)) (v : View) (s : Name × Step)
+            → Keeps flows plan.now pool.now self.now v → IsStepAt v step s
+            → IfSome result (λ n. (j : Name × Place) → numbered v n ≡ Some j → HoldsError v j true) }
         ensures few { IfSome result (λ n. n < 2 ^ 32) }
     {
         if !self.may_settle(plan, pool, step) {
@@ -172,10 +220,14 @@ impl Frame {
         pool: &Nodes,
         number: u64,
     ) -> Result<Pieces, NoMemory>
-        requires keeps { (flows : List (Name × Flow)) × (v : View) × Keeps flows plan.now pool.now self.now v }
+        requires keeps { (flows : List (Name × Flow)) × (v : View)
+            × Keeps flows plan.now pool.now self.now v }
         requires known { number < length (known_jobs self.now.intakes) }
         ensures sound { IfOk result AreSound }
-        ensures values { IfOk result (λ ps. (flows : List (Name × Flow)) (v : View) (j : Name × Place) → Keeps flows plan.now pool.now self.now v → numbered v number ≡ Some j → AreInputs v j (piece_values ps)) }
+        ensures values { IfOk result (λ ps. (flows : List (Name × Flow)) (v : View)
+            (j : Name × Place)
+            → Keeps flows plan.now pool.now self.now v → numbered v number ≡ Some j
+            → AreInputs v j (piece_values ps)) }
     {
         let (step, place, _) = self.intakes.job(number as usize);
         let place = Place::of(alloc, place)?;

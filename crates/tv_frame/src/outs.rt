@@ -44,9 +44,14 @@ impl Frame {
         pool: &Nodes,
         over: &Over,
     ) -> Result<Pieces, NoMemory>
-        requires { (flows : List (Name × Flow)) × (v : View) × (s : Name × Step) × (e : TheEvent) × (from : ℕ) × Keeps flows plan.now pool.now self.now v × IsLaidOver flows v s e over.now from × AllAreWhole (with_event v e []) }
+        requires { (flows : List (Name × Flow)) × (v : View) × (s : Name × Step) × (e : TheEvent)
+            × (from : ℕ) × Keeps flows plan.now pool.now self.now v
+            × IsLaidOver flows v s e over.now from × AllAreWhole (with_event v e []) }
         ensures sound { IfOk result AreSound }
-        ensures outputs { IfOk result (λ ps. (flows : List (Name × Flow)) (v : View) (s : Name × Step) (e : TheEvent) (from : ℕ) → Keeps flows plan.now pool.now self.now v → IsLaidOver flows v s e over.now from → AllAreWhole (with_event v e []) → AreOutputs (with_event v e []) (piece_values ps)) }
+        ensures outputs { IfOk result (λ ps. (flows : List (Name × Flow)) (v : View)
+            (s : Name × Step) (e : TheEvent) (from : ℕ)
+            → Keeps flows plan.now pool.now self.now v → IsLaidOver flows v s e over.now from
+            → AllAreWhole (with_event v e []) → AreOutputs (with_event v e []) (piece_values ps)) }
     {
         let step = &plan.flow.steps.as_slice()[over.step as usize].1;
         let outputs = step.outputs.as_slice().len();

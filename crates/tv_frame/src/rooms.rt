@@ -54,13 +54,23 @@ impl Frame {
         place: &Place,
         outputs: &Pieces,
     ) -> Result<u64, NoMemory>
-        requires may { (flows : List (Name × Flow)) × (v : View) × (s : Name × Step) × Keeps flows plan.now pool.old self.old v × IsStepAt v step s × MayGive v s place.now (piece_values outputs.now) }
+        requires may { (flows : List (Name × Flow)) × (v : View) × (s : Name × Step)
+            × Keeps flows plan.now pool.old self.old v × IsStepAt v step s
+            × MayGive v s place.now (piece_values outputs.now) }
         requires sound { AreSound outputs.now }
-        ensures same { (flows : List (Name × Flow)) (v : View) → Keeps flows plan.now pool.old self.old v → Keeps flows plan.now pool.new self.new v }
+        ensures same { (flows : List (Name × Flow)) (v : View)
+            → Keeps flows plan.now pool.old self.old v → Keeps flows plan.now pool.new self.new v }
         ensures regions { pool.new.regions ≡ pool.old.regions }
         ensures region { self.new.region ≡ self.old.region }
-        ensures ready { OnOk result ((flows : List (Name × Flow)) (v : View) (s : Name × Step) → Keeps flows plan.now pool.old self.old v → IsStepAt v step s → MayGive v s place.now (piece_values outputs.now) → IsReadyFor flows plan.now pool.new self.new v step s (gave s.0 place.now (piece_values outputs.now))) }
-        ensures count { IfOk result (λ n. (flows : List (Name × Flow)) (v : View) (s : Name × Step) → Keeps flows plan.now pool.old self.old v → IsStepAt v step s → MayGive v s place.now (piece_values outputs.now) → Brings v (gave s.0 place.now (piece_values outputs.now)) n) }
+        ensures ready { OnOk result ((flows : List (Name × Flow)) (v : View) (s : Name × Step)
+            → Keeps flows plan.now pool.old self.old v → IsStepAt v step s
+            → MayGive v s place.now (piece_values outputs.now)
+            → IsReadyFor flows plan.now pool.new self.new v step s
+            (gave s.0 place.now (piece_values outputs.now))) }
+        ensures count { IfOk result (λ n. (flows : List (Name × Flow)) (v : View) (s : Name × Step)
+            → Keeps flows plan.now pool.old self.old v → IsStepAt v step s
+            → MayGive v s place.now (piece_values outputs.now)
+            → Brings v (gave s.0 place.now (piece_values outputs.now)) n) }
     {
         let first = self.tables.firsts[step as usize];
         let trees = trees_of(plan, step as usize);
@@ -97,12 +107,19 @@ impl Frame {
         plan: &FlowPlan,
         pool: &mut Nodes,
     ) -> Result<Option<u64>, NoMemory>
-        requires { (flows : List (Name × Flow)) × (v : View) × Keeps flows plan.now pool.old self.old v }
-        ensures same { (flows : List (Name × Flow)) (v : View) → Keeps flows plan.now pool.old self.old v → Keeps flows plan.now pool.new self.new v }
+        requires { (flows : List (Name × Flow)) × (v : View)
+            × Keeps flows plan.now pool.old self.old v }
+        ensures same { (flows : List (Name × Flow)) (v : View)
+            → Keeps flows plan.now pool.old self.old v → Keeps flows plan.now pool.new self.new v }
         ensures regions { pool.new.regions ≡ pool.old.regions }
         ensures region { self.new.region ≡ self.old.region }
-        ensures none { IfOk result (λ r. IsNone r → (flows : List (Name × Flow)) (v : View) → Keeps flows plan.now pool.old self.old v → NothingSettles v) }
-        ensures some { IfOk result (λ r. IfSome r (λ jobs. (flows : List (Name × Flow)) (v : View) → Keeps flows plan.now pool.old self.old v → (n : ℕ) × (s : Name × Step) × (e : TheEvent) × IsReadyToSettle flows plan.now pool.new self.new v n s e × CanSettle v e × Brings v e jobs)) }
+        ensures none { IfOk result (λ r. IsNone r → (flows : List (Name × Flow)) (v : View)
+            → Keeps flows plan.now pool.old self.old v → NothingSettles v) }
+        ensures some { IfOk result (λ r. IfSome r (λ jobs. (flows : List (Name × Flow)) (v : View)
+            → Keeps flows plan.now pool.old self.old v
+            → (n : ℕ) × (s : Name × Step) × (e : TheEvent)
+            × IsReadyToSettle flows plan.now pool.new self.new v n s e × CanSettle v e
+            × Brings v e jobs)) }
     {
         let count = self.intakes.waiting();
         if count == 0 {
@@ -127,14 +144,23 @@ impl Frame {
         place: &Place,
         length: u32,
     ) -> Result<u64, NoMemory>
-        requires next { (flows : List (Name × Flow)) × (v : View) × (s : Name × Step) × Keeps flows plan.now pool.old self.old v × IsStepAt v step s × CanSettle v (closed s.0 place.now length) }
-        ensures same { (flows : List (Name × Flow)) (v : View) → Keeps flows plan.now pool.old self.old v → Keeps flows plan.now pool.new self.new v }
+        requires next { (flows : List (Name × Flow)) × (v : View) × (s : Name × Step)
+            × Keeps flows plan.now pool.old self.old v × IsStepAt v step s
+            × CanSettle v (closed s.0 place.now length) }
+        ensures same { (flows : List (Name × Flow)) (v : View)
+            → Keeps flows plan.now pool.old self.old v → Keeps flows plan.now pool.new self.new v }
         ensures regions { pool.new.regions ≡ pool.old.regions }
         ensures kept { HasSameParts self.old self.new }
         ensures place { self.new.ahead.place ≡ self.old.ahead.place }
         ensures waiting { waiting_things self.new.intakes ≡ waiting_things self.old.intakes }
-        ensures ready { OnOk result ((flows : List (Name × Flow)) (v : View) (s : Name × Step) → Keeps flows plan.now pool.old self.old v → IsStepAt v step s → CanSettle v (closed s.0 place.now length) → IsReadyFor flows plan.now pool.new self.new v step s (closed s.0 place.now length)) }
-        ensures count { IfOk result (λ n. (flows : List (Name × Flow)) (v : View) (s : Name × Step) → Keeps flows plan.now pool.old self.old v → IsStepAt v step s → CanSettle v (closed s.0 place.now length) → Brings v (closed s.0 place.now length) n) }
+        ensures ready { OnOk result ((flows : List (Name × Flow)) (v : View) (s : Name × Step)
+            → Keeps flows plan.now pool.old self.old v → IsStepAt v step s
+            → CanSettle v (closed s.0 place.now length)
+            → IsReadyFor flows plan.now pool.new self.new v step s (closed s.0 place.now length)) }
+        ensures count { IfOk result (λ n. (flows : List (Name × Flow)) (v : View) (s : Name × Step)
+            → Keeps flows plan.now pool.old self.old v → IsStepAt v step s
+            → CanSettle v (closed s.0 place.now length)
+            → Brings v (closed s.0 place.now length) n) }
     {
         let first = self.tables.firsts[step as usize];
         let trees = trees_of(plan, step as usize);
@@ -168,13 +194,24 @@ impl Frame {
         place: &Place,
         leaf: u32,
     ) -> Result<u64, NoMemory>
-        requires next { (flows : List (Name × Flow)) × (v : View) × (s : Name × Step) × Keeps flows plan.now pool.old self.old v × IsStepAt v step s × In (fault_at place.now leaf) (waiting_of v.events s.0 (followed_by (matcher_at self.old.intakes step))) }
-        ensures same { (flows : List (Name × Flow)) (v : View) → Keeps flows plan.now pool.old self.old v → Keeps flows plan.now pool.new self.new v }
+        requires next { (flows : List (Name × Flow)) × (v : View) × (s : Name × Step)
+            × Keeps flows plan.now pool.old self.old v × IsStepAt v step s
+            × In (fault_at place.now leaf) (waiting_of v.events s.0
+            (followed_by (matcher_at self.old.intakes step))) }
+        ensures same { (flows : List (Name × Flow)) (v : View)
+            → Keeps flows plan.now pool.old self.old v → Keeps flows plan.now pool.new self.new v }
         ensures regions { pool.new.regions ≡ pool.old.regions }
         ensures kept { HasSameParts self.old self.new }
         ensures place { self.new.ahead.place ≡ self.old.ahead.place }
         ensures waiting { waiting_things self.new.intakes ≡ waiting_things self.old.intakes }
-        ensures ready { IfOk result (λ n. (flows : List (Name × Flow)) (v : View) (s : Name × Step) → Keeps flows plan.now pool.old self.old v → IsStepAt v step s → In (fault_at place.now leaf) (waiting_of v.events s.0 (followed_by (matcher_at self.old.intakes step))) → (d : ErrorDoc) × CanSettle v (fault_set s.0 place.now d) × IsReadyFor flows plan.now pool.new self.new v step s (fault_set s.0 place.now d) × HasPieces v s (fault_set s.0 place.now d) self.new.ahead.pieces × Brings v (fault_set s.0 place.now d) n) }
+        ensures ready { IfOk result (λ n. (flows : List (Name × Flow)) (v : View) (s : Name × Step)
+            → Keeps flows plan.now pool.old self.old v → IsStepAt v step s
+            → In (fault_at place.now leaf) (waiting_of v.events s.0
+            (followed_by (matcher_at self.old.intakes step)))
+            → (d : ErrorDoc) × CanSettle v (fault_set s.0 place.now d)
+            × IsReadyFor flows plan.now pool.new self.new v step s (fault_set s.0 place.now d)
+            × HasPieces v s (fault_set s.0 place.now d) self.new.ahead.pieces
+            × Brings v (fault_set s.0 place.now d) n) }
     {
         let first = self.tables.firsts[step as usize];
         let trees = trees_of(plan, step as usize);
@@ -194,13 +231,23 @@ impl Frame {
         place: &Place,
         pieces: &[Piece],
     ) -> Result<u64, NoMemory>
-        requires next { (flows : List (Name × Flow)) × (v : View) × (s : Name × Step) × (d : ErrorDoc) × Keeps flows plan.now pool.now self.old v × IsStepAt v step s × CanSettle v (fault_set s.0 place.now d) × ArePassed v s place.now d pieces.now }
-        ensures same { (flows : List (Name × Flow)) (v : View) → Keeps flows plan.now pool.now self.old v → Keeps flows plan.now pool.now self.new v }
+        requires next { (flows : List (Name × Flow)) × (v : View) × (s : Name × Step)
+            × (d : ErrorDoc) × Keeps flows plan.now pool.now self.old v × IsStepAt v step s
+            × CanSettle v (fault_set s.0 place.now d) × ArePassed v s place.now d pieces.now }
+        ensures same { (flows : List (Name × Flow)) (v : View)
+            → Keeps flows plan.now pool.now self.old v → Keeps flows plan.now pool.now self.new v }
         ensures kept { HasSameParts self.old self.new }
         ensures place { self.new.ahead.place ≡ self.old.ahead.place }
         ensures waiting { waiting_things self.new.intakes ≡ waiting_things self.old.intakes }
-        ensures ready { OnOk result ((flows : List (Name × Flow)) (v : View) (s : Name × Step) (d : ErrorDoc) → Keeps flows plan.now pool.now self.old v → IsStepAt v step s → CanSettle v (fault_set s.0 place.now d) → ArePassed v s place.now d pieces.now → needed (depths self.old.outputs) (first_tree v.flow.steps step) (trees_in s) ≤ pool.now.spare → IsReadyFor flows plan.now pool.now self.new v step s (fault_set s.0 place.now d)) }
-        ensures count { IfOk result (λ n. n ≡ new_count self.new.intakes self.new.spread.touched.items) }
+        ensures ready { OnOk result ((flows : List (Name × Flow)) (v : View) (s : Name × Step)
+            (d : ErrorDoc)
+            → Keeps flows plan.now pool.now self.old v → IsStepAt v step s
+            → CanSettle v (fault_set s.0 place.now d) → ArePassed v s place.now d pieces.now
+            → needed (depths self.old.outputs) (first_tree v.flow.steps step) (trees_in s) ≤
+            pool.now.spare
+            → IsReadyFor flows plan.now pool.now self.new v step s (fault_set s.0 place.now d)) }
+        ensures count { IfOk result (λ n. n
+            ≡ new_count self.new.intakes self.new.spread.touched.items) }
     {
         let first = self.tables.firsts[step as usize];
         let mut faults = Vec::new(self.alloc);
@@ -234,12 +281,18 @@ impl Frame {
         step: u32,
         event: &Event,
     ) -> Result<u64, NoMemory>
-        requires { (flows : List (Name × Flow)) × (v : View) × (s : Name × Step) × (e : TheEvent) × Keeps flows plan.now pool.now self.old v × IsComing flows v step s e event.now }
-        ensures same { (flows : List (Name × Flow)) (v : View) → Keeps flows plan.now pool.now self.old v → Keeps flows plan.now pool.now self.new v }
+        requires { (flows : List (Name × Flow)) × (v : View) × (s : Name × Step) × (e : TheEvent)
+            × Keeps flows plan.now pool.now self.old v × IsComing flows v step s e event.now }
+        ensures same { (flows : List (Name × Flow)) (v : View)
+            → Keeps flows plan.now pool.now self.old v → Keeps flows plan.now pool.now self.new v }
         ensures parts { HasSameParts self.old self.new }
-        ensures held { OnOk result ((flows : List (Name × Flow)) (v : View) (s : Name × Step) (e : TheEvent) → Keeps flows plan.now pool.now self.old v → IsComing flows v step s e event.now → IsHeld v e self.new) }
+        ensures held { OnOk result ((flows : List (Name × Flow)) (v : View) (s : Name × Step)
+            (e : TheEvent)
+            → Keeps flows plan.now pool.now self.old v → IsComing flows v step s e event.now
+            → IsHeld v e self.new) }
         ensures whole { self.new.ahead.whole ≡ (event.now.whole_from == 0) }
-        ensures count { IfOk result (λ n. n ≡ new_count self.new.intakes self.new.spread.touched.items) }
+        ensures count { IfOk result (λ n. n
+            ≡ new_count self.new.intakes self.new.spread.touched.items) }
         ensures place { self.new.ahead.place ≡ self.old.ahead.place }
         ensures waiting { waiting_things self.new.intakes ≡ waiting_things self.old.intakes }
     {
@@ -271,11 +324,18 @@ impl Frame {
         over: &Over,
         whole_from: usize,
     ) -> Result<(), NoMemory>
-        requires { (flows : List (Name × Flow)) × (v : View) × (s : Name × Step) × (e : TheEvent) × Keeps flows plan.now pool.now self.old v × IsLaidOver flows v s e over.now whole_from }
-        ensures same { (flows : List (Name × Flow)) (v : View) → Keeps flows plan.now pool.now self.old v → Keeps flows plan.now pool.now self.new v }
+        requires { (flows : List (Name × Flow)) × (v : View) × (s : Name × Step) × (e : TheEvent)
+            × Keeps flows plan.now pool.now self.old v
+            × IsLaidOver flows v s e over.now whole_from }
+        ensures same { (flows : List (Name × Flow)) (v : View)
+            → Keeps flows plan.now pool.now self.old v → Keeps flows plan.now pool.now self.new v }
         ensures parts { HasSameParts self.old self.new }
         ensures held { HasSameHeld self.old self.new }
-        ensures outs { OnOk result ((flows : List (Name × Flow)) (v : View) (s : Name × Step) (e : TheEvent) → Keeps flows plan.now pool.now self.old v → IsLaidOver flows v s e over.now whole_from → AreOuts (with_event v e []) (has_ended_now (levels_in v.flow) (with_event v e [])) self.new.ahead.outs) }
+        ensures outs { OnOk result ((flows : List (Name × Flow)) (v : View) (s : Name × Step)
+            (e : TheEvent)
+            → Keeps flows plan.now pool.now self.old v → IsLaidOver flows v s e over.now whole_from
+            → AreOuts (with_event v e []) (has_ended_now (levels_in v.flow) (with_event v e []))
+            self.new.ahead.outs) }
     {
         self.ahead.outs = None;
         if whole_from != 0 || !self.endings.is_last(&plan.wiring, over.step) {
@@ -295,8 +355,16 @@ impl Frame {
         place: &Place,
         leaf: u32,
     ) -> Result<Pieces, NoMemory>
-        requires { (flows : List (Name × Flow)) × (v : View) × (s : Name × Step) × Keeps flows plan.now pool.now self.now v × IsStepAt v step s × In (fault_at place.now leaf) (waiting_of v.events s.0 (followed_by (matcher_at self.now.intakes step))) }
-        ensures { IfOk result (λ ps. (flows : List (Name × Flow)) (v : View) (s : Name × Step) → Keeps flows plan.now pool.now self.now v → IsStepAt v step s → In (fault_at place.now leaf) (waiting_of v.events s.0 (followed_by (matcher_at self.now.intakes step))) → (d : ErrorDoc) × CanSettle v (fault_set s.0 place.now d) × ArePassed v s place.now d ps) }
+        requires { (flows : List (Name × Flow)) × (v : View) × (s : Name × Step)
+            × Keeps flows plan.now pool.now self.now v × IsStepAt v step s
+            × In (fault_at place.now leaf) (waiting_of v.events s.0
+            (followed_by (matcher_at self.now.intakes step))) }
+        ensures { IfOk result (λ ps. (flows : List (Name × Flow)) (v : View) (s : Name × Step)
+            → Keeps flows plan.now pool.now self.now v → IsStepAt v step s
+            → In (fault_at place.now leaf) (waiting_of v.events s.0
+            (followed_by (matcher_at self.now.intakes step)))
+            → (d : ErrorDoc) × CanSettle v (fault_set s.0 place.now d)
+            × ArePassed v s place.now d ps) }
     {
         let fault = self.passed_piece(plan, pool, step, place, leaf)?;
         let left = levels_left(plan, step, place)?;
@@ -318,9 +386,17 @@ impl Frame {
         place: &Place,
         leaf: u32,
     ) -> Result<Piece, NoMemory>
-        requires { (flows : List (Name × Flow)) × (v : View) × (s : Name × Step) × Keeps flows plan.now pool.now self.now v × IsStepAt v step s × In (fault_at place.now leaf) (waiting_of v.events s.0 (followed_by (matcher_at self.now.intakes step))) }
+        requires { (flows : List (Name × Flow)) × (v : View) × (s : Name × Step)
+            × Keeps flows plan.now pool.now self.now v × IsStepAt v step s
+            × In (fault_at place.now leaf) (waiting_of v.events s.0
+            (followed_by (matcher_at self.now.intakes step))) }
         ensures sound { IfOk result IsSound }
-        ensures value { IfOk result (λ p. (flows : List (Name × Flow)) (v : View) (s : Name × Step) → Keeps flows plan.now pool.now self.now v → IsStepAt v step s → In (fault_at place.now leaf) (waiting_of v.events s.0 (followed_by (matcher_at self.now.intakes step))) → (d : ErrorDoc) × (piece_value p ≡ fault_value d) × CanSettle v (fault_set s.0 place.now d)) }
+        ensures value { IfOk result (λ p. (flows : List (Name × Flow)) (v : View) (s : Name × Step)
+            → Keeps flows plan.now pool.now self.now v → IsStepAt v step s
+            → In (fault_at place.now leaf) (waiting_of v.events s.0
+            (followed_by (matcher_at self.now.intakes step)))
+            → (d : ErrorDoc) × (piece_value p ≡ fault_value d)
+            × CanSettle v (fault_set s.0 place.now d)) }
     {
         let start = self.tables.starts[step][leaf as usize] as usize;
         let inside = Place::of(self.alloc, rest_of(place.as_slice(), start))?;
@@ -391,7 +467,8 @@ fn rest_of(place: &[u32], start: usize) -> &[u32]
 /// The number of the port that is this leaf.
 fn port_of(ports: &[Port], leaf: u32) -> usize
     ensures within { result ≤ length ports.now }
-    ensures found { (n : ℕ) (p : CodePort) → slice_get ports.now n ≡ Some p → p.leaf ≡ leaf → (q : CodePort) × (slice_get ports.now result ≡ Some q) × (q.leaf ≡ leaf) }
+    ensures found { (n : ℕ) (p : CodePort) → slice_get ports.now n ≡ Some p → p.leaf ≡ leaf
+        → (q : CodePort) × (slice_get ports.now result ≡ Some q) × (q.leaf ≡ leaf) }
 {
     match ports.split_first() {
         None => 0,
@@ -408,7 +485,9 @@ fn port_of(ports: &[Port], leaf: u32) -> usize
 /// The levels that a step's iteration has below a place.
 fn levels_left(plan: &FlowPlan, step: usize, place: &Place) -> Result<u32, NoMemory>
     requires { step < length plan.now.flow.steps }
-    ensures { IfOk result (λ n. (s : Name × Step) → slice_get (flow_view plan.now.flow).steps step ≡ Some s → n ≡ levels_at (flow_view plan.now.flow) s.1 - length place.now) }
+    ensures { IfOk result (λ n. (s : Name × Step)
+        → slice_get (flow_view plan.now.flow).steps step ≡ Some s
+        → n ≡ levels_at (flow_view plan.now.flow) s.1 - length place.now) }
 {
     let levels = plan.steps.as_slice()[step].depth;
     match u32::try_from(place.as_slice().len()) {
@@ -428,7 +507,9 @@ fn with_depths(
     requires sound { IsSound fault.now }
     requires document { is_document (Some (piece_value fault.now)) ≡ true }
     ensures sound { IfOk result AreSound }
-    ensures values { IfOk result (λ ps. piece_values ps ≡ map (λ o. fault_value (of_depth (left + o.1) (document_of (piece_value fault.now)))) outputs.now) }
+    ensures values { IfOk result (λ ps. piece_values ps
+        ≡ map (λ o. fault_value (of_depth (left + o.1) (document_of (piece_value fault.now))))
+        outputs.now) }
 {
     let mut pieces = Vec::with_capacity(alloc, outputs.len())?;
     for (_, declared) in outputs {
@@ -443,7 +524,8 @@ fn with_depth(alloc: Global, fault: &Piece, left: u32, declared: u32) -> Result<
     requires sound { IsSound fault.now }
     requires document { is_document (Some (piece_value fault.now)) ≡ true }
     ensures sound { IfOk result IsSound }
-    ensures value { IfOk result (λ p. piece_value p ≡ fault_value (of_depth (left + declared) (document_of (piece_value fault.now)))) }
+    ensures value { IfOk result (λ p. piece_value p
+        ≡ fault_value (of_depth (left + declared) (document_of (piece_value fault.now)))) }
 {
     let Some(depth) = left.checked_add(declared) else {
         return Err(NoMemory);

@@ -45,7 +45,8 @@ pub(crate) fn tables_of(alloc: Global, plan: &FlowPlan) -> Result<Tables, NoMemo
 /// How many outputs a step has.
 pub(crate) fn outputs_of(plan: &FlowPlan, step: usize) -> usize
     requires { step < length plan.now.flow.steps }
-    ensures { (s : Name × Step) → slice_get (flow_view plan.now.flow).steps step ≡ Some s → result ≡ length s.1.outputs }
+    ensures { (s : Name × Step) → slice_get (flow_view plan.now.flow).steps step ≡ Some s
+        → result ≡ length s.1.outputs }
 {
     plan.flow.steps.as_slice()[step].1.outputs.as_slice().len()
 }
@@ -53,7 +54,8 @@ pub(crate) fn outputs_of(plan: &FlowPlan, step: usize) -> usize
 /// How many trees a step has: one for each output, and one where it has none.
 pub(crate) fn trees_of(plan: &FlowPlan, step: usize) -> usize
     requires { step < length plan.now.flow.steps }
-    ensures { (s : Name × Step) → slice_get (flow_view plan.now.flow).steps step ≡ Some s → result ≡ trees_of s }
+    ensures { (s : Name × Step) → slice_get (flow_view plan.now.flow).steps step ≡ Some s
+        → result ≡ trees_of s }
 {
     let outputs = outputs_of(plan, step);
     if outputs == 0 { 1 } else { outputs }
@@ -61,7 +63,9 @@ pub(crate) fn trees_of(plan: &FlowPlan, step: usize) -> usize
 
 /// Answers want of memory where there are more trees than a machine could hold.
 fn first_trees(alloc: Global, plan: &FlowPlan) -> Result<Vec<usize>, NoMemory>
-    ensures { IfOk result (λ ns. ns.items ≡ map (first_tree (flow_view plan.now.flow).steps) (range_with_len 0 (length (flow_view plan.now.flow).steps))) }
+    ensures { IfOk result (λ ns. ns.items
+        ≡ map (first_tree (flow_view plan.now.flow).steps)
+        (range_with_len 0 (length (flow_view plan.now.flow).steps))) }
 {
     let count = plan.flow.steps.as_slice().len();
     let mut firsts = Vec::with_capacity(alloc, count)?;
@@ -98,7 +102,9 @@ fn push_times(depth: u32, count: usize, depths: &mut Vec<u32>) -> Result<(), NoM
 }
 
 fn starts_of(alloc: Global, plan: &FlowPlan) -> Result<Vec<Vec<u32>>, NoMemory>
-    ensures { IfOk result (λ rows. map (λ is. is.items) rows.items ≡ map (λ s. map (λ x. x.1) (step_starts (flow_view plan.now.flow) s)) (flow_view plan.now.flow).steps) }
+    ensures { IfOk result (λ rows. map (λ is. is.items) rows.items
+        ≡ map (λ s. map (λ x. x.1) (step_starts (flow_view plan.now.flow) s))
+        (flow_view plan.now.flow).steps) }
 {
     let steps = plan.steps.as_slice();
     let mut starts = Vec::with_capacity(alloc, steps.len())?;

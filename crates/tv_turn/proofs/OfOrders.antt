@@ -1,42 +1,23 @@
--- The steps by falling rank, as they are made.
+-- The steps by falling rank are steps of the flow.
 use Rattle.std.specs.Prelude.{◌≡◌, refl, ℕ, ◌<◌, ◌&&◌, nat_lt, Bool, true, List, [], ◌∷◌, length, map}
 use Rattle.std.specs.List.{list_all}
-use Rattle.std.proofs.Common.{ap, sym, subst, ◌∙◌, inl, inr, reverse}
-use mathlib.Core.List.{reverse_aux}
+use Rattle.std.proofs.Common.{ap, sym, subst, ◌∙◌, inl, inr}
 use Rattle.std.proofs.lemmas.Bool.{lt-ltb}
 use Rattle.std.proofs.lemmas.List.{length-map}
 use Rattle.tv_value.specs.Values.{Name}
-use Rattle.tv_flow.specs.Flows.{Flow, Step}
-use Rattle.tv_naming.specs.Naming.{has_name}
+use Rattle.tv_flow.specs.Flows.{Step}
 use Rattle.tv_naming.specs.Numbers.{position}
 use Rattle.tv_naming.proofs.OfForms.{steps-named}
-use Rattle.tv_depths.specs.Ranks.{earlier_steps, ranked}
 use Rattle.tv_depths.proofs.OfRanked.{inside}
 use Rattle.tv_wires.specs.Wirings.{after_of}
-use Rattle.tv_check.specs.NamedGraphs.{links_inside}
-use Rattle.tv_check.specs.RankNumbers.{numbers_by_rank}
-use Rattle.tv_instance.specs.ByResults.{last_first}
 use Rattle.tv_model.specs.Members.{In}
-use Rattle.tv_joined.specs.WiredFlows.{IsWired}
 use Rattle.tv_turn.specs.FirstReady.{by_falling_rank}
 use Rattle.tv_turn.specs.Stated.{OrderIsOfSteps}
 use Rattle.tv_turn.proofs.OfRanks.{at-in, number-of, numbers-step}
-use Rattle.tv_turn.proofs.OfSettling.{earlier-steps}
 
 all-in : {A : Type 0} (p : A → Bool) (xs : List A) → ((x : A) → In x xs → p x ≡ true) → list_all p xs ≡ true
 all-in p [] h = refl
 all-in p (x ∷ xs) h = ap (λ b. b && list_all p xs) (h x (inl refl)) ∙ all-in p xs (λ y i. h y (inr i))
-
-pub links-are-inside : (f : Flow) → IsWired f → links_inside f ≡ true
-links-are-inside f wired =
-    all-in (λ (s : Name × Step). list_all (has_name f.steps) (earlier_steps s.1)) f.steps (λ s i. earlier-steps f.steps (steps-named f wired.formed).rise wired.ranked s i)
-
-turned : {B : Type 0} (number : Name × Step → B) (rs ts : List (Name × Step)) → map number (last_first rs ts) ≡ reverse_aux (map number rs) (map number ts)
-turned number [] ts = refl
-turned number (r ∷ rs) ts = turned number rs (r ∷ ts)
-
-pub turned-round : (f : Flow) → reverse (numbers_by_rank f.steps) ≡ by_falling_rank f
-turned-round f = sym (turned (λ s. position s.0 f.steps) (ranked f.steps) [])
 
 pub order-of-steps : OrderIsOfSteps
 order-of-steps f wired = all-in (λ k. nat_lt k (length (map (λ (s : Name × Step). after_of f.steps s.1) f.steps))) (by_falling_rank f) below

@@ -80,7 +80,7 @@ module _ (steps : List (Name × Step)) where
           by false f g = h n g
 
   -- a step comes after steps of the flow
-  pub earlier-steps : is_ascending (names_of steps) ≡ true → length (ranked steps) ≡ length steps → (s : Name × Step) → In s steps → list_all (has_name steps) (earlier_steps s.1) ≡ true
+  earlier-steps : is_ascending (names_of steps) ≡ true → length (ranked steps) ≡ length steps → (s : Name × Step) → In s steps → list_all (has_name steps) (earlier_steps s.1) ≡ true
   earlier-steps rise all s i =
       let at = at-in steps s i in
       let there = all-ranked steps rise all s at in

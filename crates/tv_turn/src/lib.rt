@@ -15,4 +15,4 @@ pub mod laws;
 mod tests;
 mod turn;
 
-pub use turn::{first_ready, order_of};
+pub use turn::first_ready;

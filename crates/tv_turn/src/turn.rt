@@ -1,29 +1,12 @@
 //! The first ready job.
-ghost use Rattle.tv_flow.specs.Views.{flow_view};
-ghost use Rattle.tv_joined.specs.WiredFlows.{IsWired};
-ghost use Rattle.tv_turn.specs.FirstReady.{by_falling_rank};
-ghost use Rattle.std.specs.Prelude.{◌≡◌, ◌<◌, length, nat_lt, option_map, true, IfOk};
+ghost use Rattle.std.specs.Prelude.{◌≡◌, ◌<◌, length, nat_lt, option_map, true};
 ghost use Rattle.std.specs.List.{list_all};
 ghost use Rattle.tv_endings.specs.Ends.{IsSound};
 ghost use Rattle.tv_turn.specs.Turns.{first_in_turn, first_of_step, first_of_step_after, first_of_steps, first_of_steps_after, may_settle};
 
-use std::alloc::Global;
-use tv_check::steps_by_rank;
 use tv_endings::Endings;
-use tv_flow::Flow;
 use tv_idle::Idle;
-use tv_value::{NoMemory, Sequence};
 use tv_wires::Wiring;
-
-/// The steps of a flow by falling rank. Takes a look-up for each link of the flow.
-pub fn order_of(alloc: Global, flow: &Flow) -> Result<Sequence<u32>, NoMemory>
-    requires { IsWired (flow_view flow.now) }
-    ensures { IfOk result (λ order. order ≡ by_falling_rank (flow_view flow.now)) }
-{
-    let mut order = steps_by_rank(alloc, flow)?;
-    order.reverse();
-    Ok(Sequence::of(order))
-}
 
 /// The number of the first ready job in job order; where a job is given by its step and place, the first of those that stand
 /// after it. `order` has the steps of the flow by falling rank. Takes no memory.

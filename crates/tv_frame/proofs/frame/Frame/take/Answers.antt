@@ -1,4 +1,5 @@
 use Rattle.std.proofs.Common.{arith}
+use Rattle.tv_frame.proofs.OfReadyStays.{still-ready}
 use Rattle.tv_frame.proofs.OfTaking.{idle-there, number-below, taken-keeps}
 use Rattle.tv_frame.proofs.frame.Frame.take.Goals as goal
 
@@ -21,3 +22,9 @@ returns-clause-kept c = λ flows v j k is ready.
     let s = c.job-step.result in
     taken-keeps flows c.args.plan.now c.args.pool.now c.args.self.now v j c.args.number k is ready s.0 s.1.now c.job-step.ensures.job s.2 c.job-step.ensures.faulty
     c.remove.new.self c.remove.ensures.steps c.remove.ensures.known
+
+pub returns-clause-stays : goal.returns-clause-stays
+returns-clause-stays c = λ flows v j n s e h is ready.
+    let x = c.job-step.result in
+    still-ready flows c.args.plan.now c.args.pool.now c.args.self.now v j c.args.number n s e h is ready x.0 x.1.now c.job-step.ensures.job x.2 c.job-step.ensures.faulty
+    c.remove.new.self c.remove.ensures.steps c.remove.ensures.known c.remove.ensures.room
