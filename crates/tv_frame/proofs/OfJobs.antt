@@ -53,7 +53,7 @@ module _ (flows : List (Name × Flow)) (plan : FlowPlan) (pool : Nodes) (f : Fra
     its-soundness = subst IsSoundAt matcher.1 (k.intaken.sound n)
 
     once : EachOnce (leaf_names (strategy_of step.0.1)) (leaf_names (strategy_of step.0.1))
-    once = subst (λ t. EachOnce (leaf_names t) (leaf_names t)) its-matcher.strategy_is its-soundness.suits.leaves_differ
+    once = subst (λ t. EachOnce (leaf_names t) (leaf_names t)) its-matcher.strategy_is its-soundness.keeps.suits.leaves_differ
 
     pub known : In (step.0.0, q) v.jobs
     known =
