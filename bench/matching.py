@@ -37,7 +37,8 @@ def plain(text):
     text = re.sub(r"#\[cfg\(test\)\]\nmod tests;\n", "", text)
     text = text.replace("#[derive(Drop)]\n", "").replace(", Drop)]", ")]")
     text = text.replace("use std::marker::Model;\n", "").replace("use std::alloc::Global;", "use crate::shim::Global;")
-    return text.replace("use tv_value::", "use crate::shim::")
+    text = text.replace(".as_slice().to_vec(alloc)", ".copied(alloc)")
+    return re.sub(r"use tv_(value|strategy)::", "use crate::shim::", text)
 
 
 def built(folder, program):

@@ -53,6 +53,11 @@ impl<T> Vec<T> {
     }
 }
 impl<T: Copy> Vec<T> {
+    pub fn copied(&self, a: Global) -> Result<Self, NoMemory> {
+        let mut copy = Vec::new(a);
+        copy.extend_from_slice(&self.0)?;
+        Ok(copy)
+    }
     #[inline]
     pub fn extend_from_slice(&mut self, o: &[T]) -> Result<(), NoMemory> {
         if self.0.capacity() - self.0.len() < o.len() {
@@ -96,18 +101,34 @@ impl<T> DerefMut for Box<T> {
 pub struct Place {
     len: usize,
     idx: [u32; 32],
+    // All of them, where there are more.
+    all: std::vec::Vec<u32>,
 }
 impl Place {
-    pub fn of(_: Global, q: &[u32]) -> Result<Place, NoMemory> {
-        if q.len() > 32 {
-            return Err(NoMemory);
+    pub fn top(_: Global) -> Place {
+        Place {
+            len: 0,
+            idx: [0; 32],
+            all: std::vec::Vec::new(),
         }
-        let mut idx = [0; 32];
-        idx[..q.len()].copy_from_slice(q);
-        Ok(Place { len: q.len(), idx })
+    }
+    pub fn of(a: Global, q: &[u32]) -> Result<Place, NoMemory> {
+        let mut place = Place::top(a);
+        if q.len() > 32 {
+            take()?;
+            place.all = q.to_vec();
+        } else {
+            place.idx[..q.len()].copy_from_slice(q);
+        }
+        place.len = q.len();
+        Ok(place)
     }
     pub fn as_slice(&self) -> &[u32] {
-        &self.idx[..self.len]
+        if self.len > 32 {
+            &self.all
+        } else {
+            &self.idx[..self.len]
+        }
     }
 }
 pub type Name = String;
@@ -165,5 +186,16 @@ impl Copied for Depths {
     fn copy(&self, _: Global) -> Result<Self, NoMemory> {
         take()?;
         Ok(Sequence(self.0.clone()))
+    }
+}
+/// The depth of a strategy whose dots agree.
+pub fn depth_of(tree: &Tree, mismatch: &Depths) -> Result<u32, ()> {
+    match tree {
+        Tree::Leaf(name) => {
+            let named = mismatch.0.iter().find(|(other, _)| other == name);
+            Ok(named.map_or(0, |(_, depth)| *depth))
+        }
+        Tree::Cross(trees) => trees.0.iter().map(|tree| depth_of(tree, mismatch)).sum(),
+        Tree::Dot(trees) => trees.0.first().map_or(Ok(0), |tree| depth_of(tree, mismatch)),
     }
 }

@@ -29,7 +29,7 @@ pub fn main() {
         .map(|w| w.parse().unwrap())
         .collect();
     let refused = std::env::args().len() > 3;
-    if let Err(why) = worked_row(Global) {
+    if let Err(why) = worked_row(Global).and_then(|()| deep_row(Global)) {
         println!("worked row: {why}");
         std::process::exit(1);
     }
@@ -73,30 +73,45 @@ fn trial(seed: u64, refused: bool, tally: &mut Tally) -> Result<()> {
     Ok(())
 }
 
-/// What contracts see of a matcher where nothing is held: what is shown, in order, and how much of it has come out.
-fn seen(matcher: &Matcher) -> (Vec<(Vec<u32>, Kind)>, usize) {
+/// What contracts see of a matcher: what is shown, in order, and then what is ahead; how much is shown, and how much has come out.
+fn seen(matcher: &Matcher) -> (Vec<(Vec<u32>, Kind)>, usize, usize) {
     let mut items = Vec::new();
-    for at in 0..matcher.shown() {
-        let (place, kind) = matcher.item(at);
+    for at in 0..matcher.ahead() {
+        let (place, kind) = matcher.item_ahead(at);
         items.push((place.to_vec(), kind));
     }
-    (items, matcher.given())
+    for at in 0..matcher.shown() {
+        let (place, kind) = matcher.item(at);
+        assert!(items[at] == (place.to_vec(), kind));
+    }
+    (items, matcher.shown(), matcher.given())
 }
 
-/// Makes a call, and where it is refused holds what is then seen against what was seen before, and makes it again.
+/// Makes a call; None where it is refused, and then what is seen is held against what was seen before.
+fn unless_refused<T>(
+    matcher: &mut Matcher,
+    tally: &mut Tally,
+    mut call: impl FnMut(&mut Matcher) -> std::result::Result<T, NoMemory>,
+) -> Result<Option<T>> {
+    let before = seen(matcher);
+    if let Ok(answer) = call(matcher) {
+        return Ok(Some(answer));
+    }
+    tally.refusals += 1;
+    ensure!(seen(matcher) == before, "a refused call changed something");
+    Ok(None)
+}
+
+/// The same, and where the call is refused it is made again.
 fn once_more<T>(
     matcher: &mut Matcher,
     tally: &mut Tally,
     mut call: impl FnMut(&mut Matcher) -> std::result::Result<T, NoMemory>,
 ) -> Result<T> {
-    let before = seen(matcher);
-    if let Ok(answer) = call(matcher) {
-        return Ok(answer);
+    match unless_refused(matcher, tally, &mut call)? {
+        Some(answer) => Ok(answer),
+        None => Ok(call(matcher)?),
     }
-    tally.refusals += 1;
-    ensure!(seen(matcher) == before, "a refused call changed something");
-    ensure!(matcher.ahead() == before.0.len(), "a refused call holds something");
-    Ok(call(matcher)?)
 }
 
 // ---- one leaf of mismatch 2, told its jobs before the lists that they stand in
@@ -140,6 +155,35 @@ fn worked_row(alloc: Global) -> Result<()> {
             == "Job(false) [2, 1]; Job(false) [0, 0]; Closed(3) []; Closed(0) [1]; Closed(1) [0]; ",
         "{text}"
     );
+    Ok(())
+}
+
+// ---- one leaf of mismatch 40: a place of 40 indices comes out without memory
+
+fn deep_row(alloc: Global) -> Result<()> {
+    let tree = Tree::Leaf("a".to_string());
+    let mut matcher = Matcher::start(alloc, &tree, &Sequence::of(vec![("a".to_string(), 40)]))?;
+    for last in 0..3 {
+        let mut place = vec![7; 39];
+        place.push(last);
+        let what = What::Value;
+        let say = Say { leaf: 0, place, what };
+        if last == 1 {
+            matcher.reserve(&Sequence::of(vec![listed(alloc, &say)?]))?;
+        }
+        tell(alloc, &mut matcher, &say)?;
+        if last == 1 {
+            matcher.pass();
+        }
+    }
+    let before = taken();
+    for last in [1, 2] {
+        let Some(Matched::Job(place)) = matcher.next() else {
+            bail!("nothing comes out");
+        };
+        ensure!(place.as_slice().len() == 40 && place.as_slice()[39] == last, "another place");
+    }
+    ensure!(matcher.next().is_none() && taken() == before, "more, or by memory");
     Ok(())
 }
 
@@ -618,7 +662,10 @@ fn look(
         if random.once_in(2) {
             matcher.pass();
         } else {
-            match (matcher.next(), kind) {
+            let before = taken();
+            let next = matcher.next();
+            ensure!(taken() == before, "next takes memory");
+            match (next, kind) {
                 (Some(Matched::Job(at)), Kind::Job { .. }) => {
                     ensure!(at.as_slice() == place.as_slice(), "another job")
                 }
@@ -682,7 +729,7 @@ fn listed(alloc: Global, say: &Say) -> Result<Told> {
     })
 }
 
-/// Takes room for the next tellings of the order, and holds the answer against what is due for them.
+/// Takes room for the next tellings of the order, and holds the answer against what is due for them. Whether it was refused.
 fn reserve(
     alloc: Global,
     matcher: &mut Matcher,
@@ -691,7 +738,7 @@ fn reserve(
     nodes: &[Node],
     told: &[bool],
     tally: &mut Tally,
-) -> Result<()> {
+) -> Result<bool> {
     let mut list = Vec::new();
     let mut later = told.to_vec();
     for number in next {
@@ -700,12 +747,14 @@ fn reserve(
     }
     let due = ready(nodes, later.as_slice()) - ready(nodes, told);
     let list = Sequence::of(list);
-    let answer = once_more(matcher, tally, |matcher| matcher.reserve(&list))?;
+    let Some(answer) = unless_refused(matcher, tally, |matcher| matcher.reserve(&list))? else {
+        return Ok(true);
+    };
     ensure!(
         answer == due as u64,
         "reserve answers {answer}, and {due} are due"
     );
-    Ok(())
+    Ok(false)
 }
 
 fn ordered(alloc: Global, random: &mut Random, count: usize) -> Result<Vec<usize>> {
@@ -773,17 +822,21 @@ pub fn run(
     let mut at = 0;
     let mut held = 0;
     while at < order.len() {
-        if held == 0 && random.once_in(3) {
-            held = 1 + random.below((order.len() - at).min(6));
-            reserve(
+        if random.once_in(if held == 0 { 3 } else { 6 }) {
+            // Where something is held and the call is refused, that stays held.
+            let more = 1 + random.below((order.len() - at).min(6));
+            let refused = reserve(
                 alloc,
                 &mut matcher,
                 says.as_slice(),
-                &order.as_slice()[at..at + held],
+                &order.as_slice()[at..at + more],
                 nodes.as_slice(),
                 told.as_slice(),
                 tally,
             )?;
+            if !refused {
+                held = more;
+            }
             look(
                 alloc,
                 random,

@@ -64,7 +64,7 @@ brought_with false (Some m) = []
 order-matched : (m : Matcher) (s : Strategy) → IsSound m → (matching m).strategy ≡ s → IsPermutation (in_order m) (map (out s) (matched_after s (matching m).told))
 order-matched m s sound is =
     subst (λ t. IsPermutation (in_order m) (map (out t) (matched_after t (matching m).told))) is
-    (all-in_order (strategy_view m.tree) m.mismatch (filed m.root) m.log m.out m.told m.given sound)
+    (all-in_order (strategy_view m.tree) m.mismatch (filed m.root) m.log m.out m.told m.given sound.keeps)
 
 pub told-before : (v : View) (s : Name × Step) (o : Option Matcher) → HasMatcher v s o → IsSoundAt o → IsStepTold v s (told_by o) (followed_by o)
 told-before v s None h sound = absurd h

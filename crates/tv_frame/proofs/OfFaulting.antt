@@ -84,7 +84,7 @@ not-false false e = refl
 
 fit-by : (v : View) (s : Name × Step) (o : Option Matcher) → HasMatcher v s o → IsSoundAt o → Each (IsFit (number_of (mismatches v.flow s.1))) (told_by o)
 fit-by v s None h sound = absurd h
-fit-by v s (Some m) h sound = subst (λ ms. Each (IsFit (number_of ms)) (matching m).told) h.mismatch_is sound.fit
+fit-by v s (Some m) h sound = subst (λ ms. Each (IsFit (number_of ms)) (matching m).told) h.mismatch_is sound.keeps.fit
 
 module _ (flows : List (Name × Flow)) (plan : FlowPlan) (pool : Nodes) (f : Frame) (v : View) (n : ℕ) (s : Name × Step) (keeps : Keeps flows plan pool f v) (stands : IsStepAt v n s) (q : Place) (l : ℕ) (waits : In (fault_at q l) (waiting_of v.events s.0 (followed_by (matcher_at f.intakes n)))) where
   abbrev os : List Outcome

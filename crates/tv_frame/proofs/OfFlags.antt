@@ -40,13 +40,13 @@ flag-stays : (m : Matcher) → IsSoundAt (Some m) → CanShow (Some m) → (i : 
 flag-stays m a can i l q e =
     let s = strategy_view m.tree in
     let x = entry_at m.out i in
-    let w = in-order_within s m.mismatch (filed m.root) m.log m.out m.told m.given a i l in
+    let w = in-order_within s m.mismatch (filed m.root) m.log m.out m.told m.given a.keeps i l in
     let o = outcome_kind x.place x.kind in
-    let item = item-out s m.mismatch (filed m.root) m.log m.out m.told m.given a i w.0 x.kind x.place refl refl in
+    let item = item-out s m.mismatch (filed m.root) m.log m.out m.told m.given a.keeps i w.0 x.kind x.place refl refl in
     let place : q ≡ x.place = sym e ∙ ap outcome_place (get_or_default (in_order m) i (job_at []) o l ∙ item) ∙ place-kept x.place x.kind in
     let longer = ahead-longer m in
     sym (ahead-faulty m a can i (omega (arith, l, longer)) x.kind q refl place)
-    ∙ item-faulty s m.mismatch (filed m.root) m.log m.out m.told m.given a i w.0 x.kind q refl place
+    ∙ item-faulty s m.mismatch (filed m.root) m.log m.out m.told m.given a.keeps i w.0 x.kind q refl place
 
 pub made-flag : (o p : Option Matcher) → IsMadeAt o p → (q : Place) → faulty_now_at p q ≡ faulty_ahead_at o q
 made-flag None p h q = absurd h

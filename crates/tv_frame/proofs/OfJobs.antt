@@ -54,7 +54,7 @@ module _ (flows : List (Name × Flow)) (plan : FlowPlan) (pool : Nodes) (f : Fra
       by (Some m) h a =
           subst (λ g. HoldsError v (s.0, q) (faulty_at g (matching m).told q)) (sym h.strategy_is)
           (jobs-hold_what_is_said flows (levels_in v.flow) v k.frame k.of_depths (kept-wired flows plan pool f v k) n s there
-          (subst (λ t. EachOnce (leaf_names t) (leaf_names t)) h.strategy_is a.suits.leaves_differ) (matching m).told h.told h.truly q known)
+          (subst (λ t. EachOnce (leaf_names t) (leaf_names t)) h.strategy_is a.keeps.suits.leaves_differ) (matching m).told h.told h.truly q known)
 
   pub first-binds : (n : ℕ) (s : Name × Step) → IsStepAt v n s → (b : Bool) (m : ℕ) → IsFirstOfStep (levels_in v.flow) v (λ q. is_faulty_now f.intakes (n, q)) s.0 b (Some m) → (j : Name × Place) → numbered v m ≡ Some j → HoldsError v j b
   first-binds n s there b m h j e =

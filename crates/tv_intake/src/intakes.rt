@@ -103,7 +103,7 @@ impl Intakes {
         ensures waiting { waiting_things self.new ≡ waiting_things self.old }
         ensures sound { AreIntaken self.new }
     {
-        self.matchers[step as usize].reserve(told)
+        self.matchers[step as usize].hold(told)
     }
 
     /// Takes the room that showing all that these steps hold will need, and answers how many jobs become known with it.

@@ -65,14 +65,14 @@ pub ahead-matched : AheadIsMatched
 ahead-matched m a =
     let s = strategy_view m.tree in
     let items : kepts m.out ≡ briefs (worked_items (store_for 0 s) (unit_news ∷ map news_of m.log)) =
-    ap kepts (sym a.done.out_full) ∙ a.done.worked.items (length m.log) (omega arith) ∙ ap (λ l. briefs (worked_items (store_for 0 s) (unit_news ∷ map news_of l))) (all m.log) in
+    ap kepts (sym a.keeps.done.out_full) ∙ a.keeps.done.worked.items (length m.log) (omega arith) ∙ ap (λ l. briefs (worked_items (store_for 0 s) (unit_news ∷ map news_of l))) (all m.log) in
     let parts : map (telling_of s) m.log ≡ tellings_of s (take m.told m.log) ++ tellings_of s (drop m.told m.log) =
     ap (map (telling_of s)) (sym (take-append-drop m.told m.log)) ∙ map-append (telling_of s) (take m.told m.log) (drop m.told m.log) in
-    subst (λ l. IsPermutation (map outcome_of m.out) (map (out_of s) (matched_after s l))) parts (out-all s a.suits.leaves_differ m.log m.out a.proper items)
+    subst (λ l. IsPermutation (map outcome_of m.out) (map (out_of s) (matched_after s l))) parts (out-all s a.keeps.suits.leaves_differ m.log m.out a.keeps.proper items)
 
 pub none-ahead : NoneIsAhead
 none-ahead m a e =
     let s = strategy_view m.tree in
     let l = none-left m.told m.log (empty-map (telling_of s) (drop m.told m.log) e) in
-    let n : m.told ≡ length m.log = omega (arith, l, a.told_within) in
-    sym (ap (map outcome_of) (ap (λ k. front k m.out) n ∙ a.done.out_full))
+    let n : m.told ≡ length m.log = omega (arith, l, a.keeps.told_within) in
+    sym (ap (map outcome_of) (ap (λ k. front k m.out) n ∙ a.keeps.done.out_full))

@@ -302,6 +302,12 @@ freed-at s mm root log out log' out' n g a k o =
     subst (λ x. IsFreed (seen_as s mm log out n g) (seen_as s mm x out' n g)) (sym k)
     (subst (λ x. IsFreed (seen_as s mm log out n g) (seen_as s mm (take n log) x n g)) (sym o) (back-freed s mm root root log out n g a))
 
+pub back-sound_at : (s : Strategy) (mm : List (Name × ℕ)) (root next : Filed) (log out log' out' : List Entry) (n g : ℕ) → AreSound s mm root log out n g → log' ≡ take n log → out' ≡ front n out → IsDone s next log' out' → AreSound s mm next log' out' n g
+back-sound_at s mm root next log out log' out' n g a k o d =
+    subst (λ x. AreSound s mm next x out' n g) (sym k)
+    (subst (λ x. AreSound s mm next (take n log) x n g) (sym o)
+    (back-sound s mm root next log out n g a (done-at s next log' out' (take n log) (front n out) k o d)))
+
 pub back-log : (n : ℕ) (log mid more : List Entry) → n ≤ length log → mid ≡ take n log → take (length mid) more ≡ mid → take n more ≡ take n log
 back-log n log mid more h e l = ap (λ i. take i more) (sym (ap length e ∙ take-length n log h)) ∙ l ∙ e
 

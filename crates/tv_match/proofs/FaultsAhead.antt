@@ -23,9 +23,9 @@ pub ahead-faulty : (m : Matcher) → IsSound m → CanTellAll (matching m) (matc
 ahead-faulty m a can i h k q d f =
     let s = strategy_view m.tree in
     let n = length m.log in
-    let count : m.told + (n - m.told) ≡ n = omega (arith, a.told_within) in
-    let made : AreSound s m.mismatch (filed m.root) m.log m.out n m.given = all-made s m.mismatch (filed m.root) m.log m.out m.given (n - m.told) m.told count a can in
-    let within : i < length (front n m.out) = subst (λ l. i < length l) (sym a.done.out_full) (let e = long-map outcome_of m.out in omega (arith, e, h)) in
+    let count : m.told + (n - m.told) ≡ n = omega (arith, a.keeps.told_within) in
+    let made : AreSound s m.mismatch (filed m.root) m.log m.out n m.given = all-made s m.mismatch (filed m.root) m.log m.out m.given (n - m.told) m.told count a.keeps can in
+    let within : i < length (front n m.out) = subst (λ l. i < length l) (sym a.keeps.done.out_full) (let e = long-map outcome_of m.out in omega (arith, e, h)) in
     let parts : tellings_of s (take n m.log) ≡ tellings_of s (take m.told m.log) ++ tellings_of s (drop m.told m.log) =
     ap (tellings_of s) (take_all n m.log (omega arith) ∙ sym (take-append-drop m.told m.log)) ∙ map-append (telling_of s) (take m.told m.log) (drop m.told m.log) in
     subst (λ ts. is_faulty k ≡ faulty_at s ts q) parts (item-faulty s m.mismatch (filed m.root) m.log m.out n m.given made i within k q d f)

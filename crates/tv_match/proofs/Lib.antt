@@ -15,6 +15,8 @@ pub mod Faults
 pub mod Reserves
 pub mod Begins
 pub mod AllMade
+pub mod Placing
+pub mod Unchanged
 pub mod FaultsAhead
 pub mod OfLaws
 pub mod Scripts

@@ -34,13 +34,13 @@ long-map f (x ∷ xs) = ap suc (long-map f xs)
 
 module _ (m : Matcher) (a : IsSound m) where
   pub all-follows : IsPermutation (in_order m) (all_out (matching m))
-  all-follows = all-in_order (strategy_view m.tree) m.mismatch (filed m.root) m.log m.out m.told m.given a
+  all-follows = all-in_order (strategy_view m.tree) m.mismatch (filed m.root) m.log m.out m.told m.given a.keeps
 
   pub first-given : (matching m).given ≡ take m.given (in_order m)
-  first-given = given-first (strategy_view m.tree) m.mismatch (filed m.root) m.log m.out m.told m.given a
+  first-given = given-first (strategy_view m.tree) m.mismatch (filed m.root) m.log m.out m.told m.given a.keeps
 
   pub long-given : m.given ≡ length (matching m).given
-  long-given = given-long (strategy_view m.tree) m.mismatch (filed m.root) m.log m.out m.told m.given a
+  long-given = given-long (strategy_view m.tree) m.mismatch (filed m.root) m.log m.out m.told m.given a.keeps
 
   pub in-parts : (matching m).given ++ drop m.given (in_order m) ≡ in_order m
   in-parts = ap (λ l. l ++ drop m.given (in_order m)) first-given ∙ take-append-drop m.given (in_order m)
@@ -48,10 +48,10 @@ module _ (m : Matcher) (a : IsSound m) where
 abbrev pub sound-is_matching : SoundIsMatching
 sound-is_matching m a =
     record {
-      suits = a.suits;
-      agree = a.agree;
-      fit = a.fit;
-      once = a.once;
+      suits = a.keeps.suits;
+      agree = a.keeps.agree;
+      fit = a.keeps.fit;
+      once = a.keeps.once;
       rest = drop m.given (in_order m);
       parts = subst (λ l. IsPermutation l (all_out (matching m))) (sym (in-parts m a)) (all-follows m a);
     }
@@ -96,7 +96,7 @@ order-once : (m : Matcher) → IsSound m → StandOnce (in_order m)
 order-once m a q =
     let s = strategy_view m.tree in
     let ts = (matching m).told in
-    let o = (matches-once (number_of m.mismatch) ts a.fit a.once s a.agree).0 q in
+    let o = (matches-once (number_of m.mismatch) ts a.keeps.fit a.keeps.once s a.keeps.agree).0 q in
     let e = ap length (at-out s q (matched_after s ts)) ∙ long-map (out s) (at_place q (matched_after s ts)) in
     let p = length_permutation _ _ (flat-permutes (λ o. if_so (same_place q (outcome_place o)) o) (in_order m) (all_out (matching m)) (all-follows m a)) in
     omega (arith, o, e, p)

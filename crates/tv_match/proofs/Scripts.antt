@@ -1,18 +1,16 @@
 -- The scripts of the tests are such that a matcher can be told them.
-use Rattle.std.specs.Prelude.{Option, Some, None, IfSome, IsNone, IsPermutation}
-use Rattle.std.proofs.Common.{◌≡◌, refl, ℕ, ◌<◌, ◌≤◌, List, [], ◌∷◌, map, length, subst, sym, ◌∙◌, true, false, arith}
+use Rattle.std.specs.Prelude.{IsPermutation}
+use Rattle.std.proofs.Common.{◌≡◌, refl, ℕ, ◌<◌, List, [], ◌∷◌, map, length, subst, sym, ◌∙◌, true, false, arith}
 use Rattle.std.proofs.lemmas.List.Sorted.{IsPermutation-refl}
 use Rattle.tv_value.specs.Values.{Name}
 use Rattle.tv_value.specs.Strategies.{Strategy, port, cross, dot, strategy, no_strategies}
 use Rattle.tv_matching.specs.Told.{Told}
-use Rattle.tv_matching.specs.Matchers.{Matching, CanTell, CanTellAll, HasGivenAll, Starts, Holds, IsTold, Gives}
+use Rattle.tv_matching.specs.Matchers.{Matching, CanTell, CanTellAll, Starts, Holds, IsTold}
 use Rattle.tv_matching.proofs.OfMatchers.{can-tell_all-permutes, can-tell_all-after}
 use Rattle.tv_match.specs.declared.told.Told as code
-use Rattle.tv_match.specs.declared.told.Matched as coded
-use Rattle.tv_match.specs.Seen.{told_view, matched_view, leaf_of, NameLeaves}
+use Rattle.tv_match.specs.Seen.{told_view, leaf_of, NameLeaves}
 use Rattle.tv_match.specs.Scripts.{started, IsScript}
-use Rattle.tv_strategy.specs.Conditions.{number_of}
-use Rattle.tv_strategy.specs.Measures.{leaf_names, strategy_depth}
+use Rattle.tv_strategy.specs.Measures.{leaf_names}
 
 -- what is a script is one however it was made
 pub script-of : (s t : Strategy) (mm nn : List (Name × ℕ)) (ts us : List code.Told) → s ≡ t → mm ≡ nn → ts ≡ us → IsScript t nn us → IsScript s mm ts
@@ -22,7 +20,6 @@ pub one_leaf-is : IsScript (port (97 ∷ [])) ((97 ∷ [], 2) ∷ []) (code.Told
 one_leaf-is = record {
   suits = record { leaves_differ = (refl, tt); dots_are_filled = tt; each_has_number = (refl, tt); sum_is_small = omega arith };
   agree = tt;
-  shallow = omega arith;
   leaves = (omega arith, (omega arith, (omega arith, (omega arith, (omega arith, tt)))));
   new = ((refl, refl), ((refl, refl), ((omega arith, refl), ((omega arith, refl), ((omega arith, refl), tt)))));
 }
@@ -31,7 +28,6 @@ pub no_leaf-is : IsScript (cross no_strategies) [] []
 no_leaf-is = record {
   suits = record { leaves_differ = tt; dots_are_filled = tt; each_has_number = tt; sum_is_small = omega arith };
   agree = tt;
-  shallow = omega arith;
   leaves = tt;
   new = tt;
 }
@@ -40,7 +36,6 @@ pub fault_beside_a_list-is : IsScript (dot (strategy (port (97 ∷ [])) (strateg
 fault_beside_a_list-is = record {
   suits = record { leaves_differ = (refl, (refl, tt)); dots_are_filled = (tt, (tt, tt)); each_has_number = (refl, (refl, tt)); sum_is_small = omega arith };
   agree = ((tt, (tt, tt)), (refl, tt));
-  shallow = omega arith;
   leaves = (omega arith, (omega arith, (omega arith, tt)));
   new = ((omega arith, refl), ((omega arith, refl), ((refl, refl), tt)));
 }
@@ -49,7 +44,6 @@ pub shorter_beside_longer-is : IsScript (dot (strategy (port (97 ∷ [])) (strat
 shorter_beside_longer-is = record {
   suits = record { leaves_differ = (refl, (refl, tt)); dots_are_filled = (tt, (tt, tt)); each_has_number = (refl, (refl, tt)); sum_is_small = omega arith };
   agree = ((tt, (tt, tt)), (refl, tt));
-  shallow = omega arith;
   leaves = (omega arith, (omega arith, (omega arith, (omega arith, (omega arith, tt)))));
   new = ((refl, refl), ((omega arith, refl), ((refl, refl), ((omega arith, refl), ((refl, refl), tt)))));
 }
@@ -63,9 +57,6 @@ can-script s mm ts m h e = subst (λ x. CanTellAll m (map (told_view x) ts)) (sy
 
 pub script-names : (s : Strategy) (mm : List (Name × ℕ)) (ts : List code.Told) (m : Matching) → IsScript s mm ts → Starts s mm m → NameLeaves m.strategy ts
 script-names s mm ts m h e = subst (λ x. NameLeaves x ts) (sym e.strategy_is) h.leaves
-
-pub script-shallow : (s : Strategy) (mm : List (Name × ℕ)) (ts : List code.Told) (m : Matching) → IsScript s mm ts → Starts s mm m → strategy_depth (number_of m.mismatch) m.strategy ≤ 32
-script-shallow s mm ts m h e = subst (λ x. strategy_depth (number_of m.mismatch) x ≤ 32) (sym e.strategy_is) (subst (λ x. strategy_depth (number_of x) s ≤ 32) (sym e.mismatch_is) h.shallow)
 
 -- what comes out changes nothing of that
 pub can-still : (m n : Matching) (ts : List code.Told) → n.strategy ≡ m.strategy → n.mismatch ≡ m.mismatch → n.told ≡ m.told → CanTellAll m (map (told_view m.strategy) ts) → CanTellAll n (map (told_view n.strategy) ts)
@@ -98,15 +89,3 @@ leaves-still s r ts us e f h = subst (NameLeaves r) (sym e) (subst (λ x. NameLe
 
 pub new-still : (m o : Matching) (ts us : List code.Told) → us ≡ ts → o.strategy ≡ m.strategy → o.mismatch ≡ m.mismatch → o.told ≡ m.told → CanTellAll m (map (told_view m.strategy) ts) → CanTellAll o (map (told_view o.strategy) us)
 new-still m o ts us e f g k h = subst (λ x. CanTellAll o (map (told_view o.strategy) x)) (sym e) (can-still m o ts f g k h)
-
--- ---- where no place is too long for `next`
-
-abbrev pub IsShallow : Matching → Type 0
-IsShallow m = strategy_depth (number_of m.mismatch) m.strategy ≤ 32
-
-pub shallow-still : (m o : Matching) → o.strategy ≡ m.strategy → o.mismatch ≡ m.mismatch → IsShallow m → IsShallow o
-shallow-still m o e f h = subst (λ x. strategy_depth (number_of o.mismatch) x ≤ 32) (sym e) (subst (λ x. strategy_depth (number_of x) m.strategy ≤ 32) (sym f) h)
-
-pub shallow-next : (r : Option coded.Matched) (m o : Matching) → IfSome r (λ x. Gives (matched_view x) m o) → (IsNone r → HasGivenAll m × (o ≡ m)) → IsShallow m → IsShallow o
-shallow-next (Some x) m o some none h = shallow-still m o some.strategy_is some.mismatch_is h
-shallow-next None m o some none h = subst IsShallow (sym (none refl).1) h

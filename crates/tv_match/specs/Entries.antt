@@ -22,6 +22,9 @@ no_entry = entry 0 [] (code.Kind.Job false)
 abbrev pub entry_at : List Entry → ℕ → Entry
 entry_at es i = get_or es i no_entry
 
+abbrev pub places_of : List Entry → List Place
+places_of es = map (λ e. e.place) es
+
 -- ---- as items
 
 abbrev pub kind_view : code.Kind → items.Kind (Unit {0}) ℕ

@@ -3,6 +3,7 @@ pub mod Brief
 pub mod Slots
 pub mod Linked
 pub mod Filed
+pub mod Placed
 pub mod Working
 pub mod Seen
 pub mod Ahead

@@ -5,7 +5,7 @@ use Rattle.tv_value.specs.Values.{Name}
 use Rattle.tv_value.specs.Strategies.{Strategy}
 use Rattle.tv_value.specs.Views.{strategy_view}
 use Rattle.tv_strategy.specs.Conditions.{Suits, number_of}
-use Rattle.tv_strategy.specs.Measures.{DotsAgree, leaf_names}
+use Rattle.tv_strategy.specs.Measures.{DotsAgree, leaf_names, strategy_depth}
 use Rattle.tv_strategy.specs.Sources.{Each}
 use Rattle.tv_matching.specs.Members.{Once}
 use Rattle.tv_matching.specs.Told.{arrival, faulty, close, marked, told_to, IsFit}
@@ -17,6 +17,7 @@ use Rattle.tv_match.specs.declared.told.Matched as coded
 use Rattle.tv_match.specs.declared.matchers.Matcher.{Matcher}
 use Rattle.tv_match.specs.Entries.{Entry, entry, entry_at, kept_entry, front}
 use Rattle.tv_match.specs.Filed.{Filed, filed}
+use Rattle.tv_match.specs.Placed.{ArePlaced}
 use Rattle.tv_match.specs.Working.{IsDone}
 
 abbrev pub telling_kind : Name → Place → kinds.Kind → spec.Told
@@ -88,8 +89,10 @@ pub record AreSound (s : Strategy) (mismatch : List (Name × ℕ)) (root : Filed
 abbrev pub matching : Matcher → Matching
 matching m = seen_as (strategy_view m.tree) m.mismatch m.log m.out m.told m.given
 
-abbrev pub IsSound : Matcher → Type 0
-IsSound m = AreSound (strategy_view m.tree) m.mismatch (filed m.root) m.log m.out m.told m.given
+-- and its places are made, where they have to be
+pub record IsSound (m : Matcher) : Type 0 where
+  pub keeps : AreSound (strategy_view m.tree) m.mismatch (filed m.root) m.log m.out m.told m.given
+  pub placed : ArePlaced (strategy_depth (number_of m.mismatch) (strategy_view m.tree)) m.places m.out m.given
 
 -- the next held telling is this one
 abbrev pub IsNext : Matcher → Entry → Type 0

@@ -1,4 +1,4 @@
-ghost use Rattle.std.specs.Prelude.{◌≡◌, ◌++◌, ◌∷◌, [], ◌<◌, ◌≤◌, length, take, OnOk, OnErr};
+ghost use Rattle.std.specs.Prelude.{◌≡◌, ◌++◌, ◌∷◌, [], ◌<◌, ◌≤◌, length, take, IfOk, OnOk, OnErr};
 ghost use Rattle.tv_match.specs.Entries.{Entry, entry, entry_at, front};
 
 use crate::kinds::Kind;
@@ -47,6 +47,16 @@ impl Bag {
             slots: Vec::new(alloc),
             indices: Vec::new(alloc),
         }
+    }
+
+    /// An equal bag.
+    pub fn copy(&self, alloc: Global) -> Result<Bag, NoMemory>
+        ensures { IfOk result (λ b. b ≡ self.now) }
+    {
+        Ok(Bag {
+            slots: self.slots.as_slice().to_vec(alloc)?,
+            indices: self.indices.as_slice().to_vec(alloc)?,
+        })
     }
 
     /// How many items there are.

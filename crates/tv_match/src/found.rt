@@ -1,4 +1,4 @@
-ghost use Rattle.std.specs.Prelude.{◌≡◌, ◌+◌, ◌*◌, ◌<◌, ◌≤◌, ◌++◌, ◌∷◌, [], length, take, OnOk, OnErr, IfSome, IsNone};
+ghost use Rattle.std.specs.Prelude.{◌≡◌, ◌+◌, ◌*◌, ◌<◌, ◌≤◌, ◌++◌, ◌∷◌, [], length, take, IfOk, OnOk, OnErr, IfSome, IsNone};
 ghost use Rattle.tv_matching.specs.Stores.{latest_at};
 ghost use Rattle.tv_match.specs.Entries.{entry, kepts, front, FoundBefore};
 ghost use Rattle.tv_match.specs.Linked.{digit_of, Leads, AreRising, AreLinked, Agree, CanHang};
@@ -44,6 +44,16 @@ impl Found {
             bag: Bag::new(alloc),
             links: Vec::new(alloc),
         }
+    }
+
+    /// An equal bag.
+    pub fn copy(&self, alloc: Global) -> Result<Found, NoMemory>
+        ensures { IfOk result (λ f. f ≡ self.now) }
+    {
+        Ok(Found {
+            bag: self.bag.copy(alloc)?,
+            links: self.links.as_slice().to_vec(alloc)?,
+        })
     }
 
     /// The items.

@@ -5,8 +5,8 @@
 //! for which tellings it holds room, and what has come out. For all delivered values of which what was told is true, what has
 //! come out are ends, lists and passed faults of their iteration whose sources were told, each once, and nothing follows
 //! exactly where all of these have come out (`laws::what_has_come_out`, stated in `specs/Stated.antt`). A refused telling, or
-//! a refused reservation, changes nothing but that no room is held; after `reserve` the listed tellings are not refused, and
-//! its number is exact; a telling other than the next held one lets go what was held. Want of memory is the one refusal.
+//! a refused reservation, changes nothing; after `reserve` the listed tellings are not refused, and its number is exact; a
+//! telling other than the next held one lets go what was held. Want of memory is the one refusal.
 //! Each job says whether some value that it binds was told to hold a fault, also before a held telling is made.
 //!
 //! **How it is laid out.** For each cross and dot a `Store` keeps what is needed of its two children, the first ones taken
@@ -17,7 +17,7 @@
 //! - `kinds`, `told`: what the calls speak of
 //! - `bags`: lists of items, their places in one list of indices; `found`: bags that are searched by place, by a tree of their items
 //! - `joins`, `stores`: what is new in a cross or dot, and what is kept of a strategy; `building` makes it
-//! - `steps`, `listing`: one telling, or several, worked and taken back
+//! - `steps`, `listing`: one telling, or several, worked and taken back; `places`: places that are made beforehand
 //! - `matchers`: the calls; `matchers/ahead`: what the held tellings will bring, and all of them made
 //! - `laws`: what holds of every matcher
 #![tactic(auto)]
@@ -30,6 +30,7 @@ mod kinds;
 pub mod laws;
 mod listing;
 mod matchers;
+mod places;
 mod steps;
 mod stores;
 #[cfg(test)]

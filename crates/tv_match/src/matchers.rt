@@ -1,5 +1,5 @@
 ghost use Rattle.std.specs.Prelude.{◌≡◌, ℕ, ◌+◌, ◌^◌, ◌<◌, ◌≤◌, ◌∷◌, [], length, map, take, get_or, IsPermutation, IfOk, OnOk, OnErr, IfSome, IsNone, IsOk, IsTrue, List};
-ghost use Rattle.tv_strategy.specs.Measures.{DotsAgree, leaf_names, strategy_depth};
+ghost use Rattle.tv_strategy.specs.Measures.{DotsAgree, leaf_names};
 ghost use Rattle.tv_strategy.specs.Conditions.{Suits, number_of};
 ghost use Rattle.tv_matching.specs.Told.{Told as Telling, arrival, faulty, close, faulty_at, count_of_added};
 ghost use Rattle.tv_matching.specs.Matchers.{all_out, HasGivenAll, CanTell, CanTellAll, Starts, Holds, IsTold, Gives, IsFreed, leaf_name};
@@ -12,6 +12,7 @@ use crate::bags::Bag;
 use crate::building::build;
 use crate::kinds::Kind;
 use crate::listing::work_all;
+use crate::places::Places;
 use crate::steps::{take_back, work};
 use crate::stores::{News, Store};
 use crate::told::{Matched, Tolds};
@@ -35,12 +36,14 @@ pub struct Matcher {
     told: usize,
     // How many items have come out.
     given: usize,
+    // The places of those that have not, for `next`.
+    places: Places,
 }
 
 impl Matcher {
     ghost use Rattle.tv_value.specs.Views.{strategy_view};
     ghost use Rattle.tv_match.specs.Ahead.{in_order_ahead};
-    ghost use Rattle.tv_match.specs.Held.{LetsGo};
+    ghost use Rattle.tv_match.specs.Held.{LetsGo, IsUnchanged};
     ghost use Rattle.tv_match.specs.Seen.{told_view, NameLeaves, next_place, matching, IsSound, IsProper, IsNext, HasMore, telling_of, next_out, is_faulty, in_order};
 
     /// A matcher that was told nothing. What follows from nothing, a job where the strategy has no leaf, is still to come out.
@@ -62,6 +65,8 @@ impl Matcher {
             number: 0,
         };
         root.tell(&news, &mut out)?;
+        let mut places = Places::start(alloc, tree, mismatch);
+        places.make(&out, 0)?;
         Ok(Matcher {
             alloc,
             tree: tree.copy(alloc)?,
@@ -71,14 +76,37 @@ impl Matcher {
             out,
             told: 0,
             given: 0,
+            places,
         })
     }
 
     /// Takes all the room that these tellings need, and answers how many things will come out for them.
     ///
-    /// It works them ahead, at the cost of telling them, so that each is then made in constant time. What was held before is
-    /// let go.
+    /// It works them ahead, at the cost of telling them, so that each is then made in constant time. Where others are held, it
+    /// copies all that is kept before: memory may be wanting, and then these are still held.
     pub fn reserve(&mut self, told: &Tolds) -> Result<u64, NoMemory>
+        requires sound { IsSound self.old }
+        requires leaves { NameLeaves (matching self.old).strategy told.now }
+        requires new { CanTellAll (matching self.old) (map (told_view (matching self.old).strategy) told.now) }
+        ensures ok { OnOk result (Holds (map (told_view (matching self.old).strategy) told.now) (matching self.old) (matching self.new)) }
+        ensures count { IfOk result (λ n. n ≡ count_of_added (matching self.old).strategy (matching self.old).told (map (told_view (matching self.old).strategy) told.now)) }
+        ensures refused { OnErr result (IsUnchanged self.old self.new) }
+        ensures order { take (length (in_order self.old)) (in_order self.new) ≡ in_order self.old }
+        ensures same_order { in_order self.new ≡ in_order self.old }
+        ensures ahead { IfOk result (λ n. length (in_order_ahead self.new) ≡ length (in_order self.old) + n) }
+        ensures sound { IsSound self.new }
+    {
+        if self.told == self.log.len() {
+            return self.hold(told);
+        }
+        let mut other = self.copy()?;
+        let count = other.hold(told)?;
+        *self = other;
+        Ok(count)
+    }
+
+    /// As `reserve`, but lets go first what was held, and copies nothing: where memory is wanting, no room is held.
+    pub fn hold(&mut self, told: &Tolds) -> Result<u64, NoMemory>
         requires sound { IsSound self.old }
         requires leaves { NameLeaves (matching self.old).strategy told.now }
         requires new { CanTellAll (matching self.old) (map (told_view (matching self.old).strategy) told.now) }
@@ -98,6 +126,13 @@ impl Matcher {
             &mut self.out,
             told.as_slice(),
         ) {
+            Ok(()) => {}
+            Err(error) => {
+                take_back(&mut self.root, &mut self.log, &mut self.out, self.told);
+                return Err(error);
+            }
+        }
+        match self.places.make(&self.out, before) {
             Ok(()) => Ok((self.out.len() - before) as u64),
             Err(error) => {
                 take_back(&mut self.root, &mut self.log, &mut self.out, self.told);
@@ -109,14 +144,14 @@ impl Matcher {
     /// A bound value that holds no fault has arrived, or a fault on the way there.
     ///
     /// Linear in what is new at the nodes of the strategy, and in the strategy, with a logarithm for each item in a dot. Constant
-    /// for the next held telling.
+    /// for the next held telling. Where others are held, it copies all that is kept before.
     pub fn on_arrival(&mut self, leaf: u32, place: &Place, fault: bool) -> Result<(), NoMemory>
         requires sound { IsSound self.old }
         requires leaf { leaf < length (leaf_names (matching self.old).strategy) }
         requires new { CanTell (matching self.old) (arrival (leaf_name (matching self.old).strategy leaf) place.now fault) }
         ensures ok { OnOk result (IsTold (arrival (leaf_name (matching self.old).strategy leaf) place.now fault) (matching self.old) (matching self.new)) }
         ensures let_go { OnOk result (LetsGo (arrival (leaf_name (matching self.old).strategy leaf) place.now fault) (matching self.old) (matching self.new)) }
-        ensures refused { OnErr result (IsFreed (matching self.old) (matching self.new)) }
+        ensures refused { OnErr result (IsUnchanged self.old self.new) }
         ensures held { (rest : List Telling) → (matching self.old).held ≡ arrival (leaf_name (matching self.old).strategy leaf) place.now fault ∷ rest → IsOk result × ((matching self.new).held ≡ rest) }
         ensures order { take (length (in_order self.old)) (in_order self.new) ≡ in_order self.old }
         ensures sound { IsSound self.new }
@@ -131,14 +166,14 @@ impl Matcher {
     /// A bound value that holds a fault has arrived.
     ///
     /// Linear in what is new at the nodes of the strategy, and in the strategy, with a logarithm for each item in a dot. Constant
-    /// for the next held telling.
+    /// for the next held telling. Where others are held, it copies all that is kept before.
     pub fn on_faulty(&mut self, leaf: u32, place: &Place) -> Result<(), NoMemory>
         requires sound { IsSound self.old }
         requires leaf { leaf < length (leaf_names (matching self.old).strategy) }
         requires new { CanTell (matching self.old) (faulty (leaf_name (matching self.old).strategy leaf) place.now) }
         ensures ok { OnOk result (IsTold (faulty (leaf_name (matching self.old).strategy leaf) place.now) (matching self.old) (matching self.new)) }
         ensures let_go { OnOk result (LetsGo (faulty (leaf_name (matching self.old).strategy leaf) place.now) (matching self.old) (matching self.new)) }
-        ensures refused { OnErr result (IsFreed (matching self.old) (matching self.new)) }
+        ensures refused { OnErr result (IsUnchanged self.old self.new) }
         ensures held { (rest : List Telling) → (matching self.old).held ≡ faulty (leaf_name (matching self.old).strategy leaf) place.now ∷ rest → IsOk result × ((matching self.new).held ≡ rest) }
         ensures order { take (length (in_order self.old)) (in_order self.new) ≡ in_order self.old }
         ensures sound { IsSound self.new }
@@ -149,14 +184,14 @@ impl Matcher {
     /// A list on the way is closed.
     ///
     /// Linear in what is new at the nodes of the strategy, and in the strategy, with a logarithm for each item in a dot. Constant
-    /// for the next held telling.
+    /// for the next held telling. Where others are held, it copies all that is kept before.
     pub fn on_close(&mut self, leaf: u32, place: &Place, length: u32) -> Result<(), NoMemory>
         requires sound { IsSound self.old }
         requires leaf { leaf < Rattle.std.specs.Prelude.length (leaf_names (matching self.old).strategy) }
         requires new { CanTell (matching self.old) (close (leaf_name (matching self.old).strategy leaf) place.now length) }
         ensures ok { OnOk result (IsTold (close (leaf_name (matching self.old).strategy leaf) place.now length) (matching self.old) (matching self.new)) }
         ensures let_go { OnOk result (LetsGo (close (leaf_name (matching self.old).strategy leaf) place.now length) (matching self.old) (matching self.new)) }
-        ensures refused { OnErr result (IsFreed (matching self.old) (matching self.new)) }
+        ensures refused { OnErr result (IsUnchanged self.old self.new) }
         ensures held { (rest : List Telling) → (matching self.old).held ≡ close (leaf_name (matching self.old).strategy leaf) place.now length ∷ rest → IsOk result × ((matching self.new).held ≡ rest) }
         ensures order { take (Rattle.std.specs.Prelude.length (in_order self.old)) (in_order self.new) ≡ in_order self.old }
         ensures sound { IsSound self.new }
@@ -164,23 +199,20 @@ impl Matcher {
         self.tell(leaf, place.as_slice(), Kind::Closed(length))
     }
 
-    /// The next thing that has not come out yet. Takes no memory: no place is longer than 32.
-    ///
-    /// `first` and `pass` have no such condition, and copy no place.
+    /// The next thing that has not come out yet. Takes no memory: places that are too long for that were made beforehand.
     pub fn next(&mut self) -> Option<Matched>
-        requires sound { IsSound self.old }
-        requires shallow { strategy_depth (number_of (matching self.old).mismatch) (matching self.old).strategy ≤ 32 }
+        requires { IsSound self.old }
         ensures some { IfSome result (λ x. Gives (matched_view x) (matching self.old) (matching self.new)) }
         ensures none { IsNone result → HasGivenAll (matching self.old) × (matching self.new ≡ matching self.old) }
         ensures order { take (length (in_order self.old)) (in_order self.new) ≡ in_order self.old }
         ensures sound { IsSound self.new }
     {
-        let next = match self.first() {
-            Some((place, kind)) => owned(self.alloc, place, kind),
+        let kind = match self.first() {
+            Some((_place, kind)) => kind,
             None => return None,
         };
-        self.pass();
-        Some(next)
+        let place = self.take_place();
+        Some(matched(place, kind))
     }
 
     /// The place and the kind of what comes out next, if something has not come out yet. Takes no memory.
@@ -208,6 +240,24 @@ impl Matcher {
     {
         if self.given < self.out.len() {
             self.given += 1;
+        }
+    }
+
+    /// Takes out what comes out next, and its place. Takes no memory.
+    fn take_place(&mut self) -> Place
+        requires sound { IsSound self.old }
+        requires more { HasMore self.old }
+        ensures place { result ≡ next_place self.old }
+        ensures gives { Gives (next_out self.old) (matching self.old) (matching self.new) }
+        ensures order { take (length (in_order self.old)) (in_order self.new) ≡ in_order self.old }
+        ensures sound { IsSound self.new }
+    {
+        let at = self.given;
+        if at < self.out.len() {
+            self.given = at + 1;
+            self.places.take_out(at, self.out.place(at))
+        } else {
+            unreachable!()
         }
     }
 
@@ -254,6 +304,25 @@ impl Matcher {
             && self.log.place(self.told) == place
     }
 
+    /// A matcher of which the same is seen. Linear in all that is kept.
+    fn copy(&self) -> Result<Matcher, NoMemory>
+        requires { IsSound self.now }
+        ensures same { IfOk result (λ m. IsUnchanged self.now m) }
+        ensures sound { IfOk result (λ m. IsSound m) }
+    {
+        Ok(Matcher {
+            alloc: self.alloc,
+            tree: self.tree.copy(self.alloc)?,
+            mismatch: self.mismatch.copy(self.alloc)?,
+            root: self.root.copy(self.alloc)?,
+            log: self.log.copy(self.alloc)?,
+            out: self.out.copy(self.alloc)?,
+            told: self.told,
+            given: self.given,
+            places: self.places.copy(&self.out)?,
+        })
+    }
+
     /// Tells a leaf.
     fn tell(&mut self, leaf: u32, place: &[u32], kind: Kind) -> Result<(), NoMemory>
         requires sound { IsSound self.old }
@@ -261,7 +330,7 @@ impl Matcher {
         requires new { CanTell (matching self.old) (telling_of (strategy_view self.old.tree) (entry leaf place.now kind)) }
         ensures ok { OnOk result (IsTold (telling_of (strategy_view self.old.tree) (entry leaf place.now kind)) (matching self.old) (matching self.new)) }
         ensures let_go { OnOk result (LetsGo (telling_of (strategy_view self.old.tree) (entry leaf place.now kind)) (matching self.old) (matching self.new)) }
-        ensures refused { OnErr result (IsFreed (matching self.old) (matching self.new)) }
+        ensures refused { OnErr result (IsUnchanged self.old self.new) }
         ensures held { (rest : List Telling) → (matching self.old).held ≡ telling_of (strategy_view self.old.tree) (entry leaf place.now kind) ∷ rest → IsOk result × ((matching self.new).held ≡ rest) }
         ensures order { take (length (in_order self.old)) (in_order self.new) ≡ in_order self.old }
         ensures sound { IsSound self.new }
@@ -270,7 +339,28 @@ impl Matcher {
             self.told += 1;
             return Ok(());
         }
+        if self.told == self.log.len() {
+            return self.tell_other(leaf, place, kind);
+        }
+        let mut other = self.copy()?;
+        other.tell_other(leaf, place, kind)?;
+        *self = other;
+        Ok(())
+    }
+
+    /// Tells a leaf something, and lets go first what was held.
+    fn tell_other(&mut self, leaf: u32, place: &[u32], kind: Kind) -> Result<(), NoMemory>
+        requires sound { IsSound self.old }
+        requires proper { IsProper (strategy_view self.old.tree) (entry leaf place.now kind) }
+        requires new { CanTell (matching self.old) (telling_of (strategy_view self.old.tree) (entry leaf place.now kind)) }
+        ensures ok { OnOk result (IsTold (telling_of (strategy_view self.old.tree) (entry leaf place.now kind)) (matching self.old) (matching self.new)) }
+        ensures let_go { OnOk result ((matching self.new).held ≡ []) }
+        ensures refused { OnErr result (IsFreed (matching self.old) (matching self.new) × (in_order self.new ≡ in_order self.old)) }
+        ensures order { take (length (in_order self.old)) (in_order self.new) ≡ in_order self.old }
+        ensures sound { IsSound self.new }
+    {
         take_back(&mut self.root, &mut self.log, &mut self.out, self.told);
+        let before = self.out.len();
         match work(
             &mut self.root,
             &mut self.log,
@@ -279,6 +369,13 @@ impl Matcher {
             place,
             kind,
         ) {
+            Ok(()) => {}
+            Err(error) => {
+                take_back(&mut self.root, &mut self.log, &mut self.out, self.told);
+                return Err(error);
+            }
+        }
+        match self.places.make(&self.out, before) {
             Ok(()) => {
                 self.told = self.log.len();
                 Ok(())
@@ -291,14 +388,10 @@ impl Matcher {
     }
 }
 
-/// What stands at a place, with a place of its own.
-fn owned(alloc: Global, place: &[u32], kind: Kind) -> Matched
-    requires { length place.now ≤ 32 }
-    ensures { matched_view result ≡ outcome_kind place.now kind }
+/// What comes out at a place.
+fn matched(place: Place, kind: Kind) -> Matched
+    ensures { matched_view result ≡ outcome_kind place kind }
 {
-    let Ok(place) = Place::of(alloc, place) else {
-        unreachable!()
-    };
     match kind {
         Kind::Job { .. } => Matched::Job(place),
         Kind::Closed(length) => Matched::Closed(place, length),

@@ -1,4 +1,4 @@
-ghost use Rattle.std.specs.Prelude.{◌≡◌, ◌++◌, OnOk};
+ghost use Rattle.std.specs.Prelude.{◌≡◌, ◌++◌, IfOk, OnOk};
 ghost use Rattle.tv_matching.specs.Matched.{crossed_items, below_jobs};
 ghost use Rattle.tv_matching.specs.Stores.{gain, grown, told_by, same_leaf, only_jobs, met_by_first, met_by_second};
 ghost use Rattle.tv_match.specs.Entries.{kepts, AreMore};
@@ -12,6 +12,7 @@ use crate::joins::{
     push_jobs,
 };
 use crate::kinds::Kind;
+use std::alloc::Global;
 use tv_value::NoMemory;
 
 /// An item that a leaf is told, with the number of the telling.
@@ -36,6 +37,27 @@ pub enum Store {
 }
 
 impl Store {
+    /// An equal store. Linear in it.
+    pub fn copy(&self, alloc: Global) -> Result<Store, NoMemory>
+        ensures { IfOk result (λ s. filed s ≡ filed self.now) }
+    {
+        match self {
+            Store::Leaf(leaf) => Ok(Store::Leaf(*leaf)),
+            Store::Cross(ends, rests, _, first, rest) => {
+                let (ends, rests) = (ends.copy(alloc)?, rests.copy(alloc)?);
+                let first = Box::new(alloc, first.copy(alloc)?)?;
+                let rest = Box::new(alloc, rest.copy(alloc)?)?;
+                Ok(Store::Cross(ends, rests, Bag::new(alloc), first, rest))
+            }
+            Store::Dot(firsts, rests, _, first, rest) => {
+                let (firsts, rests) = (firsts.copy(alloc)?, rests.copy(alloc)?);
+                let first = Box::new(alloc, first.copy(alloc)?)?;
+                let rest = Box::new(alloc, rest.copy(alloc)?)?;
+                Ok(Store::Dot(firsts, rests, Bag::new(alloc), first, rest))
+            }
+        }
+    }
+
     /// Tells a leaf one item, and puts what is new at the top behind `out`.
     ///
     /// Linear in what is new at the nodes, and in the strategy. Where memory is wanting some of it is there, all with this number.

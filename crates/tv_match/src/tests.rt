@@ -1,9 +1,8 @@
 //! Worked matchings: what comes out of each telling, as texts.
-ghost use Rattle.std.specs.Prelude.{◌≡◌, ◌<◌, ◌≤◌, ◌∷◌, [], true, false, length, map, IfOk, OnOk};
+ghost use Rattle.std.specs.Prelude.{◌≡◌, ◌<◌, ◌∷◌, [], true, false, length, map, IfOk, OnOk};
 ghost use Rattle.tv_value.specs.Strategies.{port, cross, dot, strategy, no_strategies};
 ghost use Rattle.tv_value.specs.Views.{strategy_view};
-ghost use Rattle.tv_strategy.specs.Conditions.{number_of};
-ghost use Rattle.tv_strategy.specs.Measures.{leaf_names, strategy_depth};
+ghost use Rattle.tv_strategy.specs.Measures.{leaf_names};
 ghost use Rattle.tv_matching.specs.Matchers.{CanTell, CanTellAll, IsTold};
 ghost use Rattle.tv_match.specs.Seen.{told_view, leaf_of, NameLeaves, matching, IsSound};
 ghost use Rattle.tv_match.specs.Scripts.{IsScript};
@@ -262,7 +261,6 @@ fn start(alloc: Global, script: &Script) -> Result<Matcher, NoMemory>
     ensures sound { IfOk result (λ m. IsSound m) }
     ensures leaves { IfOk result (λ m. NameLeaves (matching m).strategy script.now.tolds) }
     ensures new { IfOk result (λ m. CanTellAll (matching m) (map (told_view (matching m).strategy) script.now.tolds)) }
-    ensures shallow { IfOk result (λ m. strategy_depth (number_of (matching m).mismatch) (matching m).strategy ≤ 32) }
 {
     Matcher::start(alloc, &script.tree, &script.mismatch)
 }
@@ -329,12 +327,13 @@ fn one_by_one(alloc: Global, script: &Script) -> Result<String, Fail>
     Ok(text)
 }
 
-/// How many come out for the tellings, and what comes out of each.
+/// How many come out for the tellings, which were held before, and what comes out of each.
 fn reserved(alloc: Global, script: &Script) -> Result<String, Fail>
     requires { IsScript (strategy_view script.now.tree) script.now.mismatch script.now.tolds }
 {
     let mut text = String::new(alloc);
     let mut matcher = start(alloc, script)?;
+    matcher.hold(&script.tolds)?;
     let count = matcher.reserve(&script.tolds)?;
     write!(text, "{count}")?;
     pass_all(&mut matcher, &mut text)?;
@@ -359,8 +358,7 @@ fn ahead(alloc: Global, script: &Script) -> Result<String, Fail>
 /// A matcher that was told the script at once.
 fn told_at_once(alloc: Global, script: &Script) -> Result<Matcher, NoMemory>
     requires { IsScript (strategy_view script.now.tree) script.now.mismatch script.now.tolds }
-    ensures sound { IfOk result (λ m. IsSound m) }
-    ensures shallow { IfOk result (λ m. strategy_depth (number_of (matching m).mismatch) (matching m).strategy ≤ 32) }
+    ensures { IfOk result (λ m. IsSound m) }
 {
     let mut matcher = start(alloc, script)?;
     matcher.reserve(&script.tolds)?;
@@ -382,8 +380,7 @@ fn shown(alloc: Global, matcher: &Matcher) -> Result<String, Fail>
 
 /// All that hasn't come out, with places of its own.
 fn taken(alloc: Global, matcher: &mut Matcher) -> Result<String, Fail>
-    requires sound { IsSound matcher.old }
-    requires shallow { strategy_depth (number_of (matching matcher.old).mismatch) (matching matcher.old).strategy ≤ 32 }
+    requires { IsSound matcher.old }
     ensures { IsSound matcher.new }
 {
     let mut text = String::new(alloc);

@@ -50,9 +50,9 @@ ordered-at : (m : Matcher) → IsSound m → Each (OutAt (strategy_depth (number
 ordered-at m a =
     let n = matching m in
     let d = strategy_depth (number_of n.mismatch) n.strategy in
-    let leveled = (matches-once (number_of n.mismatch) n.told a.fit a.once n.strategy a.agree).1 in
+    let leveled = (matches-once (number_of n.mismatch) n.told a.keeps.fit a.keeps.once n.strategy a.keeps.agree).1 in
     each-permutes (OutAt d) (all_out n) (in_order m)
-    (IsPermutation-sym _ _ (all-in_order (strategy_view m.tree) m.mismatch (filed m.root) m.log m.out m.told m.given a))
+    (IsPermutation-sym _ _ (all-in_order (strategy_view m.tree) m.mismatch (filed m.root) m.log m.out m.told m.given a.keeps))
     (each-map (OutAt d) (out n.strategy) (matched_after n.strategy n.told)
     (each-weaken (λ (x : Item Spot Spot). KindAt d x.place x.kind) (λ x. OutAt d (out n.strategy x)) (λ x k. one d x.place x.kind k) (matched_after n.strategy n.told) leveled))
   where

@@ -12,8 +12,8 @@ counted : {E : Type 0} (r : Result ℕ E) (a b d : ℕ) → a ≡ b + d → (s :
 counted (Ok n) a b d e s f m g h = omega arith
 counted (Err x) a b d e s f m g h = h
 
-pub reserve-requires-clause-new : goal.reserve-requires-clause-new
-reserve-requires-clause-new c =
+pub hold-requires-clause-new : goal.hold-requires-clause-new
+hold-requires-clause-new c =
     let ms = c.args.self.now.matchers.items in
     let m = c.index_mut.result.now in
     let s = c.args.step in
@@ -24,39 +24,39 @@ pub returns-clause-ok : goal.returns-clause-ok
 returns-clause-ok c =
     let ms = c.args.self.now.matchers.items in
     let m = c.index_mut.result.now in
-    let n = c.reserve.new.self in
+    let n = c.hold.new.self in
     let s = c.args.step in
     let there : slice_get ms s ≡ Some m = slice_get_read ms (length ms) s m refl (can-within ms s c.args.told.now c.requires.can) c.index_mut.ensures.value in
-    on_ok_weaker c.reserve.result
+    on_ok_weaker c.hold.result
     (λ h. subst (λ o. HoldsThese c.args.told.now o (slice_get (slice_set ms s n) s)) (sym there)
-    (subst (λ o. HoldsThese c.args.told.now (Some m) o) (sym (placed-there ms s m n there)) (h, c.reserve.ensures.same_order)))
-    c.reserve.ensures.ok
+    (subst (λ o. HoldsThese c.args.told.now (Some m) o) (sym (placed-there ms s m n there)) (h, c.hold.ensures.same_order)))
+    c.hold.ensures.ok
 
 pub returns-clause-refused : goal.returns-clause-refused
 returns-clause-refused c =
     let ms = c.args.self.now.matchers.items in
     let m = c.index_mut.result.now in
-    let n = c.reserve.new.self in
+    let n = c.hold.new.self in
     let s = c.args.step in
     let there : slice_get ms s ≡ Some m = slice_get_read ms (length ms) s m refl (can-within ms s c.args.told.now c.requires.can) c.index_mut.ensures.value in
-    on_err_weaker c.reserve.result
+    on_err_weaker c.hold.result
     (λ h. subst (λ o. HoldsNone o (slice_get (slice_set ms s n) s)) (sym there)
-    (subst (λ o. HoldsNone (Some m) o) (sym (placed-there ms s m n there)) (h, c.reserve.ensures.same_order)))
-    c.reserve.ensures.refused
+    (subst (λ o. HoldsNone (Some m) o) (sym (placed-there ms s m n there)) (h, c.hold.ensures.same_order)))
+    c.hold.ensures.refused
 
 pub returns-clause-count : goal.returns-clause-count
 returns-clause-count c =
     let ms = c.args.self.now.matchers.items in
     let m = c.index_mut.result.now in
-    let n = c.reserve.new.self in
+    let n = c.hold.new.self in
     let s = c.args.step in
     let there : slice_get ms s ≡ Some m = slice_get_read ms (length ms) s m refl (can-within ms s c.args.told.now c.requires.can) c.index_mut.ensures.value in
-    counted c.reserve.result (length (in_order_ahead n)) (length (in_order n)) (length (brought n)) (ahead-longer n) _
+    counted c.hold.result (length (in_order_ahead n)) (length (in_order n)) (length (brought n)) (ahead-longer n) _
     (ap length (brings-there (slice_set ms s n) s n (placed-there ms s m n there)))
-    (length (in_order m)) (ap length (sym c.reserve.ensures.same_order)) c.reserve.ensures.ahead
+    (length (in_order m)) (ap length (sym c.hold.ensures.same_order)) c.hold.ensures.ahead
 
 pub returns-clause-others : goal.returns-clause-others
-returns-clause-others c = λ k ne. get-other c.args.self.now.matchers.items c.args.step k c.reserve.new.self ne
+returns-clause-others c = λ k ne. get-other c.args.self.now.matchers.items c.args.step k c.hold.new.self ne
 
 pub returns-clause-jobs : goal.returns-clause-jobs
 returns-clause-jobs c =
@@ -64,7 +64,7 @@ returns-clause-jobs c =
     let m = c.index_mut.result.now in
     let s = c.args.step in
     let there : slice_get ms s ≡ Some m = slice_get_read ms (length ms) s m refl (can-within ms s c.args.told.now c.requires.can) c.index_mut.ensures.value in
-    jobs-same ms (slice_set ms s c.reserve.new.self) (set-same ms s m c.reserve.new.self there c.reserve.ensures.same_order) c.args.self.now.jobs.items
+    jobs-same ms (slice_set ms s c.hold.new.self) (set-same ms s m c.hold.new.self there c.hold.ensures.same_order) c.args.self.now.jobs.items
 
 pub returns-clause-waiting : goal.returns-clause-waiting
 returns-clause-waiting c =
@@ -72,7 +72,7 @@ returns-clause-waiting c =
     let m = c.index_mut.result.now in
     let s = c.args.step in
     let there : slice_get ms s ≡ Some m = slice_get_read ms (length ms) s m refl (can-within ms s c.args.told.now c.requires.can) c.index_mut.ensures.value in
-    waiting-same ms (slice_set ms s c.reserve.new.self) (set-same ms s m c.reserve.new.self there c.reserve.ensures.same_order) c.args.self.now.waiting.items
+    waiting-same ms (slice_set ms s c.hold.new.self) (set-same ms s m c.hold.new.self there c.hold.ensures.same_order) c.args.self.now.waiting.items
 
 pub returns-clause-sound : goal.returns-clause-sound
 returns-clause-sound c =
@@ -81,5 +81,5 @@ returns-clause-sound c =
     let m = c.index_mut.result.now in
     let s = c.args.step in
     let there : slice_get ms s ≡ Some m = slice_get_read ms (length ms) s m refl (can-within ms s c.args.told.now c.requires.can) c.index_mut.ensures.value in
-    sorted-same ms (slice_set ms s c.reserve.new.self) (set-same ms s m c.reserve.new.self there c.reserve.ensures.same_order) i.jobs.items i.waiting.items
-    (set-sound ms s m c.reserve.new.self there c.requires.sound.sound c.reserve.ensures.sound) c.requires.sound
+    sorted-same ms (slice_set ms s c.hold.new.self) (set-same ms s m c.hold.new.self there c.hold.ensures.same_order) i.jobs.items i.waiting.items
+    (set-sound ms s m c.hold.new.self there c.requires.sound.sound c.hold.ensures.sound) c.requires.sound
