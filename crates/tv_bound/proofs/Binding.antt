@@ -25,7 +25,7 @@ more-each : (v : Value) (os : List (Option Value)) (vs : List Value) (o : Option
 more-each v os vs None k h = absurd (cc)
 more-each v os vs (Some us) k h = ap (map Some) (sym (same_Some (v ∷ us) vs h)) ∙ ap (λ xs. Some v ∷ xs) (k us refl)
 
-all-each : (os : List (Option Value)) (vs : List Value) → all_found os ≡ Some vs → map Some vs ≡ os
+pub all-each : (os : List (Option Value)) (vs : List Value) → all_found os ≡ Some vs → map Some vs ≡ os
 all-each [] vs h = ap (map Some) (sym (same_Some [] vs h))
 all-each (None ∷ os) vs h = absurd (cc)
 all-each (Some v ∷ os) vs h = more-each v os vs (all_found os) (λ us e. all-each os us e) h

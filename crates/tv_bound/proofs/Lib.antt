@@ -3,3 +3,4 @@ pub mod Feeding
 pub mod Wraps
 pub mod OfSources
 pub mod Binding
+pub mod Comparing

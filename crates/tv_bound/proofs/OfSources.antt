@@ -158,7 +158,7 @@ module _ {A : Type 0} (f : ℕ × A → Option Value) (xs : List A) where
   many : length (map f (numbered 0 xs)) ≡ length xs
   many = length-map (numbered 0 xs) f ∙ length-numbered 0 xs
 
-  at-number : (i : ℕ) (x : A) → i < length xs → x ≡ get_or xs i x → slice_index_or (map f (numbered 0 xs)) i None ≡ f (i, x)
+  pub at-number : (i : ℕ) (x : A) → i < length xs → x ≡ get_or xs i x → slice_index_or (map f (numbered 0 xs)) i None ≡ f (i, x)
   at-number i x lt e = mapped-index f (numbered 0 xs) i None (i, x) (subst (λ n. i < n) (sym (length-numbered 0 xs)) lt) (get-numbered xs i x (slice_get_read xs (length xs) i x refl lt e))
 
   pub numbered-found : (i : ℕ) (x : A) → is_some (all_found (map f (numbered 0 xs))) ≡ true → i < length xs → x ≡ get_or xs i x → is_some (f (i, x)) ≡ true

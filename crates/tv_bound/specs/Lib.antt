@@ -6,3 +6,4 @@ pub mod Constants
 pub mod Jobs
 pub mod Over
 pub mod Binding
+pub mod Parts

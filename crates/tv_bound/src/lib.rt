@@ -5,7 +5,7 @@
 //! has the pieces. What a feed by numbers is found to deliver at a place stands in `specs/Found.antt`.
 //!
 //! **What it promises.** `feed_piece` gives a sound piece of exactly what is found; `job_inputs` those that the job at a place of
-//! a step's iteration binds, and `flow_outputs` those of a flow's outputs (`specs/Jobs.antt`). `flow_outputs_over` gives the
+//! a step's iteration binds, and `job_binds` tells without memory whether it binds given values; `flow_outputs` gives those of a flow's outputs (`specs/Jobs.antt`). `flow_outputs_over` gives the
 //! latter before the last event is shown in the trees (`specs/Over.antt`). `Constants` has exactly a flow's constants
 //! (`specs/Constants.antt`). `wrap` puts a piece into so many one-item lists, in which it stands at the first places. Want of
 //! memory is the one refusal.
@@ -19,6 +19,7 @@
 //! - `constants`: the cells of a flow's constants
 //! - `jobs`: what jobs bind, and the outputs of a flow
 //! - `over`: the outputs of a flow with its last event
+//! - `same`: whether what a job binds is what is given
 //! - `wrapping`: one-item lists
 //! - `laws`: what is found is what is delivered
 #![tactic(auto)]
@@ -27,6 +28,7 @@ mod constants;
 mod jobs;
 pub mod laws;
 mod over;
+mod same;
 mod sources;
 #[cfg(test)]
 mod tests;
@@ -35,5 +37,6 @@ mod wrapping;
 pub use constants::Constants;
 pub use jobs::{StepPorts, flow_outputs, job_inputs};
 pub use over::{Brought, Over, flow_outputs_over};
+pub use same::job_binds;
 pub use sources::{Sources, feed_piece};
 pub use wrapping::wrap;

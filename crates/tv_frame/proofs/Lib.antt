@@ -14,6 +14,7 @@ pub mod OfSettled
 pub mod OfResults
 pub mod OfSettling
 pub mod OfComing
+pub mod OfBinding
 pub mod OfBringing
 pub mod OfRooms
 pub mod OfPassing

@@ -1,9 +1,10 @@
 -- What a known job binds is found, and in all instances it is what stands at the parts of the job's place.
+use Rattle.std.specs.Global.{Global}
 use Rattle.std.specs.List.{list_all, list_any}
 use Rattle.std.specs.Option.{option_map_or}
-use Rattle.std.specs.Prelude.{◌≡◌, refl, ℕ, zero, suc, ◌+◌, ◌-◌, ◌&&◌, Bool, true, false, IsTrue, if◌then◌else◌, find, is_some, ◌<◌, length, List, [], ◌∷◌, map, IfOk, Ok, Err, Result, Option, Some, option_and_then, slice_get}
-use Rattle.std.proofs.Common.{arith, sym, ap, ap₂, subst, ◌∙◌, get_or}
-use Rattle.std.proofs.lemmas.Bool.{and_parts}
+use Rattle.std.specs.Prelude.{◌≡◌, refl, ℕ, zero, suc, ◌+◌, ◌-◌, ◌&&◌, ◌↔◌, Bool, true, false, IsTrue, if◌then◌else◌, find, is_some, ◌<◌, length, Vec, List, [], ◌∷◌, map, IfOk, Ok, Err, Result, Option, Some, None, option_and_then, slice_get, slice_index_or}
+use Rattle.std.proofs.Common.{arith, sym, ap, ap₂, subst, ◌∙◌}
+use Rattle.std.proofs.lemmas.Bool.{and_parts, true≢false}
 use Rattle.std.proofs.lemmas.List.{length-map}
 use Rattle.std.proofs.lemmas.List.Sorted.{IsPermutation-sym}
 use Rattle.std.proofs.lemmas.Option.{get_or_from_slice_get, none-some, same_Some, slice_get_within}
@@ -26,13 +27,11 @@ use Rattle.tv_strategy.specs.Sources.{Each}
 use Rattle.tv_strategy.specs.Splits.{split}
 use Rattle.tv_strategy.proofs.OfLaws.{split-names_leaves}
 use Rattle.tv_naming.specs.Naming.{feed_links, is_there, numbered}
-use Rattle.tv_naming.proofs.ByPosition.{named-at, names_of}
 use Rattle.tv_naming.proofs.FormedParts.{all-pass, ascending, passes, step-at, step-inputs}
-use Rattle.tv_naming.proofs.OfTold.{get-map, got-in}
+use Rattle.tv_naming.proofs.OfTold.{get-map}
 use Rattle.tv_depths.specs.CheckedDepths.{feed_depth, flow_depths}
 use Rattle.tv_depths.specs.Delivered.{Delivered, Ported, feed_delivers, ported}
 use Rattle.tv_depths.specs.Steps.{strategy_of}
-use Rattle.tv_depths.proofs.OfRanked.{inside}
 use Rattle.tv_check.specs.declared.plans.FlowPlan.{FlowPlan}
 use Rattle.tv_check.specs.declared.plans.StepPlan.{StepPlan}
 use Rattle.tv_check.specs.Plans as plans
@@ -52,6 +51,7 @@ use Rattle.tv_bound.specs.declared.sources.Sources.{Sources}
 use Rattle.tv_bound.specs.Constants.{FlowConstants, constant_of_port, constants_view, flow_constants}
 use Rattle.tv_bound.specs.Found.{all_found}
 use Rattle.tv_bound.specs.Jobs.{job_found, port_found}
+use Rattle.tv_bound.specs.Parts.{IsPartOf}
 use Rattle.tv_bound.specs.Sourced.{IsCounted, known_by as sourced_by}
 use Rattle.tv_model.specs.Instances.{given_of}
 use Rattle.tv_instance.specs.ByResults.{InstanceStep, Results, step_of}
@@ -73,19 +73,22 @@ use Rattle.tv_drawn.proofs.OfRanks.{at-in}
 use Rattle.tv_drawn.proofs.OfSteps.{IsMadeOf, made-step, rising, steps-paired}
 use Rattle.tv_frame.specs.declared.frame.Frame.{Frame}
 use Rattle.tv_frame.specs.Kept.{Keeps, named_job}
-use Rattle.tv_frame.specs.Tables.{levels_in}
+use Rattle.tv_frame.specs.StepPorts.{ArePortsOf}
+use Rattle.tv_frame.specs.Tables.{levels_in, step_starts}
+use Rattle.tv_frame.proofs.OfBinding.{binds-once, each-mapped, named-mapped, named-there, port-part}
 use Rattle.tv_frame.proofs.OfFirstRooms.{plan-parts}
 use Rattle.tv_frame.proofs.OfGiven.{constant-at, feed-counted, ports-at}
-use Rattle.tv_frame.proofs.OfHoldAround.{fewer-trees, levels-measured, wiring-kept}
+use Rattle.tv_frame.proofs.OfHoldAround.{fewer-trees, levels-measured}
 use Rattle.tv_frame.proofs.OfIdling.{mapped-get}
 use Rattle.tv_frame.proofs.OfJobPorts.{AreBoundAt, IsPortHere, job-binds}
 use Rattle.tv_frame.proofs.OfJobs as jobs
 use Rattle.tv_frame.proofs.OfJobValues.{job-leaves}
 use Rattle.tv_frame.proofs.OfKeeping.{kept-ranked, kept-wired, levels-are}
 use Rattle.tv_frame.proofs.OfKnownFeeds.{IsKnownIn}
+use Rattle.tv_frame.proofs.OfFaultingKnown.{index-mapped}
 use Rattle.tv_frame.proofs.OfOuts.{IsSourcesOf, tree-known, tree-named}
 use Rattle.tv_frame.proofs.OfPlans.{dots-agree, step-suits}
-use Rattle.tv_frame.proofs.OfTables.{as-many-steps, step-of}
+use Rattle.tv_frame.proofs.OfTables.{step-of, wiring-is}
 
 -- ---- a job stands as deep as its iteration
 
@@ -112,34 +115,7 @@ same-step : (fs : List InstanceStep) → AreDistinct fs → (g h : InstanceStep)
 same-step fs d g h i j e =
     same_Some g h (sym (in-finds fs d g i) ∙ ap (λ t. find (λ (k : InstanceStep). same_name t k.step.step) fs) e ∙ in-finds fs d h j)
 
--- ---- an input of a name
-
-named-there : {A : Type 0} (xs : List (Name × A)) (k : ℕ) (x : Name × A) → is_ascending (names_of xs) ≡ true → slice_get xs k ≡ Some x → named x.0 xs ≡ Some x.1
-named-there {A = A} xs k x rise e =
-    let same = get_or_from_slice_get xs k x x e in
-    ap (λ (y : Name × A). named y.0 xs) (sym same) ∙ named-at xs k x rise (inside xs k x e) ∙ ap (λ (y : Name × A). Some y.1) same
-
-named-mapped : {A B : Type 0} (g : A → B) (n : Name) (xs : List (Name × A)) (x : A) → named n xs ≡ Some x → named n (map (λ (y : Name × A). (y.0, g y.1)) xs) ≡ Some (g x)
-named-mapped g n [] x e = absurd (none-some x e)
-named-mapped {A = A} {B = B} g n (y ∷ xs) x e = by (same_name n y.0) e (named-mapped g n xs x)
-  where
-    by : (b : Bool) → (if b then Some y.1 else named n xs) ≡ Some x → (named n xs ≡ Some x → named n (map (λ (z : Name × A). (z.0, g z.1)) xs) ≡ Some (g x)) → (if b then Some (g y.1) else named n (map (λ (z : Name × A). (z.0, g z.1)) xs)) ≡ Some (g x)
-    by true h k = ap (λ z. Some (g z)) (same_Some y.1 x h)
-    by false h k = k h
-
 -- ---- what the code hands to the search
-
-pub record ArePortsOf (plan : FlowPlan) (n : ℕ) (p : StepPorts) : Type 0 where
-  pub number : p.number ≡ n
-  pub planned : StepPlan
-  pub at_plan : slice_get plan.steps n ≡ Some planned
-  pub tree : p.tree.now ≡ planned.tree
-  pub mismatch : p.mismatch.now ≡ planned.mismatch
-  pub described : Name × CodeStep
-  pub at_flow : slice_get plan.flow.steps n ≡ Some described
-  pub inputs : p.inputs.now ≡ described.1.inputs
-  pub delivered : p.delivered.now ≡ planned.delivered
-  pub at_ports : slice_get plan.wiring.ports n ≡ Some p.ports.now
 
 delivered-of : (f : Flow) (q : StepPlan) (s : Name × Step) → step_plan_view q ≡ plans.step_plan f s → q.delivered ≡ map (λ (i : Name × StepInput). (i.0, feed_depth f.inputs (flow_depths f) i.1.from)) s.1.inputs
 delivered-of f q (n, s) e = ap (λ (r : plans.StepPlan). r.delivered) e
@@ -321,6 +297,30 @@ module _ (flows : List (Name × Flow)) (plan : FlowPlan) (pool : Nodes) (f : Fra
   pub deep : length q ≡ strategy_depth (number_of p.mismatch.now) (strategy_view p.tree.now)
   deep = let r = some-possible v [] keeps.frame.given in deep-here [] r.0 r.1 r.2
 
+  -- the part of each port
+  pub parts : (begins : List ℕ) → begins ≡ slice_index_or (map (λ is. is.items) f.tables.starts.items) n begins → Each (IsPartOf p q begins) p.ports.now
+  parts begins e =
+      let agreed = subst (λ m. DotsAgree (number_of m) (strategy_of s.1)) mismatch-is (subst (DotsAgree (number_of p.mismatch.now)) strategy-is agree) in
+      let long = deep ∙ ap₂ (λ m g. strategy_depth (number_of m) g) mismatch-is strategy-is in
+      let own : map (λ x. x.1) (step_starts v.flow s) ≡ begins =
+      sym (e ∙ ap (λ rows. slice_index_or rows n begins) keeps.tables_are.starts_are
+      ∙ get_or_from_slice_get (map (λ (t : Name × Step). map (λ x. x.1) (step_starts v.flow t)) v.flow.steps) n _ begins (get-map (λ (t : Name × Step). map (λ x. x.1) (step_starts v.flow t)) v.flow.steps n s its-place)) in
+      subst (Each (IsPartOf p q begins)) (sym ports-are)
+      (each-mapped (IsPartOf p q begins) (port_among v.flow (leaf_names (strategy_of s.1))) s.1.inputs
+      (λ k i h. subst (λ bs. IsPartOf p q bs (port_among v.flow (leaf_names (strategy_of s.1)) i)) own
+      (port-part v.flow s agreed (ascending is_step_input 0 16 s.1.inputs formed-inputs) q long p mismatch-is strategy-is k i h
+      (passes (λ (j : Name × StepInput). list_any (same_name j.0) (leaf_names (strategy_of s.1))) s.1.inputs k i (passes (λ (t : Name × Step). list_all (λ j. list_any (same_name j.0) (leaf_names (strategy_of t.1))) t.1.inputs) v.flow.steps n s wired.leaves its-place) h))))
+
+  -- the job of that number
+  its-job : (j : Name × Place) → numbered_job v number ≡ Some j → (s.0, q) ≡ j
+  its-job j e =
+      same_Some (s.0, q) j
+      (sym
+      (ap (λ l. slice_get l number) keeps.jobs_are
+      ∙ mapped-get (named_job v.flow) (known_jobs f.intakes) number (n, q) there
+      ∙ ap (λ t. Some (t, q)) (jobs.its-name flows plan pool f v keeps number n q there faulty said))
+      ∙ e)
+
   module _ (cs : FlowConstants) (constants : cs ≡ constants_view f.tables.constants) where
     constants-are : cs ≡ flow_constants v.flow
     constants-are = constants ∙ keeps.tables_are.constants_are
@@ -331,91 +331,104 @@ module _ (flows : List (Name × Flow)) (plan : FlowPlan) (pool : Nodes) (f : Fra
     -- so values that are found are the job's
     pub are-inputs : (j : Name × Place) → numbered_job v number ≡ Some j → (vs : List Value) → job_found (sourced_by a) cs p q ≡ Some vs → AreInputs v j vs
     are-inputs j e vs h =
-        let same : (s.0, q) ≡ j =
-        same_Some (s.0, q) j
-        (sym
-        (ap (λ l. slice_get l number) keeps.jobs_are
-        ∙ mapped-get (named_job v.flow) (known_jobs f.intakes) number (n, q) there
-        ∙ ap (λ t. Some (t, q)) (jobs.its-name flows plan pool f v keeps number n q there faulty said))
-        ∙ e) in
-        subst (λ k. AreInputs v k vs) same
+        subst (λ k. AreInputs v k vs) (its-job j e)
         (parts-are_inputs flows levels v ranked-flow n s its-place q vs
         (λ instance results depth x. stand-here instance results depth x cs constants-are vs h))
 
+    -- and no others are
+    pub found-inputs : (j : Name × Place) → numbered_job v number ≡ Some j → (vs : List Value) → AreInputs v j vs → job_found (sourced_by a) cs p q ≡ Some vs
+    found-inputs j e vs h =
+        let own = subst (λ k. AreInputs v k vs) (sym (its-job j e)) h in
+        by (job_found (sourced_by a) cs p q) refl found own
+      where
+        by : (o : Option (List Value)) → job_found (sourced_by a) cs p q ≡ o → is_some o ≡ true → AreInputs v (s.0, q) vs → o ≡ Some vs
+        by None g k own = absurd (true≢false (sym k))
+        by (Some ws) g k own =
+            ap Some (binds-once flows levels v ranked-flow keeps.frame s.0 q (jobs.known flows plan pool f v keeps number n q there faulty said) ws vs (subst (λ i. AreInputs v i ws) (sym (its-job j e)) (are-inputs j e ws g)) own)
+
 -- ---- in the words of the call
+
+-- a plan has ports for each step
+pub ports-many : (plan : FlowPlan) → length plan.wiring.ports ≡ length plan.flow.steps
+ports-many plan =
+    ap (λ (w : Wiring). length w.ports) (wiring-is plan)
+    ∙ length-map (flow_view plan.flow).steps (λ (t : Name × Step). ports_of (flow_view plan.flow) t.1)
+    ∙ length-map plan.flow.steps seen_step
+
+-- the step of the job is one of the plan
+pub step-within : (flows : List (Name × Flow)) (plan : FlowPlan) (pool : Nodes) (f : Frame) (v : View) → Keeps flows plan pool f v → (number n : ℕ) (q : Place) → slice_get (known_jobs f.intakes) number ≡ Some (n, q) → (faulty : Bool) → IsFaultyAt (matcher_at f.intakes n) q faulty → n < length plan.flow.steps
+step-within flows plan pool f v keeps number n q there faulty said =
+    let t = jobs.step flows plan pool f v keeps number n q there faulty said in
+    subst (λ m. n < m) (ap (λ (g : Flow). length g.steps) keeps.flow_is ∙ length-map plan.flow.steps seen_step) (slice_get_within v.flow.steps n t.0 t.1)
+
+pub starts-within : (flows : List (Name × Flow)) (plan : FlowPlan) (pool : Nodes) (f : Frame) (v : View) → Keeps flows plan pool f v → (number n : ℕ) (q : Place) → slice_get (known_jobs f.intakes) number ≡ Some (n, q) → (faulty : Bool) → IsFaultyAt (matcher_at f.intakes n) q faulty → n < length f.tables.starts.items
+starts-within flows plan pool f v keeps number n q there faulty said =
+    let t = jobs.step flows plan pool f v keeps number n q there faulty said in
+    subst (λ m. n < m)
+    (sym (length-map v.flow.steps (λ (s : Name × Step). map (λ x. x.1) (step_starts v.flow s))) ∙ sym (ap length keeps.tables_are.starts_are) ∙ length-map f.tables.starts.items (λ (y : Vec ℕ Global). y.items))
+    (slice_get_within v.flow.steps n t.0 t.1)
 
 -- the ports and the job that the call hands over
 pub record IsCallOf (plan : FlowPlan) (f : Frame) (number n : ℕ) (q : Place) (p : StepPorts) : Type 0 where
   pub there : slice_get (known_jobs f.intakes) number ≡ Some (n, q)
   pub faulty : Bool
   pub said : IsFaultyAt (matcher_at f.intakes n) q faulty
-  pub number_is : p.number ≡ n
-  pub steps : List (Name × CodeStep)
-  pub steps_are : steps ≡ plan.flow.steps
-  pub described : Name × CodeStep
-  pub described_is : described ≡ get_or steps n described
-  pub plans : List StepPlan
-  pub plans_are : plans ≡ plan.steps
-  pub planned : StepPlan
-  pub planned_is : planned ≡ get_or plans n planned
-  pub lists : List (List Port)
-  pub lists_are : lists ≡ plan.wiring.ports
-  pub ports : List Port
-  pub ports_is : ports ≡ get_or lists n ports
-  pub tree : p.tree.now ≡ planned.tree
-  pub mismatch : p.mismatch.now ≡ planned.mismatch
-  pub inputs : p.inputs.now ≡ (get_or steps n described).1.inputs
-  pub delivered : p.delivered.now ≡ planned.delivered
-  pub ports_are : p.ports.now ≡ ports
+  pub own : ArePortsOf plan n p
+
+pub call-of : (plan : FlowPlan) (f : Frame) (number n : ℕ) (q r : Place) (p : StepPorts) → slice_get (known_jobs f.intakes) number ≡ Some (n, r) → (faulty : Bool) → IsFaultyAt (matcher_at f.intakes n) r faulty → q ≡ r → ArePortsOf plan n p → IsCallOf plan f number n q p
+call-of plan f number n q r p there faulty said same own = record {
+  there = there ∙ ap (λ x. Some (n, x)) (sym same);
+  faulty = faulty;
+  said = subst (λ x. IsFaultyAt (matcher_at f.intakes n) x faulty) (sym same) said;
+  own = own;
+}
 
 module _ (flows : List (Name × Flow)) (plan : FlowPlan) (pool : Nodes) (f : Frame) (v : View) (keeps : Keeps flows plan pool f v) (number n : ℕ) (q : Place) (p : StepPorts) (call : IsCallOf plan f number n q p) where
-  within : n < length v.flow.steps
-  within = let t = jobs.step flows plan pool f v keeps number n q call.there call.faulty call.said in slice_get_within v.flow.steps n t.0 t.1
-
-  pub own-ports : ArePortsOf plan n p
-  own-ports =
-      let flow = ap (λ (g : Flow). length g.steps) keeps.flow_is in
-      let codes : n < length call.steps = subst (λ m. n < m) (flow ∙ length-map plan.flow.steps (λ (t : Name × CodeStep). (t.0, step_view t.1)) ∙ sym (ap length call.steps_are)) within in
-      let planned : n < length call.plans = subst (λ m. n < m) (flow ∙ sym (as-many-steps plan) ∙ sym (ap length call.plans_are)) within in
-      let lists : n < length call.lists = subst (λ m. n < m) (sym (ap length call.lists_are ∙ ap (λ (w : Wiring). length w.ports) (wiring-kept flows plan pool f v keeps) ∙ length-map v.flow.steps (λ (t : Name × Step). ports_of v.flow t.1))) within in
-      record {
-        number = call.number_is;
-        planned = call.planned;
-        at_plan = got-in call.plans plan.steps n call.planned call.plans_are planned call.planned_is;
-        tree = call.tree;
-        mismatch = call.mismatch;
-        described = call.described;
-        at_flow = got-in call.steps plan.flow.steps n call.described call.steps_are codes call.described_is;
-        inputs = call.inputs ∙ ap (λ (t : Name × CodeStep). t.1.inputs) (sym call.described_is);
-        delivered = call.delivered;
-        at_ports = got-in call.lists plan.wiring.ports n call.ports call.lists_are lists call.ports_is ∙ ap Some (sym call.ports_are);
-      }
-
   module _ (a : Sources) (of : IsSourcesOf pool f a) where
     pub call-suits : Suits p.mismatch.now (strategy_view p.tree.now)
-    call-suits = suits flows plan pool f v keeps a of number n q call.there call.faulty call.said p own-ports
+    call-suits = suits flows plan pool f v keeps a of number n q call.there call.faulty call.said p call.own
 
     pub call-agrees : DotsAgree (number_of p.mismatch.now) (strategy_view p.tree.now)
-    call-agrees = agree flows plan pool f v keeps a of number n q call.there call.faulty call.said p own-ports
+    call-agrees = agree flows plan pool f v keeps a of number n q call.there call.faulty call.said p call.own
 
     pub call-deep : length q ≡ strategy_depth (number_of p.mismatch.now) (strategy_view p.tree.now)
-    call-deep = deep flows plan pool f v keeps a of number n q call.there call.faulty call.said p own-ports
+    call-deep = deep flows plan pool f v keeps a of number n q call.there call.faulty call.said p call.own
 
     pub call-inputs : length p.inputs.now ≡ length p.ports.now
-    call-inputs = inputs-many flows plan pool f v keeps a of number n q call.there call.faulty call.said p own-ports
+    call-inputs = inputs-many flows plan pool f v keeps a of number n q call.there call.faulty call.said p call.own
 
     pub call-delivered : length p.delivered.now ≡ length p.ports.now
-    call-delivered = delivered-many flows plan pool f v keeps a of number n q call.there call.faulty call.said p own-ports
+    call-delivered = delivered-many flows plan pool f v keeps a of number n q call.there call.faulty call.said p call.own
 
     pub call-counted : Each (λ (r : Port). IsCounted r.feed) p.ports.now
-    call-counted = counted flows plan pool f v keeps a of number n q call.there call.faulty call.said p own-ports
+    call-counted = counted flows plan pool f v keeps a of number n q call.there call.faulty call.said p call.own
+
+    pub call-parts : (row : Vec ℕ Global) → row ≡ slice_index_or f.tables.starts.items n row → (begins : List ℕ) → begins ≡ row.items → Each (IsPartOf p q begins) p.ports.now
+    call-parts row e begins h =
+        subst (λ bs. Each (IsPartOf p q bs) p.ports.now) (sym h)
+        (parts flows plan pool f v keeps a of number n q call.there call.faulty call.said p call.own row.items
+        (ap (λ (y : Vec ℕ Global). y.items) e ∙ sym (index-mapped (λ (y : Vec ℕ Global). y.items) f.tables.starts.items n row)))
 
     pub call-found : IsTrue (is_some (job_found (sourced_by a) (constants_view f.tables.constants) p q))
-    call-found = found flows plan pool f v keeps a of number n q call.there call.faulty call.said p own-ports (constants_view f.tables.constants) refl
+    call-found = found flows plan pool f v keeps a of number n q call.there call.faulty call.said p call.own (constants_view f.tables.constants) refl
 
 pub inputs-where_ok : {E : Type 0} (plan : FlowPlan) (pool : Nodes) (f : Frame) (number n : ℕ) (q : Place) (p : StepPorts) (call : IsCallOf plan f number n q p) (a : Sources) (of : IsSourcesOf pool f a)
     → (r : Result (List Piece) E) → IfOk r (λ ps. job_found (sourced_by a) (constants_view f.tables.constants) p q ≡ Some (piece_values ps))
     → IfOk r (λ ps. (flows : List (Name × Flow)) (v : View) (j : Name × Place) → Keeps flows plan pool f v → numbered_job v number ≡ Some j → AreInputs v j (piece_values ps))
 inputs-where_ok plan pool f number n q p call a of (Err x) h = tt
 inputs-where_ok plan pool f number n q p call a of (Ok ps) h = λ flows v j keeps e.
-    are-inputs flows plan pool f v keeps a of number n q call.there call.faulty call.said p (own-ports flows plan pool f v keeps number n q p call) (constants_view f.tables.constants) refl j e (piece_values ps) h
+    are-inputs flows plan pool f v keeps a of number n q call.there call.faulty call.said p call.own (constants_view f.tables.constants) refl j e (piece_values ps) h
+
+-- ---- whether the job binds values
+
+module _ (plan : FlowPlan) (pool : Nodes) (f : Frame) (number n : ℕ) (q : Place) (p : StepPorts) (call : IsCallOf plan f number n q p) (a : Sources) (of : IsSourcesOf pool f a) (vs : List Value) (answer : Bool)
+    (told : IsTrue answer ↔ (job_found (sourced_by a) (constants_view f.tables.constants) p q ≡ Some vs)) where
+  pub binds-same : IsTrue answer → (flows : List (Name × Flow)) (v : View) (j : Name × Place) → Keeps flows plan pool f v → numbered_job v number ≡ Some j → AreInputs v j vs
+  binds-same yes flows v j keeps e =
+      are-inputs flows plan pool f v keeps a of number n q call.there call.faulty call.said p call.own (constants_view f.tables.constants) refl j e vs (told.0 yes)
+
+  pub binds-other : answer ≡ false → (flows : List (Name × Flow)) (v : View) (j : Name × Place) → Keeps flows plan pool f v → numbered_job v number ≡ Some j → (us : List Value) → AreInputs v j us → vs ≡ us → ⊥
+  binds-other no flows v j keeps e us h same =
+      true≢false
+      (sym (told.1 (found-inputs flows plan pool f v keeps a of number n q call.there call.faulty call.said p call.own (constants_view f.tables.constants) refl j e vs (subst (AreInputs v j) (sym same) h)))
+      ∙ no)

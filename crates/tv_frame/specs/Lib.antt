@@ -7,3 +7,4 @@ pub mod Started
 pub mod Calls
 pub mod Shown
 pub mod Ready
+pub mod StepPorts

@@ -1,6 +1,7 @@
 //! Known jobs: which are ready, and what they bind.
-ghost use Rattle.std.specs.Prelude.{◌≡◌, false, true, ◌<◌, ◌≤◌, ◌^◌, ℕ, List, [], Some, IfOk, IfSome, IsNone, length, option_map, slice_get};
-ghost use Rattle.tv_value.specs.Values.{Name};
+ghost use Rattle.std.specs.Prelude.{◌≡◌, false, true, ◌<◌, ◌≤◌, ◌^◌, ℕ, List, [], Some, IfOk, IfSome, IsNone, IsTrue, length, map, option_map, slice_get};
+ghost use Rattle.tv_value.specs.Values.{Name, Value as AValue};
+ghost use Rattle.tv_value.specs.Views.{view};
 ghost use Rattle.tv_flow.specs.Flows.{Flow, Step};
 ghost use Rattle.tv_depths.specs.Ranks.{ranked};
 ghost use Rattle.tv_cell.specs.PieceValues.{piece_values};
@@ -23,16 +24,17 @@ ghost use Rattle.tv_frame.specs.Calls.{HoldsError, IsJob};
 ghost use Rattle.tv_frame.specs.Kept.{Keeps, named_job};
 ghost use Rattle.tv_frame.specs.Prepared.{IsReadyFor};
 ghost use Rattle.tv_frame.specs.Ready.{HasIdle, IsFirstOfStep};
+ghost use Rattle.tv_frame.specs.StepPorts.{ArePortsOf};
 ghost use Rattle.tv_frame.specs.Tables.{levels_in};
 
 use crate::frame::Frame;
 use std::alloc::Global;
-use tv_bound::{StepPorts, job_inputs};
+use tv_bound::{StepPorts, job_binds, job_inputs};
 use tv_cell::Pieces;
 use tv_check::FlowPlan;
 use tv_outputs::Nodes;
 use tv_turn::first_ready;
-use tv_value::{NoMemory, Place};
+use tv_value::{NoMemory, Place, Value};
 
 /// A known job of an instance.
 #[derive(Clone, Copy, Debug)]
@@ -231,17 +233,7 @@ impl Frame {
     {
         let (step, place, _) = self.intakes.job(number as usize);
         let place = Place::of(alloc, place)?;
-        let number = step as usize;
-        let described = &plan.flow.steps.as_slice()[number].1;
-        let planned = &plan.steps.as_slice()[number];
-        let ports = StepPorts {
-            number,
-            tree: &planned.tree,
-            mismatch: &planned.mismatch,
-            inputs: described.inputs.as_slice(),
-            delivered: planned.delivered.as_slice(),
-            ports: plan.wiring.ports.as_slice()[number].as_slice(),
-        };
+        let ports = ports_at(plan, step as usize);
         job_inputs(
             alloc,
             &self.sources(pool),
@@ -249,5 +241,38 @@ impl Frame {
             &ports,
             &place,
         )
+    }
+
+    /// Whether a known job binds these values, port by port in byte order of their names. Takes no memory. Linear in the ports,
+    /// with a walk for each, and in what the values have in common.
+    pub fn binds(&self, plan: &FlowPlan, pool: &Nodes, number: u64, values: &[Value]) -> bool
+        requires keeps { (flows : List (Name × Flow)) × (v : View) × Keeps flows plan.now pool.now self.now v }
+        requires known { number < length (known_jobs self.now.intakes) }
+        ensures same { IsTrue result → (flows : List (Name × Flow)) (v : View) (j : Name × Place) → Keeps flows plan.now pool.now self.now v → numbered v number ≡ Some j → AreInputs v j (map view values.now) }
+        ensures other { result ≡ false → (flows : List (Name × Flow)) (v : View) (j : Name × Place) → Keeps flows plan.now pool.now self.now v → numbered v number ≡ Some j → (vs : List AValue) → AreInputs v j vs → map view values.now ≡ vs → ⊥ }
+    {
+        let (step, place, _) = self.intakes.job(number as usize);
+        let ports = ports_at(plan, step as usize);
+        let starts = self.tables.starts[step as usize].as_slice();
+        let sources = self.sources(pool);
+        let constants = &self.tables.constants;
+        job_binds(&sources, constants, &ports, starts, place, values)
+    }
+}
+
+/// What a plan says of a step, for the search for what its jobs bind. The cost is constant.
+fn ports_at<'a>(plan: &'a FlowPlan, number: usize) -> StepPorts<'a>
+    requires { number < length plan.now.flow.steps }
+    ensures { ArePortsOf plan.now number result }
+{
+    let described = &plan.flow.steps.as_slice()[number].1;
+    let planned = &plan.steps.as_slice()[number];
+    StepPorts {
+        number,
+        tree: &planned.tree,
+        mismatch: &planned.mismatch,
+        inputs: described.inputs.as_slice(),
+        delivered: planned.delivered.as_slice(),
+        ports: plan.wiring.ports.as_slice()[number].as_slice(),
     }
 }

@@ -10,3 +10,4 @@ pub mod Counts
 pub mod Tried
 pub mod Building
 pub mod OfPieces
+pub mod Comparing

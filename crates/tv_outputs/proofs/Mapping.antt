@@ -154,7 +154,7 @@ module _ {A : Type 0} (P : A → Type 0) where
   each-close (i ∷ q) n (growing ps) h = each-with (close_at q n (part_of ps i)) ps i (each-close q n (part_of ps i) (each-part ps i h)) h
   each-close (i ∷ q) n (closed ps) h = each-with (close_at q n (part_of ps i)) ps i (each-close q n (part_of ps i) (each-part ps i h)) h
 
-  each-part_at : (p : Partial A) (i : ℕ) → EachItem P p → EachItem P (part_at p i)
+  pub each-part_at : (p : Partial A) (i : ℕ) → EachItem P p → EachItem P (part_at p i)
   each-part_at wanting i h = tt
   each-part_at (item x) i h = tt
   each-part_at (growing ps) i h = each-part ps i h

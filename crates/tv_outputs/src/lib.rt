@@ -8,7 +8,8 @@
 //! `specs/Known.antt`). `arrive` and `close` change the trees of a range exactly as `arrive` and `close_at` of `tv_parts` do, and
 //! no other tree (`specs/Changes.antt`). Neither is ever refused: `reserve` takes the room before. What will be whole by a change,
 //! and where faults will stand, can be asked before it. `piece_at` gives the piece of what is found at a place
-//! (`specs/FoundIn.antt`); `piece_with` and `piece_closed` give that of a whole tree before the change by which it is whole.
+//! (`specs/FoundIn.antt`), and `stands_at` tells without memory whether that is a value; `piece_with` and `piece_closed` give the
+//! piece of a whole tree before the change by which it is whole.
 //!
 //! **What is kept.** The trees stand on slots of their own, each item is sound, and it is marked exactly where its value holds a
 //! fault (`specs/Kept.antt`). So no value is walked twice for its faults.
@@ -16,11 +17,13 @@
 //! - `outputs`: the trees and their calls
 //! - `one`: a change of one tree
 //! - `pieces`: pieces of one tree
+//! - `same`: whether what is found in one tree is a value
 #![tactic(auto)]
 
 mod one;
 mod outputs;
 mod pieces;
+mod same;
 #[cfg(test)]
 mod tests;
 

@@ -1,6 +1,7 @@
 //! The trees of all outputs, and their calls.
-ghost use Rattle.std.specs.Prelude.{◌≡◌, ◌≤◌, ◌<◌, ◌+◌, ℕ, Some, is_some, true, length, map, slice_index_or, IsTrue, IfOk, OnOk};
+ghost use Rattle.std.specs.Prelude.{◌≡◌, ◌↔◌, ◌≤◌, ◌<◌, ◌+◌, ℕ, Some, is_some, true, length, map, slice_index_or, IsTrue, IfOk, OnOk};
 ghost use Rattle.tv_value.specs.Values.{holds_fault};
+ghost use Rattle.tv_value.specs.Views.{view};
 ghost use Rattle.tv_parts.specs.Partials.{wanting, whole, holds_some};
 ghost use Rattle.tv_parts.specs.Below.{value_in};
 ghost use Rattle.tv_parts.specs.Changes.{arrive as arrived, close_at, CanArrive, CanClose};
@@ -18,11 +19,12 @@ ghost use Rattle.tv_outputs.specs.Changes.{Arrive, Close, Turns, AllCanArrive, A
 
 use crate::one::{arrive_in, close_in};
 use crate::pieces::{found_piece, list_piece, piece_around};
+use crate::same::found_is;
 use std::alloc::Global;
 use tv_cell::{Piece, Pieces};
 use tv_pool::{Pool, Region};
 use tv_stream::{Partial, Slot};
-use tv_value::{NoMemory, Place};
+use tv_value::{NoMemory, Place, Value};
 
 /// The pool in which the trees stand.
 pub type Nodes = Pool<Slot<Piece>>;
@@ -306,6 +308,17 @@ impl Outputs {
     {
         let top = Place::top(alloc);
         found_piece(alloc, &self.trees[number], pool, &top, place.as_slice())
+    }
+
+    /// Whether the value is what stands at a place in a tree: not where some of that isn't known yet. Takes no memory. Linear in
+    /// the place and in what the two have in common, with a look-up for each index and for each part of a list, which is
+    /// logarithmic in the known parts of the list.
+    pub fn stands_at(&self, pool: &Nodes, number: usize, place: &[u32], value: &Value) -> bool
+        requires stand { (region : InRegion) × Stand pool.now self.now region }
+        requires there { number < length (known pool.now self.now) }
+        ensures { IsTrue result ↔ (found_in place.now (tree_in (known pool.now self.now) number) ≡ Some (view value.now)) }
+    {
+        found_is(&self.trees[number].look(pool), place, value)
     }
 
     /// The piece of a whole tree as it will be once a piece has arrived at the place. As `piece_at` of the whole.

@@ -206,6 +206,21 @@ fn item_ahead(
     assemble(alloc, &ahead)
 }
 
+/// Whether a value is the first list, its first item, or its second.
+fn stands_where(
+    outputs: &Outputs,
+    pool: &Nodes,
+    _region: &Region,
+    value: &Value,
+) -> (bool, bool, bool)
+    requires { Tried pool.now outputs.now _region.now IsSomething IsSomething }
+{
+    let whole = outputs.stands_at(pool, 0, &[], value);
+    let first = outputs.stands_at(pool, 0, &[0], value);
+    let second = outputs.stands_at(pool, 0, &[1], value);
+    (whole, first, second)
+}
+
 /// Whether the third tree and the first two are whole, and whether the first two hold faults.
 fn looks(outputs: &Outputs, pool: &Nodes, _region: &Region) -> ((bool, bool, bool), (bool, bool))
     requires { Tried pool.now outputs.now _region.now IsSomething IsSomething }
@@ -238,6 +253,14 @@ fn two_steps(rt: HostRuntime) -> Result<(), Fail> {
     assert_eq!(rt;
         looks(&outputs, &pool, &region),
         ((true, true, true), (false, true))
+    );
+    assert_eq!(rt;
+        stands_where(&outputs, &pool, &region, &list),
+        (true, false, false)
+    );
+    assert_eq!(rt;
+        stands_where(&outputs, &pool, &region, &b),
+        (false, false, true)
     );
     Ok(())
 }

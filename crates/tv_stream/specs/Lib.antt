@@ -3,3 +3,4 @@ pub mod Stands
 pub mod Mapped
 pub mod Answers
 pub mod Inside
+pub mod Looks

@@ -29,6 +29,7 @@
 //! - `changes`: what changes a tree, from a node on
 //! - `held`: what a node holds, and its counts
 //! - `levels`: where marks are on the way to a place
+//! - `look`: a look at a tree, from part to part
 //! - `refusals`: why a call is refused
 //! - `laws`: what stays of other trees, and what holds of all trees that change
 #![tactic(auto)]
@@ -37,11 +38,13 @@ mod changes;
 mod held;
 pub mod laws;
 mod levels;
+mod look;
 mod partial;
 mod refusals;
 #[cfg(test)]
 mod tests;
 
 pub use held::{Held, PartKind};
+pub use look::Look;
 pub use partial::{Partial, Slot};
 pub use refusals::{ArriveRefused, CloseRefused};

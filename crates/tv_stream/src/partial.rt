@@ -7,11 +7,13 @@ ghost use Rattle.tv_parts.specs.Changes.{arrive as arrived, close_at, CanArrive,
 ghost use Rattle.tv_stream.specs.Trees.{Marked, memory_of, tree_of, least_whole};
 ghost use Rattle.tv_stream.specs.Stands.{is_marked, Stands, IsIn, KeepsTrees, Starts};
 ghost use Rattle.tv_stream.specs.Inside.{IsAt};
+ghost use Rattle.tv_stream.specs.Looks.{Shows};
 ghost use Rattle.tv_stream.specs.Answers.{marked_item, kind_of, item_of, RefusesArrival, RefusesClose};
 
 use crate::changes::{arrive_in, close_in, whole_by_arrival_in, whole_by_close_in};
 use crate::held::{Held, Part, PartKind};
 use crate::levels::marked_in;
+use crate::look::Look;
 use crate::refusals::{ArriveRefused, CloseRefused};
 use std::marker::PhantomData;
 use tv_nodes::{Entry, Stop, body, plant, seek};
@@ -232,6 +234,17 @@ impl<T> Partial<T> {
             }
         }
         Some(node)
+    }
+
+    /// A look at the tree, from the top.
+    pub fn look<'a>(&self, pool: &'a Pool<Slot<T>>) -> Look<'a, T>
+        requires stands { Stands pool.now self.now }
+        ensures { Shows result (tree_of pool.now self.now) }
+    {
+        Look {
+            pool,
+            node: self.root.link(),
+        }
     }
 
     /// What is known at a place: nothing also where there is no such place. Takes no memory.
