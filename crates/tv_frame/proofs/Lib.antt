@@ -46,7 +46,6 @@ pub mod OfKnownFeeds
 pub mod OfJobValues
 pub mod OfPortValues
 pub mod OfJobPorts
-pub mod OfTakingOnce
 pub mod OfTakingIdle
 pub mod OfTaking
 pub mod OfReadyStays

@@ -38,7 +38,7 @@ use Rattle.tv_frame.specs.Tables.{levels_in}
 use Rattle.tv_frame.proofs.OfIdling.{mapped-get, stands}
 use Rattle.tv_frame.proofs.OfKeeping.{kept-wired}
 use Rattle.tv_frame.proofs.OfTakingIdle.{taken-idle}
-use Rattle.tv_frame.proofs.OfTakingOnce.{jobs-differ}
+use Rattle.tv_framing.proofs.OfNumbers.{jobs-differ}
 
 has-in : (js : List (ℕ × List ℕ)) (n : ℕ) (r : List ℕ) → In (n, r) js → has_job n js ≡ true
 has-in [] n r i = absurd i

@@ -9,3 +9,4 @@ pub mod OfPossible
 pub mod OfEndings
 pub mod OfLaws
 pub mod Computed
+pub mod OfNumbers

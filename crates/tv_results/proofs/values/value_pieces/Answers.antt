@@ -1,0 +1,12 @@
+use Rattle.std.proofs.Common.{ap, map, sym, ◌∙◌}
+use Rattle.std.proofs.lemmas.Result.{IfOk-weaker}
+use Rattle.tv_value.specs.Nested.{items}
+use Rattle.tv_value.specs.Views.{view}
+use Rattle.tv_results.proofs.OfMakers.{items-trees_of}
+use Rattle.tv_results.proofs.values.value_pieces.Goals as goal
+
+pub returns-clause-values : goal.returns-clause-values
+returns-clause-values c =
+    IfOk-weaker c.pieces_of.result _ _
+    (λ ps h. h ∙ sym (items-trees_of (map view c.as_slice.result.now)) ∙ ap items c.as_slice.ensures)
+    c.pieces_of.ensures.values

@@ -1,0 +1,5 @@
+pub mod OfStages
+pub mod OfLists
+pub mod OfSeats
+pub mod OfEntries
+pub mod OfRuns

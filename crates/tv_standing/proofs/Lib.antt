@@ -1,0 +1,9 @@
+pub mod OfLists
+pub mod OfCounts
+pub mod OfSeats
+pub mod OfStages
+pub mod OfTold
+pub mod OfOffers
+pub mod OfFirsts
+pub mod OfStates
+pub mod OfNames

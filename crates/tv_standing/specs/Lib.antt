@@ -1,0 +1,4 @@
+pub mod Seats
+pub mod Stated
+pub mod Offers
+pub mod States
