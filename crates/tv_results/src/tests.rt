@@ -63,8 +63,7 @@ fn what_jobs_give(rt: HostRuntime) -> Result<(), Fail> {
     let values = bound(alloc)?;
     let pieces = value_pieces(alloc, &values)?;
     let back = values_of(alloc, pieces.as_slice())?;
-    let kept = values.as_slice();
-    assert_eq!(&rt; are_same(&back, &kept[0], &kept[1]), true);
+    assert_eq!(&rt; same_value(&Value::List(back), &Value::List(values)), true);
     let failed = error_pieces(
         alloc,
         name(alloc, "u")?,
