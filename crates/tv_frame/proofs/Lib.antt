@@ -48,6 +48,7 @@ pub mod OfPortValues
 pub mod OfJobPorts
 pub mod OfTakingIdle
 pub mod OfTaking
+pub mod OfForgetting
 pub mod OfReadyStays
 pub mod OfFaultingTrees
 pub mod OfFaultingSteps

@@ -20,6 +20,7 @@ use Rattle.tv_instance.specs.Events.{Event, fault_set, gave, known_by, took}
 use Rattle.tv_model.specs.Agreeing.{FlowAgrees}
 use Rattle.tv_model.specs.Members.{In}
 use Rattle.tv_model.specs.RightDepths.{HaveTheseDepths}
+use Rattle.tv_framing.specs.Answers.{IsReadyJob, numbered}
 use Rattle.tv_framing.specs.Frames.{Comes, new_jobs, with_event}
 use Rattle.tv_framing.specs.Views.{InAll, View}
 use Rattle.tv_frame.specs.declared.frame.Frame.{Frame}
@@ -27,7 +28,7 @@ use Rattle.tv_frame.specs.declared.events.Settled.{Settled}
 use Rattle.tv_frame.specs.declared.events.Settled.TheVariants.{Closed, Passed}
 use Rattle.tv_frame.specs.Kept.{Keeps}
 use Rattle.tv_frame.specs.Prepared.{IsReadyFor, event_value}
-use Rattle.tv_frame.specs.Tables.{trees_of}
+use Rattle.tv_frame.specs.Tables.{levels_in, trees_of}
 
 -- ---- the start
 
@@ -56,6 +57,13 @@ Brings v e n =
 -- the frame has one event more
 abbrev pub GoesOn : List (Name × Flow) → FlowPlan → Nodes → Frame → View → Event → Type 0
 GoesOn flows plan pool f v e = (w : View) × (n : ℕ) × Comes v w e n × Brings v e n × Keeps flows plan pool f w
+
+-- the frame is ready for these as the result of the ready job of that number, at place q of step n, which is s: it is bounced
+pub record IsReadyToBounce (flows : List (Name × Flow)) (plan : FlowPlan) (pool : Nodes) (f : Frame) (v : View)
+    (number n : ℕ) (s : Name × Step) (q : Place) (vs : List Value) : Type 0 where
+  pub ready : IsReadyFor flows plan pool f v n s (gave s.0 q vs)
+  pub job : numbered v number ≡ Some (s.0, q)
+  pub free : IsReadyJob (levels_in v.flow) v (s.0, q)
 
 -- ---- lists and faults
 

@@ -15,7 +15,7 @@ ghost use Rattle.tv_instance.specs.Events.{Event as TheEvent, gave, is_taken};
 ghost use Rattle.tv_framing.specs.Views.{View};
 ghost use Rattle.tv_frame.specs.Prepared.{IsReadyFor};
 ghost use Rattle.tv_frame.specs.Shown.{CanTurnWhole, HasOtherEndings, HasOtherOuts, HasOtherTrees, IsMarked, IsShown, outs_after, values_put};
-ghost use Rattle.tv_frame.specs.Calls.{GoesOn, IsReadyToSettle, Tells};
+ghost use Rattle.tv_frame.specs.Calls.{GoesOn, IsReadyToBounce, IsReadyToSettle, Tells};
 
 use crate::frame::Frame;
 use crate::tables::trees_of;
@@ -70,6 +70,30 @@ impl Frame {
         let first = self.tables.firsts[step as usize];
         self.put(pool, first, place, outputs);
         self.show(plan, step);
+    }
+
+    /// The job of that number, which is ready, is bounced: it never runs, and has given these. Takes no memory. Costs as `take`
+    /// and `result` do.
+    pub fn bounce(
+        &mut self,
+        plan: &FlowPlan,
+        pool: &mut Nodes,
+        number: u64,
+        step: u32,
+        place: &Place,
+        outputs: Pieces,
+    )
+        requires ready { (flows : List (Name × Flow)) × (v : View) × (s : Name × Step)
+            × IsReadyToBounce flows plan.now pool.old self.old v number step s place.now (piece_values outputs) }
+        requires sound { AreSound outputs }
+        ensures goes_on { (flows : List (Name × Flow)) (v : View) (s : Name × Step)
+            → IsReadyToBounce flows plan.now pool.old self.old v number step s place.now (piece_values outputs)
+            → GoesOn flows plan.now pool.new self.new v (gave s.0 place.now (piece_values outputs)) }
+        ensures regions { KeepsRegions pool.old pool.new (number_of self.old.region) }
+        ensures region { self.new.region ≡ self.old.region }
+    {
+        self.take(plan, pool, number);
+        self.result(plan, pool, step, place, outputs);
     }
 
     /// Closes a list or passes a fault: the thing that waits last. Takes no memory. Costs as `result` does.
