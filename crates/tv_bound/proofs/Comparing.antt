@@ -4,8 +4,8 @@ use Rattle.std.specs.Prelude.{◌↔◌, IsTrue, MatchOption, option_and_then, o
 use Rattle.std.proofs.lemmas.Bool.{cases_eq}
 use Rattle.std.proofs.lemmas.List.{length-map}
 use Rattle.std.proofs.lemmas.Option.{none-some, same_Some, slice_get_read}
-use Rattle.tv_value.specs.Nested.{Place, Tree, at, children, item_at, items, leaf, no_trees, tree, trees_of}
-use Rattle.tv_value.specs.Values.{Name, Scalar, Value, list_value}
+use Rattle.tv_value.specs.Nested.{Place, Tree, at, children, item_at, items, no_trees, tree, trees_of}
+use Rattle.tv_value.specs.Values.{Name, Value, list_value}
 use Rattle.tv_value.specs.Views.{strategy_view, view}
 use Rattle.tv_value.specs.declared.value.Value.{Value as CodeValue}
 use Rattle.tv_strategy.specs.Conditions.{number_of}
@@ -56,12 +56,6 @@ module _ (os : List (Option Value)) (vs : List Value) where
   -- so many are found, and are these values
   abbrev pub AreEach : ℕ → Type 0
   AreEach n = (i : ℕ) → i < n → slice_index_or os i None ≡ slice_get vs i
-
-  pub each-none : AreEach 0
-  each-none i h = absurd (none i h)
-    where
-      none : (i : ℕ) → i < 0 → ⊥
-      none i h = omega arith
 
   pub each-more : (n : ℕ) (v : Value) → AreEach n → slice_index_or os n None ≡ Some v → slice_get vs n ≡ Some v → AreEach (n + 1)
   each-more n v h e g i lt = elim (cases_eq i n) [
@@ -122,15 +116,6 @@ once-unwrapped k x v e =
     one : (k : ℕ) → k + 1 ≡ suc k
     one k = omega arith
 
-pub leaf-unwrapped : (k : ℕ) (x : Value) (a : Scalar) → wrapped_value (k + 1) x ≡ leaf tt a → ⊥
-leaf-unwrapped k x a e = no-list (wrapped_value k x) (ap (λ n. wrapped_value n x) (sym (one k)) ∙ e)
-  where
-    one : (k : ℕ) → k + 1 ≡ suc k
-    one k = omega arith
-
-    no-list : (v : Value) → list_value (tree v no_trees) ≡ leaf tt a → ⊥
-    no-list v h = cc
-
 pub others-unwrapped : (k : ℕ) (x : Value) (vs : List Value) → (length vs ≡ 1 → ⊥) → wrapped_value (k + 1) x ≡ list_value (trees_of vs) → ⊥
 others-unwrapped k x vs never e =
     never (ap length (sym (items-of vs) ∙ ap (λ t. items (children t)) (sym e ∙ ap (λ n. wrapped_value n x) (one k))))
@@ -151,16 +136,6 @@ merged-told o u vs e b h = (λ t. ap (option_map (λ ws. list_value (trees_of ws
     back : (p : Option (List Value)) → option_map (λ ws. list_value (trees_of ws)) p ≡ Some u → p ≡ Some vs
     back None g = absurd (none-some u g)
     back (Some ws) g = ap Some (same-items ws vs (same_Some (list_value (trees_of ws)) u g ∙ e))
-
-pub leaf_merged-told : (o : Option (List Value)) (u : Value) (a : Scalar) → u ≡ leaf tt a → IsTrue false ↔ (option_map (λ ws. list_value (trees_of ws)) o ≡ Some u)
-leaf_merged-told o u a e = told-no (by o)
-  where
-    no-list : (ws : List Value) → list_value (trees_of ws) ≡ leaf tt a → ⊥
-    no-list ws h = cc
-
-    by : (p : Option (List Value)) → option_map (λ ws. list_value (trees_of ws)) p ≡ Some u → ⊥
-    by None g = none-some u g
-    by (Some ws) g = no-list ws (same_Some (list_value (trees_of ws)) u g ∙ e)
 
 -- ---- by position
 

@@ -1,6 +1,6 @@
 -- A known job binds one list of values, and its place has the part of each port where the port's leaf begins.
 use Rattle.std.specs.List.{list_any}
-use Rattle.std.specs.Prelude.{◌≡◌, refl, ℕ, ◌+◌, ◌≤◌, Bool, true, false, if◌then◌else◌, List, [], ◌∷◌, ◌++◌, drop, length, map, take, Option, Some, slice_get, unwrap_or, IsPermutation}
+use Rattle.std.specs.Prelude.{◌≡◌, refl, ℕ, suc, ◌+◌, ◌≤◌, Bool, true, false, if◌then◌else◌, List, [], ◌∷◌, ◌++◌, drop, length, map, take, Option, Some, slice_get, unwrap_or, IsPermutation}
 use Rattle.std.proofs.Common.{arith, inl, sym, ap, ap₂, subst, ◌∙◌}
 use Rattle.std.proofs.lemmas.List.Sorted.{IsPermutation-sym}
 use Rattle.std.proofs.lemmas.Option.{get_or_from_slice_get, none-some, same_Some}
@@ -153,11 +153,11 @@ module _ (f : Flow) (s : Name × Step) (agree : DotsAgree (number_of (mismatches
   part x = (x.0, take (levels x.0) (drop x.1 q))
 
   pub port-part : (k : ℕ) (i : Name × StepInput) → slice_get s.1.inputs k ≡ Some i → list_any (same_name i.0) (leaf_names (strategy_of s.1)) ≡ true → IsPartOf p q (map (λ x. x.1) begins) (port_among f (leaf_names (strategy_of s.1)) i)
-  port-part k i e leaf =
+  port-part k i e here_so =
       let n = leaf_number i.0 (leaf_names (strategy_of s.1)) in
       let rs = split levels (strategy_of s.1) q in
       let names = split-names_leaves levels (strategy_of s.1) q in
-      let l = leaf-at (λ r. Unit {0}) i.0 rs (subst (λ ns. list_any (same_name i.0) ns ≡ true) (sym names) leaf) (each-from (λ r. Unit {0}) rs (λ r h. tt)) in
+      let l = leaf-at (λ r. Unit {0}) i.0 rs (subst (λ ns. list_any (same_name i.0) ns ≡ true) (sym names) here_so) (each-from (λ r. Unit {0}) rs (λ r h. tt)) in
       let here : slice_get rs n ≡ Some (i.0, l.place) = ap (λ ns. slice_get rs (leaf_number i.0 ns)) (sym names) ∙ l.here in
       let places = places-split levels (strategy_of s.1) agree q deep in
       let x = got-map part begins n (i.0, l.place) (ap (λ ts. slice_get ts n) (sym places) ∙ here) in

@@ -424,11 +424,11 @@ inputs-where_ok plan pool f number n q p call a of (Ok ps) h = λ flows v j keep
 module _ (plan : FlowPlan) (pool : Nodes) (f : Frame) (number n : ℕ) (q : Place) (p : StepPorts) (call : IsCallOf plan f number n q p) (a : Sources) (of : IsSourcesOf pool f a) (vs : List Value) (answer : Bool)
     (told : IsTrue answer ↔ (job_found (sourced_by a) (constants_view f.tables.constants) p q ≡ Some vs)) where
   pub binds-same : IsTrue answer → (flows : List (Name × Flow)) (v : View) (j : Name × Place) → Keeps flows plan pool f v → numbered_job v number ≡ Some j → AreInputs v j vs
-  binds-same yes flows v j keeps e =
-      are-inputs flows plan pool f v keeps a of number n q call.there call.faulty call.said p call.own (constants_view f.tables.constants) refl j e vs (told.0 yes)
+  binds-same holds flows v j keeps e =
+      are-inputs flows plan pool f v keeps a of number n q call.there call.faulty call.said p call.own (constants_view f.tables.constants) refl j e vs (told.0 holds)
 
   pub binds-other : answer ≡ false → (flows : List (Name × Flow)) (v : View) (j : Name × Place) → Keeps flows plan pool f v → numbered_job v number ≡ Some j → (us : List Value) → AreInputs v j us → vs ≡ us → ⊥
-  binds-other no flows v j keeps e us h same =
+  binds-other fails flows v j keeps e us h same =
       true≢false
       (sym (told.1 (found-inputs flows plan pool f v keeps a of number n q call.there call.faulty call.said p call.own (constants_view f.tables.constants) refl j e vs (subst (AreInputs v j) (sym same) h)))
-      ∙ no)
+      ∙ fails)

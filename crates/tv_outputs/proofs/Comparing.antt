@@ -171,12 +171,6 @@ module _ (r : Partial (Marked Piece)) (vs : List Value) where
   abbrev pub AreFound : ℕ → Type 0
   AreFound n = (i : ℕ) → i < n → found_in [] (part_at (shown r) i) ≡ slice_get vs i
 
-  pub none-found : AreFound 0
-  none-found i h = absurd (none i h)
-    where
-      none : (i : ℕ) → i < 0 → ⊥
-      none i h = omega arith
-
   pub more-found : (n : ℕ) (v : Value) → AreFound n → found_in [] (shown (part_at r n)) ≡ Some v → slice_get vs n ≡ Some v → AreFound (n + 1)
   more-found n v h e g i lt = elim (cases_eq i n) [
     | inl same ↦ ap (λ j. found_in [] (part_at (shown r) j)) same ∙ ap (found_in []) (map-part_at item_value r n) ∙ e ∙ sym g ∙ ap (slice_get vs) (sym same)

@@ -4,8 +4,8 @@ use Rattle.tv_frame.proofs.OfJobInputs.{binds-other, binds-same, call-counted, c
 use Rattle.tv_frame.proofs.OfOuts.{sources-stand}
 use Rattle.tv_frame.proofs.frame.Frame.binds.Goals as goal
 
-pub ports_at-requires : goal.ports_at-requires
-ports_at-requires c =
+pub ports_at-ports-requires : goal.ports_at-ports-requires
+ports_at-ports-requires c =
     let r = c.requires.keeps in
     step-within r.0 c.args.plan.now c.args.pool.now c.args.self.now r.1 r.2 c.args.number c.job-step.result.0 c.job-step.result.1.now c.job-step.ensures.job c.job-step.result.2 c.job-step.ensures.faulty
 
@@ -32,7 +32,7 @@ job_binds-requires-clause-parts c =
     let r = c.requires.keeps in
     call-parts r.0 c.args.plan.now c.args.pool.now c.args.self.now r.1 r.2 c.args.number c.job-step.result.0 c.job-step.result.1.now c.ports_at-ports.result
     (call-of c.args.plan.now c.args.self.now c.args.number c.job-step.result.0 c.job-step.result.1.now c.job-step.result.1.now c.ports_at-ports.result c.job-step.ensures.job c.job-step.result.2 c.job-step.ensures.faulty refl c.ports_at-ports.ensures)
-    c.sources-sources.result (record { inputs = c.sources-sources.ensures.inputs; outputs = c.sources-sources.ensures.outputs; nodes = c.sources-sources.ensures.pool; firsts = c.sources-sources.ensures.firsts }) c.index.result.now c.index.ensures c.as_slice-starts.result.now c.as_slice-starts.ensures
+    c.sources-sources.result (record { inputs = c.sources-sources.ensures.inputs; outputs = c.sources-sources.ensures.outputs; nodes = c.sources-sources.ensures.pool; firsts = c.sources-sources.ensures.firsts }) c.index.result.now c.index.ensures c.as_slice-starts.result.now c.as_slice-starts.ensures.value
 
 pub job_binds-requires-clause-delivered : goal.job_binds-requires-clause-delivered
 job_binds-requires-clause-delivered c =

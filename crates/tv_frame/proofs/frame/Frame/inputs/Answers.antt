@@ -2,8 +2,8 @@ use Rattle.tv_frame.proofs.OfJobInputs.{call-agrees, call-counted, call-deep, ca
 use Rattle.tv_frame.proofs.OfOuts.{sources-stand}
 use Rattle.tv_frame.proofs.frame.Frame.inputs.Goals as goal
 
-pub ports_at-requires : goal.ports_at-requires
-ports_at-requires c =
+pub ports_at-ports-requires : goal.ports_at-ports-requires
+ports_at-ports-requires c =
     let r = c.requires.keeps in
     step-within r.0 c.args.plan.now c.args.pool.now c.args.self.now r.1 r.2 c.args.number c.job-step.result.0 c.job-step.result.1.now c.job-step.ensures.job c.job-step.result.2 c.job-step.ensures.faulty
 
