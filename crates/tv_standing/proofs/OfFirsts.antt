@@ -1,5 +1,5 @@
 -- Which job is offered first, and which bounce, by their seats.
-use Rattle.std.specs.Prelude.{◌≡◌, refl, ℕ, zero, suc, ◌<◌, ◌≤◌, Bool, true, false, not, nat_lt, ◌&&◌, ◌||◌, List, [], ◌∷◌, Some, if◌then◌else◌, find, is_some, slice_get}
+use Rattle.std.specs.Prelude.{◌≡◌, refl, ℕ, zero, suc, ◌<◌, ◌≤◌, Bool, true, false, not, nat_lt, ◌&&◌, List, [], ◌∷◌, Some, if◌then◌else◌, find, is_some, slice_get}
 use Rattle.std.specs.Cmp.Lexicographic.{bytes_decides}
 use Rattle.std.specs.Option.{option_map_or}
 use Rattle.std.proofs.Common.{ap, arith, inl, inr, subst, sym, ◌∙◌}
@@ -21,9 +21,9 @@ use Rattle.tv_model.specs.Members.{In}
 use Rattle.tv_model.specs.Turns.{is_bounced}
 use Rattle.tv_model.proofs.Order.{in-map}
 use Rattle.tv_model.proofs.Sound.{spot-step}
-use Rattle.tv_model.proofs.Tests.{left_true, or_left, or_right, right_true, true≠false}
+use Rattle.tv_model.proofs.Tests.{left_true, right_true, true≠false}
 use Rattle.tv_history.specs.Entries.{History, is_out}
-use Rattle.tv_history.specs.Histories.{can_bounce, has_open_instance, has_place, is_idle, is_offered, is_ready, is_running, is_settled, may_go_on, next_ask}
+use Rattle.tv_history.specs.Histories.{can_bounce, has_open_instance, has_place, is_idle, is_offered, is_ready, is_running, may_go_on, next_ask}
 use Rattle.tv_order.specs.JobOrder.{place_before, rank_in, spot_before}
 use Rattle.tv_framing.specs.Views.{View}
 use Rattle.tv_seats.specs.Seats.{Seat}
@@ -32,12 +32,12 @@ use Rattle.tv_offered.specs.Offers.{IsOfferedAt, OffersNothing}
 use Rattle.tv_offered.proofs.OfEnds.{bounce-legal, none-bounces}
 use Rattle.tv_offered.proofs.OfOffers.{first-by-order, nothing}
 use Rattle.tv_turn.specs.FirstReady.{by_falling_rank}
-use Rattle.tv_turn.proofs.OfRanks.{falling, in-turned, named-step, number-of, rank_of, step-at}
+use Rattle.tv_turn.proofs.OfRanks.{falling, in-turned, named-step, number-of, step-at}
 use Rattle.tv_turn.proofs.OfTurns.{Falls}
 use Rattle.tv_seated.specs.Seated.{Sit, spot_of}
+use Rattle.tv_seated.proofs.OfLists.{is-member, place-of}
 use Rattle.tv_standing.specs.Offers.{AtEachOffered, BouncesBySeat, ComesNotBefore, FirstOfferedBySeats, NoneBouncesBySeats, NoneOfferedBySeats}
-use Rattle.tv_standing.specs.Seats.{HasSeat, IsJobOf, stands_anywhere}
-use Rattle.tv_standing.proofs.OfLists.{is-member, place-of}
+use Rattle.tv_standing.specs.Seats.{HasSeat, IsJobOf}
 use Rattle.tv_standing.proofs.OfOffers.{is-alone, step-name, step-ranked}
 use Rattle.tv_standing.proofs.OfSeats.{ready-seat, running-seat}
 use Rattle.tv_standing.proofs.OfTold.{steps-rise}
@@ -172,11 +172,11 @@ module _ (gives : Giving) (d : Document) (past : History) (levels : Name → ℕ
             ≡ false
         by true h = w.places (same-step h)
         by false h =
-            let first = in-order n s j there it in
+            let first = w.steps in
             let second = in-order k t i e jt in
             le-ltb (rank_by s.step) (rank_by t.step)
             (falls-at rank_by (by_falling_rank v.flow) falls first.0 second.0 s.step t.step first.1 second.1
-            (w.steps first.0 second.0 first.1 second.1))
+            (first.2 second.0 second.1))
 
     pub first-offered : named d.main d.flows ≡ Some v.flow → is_offered m past j ≡ true
         → AtEachOffered gives d past v ss (λ t. ComesNotBefore v t s)

@@ -4,7 +4,7 @@ use Rattle.std.specs.Option.{option_map_or}
 use Rattle.std.proofs.Common.{ap, ap₂, subst, sym, ◌∙◌}
 use Rattle.std.proofs.lemmas.Option.{same_Some}
 use Rattle.tv_value.specs.Orders.{named, same_job, same_name}
-use Rattle.tv_value.specs.Values.{JobName, Name}
+use Rattle.tv_value.specs.Values.{Name}
 use Rattle.tv_gate.specs.Outcomes.{Giving}
 use Rattle.tv_flow.specs.Flows.{Document, Step}
 use Rattle.tv_strategy.specs.Sources.{Each}
@@ -13,12 +13,11 @@ use Rattle.tv_agreed.proofs.Lists.{named-each}
 use Rattle.tv_model.specs.Jobs.{Job}
 use Rattle.tv_model.specs.Made.{Meaning}
 use Rattle.tv_model.specs.Meanings.{flow_meaning, meaning}
-use Rattle.tv_model.specs.Members.{In}
 use Rattle.tv_model.specs.Turns.{is_bounced}
 use Rattle.tv_model.proofs.Members.{each_in}
 use Rattle.tv_model.proofs.Whole.{rank-each}
 use Rattle.tv_history.specs.Entries.{History, is_out}
-use Rattle.tv_history.specs.Histories.{all_known, can_bounce, has_place, is_idle, is_offered, is_open, is_ready, is_running, is_settled}
+use Rattle.tv_history.specs.Histories.{all_known, has_place, is_idle, is_open, is_ready, is_running, is_settled}
 use Rattle.tv_order.specs.Parts.{IsInstance}
 use Rattle.tv_framing.specs.Views.{View}
 use Rattle.tv_seats.specs.Seats.{Seat, running_count}
@@ -34,10 +33,10 @@ use Rattle.tv_offered.specs.Runs.{IsAlone}
 use Rattle.tv_offered.proofs.OfOffers.{by-stage}
 use Rattle.tv_offered.proofs.OfStages.{idle-is}
 use Rattle.tv_seated.specs.Seated.{Sit}
+use Rattle.tv_seated.proofs.OfLists.{is-member}
 use Rattle.tv_standing.specs.Offers.{IsOfferedBySeat, OfferedBySeat}
 use Rattle.tv_standing.specs.Seats.{IsJobOf, is_over}
 use Rattle.tv_standing.specs.Stated.{StepsOfSeats}
-use Rattle.tv_standing.proofs.OfLists.{is-member}
 use Rattle.tv_standing.proofs.OfSeats.{alone}
 use Rattle.tv_standing.proofs.OfStages.{and-false, out-is, over-is, runs-is}
 use Rattle.tv_standing.proofs.OfTold.{are-counted}

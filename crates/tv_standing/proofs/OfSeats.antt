@@ -1,8 +1,8 @@
 -- Seats and jobs of a run: each seat has a job, and each job that stands anywhere a seat.
-use Rattle.std.specs.Prelude.{◌≡◌, ℕ, Bool, true, false, not, ◌&&◌, ◌||◌, List, [], Some, map, slice_get}
+use Rattle.std.specs.Prelude.{◌≡◌, ℕ, true, not, ◌||◌, List, [], Some, slice_get}
 use Rattle.std.specs.List.{list_any}
 use Rattle.std.specs.Option.{option_map_or}
-use Rattle.std.proofs.Common.{ap, ap₂, inr, subst, sym, ◌∙◌}
+use Rattle.std.proofs.Common.{ap, ap₂, subst, sym, ◌∙◌}
 use Rattle.tv_lemmas.proofs.Cases.{on_or, on_test}
 use Rattle.tv_value.specs.Nested.{Place}
 use Rattle.tv_value.specs.Values.{JobName, Name}
@@ -27,9 +27,10 @@ use Rattle.tv_viewed.proofs.OfLaws.{begun-is_known, jobs-are_somewhere, known_jo
 use Rattle.tv_going.specs.Flat.{IsMainAlone}
 use Rattle.tv_going.proofs.OfFlat.{flat-runs}
 use Rattle.tv_seated.specs.Seated.{Sit, spot_of}
+use Rattle.tv_seated.proofs.OfLists.{get-image, is-member, of-image, place-of}
 use Rattle.tv_standing.specs.Seats.{HasJob, HasSeat, stands_anywhere}
 use Rattle.tv_standing.specs.Stated.{AreAtOwnSpots, JobsHaveSeats, SeatsAreApart, SeatsHaveJobs}
-use Rattle.tv_standing.proofs.OfLists.{apart-by, get-image, is-member, of-image, place-of}
+use Rattle.tv_standing.proofs.OfLists.{apart-by}
 
 module _ (gives : Giving) (d : Document) (past : History) (levels : Name → ℕ) (v : View) (ss : List Seat)
     (sit : Sit gives d past levels v ss) where

@@ -2,7 +2,7 @@
 use Rattle.std.specs.Prelude.{◌≡◌, refl, ℕ, Bool, true, false, not, ◌&&◌, ◌==◌, List, [], Some, None, Option, is_some, slice_get}
 use Rattle.std.specs.List.{list_any}
 use Rattle.std.specs.Option.{option_map_or}
-use Rattle.std.proofs.Common.{ap, eqb-true, subst, sym, ◌∙◌}
+use Rattle.std.proofs.Common.{ap, eqb-true, sym, ◌∙◌}
 use Rattle.tv_value.specs.Nested.{Place}
 use Rattle.tv_value.specs.Values.{Name}
 use Rattle.tv_gate.specs.Outcomes.{Giving}
@@ -16,7 +16,7 @@ use Rattle.tv_model.specs.Made.{Meaning}
 use Rattle.tv_model.specs.Meanings.{meaning}
 use Rattle.tv_model.proofs.Tests.{left_true, right_true, true≠false}
 use Rattle.tv_history.specs.Entries.{History, is_begun_entry}
-use Rattle.tv_history.specs.Histories.{has_open_instance, is_ask, is_open, is_ready, is_running, is_settled, next_ask}
+use Rattle.tv_history.specs.Histories.{has_open_instance, is_ask, is_open, is_ready, is_settled, next_ask}
 use Rattle.tv_history.proofs.Tests.{same_tests}
 use Rattle.tv_framing.specs.Answers.{after_of}
 use Rattle.tv_framing.specs.Views.{View}
@@ -25,9 +25,9 @@ use Rattle.tv_seats.specs.declared.stage.Stage.{Stage}
 use Rattle.tv_seats.specs.declared.stage.Stage.TheVariants as stage
 use Rattle.tv_viewed.proofs.OfLaws.{ready-is_told, taken-is_running}
 use Rattle.tv_seated.specs.Seated.{IsNextTry, IsStage, Sit, spot_of}
+use Rattle.tv_seated.proofs.OfLists.{is-member}
 use Rattle.tv_standing.specs.Seats.{IsJobOf}
 use Rattle.tv_standing.specs.States.{IsStateOf, IsTry, StandsAt, StatesBySeats, Waits}
-use Rattle.tv_standing.proofs.OfLists.{is-member}
 use Rattle.tv_standing.proofs.OfSeats.{alone, seat-job}
 use Rattle.tv_standing.proofs.OfStages.{over-is}
 

@@ -2,7 +2,7 @@
 use Rattle.std.specs.Prelude.{◌≡◌, ℕ, Bool, true, ◌&&◌, ◌==◌, List, [], count_by, slice_get, Some}
 use Rattle.std.specs.Cmp.Lexicographic.{bytes_decides}
 use Rattle.std.specs.Option.{option_map_or}
-use Rattle.std.proofs.Common.{ap, eq-eqb, eqb-true, subst, sym, ◌∙◌}
+use Rattle.std.proofs.Common.{ap, eq-eqb, eqb-true, sym, ◌∙◌}
 use Rattle.std.proofs.lemmas.List.Sums.{length-filter}
 use Rattle.std.proofs.lemmas.Option.{same_Some}
 use Rattle.tv_value.specs.Orders.{same_job, same_name}
@@ -16,7 +16,6 @@ use Rattle.tv_depths.proofs.OfRanked.{one-place}
 use Rattle.tv_model.specs.Jobs.{Job}
 use Rattle.tv_model.specs.Made.{Meaning}
 use Rattle.tv_model.specs.Meanings.{meaning}
-use Rattle.tv_model.specs.Members.{In}
 use Rattle.tv_model.proofs.Tests.{right_true, same_job_decides}
 use Rattle.tv_history.specs.Entries.{History, is_out}
 use Rattle.tv_history.specs.Histories.{is_running, is_settled}
@@ -27,10 +26,10 @@ use Rattle.tv_seats.specs.Seats.{Seat}
 use Rattle.tv_seats.specs.Stages.{is_out as seat_is_out, runs}
 use Rattle.tv_viewed.proofs.OwnDepths.{formed-flow}
 use Rattle.tv_seated.specs.Seated.{Sit}
+use Rattle.tv_seated.proofs.OfLists.{is-member, place-of}
 use Rattle.tv_standing.specs.Seats.{IsJobOf, is_over}
 use Rattle.tv_standing.specs.Stated.{AreCounted, CountsBySeats, IsCounted, IsToldBySeats}
 use Rattle.tv_standing.proofs.OfCounts.{ArePartnered, as-many}
-use Rattle.tv_standing.proofs.OfLists.{is-member, place-of}
 use Rattle.tv_standing.proofs.OfSeats.{name_at, names-apart, out-seat, running-seat, seat-job, settled-seat}
 use Rattle.tv_standing.proofs.OfStages.{out-is, over-is, runs-is}
 

@@ -1,5 +1,5 @@
 -- Laws of which job is offered, and which can bounce, by the seats.
-use Rattle.std.specs.Prelude.{Bool, List, Some, [], false, find, nat_lt, not, slice_get, true, ℕ, ◌&&◌, ◌||◌, ◌≡◌, ◌≤◌}
+use Rattle.std.specs.Prelude.{List, Some, false, find, nat_lt, not, slice_get, true, ℕ, ◌&&◌, ◌||◌, ◌≡◌, ◌≤◌}
 use Rattle.tv_value.specs.Orders.{named}
 use Rattle.tv_value.specs.Values.{Name}
 use Rattle.tv_gate.specs.Outcomes.{Giving}
@@ -45,10 +45,10 @@ OfferedBySeat =
 
 -- ---- the first
 
--- in this order of steps the first of the two stands nowhere behind the other
+-- in this order of steps k has a place before which l doesn't stand
 abbrev pub StandsNotBehind : List ℕ → ℕ → ℕ → Type 0
 StandsNotBehind order k l =
-    (i n : ℕ) → slice_get order i ≡ Some k → slice_get order n ≡ Some l → i ≤ n
+    (i : ℕ) × (slice_get order i ≡ Some k) × ((n : ℕ) → slice_get order n ≡ Some l → i ≤ n)
 
 -- the seat t doesn't come before s, with the steps by falling rank and those of a step by place
 pub record ComesNotBefore (v : View) (t s : Seat) : Type 0 where

@@ -1,5 +1,6 @@
 -- Laws of where the jobs of seats stand, and of their names.
-use Rattle.std.specs.Prelude.{Bool, List, Some, [], false, filter, map, slice_get, true, ℕ, ◌∷◌, ◌≡◌}
+use Rattle.std.specs.Prelude.{Bool, List, Some, [], false, filter, find, map, slice_get, true, ℕ, ◌∷◌, ◌≡◌}
+use Rattle.tv_value.specs.Orders.{same_job}
 use Rattle.tv_value.specs.Values.{JobName, Name}
 use Rattle.tv_gate.specs.Outcomes.{Giving}
 use Rattle.tv_flow.specs.Flows.{Document, Step}
@@ -81,6 +82,15 @@ pub record AreNamesOfJobs (gives : Giving) (d : Document) (past : History) (name
   pub ready :
       (j : Job) → In j (filter (is_ready (meaning gives d) past) (meaning gives d).jobs)
       → In j.name names
+
+-- the name of a number is its job's, and the job is found by its name
+pub record IsJobOfNumber (gives : Giving) (d : Document) (names : List JobName) (n : ℕ) (j : Job) : Type 0
+  where
+    pub named : slice_get names n ≡ Some j.name
+    pub found : find (λ i. same_job j.name i.name) (meaning gives d).jobs ≡ Some j
+
+abbrev pub JobsByNumbers : Type 0
+JobsByNumbers = AtEachSeat (λ gives d past levels v ss n s j. IsJobOfNumber gives d (names_by v ss) n j)
 
 abbrev pub NamesOfSeats : Type 0
 NamesOfSeats = InEveryRun (λ gives d past levels v ss. AreNamesOfJobs gives d past (names_by v ss))

@@ -2,7 +2,7 @@
 //! nothing.
 ghost use Rattle.tv_standing.specs.Offers.{BouncesBySeat, FirstOfferedBySeats, NoneBouncesBySeats, NoneOfferedBySeats, OfferedBySeat};
 ghost use Rattle.tv_standing.specs.Stated.{AreCounted, CountsBySeats, JobsHaveSeats, SeatsAreApart, SeatsHaveJobs, StepsOfSeats};
-ghost use Rattle.tv_standing.specs.States.{NamesOfSeats, StatesBySeats};
+ghost use Rattle.tv_standing.specs.States.{JobsByNumbers, NamesOfSeats, StatesBySeats};
 
 /// Each seat is that of a job of its step, each job that stands anywhere has a seat, and no two seats are
 /// one.
@@ -38,7 +38,9 @@ pub fn states_by_seats()
     ensures { StatesBySeats }
 {}
 
-/// The names of the seats' jobs differ, and those of all ready jobs are among them.
+/// The names of the seats' jobs differ, those of all ready jobs are among them, and by its name each job is
+/// found.
 pub fn names_of_seats()
-    ensures { NamesOfSeats }
+    ensures names { NamesOfSeats }
+    ensures jobs { JobsByNumbers }
 {}
