@@ -74,8 +74,7 @@ module _ (flows : List (Name × Flow)) (plan : FlowPlan) (pool : Nodes) (f : Fra
     frame-then = record {
       given = k.frame.given;
       legal = λ instance results d x.
-          let h = k.frame.legal instance results d x in
-          (
+          let h = k.frame.legal instance results d x in (
             record {
               fits = h.0.fits;
               sources = subst (λ (known : Origin → Bool). HasSources known (node_of (steps_with v instance results) (gave s q vs))) (λ i o. sym (taken-known instance s q es o) i) h.0.sources;

@@ -13,9 +13,10 @@ pub result-requires-clause-ready : goal.result-requires-clause-ready
 result-requires-clause-ready c =
     let r = c.requires.ready in
     let h = r.3 in
-    let s = r.2 in
-    (
-      r.0, with_event r.1 (took s.0 c.args.place.now) [], s,
+    let s = r.2 in (
+      r.0,
+      with_event r.1 (took s.0 c.args.place.now) [],
+      s,
       c.take.ensures.stays r.0 r.1 (s.0, c.args.place.now) c.args.step s (gave s.0 c.args.place.now (piece_values c.args.outputs)) h.ready h.job h.free,
     )
 
