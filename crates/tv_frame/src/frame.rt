@@ -68,7 +68,8 @@ impl Frame {
     /// The instance of a flow on its inputs, told nothing yet. Puts the flow's constants into cells. Known jobs are numbered
     /// from 0 in the order in which they become known. An instance of a flow without steps has ended at once.
     ///
-    /// Linear in the flow, and in the levels of the inputs that its ports walk.
+    /// Its nodes stand in a region that is new in the pool. Linear in the flow with its constants, and in the inputs, which are looked
+    /// through for faults.
     pub fn start(
         alloc: Global,
         plan: &FlowPlan,
@@ -81,6 +82,7 @@ impl Frame {
         ensures ok { IfOk result (λ f. (flows : List (Name × Flow))
             → CanStart flows plan.now (piece_values inputs)
             → Starts flows plan.now (piece_values inputs) pool.new f) }
+        ensures own { IfOk result (λ f. number_of f.region ≡ length pool.old.regions) }
         ensures kept { IfOk result (λ f. KeepsRegions pool.old pool.new (number_of f.region)) }
         ensures refused { OnErr result (SameRegions pool.old pool.new) }
     {

@@ -105,7 +105,7 @@ impl Frame {
     }
 
     /// The first ready job in job order, of those that stand after the given one: of the greatest rank, then with the least place.
-    /// Linear in the steps, and in the known jobs of `after`'s step that came out of order.
+    /// Linear in the steps, and in the jobs of `after`'s step that have gone or came out of order.
     pub fn first_ready(&self, plan: &FlowPlan, pool: &Nodes, after: Option<u64>) -> Option<u64>
         requires keeps { (flows : List (Name × Flow)) × (v : View)
             × Keeps flows plan.now pool.now self.now v }
@@ -213,7 +213,7 @@ impl Frame {
         }
     }
 
-    /// What a known job binds, port by port in byte order of their names. Linear in the ports, with a walk for each; no
+    /// What a known job binds, port by port in byte order of their names. Linear in the ports, with a walk for each, and for each part of a list that is bound; no
     /// value is copied.
     pub fn inputs(
         &self,

@@ -45,7 +45,7 @@ use tv_wires::Port;
 
 impl Frame {
     /// Takes all the room that `result` with these arguments needs, and answers how many jobs it will make known. It reads the
-    /// lengths of lists in the cells.
+    /// lengths of lists in the cells, and looks through the values for faults.
     pub fn room_for_result(
         &mut self,
         plan: &FlowPlan,
@@ -273,7 +273,7 @@ impl Frame {
     }
 
     /// Has the steps that are fed work the event ahead, and answers how many jobs will become known with it. Costs what they
-    /// are told, and the links of ports that turn whole.
+    /// are told, and where a step turns whole the links of the ports of the steps that it feeds.
     fn hold(
         &mut self,
         plan: &FlowPlan,

@@ -1,8 +1,13 @@
-use Rattle.std.proofs.Common.{subst, sym}
+use Rattle.std.proofs.Common.{ap, subst, sym, ◌∙◌}
+use Rattle.std.proofs.lemmas.Result.{IfOk-weaker}
 use Rattle.tv_pool.specs.Pool.{number_of}
 use Rattle.tv_nodes.specs.Calls.{KeepsRegions}
 use Rattle.tv_frame.proofs.OfRegions.{begun-keeps, if-both, on-err, released-same}
 use Rattle.tv_frame.proofs.frame.Frame.start.Goals as goal
+
+pub returns-in-Ok-start-clause-own : goal.returns-in-Ok-start-clause-own
+returns-in-Ok-start-clause-own c =
+    IfOk-weaker c.begun.result _ _ (λ f e. ap number_of e ∙ c.in-Ok.ensures.ok.number) c.begun.ensures.region
 
 pub returns-in-Ok-start-clause-kept : goal.returns-in-Ok-start-clause-kept
 returns-in-Ok-start-clause-kept c =
