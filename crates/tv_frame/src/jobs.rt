@@ -213,8 +213,8 @@ impl Frame {
         }
     }
 
-    /// What a known job binds, port by port in byte order of their names. Linear in the ports, with a walk for each, and for each part of a list that is bound; no
-    /// value is copied.
+    /// What a known job binds, port by port in byte order of their names. Linear in the ports, with a walk for each, and for each
+    /// part of a list that is bound; no value is copied.
     pub fn inputs(
         &self,
         alloc: Global,
