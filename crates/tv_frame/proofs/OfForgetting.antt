@@ -198,14 +198,14 @@ pub goes-alone : (flows : List (Name × Flow)) (plan : FlowPlan) (pool : Nodes) 
     → GoesOn flows plan pool g (with_event v (took s q) []) (gave s q vs) → GoesOn flows plan pool g v (gave s q vs)
 goes-alone flows plan pool g v s q vs (w, n, comes, brings, k) =
     let then : View = record w { events = gave s q vs ∷ v.events } in
-    (then, n, (comes-then, (brings-then, forgets flows plan pool g w s q vs v.events (subst (λ es. Keeps flows plan pool g (record w { events = es })) comes.events k))))
+    (then, n, comes-then, brings-then, forgets flows plan pool g w s q vs v.events (subst (λ es. Keeps flows plan pool g (record w { events = es })) comes.events k))
   where
     comes-then : Comes v (record w { events = gave s q vs ∷ v.events }) (gave s q vs) n
     comes-then = record {
       flow = comes.flow;
       inputs = comes.inputs;
       events = refl;
-      jobs = (comes.jobs.0, (comes.jobs.1.0 ∙ ap (λ js. js ++ comes.jobs.0) (append-nil v.jobs), comes.jobs.1.1));
+      jobs = (comes.jobs.0, comes.jobs.1 ∙ ap (λ js. js ++ comes.jobs.0) (append-nil v.jobs), comes.jobs.2);
     }
 
     brings-then : Brings v (gave s q vs) n

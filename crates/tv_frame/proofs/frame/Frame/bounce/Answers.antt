@@ -1,3 +1,4 @@
+use Rattle.std.proofs.Common.{[]}
 use Rattle.tv_cell.specs.PieceValues.{piece_values}
 use Rattle.tv_instance.specs.Events.{gave, took}
 use Rattle.tv_framing.specs.Frames.{with_event}
@@ -7,7 +8,7 @@ use Rattle.tv_frame.proofs.frame.Frame.bounce.Goals as goal
 pub take-requires : goal.take-requires
 take-requires c =
     let r = c.requires.ready in
-    (r.0, r.1, (r.2.0, c.args.place.now), r.3.ready.keeps, r.3.job, r.3.free)
+    record { ready = (r.0, r.1, (r.2.0, c.args.place.now), r.3.ready.keeps, r.3.job, r.3.free) }
 
 pub result-requires-clause-ready : goal.result-requires-clause-ready
 result-requires-clause-ready c =
