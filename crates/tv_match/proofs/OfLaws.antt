@@ -1,6 +1,7 @@
 -- The laws of matchers hold.
 use Rattle.std.specs.Prelude.{IsPermutation}
-use Rattle.std.proofs.Common.{◌≡◌, refl, suc, List, [], ◌∷◌, ◌++◌, map, length, take, drop, sym, ap, subst, ◌∙◌, arith, length-append}
+use Rattle.std.proofs.Common.{◌≡◌, ◌<◌, ◌≤◌, ◌⊎◌, inl, inr, refl, suc, List, [], ◌∷◌, ◌++◌, map, length, take, drop, sym, ap, subst, ◌∙◌, arith, length-append}
+use Rattle.std.proofs.lemmas.Bool.{cases_lt}
 use Rattle.std.proofs.lemmas.List.{take-append-drop}
 use Rattle.std.proofs.lemmas.List.Sorted.{IsPermutation-sym, IsPermutation-trans, length_permutation}
 use Rattle.tv_value.specs.Nested.{Place}
@@ -19,12 +20,13 @@ use Rattle.tv_matching.proofs.OfMatchers.{out-is_known}
 use Rattle.tv_matching.proofs.OfMembers.{in-left, in-permutes}
 use Rattle.tv_matching.proofs.Permutes.{flat-permutes}
 use Rattle.tv_match.specs.declared.matchers.Matcher.{Matcher}
-use Rattle.tv_match.specs.Entries.{front}
+use Rattle.tv_match.specs.Entries.{front, entry_at}
 use Rattle.tv_match.specs.Filed.{filed}
-use Rattle.tv_match.specs.Seen.{IsSound, in_order, matching, outcome_of}
-use Rattle.tv_match.specs.Stated.{AreTold, known_out, outcome_place, outcomes_at, StandOnce, SoundIsMatching, GivesOnlyKnown, GivesOnce, GivesAllKnown, MoreIsLeft, OrderIsKnown}
+use Rattle.tv_match.specs.Seen.{IsSound, in_order, matching, HasMore, outcome_of}
+use Rattle.tv_match.specs.Stated.{AreTold, known_out, outcome_place, outcomes_at, StandOnce, SoundIsMatching, GivesOnlyKnown, GivesOnce, GivesAllKnown, MoreIsLeft, OrderIsKnown, AllAtTheEnd}
+use Rattle.tv_match.proofs.Calls.{gave-all}
 use Rattle.tv_match.proofs.Faults.{given-first, given-long, all-in_order}
-use Rattle.tv_match.proofs.Fronts.{early-in_front}
+use Rattle.tv_match.proofs.Fronts.{early-in_front, late-behind, front-short}
 
 long-map : {A B : Type 0} (f : A → B) (xs : List A) → length (map f xs) ≡ length xs
 long-map f [] = refl
@@ -77,6 +79,33 @@ more-is_left m a more h =
     let q = length_permutation (in_order m) (all_out (matching m)) (all-follows m a) in
     let f = long-map outcome_of (front m.told m.out) in
     omega (arith, l, g, p, q, f)
+
+-- ---- nothing follows exactly where all that is known has come out
+
+none-ahead : (m : Matcher) → IsSound m → (HasMore m → ⊥) → length (front m.told m.out) ≤ m.given
+none-ahead m a h = by (cases_lt m.given (length m.out))
+  where
+    late :
+        m.given < length m.out
+        → (m.told < (entry_at m.out m.given).number) ⊎ ((entry_at m.out m.given).number ≤ m.told)
+        → length (front m.told m.out) ≤ m.given
+    late w (inl l) = late-behind m.told m.out m.given a.keeps.done.rise w l
+    late w (inr l) = absurd (h (w, l))
+
+    by : (m.given < length m.out) ⊎ (length m.out ≤ m.given) → length (front m.told m.out) ≤ m.given
+    by (inl w) = late w (cases_lt m.told (entry_at m.out m.given).number)
+    by (inr l) = let s = front-short m.told m.out in omega (arith, s, l)
+
+pub all-at_the_end : AllAtTheEnd
+all-at_the_end m a values t =
+    record {
+      all = λ h.
+          let g = gave-all (strategy_view m.tree) m.mismatch (filed m.root) m.log m.out m.told m.given a.keeps (none-ahead m a h) in
+          gives-all_known m a g values t;
+      end = λ h more.
+          let k = IsPermutation-trans _ _ _ (IsPermutation-sym _ _ (order-known m a values t)) (all-follows m a) in
+          more-is_left m a more (IsPermutation-trans _ _ _ h k);
+    }
 
 -- ---- no place has two
 

@@ -66,3 +66,14 @@ OrderIsKnown =
     (m : Matcher) → IsSound m
     → (take (length (matching m).given) (in_order m) ≡ (matching m).given)
     × ((values : Name → Value) → AreTold (matching m) values → IsPermutation (in_order m) (known_out (matching m) values))
+
+-- nothing follows exactly where what has come out is all that is known
+pub record EndsWithAll (m : Matcher) (values : Name → Value) : Type 0 where
+  pub all : (HasMore m → ⊥) → IsPermutation (matching m).given (known_out (matching m) values)
+  pub end : IsPermutation (matching m).given (known_out (matching m) values) → HasMore m → ⊥
+
+abbrev pub AllAtTheEnd : Type 0
+AllAtTheEnd =
+    (m : Matcher) → IsSound m
+    → (values : Name → Value) → AreTold (matching m) values
+    → EndsWithAll m values

@@ -1,5 +1,5 @@
 //! What holds of every matcher: each law is the clause of a function that does nothing.
-ghost use Rattle.tv_match.specs.Stated.{SoundIsMatching, GivesOnlyKnown, GivesOnce, GivesAllKnown, MoreIsLeft, OrderIsKnown};
+ghost use Rattle.tv_match.specs.Stated.{SoundIsMatching, GivesOnlyKnown, GivesOnce, GivesAllKnown, MoreIsLeft, OrderIsKnown, AllAtTheEnd};
 
 /// What a contract sees of a matcher is true of it, so the laws of `tv_matching` speak of every matcher.
 pub fn matchers()
@@ -14,4 +14,5 @@ pub fn what_has_come_out()
     ensures all { GivesAllKnown }
     ensures more { MoreIsLeft }
     ensures order { OrderIsKnown }
+    ensures end { AllAtTheEnd }
 {}
