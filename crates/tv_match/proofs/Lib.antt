@@ -18,5 +18,6 @@ pub mod AllMade
 pub mod Placing
 pub mod Unchanged
 pub mod FaultsAhead
+pub mod Cancelled
 pub mod OfLaws
 pub mod Scripts

@@ -1,8 +1,9 @@
 -- The laws of matchers hold.
 use Rattle.std.specs.Prelude.{IsPermutation}
-use Rattle.std.proofs.Common.{◌≡◌, refl, suc, List, [], ◌∷◌, ◌++◌, map, length, take, drop, sym, ap, subst, ◌∙◌, arith, length-append}
+use Rattle.std.proofs.Common.{◌≡◌, ◌<◌, ◌≤◌, ◌⊎◌, inl, inr, refl, suc, List, [], ◌∷◌, ◌++◌, map, length, take, drop, sym, ap, subst, ◌∙◌, arith, length-append}
+use Rattle.std.proofs.lemmas.Bool.{cases_lt}
 use Rattle.std.proofs.lemmas.List.{take-append-drop}
-use Rattle.std.proofs.lemmas.List.Sorted.{IsPermutation-sym, IsPermutation-trans, length_permutation}
+use Rattle.std.proofs.lemmas.List.Sorted.{IsPermutation-sym, IsPermutation-trans, IsPermutation-append_left, IsPermutation-map, length_permutation}
 use Rattle.tv_value.specs.Nested.{Place}
 use Rattle.tv_value.specs.Values.{Name, Value}
 use Rattle.tv_value.specs.Strategies.{Strategy}
@@ -11,20 +12,22 @@ use Rattle.tv_strategy.specs.Conditions.{number_of}
 use Rattle.tv_strategy.specs.Splits.{same_place}
 use Rattle.tv_matching.specs.Items.{Kind, ends, closes, passes, Item, if_so}
 use Rattle.tv_matching.specs.Members.{at_place, In}
-use Rattle.tv_matching.specs.Told.{Spot, matched_after}
+use Rattle.tv_matching.specs.Told.{Spot, Told, matched_after, added_after}
 use Rattle.tv_matching.specs.Matchers.{kind_out, out, all_out}
-use Rattle.tv_matching.proofs.Lists.{flat-append, flat-map, flat-same, map-flat, map-if}
-use Rattle.tv_matching.proofs.OfLaws.{matches-once}
+use Rattle.tv_matching.proofs.Lists.{flat-append, flat-map, flat-same, map-append, map-flat, map-if}
+use Rattle.tv_matching.proofs.OfLaws.{matches-once, tellings-add, tellings-in_any_order}
 use Rattle.tv_matching.proofs.OfMatchers.{out-is_known}
 use Rattle.tv_matching.proofs.OfMembers.{in-left, in-permutes}
 use Rattle.tv_matching.proofs.Permutes.{flat-permutes}
 use Rattle.tv_match.specs.declared.matchers.Matcher.{Matcher}
-use Rattle.tv_match.specs.Entries.{front}
+use Rattle.tv_match.specs.Entries.{front, entry_at}
 use Rattle.tv_match.specs.Filed.{filed}
-use Rattle.tv_match.specs.Seen.{IsSound, in_order, matching, outcome_of}
-use Rattle.tv_match.specs.Stated.{AreTold, known_out, outcome_place, outcomes_at, StandOnce, SoundIsMatching, GivesOnlyKnown, GivesOnce, GivesAllKnown, MoreIsLeft, OrderIsKnown}
+use Rattle.tv_match.specs.Seen.{IsSound, in_order, matching, HasMore, outcome_of}
+use Rattle.tv_match.specs.Stated.{AreTold, known_out, outcome_place, outcomes_at, StandOnce, SoundIsMatching, GivesOnlyKnown, GivesOnce, GivesAllKnown, MoreIsLeft, OrderIsKnown, AllAtTheEnd, AddedIsBehind}
+use Rattle.tv_match.proofs.Calls.{gave-all}
+use Rattle.tv_match.proofs.Cancelled.{front-off}
 use Rattle.tv_match.proofs.Faults.{given-first, given-long, all-in_order}
-use Rattle.tv_match.proofs.Fronts.{early-in_front}
+use Rattle.tv_match.proofs.Fronts.{early-in_front, late-behind, front-short}
 
 long-map : {A B : Type 0} (f : A → B) (xs : List A) → length (map f xs) ≡ length xs
 long-map f [] = refl
@@ -77,6 +80,56 @@ more-is_left m a more h =
     let q = length_permutation (in_order m) (all_out (matching m)) (all-follows m a) in
     let f = long-map outcome_of (front m.told m.out) in
     omega (arith, l, g, p, q, f)
+
+-- ---- nothing follows exactly where all that is known has come out
+
+none-ahead : (m : Matcher) → IsSound m → (HasMore m → ⊥) → length (front m.told m.out) ≤ m.given
+none-ahead m a h = by (cases_lt m.given (length m.out))
+  where
+    late :
+        m.given < length m.out
+        → (m.told < (entry_at m.out m.given).number) ⊎ ((entry_at m.out m.given).number ≤ m.told)
+        → length (front m.told m.out) ≤ m.given
+    late w (inl l) = late-behind m.told m.out m.given a.keeps.done.rise w l
+    late w (inr l) = absurd (h (w, l))
+
+    by : (m.given < length m.out) ⊎ (length m.out ≤ m.given) → length (front m.told m.out) ≤ m.given
+    by (inl w) = late w (cases_lt m.told (entry_at m.out m.given).number)
+    by (inr l) = let s = front-short m.told m.out in omega (arith, s, l)
+
+pub all-at_the_end : AllAtTheEnd
+all-at_the_end m a values t =
+    record {
+      all = λ h.
+          let g = gave-all (strategy_view m.tree) m.mismatch (filed m.root) m.log m.out m.told m.given a.keeps (none-ahead m a h) in
+          gives-all_known m a g values t;
+      end = λ h more.
+          let k = IsPermutation-trans _ _ _ (IsPermutation-sym _ _ (order-known m a values t)) (all-follows m a) in
+          more-is_left m a more (IsPermutation-trans _ _ _ h k);
+    }
+
+-- ---- what a telling adds is behind what followed before it
+
+added-follows :
+    (s : Strategy) (ts us : List Told) (t : Told) → IsPermutation us (ts ++ t ∷ [])
+    → IsPermutation (map (out s) (matched_after s us)) (map (out s) (matched_after s ts) ++ map (out s) (added_after s ts (t ∷ [])))
+added-follows s ts us t h =
+    subst (IsPermutation (map (out s) (matched_after s us))) (map-append (out s) (matched_after s ts) (added_after s ts (t ∷ [])))
+    (IsPermutation-map (out s) (matched_after s us) (matched_after s ts ++ added_after s ts (t ∷ []))
+    (IsPermutation-trans _ _ _ (tellings-in_any_order s us (ts ++ t ∷ []) h) (tellings-add s ts (t ∷ []))))
+
+pub added-is_behind : AddedIsBehind
+added-is_behind t m n a b h e =
+    let s = (matching m).strategy in
+    let added = map (out s) (added_after s (matching m).told (t ∷ [])) in
+    let more = drop (length (in_order m)) (in_order n) in
+    let parts : in_order n ≡ in_order m ++ more = sym (take-append-drop (length (in_order m)) (in_order n)) ∙ ap (λ l. l ++ more) e in
+    let follows = subst (λ r. IsPermutation (in_order n) (map (out r) (matched_after r (matching n).told))) h.strategy_is (all-follows n b) in
+    front-off (in_order m) more added
+    (subst (λ l. IsPermutation l (in_order m ++ added)) parts
+    (IsPermutation-trans _ _ _ follows
+    (IsPermutation-trans _ _ _ (added-follows s (matching m).told (matching n).told t h.told_is)
+    (IsPermutation-append_left added (all_out (matching m)) (in_order m) (IsPermutation-sym _ _ (all-follows m a))))))
 
 -- ---- no place has two
 

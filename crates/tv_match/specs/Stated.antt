@@ -1,5 +1,5 @@
 -- The laws of matchers: what has come out, said of the values that are delivered.
-use Rattle.std.specs.Prelude.{◌≡◌, ℕ, ◌+◌, ◌≤◌, List, map, flat_map, length, take, IsPermutation}
+use Rattle.std.specs.Prelude.{◌≡◌, ℕ, ◌+◌, ◌≤◌, List, [], ◌∷◌, map, flat_map, length, take, drop, IsPermutation}
 use Rattle.tv_value.specs.Nested.{Place}
 use Rattle.tv_value.specs.Values.{Name, Value, HasDepth}
 use Rattle.tv_strategy.specs.Conditions.{number_of}
@@ -8,8 +8,8 @@ use Rattle.tv_strategy.specs.Sources.{Each}
 use Rattle.tv_strategy.specs.Splits.{same_place}
 use Rattle.tv_matching.specs.Items.{if_so, known_items}
 use Rattle.tv_matching.specs.Members.{In}
-use Rattle.tv_matching.specs.Told.{IsTrueOf, labelled, node_told}
-use Rattle.tv_matching.specs.Matchers.{Outcome, job_at, list_at, fault_at, Matching, IsMatching, HasGivenAll, node_out}
+use Rattle.tv_matching.specs.Told.{Told, added_after, IsTrueOf, labelled, node_told}
+use Rattle.tv_matching.specs.Matchers.{Outcome, job_at, list_at, fault_at, Matching, IsMatching, HasGivenAll, IsTold, out, node_out}
 use Rattle.tv_match.specs.declared.matchers.Matcher.{Matcher}
 use Rattle.tv_match.specs.Seen.{IsSound, in_order, matching, HasMore}
 
@@ -66,3 +66,25 @@ OrderIsKnown =
     (m : Matcher) → IsSound m
     → (take (length (matching m).given) (in_order m) ≡ (matching m).given)
     × ((values : Name → Value) → AreTold (matching m) values → IsPermutation (in_order m) (known_out (matching m) values))
+
+-- nothing follows exactly where what has come out is all that is known
+pub record EndsWithAll (m : Matcher) (values : Name → Value) : Type 0 where
+  pub all : (HasMore m → ⊥) → IsPermutation (matching m).given (known_out (matching m) values)
+  pub end : IsPermutation (matching m).given (known_out (matching m) values) → HasMore m → ⊥
+
+abbrev pub AllAtTheEnd : Type 0
+AllAtTheEnd =
+    (m : Matcher) → IsSound m
+    → (values : Name → Value) → AreTold (matching m) values
+    → EndsWithAll m values
+
+-- where what followed before a telling stays in front, what the telling adds is behind it
+abbrev pub AddedIsBehind : Type 0
+AddedIsBehind =
+    (t : Told) (m n : Matcher) → IsSound m → IsSound n
+    → IsTold t (matching m) (matching n)
+    → take (length (in_order m)) (in_order n) ≡ in_order m
+    → let s = (matching m).strategy in
+    IsPermutation
+    (drop (length (in_order m)) (in_order n))
+    (map (out s) (added_after s (matching m).told (t ∷ [])))

@@ -1,5 +1,5 @@
 //! What holds of every matcher: each law is the clause of a function that does nothing.
-ghost use Rattle.tv_match.specs.Stated.{SoundIsMatching, GivesOnlyKnown, GivesOnce, GivesAllKnown, MoreIsLeft, OrderIsKnown};
+ghost use Rattle.tv_match.specs.Stated.{SoundIsMatching, GivesOnlyKnown, GivesOnce, GivesAllKnown, MoreIsLeft, OrderIsKnown, AllAtTheEnd, AddedIsBehind};
 
 /// What a contract sees of a matcher is true of it, so the laws of `tv_matching` speak of every matcher.
 pub fn matchers()
@@ -14,4 +14,11 @@ pub fn what_has_come_out()
     ensures all { GivesAllKnown }
     ensures more { MoreIsLeft }
     ensures order { OrderIsKnown }
+    ensures end { AllAtTheEnd }
+{}
+
+/// What a telling adds (`tv_matching`, `specs/Told.antt`) comes out behind all that followed before it, and nothing else is
+/// new, where what followed before stays in front, as each call says.
+pub fn what_a_telling_adds()
+    ensures { AddedIsBehind }
 {}

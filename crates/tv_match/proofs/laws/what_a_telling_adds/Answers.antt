@@ -1,0 +1,5 @@
+use Rattle.tv_match.proofs.OfLaws.{added-is_behind}
+use Rattle.tv_match.proofs.laws.what_a_telling_adds.Goals as goal
+
+pub returns : goal.returns
+returns c = added-is_behind
