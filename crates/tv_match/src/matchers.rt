@@ -141,7 +141,7 @@ impl Matcher {
         }
     }
 
-    /// A bound value that holds no fault has arrived, or a fault on the way there.
+    /// A bound value of which nobody says that it holds a fault has arrived, or a fault on the way there.
     ///
     /// Linear in what is new at the nodes of the strategy, and in the strategy, with a logarithm for each item in a dot. Constant
     /// for the next held telling. Where others are held, it copies all that is kept before.

@@ -3,7 +3,7 @@ use tv_value::{Place, Sequence};
 /// A telling.
 #[derive(Debug, Drop)]
 pub enum Told {
-    /// A bound value that holds no fault, or a fault on the way there.
+    /// A bound value of which nobody says that it holds a fault, or a fault on the way there.
     Arrival {
         leaf: u32,
         place: Place,
