@@ -5,10 +5,10 @@
 //! has the pieces. What a feed by numbers is found to deliver at a place stands in `specs/Found.antt`.
 //!
 //! **What it promises.** `feed_piece` gives a sound piece of exactly what is found; `job_inputs` those that the job at a place of
-//! a step's iteration binds, and `job_binds` tells without memory whether it binds given values; `flow_outputs` gives those of a flow's outputs (`specs/Jobs.antt`). `flow_outputs_over` gives the
-//! latter before the last event is shown in the trees (`specs/Over.antt`). `Constants` has exactly a flow's constants
-//! (`specs/Constants.antt`). `wrap` puts a piece into so many one-item lists, in which it stands at the first places. Want of
-//! memory is the one refusal.
+//! a step's iteration binds, and `job_binds` tells without memory whether it binds given values; `flow_outputs` gives those of a
+//! flow's outputs (`specs/Jobs.antt`), and `flow_outputs_over` the same before the last event is shown in the trees
+//! (`specs/Over.antt`). `Constants` has exactly a flow's constants (`specs/Constants.antt`). `wrap` puts a piece into so many
+//! one-item lists, in which it stands at the first places. Want of memory is the one refusal.
 //!
 //! **What follows** (`specs/Stated.antt`, `specs/Binding.antt`). Where the inputs are known and what is known of each output is
 //! so, what a feed is found to deliver at a place is what stands there in the value that it delivers in the end
