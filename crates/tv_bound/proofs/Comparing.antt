@@ -4,7 +4,7 @@ use Rattle.std.specs.Prelude.{◌↔◌, IsTrue, MatchOption, option_and_then, o
 use Rattle.std.proofs.lemmas.Bool.{cases_eq}
 use Rattle.std.proofs.lemmas.List.{length-map}
 use Rattle.std.proofs.lemmas.Option.{none-some, same_Some, slice_get_read}
-use Rattle.tv_value.specs.Nested.{Place, Tree, at, children, item_at, items, no_trees, tree, trees_of}
+use Rattle.tv_value.specs.Nested.{Place, children, item_at, items, no_trees, tree, trees_of}
 use Rattle.tv_value.specs.Values.{Name, Value, list_value}
 use Rattle.tv_value.specs.Views.{strategy_view, view}
 use Rattle.tv_value.specs.declared.value.Value.{Value as CodeValue}
@@ -165,21 +165,6 @@ single (w ∷ x ∷ ws) v e f = absurd (never (length ws) e)
   where
     never : (n : ℕ) → suc (suc n) ≡ 1 → ⊥
     never n e = omega arith
-
-got-at : (vs : List CodeValue) (i : ℕ) → item_at (trees_of (map view vs)) i ≡ option_map view (slice_get vs i)
-got-at [] i = refl
-got-at (v ∷ vs) zero = refl
-got-at (v ∷ vs) (suc i) = got-at vs i
-
--- what stands in a list stands in the item of the first index
-pub inside-at : (u : Value) (vs : List CodeValue) (q : Place) (i : ℕ) (r : Place) (o : Option CodeValue) → u ≡ list_value (trees_of (map view vs)) → q ≡ i ∷ r → o ≡ slice_get vs i → at u q ≡ option_and_then (λ x. at (view x) r) o
-inside-at u vs q i r o e f g =
-    ap (at u) f ∙ ap (λ t. at t (i ∷ r)) e ∙ ap (option_and_then (λ t. at t r)) (got-at vs i)
-    ∙ both (slice_get vs i) ∙ ap (option_and_then (λ x. at (view x) r)) (sym g)
-  where
-    both : (p : Option CodeValue) → option_and_then (λ t. at t r) (option_map view p) ≡ option_and_then (λ x. at (view x) r) p
-    both None = refl
-    both (Some x) = refl
 
 -- one less and one more
 pub less-more : (n : ℕ) → (n ≡ 0 → ⊥) → (n - 1) + 1 ≡ n

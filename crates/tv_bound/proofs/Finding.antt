@@ -11,22 +11,7 @@ use Rattle.tv_parts.specs.Below.{Values, Below, FirstBelow, EachBelow, value_in,
 use Rattle.tv_parts.proofs.Wholeness.{whole-is}
 use Rattle.tv_cell.proofs.OfSameness.{left, right, both}
 use Rattle.tv_outputs.specs.FoundIn.{found_in}
-
--- of nothing nothing is found
-pub found-none : (q : Place) (w : Value) → found_in q wanting ≡ Some w → ⊥
-found-none [] w h = cc
-found-none (i ∷ q) w h = cc
-
--- what is found at the top is the whole
-pub found-whole : (r : Partial Value) (w : Value) → found_in [] r ≡ Some w → (whole r ≡ true) × (value_in r ≡ w)
-found-whole r w h = by (whole r) refl h
-  where
-    by : (b : Bool) → whole r ≡ b → (if b then Some (value_in r) else None) ≡ Some w → (whole r ≡ true) × (value_in r ≡ w)
-    by true e k = (e, same_Some _ _ k)
-    by false e k = absurd (cc)
-
-whole-found : (r : Partial Value) → whole r ≡ true → found_in [] r ≡ Some (value_in r)
-whole-found r e = ap (λ b. if b then Some (value_in r) else None) e
+use Rattle.tv_outputs.proofs.Comparing.{found-none, found-whole, whole-found}
 
 mutual
   pub found-there : (q : Place) (r : Partial Value) (v w : Value) → Below r v → found_in q r ≡ Some w → at v q ≡ Some w

@@ -1,7 +1,5 @@
 //! Whether what a job binds is what is given, told without memory.
-ghost use Rattle.std.specs.Prelude.{◌≡◌, ◌↔◌, ◌+◌, ◌≤◌, ◌<◌, [], Some, drop, get_or, is_some, length, map, option_map, slice_get, take, IsTrue, MatchOption};
-ghost use Rattle.std.specs.Option.{option_copied};
-ghost use Rattle.tv_value.specs.Nested.{at};
+ghost use Rattle.std.specs.Prelude.{◌≡◌, ◌↔◌, ◌+◌, ◌≤◌, ◌<◌, [], Some, drop, get_or, is_some, length, map, option_map, take, IsTrue, MatchOption};
 ghost use Rattle.tv_value.specs.Readings.{length_limit};
 ghost use Rattle.tv_value.specs.Values.{Value as AValue};
 ghost use Rattle.tv_value.specs.Views.{view};
@@ -16,7 +14,7 @@ ghost use Rattle.tv_bound.specs.Sourced.{known_by, Stand, IsCounted};
 use crate::constants::Constants;
 use crate::jobs::StepPorts;
 use crate::sources::Sources;
-use tv_cell::{Cell, same_value};
+use tv_cell::{Cell, value_is_at};
 use tv_value::Value;
 use tv_wires::{NumberedFeed, NumberedLink, Port};
 
@@ -149,33 +147,10 @@ fn feed_is(
         NumberedFeed::Link(link) => link_is(sources, link, place, value),
         NumberedFeed::Merge(links) => merge_is(sources, links.as_slice(), place, value),
         NumberedFeed::Constant => match constant {
-            Some(cell) => part_is(cell.read(), place, value),
+            Some(cell) => value_is_at(cell.read(), place, value),
             None => false,
         },
     }
-}
-
-/// Whether what stands at a place of the first value is the second.
-fn part_is(first: &Value, place: &[u32], second: &Value) -> bool
-    ensures { IsTrue result ↔ (at (view first.now) place.now ≡ Some (view second.now)) }
-{
-    let Some((index, rest)) = place.split_first() else {
-        return same_value(first, second);
-    };
-    match first {
-        Value::Text(_) => false,
-        Value::List(items) => match item_of(items.as_slice(), *index) {
-            Some(item) => part_is(item, rest, second),
-            None => false,
-        },
-        Value::Fault(_) => false,
-    }
-}
-
-fn item_of(items: &[Value], index: u32) -> Option<&Value>
-    ensures { option_copied result ≡ slice_get items.now index }
-{
-    items.get(index as usize)
 }
 
 /// Whether the value is what a link delivers at a place.

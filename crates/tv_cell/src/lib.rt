@@ -35,5 +35,5 @@ pub use assembly::assemble;
 pub use cell::Cell;
 pub use piece::{Piece, Pieces};
 pub use row::Row;
-pub use same::same_value;
+pub use same::{same_value, value_is_at};
 pub use threads::SentAndShared;

@@ -135,8 +135,9 @@ impl Piece {
     }
 }
 
-/// Whether what stands at a place of the first value is the second.
-fn value_is_at(first: &Value, place: &[u32], second: &Value) -> bool
+/// Whether what stands at a place of the first value is the second. Linear in the place and in what the two have in common. Takes
+/// no memory.
+pub fn value_is_at(first: &Value, place: &[u32], second: &Value) -> bool
     ensures { result ≡ is_at (view first.now) place.now (view second.now) }
 {
     match place {

@@ -1,4 +1,4 @@
-use Rattle.std.proofs.Common.{ℕ, ◌-◌, ap, sym, ◌∙◌, map, refl}
+use Rattle.std.proofs.Common.{◌-◌, ap, sym, ◌∙◌, map}
 use Rattle.std.proofs.lemmas.List.{length-map}
 use Rattle.tv_value.specs.Nested.{trees_of}
 use Rattle.tv_value.specs.Values.{list_value}

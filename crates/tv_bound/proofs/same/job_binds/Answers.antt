@@ -1,15 +1,13 @@
-use Rattle.std.proofs.Common.{◌≡◌, ◌<◌, ◌≤◌, ◌+◌, List, Option, Some, None, drop, length, map, take, is_some, get_or, sym, ap, ◌∙◌, subst}
-use Rattle.std.specs.Prelude.{◌↔◌, IsTrue, option_map, slice_index_or}
+use Rattle.std.proofs.Common.{◌≡◌, ◌<◌, ◌≤◌, ◌+◌, Some, drop, length, map, take, is_some, sym, ap, ◌∙◌, subst}
+use Rattle.std.specs.Prelude.{◌↔◌, IsTrue, option_map}
 use Rattle.std.proofs.lemmas.List.{length-map}
 use Rattle.std.proofs.lemmas.Option.{get_or_from_slice_get, slice_get_within}
-use Rattle.tv_value.specs.Values.{Value}
 use Rattle.tv_value.specs.Views.{strategy_view, view}
 use Rattle.tv_strategy.specs.Conditions.{number_of}
 use Rattle.tv_strategy.specs.Splits.{split}
 use Rattle.tv_naming.specs.Naming.{numbered}
 use Rattle.tv_naming.proofs.OfTold.{length-numbered}
 use Rattle.tv_outputs.proofs.Comparing.{told-no, told-yes, value-at}
-use Rattle.tv_wires.specs.declared.ports.Port.{Port}
 use Rattle.tv_bound.specs.Constants.{constant_of_port, constants_view}
 use Rattle.tv_bound.specs.Delivered.{wrapped_value}
 use Rattle.tv_bound.specs.Found.{feed_found}
