@@ -14,6 +14,7 @@ ghost use Rattle.tv_outputs.specs.Known.{Nodes as TheNodes, depths, known};
 ghost use Rattle.tv_outputs.specs.Kept.{Stand};
 ghost use Rattle.tv_framing.specs.Answers.{AreOutputs, has_ended_now};
 ghost use Rattle.tv_framing.specs.Views.{View};
+ghost use Rattle.tv_turn.specs.FirstReady.{by_falling_rank};
 ghost use Rattle.tv_frame.specs.Kept.{AreOuts, Keeps};
 ghost use Rattle.tv_frame.specs.Calls.{CanStart, SameRegions, Starts};
 ghost use Rattle.tv_frame.specs.Started.{AreFirstOuts, AreParts};
@@ -168,6 +169,14 @@ impl Frame {
             → Keeps flows plan pool self.now v → result ≡ has_ended_now (levels_in v.flow) v }
     {
         self.outs.is_some()
+    }
+
+    /// The steps of its flow by number, that of the greatest rank first.
+    pub fn order(&self) -> &[u32]
+        ensures { (flows : List (Name × Flow)) (plan : ThePlan) (pool : TheNodes) (v : View)
+            → Keeps flows plan pool self.now v → result.now ≡ by_falling_rank v.flow }
+    {
+        self.tables.order.as_slice()
     }
 
     /// The flow's outputs, once the instance has ended.

@@ -1,0 +1,3 @@
+pub mod OfPasts
+pub mod OfNames
+pub mod OfTotals

@@ -1,0 +1,10 @@
+pub mod Runs
+pub mod RunCodes
+pub mod Answers
+pub mod Calls
+pub mod Settlements
+pub mod Recalls
+pub mod Idle
+pub mod Declarations
+pub mod Refusals
+pub mod Counted

@@ -1,0 +1,99 @@
+-- What the stage of a seat tells of the state of its job after a history, and of whether a try is out.
+use Rattle.std.specs.Option.{option_map_or}
+use Rattle.std.specs.Prelude.{◌≡◌, refl, ℕ, ◌==◌, ◌&&◌, Bool, true, false, if◌then◌else◌, None, Option, Some, is_some}
+use Rattle.std.proofs.Common.{eq-eqb, eqb-true, sym, ◌∙◌}
+use Rattle.tv_value.specs.Values.{Name}
+use Rattle.tv_gate.specs.Outcomes.{Giving}
+use Rattle.tv_flow.specs.Flows.{Document}
+use Rattle.tv_dispatch.specs.Jobs.{Ask}
+use Rattle.tv_model.specs.Jobs.{Job}
+use Rattle.tv_model.specs.Made.{Meaning}
+use Rattle.tv_model.proofs.Tests.{true≠false}
+use Rattle.tv_history.specs.Entries.{History, is_out}
+use Rattle.tv_history.specs.Histories.{has_open_instance, is_ask, is_ready, is_running, next_ask}
+use Rattle.tv_history.proofs.Tests.{same_tests}
+use Rattle.tv_framing.specs.Views.{View}
+use Rattle.tv_seats.specs.Stages.{is_waiting}
+use Rattle.tv_seats.specs.declared.stage.Stage.{Stage}
+use Rattle.tv_seats.specs.declared.stage.Stage.TheVariants as stage
+use Rattle.tv_seated.specs.Seated.{IsStage}
+use Rattle.tv_standing.specs.States.{StandsAt}
+use Rattle.tv_entries.specs.Calls.{idle_state, last_activity, out_state, state_after, try_out}
+use Rattle.tv_entries.specs.declared.ticket.JobState.{JobState}
+use Rattle.tv_entries.specs.declared.ticket.JobState.TheVariants as state
+use Rattle.tv_run.specs.Looks.{is_at}
+
+-- the state that a stage tells; of a waiting job, by whether it is ready
+abbrev pub state_by : Stage → Bool → JobState
+state_by stage.Waiting b = if b then state.Ready else state.Waiting
+state_by (stage.Out a t) b = state.Out a t
+state_by (stage.Idle a t) b = state.Idle a t
+state_by stage.Settled b = state.Settled
+
+-- the state by its tests
+abbrev by_tests : Bool → Bool → Bool → Bool → Bool → JobState → JobState → JobState
+by_tests settled out nested runs ready when_out when_idle =
+    if settled then state.Settled
+    else (if out then when_out
+    else (if nested then state.Nested
+    else (if runs then when_idle
+    else (if ready then state.Ready else state.Waiting))))
+
+module _ (gives : Giving) (d : Document) (m : Meaning) (past : History) (levels : Name → ℕ) (v : View) (n : Name)
+    (j : Job) where
+  abbrev ready_now : Bool
+  ready_now = is_ready m past j
+
+  pub state-is : (x : Stage) → StandsAt gives d past levels v n j x → state_after m past j ≡ state_by x ready_now
+  state-is stage.Waiting w =
+      λ i. by_tests (w.unsettled i) (w.out i) (w.nothing_open i) (w.running i) ready_now (out_state m past j)
+      (idle_state m past j)
+  state-is (stage.Out a t) w =
+      (λ i. by_tests (w.unsettled i) (w.out i) (w.nothing_open i) (w.running i) ready_now
+      (option_map_or (λ k. state.Out k.activity k.attempt) (w.next.is_next i) state.Waiting) (idle_state m past j))
+      ∙ (λ i. state.Out (w.next.activity i) (w.next.attempt i))
+  state-is (stage.Idle a t) w =
+      (λ i. by_tests (w.unsettled i) (w.out i) (w.nothing_open i) (w.running i) ready_now (out_state m past j)
+      (idle_by (w.next.is_next i)))
+      ∙ (λ i. state.Idle (w.next.activity i) (w.next.attempt i))
+    where
+      idle_by : Option Ask → JobState
+      idle_by o = option_map_or (λ k. state.Idle k.activity k.attempt) o (state.Idle (last_activity j.asks) 0)
+  state-is stage.Settled w =
+      λ i. by_tests (w i) (is_out past j.name) (has_open_instance past j) (is_running past j) ready_now
+      (out_state m past j) (idle_state m past j)
+
+  -- whether a try is out
+  not-out : (a t : ℕ) → is_out past j.name ≡ false → false ≡ is_some (try_out m past a t j)
+  not-out a t h =
+      sym
+      (λ i. is_some (if h i && option_map_or (is_ask a t) (next_ask past j) false then next_ask past j else None))
+
+  pub out-is : (a t : ℕ) (x : Stage) → IsStage past j x → StandsAt gives d past levels v n j x
+      → is_at (Some x) a t ≡ is_some (try_out m past a t j)
+  out-is a t stage.Waiting h w = not-out a t h.2
+  out-is a t (stage.Out b u) h w =
+      sym
+      (
+      (λ i. is_some
+      (if w.out i && option_map_or (is_ask a t) (w.next.is_next i) false then w.next.is_next i else None))
+      ∙ some-if (is_ask a t w.next.ask) w.next.ask
+      ∙ (λ i. a == w.next.activity i && t == w.next.attempt i)
+      ∙ (λ i. eqb-turned a b i && eqb-turned t u i)
+      )
+    where
+      some-if : (c : Bool) (k : Ask) → is_some (if c then Some k else None) ≡ c
+      some-if true k = refl
+      some-if false k = refl
+
+      eqb-turned : (k l : ℕ) → (k == l) ≡ (l == k)
+      eqb-turned k l =
+          same_tests (k == l) (l == k) (λ e. eq-eqb l k (sym (eqb-true k l e))) (λ e. eq-eqb k l (sym (eqb-true l k e)))
+  out-is a t (stage.Idle b u) h w = not-out a t h.2
+  out-is a t stage.Settled h w = not-out a t h.1
+
+pub waits-alone : (x : Stage) → is_waiting x ≡ true → x ≡ stage.Waiting
+waits-alone stage.Waiting h = refl
+waits-alone (stage.Out a t) h = absurd (true≠false (sym h))
+waits-alone (stage.Idle a t) h = absurd (true≠false (sym h))
+waits-alone stage.Settled h = absurd (true≠false (sym h))

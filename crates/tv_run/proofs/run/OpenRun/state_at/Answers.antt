@@ -1,0 +1,21 @@
+use Rattle.std.proofs.Common.{Some, ◌∙◌, ap, sym}
+use Rattle.tv_seats.specs.declared.stage.Stage.TheVariants as stage
+use Rattle.tv_run.proofs.OfStates.{state-at}
+use Rattle.tv_run.proofs.run.OpenRun.state_at.Goals as goal
+
+pub returns-in-Out : goal.returns-in-Out
+returns-in-Out c = λ gives s.
+    sym
+    (state-at gives c.args.self.now s.0 s.1 s.2 c.args.job (stage.Out c.in-Out.activity c.in-Out.attempt)
+    (c.requires.seat ∙ ap Some c.in-Out.is)).1
+
+pub returns-in-Idle : goal.returns-in-Idle
+returns-in-Idle c = λ gives s.
+    sym
+    (state-at gives c.args.self.now s.0 s.1 s.2 c.args.job (stage.Idle c.in-Idle.activity c.in-Idle.attempt)
+    (c.requires.seat ∙ ap Some c.in-Idle.is)).1
+
+pub returns-in-Settled : goal.returns-in-Settled
+returns-in-Settled c = λ gives s.
+    sym
+    (state-at gives c.args.self.now s.0 s.1 s.2 c.args.job stage.Settled (c.requires.seat ∙ ap Some c.in-Settled.is)).1

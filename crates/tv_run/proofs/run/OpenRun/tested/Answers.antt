@@ -1,0 +1,32 @@
+use Rattle.std.proofs.Common.{◌∙◌, subst, sym}
+use Rattle.tv_entries.specs.Answers.{question}
+use Rattle.tv_run.specs.Accepting.{IsAnswerTo}
+use Rattle.tv_run.specs.Standing.{run_of}
+use Rattle.tv_run.proofs.OfAsked.{none-there}
+use Rattle.tv_run.proofs.OfKeptFrames.{with-stands}
+use Rattle.tv_run.proofs.run.OpenRun.tested.Goals as goal
+
+pub returns-then-not-is_out : goal.returns-then-not-is_out
+returns-then-not-is_out c = λ gives s. (
+  none-there _ (sym (c.is_out.ensures.out gives s) ∙ c.if-not-is_out.true),
+  c.state_of.ensures gives s,
+)
+
+pub asks-requires : goal.asks-requires
+asks-requires c =
+    with-stands c.args.self.now _ c.requires
+    (λ gives es v st. (gives, (es, v, st), sym (c.is_out.ensures.out gives (es, v, st)) ∙ c.if-not-is_out.false))
+
+pub returns-then-asks : goal.returns-then-asks
+returns-then-asks c = λ gives s.
+    subst
+    (IsAnswerTo gives (run_of c.args.self.now)
+    (question c.args.ticket c.args.service.now c.args.inputs.now c.args.outputs.now))
+    c.if-asks.true (c.asks.ensures gives s (sym (c.is_out.ensures.out gives s) ∙ c.if-not-is_out.false))
+
+pub returns-else-asks : goal.returns-else-asks
+returns-else-asks c = λ gives s.
+    subst
+    (IsAnswerTo gives (run_of c.args.self.now)
+    (question c.args.ticket c.args.service.now c.args.inputs.now c.args.outputs.now))
+    c.if-asks.false (c.asks.ensures gives s (sym (c.is_out.ensures.out gives s) ∙ c.if-not-is_out.false))

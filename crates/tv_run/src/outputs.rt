@@ -1,0 +1,132 @@
+//! What a run gives once it is done, and its totals so far.
+ghost use Rattle.std.specs.Option.{option_map_or};
+ghost use Rattle.std.specs.List.{zip};
+ghost use Rattle.std.specs.Prelude.{◌≡◌, IfOk, count_by, false, length, map, true};
+ghost use Rattle.tv_value.specs.Views.{view};
+ghost use Rattle.tv_flow.specs.Views.{each};
+ghost use Rattle.tv_gate.specs.Outcomes.{Giving};
+ghost use Rattle.tv_strategy.specs.Origins.{plain};
+ghost use Rattle.tv_cell.specs.PieceValues.{piece_values};
+ghost use Rattle.tv_cell.specs.Soundness.{AreSound};
+ghost use Rattle.tv_model.specs.TotalsViews.{totals_view};
+ghost use Rattle.tv_history.specs.Histories.{is_done};
+ghost use Rattle.tv_entries.specs.Calls.{totals_so_far};
+ghost use Rattle.tv_entries.specs.Counted.{is_acceptance, is_bounce};
+ghost use Rattle.tv_entries.specs.Runs.{meant, past_of};
+ghost use Rattle.tv_run.specs.Standing.{run_of};
+ghost use Rattle.tv_standing.specs.Seats.{is_over};
+ghost use Rattle.tv_run.specs.Turns.{StandsStill};
+
+use crate::run::OpenRun;
+use std::alloc::Global;
+use tv_cell::{Piece, assemble};
+use tv_entries::Entry;
+use tv_flow::Feed;
+use tv_model::Totals;
+use tv_seats::{Seats, Stage};
+use tv_value::{Copied, Name, NoMemory, Sequence, Value};
+
+/// The values of pieces, with the names of a flow's outputs.
+fn named_values(
+    alloc: Global,
+    names: &[(Name, Feed)],
+    pieces: &[Piece],
+) -> Result<Sequence<(Name, Value)>, NoMemory>
+    requires sound { AreSound pieces.now }
+    requires many { length pieces.now ≡ length names.now }
+    ensures { IfOk result (λ os. each view os ≡ zip (map (λ n. n.0) names.now) (piece_values pieces.now)) }
+{
+    let mut values = Vec::with_capacity(alloc, pieces.len())?;
+    for (index, piece) in pieces.iter().enumerate() {
+        let name = names[index].0.copy(alloc)?;
+        let value = assemble(alloc, piece)?;
+        values.push((name, value))?;
+    }
+    Ok(Sequence::of(values))
+}
+
+fn is_acceptance(entry: &Entry) -> bool
+    ensures { result ≡ is_acceptance entry.now }
+{
+    match entry {
+        Entry::Accepted { .. } => true,
+        _ => false,
+    }
+}
+
+fn is_bounce(entry: &Entry) -> bool
+    ensures { result ≡ is_bounce entry.now }
+{
+    match entry {
+        Entry::Bounced { .. } => true,
+        _ => false,
+    }
+}
+
+/// How many outcomes were accepted.
+fn count_accepted(entries: &[Entry]) -> usize
+    ensures { result ≡ count_by is_acceptance entries.now }
+{
+    entries.iter().filter(|entry| is_acceptance(entry)).count()
+}
+
+/// How many jobs were bounced.
+fn count_bounced(entries: &[Entry]) -> usize
+    ensures { result ≡ count_by is_bounce entries.now }
+{
+    entries.iter().filter(|entry| is_bounce(entry)).count()
+}
+
+fn is_settled(stage: Option<Stage>) -> bool
+    ensures { result ≡ option_map_or is_over stage false }
+{
+    match stage {
+        Some(Stage::Settled) => true,
+        _ => false,
+    }
+}
+
+/// How many jobs are settled. Linear in the seats.
+fn count_settled(seats: &Seats) -> u64
+    ensures { result ≡ count_by (λ s. is_over s.stage) seats.now.seats }
+{
+    let mut count = 0;
+    for number in 0..seats.len() {
+        if is_settled(seats.stage(number)) {
+            count += 1;
+        }
+    }
+    count
+}
+
+impl OpenRun {
+    /// The outputs of a run that is done.
+    pub fn outputs(&self) -> Result<Sequence<(Name, Value)>, NoMemory>
+        requires { (gives : Giving) × StandsStill gives self.now × (is_done (past_of (run_of self.now)) ≡ true) }
+        ensures { IfOk result (λ os. (gives : Giving) → StandsStill gives self.now → is_done (past_of (run_of self.now)) ≡ true → each view os ≡ map (λ o. (o.0, plain o.1)) (meant gives (run_of self.now)).outputs) }
+    {
+        match self.frame.outputs() {
+            Some(pieces) => {
+                named_values(
+                    self.alloc,
+                    self.plan().flow.outputs.as_slice(),
+                    pieces.as_slice(),
+                )
+            }
+            None => unreachable!(),
+        }
+    }
+
+    /// The totals of the history so far.
+    pub fn totals(&self) -> Totals
+        ensures { (gives : Giving) → StandsStill gives self.now → totals_view result ≡ totals_so_far gives (run_of self.now) }
+    {
+        let entries = self.entries.as_slice();
+        Totals {
+            attempts: count_accepted(entries) as u64,
+            bounced: count_bounced(entries) as u64,
+            failed: self.failed,
+            jobs: count_settled(&self.seats),
+        }
+    }
+}
