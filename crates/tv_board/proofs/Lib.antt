@@ -1,22 +1,3 @@
-pub mod Same
-pub mod OfPasts
-pub mod OfNumbering
-pub mod OfQuiet
-pub mod OfRecalls
-pub mod OfKept
-pub mod OfStates
-pub mod OfOffers
-pub mod Looks
-pub mod Standing
-pub mod OfFlat
-pub mod OfIdle
-pub mod OfSteps
-pub mod OfSettling
-pub mod OfOutputs
-pub mod OfDeclared
-pub mod OfTasks
-pub mod OfNumbers
-pub mod OfRight
-pub mod OfAccepting
-pub mod OfTotals
-pub mod OfBoards
+mod OfGiven
+mod OfCalls
+mod OfAnswers

@@ -1,81 +1,16 @@
--- What becomes of an answer that is to be accepted.
-use Rattle.std.specs.Option.{option_map_or}
-use Rattle.std.specs.Prelude.{Bool, List, None, false, is_ok, map, true, ℕ, ◌&&◌, ◌≡◌}
-use Rattle.tv_value.specs.Orders.{same_name}
-use Rattle.tv_value.specs.Values.{Name, Value}
+-- What becomes of an answer that isn't accepted.
+use Rattle.std.specs.Prelude.{Err, Ok, Result, ◌≡◌}
 use Rattle.tv_gate.specs.Outcomes.{Giving, Outcome}
 use Rattle.tv_gate.specs.Views.{outcome_view}
 use Rattle.tv_gate.specs.declared.services.Services.{Ghosts}
-use Rattle.tv_dispatch.specs.Jobs.{Ask, judged}
-use Rattle.tv_dispatch.specs.declared.judgment.Verdict.{Verdict}
-use Rattle.tv_dispatch.specs.declared.judgment.Verdict.TheVariants as verdict
-use Rattle.tv_history.specs.Histories.{is_settled}
-use Rattle.tv_whole.specs.Sameness.{same_values}
-use Rattle.tv_board.specs.Answers.{Question, question}
-use Rattle.tv_board.specs.Calls.{IsOther, IsTask, job_of, state_of, try_if_out}
-use Rattle.tv_board.specs.Runs.{Appends, Run, past_of}
+use Rattle.tv_entries.specs.Answers.{Question, question}
+use Rattle.tv_entries.specs.Calls.{IsOther, IsTask}
+use Rattle.tv_entries.specs.Refusals.{IsNotOut}
+use Rattle.tv_entries.specs.Runs.{Run}
+use Rattle.tv_entries.specs.declared.told.Accepted.{Accepted}
 use Rattle.tv_board.specs.declared.answer.Answer.{Answer}
-use Rattle.tv_board.specs.declared.accepting.Accepted.{Accepted}
-use Rattle.tv_board.specs.declared.accepting.Accepted.TheVariants as accepted
-use Rattle.tv_board.specs.declared.accepting.Refused.{Refused}
-use Rattle.tv_board.specs.declared.accepting.Refused.TheVariants as refused
-use Rattle.tv_board.specs.declared.accepting.Tested.{Tested}
-use Rattle.tv_board.specs.declared.accepting.Tested.TheVariants as tested
-use Rattle.tv_board.specs.declared.entry.Entry.{Entry}
-use Rattle.tv_board.specs.declared.entry.Entry.TheVariants as entry
-use Rattle.tv_board.specs.declared.ticket.JobState.{JobState}
-use Rattle.tv_board.specs.declared.ticket.Ticket.{Ticket}
-
--- ---- whether it answers what is asked
-
--- an answer for this service, these inputs and these declared depths answers this ask
-abbrev pub answers : Ask → Name → List Value → List ℕ → Bool
-answers a s vs ds = same_name s a.service && (same_values vs a.inputs && same_name ds a.outputs)
-
--- the try isn't out, and where its job stands
-abbrev pub IsNotOut : Giving → Run → Ticket → JobState → Type 0
-IsNotOut gives r t s = (try_if_out gives r t ≡ None) × (s ≡ state_of gives r t.job)
-
-abbrev pub IsTested : Giving → Run → Question → Tested → Type 0
-IsTested gives r q (tested.NotOut s) = IsNotOut gives r q.ticket s
-IsTested gives r q tested.Other = IsOther gives r q
-IsTested gives r q tested.Asked = IsTask gives r q
-
--- ---- acceptance
-
-abbrev pub is_right : Question → Outcome → Bool
-is_right q o = is_ok (judged (map (λ p. p.1) q.outputs) o)
-
-abbrev pub accepts : Ticket → Bool → Entry
-accepts t right = entry.Accepted t.job t.activity t.attempt right
-
--- the outcome of a task was accepted, and was right or not
-pub record WasAccepted (gives : Giving) (old new : Run) (q : Question) (o : Outcome) (good : Bool) : Type 0 where
-  pub task : IsTask gives old q
-  pub right : good ≡ is_right q o
-  pub appends : Appends old new (accepts q.ticket good)
-
-abbrev pub is_right_verdict : Verdict → Bool
-is_right_verdict verdict.Right = true
-is_right_verdict (verdict.Wrong why) = false
-
--- what became of the job, by whether it is settled and whether the outcome was right
-abbrev pub accepted_if : Bool → Bool → Accepted
-accepted_if true good = accepted.Settled good
-accepted_if false good = accepted.Again
-
--- the job of a number is settled
-abbrev pub is_settled_job : Giving → Run → ℕ → Bool
-is_settled_job gives r k = option_map_or (is_settled (past_of r)) (job_of gives r k) false
-
--- it goes on only where the outcome wasn't right
-abbrev pub IsAccepting : Giving → Run → Run → Question → Outcome → Accepted → Type 0
-IsAccepting gives old new q o accepted.Again =
-    WasAccepted gives old new q o false × (is_settled_job gives new q.ticket.job ≡ false)
-IsAccepting gives old new q o (accepted.Settled good) =
-    WasAccepted gives old new q o good × (is_settled_job gives new q.ticket.job ≡ true)
-
--- ---- refusals
+use Rattle.tv_board.specs.declared.refused.Refused.{Refused}
+use Rattle.tv_board.specs.declared.refused.Refused.TheVariants as refused
 
 module _ {V : Type 0} {services : Ghosts V} where
   abbrev pub answered : Answer V services → Question
@@ -90,3 +25,8 @@ module _ {V : Type 0} {services : Ghosts V} where
   IsRefused gives r q o (refused.NotOut a s) = IsBack q o a × IsNotOut gives r q.ticket s
   IsRefused gives r q o (refused.OtherInputs a) = IsBack q o a × IsOther gives r q
   IsRefused gives r q o (refused.NoMemory a) = IsBack q o a × IsTask gives r q
+
+  -- what became of a job, or for want of memory its answer
+  abbrev pub told_or_back : {E : Type 0} → Result Accepted E → Answer V services → Result Accepted (Refused V services)
+  told_or_back (Ok a) x = Ok a
+  told_or_back (Err e) x = Err (refused.NoMemory x)

@@ -3,12 +3,13 @@ ghost use Rattle.std.specs.Prelude.{true, ◌≡◌, IfOk, OnErr, OnOk};
 ghost use Rattle.tv_gate.specs.Calls.{IsCalled};
 ghost use Rattle.tv_gate.specs.Views.{outcome_view};
 ghost use Rattle.tv_value.specs.Views.{values_view};
-ghost use Rattle.tv_board.specs.Answers.{IsSameOrCalled, question};
+ghost use Rattle.tv_board.specs.Asked.{IsSameOrCalled};
 ghost use Rattle.tv_board.specs.Given.{is_given};
+ghost use Rattle.tv_entries.specs.Answers.{question};
 
-use crate::ticket::{Task, Ticket};
 use std::alloc::Global;
 use std::marker::PhantomData;
+use tv_entries::{Task, Ticket};
 use tv_gate::{Asker, Gate, Outcome, Services};
 use tv_value::{Depths, Items, Name, NoMemory};
 

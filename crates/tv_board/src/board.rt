@@ -1,89 +1,83 @@
-//! The type of boards, how they start, and what is read off them.
-ghost use Rattle.std.specs.Prelude.{◌≡◌, [], IfOk, slice_get, true};
+//! The type of boards, and its calls.
+ghost use Rattle.std.specs.Prelude.{◌≡◌, [], IfErr, IfOk, IsOk, MatchOption, OnErr, OnOk, Some, map, slice_get, true};
+ghost use Rattle.tv_value.specs.Views.{view};
+ghost use Rattle.tv_flow.specs.Views.{each};
+ghost use Rattle.tv_gate.specs.Views.{outcome_view};
+ghost use Rattle.tv_flow.specs.Formed.{is_formed};
+ghost use Rattle.tv_strategy.specs.Origins.{plain};
 ghost use Rattle.tv_check.specs.RunViews.{run_view};
+ghost use Rattle.tv_model.specs.Totals as model;
+ghost use Rattle.tv_model.specs.TotalsViews.{totals_view};
 ghost use Rattle.tv_history.specs.Histories.{is_done};
-ghost use Rattle.tv_outcomes.specs.Agreed.{ready};
-ghost use Rattle.tv_whole.specs.WholeViews.{whole_view};
-ghost use Rattle.tv_board.specs.Flat.{opens_nothing};
-ghost use Rattle.tv_board.specs.Numbering.{numbering};
-ghost use Rattle.tv_board.specs.Runs.{IsLegalRun, past_of};
-ghost use Rattle.tv_board.specs.States.{IsStateOf};
+ghost use Rattle.tv_entries.specs.Answers.{question};
+ghost use Rattle.tv_entries.specs.Calls.{IsNothingOffered, IsTask, IsTaskFault, hands_out, out_count, totals_so_far};
+ghost use Rattle.tv_entries.specs.Declarations.{declared_for};
+ghost use Rattle.tv_going.specs.Flat.{opens_nothing};
+ghost use Rattle.tv_entries.specs.Idle.{AreIdle};
+ghost use Rattle.tv_board.specs.Refusals.{IsRefused, answered, told_or_back};
+ghost use Rattle.tv_entries.specs.Refusals.{IsAccepting};
+ghost use Rattle.tv_entries.specs.Runs.{Appends, IsLegalRun, meant, past_of};
+ghost use Rattle.tv_entries.specs.Settlements.{IsSettling};
+ghost use Rattle.tv_entries.specs.Recalls.{IsRecalled};
 
-use crate::appending::state_of;
-use crate::entry::Entry;
-use crate::numbers::unnumbered;
+use crate::answer::Answer;
+use crate::refused::Refused;
 use std::alloc::Global;
 use std::marker::{Model, PhantomData};
 use tv_check::CheckedRun;
+use tv_entries::{Accepted, Entry, Task, TaskFault, Tested, Ticket};
 use tv_gate::Services;
-use tv_state::{Event, State};
-use tv_value::{Copied, JobName, NoMemory, Sequence};
-use tv_whole::{KnownCalls, Whole, whole};
+use tv_model::Totals;
+use tv_run::OpenRun;
+use tv_value::{JobName, Name, NoMemory, Sequence, Value};
 
 /// A run: a document with the history of what was done for it.
-///
-/// It is plain on purpose: the meaning by the known calls is worked out anew with each outcome, and each test reads the whole
-/// history.
 #[derive(Drop)]
 pub struct Board<V: Services> {
-    pub(crate) alloc: Global,
-    pub(crate) run: CheckedRun,
-    pub(crate) known: KnownCalls,
-    pub(crate) whole: Whole,
-    pub(crate) names: Vec<JobName>,
-    pub(crate) events: Vec<Event>,
-    pub(crate) entries: Vec<Entry>,
-    pub(crate) services: PhantomData<V>,
+    run: OpenRun,
+    services: PhantomData<V>,
 }
 
 impl<V: Services> Model for Board<V> {
-    ghost use Rattle.tv_board.specs.Runs.{Run};
-    ghost use Rattle.tv_board.specs.RunCodes.{coded_run};
-    ghost use Rattle.tv_board.specs.contracts.entry.Entry as entry_type;
+    ghost use Rattle.tv_entries.specs.Runs.{Run};
+    ghost use Rattle.tv_entries.specs.RunCodes.{coded_run};
+    ghost use Rattle.tv_entries.specs.contracts.entry.Entry as entry_type;
 
     ghost Value = { Run };
 
     ghost coded = { coded_run entry_type.the_row.coded };
 
-    ghost use Rattle.tv_check.specs.RunViews.{run_view};
-    ghost use Rattle.tv_board.specs.Kept.{IsBoard, run_of};
+    ghost use Rattle.tv_run.specs.Standing.{run_of};
+    ghost use Rattle.tv_run.specs.Turns.{StandsStill};
 
-    ghost view = { λ b. run_of (run_view b.run) b.names.items b.entries.items };
+    ghost view = { λ b. run_of b.run };
 
-    ghost invariant = { λ b. IsBoard V.gives (run_view b.run) b.known b.whole b.names b.events b.entries };
+    ghost invariant = { λ b. StandsStill V.gives b.run };
 }
 
-/// The names of the jobs that are ready at the start.
-fn first_names(alloc: Global, whole: &Whole) -> Result<Vec<JobName>, NoMemory>
-    ensures { IfOk result (λ names. names.items ≡ numbering [] (ready (whole_view whole.now) [])) }
+/// What became of a job, or for want of memory its answer, given back.
+fn told_or_back<V: Services>(
+    told: Result<Accepted, NoMemory>,
+    answer: Answer<V>,
+) -> Result<Accepted, Refused<V>>
+    ensures { result ≡ told_or_back told answer }
 {
-    let names = Vec::new(alloc);
-    let events = Vec::new(alloc);
-    let first = unnumbered(alloc, &state_of(whole, names.as_slice(), events.as_slice()))?;
-    Ok(first)
+    match told {
+        Ok(accepted) => Ok(accepted),
+        Err(_) => Err(Refused::NoMemory { answer }),
+    }
 }
 
 impl<V: Services> Board<V> {
-    /// A run of which nothing is done. It works out the meaning once, and then whether each job is ready.
+    /// A run of which nothing is done. Linear in the main flow and in the values given.
     pub fn start(alloc: Global, run: CheckedRun) -> Result<Board<V>, NoMemory>
         requires { opens_nothing (run_view run) ≡ true }
         ensures document { IfOk result (λ b. b.document ≡ run_view run) }
         ensures empty { IfOk result (λ b. b.entries ≡ []) }
         ensures legal { IfOk result (λ b. IsLegalRun V.gives b) }
     {
-        let known = Sequence::empty(alloc);
-        let whole = whole(alloc, &known, run.document())?;
-        let names = first_names(alloc, &whole)?;
-        let events = Vec::with_capacity(alloc, names.len())?;
-        let entries = Vec::with_capacity(alloc, names.len())?;
         Ok(Board {
-            alloc,
-            run,
-            known,
-            whole,
-            names,
-            events,
-            entries,
+            run: OpenRun::start(alloc, run)?,
             services: PhantomData,
         })
     }
@@ -93,30 +87,126 @@ impl<V: Services> Board<V> {
         ensures history { result.now ≡ self.now.entries }
         ensures legal { IsLegalRun V.gives self.now }
     {
-        self.entries.as_slice()
+        self.run.history()
     }
 
     /// The name of a job; `None` where no job has that number. Linear in the name.
     pub fn name_of(&self, job: u64) -> Result<Option<JobName>, NoMemory>
         ensures { IfOk result (λ name. name ≡ slice_get self.now.names job) }
     {
-        match self.names.as_slice().get(job as usize) {
-            Some(name) => Ok(Some(name.copy(self.alloc)?)),
-            None => Ok(None),
-        }
+        self.run.name_of(job)
     }
 
-    /// Whether the run is done: the main instance has ended. Linear in the history.
+    /// Whether the run is done: the main instance has ended. Constant.
     pub fn is_done(&self) -> bool
         ensures { result ≡ is_done (past_of self.now) }
     {
-        self.state().is_done()
+        self.run.is_done()
     }
 
-    /// What the tests read.
-    pub(crate) fn state(&self) -> State<'_>
-        ensures { IsStateOf V.gives self.now result }
+    /// Every board is of a document that was read, and has a legal history. The call does nothing.
+    pub fn is_lawful(&self)
+        ensures formed { is_formed self.now.document ≡ true }
+        ensures legal { IsLegalRun V.gives self.now }
     {
-        state_of(&self.whole, self.names.as_slice(), self.events.as_slice())
+        self.run.is_lawful();
+    }
+
+    /// Bounces a job that can be, or else closes a list or passes a fault that can be, or else ends the run where it can
+    /// end; `false` where none of these can be.
+    pub fn settle_one(&mut self) -> Result<bool, NoMemory>
+        ensures settled { IfOk result (λ b. IsSettling V.gives self.old self.new b) }
+        ensures refused { OnErr result (self.new ≡ self.old) }
+        ensures legal { IsLegalRun V.gives self.new }
+    {
+        if self.run.is_done() {
+            return Ok(false);
+        }
+        self.run.settle_one()
+    }
+
+    /// Hands out the first try on offer, in job order; `None` where none is. Takes no memory.
+    pub fn hand_out(&mut self) -> Option<Ticket>
+        ensures ticket { MatchOption result ((self.new ≡ self.old) × IsNothingOffered V.gives self.old) (λ t. Appends self.old self.new (hands_out t)) }
+        ensures names { self.new.names ≡ self.old.names }
+        ensures legal { IsLegalRun V.gives self.new }
+    {
+        if self.run.is_done() {
+            return None;
+        }
+        self.run.hand_out()
+    }
+
+    /// Takes back all tries that are out, and tells how many. They are on offer again. Takes no memory where none is out.
+    pub fn recall_all(&mut self) -> Result<u64, NoMemory>
+        ensures count { IfOk result (λ n. n ≡ out_count V.gives self.old) }
+        ensures recalled { IfOk result (λ n. IsRecalled self.old self.new n) }
+        ensures names { self.new.names ≡ self.old.names }
+        ensures idle { OnOk result (AreIdle V.gives self.old self.new) }
+        ensures none_out { OnOk result (out_count V.gives self.new ≡ 0) }
+        ensures quiet { out_count V.gives self.old ≡ 0 → IsOk result }
+        ensures refused { OnErr result (self.new ≡ self.old) }
+        ensures legal { IsLegalRun V.gives self.new }
+    {
+        if self.run.is_done() {
+            return Ok(0);
+        }
+        self.run.recall_all()
+    }
+
+    /// What a ticket asks, where its try is out. Linear in the inputs.
+    pub fn task(&self, ticket: &Ticket) -> Result<Task, TaskFault>
+        ensures task { IfOk result (λ t. IsTask V.gives self.now (question t.ticket t.service t.inputs t.outputs) × (t.ticket ≡ ticket.now)) }
+        ensures outputs { IfOk result (λ t. declared_for V.gives self.now t.ticket.job ≡ Some t.outputs) }
+        ensures fault { IfErr result (λ f. IsTaskFault V.gives self.now ticket.now f) }
+    {
+        if !self.run.is_out(ticket) {
+            return Err(TaskFault::NotOut(self.run.state_of(ticket.job)));
+        }
+        match self.run.task_of(*ticket) {
+            Ok(task) => Ok(task),
+            Err(_) => Err(TaskFault::NoMemory),
+        }
+    }
+
+    /// Accepts an answer where its try is out and it is what the try asks: the outcome is judged, and the job goes on or is
+    /// settled.
+    pub fn accept(&mut self, answer: Answer<V>) -> Result<Accepted, Refused<V>>
+        ensures accepted { IfOk result (λ a. IsAccepting V.gives self.old self.new (answered answer) (outcome_view answer.outcome) a) }
+        ensures refused { IfErr result (λ r. IsRefused V.gives self.old (answered answer) (outcome_view answer.outcome) r) }
+        ensures unchanged { OnErr result (self.new ≡ self.old) }
+        ensures legal { IsLegalRun V.gives self.new }
+    {
+        match self.run.tested(
+            answer.ticket,
+            &answer.service,
+            &answer.inputs,
+            &answer.outputs,
+        ) {
+            Tested::NotOut(state) => Err(Refused::NotOut { answer, state }),
+            Tested::Other => Err(Refused::OtherInputs { answer }),
+            Tested::Asked => {
+                let told = self.run.accept(answer.ticket, &answer.outcome);
+                told_or_back(told, answer)
+            }
+        }
+    }
+
+    /// The outputs of a run that is done: those that the document means by the services, in the order of the flow's outputs.
+    /// Linear in them.
+    pub fn outputs(&self) -> Result<Sequence<(Name, Value)>, NoMemory>
+        requires { is_done (past_of self.now) ≡ true }
+        ensures { IfOk result (λ os. each view os ≡ map (λ o. (o.0, plain o.1)) (meant V.gives self.now).outputs) }
+    {
+        self.run.outputs()
+    }
+
+    /// The totals of the history so far: its accepted outcomes and bounced jobs, and of the settled jobs how many there are
+    /// and how many of them have failed. Linear in the history. Takes no memory.
+    pub fn totals(&self) -> Totals
+        ensures so_far { totals_view result ≡ totals_so_far V.gives self.now }
+        ensures done { is_done (past_of self.now) ≡ true → totals_view result ≡ model.totals (meant V.gives self.now).jobs }
+    {
+        self.run.totals()
     }
 }

@@ -3,7 +3,7 @@ ghost use Rattle.std.specs.Prelude.{◌≡◌, map};
 ghost use Rattle.std.specs.List.{list_all};
 ghost use Rattle.tv_flow.specs.DocumentViews.{document_view};
 ghost use Rattle.tv_flow.specs.Views.{activity_view, each, flow_view, step_view};
-ghost use Rattle.tv_board.specs.Flat.{is_service, only_services, opens_nothing};
+ghost use Rattle.tv_going.specs.Flat.{is_service, only_services, opens_nothing};
 
 use tv_flow::{Activity, Document, Flow, Step};
 use tv_value::Name;

@@ -13,7 +13,7 @@ use Rattle.tv_check.specs.Passes.{checked}
 use Rattle.tv_check.specs.RunViews.{run_view}
 use Rattle.tv_check.specs.declared.run.CheckedRun.{CheckedRun}
 use Rattle.tv_io.specs.ReadOf.{IsReadWhole}
-use Rattle.tv_board.specs.Flat.{opens_nothing}
+use Rattle.tv_going.specs.Flat.{opens_nothing}
 use Rattle.tv_top.specs.Words.{Command, run, check, trace}
 use Rattle.tv_top.specs.Answers.{Answer, StatusLine, always, answer_of, answer_to, answer_to_reading, byte_limit, json_of, reading_of, reading_of_json, unless_complaint, unless_misformed}
 use Rattle.tv_top.specs.Asked.{GivesAnswer, GivesRun, line_of, refusal_line, refusal_status}

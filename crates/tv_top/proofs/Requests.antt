@@ -8,7 +8,7 @@ use Rattle.tv_gate.specs.Outcomes.{Giving}
 use Rattle.tv_flow.specs.Flows.{Document}
 use Rattle.tv_model.specs.Meanings.{meaning}
 use Rattle.tv_model.specs.Turns.{ask_order}
-use Rattle.tv_board.specs.Flat.{opens_nothing}
+use Rattle.tv_going.specs.Flat.{opens_nothing}
 use Rattle.tv_work.specs.Asked.{call_of}
 use Rattle.tv_top.specs.Words.{Command, run, check, trace}
 use Rattle.tv_top.specs.Answers.{Answer, Reading, StatusLine, always, answer_of, answer_to, answer_to_reading, reading_of}

@@ -12,7 +12,7 @@ use Rattle.tv_model.specs.Made.{Meaning}
 use Rattle.tv_model.specs.Meanings.{meaning}
 use Rattle.tv_model.specs.Turns.{ask_order}
 use Rattle.tv_history.specs.Tries.{NamedTry}
-use Rattle.tv_board.specs.Runs.{Run, meant}
+use Rattle.tv_entries.specs.Runs.{Run, meant}
 use Rattle.tv_report.specs.TraceLines.{accepted_jobs}
 use Rattle.tv_work.specs.Asked.{accepted_tries}
 use Rattle.tv_work.specs.InOrder.{AcceptsInOrder, ask_of_try}

@@ -13,7 +13,7 @@ use Rattle.tv_check.specs.Passes.{checked}
 use Rattle.tv_model.specs.Meanings.{meaning}
 use Rattle.tv_model.specs.Results.{result_line}
 use Rattle.tv_model.specs.Turns.{ask_order}
-use Rattle.tv_board.specs.Flat.{opens_nothing}
+use Rattle.tv_going.specs.Flat.{opens_nothing}
 use Rattle.tv_report.specs.FormLines.{form_text}
 use Rattle.tv_report.specs.CheckLines.{check_text}
 use Rattle.tv_report.specs.DepthLines.{depth_text}

@@ -7,7 +7,7 @@ use Rattle.tv_flow.specs.Flows.{Document}
 use Rattle.tv_model.specs.Meanings.{meaning}
 use Rattle.tv_model.specs.Turns.{ask_order}
 use Rattle.tv_history.specs.Alone.{IsFirstPart}
-use Rattle.tv_board.specs.Flat.{opens_nothing}
+use Rattle.tv_going.specs.Flat.{opens_nothing}
 use Rattle.tv_work.specs.Asked.{call_of}
 use Rattle.tv_top.specs.Words.{Command, run, check, trace}
 use Rattle.tv_top.specs.Answers.{Reading, StatusLine, reading_of, answer_of}

@@ -4,7 +4,7 @@ ghost use Rattle.tv_check.specs.RunViews.{run_view};
 ghost use Rattle.tv_model.specs.Meanings.{meaning};
 ghost use Rattle.tv_model.specs.Results.{result_line};
 ghost use Rattle.tv_model.specs.Turns.{ask_order};
-ghost use Rattle.tv_board.specs.Flat.{opens_nothing};
+ghost use Rattle.tv_going.specs.Flat.{opens_nothing};
 ghost use Rattle.tv_report.specs.TraceLines.{trace_text};
 ghost use Rattle.tv_work.specs.Asked.{call_of};
 ghost use Rattle.tv_top.specs.Answers.{answer_to};

@@ -28,9 +28,9 @@ const BYTE_LIMIT: usize = 1 << 24;
 /// `Done`, the status's line to `err`.
 ///
 /// The answer is a function of the words and the bytes, for the services of the asker's type. Nothing is written to
-/// `out` before all of it is made. `check` takes near linear time in the document. A run goes over a plain board
-/// (`tv_board`), which works out again and again where it stands: beside what the services take, its time grows with about
-/// the cube of its jobs, and with the size of the values.
+/// `out` before all of it is made. `check` takes near linear time in the document. A run goes over a board (`tv_board`):
+/// beside what the services take, its time grows in proportion to its jobs and to the size of the values, with a look at each
+/// step of the main flow for each try and each thing that is settled.
 pub fn taverna_alone<S: Source, K: Sink, E: Sink, A: Asker>(
     alloc: Global,
     words: &[String],

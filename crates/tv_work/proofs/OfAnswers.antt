@@ -21,12 +21,11 @@ use Rattle.tv_history.specs.Entries.{History, is_out}
 use Rattle.tv_history.specs.Histories.{asks_left, is_ask, is_at, is_legal, is_legal_after, is_right, next_ask, same_bool}
 use Rattle.tv_history.specs.Tries.{key_of}
 use Rattle.tv_history.proofs.Running.{AreJobs}
-use Rattle.tv_state.specs.EventViews.{name_at}
-use Rattle.tv_board.specs.Answers.{Question}
-use Rattle.tv_board.specs.Calls.{IsTask, job_of, try_out}
-use Rattle.tv_board.specs.Refusals.{accepts}
-use Rattle.tv_board.specs.Runs.{Appends, IsLegalRun, Run, meant, past_of}
-use Rattle.tv_board.proofs.OfPasts.{name-more}
+use Rattle.tv_entries.specs.Runs.{Appends, IsLegalRun, Run, meant, name_at, past_of}
+use Rattle.tv_entries.specs.Answers.{Question}
+use Rattle.tv_entries.specs.Calls.{IsTask, job_of, try_out}
+use Rattle.tv_entries.specs.Refusals.{accepts}
+use Rattle.tv_entries.proofs.OfPasts.{name-more}
 use Rattle.tv_work.specs.Asked.{AsksEach, accepted_tries, call_for, call_of}
 use Rattle.tv_work.proofs.OfAsked.{tries-after}
 use Rattle.tv_work.proofs.OfNames.{one-newer}

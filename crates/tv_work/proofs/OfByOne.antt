@@ -21,13 +21,12 @@ use Rattle.tv_history.specs.Alone.{is_by_one, is_by_one_after, nobody_out}
 use Rattle.tv_history.specs.Entries as history
 use Rattle.tv_history.specs.Entries.{History, is_out}
 use Rattle.tv_history.specs.Histories.{can_bounce, can_end, can_open, can_settle, can_settle_more, instances, is_ask, is_at, is_legal_after, is_offered, next_ask}
-use Rattle.tv_state.specs.EventViews.{name_at}
-use Rattle.tv_board.specs.Calls.{NothingSettles, Settles, hands_out, is_settlement, settles}
-use Rattle.tv_board.specs.Refusals.{accepts}
-use Rattle.tv_board.specs.Runs.{Appends, IsLegalRun, Run, instances_of, meant, past_of, with_names}
-use Rattle.tv_board.specs.declared.entry.Entry.{Entry}
-use Rattle.tv_board.specs.declared.entry.Entry.TheVariants as entry
-use Rattle.tv_board.specs.declared.ticket.Ticket.{Ticket}
+use Rattle.tv_entries.specs.Runs.{Appends, IsLegalRun, Run, instances_of, meant, name_at, past_of, with_names}
+use Rattle.tv_entries.specs.Calls.{NothingSettles, Settles, hands_out, is_settlement, settles}
+use Rattle.tv_entries.specs.Refusals.{accepts}
+use Rattle.tv_entries.specs.declared.entry.Entry.{Entry}
+use Rattle.tv_entries.specs.declared.entry.Entry.TheVariants as entry
+use Rattle.tv_entries.specs.declared.ticket.Ticket.{Ticket}
 use Rattle.tv_work.specs.ByOne.{StaysByOne}
 use Rattle.tv_work.specs.Working.{IsFree}
 use Rattle.tv_work.proofs.OfEnds.{none-out}

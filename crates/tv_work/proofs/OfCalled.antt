@@ -5,14 +5,14 @@ use Rattle.std.proofs.lemmas.List.{append-nil}
 use Rattle.tv_gate.specs.Outcomes.{Giving, Outcome}
 use Rattle.tv_flow.specs.Flows.{Document}
 use Rattle.tv_history.specs.Alone.{IsFirstPart}
-use Rattle.tv_board.specs.Answers.{Question}
-use Rattle.tv_board.specs.Calls.{hands_out}
-use Rattle.tv_board.specs.Refusals.{IsAccepting, WasAccepted, accepts, is_right}
-use Rattle.tv_board.specs.Runs.{Appends, IsLegalRun, Run}
-use Rattle.tv_board.specs.Steps.{recalls}
-use Rattle.tv_board.specs.declared.accepting.Accepted.{Accepted}
-use Rattle.tv_board.specs.declared.accepting.Accepted.TheVariants as accepted
-use Rattle.tv_board.specs.declared.entry.Entry.{Entry}
+use Rattle.tv_entries.specs.Answers.{Question}
+use Rattle.tv_entries.specs.Calls.{hands_out}
+use Rattle.tv_entries.specs.Refusals.{IsAccepting, WasAccepted, accepts, is_right}
+use Rattle.tv_entries.specs.Runs.{Appends, IsLegalRun, Run}
+use Rattle.tv_entries.specs.Recalls.{recalls}
+use Rattle.tv_entries.specs.declared.told.Accepted.{Accepted}
+use Rattle.tv_entries.specs.declared.told.Accepted.TheVariants as accepted
+use Rattle.tv_entries.specs.declared.entry.Entry.{Entry}
 use Rattle.tv_work.specs.Called.{AreCalls, AreEntriesOf, Call, IsCall, IsEntryOf, IsMadeBy, IsStart, accept, hand_out, recall_all, settle_one}
 
 -- the same run with these entries behind the others

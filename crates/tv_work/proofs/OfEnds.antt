@@ -4,7 +4,7 @@ use Rattle.std.specs.Prelude.{[], false, nat_le, refl, true, ◌&&◌, ◌+◌, 
 use Rattle.std.proofs.Common.{ap, sym, ◌∙◌}
 use Rattle.std.proofs.lemmas.Bool.{leb-true}
 use Rattle.tv_outcomes.proofs.Read.{named-pass}
-use Rattle.tv_board.proofs.OfTotals.{accepted-told}
+use Rattle.tv_entries.proofs.OfTotals.{accepted-told}
 use Rattle.tv_history.proofs.Counts.{uncounted}
 use Rattle.tv_lemmas.proofs.Cases.{on_test}
 use Rattle.tv_gate.specs.Outcomes.{Giving}
@@ -23,8 +23,8 @@ use Rattle.tv_history.specs.Histories.{is_ask, is_at, is_done, is_legal_after, i
 use Rattle.tv_history.proofs.Progress.{progress}
 use Rattle.tv_history.proofs.Sums.{done-as_meant}
 use Rattle.tv_history.proofs.Tests.{found_in}
-use Rattle.tv_board.specs.Calls.{IsNothingOffered, NothingSettles}
-use Rattle.tv_board.specs.Runs.{Run, meant, past_of}
+use Rattle.tv_entries.specs.Calls.{IsNothingOffered, NothingSettles}
+use Rattle.tv_entries.specs.Runs.{Run, meant, past_of}
 use Rattle.tv_work.specs.Working.{IsFree, IsWorkedOff}
 
 -- every step of a document that was read has a place

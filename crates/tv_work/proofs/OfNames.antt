@@ -10,10 +10,10 @@ use Rattle.tv_flow.specs.Flows.{Document}
 use Rattle.tv_check.specs.Steps.{spot}
 use Rattle.tv_model.proofs.Tests.{both_true, left_true, right_true}
 use Rattle.tv_history.specs.Entries as history
-use Rattle.tv_board.specs.Runs.{Appends, IsLegalRun, Run, all_have_numbers, has_numbers, instances_of, opened_by, opened_number, past_of, step_name, with_names}
-use Rattle.tv_board.specs.declared.entry.Entry.{Entry}
-use Rattle.tv_board.specs.declared.entry.Entry.TheVariants as entry
-use Rattle.tv_board.proofs.OfPasts.{name-more}
+use Rattle.tv_entries.specs.Runs.{Appends, IsLegalRun, Run, all_have_numbers, has_numbers, instances_of, opened_by, opened_number, past_of, step_name, with_names}
+use Rattle.tv_entries.specs.declared.entry.Entry.{Entry}
+use Rattle.tv_entries.specs.declared.entry.Entry.TheVariants as entry
+use Rattle.tv_entries.proofs.OfPasts.{name-more}
 use Rattle.tv_work.proofs.OfRuns.{before, map-reverse, named, newest}
 
 -- ---- numbers

@@ -12,7 +12,7 @@ use Rattle.tv_gate.specs.Outcomes.{Giving}
 use Rattle.tv_dispatch.specs.Jobs.{Ask}
 use Rattle.tv_flow.specs.Flows.{Document}
 use Rattle.tv_flow.specs.Formed.{is_formed}
-use Rattle.tv_model.specs.Turns.{asks_of}
+use Rattle.tv_model.specs.Turns.{ask_order, asks_of}
 use Rattle.tv_model.specs.Jobs.{Job}
 use Rattle.tv_model.specs.Lists.{rest_of}
 use Rattle.tv_model.specs.Made.{Meaning}
@@ -22,7 +22,6 @@ use Rattle.tv_model.proofs.Members.{of-flat, any-in}
 use Rattle.tv_model.proofs.Order.{in-append, of-map}
 use Rattle.tv_model.proofs.Ordered.{flow-ordered}
 use Rattle.tv_model.proofs.Tests.{both_true, same_job_decides, true≠false}
-use Rattle.tv_model.specs.Turns.{ask_order}
 use Rattle.tv_history.specs.Alone.{IsFirstPart, is_by_one}
 use Rattle.tv_history.specs.Entries as history
 use Rattle.tv_history.specs.Entries.{History, is_out}
@@ -31,9 +30,9 @@ use Rattle.tv_history.specs.Tries.{NamedTry, all_tries, ask_try}
 use Rattle.tv_history.proofs.InOrder.{done-in_order, in-order}
 use Rattle.tv_history.proofs.Running.{AreJobs}
 use Rattle.tv_outcomes.proofs.Read.{documents-have_activities}
-use Rattle.tv_board.specs.Answers.{Question}
-use Rattle.tv_board.specs.Calls.{IsTask}
-use Rattle.tv_board.specs.Runs.{IsLegalRun, Run, meant, past_of}
+use Rattle.tv_entries.specs.Answers.{Question}
+use Rattle.tv_entries.specs.Calls.{IsTask}
+use Rattle.tv_entries.specs.Runs.{IsLegalRun, Run, meant, past_of}
 use Rattle.tv_work.specs.Asked.{AreAsksOf, AsksABeginning, AsksAtMostOneMore, AsksEach, AsksInOrder, accepted_tries, call_for, call_of}
 use Rattle.tv_work.specs.ByOne.{IsByOne, StaysByOne}
 use Rattle.tv_work.specs.InOrder.{HasOnlySettled}

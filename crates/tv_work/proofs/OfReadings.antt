@@ -14,7 +14,7 @@ use Rattle.tv_model.specs.Turns.{ask_order}
 use Rattle.tv_history.specs.Alone.{IsFirstPart}
 use Rattle.tv_history.specs.Tries.{ask_try}
 use Rattle.tv_history.proofs.Running.{AreJobs}
-use Rattle.tv_board.specs.Runs.{Run, meant, past_of}
+use Rattle.tv_entries.specs.Runs.{Run, meant, past_of}
 use Rattle.tv_work.specs.Asked.{AreAsksOf, accepted_tries}
 use Rattle.tv_work.specs.InOrder.{AcceptsABeginning, AcceptsInOrder, ask_of_try}
 use Rattle.tv_work.specs.Working.{IsWorkedOff}

@@ -6,8 +6,8 @@ use Rattle.std.proofs.Common.{ap, arith, subst, sym, ◌∙◌}
 use Rattle.std.proofs.lemmas.Bool.{lt-ltb}
 use Rattle.std.proofs.lemmas.List.{append_assoc, map-append, reverse-append}
 use Rattle.std.proofs.lemmas.List.Sums.{sum_by_push, sum_by-append}
-use Rattle.tv_board.proofs.OfPasts.{name-more}
-use Rattle.tv_board.proofs.OfTotals.{count-told}
+use Rattle.tv_entries.proofs.OfPasts.{name-more}
+use Rattle.tv_entries.proofs.OfTotals.{count-told}
 use Rattle.tv_value.specs.Orders.{same_job}
 use Rattle.tv_value.specs.Values.{JobName, Name}
 use Rattle.tv_gate.specs.Outcomes.{Giving}
@@ -26,11 +26,10 @@ use Rattle.tv_history.specs.Histories.{is_ask, is_at, is_legal, is_legal_after, 
 use Rattle.tv_history.proofs.Ready.{are-jobs, document-whole}
 use Rattle.tv_history.proofs.Running.{AreJobs}
 use Rattle.tv_history.proofs.Tests.{found_in}
-use Rattle.tv_state.specs.EventViews.{name_at}
-use Rattle.tv_board.specs.Calls.{Settles, out_count, settles}
-use Rattle.tv_board.specs.Runs.{Appends, IsLegalRun, Run, instances_of, meant, past_of, with_names}
-use Rattle.tv_board.specs.declared.entry.Entry.{Entry}
-use Rattle.tv_board.specs.declared.entry.Entry.TheVariants as entry
+use Rattle.tv_entries.specs.Runs.{Appends, IsLegalRun, Run, instances_of, meant, name_at, past_of, with_names}
+use Rattle.tv_entries.specs.Calls.{Settles, out_count, settles}
+use Rattle.tv_entries.specs.declared.entry.Entry.{Entry}
+use Rattle.tv_entries.specs.declared.entry.Entry.TheVariants as entry
 use Rattle.tv_history.specs.Going.{is_progress}
 use Rattle.tv_work.specs.Working.{GoesOn, IsFree, goes, progress}
 

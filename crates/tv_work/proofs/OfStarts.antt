@@ -13,10 +13,10 @@ use Rattle.tv_model.proofs.Tests.{both_true, left_true, right_true, true≠false
 use Rattle.tv_history.specs.Alone.{is_by_one}
 use Rattle.tv_history.specs.Entries.{History, is_out}
 use Rattle.tv_history.specs.Tries.{all_tries}
-use Rattle.tv_board.specs.Calls.{settles}
-use Rattle.tv_board.specs.Runs.{Run, instances_of, meant, past_of, with_names}
-use Rattle.tv_board.specs.declared.entry.Entry.{Entry}
-use Rattle.tv_board.specs.declared.entry.Entry.TheVariants as entry
+use Rattle.tv_entries.specs.Calls.{settles}
+use Rattle.tv_entries.specs.Runs.{Run, instances_of, meant, past_of, with_names}
+use Rattle.tv_entries.specs.declared.entry.Entry.{Entry}
+use Rattle.tv_entries.specs.declared.entry.Entry.TheVariants as entry
 use Rattle.tv_work.specs.InOrder.{HasOnlySettled}
 use Rattle.tv_work.proofs.OfByOne.{all-fail}
 use Rattle.tv_work.proofs.OfRuns.{past-mapped}

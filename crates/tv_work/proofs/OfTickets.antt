@@ -3,7 +3,7 @@ use Rattle.std.specs.Option.{option_map_or}
 use Rattle.std.specs.Prelude.{Bool, List, None, Option, Some, [], cond, count_by, false, find, if◌then◌else◌, is_some, length, option_and_then, refl, slice_get, suc, true, unwrap_or, zero, ℕ, ◌&&◌, ◌+◌, ◌<◌, ◌∷◌, ◌≡◌, ◌≤◌}
 use Rattle.std.proofs.Common.{ap, arith, inl, inr, subst, sym, ◌∙◌}
 use Rattle.std.proofs.lemmas.Bool.{lt-ltb}
-use Rattle.tv_board.proofs.OfDeclared.{and-some}
+use Rattle.tv_entries.proofs.OfPasts.{and-some, name-more}
 use Rattle.tv_value.specs.Orders.{same_job}
 use Rattle.tv_value.specs.Values.{JobName, Name}
 use Rattle.tv_gate.specs.Outcomes.{Giving}
@@ -18,12 +18,10 @@ use Rattle.tv_history.specs.Histories.{is_ask, is_at, is_legal, is_legal_after, 
 use Rattle.tv_history.proofs.Counts.{count-total, nothing-counted, once-counted, total-same, bit, uncounted}
 use Rattle.tv_history.proofs.Tests.{found_in}
 use Rattle.tv_history.proofs.Ready.{document-whole}
-use Rattle.tv_state.specs.EventViews.{name_at}
-use Rattle.tv_board.specs.Calls.{hands_out, job_of, out_count, try_if_out, try_out}
-use Rattle.tv_board.specs.Refusals.{accepts}
-use Rattle.tv_board.specs.Runs.{Appends, IsLegalRun, Run, meant, past_of}
-use Rattle.tv_board.specs.declared.ticket.Ticket.{Ticket}
-use Rattle.tv_board.proofs.OfPasts.{name-more}
+use Rattle.tv_entries.specs.Runs.{Appends, IsLegalRun, Run, meant, name_at, past_of}
+use Rattle.tv_entries.specs.Calls.{hands_out, job_of, out_count, try_if_out, try_out}
+use Rattle.tv_entries.specs.Refusals.{accepts}
+use Rattle.tv_entries.specs.declared.ticket.Ticket.{Ticket}
 use Rattle.tv_work.specs.Working.{IsOnlyOut}
 use Rattle.tv_work.proofs.OfRuns.{before, jobs-of, newest, out-after}
 

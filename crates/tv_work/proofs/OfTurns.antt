@@ -8,17 +8,18 @@ use Rattle.tv_flow.specs.Formed.{is_formed}
 use Rattle.tv_model.specs.Meanings.{meaning}
 use Rattle.tv_model.proofs.Tests.{true≠false}
 use Rattle.tv_history.specs.Going.{most_entries}
-use Rattle.tv_board.specs.Answers.{Question}
-use Rattle.tv_board.specs.Calls.{IsTask, IsTaskFault, out_count}
-use Rattle.tv_board.specs.Refusals.{IsAccepting, IsRefused, accepts}
-use Rattle.tv_board.specs.Runs.{Appends, IsLegalRun, Run, meant, past_of}
-use Rattle.tv_board.specs.declared.accepting.Accepted.{Accepted}
-use Rattle.tv_board.specs.declared.accepting.Accepted.TheVariants as accepted
-use Rattle.tv_board.specs.declared.accepting.Refused.{Refused}
-use Rattle.tv_board.specs.declared.accepting.Refused.TheVariants as refused
-use Rattle.tv_board.specs.declared.tasks.TaskFault.{TaskFault}
-use Rattle.tv_board.specs.declared.tasks.TaskFault.TheVariants as task_fault
-use Rattle.tv_board.specs.declared.ticket.Ticket.{Ticket}
+use Rattle.tv_entries.specs.Answers.{Question}
+use Rattle.tv_entries.specs.Calls.{IsTask, IsTaskFault, out_count}
+use Rattle.tv_entries.specs.Refusals.{IsAccepting, accepts}
+use Rattle.tv_board.specs.Refusals.{IsRefused}
+use Rattle.tv_entries.specs.Runs.{Appends, IsLegalRun, Run, meant, past_of}
+use Rattle.tv_entries.specs.declared.told.Accepted.{Accepted}
+use Rattle.tv_entries.specs.declared.told.Accepted.TheVariants as accepted
+use Rattle.tv_board.specs.declared.refused.Refused.{Refused}
+use Rattle.tv_board.specs.declared.refused.Refused.TheVariants as refused
+use Rattle.tv_entries.specs.declared.told.TaskFault.{TaskFault}
+use Rattle.tv_entries.specs.declared.told.TaskFault.TheVariants as task_fault
+use Rattle.tv_entries.specs.declared.ticket.Ticket.{Ticket}
 use Rattle.tv_work.specs.Wants.{IsNoRoom, IsNoTask}
 use Rattle.tv_work.specs.Working.{GoesOn, IsFree, IsOnlyOut, IsTurn, progress}
 use Rattle.tv_work.proofs.OfProgress.{progress-bounded}

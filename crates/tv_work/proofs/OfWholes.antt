@@ -14,8 +14,8 @@ use Rattle.tv_model.specs.Totals as model
 use Rattle.tv_model.specs.TotalsViews.{totals_view}
 use Rattle.tv_model.specs.declared.totals.Totals.{Totals}
 use Rattle.tv_history.specs.Entries.{is_out}
-use Rattle.tv_board.specs.Calls.{out_count}
-use Rattle.tv_board.specs.Runs.{Run, instances_of, meant, past_of, with_names}
+use Rattle.tv_entries.specs.Calls.{out_count}
+use Rattle.tv_entries.specs.Runs.{Run, instances_of, meant, past_of, with_names}
 use Rattle.tv_work.specs.Ran.{IsRun}
 
 -- nothing is out where nothing was done

@@ -11,9 +11,9 @@ use Rattle.tv_model.specs.Members.{In}
 use Rattle.tv_model.specs.Turns.{ask_order}
 use Rattle.tv_history.specs.Alone.{IsFirstPart}
 use Rattle.tv_history.specs.Tries.{NamedTry, all_tries, ask_try}
-use Rattle.tv_board.specs.Answers.{Question}
-use Rattle.tv_board.specs.Calls.{IsTask}
-use Rattle.tv_board.specs.Runs.{Run, meant, past_of}
+use Rattle.tv_entries.specs.Answers.{Question}
+use Rattle.tv_entries.specs.Calls.{IsTask}
+use Rattle.tv_entries.specs.Runs.{Run, meant, past_of}
 
 -- the call of an ask
 abbrev pub call_of : JobName × Ask → Call

@@ -2,15 +2,15 @@
 use Rattle.std.specs.Prelude.{Bool, List, None, Option, Some, [], suc, true, ℕ, ◌++◌, ◌∷◌, ◌≡◌}
 use Rattle.tv_gate.specs.Outcomes.{Giving, Outcome}
 use Rattle.tv_flow.specs.Flows.{Document}
-use Rattle.tv_board.specs.Answers.{Question}
-use Rattle.tv_board.specs.Calls.{IsNothingOffered, hands_out, out_count, settles}
-use Rattle.tv_board.specs.Refusals.{IsAccepting, accepts, is_right}
-use Rattle.tv_board.specs.Runs.{Appends, IsLegalRun, Run}
-use Rattle.tv_board.specs.Settlements.{IsSettling}
-use Rattle.tv_board.specs.Steps.{IsRecalled, recalls}
-use Rattle.tv_board.specs.declared.accepting.Accepted.{Accepted}
-use Rattle.tv_board.specs.declared.entry.Entry.{Entry}
-use Rattle.tv_board.specs.declared.ticket.Ticket.{Ticket}
+use Rattle.tv_entries.specs.Answers.{Question}
+use Rattle.tv_entries.specs.Calls.{IsNothingOffered, hands_out, out_count, settles}
+use Rattle.tv_entries.specs.Refusals.{IsAccepting, accepts, is_right}
+use Rattle.tv_entries.specs.Runs.{Appends, IsLegalRun, Run}
+use Rattle.tv_entries.specs.Settlements.{IsSettling}
+use Rattle.tv_entries.specs.Recalls.{IsRecalled, recalls}
+use Rattle.tv_entries.specs.declared.told.Accepted.{Accepted}
+use Rattle.tv_entries.specs.declared.entry.Entry.{Entry}
+use Rattle.tv_entries.specs.declared.ticket.Ticket.{Ticket}
 use Rattle.tv_history.specs.Alone.{IsFirstPart}
 
 -- a call with its answer, which is None where it was refused or found no memory, and where nothing was handed out

@@ -10,8 +10,8 @@ use Rattle.tv_model.specs.Made.{Meaning}
 use Rattle.tv_model.specs.Turns.{ask_order}
 use Rattle.tv_history.specs.Alone.{IsFirstPart}
 use Rattle.tv_history.specs.Tries.{NamedTry}
-use Rattle.tv_board.specs.Calls.{settles}
-use Rattle.tv_board.specs.Runs.{Run, meant}
+use Rattle.tv_entries.specs.Calls.{settles}
+use Rattle.tv_entries.specs.Runs.{Run, meant}
 use Rattle.tv_work.specs.Asked.{accepted_tries}
 
 -- its history has settlement entries and no others

@@ -1,9 +1,9 @@
 -- Refusals that are want of memory.
 use Rattle.tv_gate.specs.declared.services.Services.{Ghosts}
-use Rattle.tv_board.specs.declared.accepting.Refused.{Refused}
-use Rattle.tv_board.specs.declared.accepting.Refused.TheVariants as refused
-use Rattle.tv_board.specs.declared.tasks.TaskFault.{TaskFault}
-use Rattle.tv_board.specs.declared.tasks.TaskFault.TheVariants as task_fault
+use Rattle.tv_board.specs.declared.refused.Refused.{Refused}
+use Rattle.tv_board.specs.declared.refused.Refused.TheVariants as refused
+use Rattle.tv_entries.specs.declared.told.TaskFault.{TaskFault}
+use Rattle.tv_entries.specs.declared.told.TaskFault.TheVariants as task_fault
 
 abbrev pub IsNoTask : TaskFault → Type 0
 IsNoTask (task_fault.NotOut s) = ⊥

@@ -9,13 +9,12 @@ use Rattle.tv_model.specs.Totals.{totals}
 use Rattle.tv_history.specs.Alone.{IsFirstPart}
 use Rattle.tv_history.specs.Entries.{is_out}
 use Rattle.tv_history.specs.Histories.{is_done}
-use Rattle.tv_state.specs.EventViews.{name_at}
-use Rattle.tv_board.specs.Calls.{out_count, try_if_out}
-use Rattle.tv_board.specs.Counted.{is_acceptance}
-use Rattle.tv_board.specs.Runs.{IsLegalRun, Run, meant, past_of}
-use Rattle.tv_board.specs.declared.entry.Entry.{Entry}
-use Rattle.tv_board.specs.declared.entry.Entry.TheVariants as entry
-use Rattle.tv_board.specs.declared.ticket.Ticket.{Ticket}
+use Rattle.tv_entries.specs.Runs.{IsLegalRun, Run, meant, name_at, past_of}
+use Rattle.tv_entries.specs.Calls.{out_count, try_if_out}
+use Rattle.tv_entries.specs.Counted.{is_acceptance}
+use Rattle.tv_entries.specs.declared.entry.Entry.{Entry}
+use Rattle.tv_entries.specs.declared.entry.Entry.TheVariants as entry
+use Rattle.tv_entries.specs.declared.ticket.Ticket.{Ticket}
 
 -- ---- entries
 

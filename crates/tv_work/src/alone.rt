@@ -1,8 +1,8 @@
 //! One worker alone.
 ghost use Rattle.std.specs.Prelude.{◌≡◌, ◌≤◌, IfOk, OnErr, OnOk, true};
-ghost use Rattle.tv_board.specs.Calls.{NothingSettles, out_count};
-ghost use Rattle.tv_board.specs.Runs.{IsLegalRun};
-ghost use Rattle.tv_board.specs.Settlements.{IsSettling};
+ghost use Rattle.tv_entries.specs.Calls.{NothingSettles, out_count};
+ghost use Rattle.tv_entries.specs.Runs.{IsLegalRun};
+ghost use Rattle.tv_entries.specs.Settlements.{IsSettling};
 ghost use Rattle.tv_work.specs.Asked.{AsksABeginning, AsksAtMostOneMore, AsksEach, AsksInOrder, accepted_tries};
 ghost use Rattle.tv_work.specs.ByOne.{StaysByOne};
 ghost use Rattle.tv_work.specs.InOrder.{AcceptsABeginning, AcceptsInOrder, HasOnlySettled};
@@ -21,7 +21,7 @@ use tv_value::NoMemory;
 /// `Err` the answer to one more, which is still out, may be lost. Where the history so far is that of one worker it stays so: a
 /// try is handed out only where nothing can be settled and none is out, and none is taken back. So from a board that has only
 /// settled things it asks, and accepts, in the order of one worker: the whole of it, or after `Err` a beginning. The cost is that
-/// of the board's calls: each reads the whole history and, with each outcome, works the meaning out anew.
+/// of the board's calls and of the asker's: of the former some for each job, list and passed fault, each with a look at the steps.
 pub fn run_alone<V: Services, A: Asker<Services = V>>(
     alloc: Global,
     board: &mut Board<V>,

@@ -1,7 +1,7 @@
 //! A whole run by one worker.
 ghost use Rattle.std.specs.Prelude.{◌≡◌, IfOk, OnErr, OnOk, true};
 ghost use Rattle.tv_check.specs.RunViews.{run_view};
-ghost use Rattle.tv_board.specs.Flat.{opens_nothing};
+ghost use Rattle.tv_going.specs.Flat.{opens_nothing};
 ghost use Rattle.tv_work.specs.Asked.{AsksABeginning, AsksInOrder};
 ghost use Rattle.tv_work.specs.Ran.{IsRun, IsWholeRun};
 

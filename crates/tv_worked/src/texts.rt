@@ -1,7 +1,7 @@
 //! Documents as texts.
 ghost use Rattle.std.specs.Prelude.{◌≡◌, IfOk, IfSome, true};
 ghost use Rattle.tv_check.specs.RunViews.{run_view};
-ghost use Rattle.tv_board.specs.Flat.{opens_nothing};
+ghost use Rattle.tv_going.specs.Flat.{opens_nothing};
 
 use serde_json::Value as Json;
 use std::alloc::{AllocError, Global};

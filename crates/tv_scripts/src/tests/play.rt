@@ -19,7 +19,7 @@
 //! | `accept:0` | has an answer accepted; one that is refused may be tried again | `again`, `good` or `failed`; if refused, where its job stands, or `other` for other inputs |
 ghost use Rattle.std.specs.Prelude.{◌≡◌, true};
 ghost use Rattle.tv_check.specs.RunViews.{run_view};
-ghost use Rattle.tv_board.specs.Flat.{opens_nothing};
+ghost use Rattle.tv_going.specs.Flat.{opens_nothing};
 
 use crate::tests::telling::{push_history, push_state, push_task, push_ticket};
 use std::alloc::Global;

@@ -1,8 +1,8 @@
 use Rattle.std.specs.Prelude.{refl}
 use Rattle.std.proofs.Common.{ap, inr, subst, sym, ◌∙◌, ◌≤◌}
 use Rattle.tv_gate.specs.Views.{outcome_view}
-use Rattle.tv_board.specs.Answers.{Question}
-use Rattle.tv_board.specs.Calls.{IsTask, out_count}
+use Rattle.tv_entries.specs.Answers.{Question}
+use Rattle.tv_entries.specs.Calls.{IsTask, out_count}
 use Rattle.tv_board.specs.Refusals.{answered}
 use Rattle.tv_work.proofs.OfAnswers.{asks-one}
 use Rattle.tv_work.proofs.OfAsked.{most-one, most-same, on-err}

@@ -1,6 +1,6 @@
 use Rattle.std.proofs.Common.{ap, subst, sym, ◌∙◌}
-use Rattle.tv_board.specs.Calls.{NothingSettles}
-use Rattle.tv_board.specs.Settlements.{IsSettling}
+use Rattle.tv_entries.specs.Calls.{NothingSettles}
+use Rattle.tv_entries.specs.Settlements.{IsSettling}
 use Rattle.tv_work.specs.Asked.{accepted_tries}
 use Rattle.tv_work.specs.Working.{IsFree}
 use Rattle.tv_work.proofs.OfAsked.{settled-tries}

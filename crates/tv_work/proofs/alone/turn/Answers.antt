@@ -1,5 +1,5 @@
 use Rattle.std.proofs.Common.{ap, subst, sym, ◌∙◌}
-use Rattle.tv_board.specs.Calls.{hands_out}
+use Rattle.tv_entries.specs.Calls.{hands_out}
 use Rattle.tv_work.specs.Asked.{accepted_tries}
 use Rattle.tv_work.specs.Working.{IsWorkedOff}
 use Rattle.tv_work.proofs.OfAsked.{asks-from, asks-same, handed-tries, most-from, most-same, on-err}

@@ -1,7 +1,7 @@
 use Rattle.std.specs.List.{list_all}
 use Rattle.std.proofs.Common.{ap, subst, ◌∙◌}
 use Rattle.tv_check.specs.RunViews.{run_view}
-use Rattle.tv_board.specs.Calls.{settles}
+use Rattle.tv_entries.specs.Calls.{settles}
 use Rattle.tv_work.specs.Asked.{AsksABeginning, AsksInOrder}
 use Rattle.tv_work.proofs.OfAsked.{on-err}
 use Rattle.tv_work.proofs.OfOrders.{asks-no_call}

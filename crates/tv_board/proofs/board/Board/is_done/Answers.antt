@@ -1,7 +1,7 @@
-use Rattle.std.specs.List.{list_any}
-use Rattle.std.proofs.Common.{[], ap, ◌∙◌}
-use Rattle.tv_history.specs.Entries.{is_ended_entry}
+use Rattle.std.proofs.Common.{ap, ◌∙◌}
+use Rattle.tv_history.specs.Histories.{is_done}
+use Rattle.tv_entries.specs.Runs.{past_of}
 use Rattle.tv_board.proofs.board.Board.is_done.Goals as goal
 
 pub returns : goal.returns
-returns g c = c.is_done.ensures ∙ ap (list_any (is_ended_entry [])) c.state.ensures.past
+returns g c = c.is_done.ensures.done g.V.Services.gives c.self.invariant ∙ ap (λ x. is_done (past_of x)) c.self.view_is

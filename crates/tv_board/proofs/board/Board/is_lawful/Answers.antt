@@ -1,7 +1,5 @@
+use Rattle.tv_board.proofs.OfCalls.{legal-now}
 use Rattle.tv_board.proofs.board.Board.is_lawful.Goals as goal
 
-pub returns-clause-formed : goal.returns-clause-formed
-returns-clause-formed g c = c.state-state.ensures.formed
-
 pub returns-clause-legal : goal.returns-clause-legal
-returns-clause-legal g c = c.state-state.ensures.kept.legal
+returns-clause-legal g c = legal-now g.V.Services.gives c.self.inside.run c.args.self.now c.self.view_is c.self.invariant

@@ -1,8 +1,12 @@
-use Rattle.std.specs.Prelude.{map}
 use Rattle.std.proofs.Common.{ap, ◌∙◌}
-use Rattle.tv_strategy.specs.Origins.{plain}
-use Rattle.tv_board.proofs.OfOutputs.{outputs-done}
+use Rattle.tv_history.specs.Histories.{is_done}
+use Rattle.tv_entries.specs.Runs.{Run, past_of}
+use Rattle.tv_board.proofs.OfCalls.{outputs-told}
 use Rattle.tv_board.proofs.board.Board.outputs.Goals as goal
 
+pub outputs-requires : goal.outputs-requires
+outputs-requires g c = (g.V.Services.gives, c.self.invariant, ap (λ (r : Run). is_done (past_of r)) c.self.view_is ∙ c.requires)
+
 pub returns : goal.returns
-returns g c = c.in_ok-outputs.ensures ∙ ap (map (λ o. (o.0, plain o.1))) (outputs-done g.V.Services.gives c.args.self.now c.state-state.result c.state-state.ensures c.requires)
+returns g c =
+    outputs-told g.V.Services.gives c.self.inside.run c.args.self.now c.self.view_is c.self.invariant c.requires c.outputs.result c.outputs.ensures

@@ -1,26 +1,41 @@
+use Rattle.std.proofs.Common.{ap, subst, sym, ◌∙◌}
 use Rattle.std.specs.Prelude.{is_some}
-use Rattle.std.proofs.Common.{ap, sym, ◌∙◌}
-use Rattle.tv_board.proofs.OfTasks.{few-there, outputs-there, state-there, task-there, try-there}
+use Rattle.tv_entries.specs.Answers.{question}
+use Rattle.tv_entries.specs.Calls.{IsTask, state_of, try_if_out}
+use Rattle.tv_entries.specs.Declarations.{declared_for}
+use Rattle.tv_entries.specs.declared.ticket.Ticket.{Ticket}
+use Rattle.tv_board.proofs.OfAnswers.{none-is}
 use Rattle.tv_board.proofs.board.Board.task.Goals as goal
 
-pub state_at-requires : goal.state_at-requires
-state_at-requires g c = few-there g.V.Services.gives c.args.self.now c.state-state.result c.state-state.ensures
+pub returns-then-not-is_out-clause-fault : goal.returns-then-not-is_out-clause-fault
+returns-then-not-is_out-clause-fault g c = (
+  none-is (try_if_out g.V.Services.gives c.args.self.now c.args.ticket.now) c.is_out.result
+      (c.is_out.ensures.out g.V.Services.gives c.self.invariant ∙ ap (λ r. is_some (try_if_out g.V.Services.gives r c.args.ticket.now)) c.self.view_is)
+      c.if-not-is_out.true,
+  c.state_of.ensures g.V.Services.gives c.self.invariant ∙ ap (λ r. state_of g.V.Services.gives r c.args.ticket.now.job) c.self.view_is,
+)
 
-pub declared_for-requires : goal.declared_for-requires
-declared_for-requires g c = sym (ap is_some (c.in-Some.ensures ∙ try-there g.V.Services.gives c.args.self.now c.state-state.result c.state-state.ensures c.args.ticket.now))
+pub task_of-requires : goal.task_of-requires
+task_of-requires g c = (
+  g.V.Services.gives,
+  c.self.invariant,
+  sym (c.is_out.ensures.out g.V.Services.gives c.self.invariant) ∙ c.if-not-is_out.false,
+)
 
 pub returns-in-Ok-clause-task : goal.returns-in-Ok-clause-task
-returns-in-Ok-clause-task g c =
-    task-there g.V.Services.gives c.args.self.now c.state-state.result c.state-state.ensures c.args.ticket.now c.in-Ok.task c.in-Some.ask.now c.declared_for.result.now c.in-Some.ensures c.declared_for.ensures c.in-Ok.ensures
+returns-in-Ok-clause-task g c = (
+  subst (λ r. IsTask g.V.Services.gives r (question c.in-Ok.task.ticket c.in-Ok.task.service c.in-Ok.task.inputs c.in-Ok.task.outputs)) c.self.view_is
+      (c.in-Ok.ensures.task g.V.Services.gives c.self.invariant (sym (c.is_out.ensures.out g.V.Services.gives c.self.invariant) ∙ c.if-not-is_out.false)).0,
+  c.in-Ok.ensures.ticket,
+)
 
 pub returns-in-Ok-clause-outputs : goal.returns-in-Ok-clause-outputs
-returns-in-Ok-clause-outputs g c = outputs-there g.V.Services.gives c.args.self.now c.state-state.result c.state-state.ensures c.args.ticket.now c.in-Ok.task c.declared_for.result.now c.declared_for.ensures c.in-Ok.ensures.0 c.in-Ok.ensures.1.1.1
+returns-in-Ok-clause-outputs g c =
+    ap (λ (t : Ticket). declared_for g.V.Services.gives c.args.self.now t.job) c.in-Ok.ensures.ticket
+    ∙ ap (λ r. declared_for g.V.Services.gives r c.args.ticket.now.job) (sym c.self.view_is)
+    ∙ (c.in-Ok.ensures.task g.V.Services.gives c.self.invariant (sym (c.is_out.ensures.out g.V.Services.gives c.self.invariant) ∙ c.if-not-is_out.false)).1
 
 pub returns-in-Err-clause-fault : goal.returns-in-Err-clause-fault
-returns-in-Err-clause-fault g c = sym (ap is_some (c.in-Some.ensures ∙ try-there g.V.Services.gives c.args.self.now c.state-state.result c.state-state.ensures c.args.ticket.now))
-
-pub returns-in-None-clause-fault : goal.returns-in-None-clause-fault
-returns-in-None-clause-fault g c = (
-  sym (c.in-None.ensures ∙ try-there g.V.Services.gives c.args.self.now c.state-state.result c.state-state.ensures c.args.ticket.now),
-  c.state_at.ensures ∙ state-there g.V.Services.gives c.args.self.now c.state-state.result c.state-state.ensures c.args.ticket.now.job,
-)
+returns-in-Err-clause-fault g c =
+    ap (λ r. is_some (try_if_out g.V.Services.gives r c.args.ticket.now)) (sym c.self.view_is)
+    ∙ sym (c.is_out.ensures.out g.V.Services.gives c.self.invariant) ∙ c.if-not-is_out.false

@@ -1,4 +1,0 @@
-pub mod OfSameness
-pub mod OfTries
-pub mod OfNamed
-pub mod OfJobs

@@ -1,4 +1,0 @@
-mod Pasts
-mod Asked
-mod Found
-mod Opened

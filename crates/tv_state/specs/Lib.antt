@@ -1,3 +1,0 @@
-pub mod EventViews
-pub mod StateViews
-pub mod StateTests

@@ -1,5 +1,0 @@
-pub mod OriginViews
-pub mod TracedViews
-pub mod IterationViews
-pub mod PortIterations
-pub mod Results
