@@ -1,9 +1,9 @@
 -- What a job of an instance gave, and the entries with which it is settled.
-use Rattle.std.specs.Prelude.{◌≡◌, refl, ℕ, [], ◌∷◌, List, true, false, ◌||◌, Some, find, if◌then◌else◌, is_none, is_some}
+use Rattle.std.specs.Prelude.{◌≡◌, refl, ℕ, [], ◌∷◌, Bool, List, true, false, ◌||◌, Some, cond, find, if◌then◌else◌, is_none, is_some}
 use Rattle.std.specs.List.{list_any}
 use Rattle.std.specs.Option.{option_map_or}
 use Rattle.std.specs.Cmp.Lexicographic.{bytes_decides}
-use Rattle.std.proofs.Common.{ap, inl, sym, ◌∙◌}
+use Rattle.std.proofs.Common.{ap, inl, inr, sym, ◌∙◌}
 use Rattle.tv_value.specs.Nested.{Place}
 use Rattle.tv_value.specs.Orders.{same_job, same_name}
 use Rattle.tv_value.specs.Values.{JobName, Name, Value}
@@ -23,10 +23,10 @@ use Rattle.tv_model.proofs.Formed.{AreFormed, distinct-apart}
 use Rattle.tv_model.proofs.Instances.{given-free, instance-formed}
 use Rattle.tv_model.proofs.Members.{Apart, each_in, of-flat, once-of_apart}
 use Rattle.tv_model.proofs.Sound.{spot-step}
+use Rattle.tv_model.proofs.Tests.{same_job_decides, true≠false}
 use Rattle.tv_history.specs.Entries.{Entry, History, accepted, bounced, is_bounced_entry, is_ended_entry}
 use Rattle.tv_history.specs.Histories.{is_settled, is_settled_name, next_ask}
 use Rattle.tv_history.proofs.Tests.{same-itself}
-use Rattle.tv_outcomes.proofs.Steps.{find-own}
 use Rattle.tv_order.specs.Parts.{made_of}
 use Rattle.tv_order.proofs.OfFirst.{find-first}
 use Rattle.tv_instances.specs.OwnResults.{given_by, results_of}
@@ -37,6 +37,17 @@ use Rattle.tv_going.specs.Stated.{AcceptingSettles, BouncingSettles, SettledGoes
 use Rattle.tv_going.proofs.OfEntries.{by-name, is-event}
 
 -- ---- results
+
+-- the first of its name is itself
+find-own : (os : List Opened) → Apart (λ (o : Opened). o.job.name) os → (o : Opened) → In o os → find (λ u. same_job o.job.name u.job.name) os ≡ Some o
+find-own [] a o i = absurd i
+find-own (u ∷ os) a o i = by (same_job o.job.name u.job.name) refl i (λ k. find-own os a.1 o k)
+  where
+    by : (b : Bool) → same_job o.job.name u.job.name ≡ b → In o (u ∷ os) → (In o os → find (λ x. same_job o.job.name x.job.name) os ≡ Some o) → cond b (Some u) (find (λ x. same_job o.job.name x.job.name) os) ≡ Some o
+    by true e (inl p) rec = ap (λ x. Some x) (sym p)
+    by true e (inr k) rec = absurd (a.0 o k ((same_job_decides o.job.name u.job.name).0 e))
+    by false e (inl p) rec = absurd (true≠false (sym ((same_job_decides o.job.name u.job.name).1 (ap (λ (x : Opened). x.job.name) p)) ∙ e))
+    by false e (inr k) rec = rec k
 
 -- the results of an instance say what each of its jobs gave
 module _ (gives : Giving) (d : Document) (levels : ℕ) (flow : Flow) (I : JobName) (vs : List (Name × Value)) where

@@ -1,3 +1,2 @@
 pub mod Agreed
 pub mod Stated
-pub mod RowsOfOutcomes

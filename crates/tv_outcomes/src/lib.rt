@@ -1,14 +1,10 @@
-//! What is legal next is decided by the outcomes accepted so far.
+//! What the form of a document says of the activities of its steps, and of the tries of its jobs.
 //!
-//! A history's accepted entries name tries, and each try has an outcome that a service gives. Two functions that give the
-//! same outcome for every try accepted so far agree on that history (`specs/Agreed.antt`). The law is that they then have
-//! the same legal histories, the same tests in them, and where the run is done the same outputs and totals
-//! (`specs/Stated.antt`). So whoever computes with a table of the outcomes accepted so far, and any outcome for every
-//! other call, appends what is legal for the services themselves.
+//! Every step of a document that was read has an activity, and eight at the most (`specs/Stated.antt`). So every job that
+//! isn't bounced has a try or opens a flow, and every try is of one of the first eight activities; no two tries of a job have
+//! one activity and attempt (`proofs/Tried.antt`, `Few.antt`, `Distinct.antt`).
 //!
-//! - `laws`: the law
-//! - `rows`: worked histories with services of which only some outcomes are known
+//! - `laws`: the laws
 #![tactic(auto)]
 
 pub mod laws;
-pub mod rows;
