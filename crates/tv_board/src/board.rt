@@ -69,7 +69,7 @@ fn told_or_back<V: Services>(
 }
 
 impl<V: Services> Board<V> {
-    /// A run of which nothing is done. Linear in the main flow and in the values given.
+    /// A run of which nothing is done. Linear in the main flow, in the values given and in the jobs that are known then.
     pub fn start(alloc: Global, run: CheckedRun) -> Result<Board<V>, NoMemory>
         requires { opens_nothing (run_view run) ≡ true }
         ensures document { IfOk result (λ b. b.document ≡ run_view run) }
@@ -202,7 +202,7 @@ impl<V: Services> Board<V> {
     }
 
     /// The totals of the history so far: its accepted outcomes and bounced jobs, and of the settled jobs how many there are
-    /// and how many of them have failed. Linear in the history. Takes no memory.
+    /// and how many of them have failed. Linear in the history and in the jobs that are known. Takes no memory.
     pub fn totals(&self) -> Totals
         ensures so_far { totals_view result ≡ totals_so_far V.gives self.now }
         ensures done { is_done (past_of self.now) ≡ true → totals_view result ≡ model.totals (meant V.gives self.now).jobs }

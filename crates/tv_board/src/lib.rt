@@ -11,9 +11,9 @@
 //!
 //! - `history`, `is_done` are constant, `name_of` linear in the name, `outputs` linear in them
 //! - `task` is linear in what is asked; `ask` and `ask_alone` cost the one call that they make
-//! - `hand_out` and `settle_one` look at each step, and then cost what they change
-//! - `accept` costs what it changes: what its job gives, and what becomes known with it
-//! - `recall_all` is linear in the jobs that are known, `totals` in the history
+//! - `hand_out` and `settle_one` look at each step, and then cost what they change; a job that is bounced costs what it binds too
+//! - `accept` compares the inputs, and then costs what it changes: what its job gives, and what becomes known with it
+//! - `recall_all` is linear in the jobs that are known and in the steps, `totals` in the history and in those jobs
 //!
 //! - `board`: the type and its calls
 //! - `answer`, `refused`: what is asked for a task, and answers that are given back

@@ -1,7 +1,8 @@
 //! What a run's history holds.
 use tv_value::Place;
 
-/// An event of a run. Jobs and instances are numbered in the order in which they come; the main instance is 0. Steps are
+/// An event of a run. Jobs have the numbers under which their names stand. Instances are numbered in
+/// the order in which they are opened; the main instance is 0. Steps are
 /// numbered from 0 in byte order of their names, in their flow.
 #[derive(Debug, Drop)]
 pub enum Entry {
