@@ -42,16 +42,6 @@ plain-to [] h = absurd cc
 plain-to (d ∷ []) h = (all_of (is_ascii_digit d) true h refl, omega arith)
 plain-to (d ∷ e ∷ ds) h = ((both (not (d == 48)) (all_ascii_digits (d ∷ e ∷ ds)) h).1, omega arith)
 
--- an index whose first part fails is none
-none-of : (b c : Bool) (n : ℕ) → b ≡ false → (if b && c then Some n else None) ≡ None
-none-of b c n e = ap (λ a. if a && c then Some n else None) e
-
-pub index-padded : (t : Text) → is_padded t ≡ true → index_of t ≡ None
-index-padded [] h = refl
-index-padded (d ∷ []) h = absurd cc
-index-padded (d ∷ e ∷ ds) h =
-    none-of (is_plain (d ∷ e ∷ ds)) (nat_lt (digits_value 10 (d ∷ e ∷ ds)) (2 ^ 32)) (digits_value 10 (d ∷ e ∷ ds)) (ap (λ b. not b && all_ascii_digits (d ∷ e ∷ ds)) (padded d e ds true h))
-
 -- an answer that is there exactly where a test holds
 as_test : {E : Type 0} (r : Result ℕ E) (b : Bool) (P : Type 0) (n : ℕ) → OkIff r P n → (b ≡ true → P) → (P → b ≡ true) → result_ok r ≡ (if b then Some n else None)
 as_test (Ok y) b P n h to from = ap Some h.1 ∙ sym (ap (λ c. if c then Some n else None) (from h.0))
@@ -63,11 +53,6 @@ index-parsed t r h plus pad =
     as_test r (is_plain t && nat_lt (digits_value 10 t) (2 ^ 32)) _ (digits_value 10 t) (parse_plain own 32 t r h plus)
     (λ b. let p = both (is_plain t) (nat_lt (digits_value 10 t) (2 ^ 32)) b in let q = plain-to t p.0 in (q.0, q.1, ltb-true _ _ p.1))
     (λ p. all_of (is_plain t) (nat_lt (digits_value 10 t) (2 ^ 32)) (plain-from t p.0 p.1 pad) (lt-ltb _ _ p.2))
-
-pub index-plus : (t : Text) → get_or t 0 0 ≡ 43 → index_of t ≡ None
-index-plus [] e = absurd cc
-index-plus (d ∷ []) e = ap (λ c. index_of (c ∷ [])) e
-index-plus (d ∷ b ∷ ds) e = ap (λ c. index_of (c ∷ b ∷ ds)) e
 
 -- ---- as printed
 

@@ -26,13 +26,6 @@ Goes q rest t = indices_of (parts t) ≡ option_map (λ r. q ++ r) (indices_of (
 abbrev onward : Place → Option Place → Option Place
 onward q o = option_map (λ r. q ++ r) o
 
-pub starts : (t : Text) → Goes [] t t
-starts t = by (indices_of (parts t))
-  where
-    by : (o : Option Place) → o ≡ option_map (λ r. [] ++ r) o
-    by None = refl
-    by (Some r) = refl
-
 no-comma : (x : Text) → Lacks 44 x → All (λ b. is_comma b ≡ false) x
 no-comma x h k d l = other (get_or x k d) (λ e. h k l (get_or_default x k 0 d l ∙ e))
   where

@@ -98,23 +98,6 @@ more-seen ns s t f g (result n) h = if-some (IsMet s) (IsMet t) g (ns n) h
 more-seen ns s t f g (group i) h = g i h
 
 module _ (ns : Numbers) (s : Search) where
-  -- what was seen before changes nothing
-  pub sees-again : (ps : List Part) → ((p : Part) → In p ps → IsSeen ns s p) → Sees ns ps s s
-  sees-again ps f = record { seen = f; still = λ p m. m; found = λ l i. inl i; met = λ i m. inl m; pending = λ i m. m; due = λ i m. inl m; rises = λ r. r; left = refl; size = refl }
-
-  pub sees-nothing : Sees ns [] s s
-  sees-nothing = sees-again [] (λ p i. absurd i)
-
-  pub sees-one : (p : Part) → IsSeen ns s p → Sees ns (p ∷ []) s s
-  sees-one p h = sees-again (p ∷ []) by
-    where
-      by : (n : Part) → In n (p ∷ []) → IsSeen ns s n
-      by n (inl e) = subst (IsSeen ns s) (sym e) h
-      by n (inr i) = absurd i
-
-  pub sees-no_job : (n : JobName) → ns n ≡ None → Sees ns (result n ∷ []) s s
-  sees-no_job n e = sees-one (result n) (subst (λ o. IfSome o (IsMet s)) (sym e) tt)
-
   -- one and then another
   pub sees-then : (ps qs : List Part) (t u : Search) → Sees ns ps s t → Sees ns qs t u → Sees ns (ps ++ qs) s u
   sees-then ps qs t u a b = record { seen = λ p i. seen p (in-append p ps qs i); still = λ p m. b.still p (a.still p m); found = λ l i. found l (b.found l i); met = λ i m. met i (b.met i m); pending = λ i m. b.pending i (a.pending i m); due = λ i m. due i (b.due i m); rises = λ r. b.rises (a.rises r); left = b.left ∙ a.left; size = b.size ∙ a.size }

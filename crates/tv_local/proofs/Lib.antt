@@ -1,6 +1,5 @@
 pub mod OfViews
 pub mod OfNumbers
-pub mod OfNames
 pub mod OfComplaints
 pub mod OfTexts
 pub mod OfLists

@@ -1,5 +1,5 @@
 -- The first complaint of the inputs, input by input.
-use Rattle.std.specs.Prelude.{◌≡◌, ℕ, zero, suc, ◌+◌, ◌<◌, ◌≤◌, List, [], ◌∷◌, map, drop, length, refl, Option, Some, None}
+use Rattle.std.specs.Prelude.{◌≡◌, ℕ, zero, suc, ◌+◌, ◌<◌, List, [], ◌∷◌, map, drop, length, refl, Option, Some}
 use Rattle.std.proofs.Common.{arith, ap, ◌∙◌, get_or}
 use Rattle.tv_value.specs.Values as spec
 use Rattle.tv_value.specs.Values.{Text}
@@ -33,23 +33,6 @@ module _ (f : ℕ → Want → spec.Value → Option Text) where
       step_at ws vs i (i + 1) w v h p
       ∙ ap (λ c. or_else (f (i + 1) (get_or ws i w) (view (get_or vs i v))) c)
       (ap (λ n. first_of f n (drop (suc i) ws) (drop (suc i) (map view vs))) (next (i + 1)) ∙ ap (λ n. first_of f (i + 1 + 1) (drop n ws) (drop n (map view vs))) (next i))
-
-  of_none : (k : ℕ) (ws : List Want) → first_of f k ws [] ≡ None
-  of_none k [] = refl
-  of_none k (w ∷ ws) = refl
-
-  end_at : (ws : List Want) (us : List spec.Value) (i k : ℕ) → length ws ≤ i → first_of f k (drop i ws) (drop i us) ≡ None
-  end_at [] us zero k p = refl
-  end_at [] us (suc i) k p = refl
-  end_at (w ∷ ws) us zero k p = absurd (none (length ws) p)
-    where
-      none : (n : ℕ) → suc n ≤ 0 → ⊥
-      none n q = omega arith
-  end_at (w ∷ ws) [] (suc i) k p = of_none k (drop i ws)
-  end_at (w ∷ ws) (u ∷ us) (suc i) k p = end_at ws us i k (omega arith)
-
-  pub complaint-end : (ws : List Want) (vs : List Value) (i : ℕ) → length ws ≤ i → complaint_from i ws vs ≡ None
-  complaint-end ws vs i h = end_at ws (map view vs) i (i + 1) h
 
 pub found-first : (o p : Option Text) (why : Text) → o ≡ Some why → or_else o p ≡ Some why
 found-first o p why e = ap (λ q. or_else q p) e

@@ -3,7 +3,7 @@ use Rattle.std.specs.Prelude.{refl}
 use Rattle.std.specs.Fmt.{digits}
 use Rattle.json.specs.Print.{escape_byte}
 use Rattle.tv_words.proofs.OnLiterals.{words_on_literals}
-use Rattle.tv_top.specs.Worked.{RunsOneText, RunsChain, RunsFailure, RunsCross, ChecksCross, ChecksChain, RefusesCircle, RefusesNoDocument, RefusesNoJson, RefusesNoCommand, TellsCodes, TellsLines, RefusesDepth, TakesCommands, TakesNothingElse, AsksChain, AsksFailure, AsksAttempts, AsksNoCheck, AsksNoNestedFlow, RunsNoNestedFlow, TracesAttempts, TracesChain, TracesFailure}
+use Rattle.tv_top.specs.Worked.{RunsOneText, RunsChain, RunsFailure, RunsCross, ChecksCross, ChecksChain, RefusesCircle, RefusesNoDocument, RefusesDepth, TakesCommands, TakesNothingElse, AsksChain, AsksFailure, AsksAttempts, AsksNoCheck, AsksNoNestedFlow, RunsNoNestedFlow, TracesAttempts, TracesChain, TracesFailure}
 
 pub runs_one_text : RunsOneText
 unfolding digits escape_byte
@@ -36,22 +36,6 @@ refuses_circle = refl
 pub refuses_no_document : RefusesNoDocument
 unfolding digits escape_byte
 refuses_no_document = refl
-
-pub refuses_no_json : RefusesNoJson
-unfolding digits escape_byte
-refuses_no_json = refl
-
-pub refuses_no_command : RefusesNoCommand
-unfolding digits escape_byte
-refuses_no_command = refl
-
-pub tells_codes : TellsCodes
-unfolding digits escape_byte
-tells_codes = refl
-
-pub tells_lines : TellsLines
-unfolding digits escape_byte
-tells_lines = refl
 
 pub refuses_depth : RefusesDepth
 unfolding digits escape_byte

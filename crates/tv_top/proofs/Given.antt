@@ -138,51 +138,9 @@ module _ (knows : Name → Bool) (s : Source) (read : List ℕ) (w : IsReadWhole
 
 -- ---- what is answered
 
--- what refuses the bytes refuses what follows from them
-module _ {A B : Type 0} (f : List ℕ → Result A StatusLine) (g : List ℕ → Result B StatusLine) (on : (bytes : List ℕ) (r : StatusLine) → f bytes ≡ Err r → g bytes ≡ Err r) (s : Source) where
-  refusal-on : (status : Status) → IsRefusal f s status → IsRefusal g s status
-  refusal-on status h bytes e = ((h bytes e).0, on bytes (status, (h bytes e).0) (h bytes e).1)
-
-  read-refusal-on : (status : Status) → IsReadRefusal f s status → IsReadRefusal g s status
-  read-refusal-on status h bytes e = (((h bytes e).0.0, on bytes (status, (h bytes e).0.0) (h bytes e).0.1), (h bytes e).1)
-
-  cause-on : (status : Status) → RefusalCause f s status → RefusalCause g s status
-  cause-on Done h = h
-  cause-on Usage h = refusal-on Usage h
-  cause-on ReadFault h = h
-  cause-on TooLong h = refusal-on TooLong h
-  cause-on NotJson h = read-refusal-on NotJson h
-  cause-on Form h = read-refusal-on Form h
-  cause-on Check h = read-refusal-on Check h
-  cause-on NotBuilt h = read-refusal-on NotBuilt h
-  cause-on WriteFault h = h
-  cause-on NoMemory h = tt
-
-  told-on : (status : Status) (line : Text) → IsAnswersLine f s status line → IsAnswersLine g s status line
-  told-on status line h = ((h.0.0, on h.0.0 (status, line) h.0.1), λ bytes e. on bytes (status, line) (h.1 bytes e))
-
-  line-on : (status : Status) (line : Text) → IsLine f s status line → IsLine g s status line
-  line-on Done line h = h
-  line-on Usage line h = h
-  line-on ReadFault line h = h
-  line-on TooLong line h = h
-  line-on NotJson line h = h
-  line-on Form line h = told-on Form line h
-  line-on Check line h = told-on Check line h
-  line-on NotBuilt line h = h
-  line-on WriteFault line h = h
-  line-on NoMemory line h = h
-
-  refused-on : (r : Refusal) → IsRefusedSo f s r → IsRefusedSo g s r
-  refused-on r h = (cause-on (refusal_status r) h.0, line-on (refusal_status r) (refusal_line r) h.1)
-
 module _ (gives : Giving) (knows : Name → Bool) (command : Command) (s : Source) where
   abbrev answering : List ℕ → Answer
   answering bytes = answer_of gives knows (Some command) bytes
-
-  -- a document that wasn't read is refused as the reading is
-  pub refused-so : (r : Refusal) → IsRefusedSo (reading_of knows) s r → IsAnswered answering s (Err r)
-  refused-so r h = refused-on (reading_of knows) answering (λ bytes x e. ap (answer_to_reading gives command) e) s r h
 
   module _ (d : CheckedRun) (read : IsRead (reading_of knows) s (Ok d)) where
     on-read : (bytes : List ℕ) (a : Answer) → reading_of knows bytes ≡ Ok (run_view d) → answer_to gives command (run_view d) ≡ a → answering bytes ≡ a

@@ -1,6 +1,6 @@
 -- What is asked, from the document that was read to the status.
-use Rattle.std.specs.Prelude.{◌≡◌, ℕ, List, [], ◌++◌, Bool, Some, Result, Ok, Err, ◌⊎◌, refl}
-use Rattle.std.proofs.Common.{ap, sym, subst, ◌∙◌, inl, inr}
+use Rattle.std.specs.Prelude.{◌≡◌, ℕ, List, [], ◌++◌, Bool, Some, Result, Ok, Err, ◌⊎◌}
+use Rattle.std.proofs.Common.{ap, sym, subst, inl, inr}
 use Rattle.std.proofs.lemmas.List.{append-nil}
 use Rattle.tv_value.specs.Values.{Name, Text}
 use Rattle.tv_gate.specs.Calls.{Call, IsSameCalls}
@@ -9,22 +9,15 @@ use Rattle.tv_check.specs.RunViews.{run_view}
 use Rattle.tv_check.specs.declared.run.CheckedRun.{CheckedRun}
 use Rattle.tv_top.specs.Words.{Command}
 use Rattle.tv_top.specs.Answers.{reading_of}
-use Rattle.tv_top.specs.Asked.{refusal_status}
-use Rattle.tv_top.specs.Asking.{AsksThese, BeginsThese, GivesAsks, IsAsked, IsAskedFor, OfRead, ToldCalls, asks_of, asks_to, asks_to_reading}
-use Rattle.tv_top.specs.Headline.{IsRead, IsRefusedSo, RefusalCause, Source}
-use Rattle.tv_top.specs.Answers.{StatusLine}
+use Rattle.tv_top.specs.Asking.{AsksThese, BeginsThese, GivesAsks, IsAskedFor, OfRead, ToldCalls, asks_of, asks_to, asks_to_reading}
+use Rattle.tv_top.specs.Headline.{IsRead, Source}
 use Rattle.tv_top.specs.declared.refusal.Refusal.{Refusal}
 use Rattle.tv_top.specs.declared.refusal.Refusal.TheVariants as why
-use Rattle.tv_top.specs.declared.status.Status.{Status}
-use Rattle.tv_top.specs.declared.status.Status.TheVariants.{Done, Usage, ReadFault, TooLong, NotJson, Form, Check, NotBuilt, WriteFault, NoMemory}
+use Rattle.tv_top.specs.declared.status.Status.TheVariants.{NoMemory}
 
 -- all of them are a beginning of them
 pub all-begin : (before after : ToldCalls) (more : List Call) → AsksThese before after more → BeginsThese before after more
 all-begin before after more h calls told = (more, h calls told, ([], sym (append-nil more)))
-
--- none is a beginning
-pub none-begin : (before after : ToldCalls) (more : List Call) → IsSameCalls before after → BeginsThese before after more
-none-begin before after more h calls told = ([], h calls told ∙ ap Some (sym (append-nil calls)), (more, refl))
 
 module _ (gives : Giving) (knows : Name → Bool) (command : Command) (s : Source) (d : CheckedRun) (read : IsRead (reading_of knows) s (Ok d)) (before after : ToldCalls) where
   abbrev asking : List ℕ → List Call
@@ -43,22 +36,3 @@ module _ (gives : Giving) (knows : Name → Bool) (command : Command) (s : Sourc
   pub asked-so : (r : Result Text Refusal) → GivesAsks before after r (asks_to gives command (run_view d)) → IsAskedFor asking s before after r
   asked-so (Ok text) h = of-bytes (AsksThese before after) h
   asked-so (Err r) h = of-refusal r h
-
--- ---- by the status
-
-module _ {A : Type 0} (f : List ℕ → Result A StatusLine) (asks : List ℕ → List Call) (s : Source) (before after : ToldCalls) where
-  by-same : (status : Status) → RefusalCause f s status → IsSameCalls before after → IsAsked asks s before after status
-  by-same Done c h = absurd c
-  by-same Usage c h = h
-  by-same ReadFault c h = h
-  by-same TooLong c h = h
-  by-same NotJson c h = h
-  by-same Form c h = h
-  by-same Check c h = h
-  by-same NotBuilt c h = h
-  by-same WriteFault c h = absurd c
-  by-same NoMemory c h = inl h
-
-  pub by-status : (r : Refusal) → IsRefusedSo f s r → IsAskedFor asks s before after (Err r) → IsAsked asks s before after (refusal_status r)
-  by-status r c (inl same) = by-same (refusal_status r) c.0 same
-  by-status r c (inr h) = subst (λ q. IsAsked asks s before after (refusal_status q)) (sym h.0) h.1

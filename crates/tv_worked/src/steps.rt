@@ -12,14 +12,6 @@ pub const CHAIN: &str =
 pub const FAILURES: &str =
     r#"{"f":{"inputs":{"a":{"depth":0,"from":{"input":"x"}}},"outputs":{"o":0},"activities":[{"service":"fail_if"}]},"u":{"inputs":{"a":{"depth":0,"from":{"step":"f","port":"o"}}},"outputs":{"o":0},"activities":[{"service":"upper"}]}}"#;
 
-/// Four steps, of which the last in order of names is taken first, and two take what it gives.
-pub const FORK: &str =
-    r#"{"a":{"inputs":{"i":{"depth":0,"from":{"step":"z","port":"o"}}},"outputs":{"o":0},"activities":[{"service":"fail_if"}]},"b":{"inputs":{"i":{"depth":0,"from":{"step":"a","port":"o"}}},"outputs":{"o":0},"jobs":2,"activities":[{"service":"upper"}]},"c":{"inputs":{"i":{"depth":0,"from":{"step":"z","port":"o"}}},"outputs":{"o":0},"activities":[{"service":"length"}]},"z":{"inputs":{"i":{"depth":0,"from":{"input":"x"}}},"outputs":{"o":0},"jobs":3,"activities":[{"service":"lower"}]}}"#;
-
-/// A step whose outcomes lack the depth of its output.
-pub const LISTS: &str =
-    r#"{"p":{"inputs":{"a":{"depth":0,"from":{"input":"x"}}},"outputs":{"o":0},"activities":[{"service":"distinct"}]},"q":{"inputs":{"a":{"depth":0,"from":{"step":"p","port":"o"}}},"outputs":{"o":0},"activities":[{"service":"upper"}]}}"#;
-
 /// A text that fails twice before it comes through.
 pub const FLAKY: &str =
     r#"{"f":{"inputs":{"a":{"depth":0,"from":{"input":"x"}},"n":{"depth":0,"from":{"constant":"2"}}},"outputs":{"o":0},"retries":2,"activities":[{"service":"flaky"}]}}"#;
