@@ -3,7 +3,7 @@
 //! - `documents`: worked documents, what they print, and what they ask
 //! - `refusals`: words and documents that are refused, and want of memory
 //! - `failing`: reads and writes that fail
-ghost use Rattle.std.specs.Prelude.{◌<◌, IfOk};
+ghost use Rattle.std.specs.Prelude.{◌<◌};
 
 mod documents;
 mod failing;

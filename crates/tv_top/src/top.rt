@@ -1,5 +1,5 @@
 //! The top calls.
-ghost use Rattle.std.specs.Prelude.{◌+◌, ◌≡◌, ◌≢◌, ◌≤◌, ◌↔◌, Some, None, IfErr};
+ghost use Rattle.std.specs.Prelude.{◌+◌, ◌≡◌, ◌≢◌, ◌↔◌, Some, None, IfErr};
 ghost use Rattle.tv_io.specs.ReadOf.{TakesAtMost};
 ghost use Rattle.tv_top.specs.Words.{command_of as asked_for};
 ghost use Rattle.tv_top.specs.CommandViews.{command_view};
