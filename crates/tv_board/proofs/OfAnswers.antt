@@ -12,10 +12,10 @@ use Rattle.tv_entries.specs.Refusals.{IsAccepting}
 use Rattle.tv_entries.specs.Runs.{Run}
 use Rattle.tv_entries.specs.declared.ticket.Ticket.{Ticket}
 use Rattle.tv_entries.specs.declared.told.Accepted.{Accepted}
-use Rattle.tv_run.specs.Standing.{StandsOpen, run_of}
-use Rattle.tv_run.specs.Turns.{AcceptsTo, IsAsked, StandsStill, StaysAs}
+use Rattle.tv_run.specs.Standing.{StandsOpen, StandsStill, run_of}
+use Rattle.tv_run.specs.Turns.{AcceptsTo, IsAsked, StaysAs}
 use Rattle.tv_run.specs.declared.run.OpenRun.{OpenRun}
-use Rattle.tv_run.proofs.OfLawful.{open-asked}
+use Rattle.tv_run.proofs.OfOver.{open-asked}
 use Rattle.tv_board.specs.Refusals.{IsRefused, answered, told_or_back}
 use Rattle.tv_board.specs.declared.answer.Answer.{Answer}
 use Rattle.tv_board.proofs.OfCalls.{still}

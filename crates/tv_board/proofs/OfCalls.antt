@@ -15,16 +15,15 @@ use Rattle.tv_entries.specs.Runs.{Appends, IsLegalRun, Run, meant, past_of}
 use Rattle.tv_entries.specs.Settlements.{IsSettling}
 use Rattle.tv_entries.specs.declared.ticket.JobState.TheVariants as state
 use Rattle.tv_entries.specs.declared.ticket.Ticket.{Ticket}
-use Rattle.tv_run.specs.Standing.{StandsOpen, run_of}
-use Rattle.tv_run.specs.Turns.{HandsOut, IsOver, RecallsTo, SettlesTo, StandsStill, StaysAs}
+use Rattle.tv_run.specs.Standing.{StandsOpen, StandsStill, run_of}
+use Rattle.tv_run.specs.Turns.{HandsOut, IsOver, RecallsTo, SettlesTo, StaysAs}
 use Rattle.tv_run.specs.declared.run.OpenRun.{OpenRun}
-use Rattle.tv_run.proofs.OfLawful.{legal-still}
 
 pub still : (gives : Giving) (r : OpenRun) → StandsOpen gives r → StandsStill gives r
-still gives r st = (r.entries.items, st.0, st.1)
+still gives r st = (st.0, st.1)
 
 pub legal-now : (gives : Giving) (r : OpenRun) (x : Run) → run_of r ≡ x → StandsStill gives r → IsLegalRun gives x
-legal-now gives r x e st = subst (IsLegalRun gives) e (legal-still gives r st)
+legal-now gives r x e st = subst (IsLegalRun gives) e st.1.legal
 
 -- ---- a run that is over
 

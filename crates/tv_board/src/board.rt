@@ -12,7 +12,6 @@ ghost use Rattle.tv_history.specs.Histories.{is_done};
 ghost use Rattle.tv_entries.specs.Answers.{question};
 ghost use Rattle.tv_entries.specs.Calls.{IsNothingOffered, IsTask, IsTaskFault, hands_out, out_count, totals_so_far};
 ghost use Rattle.tv_entries.specs.Declarations.{declared_for};
-ghost use Rattle.tv_going.specs.Flat.{opens_nothing};
 ghost use Rattle.tv_entries.specs.Idle.{AreIdle};
 ghost use Rattle.tv_board.specs.Refusals.{IsRefused, answered, told_or_back};
 ghost use Rattle.tv_entries.specs.Refusals.{IsAccepting};
@@ -47,8 +46,7 @@ impl<V: Services> Model for Board<V> {
 
     ghost coded = { coded_run entry_type.the_row.coded };
 
-    ghost use Rattle.tv_run.specs.Standing.{run_of};
-    ghost use Rattle.tv_run.specs.Turns.{StandsStill};
+    ghost use Rattle.tv_run.specs.Standing.{StandsStill, run_of};
 
     ghost view = { λ b. run_of b.run };
 
@@ -71,7 +69,6 @@ fn told_or_back<V: Services>(
 impl<V: Services> Board<V> {
     /// A run of which nothing is done. Linear in the main flow, in the values given and in the jobs that are known then.
     pub fn start(alloc: Global, run: CheckedRun) -> Result<Board<V>, NoMemory>
-        requires { opens_nothing (run_view run) ≡ true }
         ensures document { IfOk result (λ b. b.document ≡ run_view run) }
         ensures empty { IfOk result (λ b. b.entries ≡ []) }
         ensures legal { IfOk result (λ b. IsLegalRun V.gives b) }

@@ -5,28 +5,26 @@
 //! and each call appends one entry or none. The board knows only the outcomes that were accepted. What it works out by them is
 //! so by the services too.
 //!
-//! It is a run over a frame (`tv_run`) of which a type tells by which services it goes. For now no activity may open a flow.
+//! It is a run over frames (`tv_run`) of which a type tells by which services it goes.
 //!
-//! What a call costs, where the steps are those of the main flow:
+//! What a call costs:
 //!
 //! - `history`, `is_done` are constant, `name_of` linear in the name, `outputs` linear in them
 //! - `task` is linear in what is asked; `ask` and `ask_alone` cost the one call that they make
-//! - `hand_out` and `settle_one` look at each step, and then cost what they change; a job that is bounced costs what it binds too
+//! - `hand_out` and `settle_one` walk down to the first job that goes on, and then cost what they change; a job that is bounced costs
+//!   what it binds too, and an instance that is opened a look at each step of its flow
 //! - `accept` compares the inputs, and then costs what it changes: what its job gives, and what becomes known with it
-//! - `recall_all` is linear in the jobs that are known and in the steps, `totals` in the history and in those jobs
+//! - `recall_all` is linear in the jobs that are known and in the steps, of the open instances; `totals` is linear in the history
 //!
 //! - `board`: the type and its calls
 //! - `answer`, `refused`: what is asked for a task, and answers that are given back
-//! - `flat`: whether a document opens no flow, so that a board can run it
 #![tactic(auto)]
 
 mod answer;
 mod board;
-mod flat;
 mod refused;
 
 pub use answer::{Answer, ask, ask_alone};
 pub use board::Board;
-pub use flat::opens_nothing;
 pub use refused::Refused;
 pub use tv_entries::{Accepted, Entry, JobState, Task, TaskFault, Ticket};

@@ -1,12 +1,10 @@
 -- What is found in a tree is what stands there in the value, and is found exactly where it is known.
-use Rattle.std.specs.Prelude.{◌≡◌, refl, ℕ, zero, suc, Bool, true, false, ◌||◌, if◌then◌else◌, [], ◌∷◌, ◌++◌, Some, None, is_some, option_and_then}
+use Rattle.std.specs.Prelude.{◌≡◌, refl, ℕ, zero, suc, true, false, [], ◌∷◌, ◌++◌, Some, None, is_some, option_and_then}
 use Rattle.std.proofs.Common.{sym, ap, ◌∙◌, true≢false}
-use Rattle.std.specs.List.{list_any}
 use Rattle.std.proofs.lemmas.Option.{same_Some}
-use Rattle.std.proofs.lemmas.List.Folds.{list_any-append}
-use Rattle.tv_value.specs.Nested.{leaf, list, no_trees, tree, Place, at, item_at, leaves, all_leaves}
-use Rattle.tv_value.specs.Values.{Value, is_fault, holds_fault}
-use Rattle.tv_parts.specs.Partials.{Partial, wanting, item, growing, closed, Parts, no_parts, part, part_of, shows, whole, all_whole, holds_some, some_holds}
+use Rattle.tv_value.specs.Nested.{leaf, list, no_trees, tree, Place, at, item_at}
+use Rattle.tv_value.specs.Values.{Value}
+use Rattle.tv_parts.specs.Partials.{Partial, wanting, item, growing, closed, Parts, no_parts, part, part_of, shows, whole, all_whole}
 use Rattle.tv_parts.specs.Below.{Values, Below, FirstBelow, EachBelow, value_in, values_in}
 use Rattle.tv_parts.proofs.Wholeness.{whole-is}
 use Rattle.tv_cell.proofs.OfSameness.{left, right, both}
@@ -102,29 +100,6 @@ found-known (i ∷ q) wanting w s h k = absurd (found-none (i ∷ q) w h)
 found-known (i ∷ q) (item u) w s h k = refl
 found-known (i ∷ q) (growing ps) w s h k = found-known q (part_of ps i) w s h k
 found-known (i ∷ q) (closed ps) w s h k = found-known q (part_of ps i) w s h k
-
--- ---- faults
-
-either : (a b c d : Bool) → a ≡ c → b ≡ d → (if a then true else b) ≡ (c || d)
-either true b c d e f = ap (λ x. x || d) e
-either false b c d e f = f ∙ ap (λ x. x || d) e
-
-mutual
-  holds-value : (r : Partial Value) → holds_some holds_fault r ≡ holds_fault (value_in r)
-  holds-value wanting = refl
-  holds-value (item u) = refl
-  holds-value (growing ps) = holds-values ps
-  holds-value (closed ps) = holds-values ps
-
-  holds-values : (ps : Parts Value) → some_holds holds_fault ps ≡ list_any is_fault (all_leaves (values_in ps))
-  holds-values no_parts = refl
-  holds-values (part p ps) =
-      either (holds_some holds_fault p) (some_holds holds_fault ps) (holds_fault (value_in p)) (list_any is_fault (all_leaves (values_in ps))) (holds-value p) (holds-values ps)
-      ∙ sym (list_any-append is_fault (leaves (value_in p)) (all_leaves (values_in ps)))
-
--- the whole that is found holds a fault where the tree does
-pub found-holds : (r : Partial Value) (w : Value) → found_in [] r ≡ Some w → holds_some holds_fault r ≡ holds_fault w
-found-holds r w h = holds-value r ∙ ap holds_fault (found-whole r w h).1
 
 -- ---- inside what is whole
 

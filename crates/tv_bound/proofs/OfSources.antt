@@ -15,7 +15,7 @@ use Rattle.tv_wires.specs.declared.feeds.NumberedFeed.TheVariants.{Merge}
 use Rattle.tv_wires.specs.Turned.{links_of}
 use Rattle.tv_outputs.specs.FoundIn.{found_in}
 use Rattle.tv_outputs.specs.Known.{tree_in}
-use Rattle.tv_bound.specs.Found.{Known, link_found, all_found, merge_found}
+use Rattle.tv_bound.specs.Found.{all_found}
 use Rattle.tv_bound.specs.Sourced.{tree_from}
 
 never : {C : Type 0} → false ≡ true → C
@@ -73,23 +73,6 @@ output-there trees (f ∷ fs) (suc s) o q h =
     let r = output-there trees fs s o q h in
     record { step = up s (length fs) r.step; tree = r.tree; is = r.is }
 
--- ---- merged links
-
-module _ (k : Known) where
-  pub link-within : (ls : List NumberedLink) (i : ℕ) (q : Place) → is_some (option_and_then (λ l. link_found k l q) (slice_get ls i)) ≡ true → i < length ls
-  link-within [] i q h = never h
-  link-within (l ∷ ls) zero q h = first-below (length ls)
-  link-within (l ∷ ls) (suc i) q h = up i (length ls) (link-within ls i q h)
-
-  pub link-at : (ls : List NumberedLink) (i : ℕ) (q : Place) (d : NumberedLink) → i < length ls → option_and_then (λ l. link_found k l q) (slice_get ls i) ≡ link_found k (slice_index_or ls i d) q
-  link-at [] i q d lt = none-below i lt
-  link-at (l ∷ ls) zero q d lt = refl
-  link-at (l ∷ ls) (suc i) q d lt = link-at ls i q d (down i (length ls) lt)
-
-  -- the first of a place is that of the merge
-  pub merge-first : (ls : List NumberedLink) (q : Place) (i : ℕ) (r : Place) → q ≡ i ∷ r → merge_found k ls q ≡ option_and_then (λ l. link_found k l r) (slice_get ls i)
-  merge-first ls q i r e = ap (merge_found k ls) e
-
 -- ---- all of some
 
 pub each-found : (os : List (Option Value)) (i : ℕ) → is_some (all_found os) ≡ true → i < length os → is_some (slice_index_or os i None) ≡ true
@@ -144,13 +127,6 @@ as-many ps os e = sym (length-map (piece_values ps) Some ∙ length-map ps piece
 pub some-inside : {A B : Type 0} (f : A → B) (o : Option A) → is_some (option_map f o) ≡ true → is_some o ≡ true
 some-inside f None h = h
 some-inside f (Some x) h = refl
-
--- ---- ports
-
-pub place-within : {A B : Type 0} (f : A → Option B) (xs : List A) (i : ℕ) → is_some (option_and_then f (slice_get xs i)) ≡ true → i < length xs
-place-within f [] i h = never h
-place-within f (x ∷ xs) zero h = first-below (length xs)
-place-within f (x ∷ xs) (suc i) h = up i (length xs) (place-within f xs i h)
 
 -- ---- what is found by numbers
 

@@ -1,7 +1,7 @@
 -- One-item lists.
 use Rattle.std.specs.Prelude.{◌≡◌, refl, ℕ, zero, suc, ◌+◌, ◌++◌, replicate}
 use Rattle.std.specs.List.{list_any}
-use Rattle.std.proofs.Common.{sym, ap, ◌∙◌, arith}
+use Rattle.std.proofs.Common.{ap, ◌∙◌}
 use Rattle.std.proofs.lemmas.List.{append-nil}
 use Rattle.tv_value.specs.Nested.{Place, at, leaves}
 use Rattle.tv_value.specs.Values.{Value, is_fault, holds_fault}
@@ -18,10 +18,3 @@ wrapped-faults (suc n) v = ap (list_any is_fault) (append-nil (leaves (wrapped_v
 
 pub wrapping-keeps : WrappingKeeps
 wrapping-keeps = record { inside = inside; faults = wrapped-faults }
-
--- one more list around the others is one more wrapping
-pub wrapped-more : (n : ℕ) (v : Value) → wrapped_value 1 (wrapped_value n v) ≡ wrapped_value (n + 1) v
-wrapped-more n v = ap (λ m. wrapped_value m v) (sym (one n))
-  where
-    one : (n : ℕ) → n + 1 ≡ suc n
-    one n = omega arith

@@ -104,9 +104,5 @@ module _ (knows : Name → Bool) (d : Document) where
       (each-by _ _ d.flows (λ f h. all-flat (has_name d.flows) (λ s. filter_map opened_flow s.1.activities) f.1.steps (each-by _ _ f.1.steps (λ x i. i.opened) h)) flows))
       ∙ each-all (λ f. links_inside f.1) d.flows (each-by _ _ d.flows (λ f h. each-all (λ x. list_all (has_name f.1.steps) (earlier_steps x.1)) f.1.steps (each-by _ _ f.1.steps (λ x i. i.earlier) h)) flows)
 
--- the flows that are opened are there, and so is what comes before the steps of each flow
-pub opened-inside : (d : Document) → names_inside d ≡ true → leads_inside opened_flows d.flows ≡ true
-opened-inside d e = (both (leads_inside opened_flows d.flows) (list_all (λ f. links_inside f.1) d.flows) e).0
-
 pub flow-links-inside : (d : Document) → names_inside d ≡ true → (k : ℕ) (x : Name × Flow) → k < length d.flows → links_inside (get_or d.flows k x).1 ≡ true
 flow-links-inside d e k x lt = list_all-at (λ f. links_inside f.1) d.flows k x (both (leads_inside opened_flows d.flows) (list_all (λ f. links_inside f.1) d.flows) e).1 lt

@@ -1,6 +1,6 @@
 -- Steps by rank, by the order of their numbers.
 use Rattle.std.proofs.lemmas.Bool.{lt-ltb}
-use Rattle.std.specs.Prelude.{nat_lt, ◌≡◌, ℕ, zero, suc, ◌<◌, ◌≤◌, List, [], ◌∷◌, length, map, Bool, true, false, not, ◌&&◌, ◌||◌, Option, Some, None, option_map, refl, is_some, find, filter, if◌then◌else◌}
+use Rattle.std.specs.Prelude.{nat_lt, ◌≡◌, ℕ, zero, suc, ◌≤◌, List, [], ◌∷◌, length, map, Bool, true, false, not, ◌&&◌, ◌||◌, Option, Some, None, option_map, refl, is_some, find, filter, if◌then◌else◌}
 use Rattle.std.specs.List.{list_all, cons_option, range_with_len}
 use Rattle.std.specs.Option.{option_map_or}
 use Rattle.std.proofs.Common.{arith, get_or, ap, sym, ◌∙◌, cond}
@@ -15,7 +15,7 @@ use Rattle.tv_naming.specs.Numbers.{position}
 use Rattle.tv_depths.specs.Ranks.{earlier_steps, is_among, by_rank, ranked}
 use Rattle.tv_check.specs.RankNumbers.{place, numbers_by_rank, ranks_by_number}
 use Rattle.tv_check.specs.NamedGraphs.{numbers_of, leads_inside}
-use Rattle.tv_naming.proofs.OfLists.{both, Each, each-at, list_all-at, find-same, find-map, find-each, find-filter, filter-filter, filter-same, filter-all, map-map, map-each, each-get, pair-same}
+use Rattle.tv_naming.proofs.OfLists.{both, Each, each-at, list_all-at, find-same, find-map, find-each, find-filter, filter-filter, filter-same, filter-all, map-map, map-each}
 use Rattle.tv_naming.proofs.ByPosition.{names_of, same_name-sym, there, named-at, number-there}
 use Rattle.tv_check.proofs.OfGraphs.{graph, at, before-next, position-apart}
 use Rattle.tv_check.proofs.OfCycles.{IsThere, each-there, positions, vertices-are}
@@ -166,18 +166,6 @@ module _ (xs : List (Name × Step)) (rises : is_ascending (names_of xs) ≡ true
       ap (map (λ v. place v (numbers_by_rank xs))) (sym (positions xs rises))
       ∙ map-map (λ v. place v (numbers_by_rank xs)) (λ s. position s.0 xs) xs
       ∙ map-each (IsThere xs) _ _ xs (each-there xs rises) (λ s e. place-position s.0 (ranked xs) e.0 ranked-there)
-
-  -- a step by rank stands in the list of steps at its number
-  pub ranked-entry : (k : ℕ) (d : Name × Step) → k < length (ranked xs) → get_or xs (position (get_or (ranked xs) k d).0 xs) d ≡ get_or (ranked xs) k d
-  ranked-entry k d lt = entry-of (get_or (ranked xs) k d) (each-get (IsThere xs) (ranked xs) ranked-there k d lt)
-    where
-      entry-of : (s : Name × Step) → IsThere xs s → get_or xs (position s.0 xs) d ≡ s
-      entry-of s e =
-          let t = there s.0 xs e.0 in
-          let x : Some s.1 ≡ Some (get_or xs (position s.0 xs) d).1 = sym e.1 ∙ t.thing d in
-          let y : s.1 ≡ (get_or xs (position s.0 xs) d).1 = cc in
-          let z : (get_or xs (position s.0 xs) d).0 ≡ s.0 = t.name d in
-          pair-same (get_or xs (position s.0 xs) d) s z (sym y)
 
 -- ---- as many as are ranked
 

@@ -86,15 +86,6 @@ sum-next f is i x e = let n : suc i ≡ i + 1 = omega arith in subst (λ j. sum_
     by_suc (y ∷ ys) zero e = let p : y ≡ x = cc in ap (λ (z : Name × StepInput). f z.0 + sum_of_depths f (ports_of ys)) p
     by_suc (y ∷ ys) (suc k) e = by_suc ys k e
 
-pub sum-none : (f : Name → ℕ) (is : List (Name × StepInput)) (i : ℕ) → length is ≤ i → sum_of_depths f (ports_of (drop i is)) ≡ 0
-sum-none f [] zero h = refl
-sum-none f [] (suc i) h = refl
-sum-none f (x ∷ is) zero h = absurd (long (length is) h)
-  where
-    long : (n : ℕ) → suc n ≤ 0 → ⊥
-    long n p = omega arith
-sum-none f (x ∷ is) (suc i) h = sum-none f is i (omega arith)
-
 -- ---- strategies whose leaves are the ports
 
 times-is : (n : Name) (ms : List Name) → times n ms ≡ count_by (same_name n) ms

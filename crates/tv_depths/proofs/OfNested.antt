@@ -1,5 +1,5 @@
 -- Ports that are the same, and flows that were measured.
-use Rattle.std.proofs.Common.{◌≡◌, ◌∙◌, refl, sym, ap, subst, ℕ, zero, suc, ◌<◌, ◌≤◌, ◌+◌, List, [], ◌∷◌, length, map, drop, Bool, true, false, not, ◌&&◌, Option, Some, None, option_map, unwrap_or, arith, get_or, slice_get, if◌then◌else◌}
+use Rattle.std.proofs.Common.{◌≡◌, ◌∙◌, refl, sym, ap, subst, ℕ, zero, suc, ◌<◌, ◌+◌, List, [], ◌∷◌, length, map, drop, Bool, true, false, not, ◌&&◌, Option, Some, None, option_map, unwrap_or, arith, get_or, slice_get, if◌then◌else◌}
 use Rattle.std.proofs.lemmas.Option.{slice_get-get_or}
 use Rattle.std.specs.Prelude.{◌==◌, is_some}
 use Rattle.std.specs.Option.{option_map_or}
@@ -27,9 +27,6 @@ use Rattle.tv_naming.proofs.FormedParts.{each-names, ascending, document-flows}
 use Rattle.tv_depths.proofs.OfLinks.{named-each, length-each, each-get}
 use Rattle.tv_naming.proofs.OfTold.{got}
 
-short : {A : Type 0} (n : ℕ) → suc n ≤ 0 → A
-short n p = absurd (omega arith)
-
 -- ---- the same ports
 
 pub ports-next : (ps qs : List (Name × ℕ)) (i : ℕ) (p q : Name × ℕ) → slice_get ps i ≡ Some p → slice_get qs i ≡ Some q → same_ports (drop i ps) (drop i qs) ≡ (same_name p.0 q.0 && p.1 == q.1 && same_ports (drop (i + 1) ps) (drop (i + 1) qs))
@@ -43,14 +40,6 @@ ports-next ps qs i p q e f = let n : suc i ≡ i + 1 = omega arith in subst (λ 
         let b : y ≡ q = cc in
         subst (λ (u : Name × ℕ). same_ports (x ∷ xs) (y ∷ ys) ≡ (same_name u.0 q.0 && u.1 == q.1 && same_ports xs ys)) a (subst (λ (u : Name × ℕ). same_ports (x ∷ xs) (y ∷ ys) ≡ (same_name x.0 u.0 && x.1 == u.1 && same_ports xs ys)) b refl)
     by_suc (x ∷ xs) (y ∷ ys) (suc k) e f = by_suc xs ys k e f
-
-pub ports-end : (ps qs : List (Name × ℕ)) (i : ℕ) → length ps ≡ length qs → length ps ≤ i → same_ports (drop i ps) (drop i qs) ≡ true
-ports-end [] [] zero e h = refl
-ports-end [] [] (suc i) e h = refl
-ports-end [] (q ∷ qs) i e h = cc
-ports-end (p ∷ ps) [] i e h = cc
-ports-end (p ∷ ps) (q ∷ qs) zero e h = short (length ps) h
-ports-end (p ∷ ps) (q ∷ qs) (suc i) e h = let f : length ps ≡ length qs = omega arith in ports-end ps qs i f (omega arith)
 
 differ : (b : Bool) → (b ≡ true → ⊥) → b ≡ false
 differ true h = absurd (h refl)

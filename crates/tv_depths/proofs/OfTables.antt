@@ -17,9 +17,6 @@ found s ms = find (λ m. same_name s m.step) ms
 apart : (n m : Name) → is_lt (name_cmp n m) ≡ true → (same_name n m ≡ false) × (same_name m n ≡ false)
 apart n m e = let f : same_name m n ≡ false = below-differs n m (less _ e) in (same_name-sym n m ∙ f, f)
 
-none-more : (n : ℕ) → suc n ≡ 0 → ⊥
-none-more n e = omega arith
-
 -- a name that comes before all the others isn't found
 absent : (s : Name) (ss : List (Name × Step)) (ls : List (Option ℕ)) → list_all (λ m. is_lt (name_cmp s m)) (names_of ss) ≡ true → found s (known ss ls) ≡ None
 absent s [] ls h = refl

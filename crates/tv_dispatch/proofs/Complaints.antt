@@ -1,5 +1,5 @@
 -- The complaints of a list of values, value by value.
-use Rattle.std.specs.Prelude.{◌≡◌, ℕ, zero, suc, ◌+◌, ◌<◌, ◌≤◌, List, [], ◌∷◌, map, drop, length, refl, Option, None}
+use Rattle.std.specs.Prelude.{◌≡◌, ℕ, zero, suc, ◌+◌, ◌<◌, List, [], ◌∷◌, map, drop, length, refl, Option}
 use Rattle.std.proofs.Common.{arith, ap, ◌∙◌, get_or}
 use Rattle.tv_value.specs.Values.{Name}
 use Rattle.tv_value.specs.declared.value.Value.{Value}
@@ -35,21 +35,3 @@ complaint-step os vs i o v h p =
 
     same : (i : ℕ) → first_complaint (suc (i + 1)) (drop (suc i) (depths_of os)) (drop (suc i) (map view vs)) ≡ complaint_from (i + 1) os vs
     same i = ap (λ n. first_complaint n (drop (suc i) (depths_of os)) (drop (suc i) (map view vs))) (next (i + 1)) ∙ ap (λ n. first_complaint (i + 1 + 1) (drop n (depths_of os)) (drop n (map view vs))) (next i)
-
-of_none : (k : ℕ) (ds : List ℕ) → first_complaint k ds [] ≡ None
-of_none k [] = refl
-of_none k (d ∷ ds) = refl
-
--- past the last value there is none
-pub complaint-end : (os : List (Name × ℕ)) (vs : List Value) (i : ℕ) → length os ≤ i → complaint_from i os vs ≡ None
-complaint-end os vs i h = by os (map view vs) i (i + 1) h
-  where
-    by : (os : List (Name × ℕ)) (us : List _) (i k : ℕ) → length os ≤ i → first_complaint k (drop i (depths_of os)) (drop i us) ≡ None
-    by [] us zero k p = refl
-    by [] us (suc i) k p = refl
-    by (o ∷ os) us zero k p = absurd (none (length os) p)
-      where
-        none : (n : ℕ) → suc n ≤ 0 → ⊥
-        none n q = omega arith
-    by (o ∷ os) [] (suc i) k p = of_none k (drop i (depths_of os))
-    by (o ∷ os) (u ∷ us) (suc i) k p = by os us i k (omega arith)

@@ -35,12 +35,6 @@ job_place (job_at q) = q ∷ []
 job_place (list_at q n) = []
 job_place (fault_at q l) = []
 
-places-flat : (os : List Outcome) → sorting.job_places os ≡ flat_map job_place os
-places-flat [] = refl
-places-flat (job_at q ∷ os) = ap (λ l. q ∷ l) (places-flat os)
-places-flat (list_at q n ∷ os) = places-flat os
-places-flat (fault_at q l ∷ os) = places-flat os
-
 places-unnamed : (os : List Outcome) → flat_map job_place (map unnamed os) ≡ sorting.job_places os
 places-unnamed [] = refl
 places-unnamed (job_at q ∷ os) = ap (λ l. q ∷ l) (places-unnamed os)

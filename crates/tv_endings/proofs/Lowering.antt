@@ -21,10 +21,6 @@ pub record EndsOne (e e2 : Endings) (d : ℕ) : Type 0 where
   pub ended : e2.ended.items ≡ set e.ended.items d true
   pub fresh : e2.fresh.items ≡ e.fresh.items ++ d ∷ []
 
-pub record SameEnds (e e2 : Endings) : Type 0 where
-  pub ended : e2.ended.items ≡ e.ended.items
-  pub fresh : e2.fresh.items ≡ e.fresh.items
-
 module _ (e e2 : Endings) (d : ℕ) (o : EndsOne e e2 d) (lt : d < length e.ended.items) where
   pub ended-itself : has_ended e2 d ≡ true
   ended-itself = ap (λ bs. get_or bs d false) o.ended ∙ get_or-set_same e.ended.items d true false lt
@@ -133,9 +129,6 @@ module _ (after dependents : List (List ℕ)) (was : ℕ → Bool) (e : Endings)
 
   pub within-ended : d < length e.ended.items
   within-ended = let n = c.ended_each in omega (arith, n, inside)
-
-  pub within-whole : d < length e.whole.items
-  within-whole = let n = c.whole_each in omega (arith, n, inside)
 
   -- those still to be counted down after it
   abbrev pub others : ℕ → ℕ

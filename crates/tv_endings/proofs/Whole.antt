@@ -133,9 +133,6 @@ module _ (after dependents : List (List ℕ)) (turned : AreTurned after dependen
   left-is : (s : ℕ) → s < length after → get_or e2.left.items s 0 ≡ count_by (λ a. not (has_ended e a)) (after_of after s)
   left-is s lt = ap (λ v. get_or v.items s 0) m.left ∙ sound.left s lt
 
-  pub is-growing : 0 < e.growing
-  is-growing = let a = count-set e.whole.items step at-whole new in let b = sound.growing in omega (arith, a, b)
-
   growing-now : e2.growing ≡ count_by not e2.whole.items
   growing-now =
       let a = count-set e.whole.items step at-whole new in

@@ -56,14 +56,6 @@ impl Endings {
         self.whole[step as usize]
     }
 
-    /// Whether a step has ended.
-    pub fn has_ended(&self, step: u32) -> bool
-        requires { step < length self.now.ended.items }
-        ensures { result ≡ has_ended self.now step }
-    {
-        self.ended[step as usize]
-    }
-
     /// Whether a step's jobs may settle: the steps that it runs after have ended.
     pub fn may_settle(&self, wiring: &Wiring, step: u32) -> bool
         requires sound { IsSound wiring.now.after self.now }

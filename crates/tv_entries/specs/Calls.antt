@@ -1,7 +1,7 @@
 -- What the calls of a board say of its run.
 use Rattle.std.specs.List.{list_any}
 use Rattle.std.specs.Option.{option_map_or}
-use Rattle.std.specs.Prelude.{Bool, List, None, Option, Some, [], false, filter, find, if◌then◌else◌, is_some, map, option_and_then, slice_get, suc, true, ℕ, ◌&&◌, ◌∷◌, ◌≡◌}
+use Rattle.std.specs.Prelude.{Bool, List, None, Option, Some, false, filter, find, if◌then◌else◌, is_some, map, option_and_then, slice_get, true, ℕ, ◌&&◌, ◌≡◌}
 use Rattle.tv_value.specs.Orders.{same_job}
 use Rattle.tv_value.specs.Values.{JobName}
 use Rattle.tv_gate.specs.Outcomes.{Giving}
@@ -14,6 +14,7 @@ use Rattle.tv_history.specs.Entries.{History, is_out}
 use Rattle.tv_history.specs.Histories as histories
 use Rattle.tv_history.specs.Histories.{has_open_instance, is_ask, is_legal_after, is_offered, is_ready, is_running, is_settled, next_ask}
 use Rattle.tv_history.specs.ReadOff.{read_totals}
+use Rattle.tv_outcomes.specs.Activities.{last_activity}
 use Rattle.tv_entries.specs.Answers.{Question}
 use Rattle.tv_entries.specs.Runs.{Appends, Run, meant, past_of}
 use Rattle.tv_entries.specs.declared.told.TaskFault.{TaskFault}
@@ -67,12 +68,6 @@ job_at m names k = option_and_then (λ n. find (λ (j : Job). same_job n j.name)
 
 abbrev pub job_of : Giving → Run → ℕ → Option Job
 job_of gives r k = job_at (meant gives r) r.names k
-
--- an idle job whose tries are at an end goes on with the flow of the activity after the last
-abbrev pub last_activity : List Ask → ℕ
-last_activity [] = 0
-last_activity (a ∷ []) = suc a.activity
-last_activity (a ∷ b ∷ as') = last_activity (b ∷ as')
 
 module _ (m : Meaning) (past : History) where
   -- this try of the job, where it is out

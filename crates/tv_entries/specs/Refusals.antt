@@ -41,11 +41,6 @@ pub record WasAccepted (gives : Giving) (old new : Run) (q : Question) (o : Outc
   pub right : good ≡ is_right q o
   pub appends : Appends old new (accepts q.ticket good)
 
--- what became of the job, by whether it is settled and whether the outcome was right
-abbrev pub accepted_if : Bool → Bool → Accepted
-accepted_if true good = accepted.Settled good
-accepted_if false good = accepted.Again
-
 -- the job of a number is settled
 abbrev pub is_settled_job : Giving → Run → ℕ → Bool
 is_settled_job gives r k = option_map_or (is_settled (past_of r)) (job_of gives r k) false

@@ -7,7 +7,7 @@ use Rattle.tv_value.specs.Nested.{Place, Trees, at, leaf, list, no_trees, tree}
 use Rattle.tv_value.specs.Orders.{named, same_name}
 use Rattle.tv_value.specs.Values.{JobName, Name, Scalar, Value}
 use Rattle.tv_flow.specs.Flows.{Flow, Link, Step, input, output}
-use Rattle.tv_strategy.specs.Origins.{Origin, Traced, fixed, from_input, input_value, input_values}
+use Rattle.tv_strategy.specs.Origins.{Origin, Traced, from_input, input_value, input_values}
 use Rattle.tv_strategy.specs.Sources.{AtAllNodes, AtNodes, Each}
 use Rattle.tv_naming.specs.Naming.{has_name, is_there}
 use Rattle.tv_naming.specs.Numbers.{position}
@@ -110,9 +110,6 @@ module _ (flows : List (Name × Flow)) (levels : Name → ℕ) (v : View) (e : E
   -- what is known from the start stays so
   abbrev pub Stays : Origin → Type 0
   Stays o = known_by instance (e ∷ v.events) o ≡ known_by instance v.events o
-
-  pub start-stays : Stays fixed
-  start-stays = refl
 
   input-stays : (x : Name) → AtNodes Stays (delivers (input x)).value
   input-stays x = named_or (λ d. AtNodes Stays d.value) x given nothing_delivered (given-have Stays (λ y q. refl) v.flow v.inputs) (refl, tt)

@@ -1,9 +1,8 @@
 -- Feeds that come to be known, link by link.
 use Rattle.std.specs.List.{list_all, list_any}
-use Rattle.std.specs.Prelude.{◌≡◌, refl, ℕ, zero, suc, ◌<◌, ◌==◌, ◌&&◌, ◌||◌, Bool, true, false, not, List, [], ◌∷◌, get_or, length}
-use Rattle.std.proofs.Common.{arith, ap, sym, ◌∙◌}
+use Rattle.std.specs.Prelude.{◌≡◌, refl, ℕ, ◌==◌, ◌&&◌, ◌||◌, Bool, true, false, not, List, [], ◌∷◌}
+use Rattle.std.proofs.Common.{ap, sym, ◌∙◌}
 use Rattle.std.proofs.lemmas.Bool.{eqb-true, true≢false}
-use Rattle.tv_strategy.specs.Sources.{Each}
 use Rattle.tv_wires.specs.declared.feeds.NumberedLink.{NumberedLink}
 use Rattle.tv_wires.specs.declared.feeds.NumberedLink.TheVariants.{Input, Output}
 use Rattle.tv_wires.specs.declared.feeds.NumberedFeed.TheVariants.{Link, Merge, Constant}
@@ -74,12 +73,3 @@ pub feeds-once : FeedsTurnWholeOnce
 feeds-once whole s new (Link l) = one whole s new l
 feeds-once whole s new (Merge ls) = each whole s new ls
 feeds-once whole s new Constant = refl
-
-none : {A : Type 0} (i : ℕ) → i < 0 → A
-none i p = absurd (omega arith)
-
--- what is so of each is so of one of them
-pub each-at : {A : Type 0} (P : A → Type 0) (xs : List A) (i : ℕ) (d : A) → Each P xs → i < length xs → P (get_or xs i d)
-each-at P [] i d h l = none i l
-each-at P (y ∷ xs) zero d h l = h.0
-each-at P (y ∷ xs) (suc i) d h l = each-at P xs i d h.1 (omega arith)

@@ -1,9 +1,9 @@
 -- Reading a list entry by entry: the entries so far, before what the rest gives.
-use Rattle.std.specs.Prelude.{◌≡◌, ℕ, zero, suc, ◌+◌, ◌<◌, ◌≤◌, List, [], ◌∷◌, ◌++◌, length, drop, Bool, true, false, ◌&&◌, Result, Ok, Err, String, string_bytes, refl}
+use Rattle.std.specs.Prelude.{◌≡◌, ℕ, zero, suc, ◌+◌, ◌<◌, List, [], ◌∷◌, ◌++◌, length, drop, Bool, true, false, ◌&&◌, Result, Ok, Err, String, string_bytes, refl}
 use Rattle.std.specs.declared.alloc.Global.{Global}
 use Rattle.std.specs.List.{list_all}
-use Rattle.std.proofs.Common.{ap, sym, ◌∙◌, arith, get_or, append_assoc, append-nil}
-use Rattle.serde_json.specs.Data.{Data, no_items, item}
+use Rattle.std.proofs.Common.{ap, sym, ◌∙◌, arith, get_or, append_assoc}
+use Rattle.serde_json.specs.Data.{Data, item}
 use Rattle.serde_json.specs.View.{view as json_view, items_view as json_items, members_view}
 use Rattle.serde_json.specs.declared.value.Value.{Value as Json}
 use Rattle.tv_value.specs.Values.{Text, Name}
@@ -18,16 +18,9 @@ module _ {A : Type 0} where
   abbrev pub put_before : List A → Result (List A) Complaint → Result (List A) Complaint
   put_before xs r = given r (λ ys. Ok (xs ++ ys))
 
-  pub put_before-nothing : (r : Result (List A) Complaint) → put_before [] r ≡ r
-  put_before-nothing (Ok ys) = refl
-  put_before-nothing (Err c) = refl
-
   pub put_before-push : (xs : List A) (x : A) (r : Result (List A) Complaint) → put_before xs (given r (λ ys. Ok (x ∷ ys))) ≡ put_before (xs ++ x ∷ []) r
   put_before-push xs x (Ok ys) = ap Ok (sym (append_assoc xs (x ∷ []) ys))
   put_before-push xs x (Err c) = refl
-
-  pub put_before-end : (xs : List A) → put_before xs (Ok []) ≡ Ok xs
-  put_before-end xs = ap Ok (append-nil xs)
 
   -- a fault of the next thing is that of the whole
   pub stopped : {B : Type 0} (f : FormFault) (xs : List A) (a : Result B Complaint) (k : B → Result (List A) Complaint) → a ≡ told f a → put_before xs (given a k) ≡ told f (put_before xs (given a k))
@@ -44,12 +37,6 @@ item-at : (xs : List Json) (i : ℕ) (d : Json) → i < length xs → json_items
 item-at [] i d h = absurd (none i h)
 item-at (x ∷ xs) zero d h = refl
 item-at (x ∷ xs) (suc i) d h = item-at xs i d (omega arith)
-
-item-none : (xs : List Json) (i : ℕ) → length xs ≤ i → json_items (drop i xs) ≡ no_items
-item-none [] zero h = refl
-item-none [] (suc i) h = refl
-item-none (x ∷ xs) zero h = absurd (none (length xs) (omega arith))
-item-none (x ∷ xs) (suc i) h = item-none xs i (omega arith)
 
 -- ---- items of an array
 module _ {A : Type 0} (form : Path → Data → Result A Complaint) (here : Path) (xs : List Json) where
@@ -69,9 +56,6 @@ module _ {A : Type 0} (form : Path → Data → Result A Complaint) (here : Path
       let a = form (index here i) (json_view (get_or xs i d)) in
       let split : r ≡ put_before as' (given a (λ b. given (items_from (suc i)) (λ bs. Ok (b ∷ bs)))) = ap (λ ds. put_before as' (items_form form here i ds)) (item-at xs i d h) in
       split ∙ stopped f as' a (λ b. given (items_from (suc i)) (λ bs. Ok (b ∷ bs))) e ∙ ap (told f) (sym split)
-
-  pub items-end : (i : ℕ) (as' : List A) → length xs ≤ i → put_before as' (items_from i) ≡ Ok as'
-  items-end i as' h = ap (λ ds. put_before as' (items_form form here i ds)) (item-none xs i h) ∙ put_before-end as'
 
 -- ---- members of an object
 pub name-same : {p q : Path} {s t : Text} → p ≡ q → s ≡ t → name_or_not p s ≡ name_or_not q t
@@ -112,9 +96,6 @@ module _ {A : Type 0} (form : Path → Data → Result A Complaint) (here : Path
       ap (λ xs. put_before as' (entries_of xs)) split
       ∙ ap (λ r. put_before as' (given r (thing_then e (entries_of ts)))) p in
       whole ∙ stopped f as' (thing_of e) rest q ∙ ap (told f) (sym whole)
-
-  pub entries-end : (es : List Entry) (as' : List (Name × A)) → es ≡ [] → put_before as' (entries_of es) ≡ Ok as'
-  entries-end es as' none = ap (λ xs. put_before as' (entries_of xs)) none ∙ put_before-end as'
 
 -- ---- what each passes
 pub all-push : {A : Type 0} (test : A → Bool) (xs : List A) (x : A) → list_all test xs ≡ true → test x ≡ true → list_all test (xs ++ x ∷ []) ≡ true

@@ -3,16 +3,13 @@ use Rattle.std.specs.Prelude.{◌≡◌, ℕ, zero, suc, ◌+◌, ◌<◌, ◌�
 use Rattle.std.specs.declared.cmp.Ordering.{Ordering}
 use Rattle.std.specs.List.{list_all}
 use Rattle.std.specs.Ordering.{is_lt, ordering_reverse, match_ordering}
-use Rattle.std.proofs.Common.{ap, sym, ◌∙◌, arith, get_or, Less, Equal, Greater}
+use Rattle.std.proofs.Common.{ap, ◌∙◌, arith, get_or, Less, Equal, Greater}
 use Rattle.std.proofs.lemmas.Bool.Decides.{nat_tests}
 use Rattle.std.proofs.lemmas.Cmp.{nat_list_cmp_total}
 use Rattle.tv_value.specs.Values.{Name}
 use Rattle.tv_value.specs.Orders.{name_cmp, put_in_order, in_order}
 use Rattle.tv_flow.specs.Forms.{is_name}
 use Rattle.tv_flow.specs.Formed.{is_ascending, is_between, are_listed, are_names}
-
-next : (i : ℕ) → i + 1 ≡ suc i
-next i = omega arith
 
 none : (i : ℕ) → i < 0 → ⊥
 none i p = omega arith
@@ -34,14 +31,6 @@ module _ (n : Name) where
   put-equal [] i d h e = absurd (none i h)
   put-equal (x ∷ xs) zero d h e = ap (λ o. match_ordering o (n ∷ x ∷ xs) (x ∷ xs) (x ∷ put xs)) e
   put-equal (x ∷ xs) (suc i) d h e = ap (λ ys. x ∷ ys) (put-equal xs i d (omega arith) e)
-
-  step : (xs : List Name) (i : ℕ) (d : Name) → i < length xs → name_cmp n (get_or xs i d) ≡ Greater → put_from i xs ≡ put_from (suc i) xs
-  step [] i d h e = absurd (none i h)
-  step (x ∷ xs) zero d h e = ap (λ o. match_ordering o (n ∷ x ∷ xs) (x ∷ xs) (x ∷ put xs)) e
-  step (x ∷ xs) (suc i) d h e = ap (λ ys. x ∷ ys) (step xs i d (omega arith) e)
-
-  pub put-greater : (xs : List Name) (i : ℕ) (d : Name) → i < length xs → name_cmp n (get_or xs i d) ≡ Greater → put_from i xs ≡ put_from (i + 1) xs
-  put-greater xs i d h e = step xs i d h e ∙ ap (λ k. put_from k xs) (sym (next i))
 
   pub put-end : (xs : List Name) (i : ℕ) → length xs ≤ i → put_from i xs ≡ xs ++ n ∷ []
   put-end [] zero h = refl

@@ -15,9 +15,8 @@ use Rattle.tv_wires.specs.Feeds.{outputs_of}
 use Rattle.tv_outputs.specs.Kept as outputs
 use Rattle.tv_outputs.specs.Known.{Nodes, known, tree_in}
 use Rattle.tv_cell.specs.PieceValues.{piece_values}
-use Rattle.tv_cell.specs.Soundness.{AreSound}
 use Rattle.tv_bound.specs.declared.sources.Sources.{Sources}
-use Rattle.tv_bound.specs.Sourced.{Stand, known_by, tree_from}
+use Rattle.tv_bound.specs.Sourced.{known_by, tree_from}
 use Rattle.tv_check.specs.declared.plans.FlowPlan.{FlowPlan}
 use Rattle.tv_depths.proofs.OfRanked.{inside}
 use Rattle.tv_model.specs.Instances.{value_given}
@@ -46,13 +45,6 @@ at-range g m n l =
 module _ (flows : List (Name × Flow)) (plan : FlowPlan) (pool : Nodes) (f : Frame) (v : View) (keeps : Keeps flows plan pool f v) (a : Sources) (inputs_are : a.inputs.now ≡ f.inputs) (outputs_are : a.outputs.now ≡ f.outputs) (nodes_are : a.pool.now ≡ pool) (firsts_are : a.firsts.now ≡ f.tables.firsts.items) where
   abbrev levels : Name → ℕ
   levels = levels_in v.flow
-
-  pub all-stand : Stand a
-  all-stand = record {
-    region = f.region;
-    stand = subst (λ p. outputs.Stand p a.outputs.now f.region) (sym nodes_are) (subst (λ o. outputs.Stand pool o f.region) (sym outputs_are) keeps.stand);
-    sound = subst AreSound (sym inputs_are) keeps.inputs_are.sound;
-  }
 
   input-so : (y : Name) → has_name v.flow.inputs y ≡ true → slice_get (piece_values a.inputs.now) (position y v.flow.inputs) ≡ Some (value_given v.inputs y)
   input-so y h =

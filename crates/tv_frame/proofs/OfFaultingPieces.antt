@@ -8,7 +8,7 @@ use Rattle.tv_flow.specs.Flows.{Flow, Step}
 use Rattle.tv_flow.specs.Views.{flow_view, step_view}
 use Rattle.tv_flow.specs.declared.document.Step.{Step as CodeStep}
 use Rattle.tv_cell.specs.declared.piece.Piece.{Piece}
-use Rattle.tv_cell.specs.Found.{document_of, is_document, with_depth}
+use Rattle.tv_cell.specs.Found.{document_of, with_depth}
 use Rattle.tv_cell.specs.PieceValues.{piece_value, piece_values}
 use Rattle.tv_cell.specs.Soundness.{AreSound, IsSound, is_sound}
 use Rattle.tv_check.specs.declared.plans.FlowPlan.{FlowPlan}
@@ -133,9 +133,6 @@ some-there (suc n) h = omega arith
 pub ok-both : {T E : Type 0} (P Q : T → Type 0) (r : Result T E) → IfOk r P → IfOk r Q → IfOk r (λ x. P x × Q x)
 ok-both P Q (Ok x) h k = (h, k)
 ok-both P Q (Err e) h k = tt
-
-pub is-fault : (w : Value) (d : ErrorDoc) → w ≡ fault_value d → is_document (Some w) ≡ true
-is-fault w d e = ap (λ (u : Value). is_document (Some u)) e
 
 pub of-fault : (p w : Value) (d : ErrorDoc) (left : ℕ) → w ≡ fault_value d → p ≡ fault_value (with_depth (left + 0) (document_of w)) → p ≡ fault_value (with_depth left d)
 of-fault p w d left e h = h ∙ ap (λ m. fault_value (with_depth m (document_of w))) (more left) ∙ ap (λ (u : Value). fault_value (with_depth left (document_of u))) e

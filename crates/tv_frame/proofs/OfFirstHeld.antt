@@ -76,12 +76,6 @@ names-leaves g (t ∷ ts) h = (named-below (leaf_names g) (leaf_of t) (told_leaf
 -- ---- of a step of a plan
 
 module _ (flows : List (Name × Flow)) (p : FlowPlan) (vs : List Value) (can : CanStart flows p vs) (n : ℕ) (s : Name × Step) (at : slice_get (flow_view p.flow).steps n ≡ Some s) where
-  abbrev f : Flow
-  f = flow_view p.flow
-
-  abbrev values : List (Name × Value)
-  values = named_values (flow_view p.flow).inputs vs
-
   ins-named : (k : ℕ) (i : Name × StepInput) → slice_get s.1.inputs k ≡ Some i → is_name i.0 ≡ true
   ins-named k i e = (both _ _ (passes (λ (y : Name × StepInput). is_name y.0 && is_step_input y.1) s.1.inputs k i (all-pass is_step_input 0 16 s.1.inputs (step-inputs s.1 (step-at (flow_view p.flow) (plan-wired p).formed n s at))) e)).0
 

@@ -1,6 +1,6 @@
 -- A step added to the idle jobs, with room for its first job, and a frame of no steps yet.
 use Rattle.std.specs.Option.{option_map_or}
-use Rattle.std.specs.Prelude.{Option, Some, None, ◌≡◌, ◌⊎◌, refl, ℕ, zero, suc, ◌+◌, ◌<◌, ◌≤◌, false, List, [], ◌∷◌, ◌++◌, drop, length, map, replicate, slice_get, slice_set, sum_by}
+use Rattle.std.specs.Prelude.{Option, Some, None, ◌≡◌, ◌⊎◌, refl, ℕ, zero, suc, ◌+◌, ◌<◌, ◌≤◌, false, List, [], ◌∷◌, ◌++◌, drop, length, map, replicate, slice_set, sum_by}
 use Rattle.std.proofs.Common.{arith, sym, ap, subst, ◌∙◌, inl, inr}
 use Rattle.std.proofs.Math.Seq.{drop-append_seam}
 use Rattle.std.proofs.lemmas.List.{length-map}
@@ -37,7 +37,7 @@ use Rattle.tv_match.specs.Filed.{filed}
 use Rattle.tv_match.specs.Seen.{IsSound, in_order, matching}
 use Rattle.tv_match.proofs.Faults.{all-in_order}
 use Rattle.tv_intake.specs.declared.intakes.Intakes.{Intakes}
-use Rattle.tv_intake.specs.Intaken.{AreIntaken, HoldsThese, IsMadeAt, IsSoundAt, IsStartedAt, OthersStay, brought_at, brought_in, followed_at, known_jobs, matcher_at, placed, thing_in, waiting_things}
+use Rattle.tv_intake.specs.Intaken.{AreIntaken, HoldsThese, IsMadeAt, IsSoundAt, IsStartedAt, OthersStay, brought_at, brought_in, followed_at, known_jobs, matcher_at, waiting_things}
 use Rattle.tv_intake.specs.Sorting.{brought, job_places, jobs_among, others_among}
 use Rattle.tv_intake.proofs.OfIntakes.{ahead-parts}
 use Rattle.tv_spread.specs.Spreads.{IsLevelled, new_places}
@@ -46,13 +46,9 @@ use Rattle.tv_spread.proofs.OfShowing.{Shows, new-there}
 use Rattle.tv_match.specs.declared.told.Told as code
 use Rattle.std.proofs.lemmas.List.Sums.{sum_by-cons}
 use Rattle.tv_idle.specs.Idles.{Idles, StepIdle, none_idle, of_step, with_rooms_of}
-use Rattle.tv_idle.specs.Kept.{IsKept}
 use Rattle.tv_spread.specs.Spreads.{IsAt}
 use Rattle.tv_fed.proofs.OfWholeSteps.{endings-start}
 use Rattle.tv_joined.specs.EndedSteps.{AreEndingsOf}
-use Rattle.tv_model.specs.Members.{In}
-use Rattle.tv_turn.specs.IdleJobs.{IsIdle}
-use Rattle.tv_frame.specs.Started.{HaveBegun}
 use Rattle.tv_frame.specs.Tables.{levels_at, levels_in}
 use Rattle.tv_frame.proofs.OfBeginning.{HasSameJobs, IsAdded}
 use Rattle.tv_frame.proofs.OfTables.{wiring-is}
@@ -96,9 +92,6 @@ push-many (t ∷ ts) s = let m = push-many ts s in omega (arith, m)
 
 -- a step was added, of jobs with so many indices, and its rooms were taken
 module _ (idle a r m : Idles) (count depth : ℕ) (many : length idle.steps ≡ count) (added : a.steps ≡ idle.steps ++ none_idle depth ∷ []) (a_known : a.known ≡ idle.known) (rooms : r.steps ≡ slice_set a.steps count (with_rooms_of (of_step r.steps count) (of_step a.steps count))) (r_known : r.known ≡ a.known) (m_steps : m.steps ≡ r.steps) (m_known : m.known ≡ r.known) where
-  pub room-within : count < length a.steps
-  room-within = let n = ap length added in let p = push-many idle.steps (none_idle depth) in omega (arith, n, p, many)
-
   pub as-many : length m.steps ≡ count + 1
   as-many =
       let e = ap length m_steps in
@@ -186,45 +179,6 @@ first-jobs j c d levels st mm before a started deep e jobs known k =
     by (Some m) s w =
         let depth : strategy_depth (number_of (matching m).mismatch) (matching m).strategy ≡ levels = (λ i. strategy_depth (number_of (w.mismatch_is i)) (w.strategy_is i)) ∙ sym deep ∙ sym e in
         subst (λ n. Each (λ q. length q ≡ n) (job_places (in_order m))) depth (places-at (strategy_depth (number_of (matching m).mismatch) (matching m).strategy) (in_order m) (ordered-at m s))
-
--- ---- no step yet
-
-pub none-begun : (f : Flow) (tells : ℕ → Step → List Told) (i : Intakes) (idle : Idles) → i.matchers.items ≡ [] → i.jobs.items ≡ [] → i.waiting.items ≡ [] → AreIntaken i → idle.steps ≡ [] → idle.known ≡ 0 → HaveBegun f tells 0 i idle
-none-begun f tells i idle ms js ws a ss k = record {
-  intaken = a;
-  as_many = ap length ms;
-  matchers = λ n s lt e. absurd (none n lt);
-  jobs_are = no-jobs;
-  waiting_are = ap (map (thing_in i.matchers.items)) ws;
-  steps = ap length ss;
-  levels = λ n s lt e. absurd (none n lt);
-  idle_are = record {
-    known = k ∙ sym (ap length no-jobs);
-    good_kept = λ c. subst (λ l. IsKept (λ n. false) idle.known (of_step l c).good) (sym ss) (empty idle.known);
-    faulty_kept = λ c. subst (λ l. IsKept (λ n. false) idle.known (of_step l c).faulty) (sym ss) (empty idle.known);
-    all = λ n x e. absurd (no-entry (known_jobs i) n x no-jobs e);
-    none_else = λ c j d. absurd (no-idle c j (subst (λ l. IsIdle l c j) ss d));
-    good = λ n j d. absurd (no-idle n j (inl (subst (λ l. In j (of_step l n).good) ss d)));
-    faulty = λ n j d. absurd (no-idle n j (inr (subst (λ l. In j (of_step l n).faulty) ss d)));
-  };
-}
-  where
-    none : (n : ℕ) → n < 0 → ⊥
-    none n p = omega (arith, p)
-
-    no-jobs : known_jobs i ≡ []
-    no-jobs = ap (map (λ f. placed (thing_in i.matchers.items f))) js
-
-    empty : (n : ℕ) → IsKept (λ m. false) n []
-    empty n = record { below = refl; front = refl; order = refl }
-
-    no-entry : (xs : List (ℕ × Place)) (n : ℕ) (x : ℕ × Place) → xs ≡ [] → slice_get xs n ≡ Some x → ⊥
-    no-entry [] n x e g = cc
-    no-entry (y ∷ xs) n x e g = cc
-
-    no-idle : (c : ℕ) (j : ℕ × List ℕ) → IsIdle [] c j → ⊥
-    no-idle c j (inl h) = h
-    no-idle c j (inr h) = h
 
 -- ---- endings
 

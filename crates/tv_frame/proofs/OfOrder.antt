@@ -141,12 +141,6 @@ module _ (f : Flow) (wired : IsWired f) where
           ∙ get-set-other order at (length f.steps - 1 - position t.0 (ranked f.steps)) count apart
           ∙ h.filled k t low there
 
-  pub none-filled : (order : List ℕ) → length order ≡ length f.steps → AreFilled order 0
-  none-filled order e = record { many = e; filled = λ k s lt at. absurd (below k lt) }
-    where
-      below : (k : ℕ) → k < 0 → ⊥
-      below k p = omega (arith, p)
-
   pub all-filled : (order : List ℕ) (count : ℕ) → length f.steps ≤ count → AreFilled order count → order ≡ by_falling_rank f
   all-filled order count le h =
       same-lists order (by_falling_rank f) (h.many ∙ sym wired.ranked ∙ sym (long ∙ sum)) (λ k y e. at k y e)

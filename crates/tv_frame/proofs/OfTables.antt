@@ -22,7 +22,7 @@ use Rattle.tv_wires.specs.Wirings.{wiring}
 use Rattle.tv_starts.specs.Starts.{starts}
 use Rattle.tv_joined.specs.WiredFlows.{IsWired}
 use Rattle.tv_joined.proofs.OfAccepted.{accepted-wired}
-use Rattle.tv_frame.specs.Tables.{at_least_one, first_tree, levels_at, step_starts, trees_of}
+use Rattle.tv_frame.specs.Tables.{first_tree, levels_at, step_starts, trees_of}
 use Rattle.tv_frame.proofs.OfPlans.{step-suits}
 
 -- ---- lists
@@ -80,16 +80,6 @@ pub planned-depth : (f : Flow) (q : StepPlan) (s : Name × Step) → step_plan_v
 planned-depth f q (n, s) e = ap (λ (r : plan.StepPlan). r.depth) e
 
 -- ---- trees
-
-pub at-least : (n : ℕ) → (n ≡ 0 → ⊥) → at_least_one n ≡ n
-at-least zero h = absurd (h refl)
-at-least (suc n) h = refl
-
-pub trees-told : (f : CodeFlow) (k : ℕ) (x : Name × CodeStep) (s : Name × Step) → slice_get f.steps k ≡ Some x → slice_get (flow_view f).steps k ≡ Some s → trees_of s ≡ at_least_one (length x.1.outputs)
-trees-told f k x s e g =
-    let same : Some s ≡ Some (x.0, step_view x.1) = sym g ∙ get-map (λ (t : Name × CodeStep). (t.0, step_view t.1)) f.steps k x e in
-    let is : s ≡ (x.0, step_view x.1) = cc in
-    ap trees_of is
 
 first-zero : (ss : List (Name × Step)) → first_tree ss 0 ≡ 0
 first-zero [] = refl

@@ -1,5 +1,4 @@
 -- What the calls of a frame tell, each by a word of its own: legal settlements, inputs, outputs, ready jobs, endings.
-use Rattle.std.specs.List.{list_all}
 use Rattle.std.specs.Prelude.{◌≡◌, ℕ, Bool, true, false, List, [], find, map, Option, Some, None, slice_get}
 use Rattle.tv_value.specs.Nested.{Place}
 use Rattle.tv_value.specs.Orders.{same_name}
@@ -11,9 +10,8 @@ use Rattle.tv_depths.specs.Delivered.{feed_delivers}
 use Rattle.tv_depths.specs.Ranks.{ranked}
 use Rattle.tv_instance.specs.ByResults.{InstanceStep, PlacedJob, last_first, step_of}
 use Rattle.tv_instance.specs.Counting.{have_ended_by}
-use Rattle.tv_instance.specs.Endings.{has_ended}
 use Rattle.tv_instance.specs.Events as events
-use Rattle.tv_instance.specs.Events.{Event, fault_set, gave, has_result, is_taken, known_by, took}
+use Rattle.tv_instance.specs.Events.{Event, fault_set, gave, has_result, is_taken, took}
 use Rattle.tv_instance.specs.Legality.{IsLegalNext}
 use Rattle.tv_model.specs.Instances.{given_of}
 use Rattle.tv_framing.specs.Views.{InAll, View}
@@ -75,7 +73,3 @@ pub record IsReadyJob (levels : Name → ℕ) (v : View) (j : Name × Place) : T
 abbrev pub has_ended_now : (Name → ℕ) → View → Bool
 has_ended_now levels v =
     have_ended_by v.events levels (last_first (ranked v.flow.steps) []) (map (λ s. s.0) (ranked v.flow.steps))
-
--- every step has ended, whatever isn't told
-abbrev pub HasEndedAll : View → Type 0
-HasEndedAll v = InAll v (λ instance results fs. list_all (has_ended (known_by instance v.events)) fs ≡ true)

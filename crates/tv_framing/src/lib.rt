@@ -10,8 +10,8 @@
 //! - a frame stays a frame (`specs/Frames.antt`): its jobs are those that are known, whatever isn't told;
 //! - which steps are whole or have ended is told by the events alone.
 //!
-//! `specs/Answers.antt` has a word for each thing that the calls of a frame tell, and `specs/Insides.antt` says what the
-//! code of one may keep. The laws are stated in `specs/Stated.antt`.
+//! `specs/Answers.antt` has a word for each thing that the calls of a frame tell, and `specs/Insides.antt` says what a
+//! port's values are. The laws are stated in `specs/Stated.antt`.
 //!
 //! - `laws`: what holds of these definitions
 //! - `rows`: worked examples

@@ -1,4 +1,6 @@
 pub mod OfEntries
+pub mod OfElsewhere
 pub mod OfSettled
 pub mod OfStarts
-pub mod OfFlat
+pub mod OfUntold
+pub mod OfOpened

@@ -18,8 +18,8 @@ use Rattle.tv_model.specs.Meanings.{meaning}
 use Rattle.tv_model.specs.Members.{In}
 use Rattle.tv_model.proofs.Sound.{spot-step}
 use Rattle.tv_model.proofs.Tests.{both_true, left_true, or_right, right_true, same_job_decides}
-use Rattle.tv_history.specs.Entries.{Entry, History, accepted, closed, fault_passed, handed_out, is_begun_entry, is_ended_entry, is_opened_entry, recalled}
-use Rattle.tv_history.specs.Histories.{is_open, is_settled, is_settled_name}
+use Rattle.tv_history.specs.Entries.{Entry, History, accepted, closed, fault_passed, handed_out, is_begun_entry, is_ended_entry, is_level_entry, is_opened_entry, opened, recalled}
+use Rattle.tv_history.specs.Histories.{has_entry, is_open, is_settled, is_settled_name}
 use Rattle.tv_history.proofs.Needs.{stays_settled}
 use Rattle.tv_history.proofs.Ready.{AnyNumber, all-sound, are-jobs}
 use Rattle.tv_history.proofs.Stuck.{settled-name}
@@ -27,12 +27,12 @@ use Rattle.tv_history.proofs.Running.{settled_of_name}
 use Rattle.tv_history.proofs.Tests.{same_tests}
 use Rattle.tv_order.specs.Parts.{IsInstance, made_of}
 use Rattle.tv_order.proofs.OfDocuments.{any-whole}
-use Rattle.tv_instances.specs.InHistory.{IsPartOf, StaysSettled, TellsNothing}
+use Rattle.tv_instances.specs.InHistory.{IsPartOf, SettlesNot, StaysSettled, TellsNothing}
 use Rattle.tv_instances.specs.OwnResults.{results_of}
 use Rattle.tv_instances.proofs.OfHistory.{entries-are_events, others-stay_settled, recalled-is_none}
 use Rattle.tv_framing.specs.Views.{View}
 use Rattle.tv_viewed.specs.InRun.{IsViewOf}
-use Rattle.tv_going.specs.Stated.{ClosingGoesOn, FirstTryGoesOn, IsEvent, NextTryGoesOn, OtherTriesTellNothing, PassingGoesOn, RecallsTellNothing}
+use Rattle.tv_going.specs.Stated.{ClosingGoesOn, FirstTryGoesOn, IsEvent, LaterOpeningTellsNothing, NextTryGoesOn, OpeningGoesOn, OtherTriesTellNothing, PassingGoesOn, RecallsTellNothing}
 
 -- ---- open instances
 
@@ -95,17 +95,20 @@ module _ (gives : Giving) (d : Document) (past : History) (I : JobName) (v : Vie
   is-event x e now told gave w f = later x now (e ∷ v.events) told gave w f.flow f.inputs f.events
 
   -- and one that tells nothing
-  is-none : (x : Entry) → is_ended_entry I x ≡ false → TellsNothing m past x I → IsViewOf gives d (x ∷ past) I v
+  pub is-none : (x : Entry) → is_ended_entry I x ≡ false → TellsNothing m past x I → IsViewOf gives d (x ∷ past) I v
   is-none x e h = later x (stays-open past x I e r.is_open) v.events ((entries-are_events gives m past I v.events r.told).stays x h) r.gave v refl refl refl
 
   -- ---- tries
 
-  -- a try of a job that is taken
-  next-try : (s : Name) (q : Place) → is_taken v.events s q ≡ true → (a t : ℕ) → IsPartOf m (handed_out (spot I s q) a t ∷ past) I v.events
-  next-try s q h a t = record {
-    results = λ u p. others-stay_settled gives m past (handed_out (spot I s q) a t) (spot I u p) (record { accepted = refl; bounced = refl; ended = refl }) ∙ r.told.results u p;
-    levels = λ u p. r.told.levels u p;
-    taken = λ u p. on_test (same_job (spot I u p) (spot I s q)) (λ e. itself u p e) (λ e. ap (λ b. b || begun u p) e ∙ r.told.taken u p);
+  -- a try of a job that is taken, or the opening of its flow
+  begun-again :
+      (s : Name) (q : Place) → is_taken v.events s q ≡ true → (x : Entry) → ((n : JobName) → SettlesNot x n)
+      → ((n : JobName) → is_level_entry n x ≡ false) → ((n : JobName) → is_begun_entry n x ≡ same_job n (spot I s q))
+      → IsPartOf m (x ∷ past) I v.events
+  begun-again s q h x settles level begins = record {
+    results = λ u p. others-stay_settled gives m past x (spot I u p) (settles (spot I u p)) ∙ r.told.results u p;
+    levels = λ u p. ap (λ b. b || has_entry past (spot I u p)) (level (spot I u p)) ∙ r.told.levels u p;
+    taken = λ u p. ap (λ b. b || begun u p) (begins (spot I u p)) ∙ on_test (same_job (spot I u p) (spot I s q)) (λ e. itself u p e) (λ e. ap (λ b. b || begun u p) e ∙ r.told.taken u p);
   }
     where
       begun : Name → Place → Bool
@@ -158,10 +161,23 @@ first_try-goes_on gives d past I v r s q a t =
     let told = (entries-are_events gives (meaning gives d) past I v.events r.told).handed_out s q a t in
     is-event gives d past I v r x (took s q) (stays-open past x I refl r.is_open) told r.gave
 
+pub opening-goes_on : OpeningGoesOn
+opening-goes_on gives d past I v r s q =
+    let x = opened (spot I s q) in
+    let told = (entries-are_events gives (meaning gives d) past I v.events r.told).opened s q in
+    is-event gives d past I v r x (took s q) (stays-open past x I refl r.is_open) told r.gave
+
 pub next_try-goes_on : NextTryGoesOn
 next_try-goes_on gives d past I v r s q h a t =
     let x = handed_out (spot I s q) a t in
-    later gives d past I v r x (stays-open past x I refl r.is_open) v.events (next-try gives d past I v r s q h a t) r.gave v refl refl refl
+    let told = begun-again gives d past I v r s q h x (λ n. record { accepted = refl; bounced = refl; ended = refl }) (λ n. refl) (λ n. refl) in
+    later gives d past I v r x (stays-open past x I refl r.is_open) v.events told r.gave v refl refl refl
+
+pub later_opening-tells_nothing : LaterOpeningTellsNothing
+later_opening-tells_nothing gives d past I v r s q h =
+    let x = opened (spot I s q) in
+    let told = begun-again gives d past I v r s q h x (λ n. record { accepted = refl; bounced = refl; ended = refl }) (λ n. refl) (λ n. refl) in
+    later gives d past I v r x (stays-open past x I refl r.is_open) v.events told r.gave v refl refl refl
 
 pub other_tries-tell_nothing : OtherTriesTellNothing
 other_tries-tell_nothing gives d past I v r j i a t b h = is-none gives d past I v r (accepted j.name a t b) refl (other-try gives d past I v r j i a t b h)

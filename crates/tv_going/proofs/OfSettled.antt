@@ -1,22 +1,25 @@
 -- What a job of an instance gave, and the entries with which it is settled.
-use Rattle.std.specs.Prelude.{◌≡◌, refl, ℕ, [], ◌∷◌, Bool, List, true, false, ◌||◌, Some, cond, find, if◌then◌else◌, is_none, is_some}
+use Rattle.std.specs.Prelude.{◌≡◌, refl, ℕ, [], ◌∷◌, Bool, List, true, false, ◌||◌, None, Some, cond, find, if◌then◌else◌, is_none, is_some, map}
 use Rattle.std.specs.List.{list_any}
 use Rattle.std.specs.Option.{option_map_or}
 use Rattle.std.specs.Cmp.Lexicographic.{bytes_decides}
 use Rattle.std.proofs.Common.{ap, inl, inr, sym, ◌∙◌}
 use Rattle.tv_value.specs.Nested.{Place}
 use Rattle.tv_value.specs.Orders.{same_job, same_name}
-use Rattle.tv_value.specs.Values.{JobName, Name, Value}
+use Rattle.tv_value.specs.Values.{JobName, Name, Value, holds_fault}
 use Rattle.tv_gate.specs.Outcomes.{Giving}
-use Rattle.tv_flow.specs.Flows.{Document, Flow}
+use Rattle.tv_flow.specs.Flows.{Document, Flow, Step}
+use Rattle.tv_strategy.specs.Origins.{Origin, Traced, plain}
+use Rattle.tv_dispatch.specs.Jobs.{Fate, Taken, opens, right, taken, tries, wrong}
 use Rattle.tv_depths.specs.Ranks.{ranked}
-use Rattle.tv_depths.specs.Steps.{spot}
+use Rattle.tv_depths.specs.Steps.{declared_depths, spot}
 use Rattle.tv_instance.specs.Events.{gave, is_spot}
-use Rattle.tv_model.specs.Instances.{given_of}
-use Rattle.tv_model.specs.Jobs.{Job}
+use Rattle.tv_model.specs.Instances.{bounced_job, given_of, job_on, tried_job, with_fate}
+use Rattle.tv_model.specs.Jobs.{Job, good_end}
 use Rattle.tv_model.specs.Made.{Made, Meaning, Opened}
 use Rattle.tv_model.specs.Meanings.{flow_meaning, meaning}
 use Rattle.tv_model.specs.Members.{In}
+use Rattle.tv_model.specs.Turns.{is_bounced}
 use Rattle.tv_model.proofs.Earlier.{job_list}
 use Rattle.tv_model.proofs.Fed.{each-all}
 use Rattle.tv_model.proofs.Formed.{AreFormed, distinct-apart}
@@ -24,16 +27,17 @@ use Rattle.tv_model.proofs.Instances.{given-free, instance-formed}
 use Rattle.tv_model.proofs.Members.{Apart, each_in, of-flat, once-of_apart}
 use Rattle.tv_model.proofs.Sound.{spot-step}
 use Rattle.tv_model.proofs.Tests.{same_job_decides, true≠false}
-use Rattle.tv_history.specs.Entries.{Entry, History, accepted, bounced, is_bounced_entry, is_ended_entry}
+use Rattle.tv_history.specs.Entries.{Entry, History, accepted, bounced, ended, is_bounced_entry, is_ended_entry}
 use Rattle.tv_history.specs.Histories.{is_settled, is_settled_name, next_ask}
 use Rattle.tv_history.proofs.Tests.{same-itself}
+use Rattle.tv_outcomes.proofs.Everywhere.{document-has}
 use Rattle.tv_order.specs.Parts.{made_of}
 use Rattle.tv_order.proofs.OfFirst.{find-first}
 use Rattle.tv_instances.specs.OwnResults.{given_by, results_of}
 use Rattle.tv_instances.proofs.OfEvents.{spot-test}
 use Rattle.tv_instances.proofs.OfHistory.{entries-are_events, others-stay_settled}
 use Rattle.tv_viewed.specs.InRun.{IsJobThere}
-use Rattle.tv_going.specs.Stated.{AcceptingSettles, BouncingSettles, SettledGoesOn}
+use Rattle.tv_going.specs.Stated.{AcceptingSettles, BouncingSettles, EndingSettles, OpenersAreGood, SettledGoesOn}
 use Rattle.tv_going.proofs.OfEntries.{by-name, is-event}
 
 -- ---- results
@@ -88,6 +92,30 @@ module _ (gives : Giving) (d : Document) (past : History) (I : JobName) (j : Job
   pub now-settled : is_settled (x ∷ past) j ≡ true → is_settled_name m (x ∷ past) (spot I s q) ≡ true
   now-settled h = ap (λ n. is_settled_name m (x ∷ past) n) (sym r.name) ∙ by-name gives d (x ∷ past) j r.listed ∙ h
 
+-- ---- the ends of flows that jobs open
+
+abbrev IsGood : Job → Type 0
+IsGood j = is_some j.opens ≡ true → j.ending ≡ good_end
+
+module _ (gives : Giving) (inside : Name → JobName → List (Name × Value) → Meaning) (I : JobName) where
+  fate-good : (s : Step) (j : Job) → j.opens ≡ None → (f : Fate) → IsGood (with_fate gives inside I s j f).job
+  fate-good s j o (right vs) = λ h. refl
+  fate-good s j o (opens f) = λ h. refl
+  fate-good s j o (wrong why) = λ h. absurd (true≠false (sym h ∙ ap is_some o))
+
+  job-good : (c : Name) (s : Step) (waits : List Origin) (q : Place) (inputs : List Traced) → IsGood (job_on gives inside I c s waits q inputs).job
+  job-good c s waits q inputs = by (list_any (λ z. holds_fault z) inputs)
+    where
+      j : Job
+      j = bounced_job gives inside I c s waits q inputs
+
+      t : Taken
+      t = taken gives [] (tries (map plain inputs) (declared_depths s) s.retries 0 s.activities)
+
+      by : (z : Bool) → IsGood (if z then record { job = j; inside = None } else tried_job gives inside I s j).job
+      by true = λ h. absurd (true≠false (sym h))
+      by false = fate-good s (record j { asks = t.asks }) refl t.fate
+
 -- ---- the laws
 
 pub settled-goes_on : SettledGoesOn
@@ -120,3 +148,32 @@ bouncing-settles gives d past I j s q r h =
         let x = bounced j.name in
         ap (λ c. if c then list_any (is_bounced_entry j.name) (x ∷ past) else (if is_some j.opens then list_any (is_ended_entry j.name) (x ∷ past) else is_none (next_ask (x ∷ past) j))) h
         ∙ ap (λ c. c || list_any (is_bounced_entry j.name) past) (same-itself j.name)
+
+pub openers-are_good : OpenersAreGood
+openers-are_good gives d =
+    document-has gives (λ s. Unit {0}) IsGood (λ inside I c s waits q inputs k. job-good gives inside I c s waits q inputs) d
+    (each-all _ (λ f. each-all _ (λ s. tt) f.1.steps) d.flows)
+
+-- a job that opens a flow is settled where the flow has ended
+pub settled-by_end :
+    (gives : Giving) (d : Document) (j : Job) → In j (meaning gives d).jobs → is_some j.opens ≡ true → (past : History)
+    → is_settled past j ≡ list_any (is_ended_entry j.name) past
+settled-by_end gives d j i h past =
+    let by_flow = list_any (is_ended_entry j.name) past in
+    let by_tries = is_none (next_ask past j) in
+    ap (λ c. if is_bounced c then list_any (is_bounced_entry j.name) past else (if is_some j.opens then by_flow else by_tries)) (openers-are_good gives d j i h)
+    ∙ ap (λ c. if c then by_flow else by_tries) h
+
+pub ending-settles : EndingSettles
+ending-settles gives d past I j s q r h =
+    let x = ended j.name in
+    record {
+      now = now-settled gives d past I j s q r x settled;
+      others = λ n p e. others-stay_settled gives (meaning gives d) past x (spot I n p) (record { accepted = refl; bounced = refl; ended = not-there gives d past I j s q r x n p e });
+      rest = record { levels = λ n p. refl; begins = λ n p. refl };
+    }
+  where
+    settled : is_settled (ended j.name ∷ past) j ≡ true
+    settled =
+        settled-by_end gives d j r.listed h (ended j.name ∷ past)
+        ∙ ap (λ c. c || list_any (is_ended_entry j.name) past) (same-itself j.name)

@@ -68,9 +68,9 @@ module _ (gives : Giving) (d : Document) (formed : is_formed d ≡ true) where
       by false e false f [] g = absurd (true≠false (sym (document-tried gives d (documents-have_activities d formed) j i e g) ∙ f))
       by false e false f (a ∷ as') g = refl
 
-  none-told : IsPartOf m [] [] []
-  none-told = record {
-    results = λ s q. false_from_ne_true (is_settled_name m [] (spot [] s q)) (not-found (spot [] s q));
+  pub none-told : (I : JobName) → IsPartOf m [] I []
+  none-told I = record {
+    results = λ s q. false_from_ne_true (is_settled_name m [] (spot I s q)) (not-found (spot I s q));
     levels = λ s q. refl;
     taken = λ s q. refl;
   }
@@ -89,7 +89,7 @@ main-starts gives d flow is v f i e =
           (subst (λ g. IsInstance gives d.flows (meaning gives d) [] 7 g d.inputs) (sym f) (main-instance gives d.flows 7 d.main flow is.is_main [] d.inputs));
       nests = subst (λ (g : Flow). StepsNest (NestsWithin d.flows 7) g.steps) (same ∙ sym f) nests.2;
       is_open = refl;
-      told = subst (λ es. IsPartOf (meaning gives d) [] [] es) (sym e) (none-told gives d is.formed);
+      told = subst (λ es. IsPartOf (meaning gives d) [] [] es) (sym e) (none-told gives d is.formed []);
       gave = subst (λ es. Extends (results_of [] (made_of gives d.flows 7 v.flow [] v.inputs)) es) (sym e) tt;
     }
 

@@ -1,4 +1,4 @@
 pub mod Follows
-pub mod Flat
+pub mod Elsewhere
+pub mod Opened
 pub mod Stated
-pub mod Worked

@@ -1,5 +1,5 @@
 -- Laws of how the view of a frame goes on with an entry of the history, and of where it starts.
-use Rattle.std.specs.Prelude.{◌≡◌, ℕ, Bool, List, Some, [], ◌∷◌, false, map, true}
+use Rattle.std.specs.Prelude.{◌≡◌, ◌≢◌, ℕ, Bool, List, Some, [], ◌∷◌, false, is_some, map, true}
 use Rattle.tv_value.specs.Nested.{Place}
 use Rattle.tv_value.specs.Orders.{named}
 use Rattle.tv_value.specs.Values.{ErrorDoc, JobName, Name, Value}
@@ -11,18 +11,19 @@ use Rattle.tv_check.specs.Plans.{IsAccepted}
 use Rattle.tv_instance.specs.Events as events
 use Rattle.tv_instance.specs.Events.{Event, fault_set, gave, is_taken, took}
 use Rattle.tv_model.specs.Agreeing.{FlowAgrees}
-use Rattle.tv_model.specs.Jobs.{Job}
+use Rattle.tv_model.specs.Jobs.{Job, good_end}
 use Rattle.tv_model.specs.Meanings.{meaning}
 use Rattle.tv_model.specs.Members.{In}
 use Rattle.tv_model.specs.RightDepths.{HaveTheseDepths}
 use Rattle.tv_model.specs.Turns.{is_bounced}
-use Rattle.tv_history.specs.Entries.{Entry, History, accepted, bounced, closed, fault_passed, handed_out, recalled}
-use Rattle.tv_history.specs.Histories.{is_open, is_settled}
+use Rattle.tv_history.specs.Entries.{Entry, History, accepted, bounced, closed, ended, fault_passed, handed_out, is_ended_entry, opened, recalled}
+use Rattle.tv_history.specs.Histories.{is_legal, is_open, is_settled}
 use Rattle.tv_instances.specs.InHistory.{Settles}
 use Rattle.tv_framing.specs.Views.{View}
 use Rattle.tv_viewed.specs.InRun.{IsJobThere, IsViewOf}
-use Rattle.tv_going.specs.Flat.{IsMainAlone, opens_nothing}
+use Rattle.tv_going.specs.Elsewhere.{IsElsewhere, name_in}
 use Rattle.tv_going.specs.Follows.{Follows}
+use Rattle.tv_going.specs.Opened.{CanBeOpened, IsOpenedBy}
 
 -- ---- an entry that is an event of the instance
 
@@ -56,6 +57,13 @@ FirstTryGoesOn =
     (s : Name) (q : Place) (a t : ℕ)
     → IsEvent gives d past I v (handed_out (spot I s q) a t) (took s q))
 
+-- a job that hadn't begun opens its flow
+abbrev pub OpeningGoesOn : Type 0
+OpeningGoesOn =
+    AnyView (λ gives d past I v.
+    (s : Name) (q : Place)
+    → IsEvent gives d past I v (opened (spot I s q)) (took s q))
+
 -- an entry with which a job is settled and its instance stays open: the job gave its result
 abbrev pub SettledGoesOn : Type 0
 SettledGoesOn =
@@ -73,6 +81,13 @@ NextTryGoesOn =
     (s : Name) (q : Place) → is_taken v.events s q ≡ true
     → (a t : ℕ) → IsViewOf gives d (handed_out (spot I s q) a t ∷ past) I v)
 
+-- and its flow, which it opens after its tries
+abbrev pub LaterOpeningTellsNothing : Type 0
+LaterOpeningTellsNothing =
+    AnyView (λ gives d past I v.
+    (s : Name) (q : Place) → is_taken v.events s q ≡ true
+    → IsViewOf gives d (opened (spot I s q) ∷ past) I v)
+
 -- an outcome with which its job, of whatever instance, isn't settled
 abbrev pub OtherTriesTellNothing : Type 0
 OtherTriesTellNothing =
@@ -84,6 +99,22 @@ OtherTriesTellNothing =
 abbrev pub RecallsTellNothing : Type 0
 RecallsTellNothing =
     AnyView (λ gives d past I v. (k : ℕ) → IsViewOf gives d (recalled k ∷ past) I v)
+
+-- ---- an entry of another instance
+
+-- one of a job, list or fault of an instance is so for every other, but that it may end the one that the job opened
+abbrev pub OthersAreElsewhere : Type 0
+OthersAreElsewhere =
+    (e : Entry) (I J : JobName) (s : Name) (q : Place) → name_in e ≡ Some (spot I s q)
+    → J ≢ I → is_ended_entry J e ≡ false → IsElsewhere e J
+
+-- and so is the end of the main instance
+abbrev pub MainEndsElsewhere : Type 0
+MainEndsElsewhere = (J : JobName) → J ≢ [] → IsElsewhere (ended []) J
+
+abbrev pub ElsewhereTellsNothing : Type 0
+ElsewhereTellsNothing =
+    AnyView (λ gives d past I v. (e : Entry) → IsElsewhere e I → IsViewOf gives d (e ∷ past) I v)
 
 -- ---- with which entries a job is settled
 
@@ -102,6 +133,21 @@ BouncingSettles =
     → (j : Job) (s : Name) (q : Place) → IsJobThere gives d I j (s, q)
     → is_bounced j.ending ≡ true
     → Settles (meaning gives d) past (bounced j.name) I s q
+
+-- and with the end of the flow that it opened
+abbrev pub EndingSettles : Type 0
+EndingSettles =
+    (gives : Giving) (d : Document) (past : History) (I : JobName)
+    → (j : Job) (s : Name) (q : Place) → IsJobThere gives d I j (s, q)
+    → is_some j.opens ≡ true
+    → Settles (meaning gives d) past (ended j.name) I s q
+
+-- which is good
+abbrev pub OpenersAreGood : Type 0
+OpenersAreGood =
+    (gives : Giving) (d : Document) (j : Job) → In j (meaning gives d).jobs
+    → is_some j.opens ≡ true
+    → j.ending ≡ good_end
 
 -- ---- the start
 
@@ -131,8 +177,19 @@ pub record IsGivenInOrder (d : Document) (flow : Flow) : Type 0 where
 abbrev pub InputsAreInOrder : Type 0
 InputsAreInOrder = (d : Document) (flow : Flow) → IsMainFlow d flow → IsGivenInOrder d flow
 
--- ---- documents in which nothing is opened
+-- a view of the flow that a job opens, told nothing, is of the instance from its opening on
+abbrev pub OpenedStarts : Type 0
+OpenedStarts =
+    (gives : Giving) (d : Document) (past : History) (j : Job) (v : View)
+    → is_formed d ≡ true → IsAccepted d → In j (meaning gives d).jobs
+    → is_legal gives (meaning gives d) (opened j.name ∷ past) ≡ true
+    → IsOpenedBy d j v
+    → IsViewOf gives d (opened j.name ∷ past) j.name v
 
-abbrev pub FlatRuns : Type 0
-FlatRuns =
-    (gives : Giving) (d : Document) → opens_nothing d ≡ true → IsMainAlone gives (meaning gives d)
+-- and a frame of it can start
+abbrev pub OpenedFit : Type 0
+OpenedFit =
+    (gives : Giving) (d : Document) (j : Job) (g : Name)
+    → is_formed d ≡ true → IsAccepted d → In j (meaning gives d).jobs
+    → j.opens ≡ Some g
+    → CanBeOpened d j g

@@ -1,26 +1,38 @@
 //! What holds of every view of every run: each law is the clause of a function that does nothing.
-ghost use Rattle.tv_going.specs.Stated.{AcceptingSettles, BouncingSettles, ClosingGoesOn, FirstTryGoesOn, FlatRuns, InputsAreInOrder, MainStarts, NextTryGoesOn, OtherTriesTellNothing, PassingGoesOn, RecallsTellNothing, SettledGoesOn};
-ghost use Rattle.tv_going.specs.Worked.{TellsWhatOpens};
+ghost use Rattle.tv_going.specs.Stated.{AcceptingSettles, BouncingSettles, ClosingGoesOn, ElsewhereTellsNothing, EndingSettles, FirstTryGoesOn, InputsAreInOrder, LaterOpeningTellsNothing, MainEndsElsewhere, MainStarts, NextTryGoesOn, OpenedFit, OpenedStarts, OpenersAreGood, OpeningGoesOn, OtherTriesTellNothing, OthersAreElsewhere, PassingGoesOn, RecallsTellNothing, SettledGoesOn};
 
 /// Lists that are closed, faults that are passed and jobs that are taken are events of the view.
 pub fn entries_are_events()
     ensures closing { ClosingGoesOn }
     ensures passing { PassingGoesOn }
     ensures first_try { FirstTryGoesOn }
+    ensures opening { OpeningGoesOn }
 {}
 
-/// Further tries of a taken job tell the view nothing, nor do outcomes with which no job is settled, and recalls.
+/// Further tries of a taken job tell the view nothing, nor does the opening of its flow, outcomes with which no job is
+/// settled, and recalls.
 pub fn entries_tell_nothing()
     ensures next_try { NextTryGoesOn }
+    ensures later_opening { LaterOpeningTellsNothing }
     ensures other_tries { OtherTriesTellNothing }
     ensures recalls { RecallsTellNothing }
 {}
 
-/// An entry with which a job is settled is the event that it gave its result; the job's outcome is one, and its bouncing.
+/// An entry of one instance is elsewhere for the others, and tells their views nothing.
+pub fn entries_elsewhere()
+    ensures others { OthersAreElsewhere }
+    ensures main_end { MainEndsElsewhere }
+    ensures nothing { ElsewhereTellsNothing }
+{}
+
+/// An entry with which a job is settled is the event that it gave its result; the job's outcome is one, its bouncing, and
+/// the end of its flow, which is good.
 pub fn settled_jobs_gave()
     ensures settled { SettledGoesOn }
     ensures accepting { AcceptingSettles }
     ensures bouncing { BouncingSettles }
+    ensures ending { EndingSettles }
+    ensures openers { OpenersAreGood }
 {}
 
 /// The view of the main instance before any entry, and what an accepted document gives it.
@@ -29,8 +41,8 @@ pub fn main_starts()
     ensures inputs { InputsAreInOrder }
 {}
 
-/// Where no activity opens a flow, the main instance is the only one; and which worked documents are so.
-pub fn flat_runs()
-    ensures runs { FlatRuns }
-    ensures rows { TellsWhatOpens }
+/// The view of an instance that a job opened, and that a frame of it can start.
+pub fn opened_starts()
+    ensures starts { OpenedStarts }
+    ensures fit { OpenedFit }
 {}

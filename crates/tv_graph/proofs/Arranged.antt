@@ -1,6 +1,6 @@
 -- What `by_least` gives: each vertex once, after all those before it.
-use Rattle.std.proofs.Common.{◌≡◌, ℕ, ◌+◌, ◌<◌, true, false, not, ◌||◌, suc, zero, eqb, ltb, List, [], ◌∷◌, length, take, get_or, Option, Some, None, refl, sym, ap, ◌∙◌, subst, inl, inr, arith}
-use Rattle.std.proofs.lemmas.Bool.{eqb-true, eq-eqb, or_cases, and_parts, not-true, lt-ltb, false_from_ne_true, or_parts}
+use Rattle.std.proofs.Common.{◌≡◌, ℕ, ◌+◌, ◌<◌, true, false, not, ◌||◌, suc, zero, eqb, List, [], ◌∷◌, length, take, get_or, Option, Some, None, refl, sym, ap, ◌∙◌, subst, inl, inr, arith}
+use Rattle.std.proofs.lemmas.Bool.{eqb-true, eq-eqb, or_cases, and_parts, not-true, false_from_ne_true, or_parts}
 use Rattle.std.specs.Prelude.{find}
 use Rattle.std.specs.List.{list_all}
 use Rattle.std.specs.Option.{option_map_or}
@@ -60,10 +60,6 @@ pub all_come : (g : Graph) (v : ℕ) → length (by_least g) ≡ length g → v 
 all_come g v e below =
     let none : missing g (onto [] (by_least g)) ≡ 0 = omega (arith, onto-missing g (by_least g) [] (by_least-IsArranged g), missing-nil g) in
     sym (onto-member (by_least g) [] v) ∙ missing-none g (onto [] (by_least g)) v none below
-
-pub arranged-below : (g : Graph) (xs taken : List ℕ) → IsArranged g taken xs → list_all (λ u. ltb u (length g)) xs ≡ true
-arranged-below g [] taken a = refl
-arranged-below g (x ∷ xs) taken a = rw (lt-ltb x (length g) a.1) (arranged-below g xs (x ∷ taken) a.2)
 
 -- what is taken has all those before it taken, and isn't before itself
 record IsAcyclic (g : Graph) (taken : List ℕ) : Type 0 where

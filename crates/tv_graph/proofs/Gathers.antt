@@ -23,17 +23,6 @@ pub record IsGathering (after : ℕ → List ℕ) (from : ℕ) (was is : ℕ →
   pub found : (u : ℕ) → (is_one_of has u || open_ones u) ≡ (is_one_of had u || (is u && not (was u)))
 
 module _ (after : ℕ → List ℕ) (from : ℕ) (was : ℕ → Bool) (had : List ℕ) where
-  pub gathering-init : (is open_ones : ℕ → Bool) → ((u : ℕ) → is u ≡ (was u || is_one_of (after from) u)) → ((u : ℕ) → open_ones u ≡ (is_one_of (after from) u && not (was u))) →
-      IsGathering after from was is had had open_ones
-  gathering-init is open_ones marks opens = record {
-    kept = λ u h. grind (arith, marks u);
-    new = λ u h. grind (arith, marks u, opens u);
-    first = λ u h. grind (arith, marks u);
-    next = λ w u h out shut e. let no : true ≡ false = grind (arith, marks w, opens w) in cc;
-    sound = λ p base step u h out. base u (grind (arith, marks u));
-    found = λ u. grind (arith, marks u, opens u);
-  }
-
   module _ (is : ℕ → Bool) (has : List ℕ) (open_ones : ℕ → Bool) (k : IsGathering after from was is had has open_ones) where
     pub gathering-more : (is' rest open' : ℕ → Bool) (has' : List ℕ) (x : ℕ) → ((u : ℕ) → open_ones u ≡ (rest u || eqb u x)) → ((u : ℕ) → is' u ≡ (is u || is_one_of (after x) u)) →
         ((u : ℕ) → open' u ≡ (rest u || (is_one_of (after x) u && not (is u)))) → ((u : ℕ) → is_one_of has' u ≡ (is_one_of has u || eqb u x)) → IsGathering after from was is' had has' open'
@@ -58,15 +47,6 @@ module _ (after : ℕ → List ℕ) (from : ℕ) (was : ℕ → Bool) (had : Lis
           ];
           found = λ u. grind (arith, marks u, opens u, pops u, lists u, k.found u, k.kept u);
         }
-
-    pub gathering-end : ((u : ℕ) → open_ones u ≡ false) → IsGathered after from was is had has
-    gathering-end shut = record {
-      kept = k.kept;
-      first = k.first;
-      next = λ w u h out e. k.next w u h out (shut w) e;
-      sound = k.sound;
-      found = λ u. grind (arith, k.found u, shut u);
-    }
 
 module _ (g : Graph) (ok : is_graph g ≡ true) (after : ℕ → List ℕ) (turned : AreTurned g after) (r : ℕ) (was is : ℕ → Bool) (had has : List ℕ) (visited : IsVisited g was had)
     (latest : IsLatest g was r) (fresh : was r ≡ false) (k : IsGathered after r was is had has) where
@@ -152,10 +132,6 @@ module _ (g : Graph) (ok : is_graph g ≡ true) (after : ℕ → List ℕ) (turn
           ]
         ]);
   }
-
--- at first nothing is visited
-pub visited-none : (g : Graph) (visited : ℕ → Bool) → ((u : ℕ) → visited u ≡ false) → IsVisited g visited []
-visited-none g visited none = record { closed = λ u v h same. let no : true ≡ false = sym h ∙ none u in cc; found_are = λ u. grind (arith, none u) }
 
 -- where those that were left later are visited, the next one is the latest of the others
 pub latest-next : (g : Graph) (left rest popped : List ℕ) (visited : ℕ → Bool) (r : ℕ) → is_graph g ≡ true → IsLeft g left → left ≡ rest ++ r ∷ popped →

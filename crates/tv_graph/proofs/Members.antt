@@ -1,6 +1,6 @@
 -- Tests over lists: what `find`, `list_any` and `list_all` say of the members.
 use Rattle.std.proofs.Common.{◌≡◌, ℕ, ◌+◌, ◌<◌, ◌≤◌, Bool, true, false, not, cond, ◌&&◌, ◌||◌, suc, zero, eqb, List, [], ◌∷◌, length, take, Some, None, refl, sym, subst, inl, inr, arith, get_or, drop, drop-cons, add-one, get_or-set_same, get_or-set_other}
-use Rattle.std.proofs.Math.ListN.{set, replicate}
+use Rattle.std.proofs.Math.ListN.{set}
 use Rattle.std.proofs.lemmas.Bool.{eq-eqb, ne_eqb, cases_eq, and_cases}
 use Rattle.std.proofs.lemmas.Bool.Decides.{nat_tests}
 use Rattle.std.specs.Prelude.{find, slice_get}
@@ -15,10 +15,6 @@ module _ (p : ℕ → Bool) where
   pub find-member : (xs : List ℕ) (x : ℕ) → find p xs ≡ Some x → is_one_of xs x ≡ true
   find-member [] x e = cc
   find-member (y ∷ ys) x e = grind (arith, nat_tests, find-member ys x)
-
-  pub find-none : (xs : List ℕ) (x : ℕ) → find p xs ≡ None → is_one_of xs x ≡ true → p x ≡ false
-  find-none [] x e h = cc
-  find-none (y ∷ ys) x e h = grind (arith, nat_tests, find-none ys x)
 
   pub all-member : (xs : List ℕ) (x : ℕ) → list_all p xs ≡ true → is_one_of xs x ≡ true → p x ≡ true
   all-member [] x e h = cc
@@ -110,11 +106,6 @@ pub same-tests : (b c : Bool) → (b ≡ true → c ≡ true) → (c ≡ true �
 same-tests true c to from = sym (to refl)
 same-tests false true to from = from refl
 same-tests false false to from = refl
-
-pub blank : (n u : ℕ) → get_or (replicate n false) u false ≡ false
-blank zero u = refl
-blank (suc n) zero = refl
-blank (suc n) (suc u) = blank n u
 
 pub find-range-below : (p : ℕ → Bool) (n a v : ℕ) → find p (range_with_len a n) ≡ Some v → v < a + n
 find-range-below p zero a v e = cc

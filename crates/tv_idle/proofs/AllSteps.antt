@@ -104,9 +104,6 @@ stands-within (q ∷ qs) (suc k) n e = let l = stands-within qs k n e in omega (
 -- ---- from here on the queues of one step change
 
 module _ (qs : List Queues) (s : ℕ) (q : Queues) where
-  abbrev old : Queues
-  old = queues_of qs s
-
   abbrev new : List Queues
   new = slice_set qs s q
 
@@ -432,18 +429,6 @@ module _ (g : ℕ → Bool) (known : ℕ) (qs : List Queues) (s : ℕ) (q : Queu
 -- ---- one more step
 
 module _ (g : ℕ → Bool) (levels : ℕ) (q : Queues) (good : IsEmpty levels q.good) (faulty : IsEmpty levels q.faulty) where
-  none-shown : shown g q ≡ none_idle levels
-  none-shown = (λ i. record {
-    good = live g (good.jobs i);
-    faulty = live g (faulty.jobs i);
-    levels = good.levels_are i;
-    good_room = good.room i;
-    faulty_room = faulty.room i;
-  })
-
-  pub added-steps : (qs : List Queues) → map (shown g) (qs ++ q ∷ []) ≡ map (shown g) qs ++ none_idle levels ∷ []
-  added-steps qs = map-one-more (shown g) qs q ∙ ap (λ y. map (shown g) qs ++ y ∷ []) none-shown
-
   none-kept : (known : ℕ) → AreKept g known q
   none-kept known = record {
     good = subst (IsKept g known) (sym good.jobs) (record { below = refl; front = refl; order = refl });
@@ -474,20 +459,6 @@ module _ (g : ℕ → Bool) (levels : ℕ) (q : Queues) (good : IsEmpty levels q
         ap (λ ss. is_idle ss m) (map-one-more (shown g) qs q)
         ∙ any-front (is_idle_at m) (map (shown g) qs) (shown g q ∷ []) (all.idle m l e);
   }
-
-pub none-all-kept : (g : ℕ → Bool) → AreAllKept g 0 []
-none-all-kept g = record {
-  each = λ k. record {
-    good = record { below = refl; front = refl; order = refl };
-    faulty = record { below = refl; front = refl; order = refl };
-    levels = refl;
-  };
-  apart = λ m k l a b. none k l a;
-  idle = λ m l e. absurd (omega arith);
-}
-  where
-    none : (k l : ℕ) → false ≡ true → k ≡ l
-    none k l e = cc
 
 -- ---- marks
 

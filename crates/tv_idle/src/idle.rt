@@ -59,13 +59,6 @@ impl Idle {
         Ok(())
     }
 
-    /// How many steps there are.
-    pub fn steps(&self) -> usize
-        ensures { result ≡ length self.now.steps }
-    {
-        self.queues.len()
-    }
-
     /// How many jobs are known. Each of their numbers is below that, and there are fewer than 2^32.
     pub fn known(&self) -> usize
         ensures known { result ≡ self.now.known }

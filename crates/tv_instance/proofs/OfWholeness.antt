@@ -17,10 +17,6 @@ use Rattle.tv_instance.specs.Wholeness.{all_whole, is_new, is_whole, is_whole_at
 
 -- ---- tests
 
-and-same : (b : Bool) → (b && b) ≡ b
-and-same true = refl
-and-same false = refl
-
 and-all : (b c : Bool) → c ≡ true ⊎ c ≡ b → (b && c) ≡ b
 and-all true c (inl e) = e
 and-all true c (inr e) = e
@@ -252,18 +248,6 @@ module _ (named : Place → JobName) (known : Origin → Bool) where
   false-right : (a b : Bool) → b ≡ false → (a && b) ≡ false
   false-right true b e = e
   false-right false b e = refl
-
-  -- where an item isn't whole, its list isn't
-  pub item-holds : (ts : Iterations) (q : Place) (i k m : ℕ) (t : Iteration) → m ≡ i + k → item_at ts k ≡ Some t → is_whole named known (q ++ m ∷ []) t ≡ false → all_whole named known q i ts ≡ false
-  item-holds no_trees q i k m t l h w = absurd (none-some t h)
-  item-holds (tree u us) q i zero m t l h w = false-left _ _ (ap₂ (λ j x. is_whole named known (q ++ j ∷ []) x) (same m i l) (same_Some u t h) ∙ w)
-    where
-      same : (a b : ℕ) → a ≡ b + 0 → b ≡ a
-      same a b e = omega arith
-  item-holds (tree u us) q i (suc k) m t l h w = false-right _ _ (item-holds us q (suc i) k m t (next m i k l) h w)
-    where
-      next : (a b c : ℕ) → a ≡ b + suc c → a ≡ suc b + c
-      next a b c f = omega arith
 
   mutual
     pub node-holds : (t : Iteration) (q r : Place) (u : Iteration) → at t r ≡ Some u → known (origin_at named (q ++ r) u) ≡ false → is_whole named known q t ≡ false

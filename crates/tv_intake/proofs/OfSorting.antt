@@ -1,7 +1,6 @@
 -- What is sorted of a list of things from a position on.
-use Rattle.std.specs.Prelude.{◌≡◌, ℕ, zero, suc, ◌+◌, ◌<◌, ◌≤◌, not, Bool, true, false, cond, List, [], ◌∷◌, ◌++◌, Some, count_by, drop, length, slice_get, refl}
-use Rattle.std.proofs.Common.{arith, ap, sym, ◌∙◌, append_assoc, append-nil}
-use Rattle.std.proofs.lemmas.List.{drop_all}
+use Rattle.std.specs.Prelude.{◌≡◌, ℕ, zero, suc, ◌+◌, ◌≤◌, not, Bool, true, false, cond, List, [], ◌∷◌, ◌++◌, Some, count_by, drop, slice_get, refl}
+use Rattle.std.proofs.Common.{arith, ap, sym, ◌∙◌, append_assoc}
 use Rattle.std.proofs.lemmas.List.Sums.{sum_by-cons}
 use Rattle.tv_value.specs.Nested.{Place}
 use Rattle.tv_matching.specs.Matchers.{Outcome}
@@ -10,9 +9,6 @@ use Rattle.tv_match.specs.declared.kinds.Kind.{Kind}
 use Rattle.tv_match.specs.declared.kinds.Kind.TheVariants.{Job, Closed, Passed}
 use Rattle.tv_intake.specs.declared.found.Found.{Found}
 use Rattle.tv_intake.specs.Sorting.{faulty_count, found_at, found_jobs, found_others, good_count, if_job, if_other, job_count, job_places, jobs_among}
-
-none : {A : Type 0} (i : ℕ) → i < 0 → A
-none i p = absurd (omega arith)
 
 pub next : (i : ℕ) → suc i ≡ i + 1
 next i = omega arith
@@ -59,17 +55,6 @@ module _ (s : ℕ) (os : List Outcome) (i : ℕ) where
       by (Job b) = omega arith
       by (Closed n) = omega arith
       by (Passed l) = omega arith
-
-  -- behind the last
-  module _ (h : length os ≤ i) where
-    pub jobs-end : (before : List Found) → before ++ found_jobs s i (drop i os) ≡ before
-    jobs-end before = ap (λ l. before ++ found_jobs s i l) (drop_all i os h) ∙ append-nil before
-
-    pub others-end : (before : List Found) → before ++ found_others s i (drop i os) ≡ before
-    others-end before = ap (λ l. before ++ found_others s i l) (drop_all i os h) ∙ append-nil before
-
-    pub count-end : (n : ℕ) → n + jobs_among (drop i os) ≡ n
-    count-end n = let f = ap jobs_among (drop_all i os h) in omega (arith, f)
 
 pub few : (k : Kind) → job_count k ≤ 1
 few (Job b) = omega arith

@@ -3,7 +3,6 @@ pub mod OfShowing
 pub mod OfPieces
 pub mod OfTurning
 pub mod OfTrees
-pub mod OtherItems
 pub mod OfEndings
 pub mod OfSteps
 pub mod OfLists

@@ -34,10 +34,6 @@ module _ {X Y : Type 0} where
   none-flat F h [] = refl
   none-flat F h (x ∷ xs) = ap₂ (λ a b. a ++ b) (h x) (none-flat F h xs)
 
-  pub flat-same : (F G : X → List Y) → ((x : X) → F x ≡ G x) → (xs : List X) → flat_map F xs ≡ flat_map G xs
-  flat-same F G h [] = refl
-  flat-same F G h (x ∷ xs) = ap₂ (λ a b. a ++ b) (h x) (flat-same F G h xs)
-
   pub flat-flat : {Z : Type 0} (G : Y → List Z) (F : X → List Y) (xs : List X) → flat_map G (flat_map F xs) ≡ flat_map (λ x. flat_map G (F x)) xs
   flat-flat G F [] = refl
   flat-flat G F (x ∷ xs) = flat_map-append G (F x) (flat_map F xs) ∙ ap (λ zs. flat_map G (F x) ++ zs) (flat-flat G F xs)

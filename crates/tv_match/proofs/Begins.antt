@@ -4,12 +4,11 @@ use Rattle.tv_value.specs.Values.{Name}
 use Rattle.tv_value.specs.Strategies.{Strategy}
 use Rattle.tv_strategy.specs.Conditions.{Suits, number_of}
 use Rattle.tv_strategy.specs.Measures.{DotsAgree}
-use Rattle.tv_matching.specs.Matchers.{Starts}
 use Rattle.tv_matching.specs.Stores.{store_for, gain, grown, told_by, worked, worked_items}
 use Rattle.tv_match.specs.Entries.{Entry, kepts, front, AreMore}
 use Rattle.tv_match.specs.Brief.{briefs, brief_store}
 use Rattle.tv_match.specs.Filed.{Filed, kept_store, Adds}
-use Rattle.tv_match.specs.Seen.{seen_as, AreSound}
+use Rattle.tv_match.specs.Seen.{AreSound}
 use Rattle.tv_match.specs.Working.{unit_news, news_to, IsFull, IsDone}
 use Rattle.tv_match.proofs.Fronts.{more-early, more-rise}
 use Rattle.tv_match.proofs.Working.{adds-full, full-kept}
@@ -45,9 +44,6 @@ module _ (s : Strategy) (mm : List (Name × ℕ)) (empty root : Filed) (out : Li
 
   pub start-sound : Suits mm s → DotsAgree (number_of mm) s → AreSound s mm root [] out 0 0
   start-sound suits agree = record { suits = suits; agree = agree; fit = tt; once = λ p q. omega arith; proper = tt; done = begun; told_within = omega arith; given_within = omega arith }
-
-  pub start-starts : Starts s mm (seen_as s mm [] out 0 0)
-  start-starts = record { strategy_is = refl; mismatch_is = refl; told_is = refl; held_is = refl; given_is = refl }
 
 pub sound-at : (s t : Strategy) (mm nn : List (Name × ℕ)) (root : Filed) (log out : List Entry) → t ≡ s → nn ≡ mm → log ≡ [] → AreSound s mm root [] out 0 0 → AreSound t nn root log out 0 0
 sound-at s t mm nn root log out e f g h =

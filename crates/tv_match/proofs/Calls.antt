@@ -8,7 +8,7 @@ use Rattle.tv_strategy.specs.Measures.{strategy_depth}
 use Rattle.tv_strategy.specs.Sources.{Each}
 use Rattle.tv_matching.specs.Members.{Once}
 use Rattle.tv_matching.specs.Told.{Told, told_to, matched_after, IsFit, IsNew}
-use Rattle.tv_matching.specs.Matchers.{Matching, Outcome, out as out_of, CanTell, IsTold, IsFreed, Gives}
+use Rattle.tv_matching.specs.Matchers.{Matching, out as out_of, CanTell, IsTold, IsFreed}
 use Rattle.tv_matching.proofs.Lists.{map-append, each-append}
 use Rattle.tv_matching.proofs.Permutes.{perm-from}
 use Rattle.tv_matching.proofs.OfLaws.{new-is_once}
@@ -25,9 +25,6 @@ pub each-take : {A : Type 0} (P : A → Type 0) (n : ℕ) (xs : List A) → Each
 each-take P zero xs h = tt
 each-take P (suc n) [] h = tt
 each-take P (suc n) (x ∷ xs) h = (h.0, each-take P n xs h.1)
-
-tails : {A : Type 0} (x y : A) (xs ys : List A) → x ∷ xs ≡ y ∷ ys → xs ≡ ys
-tails x y xs ys e = cc
 
 heads : {A : Type 0} (x y : A) (xs ys : List A) → x ∷ xs ≡ y ∷ ys → x ≡ y
 heads x y xs ys e = cc
@@ -71,9 +68,6 @@ module _ (s : Strategy) (mm : List (Name × ℕ)) where
 
     pub next-told : IsTold (telling_of s e) (seen_as s mm log out n g) (seen_as s mm log out (n + 1) g)
     next-told = record { strategy_is = refl; mismatch_is = refl; told_is = perm-from _ _ one-more; given_is = refl }
-
-  pub held-tail : (log : List Entry) (n : ℕ) (t : Told) (rest : List Told) → n < length log → tellings_of s (drop n log) ≡ t ∷ rest → tellings_of s (drop (n + 1) log) ≡ rest
-  held-tail log n t rest h e = tails (telling_of s (entry_at log n)) t (tellings_of s (drop (n + 1) log)) rest (sym (ap (tellings_of s) (from-next log n h)) ∙ e)
 
   pub held-head : (log : List Entry) (n : ℕ) (t : Told) (rest : List Told) → n < length log → tellings_of s (drop n log) ≡ t ∷ rest → telling_of s (entry_at log n) ≡ t
   held-head log n t rest h e = heads (telling_of s (entry_at log n)) t (tellings_of s (drop (n + 1) log)) rest (sym (ap (tellings_of s) (from-next log n h)) ∙ e)
@@ -281,19 +275,6 @@ module _ (s : Strategy) (mm : List (Name × ℕ)) (root : Filed) (log out : List
         told_within = a.told_within;
         given_within = let l = early-in_front n out g h k in omega (arith, l);
       }
-
-  pub given-next : (o : Outcome) → g < length out → outcome_of (entry_at out g) ≡ o → Gives o (seen_as s mm log out n g) (seen_as s mm log out n (g + 1))
-  given-next o h e = record { strategy_is = refl; mismatch_is = refl; told_is = refl; held_is = refl; given_is = one-more-out }
-    where
-      plus : (i : ℕ) → i + 1 ≡ suc i
-      plus i = omega arith
-
-      one-more-out : map outcome_of (take (g + 1) out) ≡ map outcome_of (take g out) ++ o ∷ []
-      one-more-out =
-          ap (λ k. map outcome_of (take k out)) (plus g)
-          ∙ ap (map outcome_of) (take-suc out g no_entry h)
-          ∙ map-append outcome_of (take g out) (entry_at out g ∷ [])
-          ∙ ap (λ x. map outcome_of (take g out) ++ x ∷ []) e
 
 -- ---- where what was held is let go
 

@@ -4,7 +4,7 @@ use Rattle.std.proofs.Common.{◌≡◌, ◌≢◌, ◌⊎◌, inl, inr, refl, �
 use Rattle.tv_value.specs.Nested.{Place}
 use Rattle.tv_matching.specs.Stores.{latest_at}
 use Rattle.tv_match.specs.Entries.{Entry, entry_at, kepts, FoundBefore}
-use Rattle.tv_match.specs.Linked.{digit_of, link_at, Reaches, Leads, AreRising, AreLinked, Agree, CanHang}
+use Rattle.tv_match.specs.Linked.{digit_of, link_at, Reaches, Leads, AreRising, AreLinked, Agree}
 use Rattle.tv_match.proofs.Latest.{latest-other, found-here}
 
 pub digit-small : (q : Place) (level : ℕ) → digit_of q level < 4
@@ -34,13 +34,6 @@ reaches-agree links more count to a h q (suc n) at level r =
 
 pub leads-agree : (links more : List ℕ) (count to : ℕ) → Agree count links more → to < count → (q : Place) → Leads links q to 0 0 → Leads more q to 0 0
 leads-agree links more count to a h q r = (r.0, reaches-agree links more count to a h q r.0 0 0 r.1)
-
-pub agree-both : (i j : ℕ) (links more most : List ℕ) → i ≤ j → Agree j links more → Agree i more most → Agree i links most
-agree-both i j links more most h a b k l m =
-    let e = a k (omega (arith, h, l)) (omega (arith, h, m)) in b k l (omega (arith, e, m)) ∙ e
-
-pub agree-itself : (i : ℕ) (links : List ℕ) → Agree i links links
-agree-itself i links k l m = refl
 
 -- ---- the free link on the way to a place
 
@@ -72,9 +65,6 @@ module _ (links : List ℕ) (count : ℕ) (q : Place) where
     where
       on : (more : List ℕ) (w : Leads more q count (link_at more next) (suc up)) → Reaches more q w.0 count (link_at more (4 * link_at links link + digit_of q (suc level))) (suc (suc level))
       on more w = subst (λ v. Reaches more q w.0 count (link_at more (4 * link_at links link + digit_of q v)) (suc v)) u (subst (λ i. Reaches more q w.0 count (link_at more i) (suc up)) e w.1)
-
-  pub seeks-end : (link level : ℕ) → Seeks links count q link level → count ≤ link_at links link → CanHang links count q link
-  seeks-end link level s h = record { within = s.within; free = h; hangs = λ more a e. s.back more a (0, e) }
 
 -- ---- the search
 

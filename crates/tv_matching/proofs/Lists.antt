@@ -1,6 +1,6 @@
 -- Lists that are mapped, joined and filtered.
-use Rattle.std.specs.Prelude.{◌≡◌, refl, List, [], ◌∷◌, ◌++◌, map, flat_map, Bool, true, false, if◌then◌else◌}
-use Rattle.std.proofs.Common.{sym, ap, ◌∙◌, append_assoc, append-nil}
+use Rattle.std.specs.Prelude.{◌≡◌, refl, List, [], ◌∷◌, ◌++◌, map, flat_map, Bool, true, false}
+use Rattle.std.proofs.Common.{sym, ap, ◌∙◌, append_assoc}
 use Rattle.tv_strategy.specs.Sources.{Each}
 use Rattle.tv_matching.specs.Items.{if_so}
 
@@ -43,10 +43,6 @@ flat-single f (x ∷ xs) = ap (λ l. f x ∷ l) (flat-single f xs)
 pub map-if : {A B : Type 0} (f : A → B) (b : Bool) (x : A) → map f (if_so b x) ≡ if_so b (f x)
 map-if f true x = refl
 map-if f false x = refl
-
-pub flat-if : {A B : Type 0} (f : A → List B) (b : Bool) (x : A) → flat_map f (if_so b x) ≡ (if b then f x else [])
-flat-if f true x = append-nil (f x)
-flat-if f false x = refl
 
 -- where nothing comes of any
 pub flat-nothing : {A B : Type 0} (f : A → List B) (xs : List A) → Each (λ x. f x ≡ []) xs → flat_map f xs ≡ []

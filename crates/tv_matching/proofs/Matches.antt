@@ -9,14 +9,13 @@ use Rattle.tv_strategy.specs.Iterations.{Iteration, iteration}
 use Rattle.tv_strategy.specs.Measures.{DotsAgree}
 use Rattle.tv_strategy.specs.Levels.{HasLevels}
 use Rattle.tv_matching.specs.Items.{Node, nodes_of, all_known, known_items}
-use Rattle.tv_matching.specs.Members.{In, Once}
+use Rattle.tv_matching.specs.Members.{In}
 use Rattle.tv_matching.specs.Matched.{matched}
 use Rattle.tv_matching.proofs.FromScratch.{WalkItem, iteration-known}
 use Rattle.tv_matching.proofs.Permutes.{perm-from}
 use Rattle.tv_matching.proofs.Gains.{matched-permutes}
 use Rattle.tv_matching.proofs.OfMembers.{in-permutes}
 use Rattle.tv_matching.proofs.Nodes.{of-known, in-known}
-use Rattle.tv_matching.proofs.Onces.{known-once, once-permutes}
 
 module _ (known : Origin → Bool) (ports : Name → Iteration) (mismatch : Name → ℕ) (walks : (p : Name) → HasLevels (ports p) (mismatch p)) (told : Name → List WalkItem) (agrees : (p : Name) → IsPermutation (told p) (known_items known (ports p))) where
   pub matched-known : (s : Strategy) → DotsAgree mismatch s → IsPermutation (matched told s) (known_items known (iteration ports s))
@@ -31,7 +30,3 @@ module _ (known : Origin → Bool) (ports : Name → Iteration) (mismatch : Name
   -- COMPLETE
   pub matched-complete : (s : Strategy) → DotsAgree mismatch s → (n : Node) → In n (nodes_of (iteration ports s)) → all_known known n.sources ≡ true → In n.item (matched told s)
   matched-complete s a n h k = in-permutes n.item (matched told s) (known_items known (iteration ports s)) (matched-known s a) (in-known known (iteration ports s) n h k)
-
-  -- ONCE
-  pub matched-apart : (s : Strategy) → DotsAgree mismatch s → Once (matched told s)
-  matched-apart s a = once-permutes (known_items known (iteration ports s)) (matched told s) (IsPermutation-sym _ _ (matched-known s a)) (λ q. known-once known q (iteration ports s))

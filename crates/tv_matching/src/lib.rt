@@ -16,8 +16,8 @@
 //!   still to come is what is known of the iteration;
 //! - the worked examples of `specs/Worked.antt` compute.
 //!
-//! In `proofs/`, for crates above: `OfLaws` (the laws by name), `OfStores` (stores, crosses nested either way), `Lookups` (a
-//! dot as look-ups by place, counts of a cross), `Prefixed` (the join by the first part of a place), `OfMatchers` and `Bared`
+//! In `proofs/`, for crates above: `OfLaws` (the laws by name), `OfStores` (stores, crosses nested either way), `Lookups`
+//! (equal places, either way round), `Prefixed` (the join by the first part of a place), `OfMatchers` and `Bared`
 //! (matching without bindings), `Permutes` and `Lists`.
 #![tactic(auto)]
 

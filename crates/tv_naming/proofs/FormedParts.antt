@@ -85,9 +85,3 @@ module _ (s : Step) (h : is_step s ≡ true) where
 
 pub document-flows : (d : Document) → is_formed d ≡ true → are_named is_flow 1 256 d.flows ≡ true
 document-flows d h = (both _ _ (both _ _ h).0).1
-
-pub step-activities : (s : Step) → is_step s ≡ true → length s.activities ≤ 8
-step-activities s h =
-    let e = (both _ _ (both _ _ (both _ _ (both _ _ h).0).0).0).1 in
-    let t : nat_le (length s.activities) 8 ≡ true = (both _ _ (both _ _ e).0).1 in
-    leb-true _ _ t

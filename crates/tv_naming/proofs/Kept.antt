@@ -1,15 +1,14 @@
 -- What a document that was read keeps, at each of its parts; and look-ups in the lists that views give.
-use Rattle.std.specs.Prelude.{◌≡◌, ℕ, zero, suc, ◌^◌, ◌<◌, ◌≤◌, List, [], ◌∷◌, length, map, Bool, true, false, ◌&&◌, if◌then◌else◌, Option, Some, None, is_some, option_map, refl}
+use Rattle.std.specs.Prelude.{◌≡◌, ℕ, zero, suc, ◌<◌, ◌≤◌, List, [], ◌∷◌, length, map, Bool, true, false, ◌&&◌, if◌then◌else◌, Option, Some, None, is_some, option_map, refl}
 use Rattle.std.proofs.Common.{arith, get_or, ap, sym, ◌∙◌}
 use Rattle.std.specs.List.{list_all}
 use Rattle.std.proofs.lemmas.Bool.{leb-true}
-use Rattle.std.proofs.lemmas.List.{length-map}
 use Rattle.tv_value.specs.Values.{Name}
 use Rattle.tv_value.specs.Orders.{same_name, named}
 use Rattle.tv_value.specs.Views.{view as value_view}
 use Rattle.tv_flow.specs.Forms.{is_name}
 use Rattle.tv_flow.specs.Formed.{is_ascending, is_between, are_entries, is_step, is_flow, is_value}
-use Rattle.tv_flow.specs.Views.{each, flow_view, step_view, activity_view}
+use Rattle.tv_flow.specs.Views.{each, flow_view, step_view}
 use Rattle.tv_flow.specs.declared.document.Document.{Document}
 use Rattle.tv_flow.specs.declared.document.Flow.{Flow}
 use Rattle.tv_flow.specs.declared.document.Step.{Step}
@@ -76,20 +75,6 @@ flow-ascends f h = entries-ascend is_step step_view f.steps (flow-steps f h)
 
 pub step-at : (f : Flow) (i : ℕ) (d : Name × Step) → is_flow (flow_view f) ≡ true → i < length f.steps → is_step (step_view (get_or f.steps i d).1) ≡ true
 step-at f i d h lt = entry-at is_step step_view f.steps i d (flow-steps f h) lt
-
-below : (n m : ℕ) → n ≤ 8 → n ≡ m → m < 2 ^ 32
-below n m le e = omega arith
-
-pub few-activities : (s : Step) → is_step (step_view s) ≡ true → length s.activities < 2 ^ 32
-few-activities s h =
-    let listed = (both _ _ (both _ _ (both _ _ (both _ _ h).0).0).0).1 in
-    below _ _ (at-most 1 8 (length (map activity_view s.activities)) (both _ _ listed).0) (length-map s.activities activity_view)
-
-pub few-after : (s : Step) → is_step (step_view s) ≡ true → length s.after < 2 ^ 32
-few-after s h = small (length s.after) (leb-true (length s.after) 16 (both _ _ (both _ _ (both _ _ h).1).0).0)
-  where
-    small : (n : ℕ) → n ≤ 16 → n < 2 ^ 32
-    small n le = omega arith
 
 pub document-flows : (d : Document) → are_entries is_flow (each flow_view d.flows) ≡ true
 document-flows d = (both _ _ (both _ _ (both _ _ d.formed).0).1).1

@@ -35,10 +35,6 @@ module _ {X N M : Type 0} (h : N → Option M) (f : X → List N) where
       ∙ append_assoc old (filter_map h (flat_map f (take i xs))) (filter_map h (f x))
       ∙ ap (λ ms. old ++ ms) (sym (filter_map-append h (flat_map f (take i xs)) (f x)) ∙ ap (filter_map h) (ap (λ ns. flat_map f (take i xs) ++ ns) (sym (append-nil (f x))) ∙ sym (flat_map-append f (take i xs) (x ∷ []))) ∙ ap (λ ys. filter_map h (flat_map f ys)) (sym (take-step xs i x lt is)))
 
-  -- nothing at first, and all at last
-  pub none-yet : (old : List M) (xs : List X) → old ≡ old ++ filter_map h (flat_map f (take 0 xs))
-  none-yet old xs = sym (append-nil old)
-
   pub all-now : (old so_far : List M) (xs : List X) (i : ℕ) → length xs ≤ i → so_far ≡ old ++ filter_map h (flat_map f (take i xs)) → so_far ≡ old ++ filter_map h (flat_map f xs)
   all-now old so_far xs i past e = e ∙ ap (λ ys. old ++ filter_map h (flat_map f ys)) (take_all i xs past)
 

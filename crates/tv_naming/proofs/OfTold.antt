@@ -1,12 +1,12 @@
 -- How an answer about a part tells of the whole.
-use Rattle.std.proofs.Common.{◌≡◌, ◌∙◌, refl, sym, ap, subst, ℕ, zero, suc, ◌<◌, ◌≤◌, ◌+◌, List, [], ◌∷◌, ◌++◌, length, map, take, flat_map, Some, Result, arith, get_or, slice_get}
+use Rattle.std.proofs.Common.{◌≡◌, ◌∙◌, refl, sym, ap, subst, ℕ, zero, suc, ◌<◌, ◌≤◌, ◌+◌, List, [], ◌∷◌, ◌++◌, length, map, take, flat_map, Some, arith, get_or, slice_get}
 use Rattle.std.proofs.lemmas.Option.{slice_get_read}
 use Rattle.tv_naming.specs.Faulty.{Complaint, first_of}
 use Rattle.tv_naming.specs.FaultViews.{fault_view}
 use Rattle.tv_naming.specs.Naming.{numbered}
 use Rattle.tv_naming.specs.declared.faults.CheckRefused.{CheckRefused}
 use Rattle.tv_naming.specs.declared.faults.CheckRefused.TheVariants.{Check, NoMemory}
-use Rattle.tv_naming.specs.Told.{StopsAt, IsToldOf}
+use Rattle.tv_naming.specs.Told.{StopsAt}
 
 -- the first of a list is the first of a longer one
 first-left : (xs ys : List Complaint) (c : Complaint) → first_of xs ≡ Some c → first_of (xs ++ ys) ≡ Some c
@@ -19,9 +19,6 @@ stops-left xs ys NoMemory h = tt
 
 pub stops-right : (xs ys : List Complaint) (e : CheckRefused) → xs ≡ [] → StopsAt ys e → StopsAt (xs ++ ys) e
 stops-right xs ys e n h = subst (λ zs. StopsAt (zs ++ ys) e) (sym n) h
-
-pub told-right : {A : Type 0} (xs ys : List Complaint) (r : Result A CheckRefused) → xs ≡ [] → IsToldOf ys r → IsToldOf (xs ++ ys) r
-told-right xs ys r n h = subst (λ zs. IsToldOf (zs ++ ys) r) (sym n) h
 
 -- ---- item by item
 

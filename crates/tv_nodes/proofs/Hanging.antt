@@ -215,9 +215,6 @@ module _ {B : Type 0} where
 
       -- the nodes stand
       module _ (p : Spot) (known : spots at ≡ Some p) (bound : by < 5) (q : Spot) (hangs : Hangs at p e by q x) where
-        more : ℕ → Option Spot
-        more = with_spot spots n q
-
         part-entries : (s : ℕ) (u : Spot) → with_spot spots n q s ≡ Some u → IsEntry m' s
         part-entries s u k = elim (cases_eq s n) [
           | inl same ↦ subst (IsEntry m') (sym same) new-entry

@@ -1,10 +1,11 @@
--- Where a job stands where no job opens a flow.
-use Rattle.std.specs.Prelude.{◌≡◌, ◌&&◌, not, if◌then◌else◌, Bool, true, false, [], ◌∷◌, None, Some, Option, is_none, is_some, refl}
+-- Where a job stands.
+use Rattle.std.specs.Prelude.{◌≡◌, ◌&&◌, ◌||◌, not, if◌then◌else◌, Bool, true, false, [], ◌∷◌, None, Some, Option, is_none, is_some, refl}
 use Rattle.std.specs.List.{list_any}
 use Rattle.std.specs.Option.{option_map_or}
 use Rattle.std.proofs.Common.{ap, subst, sym, ◌∙◌}
-use Rattle.std.proofs.lemmas.Bool.{not-true}
+use Rattle.std.proofs.lemmas.Bool.{false_from_ne_true, not-true}
 use Rattle.tv_value.specs.Orders.{same_job}
+use Rattle.tv_value.specs.Values.{Name}
 use Rattle.tv_gate.specs.Outcomes.{Giving}
 use Rattle.tv_flow.specs.Flows.{Document}
 use Rattle.tv_dispatch.specs.Jobs.{Ask}
@@ -12,42 +13,38 @@ use Rattle.tv_model.specs.Jobs.{Job}
 use Rattle.tv_model.specs.Lists.{first_of_list, rest_of}
 use Rattle.tv_model.specs.Meanings.{meaning}
 use Rattle.tv_model.specs.Turns.{is_bounced}
-use Rattle.tv_model.proofs.Tests.{true≠false, left_true, right_true, both_true, same_job_decides}
-use Rattle.tv_model.proofs.Turns.{In}
-use Rattle.tv_history.specs.Entries.{Entry, History, accepted, handed_out, is_begun_entry, is_bounced_entry, is_ended_entry, is_out, recalled}
-use Rattle.tv_history.specs.Histories.{asks_left, is_ask, is_at, is_idle, is_legal, is_legal_after, is_offered, is_open, is_running, is_settled, may_go_on, next_ask}
+use Rattle.tv_model.proofs.Tests.{true≠false, left_true, right_true, both_true, or_right, same_job_decides}
+use Rattle.tv_model.proofs.Turns.{In, or_left}
+use Rattle.tv_history.specs.Entries.{Entry, History, accepted, handed_out, is_begun_entry, is_bounced_entry, is_ended_entry, is_opened_entry, is_out, recalled}
+use Rattle.tv_history.specs.Histories.{asks_left, has_open_instance, is_ask, is_at, is_legal, is_legal_after, is_offered, is_open, is_running, is_settled, may_go_on, next_ask}
+use Rattle.tv_history.proofs.Done.{opened-facts, settled-none}
 use Rattle.tv_history.proofs.Ready.{AnyNumber, document-whole}
 use Rattle.tv_history.proofs.Running.{out-begun}
 use Rattle.tv_history.proofs.Stuck.{begun-tried}
 use Rattle.tv_history.proofs.Tests.{found_in}
-use Rattle.tv_offered.specs.Runs.{IsAlone}
+use Rattle.tv_order.proofs.OfFirst.{open-running}
 use Rattle.tv_offered.specs.Stages.{Stands}
-use Rattle.tv_offered.proofs.OfRuns.{next-legal, old-legal, same-named}
+use Rattle.tv_offered.proofs.OfRuns.{jobs-of, next-legal, old-legal, same-named}
 
--- ---- one job that opens nothing
+-- ---- what settles a job that isn't bounced
 
-module _ (past : History) (j : Job) (opens : j.opens ≡ None) where
-  pub settled-is : is_bounced j.ending ≡ false → is_settled past j ≡ is_none (next_ask past j)
-  settled-is b =
-      ap (λ c. if c then list_any (is_bounced_entry j.name) past else (if is_some j.opens then list_any (is_ended_entry j.name) past else is_none (next_ask past j))) b
-      ∙ ap (λ o. if is_some o then list_any (is_ended_entry j.name) past else is_none (next_ask past j)) opens
+module _ (past : History) (j : Job) (tried : is_bounced j.ending ≡ false) where
+  abbrev has_ended : Bool
+  has_ended = list_any (is_ended_entry j.name) past
 
-  and-true : (b : Bool) → (b && true) ≡ b
-  and-true true = refl
-  and-true false = refl
+  tried-settled : is_settled past j ≡ (if is_some j.opens then has_ended else is_none (next_ask past j))
+  tried-settled =
+      ap (λ c. if c then list_any (is_bounced_entry j.name) past else (if is_some j.opens then has_ended else is_none (next_ask past j))) tried
 
-  pub idle-is : is_idle past j ≡ (is_running past j && not (is_out past j.name))
-  idle-is =
-      ap (λ o. is_running past j && not (is_out past j.name) && not (is_some o && is_open past j.name)) opens
-      ∙ and-true (is_running past j && not (is_out past j.name))
+  pub settled-is : j.opens ≡ None → is_settled past j ≡ is_none (next_ask past j)
+  settled-is opens = tried-settled ∙ ap (λ o. if is_some o then has_ended else is_none (next_ask past j)) opens
+
+  pub settled-inside : is_some j.opens ≡ true → is_settled past j ≡ list_any (is_ended_entry j.name) past
+  settled-inside opens = tried-settled ∙ ap (λ b. if b then has_ended else is_none (next_ask past j)) opens
 
 none-some : (o : Option Ask) → is_none o ≡ false → is_some o ≡ true
 none-some None h = absurd (true≠false h)
 none-some (Some a) h = refl
-
-some-not-none : (o : Option Ask) → is_some o ≡ true → is_none o ≡ false
-some-not-none None h = absurd (true≠false (sym h))
-some-not-none (Some a) h = refl
 
 module _ (gives : Giving) (d : Document) where
   -- a job with a try out has a next ask
@@ -76,24 +73,68 @@ module _ (gives : Giving) (d : Document) where
       by (recalled c) a p rec = absurd (true≠false (sym p))
       by e a p rec = rec p
 
-  pub stages : (past : History) → IsAlone gives d past → (j : Job) → In j (meaning gives d).jobs → Stands past j
-  stages past a j i = record {
-    settled = settled-is past j (a.opens j i);
-    idle = idle-is past j (a.opens j i);
-    out = λ o.
-        let begun = out-begun past j.name o in
-        let left = settled-is past j (a.opens j i) (tried begun) ∙ some-not-none (next_ask past j) (out-next past a.legal j i o) in
-        both_true (list_any (is_begun_entry j.name) past) (not (is_settled past j)) begun (ap not left);
-    next = λ r. none-some (next_ask past j) (sym (settled-is past j (a.opens j i) (tried (begun-of r))) ∙ unsettled-of r);
-    tried = λ r. tried (begun-of r);
-    unsettled = unsettled-of;
-  }
-    where
-      tried : list_any (is_begun_entry j.name) past ≡ true → is_bounced j.ending ≡ false
-      tried h = begun-tried gives AnyNumber (meaning gives d) (document-whole gives d) past j i a.legal h
+  module _ (past : History) (l : is_legal gives (meaning gives d) past ≡ true) (j : Job) (i : In j (meaning gives d).jobs) where
+    -- what was begun isn't bounced
+    pub begun-unbounced : list_any (is_begun_entry j.name) past ≡ true → is_bounced j.ending ≡ false
+    begun-unbounced h = begun-tried gives AnyNumber (meaning gives d) (document-whole gives d) past j i l h
 
-      begun-of : is_running past j ≡ true → list_any (is_begun_entry j.name) past ≡ true
-      begun-of r = left_true (list_any (is_begun_entry j.name) past) (not (is_settled past j)) r
+    -- whose flow was opened has asked all that it asks
+    pub opened-none : list_any (is_opened_entry j.name) past ≡ true → next_ask past j ≡ None
+    opened-none h =
+        ap (λ as'. first_of_list as') (opened-facts gives AnyNumber (meaning gives d) (document-whole gives d) past l j i h).0
 
-      unsettled-of : is_running past j ≡ true → is_settled past j ≡ false
-      unsettled-of r = not-true (is_settled past j) (right_true (list_any (is_begun_entry j.name) past) (not (is_settled past j)) r)
+    -- an open flow was opened
+    pub open-opened : is_open past j.name ≡ true → list_any (is_opened_entry j.name) past ≡ true
+    open-opened h =
+        let c = (jobs-of gives d).has_name j i in
+        let o = subst (λ n. is_open past n ≡ true) c.2 h in
+        subst (λ n. list_any (is_opened_entry n) past ≡ true) (sym c.2)
+        (left_true (list_any (is_opened_entry (c.0 ∷ c.1)) past) (not (list_any (is_ended_entry (c.0 ∷ c.1)) past)) o)
+
+    pub open-none : has_open_instance past j ≡ true → next_ask past j ≡ None
+    open-none h = opened-none (open-opened (right_true (is_some j.opens) (is_open past j.name) h))
+
+    pub out-shut : is_out past j.name ≡ true → has_open_instance past j ≡ false
+    out-shut o =
+        false_from_ne_true (has_open_instance past j)
+        (λ h. true≠false (sym (out-next past l j i o) ∙ ap is_some (open-none h)))
+
+    -- what is out isn't settled
+    out-unsettled : is_out past j.name ≡ true → is_settled past j ≡ false
+    out-unsettled o =
+        false_from_ne_true (is_settled past j)
+        (λ s.
+        let none = settled-none gives AnyNumber (meaning gives d) (document-whole gives d) past l j i s in
+        true≠false (sym (out-next past l j i o) ∙ ap (λ as'. is_some (first_of_list as')) none))
+
+    begun-of : is_running past j ≡ true → list_any (is_begun_entry j.name) past ≡ true
+    begun-of r = left_true (list_any (is_begun_entry j.name) past) (not (is_settled past j)) r
+
+    unsettled-of : is_running past j ≡ true → is_settled past j ≡ false
+    unsettled-of r = not-true (is_settled past j) (right_true (list_any (is_begun_entry j.name) past) (not (is_settled past j)) r)
+
+    next-of : is_running past j ≡ true → (is_some (next_ask past j) || is_some j.opens) ≡ true
+    next-of r = by j.opens refl
+      where
+        by : (o : Option Name) → j.opens ≡ o → (is_some (next_ask past j) || is_some j.opens) ≡ true
+        by (Some g) e = or_right (is_some (next_ask past j)) (is_some j.opens) (ap is_some e)
+        by None e =
+            let none = sym (settled-is past j (begun-unbounced (begun-of r)) e) ∙ unsettled-of r in
+            or_left (is_some (next_ask past j)) (is_some j.opens) (none-some (next_ask past j) none)
+
+    pub stages : Stands past j
+    stages = record {
+      settled = settled-is past j;
+      settled_inside = settled-inside past j;
+      idle = refl;
+      out = λ o.
+          both_true (list_any (is_begun_entry j.name) past) (not (is_settled past j)) (out-begun past j.name o)
+          (ap not (out-unsettled o));
+      out_next = out-next past l j i;
+      out_shut = out-shut;
+      open_running = open-running gives AnyNumber (meaning gives d) (document-whole gives d) past l j i;
+      open_next = open-none;
+      next = next-of;
+      tried = λ r. begun-unbounced (begun-of r);
+      unsettled = unsettled-of;
+    }

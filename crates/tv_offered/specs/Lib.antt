@@ -1,4 +1,3 @@
-pub mod Runs
 pub mod Offers
 pub mod Ends
 pub mod Stages

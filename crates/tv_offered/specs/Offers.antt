@@ -1,55 +1,27 @@
--- The laws of what is on offer where no job opens a flow: which ask is the first, and that it may be handed out.
-use Rattle.std.specs.Prelude.{◌≡◌, ◌&&◌, ◌||◌, not, Bool, true, false, ℕ, List, Some, None, [], count_by, find, nat_lt}
+-- The laws of what is on offer: where a job is, and that the first may be handed out.
+use Rattle.std.specs.Prelude.{◌≡◌, ◌&&◌, ◌||◌, not, Bool, true, false, ℕ, List, Some, None, count_by, find, is_some, nat_lt}
 use Rattle.std.specs.List.{list_any}
 use Rattle.std.specs.Option.{option_map_or}
-use Rattle.tv_value.specs.Nested.{Place}
-use Rattle.tv_value.specs.Orders.{named, same_name}
-use Rattle.tv_value.specs.Values.{JobName, Name}
+use Rattle.tv_value.specs.Values.{JobName}
 use Rattle.tv_gate.specs.Outcomes.{Giving}
-use Rattle.tv_flow.specs.Flows.{Document, Flow}
-use Rattle.tv_depths.specs.Ranks.{ranked}
-use Rattle.tv_depths.specs.Steps.{spot}
+use Rattle.tv_flow.specs.Flows.{Document}
 use Rattle.tv_model.specs.Jobs.{Job}
 use Rattle.tv_model.specs.Meanings.{meaning}
 use Rattle.tv_model.specs.Members.{In}
 use Rattle.tv_model.specs.Turns.{is_bounced}
 use Rattle.tv_history.specs.Entries.{History, handed_out}
 use Rattle.tv_history.specs.Histories.{has_place, is_ask, is_idle, is_legal_after, is_ready, is_running, next_ask}
-use Rattle.tv_order.specs.JobOrder.{Apart, spot_before}
-use Rattle.tv_order.specs.Moments.{all_jobs, has_offer, IsJob}
-use Rattle.tv_offered.specs.Runs.{IsAlone}
+use Rattle.tv_order.specs.JobOrder.{Apart}
+use Rattle.tv_order.specs.Moments.{all_jobs, has_offer, is_beside, IsJob}
 
--- job j of the run, at the spot x, is offered
-pub record IsOfferedAt (gives : Giving) (d : Document) (past : History) (j : Job) (x : Name × Place)
-    : Type 0 where
-  pub is_job : IsJob gives d j
-  pub offered : has_offer gives d past j ≡ true
-  pub named : j.name ≡ spot [] x.0 x.1
-
--- the first ask on offer is that of the job before which no other that is offered stands
-abbrev pub FirstOfferedByOrder : Type 0
-FirstOfferedByOrder =
-    (gives : Giving) (d : Document) (past : History)
-    → IsAlone gives d past
-    → (flow : Flow)
-    → named d.main d.flows ≡ Some flow
-    → (j : Job) (x : Name × Place)
-    → IsOfferedAt gives d past j x
-    → (
-    (k : Job) (y : Name × Place)
-    → IsOfferedAt gives d past k y
-    → spot_before (ranked flow.steps) y x ≡ false)
-    → find (has_offer gives d past) (all_jobs gives d) ≡ Some j
-
--- a job is offered exactly where it is idle, or ready, unbounced and with a free place
+-- a job is offered exactly where it has an ask and is idle, or ready, unbounced and with a free place
 abbrev pub OfferedByStage : Type 0
 OfferedByStage =
-    (gives : Giving) (d : Document) (past : History)
-    → IsAlone gives d past
-    → (j : Job)
-    → IsJob gives d j
+    (gives : Giving) (d : Document) (past : History) (j : Job)
     → has_offer gives d past j
     ≡ (
+    is_some (next_ask past j)
+    && (
     is_idle past j
     || (
     is_ready (meaning gives d) past j
@@ -57,16 +29,14 @@ OfferedByStage =
     && has_place (meaning gives d) past j
     )
     )
+    )
 
--- a place is free where fewer jobs of the step run than may
+-- a place is free where fewer jobs of the step run in its instance than may
 abbrev pub PlacesByStep : Type 0
 PlacesByStep =
-    (gives : Giving) (d : Document) (past : History)
-    → IsAlone gives d past
-    → (j : Job)
-    → IsJob gives d j
+    (gives : Giving) (d : Document) (past : History) (j : Job)
     → has_place (meaning gives d) past j
-    ≡ nat_lt (count_by (λ k. same_name k.step j.step && is_running past k) (all_jobs gives d)) j.limit
+    ≡ nat_lt (count_by (λ k. is_beside j k && is_running past k) (all_jobs gives d)) j.limit
 
 -- jobs are counted by their names, of which some are left out that don't count
 abbrev pub CountedByNames : Type 0

@@ -4,6 +4,8 @@
 //! isn't bounced has a try or opens a flow, and every try is of one of the first eight activities; no two tries of a job have
 //! one activity and attempt (`proofs/Tried.antt`, `Few.antt`, `Distinct.antt`).
 //!
+//! Which activity comes after the tries of a job, `specs/Activities.antt` says.
+//!
 //! - `laws`: the laws
 #![tactic(auto)]
 

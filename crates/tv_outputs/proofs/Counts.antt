@@ -2,7 +2,6 @@
 use Rattle.std.proofs.Common.{◌≡◌, ◌≢◌, ◌<◌, ◌+◌, ℕ, zero, suc, List, [], ◌∷◌, ◌++◌, length, append_assoc, inl, inr, refl, sym, ap, ◌∙◌, subst, arith}
 use Rattle.std.specs.Prelude.{slice_index_or}
 use Rattle.std.proofs.lemmas.Bool.{cases_eq}
-use Rattle.std.proofs.lemmas.List.{append-nil}
 use Rattle.tv_value.specs.Nested.{Place}
 use Rattle.tv_value.specs.Values.{Value}
 use Rattle.tv_parts.specs.Partials.{Partial}
@@ -23,12 +22,6 @@ get-before (m ∷ ns) n (suc k) h = get-before ns n k (down k (length ns) h)
 get-last : (ns : List ℕ) (n : ℕ) → slice_index_or (ns ++ n ∷ []) (length ns) 0 ≡ n
 get-last [] n = refl
 get-last (m ∷ ns) n = get-last ns n
-
-pub counted-none : (q : Place) (ns : List ℕ) (tree : ℕ → Partial Value) → Counted 0 q ns ns tree
-counted-none q ns tree = record { added = []; all = sym (append-nil ns); many = refl; each = λ k h. absurd (none k h) }
-  where
-    none : (k : ℕ) → k < 0 → ⊥
-    none k h = omega arith
 
 pub counted-more : (count : ℕ) (q : Place) (old mid new : List ℕ) (tree : ℕ → Partial Value) (n : ℕ) → Counted count q old mid tree → new ≡ mid ++ n ∷ [] → HoldsFaults q (tree count) n → Counted (count + 1) q old new tree
 counted-more count q old mid new tree n c is holds = record {

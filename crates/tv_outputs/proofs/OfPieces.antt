@@ -18,7 +18,7 @@ use Rattle.tv_cell.specs.declared.piece.Piece.{Piece}
 use Rattle.tv_cell.specs.declared.piece.Piece.TheViews as code
 use Rattle.tv_cell.specs.PieceValues.{piece_value, piece_values}
 use Rattle.tv_cell.specs.Soundness.{IsSound, AreSound, is_sound}
-use Rattle.tv_cell.proofs.OfPieces.{list-value, list-sound}
+use Rattle.tv_cell.proofs.OfPieces.{list-sound}
 use Rattle.tv_outputs.specs.Known.{item_value, shown}
 use Rattle.tv_outputs.specs.Kept.{IsNoted, EachItem}
 use Rattle.tv_outputs.specs.FoundIn.{found_in}
@@ -79,10 +79,6 @@ whole-kinds wanting h i k = true≢false (sym h)
 whole-kinds (item x) h i k = cc
 whole-kinds (growing ps) h i k = true≢false (sym h)
 whole-kinds (closed ps) h i k = k (part_count ps) refl
-
--- the pieces of the parts make the list's
-pub list-piece : (ps : List Piece) (v : Value) (vs : List Value) → v ≡ list_value (trees_of vs) → piece_values ps ≡ vs → piece_value (code.List ps) ≡ v
-list-piece ps v vs e h = list-value ps ∙ ap (λ us. list_value (trees_of us)) h ∙ sym e
 
 pub list-is-sound : (ps : List Piece) → length ps < length_limit → AreSound ps → IsSound (code.List ps)
 list-is-sound ps few all = list-sound ps ∙ ap (λ b. b && list_all is_sound ps) (lt-ltb (length ps) length_limit few) ∙ all

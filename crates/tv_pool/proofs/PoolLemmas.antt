@@ -1,12 +1,11 @@
 -- Lemmas on what a contract sees of a pool, for this crate and its callers.
-use Rattle.std.proofs.Common.{◌≡◌, ◌≢◌, ℕ, ◌+◌, ◌<◌, arith, [], ◌∷◌, ◌++◌, length, get_or, set, map, Option, Some, None, refl, sym, ap, ◌∙◌, subst, inl, inr}
+use Rattle.std.proofs.Common.{◌≡◌, ◌≢◌, ℕ, ◌+◌, [], ◌∷◌, ◌++◌, length, get_or, set, map, Option, Some, None, refl, sym, ap, ◌∙◌, subst, inl, inr}
 use Rattle.std.specs.List.{slice_get}
 use Rattle.std.specs.Option.{IsSomeAnd, option_map}
 use Rattle.std.proofs.lemmas.Bool.{cases_eq}
-use Rattle.std.proofs.lemmas.List.{get_or-set_same, get_or-set_other, get_or_append_left, length-map, length_push, map-append, map-set}
-use Rattle.std.proofs.lemmas.List.Sums.{sum_by_push, sum_by-set}
+use Rattle.std.proofs.lemmas.List.{get_or-set_same, get_or-set_other, get_or_append_left, length-map, map-append}
 use Rattle.std.proofs.lemmas.Option.{slice_get-map, slice_get_within, same_Some}
-use Rattle.tv_pool.specs.Pool.{Pool, Contents, Stored, region_at, stored_in, stored_at, items_of, item_at, number_of, IsLive, Holds, Keeps, KeepsOthers, Begins, Puts, live_count, regions_with, with_item, written, region_of, position_of}
+use Rattle.tv_pool.specs.Pool.{Pool, Contents, Stored, region_at, stored_in, stored_at, items_of, item_at, number_of, IsLive, Holds, Keeps, KeepsOthers, Begins, Puts, with_item, written, region_of, position_of}
 use Rattle.tv_pool.specs.declared.handles.Region.{Region}
 use Rattle.tv_pool.specs.declared.handles.Node.{Node}
 use Rattle.tv_pool.proofs.Chains.{within, slice_get-push_last, slice_get-push_below, slice_get-set_same, slice_get-set_other}
@@ -52,9 +51,6 @@ module _ {T : Type 0} where
       same node was =
           let stored = some_from _ (λ (s : Stored T). s.slot ≡ node.slot) was in
           by_contents node stored.0 (region_at old node.region) refl stored.1 ∙ sym stored.1
-
-  pub Keeps-regions : (old new : Pool T) → new.regions ≡ old.regions → Keeps old new
-  Keeps-regions old new same = Keeps-from old new (λ number c found. (c, ap (λ rs. get_or rs number None) same ∙ found, refl, λ k s there. there))
 
   pub Keeps-begin : (old new : Pool T) (region : Region) → Begins old new region → Keeps old new
   Keeps-begin old new region begins =
@@ -123,34 +119,6 @@ module _ {T : Type 0} where
       ap (λ o. map (λ (s : Stored T). s.item) (stored_in o)) (region_at-put old new region item node live puts)
       ∙ map-append (λ (s : Stored T). s.item) (stored_in (region_at old region.number)) (record { item = item; slot = node.slot } ∷ [])
 
-  -- ---- how many items there are
-  pub live_count-begin : (old new : Pool T) (region : Region) → Begins old new region → live_count new.regions ≡ live_count old.regions
-  live_count-begin old new region begins =
-      ap live_count begins.regions ∙ sum_by_push (λ (c : Option (Contents T)). length (stored_in c)) old.regions (Some (record { entry = region.entry; stored = [] })) ∙ omega arith
-
-  -- the number of items once another thing stands under a number
-  pub live_count-set : (pool : Pool T) (number : ℕ) (contents : Option (Contents T)) → number < length pool.regions → live_count (set pool.regions number contents) + length (items_of pool number) ≡ live_count pool.regions + length (stored_in contents)
-  live_count-set pool number contents inside =
-      let all = sum_by-set (λ (c : Option (Contents T)). length (stored_in c)) pool.regions number contents None inside in
-      let len = length-map (stored_in (region_at pool number)) (λ (s : Stored T). s.item) in
-      omega (arith, all, len)
-
-  pub live_count-put : (old new : Pool T) (region : Region) (item : T) (node : Node) → IsLive old region → Puts old new region item node → live_count new.regions ≡ live_count old.regions + 1
-  live_count-put old new region item node live puts =
-      let was = some_from _ (λ (c : Contents T). c.entry ≡ region.entry) live in
-      let last : Stored T = record { item = item; slot = node.slot } in
-      let xs = stored_in (region_at old region.number) in
-      let all = live_count-set old region.number (Some (record { entry = region.entry; stored = xs ++ last ∷ [] })) (within old.regions region.number was.0 was.1) in
-      let longer = length_push xs last in
-      let len = length-map xs (λ (s : Stored T). s.item) in
-      omega (arith, all, longer, len, ap live_count puts.regions)
-
-  pub live_count-release : (old new : Pool T) (region : Region) → IsLive old region → new.regions ≡ regions_with old (number_of region) None → live_count new.regions + length (items_of old (number_of region)) ≡ live_count old.regions
-  live_count-release old new region live changed =
-      let was = some_from _ (λ (c : Contents T). c.entry ≡ region.entry) live in
-      let all = live_count-set old region.number None (within old.regions region.number was.0 was.1) in
-      omega (arith, all, ap live_count changed)
-
   -- a change under one number keeps all else
   pub KeepsOthers-set : (old new : Pool T) (number : ℕ) (contents : Option (Contents T)) → new.regions ≡ set old.regions number contents → KeepsOthers old new number
   KeepsOthers-set old new number contents changed =
@@ -212,22 +180,6 @@ module _ {T : Type 0} where
               ∙ sym (ap (λ n. slice_get (stored_in (region_at pool n)) other.position) same ∙ ap (λ o. slice_get (stored_in o) other.position) w.shown)
           | inr there ↦ ap (λ o. slice_get (stored_in o) other.position) (region_at-after_other other.region there)
         ]
-
-    -- the node has what was written
-    pub item_at-with_item : item_at after node ≡ Some item
-    item_at-with_item = item_at-stored after node ∙ ap (option_map (λ (s : Stored T). s.item)) stored_at-after
-
-    -- every node of another place has what it had
-    pub item_at-with_item_other : (other : Node) → (region_of other ≡ region_of node → position_of other ≢ position_of node) → item_at after other ≡ item_at pool other
-    item_at-with_item_other other differs = item_at-same pool after other (stored_at-after_other other differs)
-
-    -- the region's list has the item at the node's position
-    pub items_of-with_item : items_of after (region_of node) ≡ set (items_of pool (region_of node)) (position_of node) item
-    items_of-with_item =
-        let w = written_there in
-        ap (λ o. map (λ (s : Stored T). s.item) (stored_in o)) region_at-after
-        ∙ map-set (λ (s : Stored T). s.item) w.contents.stored node.position stored_new
-        ∙ ap (λ o. set (map (λ (s : Stored T). s.item) (stored_in o)) node.position item) (sym w.shown)
 
     -- every region that was live is
     pub IsLive-with_item : (region : Region) → IsLive pool region → IsLive after region

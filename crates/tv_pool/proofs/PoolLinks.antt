@@ -49,12 +49,6 @@ module _ {T : Type 0} where
       ap (λ o. lying_in (stored_in o) slot) (region_at-put old new region item node live puts)
       ∙ lying-more (stored_in (region_at old region.number)) (record { item = item; slot = node.slot }) slot fresh
 
-  -- and of all other regions
-  pub item_in-put_other : (old new : Pool T) (region : Region) (item : T) (node : Node) → Puts old new region item node → (number : ℕ) → number ≢ number_of region → (slot : ℕ) → item_in new number slot ≡ item_in old number slot
-  item_in-put_other old new region item node puts number other slot =
-      ap (λ rs. lying_in (stored_in (get_or rs number None)) slot) puts.regions
-      ∙ ap (λ o. lying_in (stored_in o) slot) (get_or-set_other old.regions region.number number (Some (contents_with old region (record { item = item; slot = node.slot }))) None other)
-
   lying-written : (ss : List (Stored T)) (at : ℕ) (item : T) (slot : ℕ) → lying_in (map (with_lying at item) ss) slot ≡ (if eqb slot at then option_map (λ was. item) (lying_in ss slot) else lying_in ss slot)
   lying-written [] at item slot = by (eqb slot at)
     where

@@ -1,6 +1,6 @@
 //! The handles that a pool gives out.
 ghost use Rattle.std.specs.Prelude.{◌≡◌, ◌==◌};
-ghost use Rattle.tv_pool.specs.Pool.{number_of, slot_of, lies_at, nowhere};
+ghost use Rattle.tv_pool.specs.Pool.{slot_of, lies_at, nowhere};
 
 /// A region of a pool, which is filled by `Pool::put` and goes by `Pool::release`.
 ///
@@ -23,15 +23,6 @@ pub struct Node {
     pub(crate) position: u64,
     // Where the pool's memory has the item.
     pub(crate) slot: usize,
-}
-
-impl Region {
-    /// The number of the region, which no other region of its pool ever has.
-    pub fn number(&self) -> u64
-        ensures { result ≡ number_of self.now }
-    {
-        self.number
-    }
 }
 
 impl Node {

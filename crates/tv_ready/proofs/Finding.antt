@@ -25,10 +25,6 @@ not-true : (b : Bool) → not b ≡ true → b ≡ false
 not-true true e = cc
 not-true false e = refl
 
-is-false : (b : Bool) → (b ≡ true → false ≡ true) → b ≡ false
-is-false true h = let e : false ≡ true = h refl in cc
-is-false false h = refl
-
 either : (a b : Bool) → (a || b) ≡ true → (a ≡ true) ⊎ (b ≡ true)
 either true b e = inl refl
 either false b e = inr e

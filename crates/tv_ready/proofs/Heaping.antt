@@ -94,25 +94,6 @@ module _ (lt : ℕ → ℕ → Bool) where
   -- ---- the beginning and the end
 
   module _ (xs : List ℕ) where
-    pub rise-begins : (j : ℕ) → j + 1 ≡ length xs → ((p k : ℕ) → p * 2 + 1 ≤ k → k ≤ p * 2 + 2 → k + 1 < length xs → NotBefore xs k p) → IsRising xs j
-    rise-begins j last h = record {
-      others = λ p k a b f n. h p k a b (omega (arith, last, f, n));
-      around = λ p k a b c d f. absurd (omega (arith, last, c, f));
-    }
-
-    pub rise-ends : (j : ℕ) → ((p : ℕ) → p * 2 + 1 ≤ j → j ≤ p * 2 + 2 → NotBefore xs j p) → IsRising xs j → (p k : ℕ) → p * 2 + 1 ≤ k → k ≤ p * 2 + 2 → k < length xs → NotBefore xs k p
-    rise-ends j h r p k a b f =
-        elim (cases_eq k j) [
-          | inl e ↦ ap (λ m. lt (get_or xs m 0) (get_or xs p 0)) e ∙ h p (omega (arith, e)) (omega (arith, e))
-          | inr n ↦ r.others p k a b f n
-        ]
-
-    pub sink-begins : ((p k : ℕ) → p * 2 + 1 ≤ k → k ≤ p * 2 + 2 → k < length xs → 1 ≤ p → NotBefore xs k p) → IsSinking xs 0
-    sink-begins h = record {
-      others = λ p k a b f n. h p k a b f (omega (arith, n));
-      around = λ p k a b c d f. absurd (omega (arith, a));
-    }
-
     pub sink-ends : (j : ℕ) → ((k : ℕ) → j * 2 + 1 ≤ k → k ≤ j * 2 + 2 → k < length xs → NotBefore xs k j) → IsSinking xs j → (p k : ℕ) → p * 2 + 1 ≤ k → k ≤ p * 2 + 2 → k < length xs → NotBefore xs k p
     sink-ends j h r p k a b f =
         elim (cases_eq p j) [

@@ -1,6 +1,5 @@
 -- What the ready jobs keep: where one is put, and where the first is taken.
 use Rattle.std.specs.Prelude.{◌≡◌, ℕ, zero, suc, ◌+◌, ◌-◌, ◌/◌, ◌<◌, ◌≤◌, List, [], ◌∷◌, ◌++◌, length, map, take, drop, nat_lt, Bool, true, false, not, ◌&&◌, if◌then◌else◌, IsPermutation, slice_get, Some, None, refl}
-use Rattle.std.specs.Cmp.{IsStrictWeakOrder}
 use Rattle.std.specs.Cmp.Lexicographic.{slice_cmp}
 use Rattle.std.specs.List.{list_all}
 use Rattle.std.specs.Ordering.{is_lt, nat_cmp}
@@ -37,9 +36,6 @@ to-front xs x ys =
 module _ (jobs : List (ℕ × List ℕ)) where
   abbrev lt : ℕ → ℕ → Bool
   lt = is_before jobs
-
-  abbrev o : IsStrictWeakOrder (is_before jobs)
-  o = before-order jobs
 
   top-by : (xs : List ℕ) → IsHeap jobs xs → (fuel k : ℕ) → k ≤ fuel → k < length xs → is_before jobs (get_or xs k 0) (get_or xs 0 0) ≡ false
   top-by xs h zero k a b = let e : k ≡ 0 = omega arith in ap (λ i. is_before jobs (get_or xs i 0) (get_or xs 0 0)) e ∙ itself (is_before jobs) (before-order jobs) (get_or xs 0 0)

@@ -1,7 +1,7 @@
 -- How places stand in one list of indices.
 use Rattle.std.specs.Prelude.{◌≡◌, ℕ, zero, suc, ◌+◌, ◌-◌, ◌*◌, ◌<◌, ◌≤◌, List, [], ◌∷◌, ◌++◌, length, take, drop, nat_le, Bool, true, ◌&&◌, refl}
 use Rattle.std.specs.List.{list_all}
-use Rattle.std.proofs.Common.{arith, get_or, ap, sym, ◌∙◌}
+use Rattle.std.proofs.Common.{arith, ap, sym, ◌∙◌}
 use Rattle.std.proofs.Math.Nat.{suc-mul}
 use Rattle.std.proofs.Math.Seq.{drop-append_seam}
 use Rattle.std.proofs.lemmas.Bool.{le-leb, leb-true}
@@ -53,20 +53,6 @@ module _ (levels : ℕ) (indices place : List ℕ) where
         list_all-append (λ s. nat_le (s.start + levels) (length (indices ++ place))) slots (s ∷ [])
         ∙ ap (λ b. b && (nat_le (s.start + levels) (length (indices ++ place)) && true)) (still-lies slots h)
         ∙ ap (λ b. b && true) (le-leb (s.start + levels) (length (indices ++ place)) (omega (arith, many, starts, long)))
-
-pub lies-at : (levels : ℕ) (indices : List ℕ) (slots : List Slot) (k : ℕ) (s : Slot) → list_all (λ s. nat_le (s.start + levels) (length indices)) slots ≡ true → k < length slots → s ≡ get_or slots k s → s.start + levels ≤ length indices
-lies-at levels indices [] k s h lt is = absurd (omega arith)
-lies-at levels indices (t ∷ slots) zero s h lt is =
-    let le : t.start + levels ≤ length indices = leb-true (t.start + levels) (length indices) (both (nat_le (t.start + levels) (length indices)) (list_all (λ s. nat_le (s.start + levels) (length indices)) slots) h).0 in
-    let e : s.start ≡ t.start = ap (λ (s : Slot). s.start) is in
-    omega (arith, le, e)
-lies-at levels indices (t ∷ slots) (suc k) s h lt is =
-    lies-at levels indices slots k s (both (nat_le (t.start + levels) (length indices)) (list_all (λ s. nat_le (s.start + levels) (length indices)) slots) h).1 (omega arith) is
-
-pub shown-at : (levels : ℕ) (indices : List ℕ) (slots : List Slot) (k : ℕ) (s : Slot) (d : ℕ × List ℕ) → k < length slots → s ≡ get_or slots k s → get_or (shown levels indices slots) k d ≡ (s.number, take levels (drop s.start indices))
-shown-at levels indices [] k s d lt is = absurd (omega arith)
-shown-at levels indices (t ∷ slots) zero s d lt is = ap (λ (s : Slot). (s.number, take levels (drop s.start indices))) (sym is)
-shown-at levels indices (t ∷ slots) (suc k) s d lt is = shown-at levels indices slots k s d (omega arith) is
 
 pub room-left : (len len2 l cap cap2 p q : ℕ) → p + l ≡ q → len2 ≡ len + l → len + q ≤ cap → cap ≤ cap2 → len2 + p ≤ cap2
 room-left len len2 l cap cap2 p q a b c d = omega arith

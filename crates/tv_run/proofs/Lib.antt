@@ -1,58 +1,90 @@
-mod OfLooks
-mod OfPasts
-mod OfNames
-mod OfLegal
-mod OfRuns
-mod OfEnded
-pub mod OfLawful
-mod OfMainPlan
-mod OfKeptFrames
-mod OfSeatedJobs
-mod OfReadyJobs
-mod OfPlannedSteps
-mod OfOfferedSteps
-mod OfFirstOffered
-mod OfFirstTries
-mod OfSteps
-mod OfTellings
-mod OfStates
-mod OfJobNames
-mod OfBindings
-mod OfAsked
-mod OfTasks
-mod OfLists
-mod OfOneMore
-mod OfSameRuns
-mod OfQuiet
-mod OfIdle
-mod OfKnownJobs
-mod OfSitting
-mod OfHanding
-mod OfRecalling
-mod OfFirstFrames
-mod OfSettledSeats
-mod OfNamedValues
-mod OfOutputs
-mod OfTotals
-mod OfStarting
-mod OfSeating
-mod OfPlanLevels
-mod OfOver
-mod OfBounces
-mod OfBouncing
-mod OfEnding
-mod OfFailing
-mod OfLevels
-mod OfNoted
-mod OfNothingLeft
-mod OfRooms
-mod OfSettled
-mod OfSettling
-mod OfAcceptingOut
-mod OfAcceptingFailed
-mod OfAccepting
-mod OfAcceptingRuns
-mod OfAcceptingTurns
-mod OfAcceptingSettling
-mod OfAcceptingOutcomes
-mod OfAcceptingFew
+pub mod OfAccepted
+pub mod OfAdding
+pub mod OfAlike
+pub mod OfAllBack
+pub mod OfAnswering
+pub mod OfAskedOut
+pub mod OfBackRooms
+pub mod OfBindings
+pub mod OfBounces
+pub mod OfBouncing
+pub mod OfBusy
+pub mod OfCalledBack
+pub mod OfCountedJobs
+pub mod OfEndOrNot
+pub mod OfEnding
+pub mod OfEndingMain
+pub mod OfEndingNested
+pub mod OfEntering
+pub mod OfEnters
+pub mod OfFailed
+pub mod OfFailing
+pub mod OfFew
+pub mod OfFirstBounced
+pub mod OfFits
+pub mod OfFlowPlans
+pub mod OfFlowsFirst
+pub mod OfFlowsNext
+pub mod OfFlowsOpened
+pub mod OfFoundOut
+pub mod OfGiven
+pub mod OfGiving
+pub mod OfGrown
+pub mod OfHanding
+pub mod OfItself
+pub mod OfJobNames
+pub mod OfJobs
+pub mod OfJudged
+pub mod OfLasts
+pub mod OfLeaving
+pub mod OfLeft
+pub mod OfLevelSettled
+pub mod OfLevels
+pub mod OfLooking
+pub mod OfMoved
+pub mod OfNamedValues
+pub mod OfNames
+pub mod OfNaming
+pub mod OfNestRooms
+pub mod OfNext
+pub mod OfNumbering
+pub mod OfNumbers
+pub mod OfOpenJobs
+pub mod OfOpenSet
+pub mod OfOpening
+pub mod OfOpens
+pub mod OfOutCounts
+pub mod OfOutcomes
+pub mod OfOutputs
+pub mod OfOver
+pub mod OfPlannedJobs
+pub mod OfPlans
+pub mod OfPrepared
+pub mod OfReadies
+pub mod OfRecalling
+pub mod OfRoomed
+pub mod OfRooms
+pub mod OfSeatRooms
+pub mod OfSettled
+pub mod OfSettlings
+pub mod OfShut
+pub mod OfStaged
+pub mod OfStarting
+pub mod OfStates
+pub mod OfSteps
+pub mod OfStill
+pub mod OfTaking
+pub mod OfTasks
+pub mod OfTellings
+pub mod OfTotals
+pub mod OfTriesOut
+pub mod OfWalkFound
+pub mod OfWalkGoing
+pub mod OfWalkInside
+pub mod OfWalkNested
+pub mod OfWalkNumbers
+pub mod OfWalkOpen
+pub mod OfWalkOwn
+pub mod OfWalkPlaces
+pub mod OfWalkSteps
+pub mod OfWalkTickets

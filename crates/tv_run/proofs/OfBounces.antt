@@ -1,219 +1,167 @@
--- A job is bounced: what it gives is its result, and the run goes on with the entry.
+-- A ready job of an open instance that binds a fault: it can be bounced, what it gives then, and how the instances go on with that.
 use Rattle.std.specs.List.{list_any}
 use Rattle.std.specs.Option.{option_map_or}
-use Rattle.std.specs.Prelude.{◌≡◌, refl, ℕ, ◌<◌, ◌||◌, true, false, List, [], ◌∷◌, ◌++◌, Option, Some}
-use Rattle.std.specs.Prelude.{codes, if◌then◌else◌, is_none, is_some, length, map, slice_get, unwrap_or}
+use Rattle.std.specs.Prelude.{◌≡◌, refl, ℕ, ◌||◌, true, false, List, [], ◌∷◌, ◌++◌, Some}
+use Rattle.std.specs.Prelude.{codes, if◌then◌else◌, is_none, is_some, map, slice_get}
 use Rattle.std.proofs.Common.{ap, subst, sym, ◌∙◌}
-use Rattle.std.proofs.lemmas.Bool.{lt-ltb}
-use Rattle.std.proofs.lemmas.List.{length-map}
-use Rattle.std.proofs.lemmas.Option.{same_Some, slice_get_within}
 use Rattle.tv_value.specs.Nested.{Place}
 use Rattle.tv_value.specs.Values.{JobName, Name, Text, Value}
 use Rattle.tv_gate.specs.Outcomes.{Giving}
-use Rattle.tv_flow.specs.Flows.{Document, Step}
+use Rattle.tv_flow.specs.Flows.{Document, Flow, Step}
 use Rattle.tv_strategy.specs.Origins.{plain}
 use Rattle.tv_dispatch.specs.Jobs.{error_results, fault_makers}
 use Rattle.tv_depths.specs.Steps.{declared_depths}
-use Rattle.tv_check.specs.RunViews.{run_view}
-use Rattle.tv_check.specs.declared.plans.FlowPlan.{FlowPlan}
-use Rattle.tv_intake.specs.Intaken.{known_jobs}
-use Rattle.tv_instance.specs.Events.{gave}
+use Rattle.tv_instance.specs.Events.{gave, has_result}
 use Rattle.tv_model.specs.Jobs.{Job}
 use Rattle.tv_model.specs.Made.{Meaning}
 use Rattle.tv_model.specs.Meanings.{meaning}
 use Rattle.tv_model.specs.RightDepths.{HaveTheseDepths}
 use Rattle.tv_model.specs.Turns.{is_bounced}
-use Rattle.tv_model.proofs.Tests.{right_true, true≠false}
-use Rattle.tv_history.specs.Entries as history
-use Rattle.tv_history.specs.Entries.{History, is_bounced_entry, is_ended_entry}
+use Rattle.tv_model.proofs.Tests.{left_true, true≠false}
+use Rattle.tv_history.specs.Entries.{History, bounced, is_bounced_entry, is_ended_entry}
 use Rattle.tv_history.specs.Histories.{is_legal_after, is_ready, is_settled, next_ask}
 use Rattle.tv_history.proofs.Tests.{same-itself}
 use Rattle.tv_framing.specs.Answers.{AreInputs, IsReadyJob, numbered}
-use Rattle.tv_framing.specs.Frames.{Comes}
 use Rattle.tv_framing.specs.Views.{View}
 use Rattle.tv_viewed.specs.InRun.{IsJobThere}
-use Rattle.tv_viewed.proofs.OfLaws.{inputs-are_told}
+use Rattle.tv_viewed.specs.Stated.{IsBoundAsTold}
+use Rattle.tv_viewed.proofs.OfLaws.{inputs-are_told, ready-is_told}
 use Rattle.tv_tried.specs.Steps.{IsBouncedJob, IsOwnStep}
 use Rattle.tv_tried.proofs.OfJobs.{bounced-none}
-use Rattle.tv_drawn.specs.Steps.{IsStepAt}
-use Rattle.tv_frame.specs.Kept.{Keeps}
+use Rattle.tv_offered.proofs.OfEnds.{bounce-legal}
 use Rattle.tv_frame.specs.Prepared.{MayGive}
 use Rattle.tv_frame.specs.Tables.{levels_in}
-use Rattle.tv_seats.specs.Seats.{Seat, Seated, with_stage}
+use Rattle.tv_seats.specs.Seats.{Seat, with_stage}
 use Rattle.tv_seats.specs.Stages.{is_waiting}
 use Rattle.tv_seats.specs.declared.stage.Stage.{Stage}
 use Rattle.tv_seats.specs.declared.stage.Stage.TheVariants as stage
-use Rattle.tv_seated.specs.GoingOn.{GoesOn, IsSeatOf}
+use Rattle.tv_seated.specs.GoingOn.{GoesOn, MaySettle}
 use Rattle.tv_seated.specs.Seated.{Sit, spot_of}
-use Rattle.tv_seated.proofs.OfEntries.{job-settles}
 use Rattle.tv_seated.proofs.OfLists.{is-member}
-use Rattle.tv_standing.proofs.OfFirsts.{bounces-by_seat}
-use Rattle.tv_standing.proofs.OfOffers.{steps-of_seats}
-use Rattle.tv_entries.specs.Runs.{past_of}
-use Rattle.tv_run.specs.Looks.{name_at, seat_for, unseated}
-use Rattle.tv_run.specs.Offers.{IsBounceable}
-use Rattle.tv_run.specs.Settlements.{bounces_job}
-use Rattle.tv_run.specs.Standing.{Stands, names_of, run_of}
-use Rattle.tv_run.specs.Turns.{GoesTo}
-use Rattle.tv_run.specs.declared.run.OpenRun.{OpenRun}
-use Rattle.tv_run.proofs.OfFailing.{SettlesNoFailed, bounce-settles_none}
-use Rattle.tv_run.proofs.OfLooks.{known-of_seat, name-of_job, spot-of_number, step-of_seat, steps-are}
-use Rattle.tv_run.proofs.OfNoted.{IsNoted, goes-noted}
-use Rattle.tv_run.proofs.OfRuns.{is_within, told}
-use Rattle.tv_run.proofs.OfSitting.{goes-on}
+use Rattle.tv_standing.proofs.OfOffers.{ready-waits, steps-of_seats}
+use Rattle.tv_standing.proofs.OfSeats.{seat-job}
+use Rattle.tv_standing.proofs.OfStages.{over-is, runs-is}
+use Rattle.tv_forest.specs.Entries.{told, with_instance}
+use Rattle.tv_forest.specs.Forest.{Instance, Instances, IsJobAt, Stand}
+use Rattle.tv_forest.proofs.OfEntries.{settling}
+use Rattle.tv_forest.proofs.OfInstances.{sits}
+use Rattle.tv_open.specs.Firsts.{BindsFault, IsReadySeat}
 
 -- an error document at each output has the depth of that
 errors-deep : (n : JobName) (why : Text) (from : List JobName) (ds : List ℕ) → HaveTheseDepths ds (error_results n why from ds)
 errors-deep n why from [] = tt
 errors-deep n why from (d ∷ ds) = (refl, errors-deep n why from ds)
 
-stage-waits :
-    (o : Option Seat) (s : Seat) → o ≡ Some s → option_map_or (λ (t : Seat). is_waiting t.stage) o false ≡ true
-    → s.stage ≡ stage.Waiting
-stage-waits o s e h = by s.stage (sym (ap (λ x. option_map_or (λ (t : Seat). is_waiting t.stage) x false) e) ∙ h)
-  where
-    by : (x : Stage) → is_waiting x ≡ true → x ≡ stage.Waiting
-    by stage.Waiting h = refl
-    by x h = absurd (true≠false (sym h))
+waits-alone : (x : Stage) → is_waiting x ≡ true → x ≡ stage.Waiting
+waits-alone stage.Waiting h = refl
+waits-alone (stage.Out a t) h = absurd (true≠false (sym h))
+waits-alone (stage.Idle a t) h = absurd (true≠false (sym h))
+waits-alone (stage.Aside a) h = absurd (true≠false (sym h))
+waits-alone (stage.Nested i) h = absurd (true≠false (sym h))
+waits-alone stage.Settled h = absurd (true≠false (sym h))
 
-module _ (gives : Giving) (r : OpenRun) (v : View) (st : Stands gives r r.entries.items v) (k : ℕ)
-    (b : IsBounceable gives r k) where
-  abbrev d : Document
-  d = run_view r.run
+-- ---- a job of an open instance
 
+module _ (gives : Giving) (d : Document) (past : History) (xs : Instances) (stand : Stand gives d levels_in past xs)
+    (i n : ℕ) (x : Instance) (s : Seat) (j : Job) (v : View) (is : IsJobAt gives d xs i n x s j)
+    (is_open : x.view ≡ Some v) where
   abbrev m : Meaning
   m = meaning gives d
 
-  abbrev past : History
-  past = past_of (run_of r)
+  pub same-flow : v.flow ≡ x.flow
+  same-flow = (sits gives d levels_in past xs stand i x v is.instance is_open).0
 
-  abbrev j : Job
-  j = b.job
+  pub sit : Sit gives d past x.name (levels_in v.flow) v x.seats
+  sit =
+      subst (λ (f : Flow). Sit gives d past x.name (levels_in f) v x.seats) (sym same-flow)
+      (sits gives d levels_in past xs stand i x v is.instance is_open).1
 
-  abbrev s : Seat
-  s = b.seat
+  pub it : IsJobThere gives d x.name j (spot_of v.flow.steps s)
+  it = subst (λ (f : Flow). IsJobThere gives d x.name j (spot_of f.steps s)) (sym same-flow) is.job
 
-  -- ---- the job
+  pub known : numbered v n ≡ Some (spot_of v.flow.steps s)
+  known = (seat-job gives d past x.name (levels_in v.flow) v x.seats sit n s is.seat).known
 
-  it : IsJobThere gives d [] j (spot_of v.flow.steps s)
-  it = subst (λ ss. IsJobThere gives d [] j (spot_of ss s)) (steps-are gives r r.entries.items v st) b.is_job.job
+  pub at-step : (t : Name × Step) × (slice_get v.flow.steps s.step ≡ Some t)
+  at-step = sit.steps n s is.seat
 
-  pub known-at : slice_get (known_jobs r.frame.intakes) k ≡ Some (s.step, s.place)
-  known-at = known-of_seat gives r r.entries.items v st k s b.is_job.seat
+  bound : IsBoundAsTold v j (spot_of v.flow.steps s)
+  bound = inputs-are_told gives d past x.name (levels_in v.flow) v sit.in_run (spot_of v.flow.steps s) j it
 
-  pub is-known : k < length (known_jobs r.frame.intakes)
-  is-known = slice_get_within (known_jobs r.frame.intakes) k (s.step, s.place) known-at
-
-  pub its-step :
-      (t : Name × Step) × IsStepAt v s.step t × (spot_of v.flow.steps s ≡ (t.0, s.place)) × (s.step < length v.flow.steps)
-  its-step = step-of_seat gives r r.entries.items v st k s b.is_job.seat
-
-  abbrev pub t : Name × Step
-  t = its-step.0
-
-  pub at-step : IsStepAt v s.step t
-  at-step = its-step.1
-
-  pub step-low : s.step < length v.flow.steps
-  step-low = its-step.3
-
-  spot-is : spot_of v.flow.steps s ≡ (t.0, s.place)
-  spot-is = its-step.2
-
-  pub by-number : numbered v k ≡ Some (t.0, s.place)
-  by-number = spot-of_number gives r r.entries.items v st k s b.is_job.seat ∙ ap Some spot-is
-
-  pub ready : IsReadyJob (levels_in v.flow) v (t.0, s.place)
-  ready =
-      let x = b.ready.ready v st in
-      subst (IsReadyJob (levels_in v.flow) v) (same_Some x.0 (t.0, s.place) (sym x.1 ∙ by-number)) x.2
-
-  -- ---- what it gives
-
-  bounced : is_bounced j.ending ≡ true
-  bounced = right_true (is_ready m past j) (is_bounced j.ending) b.can
-
-  own : IsOwnStep gives d j t.1
-  own = steps-of_seats gives d past (levels_in v.flow) v r.seats.seats st.sit k s j b.is_job.seat it t at-step
-
-  error : IsBouncedJob t.1 j
-  error = bounced-none gives d j t.1 own bounced
-
-  inputs-are : (vs : List Value) → AreInputs v (t.0, s.place) vs → vs ≡ map plain j.inputs
+  -- values that it binds are the run's
+  pub inputs-are : (vs : List Value) → AreInputs v (spot_of x.flow.steps s) vs → vs ≡ map plain j.inputs
   inputs-are vs h =
-      (inputs-are_told gives d past [] (levels_in v.flow) v st.sit.in_run (spot_of v.flow.steps s) j it).values vs
-      (subst (λ x. AreInputs v x vs) (sym spot-is) h)
+      bound.values vs (subst (λ (f : Flow). AreInputs v (spot_of f.steps s) vs) (sym same-flow) h)
 
-  pub result-is :
-      (steps : List (Name × Step)) → steps ≡ v.flow.steps → (at : JobName) → at ≡ name_at steps s.step s.place
-      → (ins : List Value) → AreInputs v (t.0, s.place) ins → (outs : List (Name × ℕ)) → outs ≡ t.1.outputs
-      → error_results at (codes "bounced") (fault_makers ins) (map (λ o. o.1) outs) ≡ j.result
-  result-is steps same at called ins are outs e =
-      let name : at ≡ j.name = called ∙ ap (λ ss. name_at ss s.step s.place) same ∙ sym it.name in
-      let bound = inputs-are ins are in
-      (λ i. error_results (name i) (codes "bounced") (fault_makers (bound i)) (map (λ o. o.1) (e i))) ∙ sym error.result
+  -- at its step
+  module _ (t : Name × Step) (at_step : slice_get v.flow.steps s.step ≡ Some t) where
+    pub spot-is : spot_of v.flow.steps s ≡ (t.0, s.place)
+    spot-is = ap (λ o. (option_map_or (λ (u : Name × Step). u.0) o [], s.place)) at_step
 
-  pub may-give : MayGive v t s.place j.result
-  may-give = record {
-    known = is-member (t.0, s.place) v.jobs k by-number;
-    new = ready.without_result;
-    right =
-        subst (HaveTheseDepths (declared_depths t.1)) (sym error.result)
-        (errors-deep j.name (codes "bounced") (fault_makers (map plain j.inputs)) (declared_depths t.1));
-  }
+    pub own : IsOwnStep gives d j t.1
+    own = steps-of_seats gives d past x.name (levels_in v.flow) v x.seats sit n s j is.seat it t at_step
 
-  -- ---- the entry
+  -- ---- that is ready and binds a fault
 
-  told-is : told r (bounces_job k) ≡ history.bounced j.name
-  told-is = ap (λ o. history.bounced (unwrap_or o [])) (name-of_job gives r r.entries.items v st k s j b.is_job.seat it)
+  module _ (ready : IsReadySeat v s) (faulty : BindsFault v s true) where
+    is-bounced : is_bounced j.ending ≡ true
+    is-bounced = sym bound.bounced ∙ sym (bound.fault true faulty)
 
-  legal-bounce : is_legal_after gives m past (history.bounced j.name) ≡ true
-  legal-bounce = bounces-by_seat gives d past (levels_in v.flow) v r.seats.seats st.sit k s j b.is_job.seat it b.can
+    is-ready : is_ready m past j ≡ true
+    is-ready =
+        (ready-is_told gives d past x.name (levels_in v.flow) v sit.in_run (spot_of v.flow.steps s) j it).ready
+        (is-member (spot_of v.flow.steps s) v.jobs n known) ready
 
-  settled-now : is_settled (history.bounced j.name ∷ past) j ≡ true
-  settled-now =
-      ap
-      (λ c.
-      if c then list_any (is_bounced_entry j.name) (history.bounced j.name ∷ past)
-      else (if is_some j.opens then list_any (is_ended_entry j.name) past else is_none (next_ask past j)))
-      bounced
-      ∙ ap (λ c. c || list_any (is_bounced_entry j.name) past) (same-itself j.name)
+    pub is-waiting : is_waiting s.stage ≡ true
+    is-waiting =
+        let now = sit.stages n s j is.seat it in
+        left_true (is_waiting s.stage) (is_ready m past j)
+        (sym (ready-waits m past j s.stage (runs-is past j s.stage now) (over-is past j s.stage now)) ∙ is-ready)
 
-  abbrev seated : IsSeatOf gives d v r.seats.seats j k stage.Waiting
-  seated = record {
-    seat = s;
-    there = b.is_job.seat;
-    stage = stage-waits (slice_get r.seats.seats k) s b.is_job.seat b.waiting;
-    job = it;
-  }
+    pub legal-bounce : is_legal_after gives m past (bounced j.name) ≡ true
+    legal-bounce = bounce-legal gives d past j it.listed is-ready is-bounced
 
-  within : is_within (length (names_of r)) (bounces_job k) ≡ true
-  within =
-      lt-ltb k (length (names_of r))
-      (subst (λ n. k < n) (sym (length-map r.seats.seats _)) (slice_get_within r.seats.seats k s b.is_job.seat))
+    settled-now : is_settled (bounced j.name ∷ past) j ≡ true
+    settled-now =
+        ap
+        (λ c.
+        if c then list_any (is_bounced_entry j.name) (bounced j.name ∷ past)
+        else (if is_some j.opens then list_any (is_ended_entry j.name) past else is_none (next_ask past j)))
+        is-bounced
+        ∙ ap (λ c. c || list_any (is_bounced_entry j.name) past) (same-itself j.name)
 
-  module _ (undone : r.done ≡ false) (z : OpenRun) (y : Seated) (seats : y.seats ≡ with_stage k stage.Settled r.seats.seats)
-      (w : View) (n : ℕ) (noted : IsNoted r z y (bounces_job k) n) (c : Comes v w (gave t.0 s.place j.result) n)
-      (plan : FlowPlan) (kept : Keeps (run_view r.run).flows plan z.pool z.frame w) where
-    abbrev new : List Seat
-    new = map seat_for (unseated z.frame y.seats)
+    module _ (t : Name × Step) (at_step : slice_get v.flow.steps s.step ≡ Some t) where
+      error : IsBouncedJob t.1 j
+      error = bounced-none gives d j t.1 (own t at_step) is-bounced
 
-    sit : Sit gives d (told r (bounces_job k) ∷ past) (levels_in v.flow) w z.seats.seats
-    sit =
-        let on =
-        subst (λ x. GoesOn d (levels_in v.flow) v w (gave x s.place j.result) new)
-        (sym (ap (λ (x : Name × Place). x.0) spot-is))
-        (goes-on gives r r.entries.items v st plan z.pool z.frame w (gave t.0 s.place j.result) n c kept y noted.jobs) in
-        let now =
-        job-settles gives d past (levels_in v.flow) v r.seats.seats st.sit j k stage.Waiting seated (history.bounced j.name)
-        refl legal-bounce settled-now w new on in
-        let all : z.seats.seats ≡ with_stage k stage.Settled r.seats.seats ++ new =
-        noted.sit.seats ∙ ap (λ ss. ss ++ new) seats in
-        subst (λ h. Sit gives d (h ∷ past) (levels_in v.flow) w z.seats.seats) (sym told-is)
-        (subst (λ ss. Sit gives d (history.bounced j.name ∷ past) (levels_in v.flow) w ss) (sym all) now)
+      -- the error document of what it binds, by its name
+      pub result-is :
+          (at : JobName) → at ≡ j.name → (ins : List Value) → AreInputs v (spot_of x.flow.steps s) ins
+          → (outs : List (Name × ℕ)) → outs ≡ t.1.outputs
+          → error_results at (codes "bounced") (fault_makers ins) (map (λ o. o.1) outs) ≡ j.result
+      result-is at called ins are outs e =
+          let bind = inputs-are ins are in
+          (λ i. error_results (called i) (codes "bounced") (fault_makers (bind i)) (map (λ o. o.1) (e i)))
+          ∙ sym error.result
 
-    pub bounce-goes : GoesTo gives r z (bounces_job k)
-    bounce-goes =
-        goes-noted gives r z v w (gave t.0 s.place j.result) (bounces_job k) n y st undone noted c plan kept sit within
-        (ap (is_legal_after gives m past) told-is ∙ legal-bounce)
-        (subst (SettlesNoFailed past) (sym told-is) (bounce-settles_none past j.name))
+      pub may-give : MayGive v t s.place j.result
+      may-give = record {
+        known = is-member (t.0, s.place) v.jobs n (known ∙ ap Some (spot-is t at_step));
+        new = ap (λ (y : Name × Place). has_result v.events y.0 y.1) (sym (spot-is t at_step)) ∙ ready.without_result;
+        right =
+            subst (HaveTheseDepths (declared_depths t.1)) (sym error.result)
+            (errors-deep j.name (codes "bounced") (fault_makers (map plain j.inputs)) (declared_depths t.1));
+      }
+
+      pub free : IsReadyJob (levels_in v.flow) v (t.0, s.place)
+      free = subst (IsReadyJob (levels_in v.flow) v) (spot-is t at_step) ready
+
+    -- the instances once it is
+    pub stand-bounced : (w : View) (ns : List Seat)
+        → GoesOn d (levels_in x.flow) v w (gave (spot_of x.flow.steps s).0 s.place j.result) ns
+        → Stand gives d levels_in (bounced j.name ∷ past)
+        (with_instance xs i (told x w (with_stage n stage.Settled x.seats ++ ns)))
+    stand-bounced w ns on =
+        settling gives d levels_in past xs stand i n x s j v is is_open (bounced j.name) w ns
+        (subst (λ y. MaySettle j y (bounced j.name)) (sym (waits-alone s.stage is-waiting)) refl) (λ k. refl) legal-bounce
+        settled-now on

@@ -1,214 +1,184 @@
--- A job is bounced by the calls of its frame and its seats.
-use Rattle.std.specs.Prelude.{◌≡◌, ℕ, ◌+◌, ◌<◌, ◌≤◌, List, [], ◌∷◌}
-use Rattle.std.specs.Prelude.{◌++◌, Some, codes, get_or, length, map, slice_get, vec_capacity}
+-- A job of an open instance that can be bounced, by its number: what it gives, and what the calls that bounce it want.
+use Rattle.std.specs.Prelude.{◌≡◌, refl, ℕ, ◌<◌, true, List, [], ◌∷◌, ◌++◌, Some, codes, length, map, slice_get, slice_index_or}
 use Rattle.std.proofs.Common.{ap, arith, subst, sym, ◌∙◌}
-use Rattle.std.proofs.lemmas.List.{length-map}
-use Rattle.std.proofs.lemmas.Option.{same_Some}
-use Rattle.tv_value.specs.Nested.{Place}
-use Rattle.tv_value.specs.Orders.{named}
+use Rattle.std.proofs.lemmas.Option.{same_Some, slice_get-get_or, slice_get_within}
 use Rattle.tv_value.specs.Values.{JobName, Name, Value}
 use Rattle.tv_gate.specs.Outcomes.{Giving}
-use Rattle.tv_flow.specs.Flows.{Flow, Step}
-use Rattle.tv_flow.specs.Views.{flow_view, step_view}
-use Rattle.tv_flow.specs.declared.document.Step.{Step as CodeStep}
+use Rattle.tv_flow.specs.Flows.{Document, Flow, Step}
 use Rattle.tv_dispatch.specs.Jobs.{error_results, fault_makers}
 use Rattle.tv_check.specs.RunViews.{run_view}
-use Rattle.tv_check.specs.declared.plans.FlowPlan.{FlowPlan}
-use Rattle.tv_intake.specs.Intaken.{known_jobs}
-use Rattle.tv_instance.specs.Events.{gave}
-use Rattle.tv_framing.specs.Answers.{AreInputs, IsReadyJob, numbered}
-use Rattle.tv_framing.specs.Frames.{Comes}
-use Rattle.tv_framing.specs.Views.{View}
-use Rattle.tv_drawn.specs.Steps.{IsStepAt}
-use Rattle.tv_outputs.specs.Known.{Nodes}
-use Rattle.tv_frame.specs.declared.frame.Frame.{Frame}
-use Rattle.tv_frame.specs.Calls.{Brings, GoesOn, IsReadyToBounce}
-use Rattle.tv_frame.specs.Kept.{Keeps}
-use Rattle.tv_frame.specs.Prepared.{IsReadyFor, MayGive}
+use Rattle.tv_model.specs.Jobs.{Job}
+use Rattle.tv_history.specs.Entries.{History}
+use Rattle.tv_framing.specs.Answers.{AreInputs, IsReadyJob}
+use Rattle.tv_frame.specs.Prepared.{MayGive}
 use Rattle.tv_frame.specs.Tables.{levels_in}
-use Rattle.tv_seats.specs.Seats.{Seated, with_stage}
-use Rattle.tv_seats.specs.declared.stage.Stage.TheVariants as stage
-use Rattle.tv_seated.proofs.OfLists.{get-image}
-use Rattle.tv_naming.proofs.OfTold.{got-in}
-use Rattle.tv_run.specs.Looks.{AllSit, CanSit, HasSameFrame, IsKept, IsSameButRooms, name_at}
-use Rattle.tv_run.specs.Offers.{IsBounceable}
-use Rattle.tv_run.specs.Settlements.{bounces_job}
-use Rattle.tv_run.specs.Standing.{StandsOpen, job_of}
-use Rattle.tv_run.specs.Turns.{GoesTo}
+use Rattle.tv_seats.specs.Stages.{is_waiting}
+use Rattle.tv_seated.specs.Seated.{spot_of}
+use Rattle.tv_forest.specs.Forest.{Instances}
+use Rattle.tv_entries.specs.Runs.{past_of}
+use Rattle.tv_open.specs.declared.events.Spot.{Spot}
+use Rattle.tv_run.specs.Changes.{IsOpenHere, IsReadyIn, IsSeatHere, MayBeBouncedIn}
+use Rattle.tv_run.specs.Jobs.{IsOfOpen, step_of}
+use Rattle.tv_run.specs.Rooms.{IsAsBefore}
+use Rattle.tv_run.specs.Settlements.{BouncesIn, IsBouncedJob, IsOpenIn, OfOpen}
+use Rattle.tv_run.specs.Standing.{Stands, names_of, run_of}
+use Rattle.tv_run.specs.declared.instances.Instance as code
 use Rattle.tv_run.specs.declared.run.OpenRun.{OpenRun}
-use Rattle.tv_run.proofs.OfBounces.{at-step, bounce-goes, by-number, known-at, may-give, ready, result-is, step-low, t}
-use Rattle.tv_run.proofs.OfLevels.{brings-once}
-use Rattle.tv_run.proofs.OfNoted.{IsNoted}
-use Rattle.tv_run.proofs.OfRooms.{main-flow, main-keeps, ready-for_plan}
-use Rattle.tv_run.proofs.OfSitting.{can-sit, staged-jobs}
+use Rattle.tv_run.proofs.OfBounces as bounces
+use Rattle.tv_run.proofs.OfItself.{its-code, read-is}
+use Rattle.tv_run.proofs.OfJobs.{IsKnownAs, known-as, low, open-is, step-is}
+use Rattle.tv_run.proofs.OfNumbers.{job-named, job-of_known, known-number}
 
-module _ (gives : Giving) (r : OpenRun) (so : StandsOpen gives r) (k : ℕ) (b : IsBounceable gives r k) (plan : FlowPlan)
-    (is_main : named (run_view r.run).main (run_view r.run).flows ≡ Some (flow_view plan.flow)) (n : ℕ) (q : Place)
-    (found : slice_get (known_jobs r.frame.intakes) k ≡ Some (n, q)) where
-  abbrev v : View
-  v = so.0
+module _ (gives : Giving) (r : OpenRun) (xs : Instances) (k : ℕ) (j : Job) (st : Stands gives r xs)
+    (b : IsBouncedJob gives r xs k j) where
+  abbrev d : Document
+  d = run_view r.run
 
-  abbrev step : Name × Step
-  step = t gives r v so.1 k b
+  abbrev past : History
+  past = past_of (run_of r)
 
-  -- ---- what is found
+  pub known : (t : Name × Step) × IsKnownAs r xs k b.outer b.number b.instance b.seat t
+  known = known-number gives r xs st k b.outer b.number b.instance b.seat j b.is_number
 
-  same-spot : ◌≡◌ {A = ℕ × Place} (b.seat.step, b.seat.place) (n, q)
-  same-spot = same_Some (b.seat.step, b.seat.place) (n, q) (sym (known-at gives r v so.1 k b) ∙ found)
+  abbrev pub step : Name × Step
+  step = known.0
 
-  same-step : b.seat.step ≡ n
-  same-step = ap (λ (j : ℕ × Place). j.0) same-spot
+  pub known-as_it : IsKnownAs r xs k b.outer b.number b.instance b.seat step
+  known-as_it = known.1
 
-  same-place : b.seat.place ≡ q
-  same-place = ap (λ (j : ℕ × Place). j.1) same-spot
+  flow-is : b.view.flow ≡ b.instance.flow
+  flow-is =
+      bounces.same-flow gives d past xs st.stand b.outer b.number b.instance b.seat j b.view b.is_number.is_job b.is_open
 
-  steps-same : (flow_view plan.flow).steps ≡ v.flow.steps
-  steps-same = ap (λ (f : Flow). f.steps) (main-flow gives r so plan is_main)
+  at-step : slice_get b.view.flow.steps b.seat.step ≡ Some step
+  at-step = ap (λ (f : Flow). slice_get f.steps b.seat.step) flow-is ∙ known.1.step
 
-  pub step-within : n < length (flow_view plan.flow).steps
-  step-within =
-      subst (λ l. n < l) (sym (ap length steps-same))
-      (subst (λ m. m < length v.flow.steps) same-step (step-low gives r v so.1 k b))
+  pub seat-here : IsSeatHere r xs b.outer b.instance b.view b.number b.seat step
+  seat-here = record {
+    here = record { fits = st.fits; there = b.is_number.is_job.instance; is_open = b.is_open };
+    seat = b.is_number.is_job.seat;
+    step = known.1.step;
+  }
 
-  -- so the code's list has it
-  pub step-listed : n < length plan.flow.steps
-  step-listed =
-      subst (λ l. n < l) (length-map plan.flow.steps (λ (y : Name × CodeStep). (y.0, step_view y.1))) step-within
-
-  pub is-at : IsStepAt v n step
-  is-at = subst (λ m. IsStepAt v m step) same-step (at-step gives r v so.1 k b)
-
-  -- ---- what it gives
-
-  module _ (seen : List (Name × CodeStep)) (all : seen ≡ plan.flow.steps) (x : Name × CodeStep)
-      (there : x ≡ get_or seen n x) where
-    outputs-same : x.1.outputs ≡ step.1.outputs
-    outputs-same =
-        let low : n < length seen = subst (λ l. n < l) (sym (ap length all)) step-listed in
-        let listed = got-in seen plan.flow.steps n x all low there in
-        let here = get-image (λ (y : Name × CodeStep). (y.0, step_view y.1)) plan.flow.steps n x listed in
-        ap (λ (y : Name × Step). y.1.outputs)
-        (same_Some (x.0, step_view x.1) step (sym here ∙ ap (λ ss. slice_get ss n) steps-same ∙ is-at))
-
-    -- values that are the error document of what it binds, with the name at its place
-    pub gives-result :
-        (p : Place) → q ≡ p → (at : JobName) → at ≡ name_at (flow_view plan.flow).steps n p → (ins : List Value)
-        → (
-        (flows : List (Name × Flow)) (w : View) (j : Name × Place)
-        → Keeps flows plan r.pool r.frame w → numbered w k ≡ Some j → AreInputs w j ins)
-        → (us : List Value) → us ≡ ins → (vs : List Value)
-        → vs ≡ error_results at (codes "bounced") (fault_makers us) (map (λ o. o.1) (get_or seen n x).1.outputs)
-        → vs ≡ b.job.result
-    gives-result p copied at called ins are us given vs h =
-        let outs = ap (λ (y : Name × CodeStep). y.1.outputs) (sym there) ∙ outputs-same in
-        let steps = (flow_view plan.flow).steps in
-        h
-        ∙ ap (λ ws. error_results at (codes "bounced") (fault_makers ws) (map (λ o. o.1) (get_or seen n x).1.outputs)) given
-        ∙ result-is gives r v so.1 k b steps steps-same at
-        (called ∙ ap (name_at steps n) (sym copied) ∙ ap (λ (j : ℕ × Place). name_at steps j.0 j.1) (sym same-spot)) ins
-        (are (run_view r.run).flows v (step.0, b.seat.place) (main-keeps gives r so plan is_main) (by-number gives r v so.1 k b))
-        (get_or seen n x).1.outputs outs
-
-  -- ---- the calls
-
-  module _ (vs : List Value) (is : vs ≡ b.job.result) where
-    pub may : MayGive v step q vs
-    may =
-        subst (λ p. MayGive v step p vs) same-place
-        (subst (λ us. MayGive v step b.seat.place us) (sym is) (may-give gives r v so.1 k b))
-
-    module _ (pool : Nodes) (f : Frame) (more : ℕ)
-        (prepared :
-        (flows : List (Name × Flow)) (w : View) (s : Name × Step) → Keeps flows plan r.pool r.frame w → IsStepAt w n s
-        → MayGive w s q vs → IsReadyFor flows plan pool f w n s (gave s.0 q vs))
-        (count :
-        (flows : List (Name × Flow)) (w : View) (s : Name × Step) → Keeps flows plan r.pool r.frame w → IsStepAt w n s
-        → MayGive w s q vs → Brings w (gave s.0 q vs) more)
-        (m : OpenRun) (same : IsSameButRooms (record r { pool = pool; frame = f }) m) (other : FlowPlan)
-        (is_too : named (run_view m.run).main (run_view m.run).flows ≡ Some (flow_view other.flow)) where
-      flow-too : flow_view other.flow ≡ v.flow
-      flow-too =
-          main-flow gives r so other
-          (subst (λ d. named (run_view d).main (run_view d).flows ≡ Some (flow_view other.flow)) same.run is_too)
-
-      brings : Brings v (gave step.0 q vs) more
-      brings = count (run_view r.run).flows v step (main-keeps gives r so plan is_main) is-at may
-
-      ready-then : IsReadyFor (run_view r.run).flows other m.pool m.frame v n step (gave step.0 q vs)
-      ready-then =
-          subst (λ p. IsReadyFor (run_view r.run).flows other p m.frame v n step (gave step.0 q vs)) (sym same.pool)
-          (subst (λ g. IsReadyFor (run_view r.run).flows other pool g v n step (gave step.0 q vs)) (sym same.frame)
-          (ready-for_plan (run_view r.run).flows plan other pool f v n step (gave step.0 q vs) flow-too
-          (prepared (run_view r.run).flows v step (main-keeps gives r so plan is_main) is-at may)))
-
-      pub to-bounce : IsReadyToBounce (run_view r.run).flows other m.pool m.frame v k n step q vs
-      to-bounce = record {
-        ready = ready-then;
-        job = by-number gives r v so.1 k b ∙ ap (λ p. Some (step.0, p)) same-place;
-        free = subst (λ p. IsReadyJob (levels_in v.flow) v (step.0, p)) same-place (ready gives r v so.1 k b);
+  pub of-open : IsOfOpen r k
+  of-open =
+      let o = open-is r b.outer known.1.itself b.instance b.view known.1.kept b.is_open in
+      record {
+        job = record { instance = b.outer; number = b.number };
+        there = known.1.number;
+        itself = known.1.itself;
+        instance = known.1.is_itself;
+        opened = o.itself;
+        is_open = o.there;
       }
 
-      -- ---- once it is bounced
+  pub job-low : k < length r.jobs.items
+  job-low = low r xs st.fits k b.outer b.number b.instance b.seat step known.1
 
-      module _ (after : Nodes) (g : Frame) (on : GoesOn (run_view r.run).flows other after g v (gave step.0 q vs)) (y : Seated)
-          (seats : y.seats ≡ with_stage k stage.Settled m.seats.seats) (levels : y.levels ≡ m.seats.levels)
-          (room : y.room ≡ m.seats.room) (taken : m.seats.room ≡ more) where
-        abbrev w : View
-        w = on.0
+  -- an error document of these inputs under this name is its result
+  pub result-is :
+      (at : JobName) → slice_get (names_of r) k ≡ Some at
+      → (ins : List Value) → AreInputs b.view (spot_of b.instance.flow.steps b.seat) ins
+      → (t : Step) → step_of r k ≡ Some t → (outs : List (Name × ℕ)) → outs ≡ t.outputs
+      → error_results at (codes "bounced") (fault_makers ins) (map (λ o. o.1) outs) ≡ j.result
+  result-is at called ins are t of_step outs e =
+      let name =
+      same_Some at j.name
+      (sym called ∙ job-named gives r xs st k b.outer b.number b.instance b.seat j b.is_number) in
+      let same =
+      same_Some t step.1
+      (sym of_step ∙ step-is r xs st.fits k b.outer b.number b.instance b.seat step known.1) in
+      bounces.result-is gives d past xs st.stand b.outer b.number b.instance b.seat j b.view b.is_number.is_job b.is_open
+      b.ready b.faulty step at-step at name ins are outs (e ∙ ap (λ (u : Step). u.outputs) same)
 
-        abbrev many : ℕ
-        many = on.1
+  pub may-give : (vs : List Value) → vs ≡ j.result → MayGive b.view step b.seat.place vs
+  may-give vs e =
+      subst (MayGive b.view step b.seat.place) (sym e)
+      (bounces.may-give gives d past xs st.stand b.outer b.number b.instance b.seat j b.view b.is_number.is_job b.is_open
+      b.ready b.faulty step at-step)
 
-        as-many : many ≤ y.room
-        as-many =
-            let same_number = brings-once v w (gave step.0 q vs) many many more on.2 on.4.frame.given on.3 brings in
-            omega (arith, same_number, taken, room)
+  pub waits : is_waiting b.seat.stage ≡ true
+  waits =
+      bounces.is-waiting gives d past xs st.stand b.outer b.number b.instance b.seat j b.view b.is_number.is_job b.is_open
+      b.ready b.faulty
 
-        seats-are : y.seats ≡ with_stage k stage.Settled r.seats.seats
-        seats-are = seats ∙ ap (with_stage k stage.Settled) same.seats
+  pub free : IsReadyJob (levels_in b.view.flow) b.view (step.0, b.seat.place)
+  free =
+      bounces.free gives d past xs st.stand b.outer b.number b.instance b.seat j b.view b.is_number.is_job b.is_open b.ready
+      b.faulty step at-step
 
-        jobs-are : map job_of y.seats ≡ map job_of r.seats.seats
-        jobs-are = ap (map job_of) seats-are ∙ staged-jobs k stage.Settled r.seats.seats
+  -- once room is taken it may be
+  pub may-bounce : (m : OpenRun) → IsAsBefore r m → (vs : List Value) (p : Spot)
+      → IsReadyIn m b.outer b.view b.seat step vs p
+      → MayBeBouncedIn m xs b.outer b.instance b.view b.number b.seat step vs p
+  may-bounce m before vs p ready = record {
+    seat = record {
+      here = record {
+        fits = before.fits xs st.fits;
+        there = b.is_number.is_job.instance;
+        is_open = b.is_open;
+      };
+      seat = b.is_number.is_job.seat;
+      step = known.1.step;
+    };
+    ready = ready;
+    waits = waits;
+    free = free;
+  }
 
-        levels-are : y.levels ≡ r.seats.levels
-        levels-are = levels ∙ same.levels
+-- it is open there
+pub open-here : (gives : Giving) (r : OpenRun) (i : ℕ) (o : IsOpenIn gives r i) → IsOpenHere r o.instances i o.instance o.view
+open-here gives r i o = record { fits = o.stands.fits; there = o.there; is_open = o.is_open }
 
-        pub bounced-kept : IsKept g
-        bounced-kept = (other, after, (run_view r.run).flows, w, on.4)
+-- what was found to bounce is such a job
+module _ (gives : Giving) (r : OpenRun) (i n : ℕ) (o : IsOpenIn gives r i) (found : OfOpen r i (BouncesIn n)) where
+  abbrev its : BouncesIn n o.instance o.view
+  its = found o.instances o.instance o.view o.stands.fits o.there o.is_open
 
-        pub bounced-can_sit : CanSit g y
-        bounced-can_sit =
-            can-sit gives r r.entries.items v so.1 other after g w (gave step.0 q vs) many on.2 on.4 y jobs-are levels-are as-many
+  module _ (c : code.Instance) (at : slice_get r.instances.items i ≡ Some c) (k : ℕ)
+      (listed : slice_get c.jobs.items n ≡ Some k) where
+    abbrev pub bounced-job : (j : Job) × IsBouncedJob gives r o.instances k j
+    bounced-job =
+        let st = o.stands in
+        let kept = st.fits.kept i c o.instance at o.there in
+        let w =
+        known-as r o.instances st.fits k i n o.instance its.0 (kept.numbered n k listed) o.there its.1 in
+        let j = job-of_known gives r o.instances st k i n o.instance its.0 w.0 w.1 in (
+          j.0,
+          record {
+            outer = i;
+            number = n;
+            instance = o.instance;
+            seat = its.0;
+            is_number = j.1;
+            view = o.view;
+            is_open = o.is_open;
+            ready = its.2;
+            faulty = its.3;
+          },
+        )
 
-        module _ (z : OpenRun) (rest : HasSameFrame (record m { pool = after; frame = g; seats = y }) z)
-            (sit : AllSit g y z.seats) (entries : z.entries.items ≡ m.entries.items ++ bounces_job k ∷ [])
-            (wide : length r.entries.items + (length r.seats.seats + more + 1) ≤ vec_capacity z.entries) where
-          noted : IsNoted r z y (bounces_job k) many
-          noted = record {
-            run = rest.run ∙ same.run;
-            tries = rest.tries ∙ same.tries;
-            failed = rest.failed ∙ same.failed;
-            done = rest.done ∙ same.done;
-            entries = entries ∙ ap (λ es. es ++ bounces_job k ∷ []) same.entries;
-            sit = subst (λ h. AllSit h y z.seats) (sym rest.frame) sit;
-            jobs = jobs-are;
-            levels = levels-are;
-            seats_room = as-many;
-            room =
-                let few = as-many in
-                let all = wide in
-                omega (arith, few, all, taken, room);
-          }
+-- ---- by what the code reads
 
-          kept : Keeps (run_view r.run).flows other z.pool z.frame w
-          kept =
-              subst (λ p. Keeps (run_view r.run).flows other p z.frame w) (sym rest.pool)
-              (subst (λ h. Keeps (run_view r.run).flows other after h w) (sym rest.frame) on.4)
+module _ (gives : Giving) (r : OpenRun) (i n : ℕ) (o : IsOpenIn gives r i) (found : OfOpen r i (BouncesIn n))
+    (g : code.Instance) (read : g ≡ slice_index_or r.instances.items i g) where
+  pub here-open : IsOpenHere r o.instances i o.instance o.view
+  here-open = open-here gives r i o
 
-          event-is : gave step.0 q vs ≡ gave step.0 b.seat.place b.job.result
-          event-is = λ i. gave step.0 (sym same-place i) (is i)
+  pub listed-low : n < length g.jobs.items
+  listed-low =
+      let c = its-code r i o.instances o.instance o.view here-open in
+      let s = its gives r i n o found in
+      let low = slice_get_within o.instance.seats n s.0 s.1 in
+      let many = c.kept.as_many in
+      let same = ap (λ (a : code.Instance). length a.jobs.items) (read-is r i o.instances o.instance o.view here-open g read) in
+      omega (arith, low, many, same)
 
-          pub bounce-gone : GoesTo gives r z (bounces_job k)
-          bounce-gone =
-              bounce-goes gives r v so.1 k b so.2 z y seats-are w many noted (subst (λ e. Comes v w e many) event-is on.2)
-              other kept
+  module _ (k : ℕ) (at : k ≡ slice_index_or g.jobs.items n k) where
+    abbrev pub read-job : (j : Job) × IsBouncedJob gives r o.instances k j
+    read-job =
+        bounced-job gives r i n o found (its-code r i o.instances o.instance o.view here-open).itself
+        (its-code r i o.instances o.instance o.view here-open).there k
+        (subst (λ (a : code.Instance). slice_get a.jobs.items n ≡ Some k)
+        (read-is r i o.instances o.instance o.view here-open g read)
+        (slice_get-get_or g.jobs.items n k listed-low ∙ ap Some (sym at)))

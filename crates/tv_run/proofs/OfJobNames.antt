@@ -1,41 +1,80 @@
--- The names of known jobs, by number.
-use Rattle.std.specs.Option.{option_map_or}
-use Rattle.std.specs.Prelude.{◌≡◌, ℕ, ◌≤◌, List, [], ◌∷◌, None, Some, length, option_map, slice_get}
-use Rattle.std.proofs.Common.{ap, subst, sym, ◌∙◌}
-use Rattle.std.proofs.lemmas.Option.{slice_get-map, slice_get_past}
+-- The names of known jobs: that of the job that opened the instance, and then the step and place.
+use Rattle.std.specs.Prelude.{◌≡◌, ℕ, ◌<◌, ◌++◌, [], ◌∷◌, Err, None, Ok, OnOk, Result, Some, length, slice_get}
+use Rattle.std.proofs.Common.{ap, append_assoc, arith, sym, ◌∙◌}
+use Rattle.std.proofs.lemmas.Option.{same_Some}
 use Rattle.tv_value.specs.Nested.{Place}
-use Rattle.tv_value.specs.Orders.{named}
-use Rattle.tv_value.specs.Values.{Name}
-use Rattle.tv_gate.specs.Outcomes.{Giving}
+use Rattle.tv_value.specs.Values.{JobName, Name}
 use Rattle.tv_flow.specs.Flows.{Step}
-use Rattle.tv_flow.specs.Views.{flow_view}
-use Rattle.tv_check.specs.RunViews.{run_view}
-use Rattle.tv_check.specs.declared.plans.FlowPlan.{FlowPlan}
-use Rattle.tv_intake.specs.Intaken.{known_jobs}
-use Rattle.tv_framing.specs.Views.{View}
-use Rattle.tv_entries.specs.declared.entry.Entry.{Entry}
-use Rattle.tv_run.specs.Looks.{name_at}
-use Rattle.tv_run.specs.Standing.{Stands, main_steps, name_in, names_of}
+use Rattle.tv_seats.specs.Seats.{Seat}
+use Rattle.tv_forest.specs.Forest.{Instance, Instances}
+use Rattle.tv_run.specs.Jobs.{named_step_of, seat_of}
+use Rattle.tv_run.specs.Standing.{Fits, names_of}
+use Rattle.tv_run.specs.declared.instances.Instance as code
+use Rattle.tv_run.specs.declared.instances.Numbered.{Numbered}
 use Rattle.tv_run.specs.declared.run.OpenRun.{OpenRun}
-use Rattle.tv_run.proofs.OfLooks.{as-many, flow-of_plan, seat-of_known, steps-are}
+use Rattle.tv_run.proofs.OfJobs.{IsKnownAs, known-at, low, name-there, named_step-is, seat-is, spot-is}
 
-module _ (gives : Giving) (r : OpenRun) (es : List Entry) (v : View) (st : Stands gives r es v) where
-  -- of the job that the frame has by that number
-  pub name-there : (k n : ℕ) (q : Place) (plan : FlowPlan)
-      → named (run_view r.run).main (run_view r.run).flows ≡ Some (flow_view plan.flow)
-      → slice_get (known_jobs r.frame.intakes) k ≡ Some (n, q)
-      → slice_get (names_of r) k ≡ Some (name_at (flow_view plan.flow).steps n q)
-  name-there k n q plan main known =
-      let w = seat-of_known gives r es v st k (n, q) known in
-      let steps : main_steps (run_view r.run) ≡ (flow_view plan.flow).steps =
-      steps-are gives r es v st ∙ sym (ap (λ f. f.steps) (flow-of_plan gives r es v st plan main)) in
-      slice_get-map (name_in (main_steps (run_view r.run))) r.seats.seats k
-      ∙ ap (option_map (name_in (main_steps (run_view r.run)))) w.1
-      ∙ (λ i. Some ((option_map_or (λ (t : Name × Step). t.0) (slice_get (steps i) (w.2 i)) [], w.3 i) ∷ []))
+module _ (r : OpenRun) (xs : Instances) (fits : Fits r xs) (k : ℕ) (m : Numbered) (e : slice_get r.jobs.items k ≡ Some m)
+  where
+    abbrev w : (x : Instance) × (s : Seat) × (t : Name × Step) × IsKnownAs r xs k m.instance m.number x s t
+    w = known-at r xs fits k m e
 
-  -- and of none
-  pub no-name : (k : ℕ) → length (known_jobs r.frame.intakes) ≤ k → slice_get (names_of r) k ≡ None
-  no-name k h =
-      slice_get-map (name_in (main_steps (run_view r.run))) r.seats.seats k
-      ∙ ap (option_map (name_in (main_steps (run_view r.run))))
-      (slice_get_past r.seats.seats k (subst (λ l. l ≤ k) (sym (as-many gives r es v st)) h))
+    abbrev spot : Name × Place
+    spot = (w.2.0, w.1.place)
+
+    pub seat-known : seat_of r k ≡ Some w.1
+    seat-known = seat-is r xs fits k m.instance m.number w.0 w.1 w.2 w.3
+
+    pub step-known : named_step_of r k ≡ Some w.2
+    step-known = named_step-is r xs fits k m.instance m.number w.0 w.1 w.2 w.3
+
+    pub name-known : slice_get (names_of r) k ≡ Some (w.0.name ++ spot ∷ [])
+    name-known =
+        name-there r xs fits k m.instance m.number w.0 w.1 w.2 w.3
+        ∙ ap (λ p. Some (w.0.name ++ p ∷ [])) (spot-is r xs fits k m.instance m.number w.0 w.1 w.2 w.3)
+
+    module _ (c : code.Instance) (here : slice_get r.instances.items m.instance ≡ Some c) where
+      itself-is : w.3.itself ≡ c
+      itself-is = same_Some w.3.itself c (sym w.3.is_itself ∙ here)
+
+      -- the job that opened its instance comes before it
+      module _ (o : ℕ) (opener : c.opener ≡ Some o) where
+        pub opener-less : o < k
+        opener-less = fits.behind k m c o e here opener
+
+        pub opener-low : o < length r.jobs.items
+        opener-low =
+            let a = opener-less in
+            let b = low r xs fits k m.instance m.number w.0 w.1 w.2 w.3 in
+            omega (arith, a, b)
+
+        pub opener-named : slice_get (names_of r) o ≡ Some w.0.name
+        opener-named = w.3.kept.opener o (ap (λ (u : code.Instance). u.opener) itself-is ∙ opener)
+
+        -- the parts behind those of its name
+        pub name-behind : (before between after n : JobName) → slice_get (names_of r) k ≡ Some n
+            → ((a : JobName) → slice_get (names_of r) o ≡ Some a → between ≡ before ++ a)
+            → ((s : Seat) (t : Name × Step) → seat_of r k ≡ Some s → named_step_of r k ≡ Some t
+            → after ≡ between ++ (t.0, s.place) ∷ [])
+            → after ≡ before ++ n
+        name-behind before between after n h f g =
+            g w.1 w.2 seat-known step-known
+            ∙ ap (λ (l : JobName). l ++ spot ∷ []) (f w.0.name opener-named)
+            ∙ append_assoc before w.0.name (spot ∷ [])
+            ∙ ap (λ (l : JobName). before ++ l) (same_Some (w.0.name ++ spot ∷ []) n (sym name-known ∙ h))
+
+      -- of the main instance's
+      pub name-alone : c.opener ≡ None → (before after n : JobName) → slice_get (names_of r) k ≡ Some n
+          → ((s : Seat) (t : Name × Step) → seat_of r k ≡ Some s → named_step_of r k ≡ Some t
+          → after ≡ before ++ (t.0, s.place) ∷ [])
+          → after ≡ before ++ n
+      name-alone none before after n h g =
+          g w.1 w.2 seat-known step-known
+          ∙ ap (λ (l : JobName). before ++ l)
+          (ap (λ (l : JobName). l ++ spot ∷ [])
+          (sym (w.3.kept.main (ap (λ (u : code.Instance). u.opener) itself-is ∙ none)).1)
+          ∙ same_Some (w.0.name ++ spot ∷ []) n (sym name-known ∙ h))
+
+pub on-ok : {A E : Type 0} (r : Result A E) (P Q : Type 0) → (P → Q) → OnOk r P → OnOk r Q
+on-ok (Ok a) P Q f h = f h
+on-ok (Err e) P Q f h = h

@@ -1,18 +1,23 @@
 -- What a run gives once it is done is what its document means.
 use Rattle.std.specs.List.{zip}
-use Rattle.std.specs.Prelude.{◌≡◌, refl, true, List, [], ◌∷◌, Option, Some, None, length, map}
 use Rattle.std.specs.Option.{option_map_or}
-use Rattle.std.proofs.Common.{ap, ap₂, sym, ◌∙◌}
+use Rattle.std.specs.Prelude.{◌≡◌, refl, ℕ, suc, Bool, true, false, if◌then◌else◌, List, [], ◌∷◌, None, Option, Some, is_none, is_some, length, map, option_map, slice_get}
+use Rattle.std.proofs.Common.{ap, ap₂, subst, sym, ◌∙◌}
 use Rattle.std.proofs.lemmas.Bool.{true≢false}
 use Rattle.std.proofs.lemmas.List.{length-map}
+use Rattle.std.proofs.lemmas.Option.{none-some}
 use Rattle.std.proofs.lemmas.Simd.{map-map}
-use Rattle.tv_value.specs.Orders.{named}
+use Rattle.tv_value.specs.Orders.{named, same_name}
 use Rattle.tv_value.specs.Values.{Name}
 use Rattle.tv_gate.specs.Outcomes.{Giving}
+use Rattle.tv_naming.specs.Numbers.{position}
 use Rattle.tv_flow.specs.Flows.{Document, Feed, Flow}
 use Rattle.tv_flow.specs.Views.{feed_view, flow_view}
 use Rattle.tv_flow.specs.declared.document.Feed as code
 use Rattle.tv_strategy.specs.Origins.{Traced, plain}
+use Rattle.tv_check.specs.FlowPlanViews.{flow_plan_view}
+use Rattle.tv_check.specs.Plans as plans
+use Rattle.tv_check.specs.Plans.{flow_plan, flow_plans}
 use Rattle.tv_check.specs.RunViews.{run_view}
 use Rattle.tv_check.specs.declared.plans.FlowPlan.{FlowPlan}
 use Rattle.tv_cell.specs.PieceValues.{piece_value, piece_values}
@@ -23,16 +28,31 @@ use Rattle.tv_model.specs.Made.{feed_value}
 use Rattle.tv_model.specs.Meanings.{flow_meaning, instance_meaning, meaning, no_meaning}
 use Rattle.tv_history.specs.Histories.{is_done}
 use Rattle.tv_order.specs.Parts.{made_of}
-use Rattle.tv_framing.specs.Answers.{has_ended_now}
-use Rattle.tv_framing.specs.Views.{View}
-use Rattle.tv_viewed.proofs.OfLaws.{instances-end_as_told, outputs-are_meant}
-use Rattle.tv_frame.specs.Kept.{AreOuts}
-use Rattle.tv_frame.specs.Tables.{levels_in}
+use Rattle.tv_seated.proofs.OfLists.{of-image}
 use Rattle.tv_entries.specs.Runs.{meant, past_of}
-use Rattle.tv_entries.specs.declared.entry.Entry.{Entry}
-use Rattle.tv_run.specs.Standing.{Stands, run_of}
+use Rattle.tv_run.specs.Standing.{OutsAre, StandsStill, run_of}
 use Rattle.tv_run.specs.declared.run.OpenRun.{OpenRun}
-use Rattle.tv_run.proofs.OfEnded.{before, could-end}
+use Rattle.tv_run.proofs.OfOver.{done-is}
+
+-- ---- the main flow by its number
+
+-- what stands at the number of a name has that name
+named-at : {A : Type 0} (n : Name) (xs : List (Name × A)) (y : Name × A) → slice_get xs (position n xs) ≡ Some y
+    → named n xs ≡ Some y.1
+named-at n [] y e = absurd (none-some y e)
+named-at {A = A} n (x ∷ xs) y e = by (same_name n x.0) (named-at n xs y) e
+  where
+    by : (b : Bool) → (slice_get xs (position n xs) ≡ Some y → named n xs ≡ Some y.1)
+        → slice_get (x ∷ xs) (if b then 0 else suc (position n xs)) ≡ Some y → (if b then Some x.1 else named n xs) ≡ Some y.1
+    by true r h = ap (option_map (λ (z : Name × A). z.1)) h
+    by false r h = r h
+
+-- the plan of the main flow's number is of the main flow
+pub main-plan : (d : Document) (n : ℕ) (p : plans.FlowPlan) → n ≡ position d.main d.flows → slice_get (flow_plans d) n ≡ Some p
+    → named d.main d.flows ≡ Some p.flow
+main-plan d n p e h =
+    let r = of-image (λ (f : Name × Flow). flow_plan f.1) d.flows n p h in
+    named-at d.main d.flows r.0 (ap (slice_get d.flows) (sym e) ∙ r.1) ∙ ap (λ (q : plans.FlowPlan). Some q.flow) r.2
 
 -- ---- names and values
 
@@ -58,33 +78,35 @@ zip-pairs f g (x ∷ xs) = ap (λ l. (f x, g x) ∷ l) (zip-pairs f g xs)
 
 -- ---- the run
 
-module _ (gives : Giving) (r : OpenRun) (es : List Entry) (v : View) (st : Stands gives r es v) (done : is_done (past_of
-    (run_of r)) ≡ true) where
+module _ (gives : Giving) (r : OpenRun) (st : StandsStill gives r) where
   abbrev outs : List (Name × Traced)
   outs = (meant gives (run_of r)).outputs
 
-  has-ended : has_ended_now (levels_in v.flow) v ≡ true
-  has-ended =
-      sym (instances-end_as_told gives (run_view r.run) (before gives r es v st) [] (levels_in v.flow) v st.sit.in_run)
-      ∙ could-end gives r es v st done
+  -- it has outputs where it is done
+  pub none-missing : is_done (past_of (run_of r)) ≡ true → r.outs ≡ None → ⊥
+  none-missing done none = true≢false (sym done ∙ sym (done-is gives r st) ∙ ap is_some none)
 
-  -- its frame has outputs
-  pub none-missing : AreOuts v (has_ended_now (levels_in v.flow) v) None → ⊥
-  none-missing h = true≢false (sym has-ended ∙ h)
+  module _ (ps : List Piece) (are : r.outs ≡ Some ps) where
+    its : OutsAre gives (run_view r.run) (Some ps) (is_none st.1.stand.main.0.view)
+    its =
+        let x = st.1.stand.main in
+        subst (λ o. OutsAre gives (run_view r.run) o (is_none x.0.view)) are (st.1.outs_are x.0 x.1)
 
-  module _ (ps : List Piece) (are : AreOuts v (has_ended_now (levels_in v.flow) v) (Some ps)) where
     pub sound-outputs : AreSound ps
-    sound-outputs = are.1
+    sound-outputs = its.1
 
     output-values : piece_values ps ≡ map (λ o. plain o.1) outs
-    output-values =
-        outputs-are_meant gives (run_view r.run) (before gives r es v st) [] (levels_in v.flow) v st.sit.in_run refl st.flow_is
-        (ap (given_of v.flow) st.inputs_are) (piece_values ps) are.2
+    output-values = its.2
 
-    module _ (plan : FlowPlan) (main : named (run_view r.run).main (run_view r.run).flows ≡ Some (flow_view plan.flow))
+    module _ (n : ℕ) (plan : FlowPlan) (main : n ≡ position (run_view r.run).main (run_view r.run).flows)
+        (there : slice_get (flow_plans (run_view r.run)) n ≡ Some (flow_plan_view plan))
         (ns : List (Name × code.Feed)) (own : ns ≡ plan.flow.outputs) where
       names-are : map (λ n. n.0) ns ≡ map (λ o. o.0) outs
-      names-are = planned-names plan ns own ∙ sym (output-names gives (run_view r.run) (flow_view plan.flow) main)
+      names-are =
+          planned-names plan ns own
+          ∙ sym
+          (output-names gives (run_view r.run) (flow_view plan.flow)
+          (main-plan (run_view r.run) n (flow_plan_view plan) main there))
 
       pub as-many-outputs : length ps ≡ length ns
       as-many-outputs =

@@ -1,152 +1,240 @@
--- After the end of a run that opens no flow no job runs, none is out or ready, and nothing more is legal.
+-- After the end of the main instance nothing is out or on offer, and nothing more is legal.
+use Rattle.std.proofs.Common.{ap, arith, subst, sym, ◌∙◌}
+use Rattle.std.proofs.lemmas.Bool.{eq-eqb, lt-ltb}
+use Rattle.std.proofs.lemmas.Option.{none-some}
 use Rattle.std.specs.List.{list_any}
 use Rattle.std.specs.Option.{option_map_or}
-use Rattle.std.specs.Prelude.{◌≡◌, refl, ℕ, List, [], ◌∷◌, ◌&&◌, ◌||◌, not, Bool, true, false, filter_map, is_none, ◌==◌, cond, count_by, if◌then◌else◌, is_some, ◌+◌}
-use Rattle.std.proofs.Common.{ap, inl, inr, sym, subst, ◌∙◌}
-use Rattle.std.proofs.Math.Bool.{and-false}
-use Rattle.tv_lemmas.proofs.Cases.{on_test}
-use Rattle.tv_lemmas.proofs.Counts.{count-cons}
-use Rattle.tv_value.specs.Nested.{nodes}
+use Rattle.std.specs.Prelude.{Bool, List, None, Option, Some, [], cond, false, find, if◌then◌else◌, is_none, is_some, nat_lt, not, option_and_then, refl, slice_get, suc, true, zero, ℕ, ◌&&◌, ◌==◌, ◌||◌, ◌∷◌, ◌≡◌}
 use Rattle.tv_value.specs.Orders.{same_job}
-use Rattle.tv_value.specs.Values.{JobName, Name}
-use Rattle.tv_gate.specs.Outcomes.{Giving}
+use Rattle.tv_value.specs.Values.{JobName}
+use Rattle.tv_cell.specs.declared.piece.Piece.{Piece}
+use Rattle.tv_check.specs.RunViews.{run_view}
+use Rattle.tv_dispatch.specs.Jobs.{Ask}
+use Rattle.tv_entries.specs.Calls.{idle_state, job_at, out_state, state_after, try_if_out, try_out}
+use Rattle.tv_entries.specs.Runs.{past_of}
+use Rattle.tv_outcomes.specs.Activities.{last_activity}
+use Rattle.tv_model.specs.Turns.{is_bounced}
+use Rattle.tv_framing.specs.Views.{View}
+use Rattle.tv_entries.specs.declared.ticket.JobState.TheVariants as state
+use Rattle.tv_entries.specs.declared.ticket.JobState.{JobState}
+use Rattle.tv_entries.specs.declared.ticket.Ticket.{Ticket}
 use Rattle.tv_flow.specs.Flows.{Document}
+use Rattle.tv_forest.specs.Forest.{Instance, Instances, IsAt, Stays}
+use Rattle.tv_firsts.proofs.OfEnds.{nothing-at_end}
+use Rattle.tv_frame.specs.Tables.{levels_in}
+use Rattle.tv_gate.specs.Outcomes.{Giving}
+use Rattle.tv_history.proofs.Tests.{find-passes}
+use Rattle.tv_history.specs.Entries as history
+use Rattle.tv_history.specs.Entries.{History, handed_out, is_ended_entry, is_out, recalled}
+use Rattle.tv_history.specs.Histories as histories
+use Rattle.tv_history.specs.Histories.{has_open_instance, has_place, is_ask, is_done, is_idle, is_legal_after, is_offered, is_open, is_ready, is_running, is_settled, next_ask}
+use Rattle.tv_history.proofs.Counts.{uncounted}
+use Rattle.tv_model.proofs.Tests.{both_true, true≠false}
 use Rattle.tv_model.specs.Jobs.{Job}
-use Rattle.tv_model.specs.Levels.{Level, level_at, levels}
 use Rattle.tv_model.specs.Made.{Meaning}
-use Rattle.tv_depths.specs.Delivered.{StepMeaning}
 use Rattle.tv_model.specs.Meanings.{meaning}
 use Rattle.tv_model.specs.Members.{In}
-use Rattle.tv_model.specs.Turns.{is_bounced}
-use Rattle.tv_model.proofs.Formed.{level-instance}
-use Rattle.tv_model.proofs.Members.{of-flat, of-options}
-use Rattle.tv_model.proofs.Tests.{both_true, true≠false}
-use Rattle.tv_history.specs.Entries as history
-use Rattle.tv_history.specs.Entries.{History, ended, is_begun_entry, is_out}
-use Rattle.tv_history.specs.Histories as histories
-use Rattle.tv_history.specs.Histories.{all_known, can_end, can_settle, has_entry, has_open_instance, has_place, is_idle, is_legal, is_legal_after, is_offered, is_open, is_ready, is_running, is_settled, next_ask}
-use Rattle.tv_history.proofs.Tests.{false_left, false_right}
-use Rattle.tv_framing.specs.Views.{View}
-use Rattle.tv_seats.specs.Seats.{Seat}
-use Rattle.tv_offered.specs.Runs.{IsAlone}
-use Rattle.tv_offered.proofs.OfChanges.{settling}
-use Rattle.tv_offered.proofs.OfEnds.{ends-alone, none-bounces}
-use Rattle.tv_offered.proofs.OfOffers.{nothing}
-use Rattle.tv_offered.proofs.OfRuns.{none-of}
-use Rattle.tv_going.specs.Flat.{IsMainAlone}
-use Rattle.tv_going.proofs.OfFlat.{flat-runs}
-use Rattle.tv_seats.specs.declared.stage.Stage.TheVariants as stage
-use Rattle.tv_seated.specs.Seated.{IsStage, Sit}
-use Rattle.tv_seated.proofs.OfRuns.{end-keeps_stages}
-use Rattle.tv_standing.specs.Seats.{stands_anywhere}
-use Rattle.tv_standing.proofs.OfSeats.{jobs-have_seats}
-use Rattle.tv_entries.specs.Calls.{idle_state, is_settlement, out_state, state_after}
-use Rattle.tv_entries.specs.declared.ticket.JobState.{JobState}
-use Rattle.tv_entries.specs.declared.ticket.JobState.TheVariants as state
+use Rattle.tv_offered.proofs.OfOffers.{handing-legal}
+use Rattle.tv_run.specs.Standing.{OutsAre, Stands, StandsOpen, StandsStill, names_of, run_of}
+use Rattle.tv_run.specs.Turns.{IsOver}
+use Rattle.tv_run.specs.declared.run.OpenRun.{OpenRun}
 
-none-counted : {A : Type 0} (p : A → Bool) (xs : List A) → ((x : A) → In x xs → p x ≡ false) → count_by p xs ≡ 0
-none-counted p [] h = refl
-none-counted p (x ∷ xs) h = count-cons p x xs ∙ (λ k. cond (h x (inl refl) k) 1 0 + none-counted p xs (λ y i. h y (inr i)) k)
+-- ---- lists
+
+-- a search that finds none finds that none passes
+none-passes : {A : Type 0} (p : A → Bool) (xs : List A) → ((x : A) → find p xs ≡ Some x → ⊥) → list_any p xs ≡ false
+none-passes p [] h = refl
+none-passes {A = A} p (x ∷ xs) h = by (p x) refl (none-passes p xs)
+  where
+    by : (b : Bool) → p x ≡ b → (((y : A) → find p xs ≡ Some y → ⊥) → list_any p xs ≡ false) → list_any p (x ∷ xs) ≡ false
+    by true e rest = absurd (h x (ap (λ c. cond c (Some x) (find p xs)) e))
+    by false e rest = ap (λ c. c || list_any p xs) e ∙ rest (λ y k. h y (ap (λ c. cond c (Some x) (find p xs)) e ∙ k))
+
+-- ---- states
 
 abbrev pub is_out_state : JobState → Bool
 is_out_state (state.Out a t) = true
 is_out_state s = false
 
--- a job that neither runs nor is out stands nowhere where one is
+idle-calm : (m : Meaning) (past : History) (j : Job) → is_out_state (idle_state m past j) ≡ false
+idle-calm m past j = by (next_ask past j)
+  where
+    by : (o : Option Ask) → is_out_state (option_map_or (λ a. state.Idle a.activity a.attempt) o (state.Idle (last_activity j.asks) 0)) ≡ false
+    by None = refl
+    by (Some a) = refl
+
+-- a job that isn't out stands nowhere where one is
 calm :
-    (s o n r d : Bool) (x y : JobState) → o ≡ false → r ≡ false
+    (s o n r d : Bool) (x y : JobState) → o ≡ false → is_out_state y ≡ false
     → is_out_state (if s then state.Settled else (if o then x else (if n then state.Nested else (if r then y else (if d then state.Ready else state.Waiting))))) ≡ false
 calm true o n r d x y p q = refl
 calm false true n r d x y p q = absurd (true≠false p)
 calm false false true r d x y p q = refl
-calm false false false true d x y p q = absurd (true≠false q)
+calm false false false true d x y p q = q
 calm false false false false true x y p q = refl
 calm false false false false false x y p q = refl
 
-between : (a c : Bool) → (a && false && c) ≡ false
-between true c = refl
-between false c = refl
+-- ---- jobs by number
 
-abbrev is_longer : JobName → Bool
-is_longer [] = false
-is_longer (k ∷ n) = true
+job-in : (m : Meaning) (ns : List JobName) (k : ℕ) (j : Job) → job_at m ns k ≡ Some j → In j m.jobs
+job-in m ns k j = by (slice_get ns k)
+  where
+    by : (o : Option JobName) → option_and_then (λ n. find (λ (i : Job). same_job n i.name) m.jobs) o ≡ Some j → In j m.jobs
+    by None h = absurd (none-some j h)
+    by (Some n) h = (find-passes (λ (i : Job). same_job n i.name) m.jobs j h).0
 
-module _ (gives : Giving) (d : Document) (past : History) (levels_in : Name → ℕ) (v : View) (ss : List Seat)
-    (sit : Sit gives d past levels_in v ss) (can : can_end (meaning gives d) past [] ≡ true) where
+-- no job of a number is out where none of the meaning is
+none-is_out :
+    (m : Meaning) (past : History) (ns : List JobName)
+    → ((j : Job) → In j m.jobs → is_out_state (state_after m past j) ≡ false)
+    → (k a t : ℕ) → option_map_or (state_after m past) (job_at m ns k) state.Unknown ≡ state.Out a t → ⊥
+none-is_out m past ns quiet k a t = by (job_at m ns k) (job-in m ns k)
+  where
+    by : (o : Option Job) → ((j : Job) → o ≡ Some j → In j m.jobs) → option_map_or (state_after m past) o state.Unknown ≡ state.Out a t → ⊥
+    by None h e = true≠false (sym (ap is_out_state e))
+    by (Some j) h e = true≠false (sym (ap is_out_state e) ∙ quiet j (h j refl))
+
+-- nor is a try of one
+none-tried :
+    (m : Meaning) (past : History) (ns : List JobName)
+    → ((j : Job) → In j m.jobs → is_out past j.name ≡ false)
+    → (k a t : ℕ) → option_and_then (try_out m past a t) (job_at m ns k) ≡ None
+none-tried m past ns quiet k a t = by (job_at m ns k) (job-in m ns k)
+  where
+    by : (o : Option Job) → ((j : Job) → o ≡ Some j → In j m.jobs) → option_and_then (try_out m past a t) o ≡ None
+    by None h = refl
+    by (Some j) h =
+        ap (λ b. if b && option_map_or (is_ask a t) (next_ask past j) false then next_ask past j else None) (quiet j (h j refl))
+
+-- ---- the run
+
+module _ (gives : Giving) (r : OpenRun) (xs : Instances) (st : Stands gives r xs) (x : Instance) (at : IsAt xs 0 x)
+    (shut : x.view ≡ None) where
+  abbrev d : Document
+  d = run_view r.run
+
   abbrev m : Meaning
   m = meaning gives d
 
-  abbrev after : History
-  after = ended [] ∷ past
+  abbrev past : History
+  past = past_of (run_of r)
 
-  flat : IsMainAlone gives m
-  flat = flat-runs gives d sit.flat
+  nothing : (e : history.Entry) → is_legal_after gives m past e ≡ false
+  nothing = nothing-at_end gives d levels_in past xs st.stand x at shut
 
-  pub legal-ended : is_legal gives m after ≡ true
-  legal-ended = both_true (is_legal gives m past) (is_legal_after gives m past (ended [])) sit.in_run.legal can
-
-  alone : IsAlone gives d after
-  alone = record { legal = legal-ended; within = flat.jobs; opens = flat.none_opens }
-
-  -- no job is ready
-  pub not-ready : (j : Job) → In j m.jobs → is_ready m after j ≡ false
-  not-ready j i =
-      ap (λ n. is_open after n && not (is_running after j) && not (is_settled after j) && all_known m after j.waits) (flat.jobs j i)
-
-  -- none runs, and none is out
-  pub at-rest : (j : Job) → In j m.jobs → (is_running after j ≡ false) × (is_out after j.name ≡ false)
-  at-rest j i = on_test (stands_anywhere m past j) seated unseated
+  -- else it could be recalled
+  none-out : histories.out_count m past ≡ 0
+  none-out = by (histories.out_count m past) (nothing (recalled (histories.out_count m past)))
     where
-      seated : stands_anywhere m past j ≡ true → (is_running after j ≡ false) × (is_out after j.name ≡ false)
-      seated h =
-          let s = jobs-have_seats gives d past levels_in v ss sit j i h in
-          let k = end-keeps_stages gives d past levels_in v ss sit can s.number s.seat s.there in
-          let over : IsStage after j stage.Settled = subst (IsStage after j) k.settled (k.stays j s.is_its) in (
-            ap (λ b. list_any (is_begun_entry j.name) after && not b) over.0 ∙ and-false (list_any (is_begun_entry j.name) after),
-            over.1,
-          )
+      by : (n : ℕ) → (nat_lt 0 n && n == n) ≡ false → n ≡ 0
+      by zero h = refl
+      by (suc n) h =
+          absurd
+          (true≠false
+          (sym (both_true (nat_lt 0 (suc n)) (suc n == suc n) (lt-ltb 0 (suc n) (omega arith)) (eq-eqb (suc n) (suc n) refl)) ∙ h))
 
-      unseated : stands_anywhere m past j ≡ false → (is_running after j ≡ false) × (is_out after j.name ≡ false)
-      unseated h =
-          let k = settling gives d past j i (ended []) refl (flat.none_opens j i) in
-          let a = is_ready m past j || is_running past j in
-          let b = a || is_settled past j in (
-            k.running ∙ false_right (is_ready m past j) (is_running past j) (false_left a (is_settled past j) (false_left b (is_out past j.name) h)),
-            k.out ∙ false_right b (is_out past j.name) h,
-          )
+  not-out : (j : Job) → In j m.jobs → is_out past j.name ≡ false
+  not-out = uncounted (λ (j : Job). is_out past j.name) m.jobs none-out
 
-  pub not-offered : (j : Job) → In j m.jobs → is_offered m after j ≡ false
-  not-offered j i =
-      let idle : is_idle after j ≡ false = ap (λ b. b && not (is_out after j.name) && not (has_open_instance after j)) (at-rest j i).0 in
-      let begins : (is_ready m after j && not (is_bounced j.ending) && has_place m after j) ≡ false = ap (λ b. b && not (is_bounced j.ending) && has_place m after j) (not-ready j i) in
-      (λ k. is_some (next_ask after j) && (idle k || begins k)) ∙ and-false (is_some (next_ask after j))
+  -- else the first that is could be handed out
+  none-offered : list_any (is_offered m past) m.jobs ≡ false
+  none-offered = none-passes (is_offered m past) m.jobs (λ j found. by j found (next_ask past j) refl)
+    where
+      by : (j : Job) → find (is_offered m past) m.jobs ≡ Some j → (o : Option Ask) → next_ask past j ≡ o → ⊥
+      by j found None e =
+          true≠false (sym (find-passes (is_offered m past) m.jobs j found).1 ∙ ap (λ o. is_some o && (is_idle past j || (is_ready m past j && not (is_bounced j.ending) && has_place m past j))) e)
+      by j found (Some a) e =
+          true≠false
+          (sym
+          (handing-legal gives d past j a.activity a.attempt found
+          (ap (λ o. option_map_or (is_ask a.activity a.attempt) o false) e
+          ∙ both_true (a.activity == a.activity) (a.attempt == a.attempt) (eq-eqb a.activity a.activity refl)
+          (eq-eqb a.attempt a.attempt refl)))
+          ∙ nothing (handed_out j.name a.activity a.attempt))
 
-  pub none-out : histories.out_count m after ≡ 0
-  none-out = none-counted (λ j. is_out after j.name) m.jobs (λ j i. (at-rest j i).1)
+  pub over : IsOver gives (run_of r)
+  over = record {
+    none_out = none-out;
+    nothing_offered = none-offered;
+    nothing_settles = λ e h. nothing e;
+    no_state_out =
+        none-is_out m past (names_of r)
+        (λ j i.
+        calm (is_settled past j) (is_out past j.name) (has_open_instance past j) (is_running past j) (is_ready m past j)
+        (out_state m past j) (idle_state m past j) (not-out j i) (idle-calm m past j));
+    none_asked = λ t. none-tried m past (names_of r) not-out t.job t.activity t.attempt;
+  }
 
-  pub none-offered : list_any (is_offered m after) m.jobs ≡ false
-  none-offered = none-of (is_offered m after) m.jobs not-offered
+-- ---- ended or not
 
-  level-shut : (l : Level) → In l (levels m.steps) → can_settle m after l ≡ false
-  level-shut l i =
-      let a = of-flat (λ (s : StepMeaning). filter_map (level_at s) (nodes s.iteration)) l m.steps i in
-      let b = of-options (level_at a.0) l (nodes a.0.iteration) a.2 in
-      ap (λ n. is_open after n && not (has_entry after l.name) && all_known m after l.sources) (level-instance a.0 b.0 l b.2 ∙ flat.steps a.0 a.1)
+-- where there are outputs the main instance has ended
+shut-main : (gives : Giving) (r : OpenRun) (xs : Instances) (st : Stands gives r xs) → is_some r.outs ≡ true
+    → (x : Instance) × IsAt xs 0 x × (x.view ≡ None)
+shut-main gives r xs st some =
+    let x = st.stand.main in
+    (x.0, x.1, none-there x.0.view (ended r.outs some (is_none x.0.view) (st.outs_are x.0 x.1)))
+  where
+    ended : (o : Option (List Piece)) → is_some o ≡ true → (b : Bool) → OutsAre gives (run_view r.run) o b → b ≡ true
+    ended None h b k = absurd (true≠false (sym h))
+    ended (Some ps) h b k = k.0
 
-  pub none-settles : (e : history.Entry) → is_settlement e ≡ true → is_legal_after gives m after e ≡ false
-  none-settles (history.bounced n) h = (none-bounces gives d after (λ j i r. absurd (true≠false (sym r ∙ not-ready j i)))).illegal n
-  none-settles (history.closed n k) h =
-      none-of (λ l. same_job n l.name && can_settle m after l && option_map_or (λ c. c == k) l.length false) (levels m.steps)
-      (λ l i. ap (λ b. same_job n l.name && b && option_map_or (λ c. c == k) l.length false) (level-shut l i) ∙ between (same_job n l.name) (option_map_or (λ c. c == k) l.length false))
-  none-settles (history.fault_passed n) h =
-      none-of (λ l. same_job n l.name && can_settle m after l && is_none l.length) (levels m.steps)
-      (λ l i. ap (λ b. same_job n l.name && b && is_none l.length) (level-shut l i) ∙ between (same_job n l.name) (is_none l.length))
-  none-settles (history.ended []) h = refl
-  none-settles (history.ended (k ∷ n)) h = (ends-alone gives d after alone).others_legal (k ∷ n) (λ e. true≠false (ap is_longer e))
-  none-settles (history.opened n) h = flat.never_opened after n
-  none-settles e h = absurd (true≠false (sym h))
+    none-there : {A : Type 0} (o : Option A) → is_none o ≡ true → o ≡ None
+    none-there None h = refl
+    none-there (Some a) h = absurd (true≠false (sym h))
 
-  pub not-out : (j : Job) → In j m.jobs → is_out_state (state_after m after j) ≡ false
-  not-out j i =
-      let rest = at-rest j i in
-      calm (is_settled after j) (is_out after j.name) (has_open_instance after j) (is_running after j) (is_ready m after j) (out_state m after j) (idle_state m after j) rest.1 rest.0
+pub over-done : (gives : Giving) (r : OpenRun) → is_some r.outs ≡ true → StandsStill gives r → IsOver gives (run_of r)
+over-done gives r done st =
+    let x = shut-main gives r st.0 st.1 done in
+    over gives r st.0 st.1 x.0 x.1 x.2
+
+pub open-still : (gives : Giving) (r : OpenRun) → is_some r.outs ≡ false → StandsStill gives r → StandsOpen gives r
+open-still gives r h st = (st.0, st.1, none-there r.outs h)
+  where
+    none-there : {A : Type 0} (o : Option A) → is_some o ≡ false → o ≡ None
+    none-there None h = refl
+    none-there (Some a) h = absurd (true≠false h)
+
+-- one of which a try is out hasn't ended
+pub open-asked :
+    (gives : Giving) (r : OpenRun) → StandsStill gives r → (t : Ticket) (a : Ask) → try_if_out gives (run_of r) t ≡ Some a
+    → StandsOpen gives r
+open-asked gives r st t a h = by (is_some r.outs) refl
+  where
+    by : (b : Bool) → is_some r.outs ≡ b → StandsOpen gives r
+    by false e = open-still gives r e st
+    by true e = absurd (none-some a (sym ((over-done gives r e st).none_asked t) ∙ h))
+
+-- done is what has outputs
+pub done-is : (gives : Giving) (r : OpenRun) → StandsStill gives r → is_some r.outs ≡ is_done (past_of (run_of r))
+done-is gives r st = by r.outs x.view (st.1.outs_are x at) (stays x.view refl)
+  where
+    x : Instance
+    x = st.1.stand.main.0
+
+    at : IsAt st.0 0 x
+    at = st.1.stand.main.1
+
+    past' : History
+    past' = past_of (run_of r)
+
+    -- an open one hasn't ended
+    stays : (o : Option View) → x.view ≡ o → is_none o ≡ is_done past'
+    stays None e = sym (ended-so e)
+      where
+        ended-so : x.view ≡ None → is_done past' ≡ true
+        ended-so k =
+            subst (λ n. list_any (is_ended_entry n) past' ≡ true) st.1.stand.main.2.unnamed
+            (subst (Stays gives (run_view r.run) levels_in past' x) k (st.1.stand.each 0 x at)).ended
+    stays (Some v) e =
+        let sit = (subst (Stays gives (run_view r.run) levels_in past' x) e (st.1.stand.each 0 x at)).1 in
+        let is = subst (λ n. is_open past' n ≡ true) st.1.stand.main.2.unnamed sit.in_run.view.is_open in
+        flips (is_done past') is
+      where
+        flips : (b : Bool) → not b ≡ true → false ≡ b
+        flips false h = refl
+        flips true h = absurd (true≠false (sym h))
+
+    by : (o : Option (List Piece)) (w : Option View) → OutsAre gives (run_view r.run) o (is_none w) → is_none w ≡ is_done past'
+        → is_some o ≡ is_done past'
+    by None w h k = sym h ∙ k
+    by (Some ps) w h k = sym h.0 ∙ k

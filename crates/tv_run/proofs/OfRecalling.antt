@@ -1,51 +1,52 @@
--- A run once all tries that were out are taken back, and where only rooms changed.
-use Rattle.std.specs.Prelude.{Err, Ok, OnErr, Result, ◌≡◌, refl, ℕ, zero, suc, ◌+◌, ◌<◌, ◌≤◌, ◌==◌, nat_lt, false, not, [], ◌∷◌, ◌++◌, length, map, vec_capacity}
+-- A run once all tries that were out are taken back.
+use Rattle.std.specs.Option.{option_map_or}
+use Rattle.std.specs.Prelude.{◌≡◌, refl, ℕ, zero, suc, ◌+◌, ◌<◌, ◌≤◌, ◌==◌, nat_lt, Bool, true, false, List, [], ◌∷◌, Option, Result, Ok, Err, OnErr, count_by, is_none, length, map, slice_get, vec_capacity}
 use Rattle.std.proofs.Common.{ap, append-nil, arith, subst, sym, ◌∙◌}
 use Rattle.std.proofs.lemmas.Bool.{eq-eqb, lt-ltb}
-use Rattle.std.proofs.lemmas.List.{length-append, length-map}
-use Rattle.std.proofs.lemmas.List.Sums.{count_by-le-length}
 use Rattle.std.proofs.lemmas.Simd.{map-map}
+use Rattle.tv_lemmas.proofs.Counts.{count-cons}
 use Rattle.tv_gate.specs.Outcomes.{Giving}
 use Rattle.tv_flow.specs.Flows.{Document}
-use Rattle.tv_flow.specs.Views.{flow_view}
 use Rattle.tv_check.specs.RunViews.{run_view}
-use Rattle.tv_check.specs.declared.plans.FlowPlan.{FlowPlan}
-use Rattle.tv_intake.specs.Intaken.{known_jobs}
-use Rattle.tv_model.proofs.Tests.{both_true}
-use Rattle.tv_history.specs.Entries.{History, recalled}
-use Rattle.tv_framing.specs.Views.{View}
-use Rattle.tv_frame.specs.Kept.{Keeps}
+use Rattle.tv_model.specs.Jobs.{Job}
+use Rattle.tv_model.specs.Made.{Meaning}
+use Rattle.tv_model.proofs.Tests.{both_true, true≠false}
+use Rattle.tv_history.specs.Entries.{History, is_out, recalled}
+use Rattle.tv_history.specs.Histories.{is_legal_after, is_ready}
+use Rattle.tv_history.proofs.Counts.{uncounted}
 use Rattle.tv_frame.specs.Tables.{levels_in}
-use Rattle.tv_seats.specs.Seats as seats
 use Rattle.tv_seats.specs.Seats.{back}
-use Rattle.tv_seats.specs.Stages.{is_out}
-use Rattle.tv_seated.specs.Seated.{Sit}
-use Rattle.tv_seated.proofs.OfRuns.{recalled_all}
-use Rattle.tv_standing.proofs.OfTold.{all-counted}
-use Rattle.tv_entries.specs.Calls.{out_count}
+use Rattle.tv_seats.specs.Stages as stages
+use Rattle.tv_seats.specs.declared.stage.Stage.{Stage}
+use Rattle.tv_seats.specs.declared.stage.Stage.TheVariants as stage
+use Rattle.tv_seated.proofs.OfLists.{get-image}
+use Rattle.tv_standing.proofs.OfStages.{out-is}
+use Rattle.tv_forest.specs.Entries.{called_back}
+use Rattle.tv_forest.specs.Forest.{Instance, Instances, Stays}
+use Rattle.tv_forest.proofs.OfLists.{one-at}
+use Rattle.tv_forest.proofs.OfRecalls.{recalling}
+use Rattle.tv_firsts.proofs.OfCounts.{are-counted}
+use Rattle.tv_entries.specs.Calls.{out_count, state_after, state_of}
+use Rattle.tv_entries.specs.Idle.{AreIdle}
 use Rattle.tv_entries.specs.Recalls.{recalls}
-use Rattle.tv_entries.specs.Runs.{meant, past_of}
-use Rattle.tv_run.specs.Standing.{Stands, StandsOpen, failed_count, job_of, names_of, not_out, run_of}
-use Rattle.tv_run.specs.Turns.{RecallsTo, StaysAs}
+use Rattle.tv_entries.specs.Runs.{Appends, Run, meant, past_of}
+use Rattle.tv_entries.specs.declared.ticket.JobState.{JobState}
+use Rattle.tv_entries.specs.declared.ticket.JobState.TheVariants as state
+use Rattle.tv_entries.proofs.OfTold.{tells-recalled}
+use Rattle.tv_run.specs.Changes.{ChangesTo}
+use Rattle.tv_run.specs.Recalling.{out_in}
+use Rattle.tv_run.specs.Rooms.{IsAsBefore, IsNoted}
+use Rattle.tv_run.specs.Standing.{Stands, StandsOpen, names_of, numbered_as, numbers_of, run_of}
+use Rattle.tv_run.specs.Turns.{RecallsTo}
 use Rattle.tv_run.specs.declared.run.OpenRun.{OpenRun}
-use Rattle.tv_run.proofs.OfIdle.{none-idle, none-out, recalled-all_idle}
-use Rattle.tv_run.proofs.OfQuiet.{recalled-failed}
-use Rattle.tv_run.proofs.OfRuns.{Next, SameButRooms, appends-next, failed-by, names-same, past-next, run-same, stands-next, stands-same}
-
--- the frame stays, and all else but rooms
-pub stays : (gives : Giving) (r s : OpenRun) → StandsOpen gives r → SameButRooms r s → s.pool ≡ r.pool → s.frame ≡ r.frame
-    → StaysAs gives r s
-stays gives r s stands same pool frame =
-    let v = stands.0 in
-    let st = stands.1 in
-    let keeps : (plan : FlowPlan) → flow_view plan.flow ≡ v.flow → Keeps (run_view r.run).flows plan s.pool s.frame v =
-    λ plan h. subst (λ p. Keeps (run_view r.run).flows plan p s.frame v) (sym pool)
-    (subst (λ f. Keeps (run_view r.run).flows plan r.pool f v) (sym frame) (st.keeps plan h)) in
-    let again : Stands gives s r.entries.items v = stands-same gives r s v r.entries.items st same keeps in
-    record {
-      stands = (v, subst (λ es. Stands gives s es v) (sym same.entries) again, same.done ∙ stands.2);
-      same = run-same gives r s v same;
-    }
+use Rattle.tv_run.proofs.OfCalledBack.{AllRest, IsAllBack, fits-back, names-back, numbers-back, out-all}
+use Rattle.tv_run.proofs.OfFailing.{recalled-fails_none}
+use Rattle.tv_run.proofs.OfNext.{IsNotedNext, KeepsMain, appends-noted, instance_names, names-noted, past-next, stands-noted}
+use Rattle.tv_run.proofs.OfNumbers.{IsJobOfRun, job-of_known, no-job, stage-is}
+use Rattle.tv_run.proofs.OfJobs.{known-as}
+use Rattle.tv_run.proofs.OfRooms.{stands-before}
+use Rattle.tv_run.proofs.OfStates.{at-number, state-of_job, state-of_run}
+use Rattle.tv_run.proofs.OfTellings.{state_by}
 
 -- said of a refusal, where it holds anyway
 pub on-err : {T E P : Type 0} (x : Result T E) → P → OnErr x P
@@ -56,108 +57,238 @@ pub some-out : (n : ℕ) → (n ≡ 0 → ⊥) → 0 < n
 some-out zero h = absurd (h refl)
 some-out (suc n) h = omega arith
 
--- s is the run r with all taken back
-pub record IsCalledBack (r s : OpenRun) (n : ℕ) : Type 0 where
-  pub run : s.run ≡ r.run
-  pub tries : s.tries ≡ r.tries
-  pub pool : s.pool ≡ r.pool
-  pub frame : s.frame ≡ r.frame
-  pub failed : s.failed ≡ r.failed
-  pub done : s.done ≡ r.done
-  pub entries : s.entries.items ≡ r.entries.items ++ recalls n ∷ []
-  pub capacity : length r.entries.items + (length r.seats.seats + 1) ≤ vec_capacity s.entries
-  pub seats : s.seats.seats ≡ map back r.seats.seats
-  pub levels : s.seats.levels ≡ r.seats.levels
+-- this try is out
+abbrev IsOutAt : JobState → Type 0
+IsOutAt (state.Out a t) = Unit {0}
+IsOutAt s = ⊥
 
-module _ (gives : Giving) (r : OpenRun) (v : View) (st : Stands gives r r.entries.items v) (done : r.done ≡ false) (n : ℕ)
-    (all : n ≡ seats.out_count r.seats.seats) where
+-- the stage that tells so
+out-stage : (x : Stage) (b : Bool) (a t : ℕ) → state_by x b ≡ state.Out a t → x ≡ stage.Out a t
+out-stage stage.Waiting true a t e = absurd (subst IsOutAt (sym e) tt)
+out-stage stage.Waiting false a t e = absurd (subst IsOutAt (sym e) tt)
+out-stage (stage.Out b u) c a t e = λ i. stage.Out (activity (e i)) (attempt (e i))
+  where
+    activity : JobState → ℕ
+    activity (state.Out x y) = x
+    activity s = 0
+
+    attempt : JobState → ℕ
+    attempt (state.Out x y) = y
+    attempt s = 0
+out-stage (stage.Idle b u) c a t e = absurd (subst IsOutAt (sym e) tt)
+out-stage (stage.Aside b) c a t e = absurd (subst IsOutAt (sym e) tt)
+out-stage (stage.Nested k) c a t e = absurd (subst IsOutAt (sym e) tt)
+out-stage stage.Settled c a t e = absurd (subst IsOutAt (sym e) tt)
+
+none-counted : {A : Type 0} (xs : List A) → count_by (λ (x : A). false) xs ≡ 0
+none-counted [] = refl
+none-counted {A} (x ∷ xs) =
+    let e = count-cons (λ (y : A). false) x xs in
+    let r = none-counted xs in
+    omega (arith, e, r)
+
+-- ---- by the seats
+
+module _ (gives : Giving) (r : OpenRun) (xs : Instances) (st : Stands gives r xs) where
   abbrev d : Document
   d = run_view r.run
 
   abbrev past : History
   past = past_of (run_of r)
 
+  abbrev m : Meaning
+  m = meant gives (run_of r)
+
+  pub all-rest : AllRest xs
+  all-rest i x at h n s sits = (subst (Stays gives d levels_in past x) h (st.stand.each i x at)).settled n s sits
+
+  -- as many are out as the code has
+  pub out-many : out_in r.instances.items ≡ out_count gives (run_of r)
+  out-many = out-all r xs st.fits all-rest ∙ sym (are-counted gives d levels_in past xs st.stand).out
+
+  -- the job of a number of which a try is out
+  record IsOutOf (k a t : ℕ) : Type 0 where
+    its : IsJobOfRun gives r xs k
+    stage_is : its.seat.stage ≡ stage.Out a t
+
+  out-of : (k a t : ℕ) → state_of gives (run_of r) k ≡ state.Out a t → IsOutOf k a t
+  out-of k a t e =
+      at-number gives r xs st k
+      (λ w. record {
+        its = w;
+        stage_is = out-stage w.seat.stage (is_ready m past w.job) a t (sym (state-of_run gives r xs st k w) ∙ e);
+      })
+      (λ h. absurd (subst IsOutAt (sym (sym (unknown h) ∙ e)) tt))
+    where
+      unknown : length r.jobs.items ≤ k → state_of gives (run_of r) k ≡ state.Unknown
+      unknown h = ap (λ (o : Option Job). option_map_or (state_after m past) o state.Unknown) (no-job gives r xs st k h)
+
+  -- where none is out no job is in such a state
+  pub none-idle : out_count gives (run_of r) ≡ 0 → AreIdle gives (run_of r) (run_of r)
+  none-idle z k a t e =
+      let o = out-of k a t e in
+      let w = o.its in
+      absurd
+      (true≠false
+      (sym
+      (out-is past w.job w.seat.stage
+      (stage-is gives r xs st k w.outer w.number w.instance w.seat w.job w.is_number)
+      ∙ ap stages.is_out o.stage_is)
+      ∙ uncounted (λ (j : Job). is_out past j.name) m.jobs z w.job w.is_number.is_job.job.listed))
+
+  -- ---- with all called back
+
+  -- s stands with them
+  pub called-idle : (s : OpenRun) → Stands gives s (map called_back xs) → numbers_of s ≡ numbers_of r
+      → AreIdle gives (run_of r) (run_of s)
+  called-idle s now numbers k a t e =
+      let o = out-of k a t e in
+      let w = o.its in
+      let at = get-image called_back xs w.outer w.instance w.known.there in
+      let sits = get-image back w.instance.seats w.number w.seat w.known.seat in
+      let known =
+      known-as s (map called_back xs) now.fits k w.outer w.number (called_back w.instance) (back w.seat)
+      (ap (λ l. slice_get l k) numbers ∙ w.is_number.numbered) at sits in
+      let job =
+      job-of_known gives s (map called_back xs) now k w.outer w.number (called_back w.instance) (back w.seat) known.0
+      known.1 in
+      state-of_job gives s (map called_back xs) now k w.outer w.number (called_back w.instance) (back w.seat) job.0 job.1
+      known.0 known.1.step
+      ∙ ap (λ x. state_by (stages.called_back x) (is_ready (meant gives (run_of s)) (past_of (run_of s)) job.0)) o.stage_is
+
+  names-called : instance_names (map called_back xs) ≡ instance_names xs
+  names-called = map-map (λ (x : Instance). x.name) called_back xs
+
+  main-called : KeepsMain xs (map called_back xs)
+  main-called x y was is =
+      ap (λ (z : Instance). is_none z.view)
+      (one-at (map called_back xs) 0 y (called_back x) is (get-image called_back xs 0 x was))
+
+-- ---- the run
+
+-- s is the run r, with all called back, and noted
+pub record IsRecalling (r s : OpenRun) (n : ℕ) : Type 0 where
+  pub prepared : OpenRun
+  pub before : IsAsBefore r prepared
+  pub room : length prepared.entries.items + prepared.due + n + 1 ≤ vec_capacity prepared.entries
+  pub called : OpenRun
+  pub back : IsAllBack prepared called n
+  pub noted : IsNoted called s (recalls n)
+
+module _ (gives : Giving) (r : OpenRun) (st : StandsOpen gives r) (n : ℕ) (many : n ≡ out_in r.instances.items) where
   pub all-out : n ≡ out_count gives (run_of r)
-  all-out = all ∙ sym (all-counted gives d past (levels_in v.flow) v r.seats.seats st.sit).out
+  all-out = many ∙ out-many gives r st.0 st.1
 
   -- where none is out
   pub nothing-out : n ≡ 0 → RecallsTo gives r r n
   nothing-out none = record {
-    stands = (v, st, done);
+    stands = st;
     count = all-out;
     recalled = record { none = λ e. refl; some = λ l. absurd (omega (arith, l, none)) };
     names = refl;
-    idle = none-idle gives (run_of r) (sym all-out ∙ none);
+    idle = none-idle gives r st.0 st.1 (sym all-out ∙ none);
     none_out = sym all-out ∙ none;
   }
 
-  module _ (s : OpenRun) (some : 0 < n) (now : IsCalledBack r s n) where
-    same-jobs : map job_of s.seats.seats ≡ map job_of r.seats.seats
-    same-jobs = ap (map job_of) now.seats ∙ map-map job_of back r.seats.seats
+  module _ (s : OpenRun) (some : 0 < n) (w : IsRecalling r s n) where
+    abbrev q : OpenRun
+    q = w.prepared
 
-    same-names : names_of s ≡ names_of r
-    same-names = names-same r s now.run same-jobs
+    abbrev xs : Instances
+    xs = st.0
 
-    names-more : names_of s ≡ names_of r ++ []
-    names-more = same-names ∙ sym (append-nil (names_of r))
+    abbrev ys : Instances
+    ys = map called_back xs
 
-    as-failed : s.failed ≡ failed_count gives (run_of s)
-    as-failed =
-        now.failed
-        ∙ st.failed_is
-        ∙ sym (failed-by gives r s v (recalls n) st [] now.run names-more now.entries refl
-        ∙ recalled-failed (meant gives (run_of r)) past n)
+    before : Stands gives q xs
+    before = stands-before gives r q w.before xs st.1
 
-    room-left : length s.entries.items + not_out s.seats.seats ≤ vec_capacity s.entries
-    room-left =
-        let e : length s.entries.items ≡ length r.entries.items + 1 =
-        ap length now.entries ∙ length-append r.entries.items (recalls n ∷ []) in
-        let m : not_out s.seats.seats ≤ length s.seats.seats = count_by-le-length (λ s. not (is_out s.stage)) s.seats.seats in
-        let l : length s.seats.seats ≡ length r.seats.seats = ap length now.seats ∙ length-map r.seats.seats back in
-        omega (arith, e, m, l, now.capacity)
+    out-before : n ≡ out_count gives (run_of q)
+    out-before = all-out ∙ ap (out_count gives) (sym w.before.same)
 
-    keeps-still : (plan : FlowPlan) → flow_view plan.flow ≡ v.flow → Keeps (run_view s.run).flows plan s.pool s.frame v
-    keeps-still plan e =
-        subst (λ f. Keeps (run_view s.run).flows plan s.pool f v) (sym now.frame)
-        (subst (λ p. Keeps (run_view s.run).flows plan p r.frame v) (sym now.pool)
-        (subst (λ x. Keeps (run_view x).flows plan r.pool r.frame v) (sym now.run) (st.keeps plan e)))
+    many-before : n ≡ out_in q.instances.items
+    many-before = out-before ∙ sym (out-many gives q xs before)
 
-    next-recalled : Next gives r s v v (recalls n)
-    next-recalled = record {
-      run = now.run;
-      tries = now.tries;
-      flow = refl;
-      inputs = refl;
-      entries = now.entries;
-      keeps = keeps-still;
-      sit =
-          subst (λ ss. Sit gives d (recalled n ∷ past) (levels_in v.flow) v ss) (sym now.seats)
-          (recalled_all gives d past (levels_in v.flow) v r.seats.seats st.sit n all-out some);
-      known = same-jobs ∙ st.known ∙ ap (λ f. known_jobs f.intakes) (sym now.frame);
-      levels = now.levels;
+    rests : AllRest xs
+    rests = all-rest gives q xs before
+
+    abbrev now : History
+    now = past_of (run_of q)
+
+    legal : is_legal_after gives (meant gives (run_of q)) now (recalled n) ≡ true
+    legal =
+        both_true (nat_lt 0 n) (n == out_count gives (run_of q)) (lt-ltb 0 n some)
+        (eq-eqb n (out_count gives (run_of q)) out-before)
+
+    changes : ChangesTo q w.called ys
+    changes = record {
+      fits = fits-back q w.called n w.back xs before.fits rests many-before;
       more = [];
-      names = names-more;
-      within = refl;
-      legal =
-          both_true (nat_lt 0 n) (n == out_count gives (run_of r)) (lt-ltb 0 n some)
-          (eq-eqb n (out_count gives (run_of r)) all-out);
-      failed = as-failed;
-      room = room-left;
-      undone = now.done ∙ done;
+      names = names-back q w.called n w.back xs before.fits rests many-before ∙ sym (append-nil (names_of q));
+      rest = record {
+        run = w.back.run;
+        entries = w.back.entries;
+        failed = w.back.failed;
+        outs = w.back.outs;
+      };
     }
 
-    past-then : past_of (run_of s) ≡ recalled n ∷ past
-    past-then = past-next gives r s v v (recalls n) st next-recalled
+    room-then : length q.entries.items + w.called.due + 1 ≤ vec_capacity s.entries
+    room-then =
+        let room = w.room in
+        let due = w.back.due in
+        let same = ap vec_capacity w.back.entries in
+        let more = w.noted.capacity in
+        omega (arith, room, due, same, more)
+
+    next : IsNotedNext gives q w.called s xs ys (recalls n) (recalled n)
+    next = record {
+      changes = changes;
+      noted = w.noted;
+      told = tells-recalled (run_of q) n;
+      none = refl;
+      legal = legal;
+      stand = recalling gives (run_view q.run) levels_in now xs before.stand n out-before some;
+      failed = recalled-fails_none gives (run_view q.run) levels_in now xs before.stand n legal;
+      room = room-then;
+      names = names-called gives q xs before;
+      main = main-called gives q xs before;
+    }
+
+    stands-then : Stands gives s ys
+    stands-then = stands-noted gives q w.called s xs ys (recalls n) (recalled n) next before
+
+    numbers-then : numbers_of s ≡ numbers_of q
+    numbers-then =
+        ap (λ v. map numbered_as v.items) w.noted.rest.jobs
+        ∙ numbers-back q w.called n w.back xs before.fits rests many-before
+
+    names-then : names_of s ≡ names_of q
+    names-then =
+        names-noted w.called s (recalls n) w.noted ∙ names-back q w.called n w.back xs before.fits rests many-before
+
+    appends : Appends (run_of q) (run_of s) (recalls n)
+    appends = appends-noted q w.called s ys (recalls n) changes w.noted
+
+    past-then : past_of (run_of s) ≡ recalled n ∷ now
+    past-then = past-next gives q s xs ys before (recalls n) (recalled n) appends (tells-recalled (run_of q) n)
+
+    none-then : out_count gives (run_of s) ≡ 0
+    none-then =
+        ap (λ p. count_by (λ (j : Job). is_out p j.name) (meant gives (run_of s)).jobs) past-then
+        ∙ none-counted (meant gives (run_of s)).jobs
 
     pub recalls-to : RecallsTo gives r s n
     recalls-to = record {
-      stands = (v, stands-next gives r s v v (recalls n) st next-recalled, now.done ∙ done);
+      stands = (ys, stands-then, w.noted.rest.outs ∙ w.back.outs ∙ w.before.outs ∙ st.2);
       count = all-out;
       recalled = record {
         none = λ e. absurd (omega (arith, e, some));
-        some = λ l. appends-next gives r s v v (recalls n) st next-recalled;
+        some = λ l. subst (λ (p : Run). Appends p (run_of s) (recalls n)) w.before.same appends;
       };
-      names = same-names;
-      idle = recalled-all_idle gives (run_of r) (run_of s) n (ap run_view now.run) same-names past-then st.sit.flat;
-      none_out = none-out gives (run_of r) (run_of s) n (ap run_view now.run) same-names past-then;
+      names = names-then ∙ ap (λ (p : Run). p.names) w.before.same;
+      idle =
+          subst (λ (p : Run). AreIdle gives p (run_of s)) w.before.same
+          (called-idle gives q xs before s stands-then numbers-then);
+      none_out = none-then;
     }

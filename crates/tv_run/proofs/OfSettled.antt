@@ -1,12 +1,23 @@
 -- What is settled in a run that stands, and what is left as it was.
-use Rattle.std.specs.Prelude.{◌≡◌, Bool, true, false, Err, IfSome, Ok, OnErr, Option, Result, Some}
-use Rattle.std.proofs.Common.{subst, ◌∙◌}
+use Rattle.std.specs.Prelude.{◌≡◌, refl, ℕ, ◌+◌, ◌≤◌, Bool, true, false, List, [], Err, IfSome, Ok, OnErr, Option, Result, Some, is_none, length, vec_capacity}
+use Rattle.std.proofs.Common.{ap, arith, subst, sym, ◌∙◌}
+use Rattle.tv_lemmas.proofs.Cases.{on_test}
 use Rattle.tv_gate.specs.Outcomes.{Giving}
+use Rattle.tv_check.specs.RunViews.{run_view}
+use Rattle.tv_model.specs.Members.{In}
+use Rattle.tv_framing.specs.Views.{View}
+use Rattle.tv_frame.specs.Tables.{levels_in}
+use Rattle.tv_forest.specs.Forest.{Instance, Instances, IsAt, Stand}
+use Rattle.tv_firsts.specs.Opening.{IsStill}
+use Rattle.tv_firsts.proofs.OfQuiet.{quiet-by_instances}
 use Rattle.tv_entries.specs.Calls.{NothingSettles, Settles, settles}
+use Rattle.tv_entries.specs.Runs.{Run, past_of}
 use Rattle.tv_entries.specs.declared.entry.Entry.{Entry}
-use Rattle.tv_run.specs.Standing.{run_of}
-use Rattle.tv_run.specs.Turns.{GoesTo, SettlesTo, StaysAs}
+use Rattle.tv_run.specs.Settlements.{IsQuietRun}
+use Rattle.tv_run.specs.Standing.{Stands, StandsOpen, run_of}
+use Rattle.tv_run.specs.Turns.{SettlesTo, StaysAs}
 use Rattle.tv_run.specs.declared.run.OpenRun.{OpenRun}
+use Rattle.tv_run.proofs.OfJobs.{instance-there, open-is}
 
 pub when-refused : {T E P : Type 0} (r : Result T E) → P → OnErr r P
 when-refused (Ok x) p = tt
@@ -16,15 +27,24 @@ pub at-some : {A : Type 0} (P : A → Type 0) (o : Option A) (x : A) → o ≡ S
 at-some P o x e h = subst (λ p. IfSome p P) e h
 
 module _ (gives : Giving) where
-  -- an entry more that settles something
-  pub settles-with : (r s : OpenRun) (e : Entry) → settles e ≡ true → GoesTo gives r s e → SettlesTo gives r s true
-  settles-with r s e h g = ((s.entries.items, g.stands.0, g.stands.1), (e, g.appends, h))
-
   -- ---- from a run that is the same but for rooms
 
-  pub stays-from : (q r s : OpenRun) → run_of r ≡ run_of q → StaysAs gives r s → StaysAs gives q s
-  stays-from q r s e h = record { stands = h.stands; same = h.same ∙ e }
+  pub stays-from : (q r s : OpenRun) → StaysAs gives q r → StaysAs gives r s → StaysAs gives q s
+  stays-from q r s g h = record { stands = h.stands; same = h.same ∙ g.same; regions = λ n. h.regions n ∙ g.regions n }
 
-  pub settles-from : (q r s : OpenRun) (b : Bool) → run_of r ≡ run_of q → SettlesTo gives r s b → SettlesTo gives q s b
-  settles-from q r s true e h = (h.0, subst (λ x. Settles x (run_of s)) e h.1)
-  settles-from q r s false e h = (stays-from q r s e h.0, subst (λ x. NothingSettles gives x) e h.1)
+  pub settles-from : (q r s : OpenRun) (b : Bool) → StaysAs gives q r → SettlesTo gives r s b → SettlesTo gives q s b
+  settles-from q r s true g h = (h.0, subst (λ x. Settles x (run_of s)) g.same h.1)
+  settles-from q r s false g h = (stays-from q r s g h.0, subst (λ x. NothingSettles gives x) g.same h.1)
+
+  -- ---- where no instance is busy
+
+  module _ (r : OpenRun) (xs : Instances) (st : Stands gives r xs) (none : r.busy.items ≡ []) where
+    all-still : (i : ℕ) (x : Instance) (v : View) → IsAt xs i x → x.view ≡ Some v → IsStill levels_in x v
+    all-still i x v at e =
+        let c = instance-there r xs st.fits i x at in
+        let o = open-is r i c.0 x v c.2 e in
+        on_test c.0.is_busy (λ b. absurd (subst (In i) none (st.fits.busy i c.0 c.1 b))) (λ b. o.still b)
+
+    pub quiet-run : IsQuietRun gives r
+    quiet-run =
+        quiet-by_instances gives (run_view r.run) levels_in (past_of (run_of r)) xs st.stand all-still

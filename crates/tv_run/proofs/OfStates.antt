@@ -1,67 +1,57 @@
--- The stage of a seat and the state of its job, for runs that go on and runs that have ended alike.
+-- The stage of a number and the state of its job, for instances that are open and instances that have ended alike.
 use Rattle.std.specs.Option.{option_map_or}
-use Rattle.std.specs.Prelude.{◌≡◌, refl, ℕ, ◌++◌, ◌≤◌, Bool, true, false, if◌then◌else◌, List, [], ◌∷◌, None, Option, Some, filter_map, find, is_some, length, map, option_and_then, option_map, reverse, slice_get}
+use Rattle.std.specs.Prelude.{◌≡◌, refl, ℕ, ◌≤◌, Bool, if◌then◌else◌, [], None, Option, Some, is_some, length, option_and_then, slice_get}
 use Rattle.std.proofs.Common.{ap, subst, sym, ◌∙◌}
-use Rattle.std.proofs.lemmas.List.{append-nil, map-append, reverse-append}
-use Rattle.std.proofs.lemmas.List.Elements.{filter_map-append}
-use Rattle.std.proofs.lemmas.Option.{none-some, same_Some, slice_get-map, slice_get_past}
-use Rattle.tv_value.specs.Nested.{Place}
-use Rattle.tv_value.specs.Orders.{same_job}
-use Rattle.tv_value.specs.Values.{JobName, Name}
+use Rattle.std.proofs.lemmas.Option.{none-some, same_Some, slice_get_cases, slice_get_past}
+use Rattle.tv_lemmas.proofs.Cases.{on_either}
+use Rattle.tv_value.specs.Values.{Name}
 use Rattle.tv_gate.specs.Outcomes.{Giving}
-use Rattle.tv_flow.specs.Flows.{Document, Step}
+use Rattle.tv_flow.specs.Flows.{Document, Flow, Step}
 use Rattle.tv_depths.specs.Ranks.{ranked}
 use Rattle.tv_check.specs.RunViews.{run_view}
 use Rattle.tv_instance.specs.ByResults.{last_first}
 use Rattle.tv_instance.specs.Counting.{have_ended_by}
-use Rattle.tv_intake.specs.Intaken.{known_jobs}
 use Rattle.tv_model.specs.Jobs.{Job}
 use Rattle.tv_model.specs.Made.{Meaning}
 use Rattle.tv_model.proofs.Tests.{true≠false}
-use Rattle.tv_history.specs.Entries.{History, ended}
+use Rattle.tv_history.specs.Entries.{History}
 use Rattle.tv_history.specs.Histories.{is_ready}
 use Rattle.tv_framing.specs.Answers.{after_of}
 use Rattle.tv_framing.specs.Views.{View}
 use Rattle.tv_drawn.specs.Steps.{IsStepAt}
 use Rattle.tv_frame.specs.Tables.{levels_in}
-use Rattle.tv_seats.specs.Seats.{Seat, stage_at, stands}
+use Rattle.tv_seats.specs.Seats.{Seat}
 use Rattle.tv_seats.specs.Stages.{is_waiting}
 use Rattle.tv_seats.specs.declared.stage.Stage.{Stage}
 use Rattle.tv_seats.specs.declared.stage.Stage.TheVariants as stage
-use Rattle.tv_seated.specs.Seated.{IsStage, spot_of}
-use Rattle.tv_seated.proofs.OfRuns.{end-keeps_stages}
+use Rattle.tv_seated.specs.Seated.{IsStage}
 use Rattle.tv_standing.specs.States.{StandsAt}
-use Rattle.tv_standing.proofs.OfNames.{jobs-by_numbers}
 use Rattle.tv_standing.proofs.OfStates.{states-by_seats}
-use Rattle.tv_viewed.specs.InRun.{IsJobThere}
+use Rattle.tv_forest.specs.Forest.{Instance, Instances}
 use Rattle.tv_entries.specs.Calls.{job_of, state_after, state_of, try_if_out, try_out}
-use Rattle.tv_entries.specs.Runs.{meant, opened_by, past_of, with_names}
-use Rattle.tv_entries.specs.declared.entry.Entry.{Entry}
-use Rattle.tv_entries.specs.declared.entry.Entry.TheVariants as entry
+use Rattle.tv_entries.specs.Runs.{meant, past_of}
 use Rattle.tv_entries.specs.declared.ticket.JobState.TheVariants as state
 use Rattle.tv_entries.specs.declared.ticket.Ticket.{Ticket}
-use Rattle.tv_run.specs.Looks.{is_at}
-use Rattle.tv_run.specs.Standing.{EndsWith, Stands, main_steps, name_in, names_of, run_of, run_with}
+use Rattle.tv_run.specs.Jobs.{is_at, stage_in, stage_of}
+use Rattle.tv_run.specs.Standing.{IsOpenOf, Stands, run_of}
+use Rattle.tv_run.specs.Walking.{IsNumber}
+use Rattle.tv_run.specs.declared.instances.Numbered.{Numbered}
 use Rattle.tv_run.specs.declared.run.OpenRun.{OpenRun}
-use Rattle.tv_run.proofs.OfLooks.{as-many, job-of_seat, name-of_job, seat-of_known}
-use Rattle.tv_run.proofs.OfTellings.{out-is, state-is, state_by, waits-alone}
+use Rattle.tv_run.proofs.OfJobs.{open-is}
+use Rattle.tv_run.proofs.OfNumbers.{IsJobOfRun, end-of, job-at, job-is, job-of_view, no-job, settled-there, sit-of, stage-at, stage-is}
+use Rattle.tv_run.proofs.OfTellings.{not-out, out-is, settled-is, state-is, state_by}
 
--- ---- the end
+-- a number that no job has tells of none
+pub no-stage : (r : OpenRun) (k : ℕ) → length r.jobs.items ≤ k → stage_of r k ≡ None
+no-stage r k h =
+    ap (option_and_then (λ (n : Numbered). option_and_then (stage_in n) (slice_get r.instances.items n.instance)))
+    (slice_get_past r.jobs.items k h)
 
--- the last of a list comes first where it is turned around
-one-more : {A B : Type 0} (f : A → B) (xs : List A) (x : A) → reverse (map f (xs ++ x ∷ [])) ≡ f x ∷ reverse (map f xs)
-one-more f xs x = ap reverse (map-append f xs (x ∷ [])) ∙ reverse-append (map f xs) (f x ∷ [])
+-- the steps have ended that the step of that name runs after
+abbrev pub ended_after : View → Name → Bool
+ended_after v c = have_ended_by v.events (levels_in v.flow) (last_first (ranked v.flow.steps) []) (after_of v c)
 
--- the main instance's end is the newest entry
-end-newest : (d : Document) (ns : List JobName) (es : List Entry)
-    → reverse (map (with_names d ns ([] ∷ filter_map (opened_by ns) (es ++ entry.Ended 0 ∷ []))) (es ++ entry.Ended 0 ∷ []))
-    ≡ ended [] ∷ reverse (map (with_names d ns ([] ∷ filter_map (opened_by ns) es)) es)
-end-newest d ns es =
-    ap (λ is. reverse (map (with_names d ns ([] ∷ is)) (es ++ entry.Ended 0 ∷ [])))
-    (filter_map-append (opened_by ns) es (entry.Ended 0 ∷ []) ∙ append-nil (filter_map (opened_by ns) es))
-    ∙ one-more (with_names d ns ([] ∷ filter_map (opened_by ns) es)) es (entry.Ended 0)
-
-module _ (gives : Giving) (r : OpenRun) (es : List Entry) (v : View) (st : Stands gives r es v) where
+module _ (gives : Giving) (r : OpenRun) (xs : Instances) (st : Stands gives r xs) where
   abbrev d : Document
   d = run_view r.run
 
@@ -71,164 +61,163 @@ module _ (gives : Giving) (r : OpenRun) (es : List Entry) (v : View) (st : Stand
   abbrev m : Meaning
   m = meant gives (run_of r)
 
-  abbrev ss : List Seat
-  ss = r.seats.seats
+  module _ (k i n : ℕ) (x : Instance) (s : Seat) (j : Job) (is : IsNumber gives r xs k i n x s j) (t : Name × Step)
+      (step : slice_get x.flow.steps s.step ≡ Some t) where
+    -- what the stage tells of the job, where its instance is open
+    pub stands-in : (v : View) → x.view ≡ Some v → StandsAt gives d past (levels_in x.flow) v t.0 j s.stage
+    stands-in v e =
+        let w = sit-of gives r xs st k i n x s j is v e in
+        (
+        states-by_seats gives d past x.name (levels_in x.flow) v x.seats w.1 n s j is.is_job.seat
+        (job-of_view gives r xs st k i n x s j is v e) t
+        (ap (λ (f : Flow). slice_get f.steps s.step) w.0 ∙ step)
+        ).stands
 
-  -- after the history the seat is at the stage of its job, and tells where it stands
-  pub record IsTold (p : History) (s : Seat) (j : Job) : Type 0 where
-    pub stage : IsStage p j s.stage
-    pub stands : StandsAt gives d p (levels_in v.flow) v (spot_of v.flow.steps s).0 j s.stage
+    settled-now : x.view ≡ None → IsStage past j stage.Settled
+    settled-now e = (end-of gives r xs st k i n x s j is e).stages n s j is.is_job.seat is.is_job.job
 
-  -- once it has ended, every seat is settled
-  settled-at_end : EndsWith gives r es true → (k : ℕ) (s : Seat) → slice_get ss k ≡ Some s → s.stage ≡ stage.Settled
-  settled-at_end e k s h =
-      (end-keeps_stages gives d (past_of (run_with r es)) (levels_in v.flow) v ss st.sit e.1 k s h).settled
-
-  module _ (k : ℕ) (s : Seat) (j : Job) (h : slice_get ss k ≡ Some s)
-      (it : IsJobThere gives d [] j (spot_of v.flow.steps s)) where
-    -- so it is after the run's history
-    told-now : IsTold past s j
-    told-now = by r.done st.end_is
+    pub state-of_job : state_of gives (run_of r) k ≡ state_by s.stage (is_ready m past j)
+    state-of_job =
+        ap (λ (o : Option Job). option_map_or (state_after m past) o state.Unknown) (job-is gives r xs st k i n x s j is)
+        ∙ by x.view refl
       where
-        by : (b : Bool) → EndsWith gives r es b → IsTold past s j
-        by false e =
-            let t = st.sit.steps k s h in
-            let x = states-by_seats gives d (past_of (run_with r es)) (levels_in v.flow) v ss st.sit k s j h it t.0 t.1 in
-            let name : (spot_of v.flow.steps s).0 ≡ t.0.0 = ap (λ o. option_map_or (λ (u : Name × Step). u.0) o []) t.1 in
-            subst (λ xs. IsTold (past_of (run_with r xs)) s j) (sym e)
-            (record {
-              stage = st.sit.stages k s j h it;
-              stands =
-                  subst (λ n. StandsAt gives d (past_of (run_with r es)) (levels_in v.flow) v n j s.stage) (sym name)
-                  x.stands;
-            })
-        by true e =
-            let x = end-keeps_stages gives d (past_of (run_with r es)) (levels_in v.flow) v ss st.sit e.1 k s h in
-            let p : History = ended [] ∷ past_of (run_with r es) in
-            subst (λ q. IsTold q s j)
-            (sym (ap (λ xs. past_of (run_with r xs)) e.0 ∙ end-newest d (names_of r) es))
-            (record {
-              stage = x.stays j it;
-              stands =
-                  subst
-                  (λ y. IsStage p j y → StandsAt gives d p (levels_in v.flow) v (spot_of v.flow.steps s).0 j y)
-                  (sym x.settled) (λ w. w.0) (x.stays j it);
-            })
-
-    -- the job of the seat's number, and where it stands
-    pub its-job : job_of gives (run_of r) k ≡ Some j
-    its-job =
-        ap (option_and_then (λ n. find (λ (i : Job). same_job n i.name) m.jobs)) (name-of_job gives r es v st k s j h it)
-        ∙ (jobs-by_numbers gives d (past_of (run_with r es)) (levels_in v.flow) v ss st.sit k s j h it).found
-
-    pub state-of_seat : state_of gives (run_of r) k ≡ state_by s.stage (is_ready m past j)
-    state-of_seat =
-        ap (λ o. option_map_or (state_after m past) o state.Unknown) its-job
-        ∙ state-is gives d m past (levels_in v.flow) v (spot_of v.flow.steps s).0 j s.stage told-now.stands
+        by : (o : Option View) → x.view ≡ o → state_after m past j ≡ state_by s.stage (is_ready m past j)
+        by None e =
+            settled-is m past j (settled-now e).0
+            ∙ ap (λ y. state_by y (is_ready m past j)) (sym (settled-there gives r xs st k i n x s j is e))
+        by (Some v) e = state-is gives d m past (levels_in x.flow) v t.0 j s.stage (stands-in v e)
 
     -- whether that try of it is out
-    out-of_seat : (a t : ℕ)
-        → is_at (Some s.stage) a t ≡ is_some (option_and_then (try_out m past a t) (job_of gives (run_of r) k))
-    out-of_seat a t =
-        out-is gives d m past (levels_in v.flow) v (spot_of v.flow.steps s).0 j a t s.stage told-now.stage told-now.stands
-        ∙ sym (ap (λ o. is_some (option_and_then (try_out m past a t) o)) its-job)
+    pub out-of_job : (a u : ℕ)
+        → is_at (Some s.stage) a u ≡ is_some (option_and_then (try_out m past a u) (job_of gives (run_of r) k))
+    out-of_job a u =
+        by x.view refl
+        ∙ sym
+        (ap (λ (o : Option Job). is_some (option_and_then (try_out m past a u) o)) (job-is gives r xs st k i n x s j is))
+      where
+        by : (o : Option View) → x.view ≡ o → is_at (Some s.stage) a u ≡ is_some (try_out m past a u j)
+        by None e =
+            ap (λ y. is_at (Some y) a u) (settled-there gives r xs st k i n x s j is e)
+            ∙ not-out m past j a u (settled-now e).1
+        by (Some v) e =
+            out-is gives d m past (levels_in x.flow) v t.0 j a u s.stage (stage-is gives r xs st k i n x s j is)
+            (stands-in v e)
 
   -- ---- by number
 
-  -- a number without a seat has no job
-  pub no-job : (k : ℕ) → slice_get ss k ≡ None → job_of gives (run_of r) k ≡ None
-  no-job k h =
-      ap (option_and_then (λ n. find (λ (i : Job). same_job n i.name) m.jobs))
-      (slice_get-map (name_in (main_steps d)) ss k ∙ ap (option_map (name_in (main_steps d))) h)
+  -- one that a job has, and one that none has
+  pub at-number : {C : Type 0} (k : ℕ) → (IsJobOfRun gives r xs k → C) → (length r.jobs.items ≤ k → C) → C
+  at-number k one none =
+      on_either (slice_get_cases r.jobs.items k).1 (λ h. one (job-at gives r xs st k h.1)) (λ h. none h.0)
+
+  pub stage-of_run : (k : ℕ) (w : IsJobOfRun gives r xs k) → stage_of r k ≡ Some w.seat.stage
+  stage-of_run k w = stage-at gives r xs st k w.outer w.number w.instance w.seat w.job w.is_number
+
+  pub state-of_run : (k : ℕ) (w : IsJobOfRun gives r xs k)
+      → state_of gives (run_of r) k ≡ state_by w.seat.stage (is_ready m past w.job)
+  state-of_run k w =
+      state-of_job k w.outer w.number w.instance w.seat w.job w.is_number w.step w.known.step
 
   -- what the stage of a number tells of the state of its job
-  pub state-at : (k : ℕ) (x : Stage) → stage_at ss k ≡ Some x
-      → (b : Bool) × (state_of gives (run_of r) k ≡ state_by x b)
-  state-at k x = by (slice_get ss k) refl
-    where
-      by : (o : Option Seat) → slice_get ss k ≡ o → option_map (λ s. s.stage) o ≡ Some x
-          → (b : Bool) × (state_of gives (run_of r) k ≡ state_by x b)
-      by None e h = absurd (none-some x h)
-      by (Some s) e h =
-          let j = job-of_seat gives r es v st k s e in
-          let b = is_ready m past j.0 in
-          (b, state-of_seat k s j.0 e j.1 ∙ ap (λ y. state_by y b) (same_Some s.stage x h))
+  pub state-at : (k : ℕ) (y : Stage) → stage_of r k ≡ Some y
+      → (b : Bool) × (state_of gives (run_of r) k ≡ state_by y b)
+  state-at k y e =
+      at-number k
+      (λ w.
+      let b = is_ready m past w.job in (
+        b,
+        state-of_run k w ∙ ap (λ z. state_by z b) (same_Some w.seat.stage y (sym (stage-of_run k w) ∙ e)),
+      ))
+      (λ h. absurd (none-some y (sym (no-stage r k h) ∙ e)))
 
-  pub no-state : (k : ℕ) → stage_at ss k ≡ None → state_of gives (run_of r) k ≡ state.Unknown
-  no-state k = by (slice_get ss k) refl
-    where
-      by : (o : Option Seat) → slice_get ss k ≡ o → option_map (λ s. s.stage) o ≡ None
-          → state_of gives (run_of r) k ≡ state.Unknown
-      by None e h = ap (λ o. option_map_or (state_after m past) o state.Unknown) (no-job k e)
-      by (Some s) e h = absurd (none-some s.stage (sym h))
+  pub no-state : (k : ℕ) → stage_of r k ≡ None → state_of gives (run_of r) k ≡ state.Unknown
+  no-state k e =
+      at-number k (λ w. absurd (none-some w.seat.stage (sym e ∙ stage-of_run k w)))
+      (λ h. ap (λ (o : Option Job). option_map_or (state_after m past) o state.Unknown) (no-job gives r xs st k h))
 
   -- whether the try of a ticket is out
-  pub out-told : (t : Ticket) → is_at (stage_at ss t.job) t.activity t.attempt ≡ is_some (try_if_out gives (run_of r) t)
-  out-told t = by (slice_get ss t.job) refl
+  pub out-told : (t : Ticket)
+      → is_at (stage_of r t.job) t.activity t.attempt ≡ is_some (try_if_out gives (run_of r) t)
+  out-told t =
+      at-number t.job
+      (λ w.
+      ap (λ o. is_at o t.activity t.attempt) (stage-of_run t.job w)
+      ∙ out-of_job t.job w.outer w.number w.instance w.seat w.job w.is_number w.step w.known.step t.activity t.attempt)
+      (λ h.
+      ap (λ o. is_at o t.activity t.attempt) (no-stage r t.job h)
+      ∙ sym
+      (ap (λ (o : Option Job). is_some (option_and_then (try_out m past t.activity t.attempt) o))
+      (no-job gives r xs st t.job h)))
+
+  -- ---- jobs of open instances
+
+  -- a job that isn't settled is of one
+  pub record IsOpenJob (k : ℕ) : Type 0 where
+    pub its : IsJobOfRun gives r xs k
+    pub view : View
+    pub is_open : its.instance.view ≡ Some view
+    pub opened : IsOpenOf r its.known.itself its.instance view
+
+  pub open-job : (k : ℕ) (y : Stage) → stage_of r k ≡ Some y → (y ≡ stage.Settled → ⊥)
+      → (w : IsOpenJob k) × (w.its.seat.stage ≡ y)
+  open-job k y e not = at-number k one (λ h. absurd (none-some y (sym (no-stage r k h) ∙ e)))
     where
-      by : (o : Option Seat) → slice_get ss t.job ≡ o
-          → is_at (option_map (λ s. s.stage) o) t.activity t.attempt ≡ is_some (try_if_out gives (run_of r) t)
-      by None e =
-          sym (ap (λ o. is_some (option_and_then (try_out m past t.activity t.attempt) o)) (no-job t.job e))
-      by (Some s) e =
-          let j = job-of_seat gives r es v st t.job s e in
-          out-of_seat t.job s j.0 e j.1 t.activity t.attempt
+      one : IsJobOfRun gives r xs k → (w : IsOpenJob k) × (w.its.seat.stage ≡ y)
+      one w = by w.instance.view refl
+        where
+          same : w.seat.stage ≡ y
+          same = same_Some w.seat.stage y (sym (stage-of_run k w) ∙ e)
 
-  -- a number that the frame doesn't know has no seat
-  pub no-stage : (k : ℕ) → length (known_jobs r.frame.intakes) ≤ k → stage_at ss k ≡ None
-  no-stage k h =
-      ap (option_map (λ (s : Seat). s.stage))
-      (slice_get_past ss k (subst (λ l. l ≤ k) (sym (as-many gives r es v st)) h))
+          by : (o : Option View) → w.instance.view ≡ o → (w : IsOpenJob k) × (w.its.seat.stage ≡ y)
+          by None h =
+              absurd
+              (not
+              (sym same ∙ settled-there gives r xs st k w.outer w.number w.instance w.seat w.job w.is_number h))
+          by (Some v) h = (
+            record {
+              its = w;
+              view = v;
+              is_open = h;
+              opened = open-is r w.outer w.known.itself w.instance v w.known.kept h;
+            },
+            same,
+          )
 
-  -- ---- waiting jobs
-
-  -- whether the steps have ended that the step of that name runs after
-  abbrev ended_after : Name → Bool
-  ended_after c = have_ended_by v.events (levels_in v.flow) (last_first (ranked v.flow.steps) []) (after_of v c)
-
-  -- the job of that number waits, at step n: the run goes on, and it is ready where the steps have ended that its step runs after
-  pub record IsWaitingNow (k n : ℕ) : Type 0 where
-    pub step : Name × Step
-    pub at_step : IsStepAt v n step
-    pub undone : r.done ≡ false
+  -- one that waits is ready where the steps have ended that its step runs after
+  pub record IsWaitingNow (k : ℕ) : Type 0 where
+    pub at : IsOpenJob k
+    pub step : IsStepAt at.view at.its.seat.step at.its.step
     pub state :
         state_of gives (run_of r) k
-        ≡ (if ended_after step.0 then state.Ready else state.Waiting)
+        ≡ (if ended_after at.view at.its.step.0 then state.Ready else state.Waiting)
 
-  pub waiting-now : (k n : ℕ) (q : Place) → stands is_waiting ss k ≡ true
-      → slice_get (known_jobs r.frame.intakes) k ≡ Some (n, q) → IsWaitingNow k n
-  waiting-now k n q waits known =
+  pub waiting-now : (k : ℕ) → stage_of r k ≡ Some stage.Waiting → IsWaitingNow k
+  waiting-now k e =
       record {
-        step = t.0;
-        at_step = ap (slice_get v.flow.steps) (sym w.2) ∙ t.1;
-        undone = undone r.done refl st.end_is;
+        at = w.0;
+        step = ap (λ (f : Flow). slice_get f.steps b.seat.step) flow ∙ b.known.step;
         state =
-            state-of_seat k w.0 j.0 w.1 j.1
-            ∙ ap (λ x. state_by x (is_ready m past j.0)) waiting
-            ∙ ap (λ b. if b then state.Ready else state.Waiting) (tells.ready ∙ ap ended_after name);
+            state-of_run k b
+            ∙ ap (λ y. state_by y (is_ready m past b.job)) w.1
+            ∙ ap (λ c. if c then state.Ready else state.Waiting)
+            (tells.ready ∙ ap (λ (f : Flow). ended_by f) (sym flow));
       }
     where
-      w : (s : Seat) × (slice_get ss k ≡ Some s) × (s.step ≡ n) × (s.place ≡ q)
-      w = seat-of_known gives r es v st k (n, q) known
+      w : (w : IsOpenJob k) × (w.its.seat.stage ≡ stage.Waiting)
+      w = open-job k stage.Waiting e (λ h. true≠false (ap is_waiting h))
 
-      t : (t : Name × Step) × (slice_get v.flow.steps w.0.step ≡ Some t)
-      t = st.sit.steps k w.0 w.1
+      b : IsJobOfRun gives r xs k
+      b = w.0.its
 
-      j : (j : Job) × IsJobThere gives d [] j (spot_of v.flow.steps w.0)
-      j = job-of_seat gives r es v st k w.0 w.1
+      flow : w.0.view.flow ≡ b.instance.flow
+      flow = (sit-of gives r xs st k b.outer b.number b.instance b.seat b.job b.is_number w.0.view w.0.is_open).0
 
-      name : (spot_of v.flow.steps w.0).0 ≡ t.0.0
-      name = ap (λ o. option_map_or (λ (u : Name × Step). u.0) o []) t.1
+      ended_by : Flow → Bool
+      ended_by f =
+          have_ended_by w.0.view.events (levels_in f) (last_first (ranked w.0.view.flow.steps) [])
+          (after_of w.0.view b.step.0)
 
-      waiting : w.0.stage ≡ stage.Waiting
-      waiting = waits-alone w.0.stage (sym (ap (λ o. option_map_or (λ (u : Seat). is_waiting u.stage) o false) w.1) ∙ waits)
-
-      tells : StandsAt gives d past (levels_in v.flow) v (spot_of v.flow.steps w.0).0 j.0 stage.Waiting
+      tells : StandsAt gives d past (levels_in b.instance.flow) w.0.view b.step.0 b.job stage.Waiting
       tells =
-          subst (StandsAt gives d past (levels_in v.flow) v (spot_of v.flow.steps w.0).0 j.0) waiting
-          (told-now k w.0 j.0 w.1 j.1).stands
-
-      undone : (b : Bool) → r.done ≡ b → EndsWith gives r es b → r.done ≡ false
-      undone false e h = e
-      undone true e h =
-          absurd (true≠false (sym (ap is_waiting waiting) ∙ ap is_waiting (settled-at_end h k w.0 w.1)))
+          subst (StandsAt gives d past (levels_in b.instance.flow) w.0.view b.step.0 b.job) w.1
+          (stands-in k b.outer b.number b.instance b.seat b.job b.is_number b.step b.known.step w.0.view w.0.is_open)

@@ -1,174 +1,161 @@
 -- What the try of a ticket asks, where it is out: a service of its job's step, on what the job binds.
-use Rattle.std.specs.Option.{option_map_or}
-use Rattle.std.specs.Prelude.{◌≡◌, refl, ◌<◌, Bool, IsTrue, true, false, List, [], Some, length, map, option_and_then, option_map, slice_get}
+use Rattle.std.specs.Prelude.{◌≡◌, ◌<◌, List, Option, Some, length, map, option_and_then, option_map, slice_get}
 use Rattle.std.proofs.Common.{ap, subst, sym, ◌∙◌}
 use Rattle.std.proofs.lemmas.List.{length-map}
 use Rattle.std.proofs.lemmas.Option.{same_Some, slice_get_within}
 use Rattle.tv_value.specs.Activities.{Activity, nested, service}
 use Rattle.tv_value.specs.Nested.{Place}
 use Rattle.tv_value.specs.Orders.{named}
-use Rattle.tv_value.specs.Values.{Name, Value}
+use Rattle.tv_value.specs.Values.{JobName, Name, Value}
 use Rattle.tv_gate.specs.Outcomes.{Giving}
 use Rattle.tv_flow.specs.Flows.{Document, Flow, Step}
-use Rattle.tv_flow.specs.Views.{activity_view, flow_view, step_view}
+use Rattle.tv_flow.specs.Views.{activity_view, step_view}
 use Rattle.tv_flow.specs.declared.document.Activity.{Activity as CodeActivity}
 use Rattle.tv_flow.specs.declared.document.Step.{Step as CodeStep}
 use Rattle.tv_check.specs.RunViews.{run_view}
-use Rattle.tv_check.specs.declared.plans.FlowPlan.{FlowPlan}
+use Rattle.tv_dispatch.specs.Jobs.{Ask}
 use Rattle.tv_depths.specs.Steps.{declared_depths}
-use Rattle.tv_intake.specs.Intaken.{known_jobs}
 use Rattle.tv_model.specs.Jobs.{Job}
-use Rattle.tv_framing.specs.Answers.{AreInputs, numbered}
-use Rattle.tv_framing.specs.Views.{View}
-use Rattle.tv_frame.specs.Kept.{Keeps}
+use Rattle.tv_history.specs.Entries.{History}
+use Rattle.tv_framing.specs.Answers.{AreInputs}
 use Rattle.tv_frame.specs.Tables.{levels_in}
 use Rattle.tv_frame.proofs.OfBinding.{named-there}
 use Rattle.tv_seated.specs.Seated.{spot_of}
 use Rattle.tv_seated.proofs.OfLists.{get-image}
 use Rattle.tv_standing.proofs.OfTold.{steps-rise}
 use Rattle.tv_viewed.proofs.OfLaws.{inputs-are_told}
+use Rattle.tv_forest.specs.Forest.{Instances}
+use Rattle.tv_firsts.proofs.OfFlows.{flows-by_names}
 use Rattle.tv_entries.specs.Answers.{Question}
 use Rattle.tv_entries.specs.Calls.{IsOther, IsTask, try_if_out}
 use Rattle.tv_entries.specs.Declarations.{declared_for, declared_outputs}
 use Rattle.tv_entries.specs.Runs.{past_of}
-use Rattle.tv_entries.specs.declared.entry.Entry.{Entry}
 use Rattle.tv_entries.specs.declared.ticket.Ticket.{Ticket}
-use Rattle.tv_run.specs.Accepting.{IsAnswerTo}
-use Rattle.tv_run.specs.Looks.{step_of}
-use Rattle.tv_run.specs.Standing.{Stands, run_of, run_with}
+use Rattle.tv_run.specs.Following.{numbered_in}
+use Rattle.tv_run.specs.Jobs.{IsOfOpen, step_of}
+use Rattle.tv_run.specs.Standing.{IsOpenOf, Stands, run_of}
 use Rattle.tv_run.specs.declared.run.OpenRun.{OpenRun}
-use Rattle.tv_run.proofs.OfAsked.{IsAskedNow}
-use Rattle.tv_run.proofs.OfBindings.{binds-some}
-use Rattle.tv_run.proofs.OfLooks.{keeps-by, known-of_seat, spot-of_number}
-use Rattle.tv_run.proofs.OfStates.{its-job}
-use Rattle.tv_run.proofs.OfSteps.{step-there}
+use Rattle.tv_run.proofs.OfAskedOut.{IsAskedOut, ask-is, at-step, is-its, sit, step-there}
+use Rattle.tv_run.proofs.OfJobs.{open-is, spot-is}
+use Rattle.tv_run.proofs.OfNumbers.{job-is}
 
 abbrev name_of_service : Activity → Name
 name_of_service (service n) = n
 name_of_service (nested n) = n
 
-module _ (gives : Giving) (r : OpenRun) (es : List Entry) (v : View) (st : Stands gives r es v) (t : Ticket)
-    (w : IsAskedNow gives r es v st t) where
+module _ (gives : Giving) (r : OpenRun) (xs : Instances) (st : Stands gives r xs) (t : Ticket) (k : Ask)
+    (out : try_if_out gives (run_of r) t ≡ Some k) (o : IsAskedOut gives r xs t k) where
   abbrev d : Document
   d = run_view r.run
 
-  -- its job is one that the frame knows
-  pub known-there : slice_get (known_jobs r.frame.intakes) t.job ≡ Some (w.seat.step, w.seat.place)
-  known-there = known-of_seat gives r es v st t.job w.seat w.there
+  abbrev past : History
+  past = past_of (run_of r)
 
-  pub is-known : t.job < length (known_jobs r.frame.intakes)
-  is-known = slice_get_within (known_jobs r.frame.intakes) t.job (w.seat.step, w.seat.place) known-there
+  -- ---- its step
 
   -- the step that a look finds
-  pub its-step : (s : Step) → step_of r t.job ≡ Some s → s ≡ w.step.1
-  its-step s e =
-      let u = step-there gives r es v st t.job w.seat.step w.seat.place known-there in
-      same_Some s w.step.1
-      (sym e ∙ u.found ∙ ap (option_map (λ (x : Name × Step). x.1)) (sym u.at_step ∙ w.at_step))
+  its-step : (s : Step) → step_of r t.job ≡ Some s → s ≡ o.step.1
+  its-step s e = same_Some s o.step.1 (sym e ∙ step-there gives r xs st t k o)
 
   -- its activity is the service that is asked
-  pub service-there : slice_get w.step.1.activities t.activity ≡ Some (service w.ask.service)
-  service-there = ap (slice_get w.step.1.activities) (sym w.activity) ∙ w.of_step.is_service
+  service-there : slice_get o.step.1.activities t.activity ≡ Some (service k.service)
+  service-there =
+      ap (slice_get o.step.1.activities) (sym o.try.activity) ∙ (ask-is gives r xs st t k o).is_service
 
-  pub activity-within : (s : CodeStep) → step_of r t.job ≡ Some (step_view s) → t.activity < length s.activities
-  activity-within s e =
-      subst (λ m. t.activity < m) (length-map s.activities activity_view)
-      (subst (λ (x : Step). t.activity < length x.activities) (sym (its-step (step_view s) e))
-      (slice_get_within w.step.1.activities t.activity (service w.ask.service) service-there))
+  module _ (s : CodeStep) (e : step_of r t.job ≡ Some (step_view s)) where
+    pub activity-within : t.activity < length s.activities
+    activity-within =
+        subst (λ m. t.activity < m) (length-map s.activities activity_view)
+        (subst (λ (x : Step). t.activity < length x.activities) (sym (its-step (step_view s) e))
+        (slice_get_within o.step.1.activities t.activity (service k.service) service-there))
 
-  pub activity-is : (s : CodeStep) (a : CodeActivity) → step_of r t.job ≡ Some (step_view s)
-      → slice_get s.activities t.activity ≡ Some a → activity_view a ≡ service w.ask.service
-  activity-is s a e h =
-      same_Some (activity_view a) (service w.ask.service)
-      (sym (get-image activity_view s.activities t.activity a h)
-      ∙ ap (λ (x : Step). slice_get x.activities t.activity) (its-step (step_view s) e)
-      ∙ service-there)
+    pub activity-is : (a : CodeActivity) → slice_get s.activities t.activity ≡ Some a
+        → activity_view a ≡ service k.service
+    activity-is a h =
+        same_Some (activity_view a) (service k.service)
+        (sym (get-image activity_view s.activities t.activity a h)
+        ∙ ap (λ (x : Step). slice_get x.activities t.activity) (its-step (step_view s) e)
+        ∙ service-there)
 
-  pub service-is : (s : CodeStep) (a : CodeActivity) → step_of r t.job ≡ Some (step_view s)
-      → slice_get s.activities t.activity ≡ Some a → (n : Name) → activity_view a ≡ service n → n ≡ w.ask.service
-  service-is s a e h n f = ap name_of_service (sym f ∙ activity-is s a e h)
+    pub service-is : (a : CodeActivity) → slice_get s.activities t.activity ≡ Some a → (n : Name)
+        → activity_view a ≡ service n → n ≡ k.service
+    service-is a h n f = ap name_of_service (sym f ∙ activity-is a h)
 
-  -- its outputs are declared
-  pub outputs-are : (s : CodeStep) → step_of r t.job ≡ Some (step_view s) → map (λ o. o.1) s.outputs ≡ w.ask.outputs
-  outputs-are s e = ap declared_depths (its-step (step_view s) e) ∙ sym w.of_step.outputs
+    -- its outputs are declared
+    pub outputs-are : map (λ o. o.1) s.outputs ≡ k.outputs
+    outputs-are = ap declared_depths (its-step (step_view s) e) ∙ sym (ask-is gives r xs st t k o).outputs
 
-  pub declared-there : (s : CodeStep) → step_of r t.job ≡ Some (step_view s)
-      → declared_for gives (run_of r) t.job ≡ Some s.outputs
-  declared-there s e =
-      ap (option_and_then (λ (j : Job). declared_outputs d j.instance j.step))
-      (its-job gives r es v st t.job w.seat w.job w.there w.is_its)
-      ∙ ap (λ n. declared_outputs d n w.job.step) w.is_its.within
-      ∙ ap (λ o. option_map (λ (x : Step). x.outputs) (option_and_then (λ (f : Flow). named w.job.step f.steps) o)) st.flow_is
-      ∙ ap (option_map (λ (x : Step). x.outputs)) (ap (λ n. named n v.flow.steps) name ∙ own)
-      ∙ ap (λ (x : Step). Some x.outputs) (sym (its-step (step_view s) e))
-    where
-      name : w.job.step ≡ w.step.0
-      name = w.is_its.step ∙ ap (λ o. option_map_or (λ (u : Name × Step). u.0) o []) w.at_step
+    pub declared-there : declared_for gives (run_of r) t.job ≡ Some s.outputs
+    declared-there =
+        ap (option_and_then (λ (j : Job). declared_outputs d j.instance j.step))
+        (job-is gives r xs st t.job o.outer o.number o.instance o.seat o.job o.is_number)
+        ∙ ap (λ (n : JobName). declared_outputs d n o.job.step) o.is_number.is_job.job.within
+        ∙ ap
+        (λ (f : Option Flow).
+        option_map (λ (y : Step). y.outputs) (option_and_then (λ (g : Flow). named o.job.step g.steps) f))
+        (flows-by_names gives d levels_in past xs st.stand o.outer o.instance o.known.there)
+        ∙ ap (option_map (λ (y : Step). y.outputs)) (ap (λ n. named n o.instance.flow.steps) name ∙ own)
+        ∙ ap (λ (y : Step). Some y.outputs) (sym (its-step (step_view s) e))
+      where
+        name : o.job.step ≡ o.step.0
+        name =
+            o.is_number.is_job.job.step
+            ∙ ap (λ (p : Name × Place). p.0)
+            (spot-is r xs st.fits t.job o.outer o.number o.instance o.seat o.step o.known)
 
-      own : named w.step.0 v.flow.steps ≡ Some w.step.1
-      own =
-          named-there v.flow.steps w.seat.step w.step
-          (steps-rise gives d (past_of (run_with r es)) (levels_in v.flow) v r.seats.seats st.sit) w.at_step
+        own : named o.step.0 o.instance.flow.steps ≡ Some o.step.1
+        own =
+            let w = sit gives r xs st t k o in
+            subst (λ (f : Flow). named o.step.0 f.steps ≡ Some o.step.1) w.0
+            (named-there o.view.flow.steps o.seat.step o.step
+            (steps-rise gives d past o.instance.name (levels_in o.instance.flow) o.view o.instance.seats w.1)
+            (at-step gives r xs st t k o))
 
-  -- what the job binds
-  pub number-there : numbered v t.job ≡ Some (spot_of v.flow.steps w.seat)
-  number-there = spot-of_number gives r es v st t.job w.seat w.there
+  -- ---- what its job binds
 
-  pub inputs-are : (vs : List Value) → AreInputs v (spot_of v.flow.steps w.seat) vs → vs ≡ w.ask.inputs
+  spot-same : spot_of o.view.flow.steps o.seat ≡ spot_of o.instance.flow.steps o.seat
+  spot-same = ap (λ (f : Flow). spot_of f.steps o.seat) (sit gives r xs st t k o).0
+
+  pub inputs-are : (vs : List Value) → AreInputs o.view (spot_of o.instance.flow.steps o.seat) vs → vs ≡ k.inputs
   inputs-are vs h =
       (
-      inputs-are_told gives d (past_of (run_with r es)) [] (levels_in v.flow) v st.sit.in_run
-      (spot_of v.flow.steps w.seat) w.job w.is_its
-      ).values vs h
-      ∙ sym w.of_step.inputs
+      inputs-are_told gives d past o.instance.name (levels_in o.instance.flow) o.view
+      (sit gives r xs st t k o).1.in_run (spot_of o.view.flow.steps o.seat) o.job (is-its gives r xs st t k o)
+      ).values vs (subst (λ p. AreInputs o.view p vs) (sym spot-same) h)
+      ∙ sym (ask-is gives r xs st t k o).inputs
 
-  -- it binds what the try asks for
-  pub binds-asked : (plan : FlowPlan) → named d.main d.flows ≡ Some (flow_view plan.flow)
-      → AreInputs v (spot_of v.flow.steps w.seat) w.ask.inputs
-  binds-asked plan main =
-      let b =
-      binds-some d.flows plan r.pool r.frame v (keeps-by gives r es v st plan main) t.job w.seat.step w.seat.place
-      known-there w.step w.at_step (spot_of v.flow.steps w.seat) number-there in
-      subst (AreInputs v (spot_of v.flow.steps w.seat)) (inputs-are b.0 b.1) b.1
+  -- its instance is open
+  pub is-open : IsOpenOf r o.known.itself o.instance o.view
+  is-open = open-is r o.outer o.known.itself o.instance o.view o.known.kept o.is_open
+
+  pub of-open : IsOfOpen r t.job
+  of-open = record {
+    job = numbered_in o.outer o.number;
+    there = o.known.number;
+    itself = o.known.itself;
+    instance = o.known.is_itself;
+    opened = is-open.itself;
+    is_open = is-open.there;
+  }
 
   -- ---- answers
 
   -- what it asks, and what it doesn't
-  pub is-task : (q : Question) → q.ticket ≡ t → q.service ≡ w.ask.service → q.inputs ≡ w.ask.inputs
-      → map (λ o. o.1) q.outputs ≡ w.ask.outputs → IsTask gives (run_of r) q
+  pub is-task : (q : Question) → q.ticket ≡ t → q.service ≡ k.service → q.inputs ≡ k.inputs
+      → map (λ o. o.1) q.outputs ≡ k.outputs → IsTask gives (run_of r) q
   is-task q of_ticket same inputs outputs = record {
-    asked = w.ask;
-    out = ap (try_if_out gives (run_of r)) of_ticket ∙ w.is_try;
+    asked = k;
+    out = ap (try_if_out gives (run_of r)) of_ticket ∙ out;
     service = same;
     inputs = inputs;
     outputs = outputs;
   }
 
   pub is-other : (q : Question) → q.ticket ≡ t
-      → ((q.service ≡ w.ask.service) × (q.inputs ≡ w.ask.inputs) × (map (λ o. o.1) q.outputs ≡ w.ask.outputs) → ⊥)
+      → ((q.service ≡ k.service) × (q.inputs ≡ k.inputs) × (map (λ o. o.1) q.outputs ≡ k.outputs) → ⊥)
       → IsOther gives (run_of r) q
   is-other q of_ticket other = record {
-    asked = w.ask;
-    out = ap (try_if_out gives (run_of r)) of_ticket ∙ w.is_try;
+    asked = k;
+    out = ap (try_if_out gives (run_of r)) of_ticket ∙ out;
     other = other;
   }
-
-  -- by whether the job binds its inputs
-  pub answers-by : (q : Question) → q.ticket ≡ t → q.service ≡ w.ask.service → map (λ o. o.1) q.outputs ≡ w.ask.outputs
-      → (plan : FlowPlan) → named d.main d.flows ≡ Some (flow_view plan.flow) → (vs : List Value) → q.inputs ≡ vs
-      → (b : Bool)
-      → (IsTrue b → (flows : List (Name × Flow)) (u : View) (j : Name × Place) → Keeps flows plan r.pool r.frame u
-      → numbered u t.job ≡ Some j → AreInputs u j vs)
-      → (b ≡ false → (flows : List (Name × Flow)) (u : View) (j : Name × Place) → Keeps flows plan r.pool r.frame u
-      → numbered u t.job ≡ Some j → (us : List Value) → AreInputs u j us → vs ≡ us → ⊥)
-      → IsAnswerTo gives (run_of r) q b
-  answers-by q of_ticket same outputs plan main vs inputs true binds others =
-      is-task q of_ticket same
-      (inputs
-      ∙ inputs-are vs
-      (binds refl d.flows v (spot_of v.flow.steps w.seat) (keeps-by gives r es v st plan main) number-there))
-      outputs
-  answers-by q of_ticket same outputs plan main vs inputs false binds others =
-      is-other q of_ticket
-      (λ e. others refl d.flows v (spot_of v.flow.steps w.seat) (keeps-by gives r es v st plan main) number-there
-      w.ask.inputs (binds-asked plan main) (sym inputs ∙ e.1))

@@ -1,7 +1,11 @@
-pub mod Standing
-pub mod Turns
 pub mod Looks
-pub mod Offers
+pub mod Standing
+pub mod Jobs
+pub mod Rooms
+pub mod Following
+pub mod Changes
+pub mod Recalling
+pub mod Turns
+pub mod Walking
 pub mod Settlements
 pub mod Accepting
-pub mod Handing

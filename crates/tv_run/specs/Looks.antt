@@ -1,92 +1,57 @@
--- What is looked up of a run's steps and jobs.
-use Rattle.std.specs.Cmp.Lexicographic.{slice_cmp}
-use Rattle.std.specs.Ordering.{is_lt, nat_cmp}
-use Rattle.std.specs.Option.{option_map_or}
-use Rattle.std.specs.Prelude.{Bool, List, Option, Some, [], drop, false, if◌then◌else◌, length, map, option_and_then, option_map, slice_get, ℕ, ◌&&◌, ◌+◌, ◌++◌, ◌∷◌, ◌<◌, ◌==◌, ◌≡◌, ◌≤◌}
-use Rattle.tv_value.specs.Nested.{Place}
-use Rattle.tv_value.specs.Values.{JobName, Name}
-use Rattle.tv_flow.specs.Flows.{Flow, Step}
-use Rattle.tv_check.specs.RunViews.{run_view}
-use Rattle.tv_check.specs.declared.plans.FlowPlan.{FlowPlan}
-use Rattle.tv_outputs.specs.Known.{Nodes}
-use Rattle.tv_framing.specs.Views.{View}
-use Rattle.tv_frame.specs.Kept.{Keeps}
-use Rattle.tv_intake.specs.Intaken.{known_jobs}
-use Rattle.tv_frame.specs.declared.frame.Frame.{Frame}
-use Rattle.tv_seats.specs.Seats.{Seat, Seated, levels_of, new_seat}
-use Rattle.tv_seats.specs.declared.stage.Stage.{Stage}
-use Rattle.tv_seats.specs.declared.stage.Stage.TheVariants as stage
-use Rattle.tv_run.specs.Standing.{main_steps}
-use Rattle.tv_run.specs.declared.run.OpenRun.{OpenRun}
+-- What is looked up of the flows of a document: of each step the tries, and the flow that its jobs open.
+use Rattle.std.specs.Prelude.{List, None, Option, Some, length, map, option_map, slice_get, true, ℕ, ◌≡◌, ◌≤◌}
+use Rattle.tv_flow.specs.Formed.{is_ascending}
+use Rattle.tv_value.specs.Values.{Name}
+use Rattle.tv_flow.specs.Flows.{Document, Flow, Step}
+use Rattle.tv_flow.specs.Views.{each, flow_view}
+use Rattle.tv_flow.specs.declared.document.Flow.{Flow as CodeFlow}
+use Rattle.tv_dispatch.specs.Plans as plans
+use Rattle.tv_dispatch.specs.declared.plan.Plan.{Plan}
+use Rattle.tv_entries.specs.Runs.{first_flow}
+use Rattle.tv_run.specs.declared.plans.FlowLook.{FlowLook}
+use Rattle.tv_run.specs.declared.plans.StepLook.{StepLook}
 
--- job k is of this step, at this place
-abbrev pub known_at : OpenRun → ℕ → Option (ℕ × Place)
-known_at r k = slice_get (known_jobs r.frame.intakes) k
+-- a step as its dispatch sees it
+abbrev pub tries_of : Step → Plan
+tries_of s = record { activities = map plans.kind_of s.activities; retries = s.retries }
 
--- the jobs that a frame knows and that have no seat yet
-abbrev pub unseated : Frame → List Seat → List (ℕ × Place)
-unseated f ss = drop (length ss) (known_jobs f.intakes)
+-- ---- flows by number
 
-abbrev pub seat_for : ℕ × Place → Seat
-seat_for j = new_seat j.0 j.1
+-- it is of this flow
+abbrev pub IsFlow : Document → ℕ → Flow → Type 0
+IsFlow d k f = option_map (λ x. x.1) (slice_get d.flows k) ≡ Some f
 
--- these may sit down one after another
-pub record CanSit (f : Frame) (x : Seated) : Type 0 where
-  pub steps : (n : ℕ) (j : ℕ × Place) → slice_get (known_jobs f.intakes) n ≡ Some j → length x.seats ≤ n
-      → (j.0 < length x.levels) × (length j.1 ≡ levels_of x.levels j.0)
-  pub apart : (n m : ℕ) (j k : ℕ × Place) → slice_get (known_jobs f.intakes) n ≡ Some j
-      → slice_get (known_jobs f.intakes) m ≡ Some k → j ≡ k → n ≡ m
-  pub first : map (λ s. (s.step, s.place)) x.seats ++ unseated f x.seats ≡ known_jobs f.intakes
-  pub room : length (known_jobs f.intakes) ≤ length x.seats + x.room
+-- the flow of that name has that number
+pub record IsFlowNumber (d : Document) (name : Name) (k : ℕ) : Type 0 where
+  pub flow : Flow
+  pub there : slice_get d.flows k ≡ Some (name, flow)
 
--- those that had no seat have one, behind the others
-pub record AllSit (f : Frame) (x y : Seated) : Type 0 where
-  pub seats : y.seats ≡ x.seats ++ map seat_for (unseated f x.seats)
-  pub levels : y.levels ≡ x.levels
-  pub back_rooms : y.back_rooms ≡ x.back_rooms
+-- the number of the flow that a step's jobs open, where they open one
+abbrev pub OpensNumber : Document → Option Name → Option ℕ → Type 0
+OpensNumber d None o = o ≡ None
+OpensNumber d (Some g) None = (k : ℕ) → IsFlowNumber d g k → ⊥
+OpensNumber d (Some g) (Some k) = IsFlowNumber d g k
 
--- the frame keeps some view
-abbrev pub IsKept : Frame → Type 0
-IsKept f = (plan : FlowPlan) × (pool : Nodes) × (flows : List (Name × Flow)) × (v : View) × Keeps flows plan pool f v
+-- the code's flows, in byte order of their names
+pub record AreFlowsOf (d : Document) (flows : List (Name × CodeFlow)) : Type 0 where
+  pub ascending : is_ascending (map (λ e. e.0) flows) ≡ true
+  pub few : length flows ≤ 256
+  pub same : d.flows ≡ each flow_view flows
 
--- all but the rooms of seats and entries is the same
-pub record IsSameButRooms (r s : OpenRun) : Type 0 where
-  pub run : s.run ≡ r.run
-  pub tries : s.tries ≡ r.tries
-  pub pool : s.pool ≡ r.pool
-  pub frame : s.frame ≡ r.frame
-  pub seats : s.seats.seats ≡ r.seats.seats
-  pub levels : s.seats.levels ≡ r.seats.levels
-  pub back_rooms : s.seats.back_rooms ≡ r.seats.back_rooms
-  pub entries : s.entries.items ≡ r.entries.items
-  pub failed : s.failed ≡ r.failed
-  pub done : s.done ≡ r.done
+-- ---- looks
 
--- all but the seats and entries is the same
-pub record HasSameFrame (r s : OpenRun) : Type 0 where
-  pub run : s.run ≡ r.run
-  pub tries : s.tries ≡ r.tries
-  pub pool : s.pool ≡ r.pool
-  pub frame : s.frame ≡ r.frame
-  pub failed : s.failed ≡ r.failed
-  pub done : s.done ≡ r.done
+pub record IsStepLook (d : Document) (s : Step) (l : StepLook) : Type 0 where
+  pub tries : l.tries ≡ tries_of s
+  pub opens : OpensNumber d (first_flow s.activities) l.opens
 
--- a try at this activity and attempt is out
-abbrev pub is_at : Option Stage → ℕ → ℕ → Bool
-is_at (Some (stage.Out b u)) a t = b == a && u == t
-is_at _ a t = false
+pub record IsLook (d : Document) (f : Flow) (l : FlowLook) : Type 0 where
+  pub as_many : length l.steps.items ≡ length f.steps
+  pub each :
+      (k : ℕ) (s : Name × Step) (x : StepLook) → slice_get f.steps k ≡ Some s → slice_get l.steps.items k ≡ Some x
+      → IsStepLook d s.1 x
 
--- the place of a job; of no known one the empty place
-abbrev pub place_at : OpenRun → ℕ → Place
-place_at r k = option_map_or (λ j. j.1) (known_at r k) []
-
-abbrev pub lesser_of : OpenRun → ℕ → ℕ → ℕ
-lesser_of r k m = if is_lt (slice_cmp nat_cmp (place_at r m) (place_at r k)) then m else k
-
--- the step of job k
-abbrev pub step_of : OpenRun → ℕ → Option Step
-step_of r k = option_and_then (λ j. option_map (λ s. s.1) (slice_get (main_steps (run_view r.run)) j.0)) (known_at r k)
-
--- the name of the main instance's job at a place of the step of that number
-abbrev pub name_at : List (Name × Step) → ℕ → Place → JobName
-name_at steps k q = (option_map_or (λ s. s.0) (slice_get steps k) [], q) ∷ []
+pub record AreLooks (d : Document) (looks : List FlowLook) : Type 0 where
+  pub as_many : length looks ≡ length d.flows
+  pub each :
+      (k : ℕ) (f : Name × Flow) (l : FlowLook) → slice_get d.flows k ≡ Some f → slice_get looks k ≡ Some l
+      → IsLook d f.1 l

@@ -1,12 +1,12 @@
 -- What the calls of a run do, by its names and entries.
-use Rattle.std.specs.Prelude.{Bool, List, None, Option, Some, ◌≡◌, false, true, ℕ}
+use Rattle.std.specs.Prelude.{Bool, None, Option, Some, ◌≡◌, false, true, ℕ}
 use Rattle.tv_gate.specs.Outcomes.{Giving, Outcome}
-use Rattle.tv_framing.specs.Views.{View}
+use Rattle.tv_frame.specs.Calls.{SameRegions}
 use Rattle.tv_entries.specs.Answers.{Question}
 use Rattle.tv_entries.specs.Calls.{IsNothingOffered, IsTask, NothingSettles, Settles, hands_out, out_count, state_of, try_if_out}
 use Rattle.tv_entries.specs.Refusals.{IsAccepting}
 use Rattle.tv_entries.specs.Runs.{Appends, Run}
-use Rattle.tv_run.specs.Standing.{Stands, StandsOpen, run_of}
+use Rattle.tv_run.specs.Standing.{StandsOpen, StandsStill, run_of}
 use Rattle.tv_entries.specs.Recalls.{IsRecalled}
 use Rattle.tv_entries.specs.Idle.{AreIdle}
 use Rattle.tv_entries.specs.declared.entry.Entry.{Entry}
@@ -16,10 +16,11 @@ use Rattle.tv_entries.specs.declared.ticket.Ticket.{Ticket}
 use Rattle.tv_entries.specs.declared.told.Accepted.{Accepted}
 
 module _ (gives : Giving) where
-  -- it stands as it did, but for rooms
+  -- it stands as it did, but for rooms: no node came or went
   pub record StaysAs (r s : OpenRun) : Type 0 where
     pub stands : StandsOpen gives s
     pub same : run_of s ≡ run_of r
+    pub regions : SameRegions r.pool s.pool
 
   -- one entry more, and more names perhaps
   pub record GoesTo (r s : OpenRun) (e : Entry) : Type 0 where
@@ -31,13 +32,9 @@ module _ (gives : Giving) where
   HandsOut r s None = StaysAs r s × IsNothingOffered gives (run_of r)
   HandsOut r s (Some t) = GoesTo r s (hands_out t) × ((run_of s).names ≡ (run_of r).names)
 
-  -- it stands, ended or not
-  abbrev pub StandsStill : OpenRun → Type 0
-  StandsStill r = (es : List Entry) × (v : View) × Stands gives r es v
-
   -- something is settled, or nothing can be
   abbrev pub SettlesTo : OpenRun → OpenRun → Bool → Type 0
-  SettlesTo r s true = StandsStill s × Settles (run_of r) (run_of s)
+  SettlesTo r s true = StandsStill gives s × Settles (run_of r) (run_of s)
   SettlesTo r s false = StaysAs r s × NothingSettles gives (run_of r)
 
   -- all tries that were out are taken back

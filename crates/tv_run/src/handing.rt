@@ -1,36 +1,26 @@
 //! Handing out tries, and taking them back.
-ghost use Rattle.std.specs.Option.{option_map_or};
-ghost use Rattle.std.specs.Prelude.{◌≡◌, Some, IfOk, IsOk, OnErr, false, true};
+ghost use Rattle.std.specs.Prelude.{◌≡◌, ◌<◌, ◌+◌, None, Some, IfOk, IsOk, OnErr, OnOk, length};
 ghost use Rattle.tv_gate.specs.Outcomes.{Giving};
 ghost use Rattle.tv_framing.specs.Views.{View};
-ghost use Rattle.tv_seats.specs.Seats.{stands};
-ghost use Rattle.tv_seats.specs.Stages.{is_waiting};
+ghost use Rattle.tv_seats.specs.Firsts.{MayGoOut};
+ghost use Rattle.tv_seats.specs.declared.stage.Stage.TheVariants.{Out as AnOut};
+ghost use Rattle.tv_open.specs.Events.{WaitsReady};
+ghost use Rattle.tv_forest.specs.Forest.{Instance, Instances};
 ghost use Rattle.tv_entries.specs.Calls.{out_count};
-ghost use Rattle.tv_run.specs.Handing.{HasSameSeats, IsTaken};
-ghost use Rattle.tv_run.specs.Offers.{IsHandable, IsReadyIn};
+ghost use Rattle.tv_run.specs.Changes.{IsOpenHere, TakesIn};
+ghost use Rattle.tv_run.specs.Rooms.{IsAsBefore};
 ghost use Rattle.tv_run.specs.Standing.{Stands, StandsOpen, run_of};
 ghost use Rattle.tv_run.specs.Turns.{HandsOut, RecallsTo, StaysAs};
+ghost use Rattle.tv_run.specs.Recalling.{AllCalledBack, HasRoomForAll, HasRoomsIn, IsCalledBackIn, OtherRoomsIn, out_in};
+ghost use Rattle.tv_run.specs.Walking.{IsHandable, IsOnOffer, IsTicketOf, WaitsIn};
 
-use crate::plans::main_plan;
-use crate::run::{OpenRun, push_within};
+use crate::instances::Numbered;
+use crate::run::OpenRun;
+use tv_dispatch::{Next, begin};
 use tv_entries::{Entry, Ticket};
+use tv_open::Seeking;
 use tv_seats::Stage;
 use tv_value::NoMemory;
-
-/// Whether a job at this stage waits.
-fn waits(stage: Option<Stage>) -> bool
-    ensures { result ≡ option_map_or is_waiting stage false }
-{
-    match stage {
-        Some(found) => match found {
-            Stage::Waiting => true,
-            Stage::Out { .. } => false,
-            Stage::Idle { .. } => false,
-            Stage::Settled => false,
-        },
-        None => false,
-    }
-}
 
 impl OpenRun {
     /// Hands out the first try on offer. Takes no memory.
@@ -38,8 +28,9 @@ impl OpenRun {
         requires { (gives : Giving) × StandsOpen gives self.old }
         ensures { (gives : Giving) → StandsOpen gives self.old → HandsOut gives self.old self.new result }
     {
-        match self.first_offered() {
-            Some(ticket) => {
+        match self.first_going(Seeking::Offers) {
+            Some(job) => {
+                let ticket = self.ticket_of(job);
                 self.begin(ticket);
                 Some(ticket)
             }
@@ -47,58 +38,152 @@ impl OpenRun {
         }
     }
 
+    /// The ticket of a job's next try, which is on offer.
+    fn ticket_of(&self, job: u64) -> Ticket
+        requires { (gives : Giving) × (xs : Instances) × Stands gives self.now xs × IsOnOffer gives self.now xs job }
+        ensures { (gives : Giving) (xs : Instances) → Stands gives self.now xs → IsOnOffer gives self.now xs job
+            → IsTicketOf gives self.now xs job result }
+    {
+        let Some(stage) = self.stage_of(job) else {
+            unreachable!()
+        };
+        match stage {
+            Stage::Idle { activity, attempt } => Ticket {
+                job,
+                activity,
+                attempt,
+            },
+            Stage::Waiting => self.first_ticket(job),
+            _ => unreachable!(),
+        }
+    }
+
+    /// The ticket of a job's first try.
+    fn first_ticket(&self, job: u64) -> Ticket
+        requires { (gives : Giving) × (xs : Instances) × Stands gives self.now xs × IsOnOffer gives self.now xs job
+            × WaitsIn self.now job }
+        ensures { (gives : Giving) (xs : Instances) → Stands gives self.now xs → IsOnOffer gives self.now xs job
+            → WaitsIn self.now job → IsTicketOf gives self.now xs job result }
+    {
+        match begin(self.tries_at(job), false) {
+            Next::Ask { activity, attempt } => Ticket {
+                job,
+                activity,
+                attempt,
+            },
+            _ => unreachable!(),
+        }
+    }
+
     /// The try is out from now on.
     fn begin(&mut self, ticket: Ticket)
-        requires { (gives : Giving) × StandsOpen gives self.old × IsHandable gives self.old ticket }
-        ensures { (gives : Giving) → StandsOpen gives self.old → IsHandable gives self.old ticket → HandsOut gives self.old self.new (Some ticket) }
+        requires { (gives : Giving) × (xs : Instances) × Stands gives self.old xs × (self.old.outs ≡ None)
+            × IsHandable gives self.old xs ticket }
+        ensures { (gives : Giving) (xs : Instances) → Stands gives self.old xs → self.old.outs ≡ None
+            → IsHandable gives self.old xs ticket → HandsOut gives self.old self.new (Some ticket) }
     {
         let Ticket {
             job,
             activity,
             attempt,
         } = ticket;
-        self.take_waiting(job);
-        self.seats.hand_out(job, activity, attempt);
-        push_within(
-            &mut self.entries,
-            Entry::HandedOut {
-                job,
-                activity,
-                attempt,
-            },
-        );
+        let Numbered { instance, number } = self.known(job);
+        self.take_out(instance, number, activity, attempt);
+        self.note(Entry::HandedOut {
+            job,
+            activity,
+            attempt,
+        });
     }
 
-    /// The frame is told of the first try of a job that waits.
-    fn take_waiting(&mut self, job: u64)
-        requires { (gives : Giving) × StandsOpen gives self.old
-            × (stands is_waiting self.old.seats.seats job ≡ true → IsReadyIn gives self.old job) }
-        ensures same { HasSameSeats self.old self.new }
-        ensures waited { stands is_waiting self.old.seats.seats job ≡ true
-            → (gives : Giving) (v : View) → Stands gives self.old self.old.entries.items v
-            → IsReadyIn gives self.old job → IsTaken self.old self.new.frame v job }
-        ensures went_on { stands is_waiting self.old.seats.seats job ≡ false → self.new.frame ≡ self.old.frame }
+    /// A try of a job of an open instance is out.
+    fn take_out(&mut self, instance: u64, number: u64, activity: u32, attempt: u32)
+        requires { (xs : Instances) × (x : Instance) × (v : View) × IsOpenHere self.old xs instance x v
+            × MayGoOut x.seats number × WaitsReady v x.seats number }
+        ensures taken { (xs : Instances) (x : Instance) (v : View) → IsOpenHere self.old xs instance x v
+            → MayGoOut x.seats number → WaitsReady v x.seats number
+            → TakesIn self.old self.new xs instance x v number (AnOut activity attempt) }
+        ensures due { self.new.due + 1 ≡ self.old.due }
     {
-        if waits(self.seats.stage(job)) {
-            self.frame.take(main_plan(&self.run), &self.pool, job);
-        }
+        let plan = self.run.flow(self.instances[instance as usize].flow);
+        self.instances[instance as usize].open[0].hand_out(
+            plan, &self.pool, number, activity, attempt,
+        );
+        self.due -= 1;
     }
 
-    /// Takes back all tries that are out, and tells how many.
+    /// Takes back all tries that are out, and tells how many. Linear in the instances, and in the jobs and steps of the open ones.
     pub fn recall_all(&mut self) -> Result<u64, NoMemory>
         requires { (gives : Giving) × StandsOpen gives self.old }
         ensures recalled { IfOk result (λ n. (gives : Giving) → StandsOpen gives self.old → RecallsTo gives self.old self.new n) }
         ensures refused { OnErr result ((gives : Giving) → StandsOpen gives self.old → StaysAs gives self.old self.new) }
         ensures quiet { (gives : Giving) → StandsOpen gives self.old → out_count gives (run_of self.old) ≡ 0 → IsOk result }
     {
-        let count = self.seats.out_count();
+        let count = self.out_count();
         if count == 0 {
             return Ok(0);
         }
-        self.seats.reserve_all_back()?;
-        self.reserve(0)?;
-        let _count = self.seats.put_all_back();
-        push_within(&mut self.entries, Entry::Recalled { count });
+        self.reserve_all_back()?;
+        self.reserve_entries(count)?;
+        self.put_all_back();
+        self.due += count as usize;
+        self.note(Entry::Recalled { count });
         Ok(count)
+    }
+
+    /// How many tries are out.
+    fn out_count(&self) -> u64
+        requires { (gives : Giving) × (xs : Instances) × Stands gives self.now xs }
+        ensures { result ≡ out_in self.now.instances.items }
+    {
+        let mut count = 0;
+        for instance in self.instances.as_slice() {
+            if let Some(open) = instance.opened() {
+                count += open.out_count();
+            }
+        }
+        count
+    }
+
+    /// Takes the room for all jobs that are out to be idle again.
+    fn reserve_all_back(&mut self) -> Result<(), NoMemory>
+        ensures same { IsAsBefore self.old self.new }
+        ensures rooms { OnOk result (HasRoomForAll self.new) }
+    {
+        for at in 0..self.instances.len() {
+            self.reserve_back_in(at)?;
+        }
+        Ok(())
+    }
+
+    fn reserve_back_in(&mut self, at: usize) -> Result<(), NoMemory>
+        requires { at < length self.old.instances.items }
+        ensures same { OtherRoomsIn self.old self.new at }
+        ensures rooms { OnOk result (HasRoomsIn self.new at) }
+    {
+        if self.instances[at].open.is_empty() {
+            return Ok(());
+        }
+        self.instances[at].open[0].reserve_all_back()
+    }
+
+    /// Each job that is out is idle from now on, with the same try as its next.
+    fn put_all_back(&mut self)
+        requires { HasRoomForAll self.old }
+        ensures back { AllCalledBack self.old self.new }
+    {
+        for at in 0..self.instances.len() {
+            self.put_back_in(at);
+        }
+    }
+
+    fn put_back_in(&mut self, at: usize)
+        requires there { at < length self.old.instances.items }
+        requires rooms { HasRoomsIn self.old at }
+        ensures { IsCalledBackIn self.old self.new at }
+    {
+        if !self.instances[at].open.is_empty() {
+            let _count = self.instances[at].open[0].put_all_back();
+        }
     }
 }

@@ -1,17 +1,23 @@
-//! A run over a frame, of a document in which no activity opens a flow.
+//! A run over open instances: one for each flow that is open.
 //!
-//! An `OpenRun` has the frame of the main instance (`tv_frame`), which is told each result, closed list and passed fault and knows at
-//! once what follows; for each job that the frame knows a seat (`tv_seats`), which tells where the job stands; and the entries of
-//! what was done. `specs/Standing.antt` says how it stands: by the services' meaning of its document the history is legal, the frame
-//! keeps what the history tells of the main instance, and each seat is at the stage of its job. A call costs what it reads and changes,
-//! and a look at each step of the main flow where it hands out or settles; nothing is worked out anew. Once the run has ended, only what
-//! tells of it may be called. `tv_board` gives it the services of a type.
+//! An `OpenRun` has a list of the instances that were opened, the main one first. Each that is open is an `Open` (`tv_open`), which is
+//! told each result, closed list and passed fault, knows at once what follows, and has where its jobs stand; of each that has ended the
+//! seats are left. All have their nodes in one pool. Beside them stand the jobs of the whole run by number, and the entries of what was
+//! done.
+//!
+//! A job of which a flow is next opens an instance of it, and what that gives at its end is the job's result. An instance that ends
+//! gives back its region. A call costs what it reads and changes; nothing is worked out anew. Once the main instance has ended, only
+//! what tells of the run may be called. `tv_board` gives it the services of a type.
 //!
 //! - `plans`: what is looked up of the document
-//! - `run`: what a run has, and how it starts
+//! - `instances`: an instance that was opened, and a job by its number there
+//! - `run`: what a run has, how it starts, and the room that a call takes
 //! - `jobs`, `tasks`: where a job stands, what it is called, and what its try asks
-//! - `offers`, `handing`: the first try on offer; handing out, and taking back
-//! - `settling`: a job bounced, a list closed, a fault passed, or the run ended
+//! - `walk`: the walk to the first job of all that goes on
+//! - `handing`: handing out, and taking back
+//! - `results`: a job given its result, and what follows
+//! - `settling`: a job bounced, a list closed or a fault passed
+//! - `nesting`: an instance opened or ended
 //! - `accepting`: an outcome accepted
 //! - `outputs`: what a run gives once it is done, and its totals so far
 //! - `over`: what holds of every run, and of one that is done
@@ -19,13 +25,16 @@
 
 mod accepting;
 mod handing;
+mod instances;
 mod jobs;
-mod offers;
+mod nesting;
 mod outputs;
 mod over;
 mod plans;
+mod results;
 mod run;
 mod settling;
 mod tasks;
+mod walk;
 
 pub use run::OpenRun;

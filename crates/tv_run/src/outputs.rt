@@ -1,7 +1,7 @@
 //! What a run gives once it is done, and its totals so far.
 ghost use Rattle.std.specs.Option.{option_map_or};
 ghost use Rattle.std.specs.List.{zip};
-ghost use Rattle.std.specs.Prelude.{◌≡◌, IfOk, count_by, false, length, map, true};
+ghost use Rattle.std.specs.Prelude.{◌≡◌, IfOk, count_by, false, filter, length, map, true};
 ghost use Rattle.tv_value.specs.Views.{view};
 ghost use Rattle.tv_flow.specs.Views.{each};
 ghost use Rattle.tv_gate.specs.Outcomes.{Giving};
@@ -9,13 +9,12 @@ ghost use Rattle.tv_strategy.specs.Origins.{plain};
 ghost use Rattle.tv_cell.specs.PieceValues.{piece_values};
 ghost use Rattle.tv_cell.specs.Soundness.{AreSound};
 ghost use Rattle.tv_model.specs.TotalsViews.{totals_view};
-ghost use Rattle.tv_history.specs.Histories.{is_done};
+ghost use Rattle.tv_history.specs.Histories.{is_done, is_settled};
 ghost use Rattle.tv_entries.specs.Calls.{totals_so_far};
 ghost use Rattle.tv_entries.specs.Counted.{is_acceptance, is_bounce};
 ghost use Rattle.tv_entries.specs.Runs.{meant, past_of};
-ghost use Rattle.tv_run.specs.Standing.{run_of};
+ghost use Rattle.tv_run.specs.Standing.{StandsStill, run_of};
 ghost use Rattle.tv_standing.specs.Seats.{is_over};
-ghost use Rattle.tv_run.specs.Turns.{StandsStill};
 
 use crate::run::OpenRun;
 use std::alloc::Global;
@@ -23,7 +22,7 @@ use tv_cell::{Piece, assemble};
 use tv_entries::Entry;
 use tv_flow::Feed;
 use tv_model::Totals;
-use tv_seats::{Seats, Stage};
+use tv_seats::Stage;
 use tv_value::{Copied, Name, NoMemory, Sequence, Value};
 
 /// The values of pieces, with the names of a flow's outputs.
@@ -86,39 +85,41 @@ fn is_settled(stage: Option<Stage>) -> bool
     }
 }
 
-/// How many jobs are settled. Linear in the seats.
-fn count_settled(seats: &Seats) -> u64
-    ensures { result ≡ count_by (λ s. is_over s.stage) seats.now.seats }
-{
-    let mut count = 0;
-    for number in 0..seats.len() {
-        if is_settled(seats.stage(number)) {
-            count += 1;
-        }
-    }
-    count
-}
-
 impl OpenRun {
     /// The outputs of a run that is done.
     pub fn outputs(&self) -> Result<Sequence<(Name, Value)>, NoMemory>
         requires { (gives : Giving) × StandsStill gives self.now × (is_done (past_of (run_of self.now)) ≡ true) }
         ensures { IfOk result (λ os. (gives : Giving) → StandsStill gives self.now → is_done (past_of (run_of self.now)) ≡ true → each view os ≡ map (λ o. (o.0, plain o.1)) (meant gives (run_of self.now)).outputs) }
     {
-        match self.frame.outputs() {
-            Some(pieces) => {
-                named_values(
-                    self.alloc,
-                    self.plan().flow.outputs.as_slice(),
-                    pieces.as_slice(),
-                )
-            }
+        let plan = self.run.flow(self.run.main());
+        match &self.outs {
+            Some(pieces) => named_values(
+                self.alloc,
+                plan.flow.outputs.as_slice(),
+                pieces.as_slice(),
+            ),
             None => unreachable!(),
         }
     }
 
-    /// The totals of the history so far.
+    /// How many jobs are settled. Linear in the jobs.
+    fn count_settled(&self) -> u64
+        requires { (gives : Giving) × StandsStill gives self.now }
+        ensures { (gives : Giving) → StandsStill gives self.now
+            → result ≡ length (filter (is_settled (past_of (run_of self.now))) (meant gives (run_of self.now)).jobs) }
+    {
+        let mut count = 0;
+        for job in 0..self.jobs.len() as u64 {
+            if is_settled(self.stage_of(job)) {
+                count += 1;
+            }
+        }
+        count
+    }
+
+    /// The totals of the history so far. Linear in the history and in the jobs.
     pub fn totals(&self) -> Totals
+        requires { (gives : Giving) × StandsStill gives self.now }
         ensures { (gives : Giving) → StandsStill gives self.now → totals_view result ≡ totals_so_far gives (run_of self.now) }
     {
         let entries = self.entries.as_slice();
@@ -126,7 +127,7 @@ impl OpenRun {
             attempts: count_accepted(entries) as u64,
             bounced: count_bounced(entries) as u64,
             failed: self.failed,
-            jobs: count_settled(&self.seats),
+            jobs: self.count_settled(),
         }
     }
 }

@@ -4,8 +4,8 @@ ghost use Rattle.tv_gate.specs.Outcomes.{Giving};
 ghost use Rattle.tv_flow.specs.Formed.{is_formed};
 ghost use Rattle.tv_history.specs.Histories.{is_done};
 ghost use Rattle.tv_entries.specs.Runs.{IsLegalRun, past_of};
-ghost use Rattle.tv_run.specs.Standing.{StandsOpen, run_of};
-ghost use Rattle.tv_run.specs.Turns.{IsOver, StandsStill};
+ghost use Rattle.tv_run.specs.Standing.{StandsOpen, StandsStill, run_of};
+ghost use Rattle.tv_run.specs.Turns.{IsOver};
 
 use crate::run::OpenRun;
 use tv_entries::Entry;
@@ -24,7 +24,7 @@ impl OpenRun {
         ensures still { result ≡ false → (gives : Giving) → StandsStill gives self.now → StandsOpen gives self.now }
         ensures over { result ≡ true → (gives : Giving) → StandsStill gives self.now → IsOver gives (run_of self.now) }
     {
-        self.done
+        self.outs.is_some()
     }
 
     /// Every run that stands is of a document that was read, and has a legal history. The call does nothing.

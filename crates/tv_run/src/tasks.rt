@@ -1,17 +1,26 @@
 //! Tasks of tickets.
-ghost use Rattle.std.specs.Prelude.{◌≡◌, Some, IfOk, is_some, true};
+ghost use Rattle.std.specs.Prelude.{◌≡◌, Some, IfOk, is_some, slice_get, true};
 ghost use Rattle.tv_value.specs.Activities.{service};
 ghost use Rattle.tv_gate.specs.Outcomes.{Giving};
 ghost use Rattle.tv_flow.specs.Views.{activity_view};
 ghost use Rattle.tv_entries.specs.Answers.{question};
 ghost use Rattle.tv_entries.specs.Calls.{IsTask, try_if_out};
 ghost use Rattle.tv_entries.specs.Declarations.{declared_for};
-ghost use Rattle.tv_going.specs.Flat.{is_service};
-ghost use Rattle.tv_run.specs.Standing.{run_of};
-ghost use Rattle.tv_run.specs.Turns.{StandsStill};
+ghost use Rattle.tv_cell.specs.PieceValues.{piece_values};
+ghost use Rattle.tv_cell.specs.Soundness.{AreSound};
+ghost use Rattle.tv_framing.specs.Answers.{AreInputs};
+ghost use Rattle.tv_framing.specs.Views.{View};
+ghost use Rattle.tv_seats.specs.Seats.{Seat};
+ghost use Rattle.tv_seated.specs.Seated.{spot_of};
+ghost use Rattle.tv_forest.specs.Forest.{Instance as AnInstance, Instances, IsAt};
+ghost use Rattle.tv_run.specs.Jobs.{IsOfOpen, is_service};
+ghost use Rattle.tv_run.specs.declared.instances.Numbered.{Numbered as TheNumbered};
+ghost use Rattle.tv_run.specs.Standing.{Fits, StandsStill, run_of};
 
+use crate::instances::Numbered;
 use crate::run::OpenRun;
 use std::alloc::Global;
+use tv_cell::Pieces;
 use tv_entries::{Task, Ticket};
 use tv_flow::Activity;
 use tv_results::values_of;
@@ -38,9 +47,7 @@ impl OpenRun {
         let step = self.step_at(ticket.job);
         let activity = &step.activities.as_slice()[ticket.activity as usize];
         let service = service_of(self.alloc, activity)?;
-        let pieces = self
-            .frame
-            .inputs(self.alloc, self.plan(), &self.pool, ticket.job)?;
+        let pieces = self.inputs_of(ticket.job)?;
         let inputs = values_of(self.alloc, pieces.as_slice())?;
         let outputs = step.outputs.copy(self.alloc)?;
         Ok(Task {
@@ -49,5 +56,19 @@ impl OpenRun {
             inputs,
             outputs,
         })
+    }
+
+    /// What a job of an open instance binds.
+    pub(crate) fn inputs_of(&self, job: u64) -> Result<Pieces, NoMemory>
+        requires { (xs : Instances) × Fits self.now xs × IsOfOpen self.now job }
+        ensures sound { IfOk result AreSound }
+        ensures values { IfOk result (λ ps. (xs : Instances) (n : TheNumbered) (x : AnInstance) (v : View) (s : Seat)
+            → Fits self.now xs → slice_get self.now.jobs.items job ≡ Some n → IsAt xs n.instance x → x.view ≡ Some v
+            → slice_get x.seats n.number ≡ Some s → AreInputs v (spot_of x.flow.steps s) (piece_values ps)) }
+    {
+        let Numbered { instance, number } = self.known(job);
+        let plan = self.plan_of(instance);
+        self.opened(instance)
+            .inputs(self.alloc, plan, &self.pool, number)
     }
 }

@@ -3,3 +3,4 @@ pub mod OfLists
 pub mod OfSeats
 pub mod OfEntries
 pub mod OfRuns
+pub mod OfEnds

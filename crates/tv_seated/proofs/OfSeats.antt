@@ -1,5 +1,5 @@
--- The seats of a run after an entry: those before, one at another stage, and those of jobs that became known.
-use Rattle.std.specs.Prelude.{◌≡◌, ◌≢◌, refl, ℕ, ◌+◌, ◌<◌, List, [], ◌∷◌, ◌++◌, true, false, not, ◌||◌, Some, length, map, slice_get}
+-- The seats of an instance after an entry: those before, one at another stage, and those of jobs that became known.
+use Rattle.std.specs.Prelude.{◌≡◌, ◌≢◌, refl, ℕ, ◌+◌, ◌<◌, List, [], ◌∷◌, ◌++◌, true, false, not, ◌&&◌, ◌||◌, Some, length, map, slice_get}
 use Rattle.std.specs.List.{list_any}
 use Rattle.std.proofs.Common.{ap, arith, subst, sym, ◌∙◌}
 use Rattle.std.proofs.lemmas.Bool.{false_from_ne_true}
@@ -8,10 +8,10 @@ use Rattle.std.proofs.lemmas.Option.{slice_get_within}
 use Rattle.tv_lemmas.proofs.Cases.{on_either}
 use Rattle.tv_value.specs.Nested.{Place}
 use Rattle.tv_value.specs.Orders.{same_job}
-use Rattle.tv_value.specs.Values.{Name}
+use Rattle.tv_value.specs.Values.{JobName, Name}
 use Rattle.tv_gate.specs.Outcomes.{Giving}
 use Rattle.tv_flow.specs.Flows.{Document, Flow, Step}
-use Rattle.tv_instance.specs.Events.{Event}
+use Rattle.tv_instance.specs.Events.{Event, has_result, is_taken}
 use Rattle.tv_model.specs.Jobs.{Job}
 use Rattle.tv_model.specs.Made.{Meaning}
 use Rattle.tv_model.specs.Meanings.{meaning}
@@ -19,9 +19,9 @@ use Rattle.tv_model.specs.Members.{In}
 use Rattle.tv_model.proofs.Sound.{spot-step}
 use Rattle.tv_model.proofs.Tests.{both_true, same_job_decides, true≠false}
 use Rattle.tv_history.specs.Entries.{Entry, History, is_begun_entry, is_out}
-use Rattle.tv_history.specs.Histories.{is_legal, is_legal_after, is_running, is_settled}
-use Rattle.tv_history.proofs.Ready.{AnyNumber, are-jobs, document-whole}
-use Rattle.tv_history.proofs.Running.{out-begun}
+use Rattle.tv_history.specs.Histories.{has_open_instance, is_legal, is_legal_after, is_running, is_settled}
+use Rattle.tv_history.proofs.Ready.{AnyNumber, all-sound, are-jobs, document-whole}
+use Rattle.tv_history.proofs.Running.{AreJobs, instance-begun, out-begun}
 use Rattle.tv_history.proofs.Tests.{false_left, false_right}
 use Rattle.tv_framing.specs.Frames.{IsFrame}
 use Rattle.tv_framing.specs.Stated.{IsOfDepths}
@@ -32,8 +32,8 @@ use Rattle.tv_seats.specs.declared.stage.Stage.{Stage}
 use Rattle.tv_seats.specs.declared.stage.Stage.TheVariants as stage
 use Rattle.tv_seats.proofs.Staging.{as-set, by-same, some-same, staged-here, staged-other}
 use Rattle.tv_viewed.specs.InRun.{IsInRun, IsJobThere, IsViewOf}
-use Rattle.tv_viewed.proofs.OfLaws.{begun-is_known, known_jobs-are_there}
-use Rattle.tv_seated.specs.GoingOn.{GoesOn}
+use Rattle.tv_viewed.proofs.OfLaws.{begun-is_known, known_jobs-are_there, taken-is_running}
+use Rattle.tv_seated.specs.GoingOn.{AreNewSeats, GoesOn}
 use Rattle.tv_seated.specs.Seated.{IsStage, Sit, spot_of}
 use Rattle.tv_seated.proofs.OfLists.{get-image, in-behind, in-either, in-front, is-member, place-of, same-images}
 use Rattle.tv_seated.proofs.OfStages.{LeavesAlone, stage-stays}
@@ -43,26 +43,69 @@ IsAt s g = (t : Name × Step) × (slice_get g.steps s.step ≡ Some t)
 
 -- ---- jobs and their spots
 
-module _ (gives : Giving) (d : Document) where
+module _ (gives : Giving) (d : Document) (I : JobName) where
   -- jobs at two spots have two names
-  pub other-name : (j k : Job) (x y : Name × Place) → IsJobThere gives d [] j x → IsJobThere gives d [] k y → x ≢ y
+  pub other-name : (j k : Job) (x y : Name × Place) → IsJobThere gives d I j x → IsJobThere gives d I k y → x ≢ y
       → same_job j.name k.name ≡ false
   other-name j k x y p q ne =
       false_from_ne_true (same_job j.name k.name)
       (λ h.
-      let e = spot-step [] x.0 y.0 x.1 y.1 (sym p.name ∙ (same_job_decides j.name k.name).0 h ∙ q.name) in
+      let e = spot-step I x.0 y.0 x.1 y.1 (sym p.name ∙ (same_job_decides j.name k.name).0 h ∙ q.name) in
       ne (λ i. (e.0 i, e.1 i)))
 
   -- and there is one job at a spot
-  pub one-job : (j k : Job) (x : Name × Place) → IsJobThere gives d [] j x → IsJobThere gives d [] k x → j ≡ k
+  pub one-job : (j k : Job) (x : Name × Place) → IsJobThere gives d I j x → IsJobThere gives d I k x → j ≡ k
   one-job j k x p q =
       (are-jobs gives AnyNumber (meaning gives d) [] (document-whole gives d)).once j k p.listed q.listed
       (p.name ∙ sym q.name)
 
--- ---- the seats of a run
+-- ---- jobs that haven't begun
 
-module _ (gives : Giving) (d : Document) (past : History) (levels : Name → ℕ) (v : View) (ss : List Seat)
-    (sit : Sit gives d past levels v ss) where
+module _ (gives : Giving) (d : Document) (past : History) (j : Job) (listed : In j (meaning gives d).jobs)
+    (untold : list_any (is_begun_entry j.name) past ≡ false) (unsettled : is_settled past j ≡ false) where
+  abbrev w : AreJobs gives (meaning gives d)
+  w = are-jobs gives AnyNumber (meaning gives d) [] (document-whole gives d)
+
+  -- one waits
+  pub unbegun-waits : IsStage past j stage.Waiting
+  unbegun-waits = record {
+    unsettled = unsettled;
+    runs = ap (λ b. b && not (is_settled past j)) untold;
+    is_out = false_from_ne_true (is_out past j.name) (λ h. true≠false (sym (out-begun past j.name h) ∙ untold));
+    inside =
+        false_from_ne_true (has_open_instance past j)
+        (λ h.
+        true≠false
+        (sym
+        (instance-begun gives (meaning gives d)
+        (all-sound gives AnyNumber (meaning gives d) [] (document-whole gives d)) w past j listed h)
+        ∙ untold));
+  }
+
+-- ---- an instance that was told nothing
+
+module _ (gives : Giving) (d : Document) (past : History) (I : JobName) (levels : Name → ℕ) (v : View)
+    (in_run : IsInRun gives d past I levels v) (none : v.events ≡ []) where
+  untold-waits : (j : Job) (x : Name × Place) → IsJobThere gives d I j x → IsStage past j stage.Waiting
+  untold-waits j x it =
+      let told = taken-is_running gives d past I levels v in_run x j it in
+      unbegun-waits gives d past j it.listed (told.begun ∙ ap (λ es. is_taken es x.0 x.1) none)
+      (told.settled ∙ ap (λ es. has_result es x.0 x.1) none)
+
+  pub untold-sits : (ss : List Seat) → map (spot_of v.flow.steps) ss ≡ v.jobs → AreNewSeats v.flow.steps ss
+      → Sit gives d past I levels v ss
+  untold-sits ss jobs new = record {
+    in_run = in_run;
+    jobs = jobs;
+    steps = new.there;
+    stages = λ n s j e it.
+        subst (IsStage past j) (sym (new.waiting n s e)) (untold-waits j (spot_of v.flow.steps s) it);
+  }
+
+-- ---- the seats of an instance
+
+module _ (gives : Giving) (d : Document) (past : History) (I : JobName) (levels : Name → ℕ) (v : View) (ss : List Seat)
+    (sit : Sit gives d past I levels v ss) where
   abbrev m : Meaning
   m = meaning gives d
 
@@ -70,7 +113,7 @@ module _ (gives : Giving) (d : Document) (past : History) (levels : Name → ℕ
   spot_at s = spot_of v.flow.steps s
 
   abbrev pub IsThere : Job → Name × Place → Type 0
-  IsThere j x = IsJobThere gives d [] j x
+  IsThere j x = IsJobThere gives d I j x
 
   spot-listed : (n : ℕ) (s : Seat) → slice_get ss n ≡ Some s → slice_get v.jobs n ≡ Some (spot_at s)
   spot-listed n s e = ap (λ l. slice_get l n) (sym sit.jobs) ∙ get-image spot_at ss n s e
@@ -79,10 +122,10 @@ module _ (gives : Giving) (d : Document) (past : History) (levels : Name → ℕ
   is-known n s e = is-member (spot_at s) v.jobs n (spot-listed n s e)
 
   pub its-job : (n : ℕ) (s : Seat) → slice_get ss n ≡ Some s → (j : Job) × IsThere j (spot_at s)
-  its-job n s e = known_jobs-are_there gives d past [] levels v sit.in_run (spot_at s) (is-known n s e)
+  its-job n s e = known_jobs-are_there gives d past I levels v sit.in_run (spot_at s) (is-known n s e)
 
   -- there is one seat at a spot
-  one-seat : (n k : ℕ) (s t : Seat) → slice_get ss n ≡ Some s → slice_get ss k ≡ Some t → spot_at s ≡ spot_at t → n ≡ k
+  pub one-seat : (n k : ℕ) (s t : Seat) → slice_get ss n ≡ Some s → slice_get ss k ≡ Some t → spot_at s ≡ spot_at t → n ≡ k
   one-seat n k s t e g h =
       jobs-differ v sit.in_run.frame (spot_at s).0 (spot_at s).1 n k (spot-listed n s e)
       (spot-listed k t g ∙ ap Some (sym h))
@@ -92,23 +135,21 @@ module _ (gives : Giving) (d : Document) (past : History) (levels : Name → ℕ
   unknown-waits j y it unknown =
       let neither =
       false_from_ne_true (is_running past j || is_settled past j)
-      (λ h. unknown (begun-is_known gives d past [] levels v sit.in_run y j it h)) in
+      (λ h. unknown (begun-is_known gives d past I levels v sit.in_run y j it h)) in
       let begun = list_any (is_begun_entry j.name) past in
       let idle = false_left (is_running past j) (is_settled past j) neither in
       let unsettled = false_right (is_running past j) (is_settled past j) neither in
-      let none_out =
-      false_from_ne_true (is_out past j.name)
-      (λ h.
-      let runs = both_true begun (not (is_settled past j)) (out-begun past j.name h) (ap not unsettled) in
-      true≠false (sym runs ∙ idle)) in
-      (idle, unsettled, none_out)
+      let untold =
+      false_from_ne_true begun
+      (λ h. true≠false (sym (both_true begun (not (is_settled past j)) h (ap not unsettled)) ∙ idle)) in
+      unbegun-waits gives d past j it.listed untold unsettled
 
   -- ---- after an entry
 
   module _ (x : Entry) where
     -- the run goes on with a legal entry, where the view does
     pub in-run : is_legal_after gives m past x ≡ true → (w : View) → w.flow ≡ v.flow → IsFrame w
-        → IsOfDepths d.flows levels w → IsViewOf gives d (x ∷ past) [] w → IsInRun gives d (x ∷ past) [] levels w
+        → IsOfDepths d.flows levels w → IsViewOf gives d (x ∷ past) I w → IsInRun gives d (x ∷ past) I levels w
     in-run legal w flow frame depths view = record {
       formed = sit.in_run.formed;
       accepted = sit.in_run.accepted;
@@ -134,11 +175,11 @@ module _ (gives : Giving) (d : Document) (past : History) (levels : Name → ℕ
       pub stages : AtStages us
 
     -- it is of no job
-    pub none-changes : ((j : Job) → LeavesAlone past x j) → AreThen ss
+    pub none-changes : ((j : Job) (y : Name × Place) → IsThere j y → LeavesAlone past x j) → AreThen ss
     none-changes alone = record {
       spots = sit.jobs;
       there = sit.steps;
-      stages = λ n s j e it. stage-stays past x j (alone j) s.stage (sit.stages n s j e it);
+      stages = λ n s j e it. stage-stays past x j (alone j (spot_at s) it) s.stage (sit.stages n s j e it);
     }
 
     -- it is of the job at this spot alone
@@ -166,7 +207,7 @@ module _ (gives : Giving) (d : Document) (past : History) (levels : Name → ℕ
           (sit.stages k t i g p))
           (λ is.
           let q : staged y s ≡ t = some-same (sym (staged-here ss n s y there) ∙ ap (slice_get changed) (sym is) ∙ e) in
-          let same = one-job gives d j i (spot_at s) it (subst (λ (u : Seat). IsThere i (spot_at u)) (sym q) p) in
+          let same = one-job gives d I j i (spot_at s) it (subst (λ (u : Seat). IsThere i (spot_at u)) (sym q) p) in
           subst (λ (u : Seat). IsStage (x ∷ past) i u.stage) q (subst (λ l. IsStage (x ∷ past) l y) same here))
 
       pub one-changes : AreThen (with_stage n y ss)
@@ -179,10 +220,9 @@ module _ (gives : Giving) (d : Document) (past : History) (levels : Name → ℕ
 
     -- ---- where the frame is told nothing
 
-    pub sits-same : (us : List Seat) → AreThen us → IsInRun gives d (x ∷ past) [] levels v
-        → Sit gives d (x ∷ past) levels v us
+    pub sits-same : (us : List Seat) → AreThen us → IsInRun gives d (x ∷ past) I levels v
+        → Sit gives d (x ∷ past) I levels v us
     sits-same us kept now = record {
-      flat = sit.flat;
       in_run = now;
       jobs = kept.spots;
       steps = kept.there;
@@ -219,10 +259,9 @@ module _ (gives : Giving) (d : Document) (past : History) (levels : Name → ℕ
             (stage-stays past x j (known j (spot_at s) it unknown) stage.Waiting
             (unknown-waits j (spot_at s) it unknown))
 
-        pub sits-on : (us : List Seat) → AreThen us → IsInRun gives d (x ∷ past) [] levels w
-            → Sit gives d (x ∷ past) levels w (us ++ ns)
+        pub sits-on : (us : List Seat) → AreThen us → IsInRun gives d (x ∷ past) I levels w
+            → Sit gives d (x ∷ past) I levels w (us ++ ns)
         sits-on us kept now = record {
-          flat = sit.flat;
           in_run = now;
           jobs =
               ap (λ (g : Flow). map (spot_of g.steps) (us ++ ns)) flow ∙ map-append spot_at us ns

@@ -1,18 +1,28 @@
-//! How the seats go on in every run that opens no flow: each law is the clause of a function that does nothing.
-ghost use Rattle.tv_seated.specs.GoingOn.{EndKeepsStages, HandedOutAgain, HandedOutFirst, JobSettles, LevelSettles, Recalled, SitAtStart, TriedAgain};
+//! How the seats of an instance go on in its run: each law is the clause of a function that does nothing.
+ghost use Rattle.tv_seated.specs.GoingOn.{ElsewhereStays, EndSettlesJob, EndedStays, EndsSettled, HandedOutAgain, HandedOutFirst, JobSettles, LevelSettles, OpenedAfterTries, OpenedFirst, PutAside, Recalled, SitAtStart, SitWhereOpened, TriedAgain};
 
-/// Before any entry the known jobs of the main instance wait.
+/// The known jobs of an instance wait where it starts: those of the main one before any entry, those of another once its flow
+/// is opened.
 pub fn seats_start()
-    ensures { SitAtStart }
+    ensures main { SitAtStart }
+    ensures nested { SitWhereOpened }
 {}
 
-/// With a try that goes out its job's seat is out, and after an outcome settled, or idle where another try follows; a
-/// bounced job's seat is settled.
+/// With a try that goes out its job's seat is out, and after an outcome settled, or idle where another try follows, or aside
+/// where a flow does; a bounced job's seat is settled.
 pub fn seats_of_jobs()
     ensures first { HandedOutFirst }
     ensures again { HandedOutAgain }
     ensures settles { JobSettles }
     ensures tried { TriedAgain }
+    ensures aside { PutAside }
+{}
+
+/// With its flow a job's seat holds the number of the instance, and the flow's end settles the job.
+pub fn seats_of_openers()
+    ensures first { OpenedFirst }
+    ensures after_tries { OpenedAfterTries }
+    ensures ends { EndSettlesJob }
 {}
 
 /// Lists that close and faults that pass leave all seats as they are; a recall puts all back that are out, and at the end
@@ -20,5 +30,11 @@ pub fn seats_of_jobs()
 pub fn seats_of_runs()
     ensures levels { LevelSettles }
     ensures recalls { Recalled }
-    ensures ends { EndKeepsStages }
+    ensures ends { EndsSettled }
+{}
+
+/// Entries of other instances leave the seats of an instance as they are, and all entries those of one that has ended.
+pub fn seats_stay()
+    ensures elsewhere { ElsewhereStays }
+    ensures ended { EndedStays }
 {}

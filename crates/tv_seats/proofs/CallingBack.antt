@@ -1,13 +1,13 @@
 -- All jobs that are out are idle again, one after the other.
-use Rattle.std.specs.Prelude.{◌≡◌, ◌≢◌, ℕ, zero, suc, ◌+◌, ◌-◌, ◌<◌, ◌≤◌, ◌&&◌, ◌==◌, Bool, true, false, List, [], ◌∷◌, Option, Some, None, length, map, option_map, slice_get, slice_set, refl}
+use Rattle.std.specs.Prelude.{◌≡◌, ◌≢◌, ℕ, zero, suc, ◌+◌, ◌-◌, ◌<◌, ◌≤◌, ◌&&◌, ◌==◌, ◌⊎◌, Bool, true, false, List, [], ◌∷◌, Option, Some, None, length, map, option_map, slice_get, slice_set, refl}
 use Rattle.std.specs.Option.{option_map_or}
-use Rattle.std.proofs.Common.{arith, ap, subst, sym, ◌∙◌}
+use Rattle.std.proofs.Common.{arith, ap, subst, sym, ◌∙◌, inl, inr}
 use Rattle.std.proofs.lemmas.Bool.{eq-eqb, eqb-true}
 use Rattle.std.proofs.lemmas.List.{get_or-set_other, get_or-set_same}
 use Rattle.tv_seats.specs.declared.stage.Stage.{Stage}
 use Rattle.tv_seats.specs.declared.stage.Stage.TheVariants as stage
 use Rattle.tv_seats.specs.declared.steps.StepSeats.{StepSeats}
-use Rattle.tv_seats.specs.Kept.{AreKept, all_levels, all_rooms}
+use Rattle.tv_seats.specs.Kept.{AreKept, all_aside_rooms, all_levels, all_nested_rooms, all_rooms}
 use Rattle.tv_seats.specs.Seats.{Seat, Seated, HasBackRooms, back, back_room, count_at, stage_at, staged, step_at, with_back, with_stage}
 use Rattle.tv_seats.specs.Stages.{called_back, is_out}
 use Rattle.tv_seats.specs.Tables.{Rows}
@@ -38,6 +38,8 @@ stays seats n x h not_out =
     still stage.Waiting g = refl
     still (stage.Out a t) g = absurd (g a t refl)
     still (stage.Idle a t) g = refl
+    still (stage.Aside a) g = refl
+    still (stage.Nested i) g = refl
     still stage.Settled g = refl
 
 pub many-rooms : (xs : List StepSeats) → length (all_rooms xs) ≡ length (all_levels xs)
@@ -46,7 +48,14 @@ many-rooms (x ∷ xs) = ap suc (many-rooms xs)
 
 -- what is seen of all that is kept
 abbrev pub seen : Rows → List StepSeats → Seated
-seen t steps = record { seats = t.seats; levels = all_levels steps; room = t.room; back_rooms = all_rooms steps }
+seen t steps = record {
+  seats = t.seats;
+  levels = all_levels steps;
+  room = t.room;
+  back_rooms = all_rooms steps;
+  aside_rooms = all_aside_rooms steps;
+  nested_rooms = all_nested_rooms steps;
+}
 
 module _ (t : Rows) (steps : List StepSeats) (out : ℕ) (kept : AreKept t steps out) (n a b : ℕ) (rooms : HasBackRooms (seen t steps)) (at : Some (stage.Out a b) ≡ stage_at t.seats n) where
   abbrev seat : Seat
@@ -108,6 +117,46 @@ module _ (t : Rows) (steps : List StepSeats) (out : ℕ) (kept : AreKept t steps
               → count_at is_out k (with_stage n (stage.Idle a b) t.seats) ≡ count_at is_out k t.seats
           other true f h = let same : true ≡ false = sym (eq-eqb k seat.step (sym (eqb-true seat.step k f))) ∙ e in cc
           other false f h = omega (arith, h)
+
+-- ---- rooms, taken for one step after the other
+
+module _ (rooms after : List ℕ) (n c : ℕ) (outs : ℕ → ℕ) (are : after ≡ slice_set rooms n c) (taken : back_room after n ≡ c) (is : c ≡ outs n) where
+  at-step : (k : ℕ) → (back_room after k ≡ outs k) ⊎ (back_room after k ≡ back_room rooms k)
+  at-step k = by (k == n) refl
+    where
+      by : (e : Bool) → (k == n) ≡ e → (back_room after k ≡ outs k) ⊎ (back_room after k ≡ back_room rooms k)
+      by true e = let same : k ≡ n = eqb-true k n e in inl (ap (back_room after) same ∙ taken ∙ is ∙ ap outs (sym same))
+      by false e =
+          let ne : k ≢ n = λ same. let f : false ≡ true = sym e ∙ eq-eqb k n same in cc in
+          inr (ap (λ rs. back_room rs k) are ∙ get_or-set_other rooms n k c 0 ne)
+
+  pub reserved-more : ((k : ℕ) → k < n → outs k ≤ back_room rooms k) → (k : ℕ) → k < n + 1 → outs k ≤ back_room after k
+  reserved-more before k low = by (k == n) refl
+    where
+      by : (e : Bool) → (k == n) ≡ e → outs k ≤ back_room after k
+      by true e =
+          let same : k ≡ n = eqb-true k n e in
+          let all : back_room after k ≡ outs k = ap (back_room after) same ∙ taken ∙ is ∙ ap outs (sym same) in
+          omega (arith, all)
+      by false e =
+          let ne : k ≢ n = λ same. let f : false ≡ true = sym e ∙ eq-eqb k n same in cc in
+          let b = before k (omega (arith, low, ne)) in
+          elim (at-step k) [
+            | inl h ↦ omega (arith, h)
+            | inr h ↦ omega (arith, h, b)
+          ]
+
+  pub reserved-as : (first : List ℕ) → ((k : ℕ) → (back_room rooms k ≡ back_room first k) ⊎ (back_room rooms k ≡ outs k))
+      → (k : ℕ) → (back_room after k ≡ back_room first k) ⊎ (back_room after k ≡ outs k)
+  reserved-as first before k =
+      elim (at-step k) [
+        | inl h ↦ inr h
+        | inr h ↦
+            elim (before k) [
+              | inl b ↦ inl (h ∙ b)
+              | inr b ↦ inr (h ∙ b)
+            ]
+      ]
 
 -- ---- all of them
 

@@ -1,5 +1,6 @@
 -- What is kept beside the seats, where one seat stands at another stage, or one more sits down.
-use Rattle.std.specs.Prelude.{◌≡◌, ◌≢◌, ℕ, zero, suc, ◌+◌, ◌<◌, ◌≤◌, ◌^◌, ◌&&◌, ◌==◌, Bool, true, false, List, [], ◌∷◌, Option, Some, None, length, map, slice_get, slice_index_or, slice_set, refl}
+use Rattle.std.specs.Prelude.{◌≡◌, ◌≢◌, ℕ, zero, suc, ◌+◌, ◌-◌, ◌<◌, ◌≤◌, ◌^◌, ◌&&◌, ◌==◌, Bool, true, false, List, [], ◌∷◌, Option, Some, None, length, map, slice_get, slice_index_or, slice_set, vec_capacity, Vec, refl}
+use Rattle.std.specs.Global.{Global}
 use Rattle.std.specs.Option.{option_map_or}
 use Rattle.std.proofs.Common.{arith, ap, subst, sym, ◌∙◌}
 use Rattle.std.proofs.lemmas.Bool.{eq-eqb, eqb-true}
@@ -8,12 +9,12 @@ use Rattle.std.proofs.lemmas.Option.{slice_get_read}
 use Rattle.tv_seats.specs.declared.stage.Stage.{Stage}
 use Rattle.tv_seats.specs.declared.stage.Stage.TheVariants as stage
 use Rattle.tv_seats.specs.declared.steps.StepSeats.{StepSeats}
-use Rattle.tv_seats.specs.Kept.{AreApart, AreIdleJobs, AreKept, AreOfSteps, StepIsKept, all_levels, all_rooms}
-use Rattle.tv_seats.specs.Seats.{Seat, count_at, levels_of, out_count, staged, stands, step_at, with_stage}
-use Rattle.tv_seats.specs.Stages.{is_out, runs}
+use Rattle.tv_seats.specs.Kept.{AreApart, AreJobsAt, AreKept, AreNumbersAt, AreOfSteps, StepIsKept, all_levels, all_rooms}
+use Rattle.tv_seats.specs.Seats.{Seat, count_at, levels_of, one_less, out_count, room_at, staged, stands, step_at, with_stage}
+use Rattle.tv_seats.specs.Stages.{is_aside, is_idle, is_nested, is_out, runs}
 use Rattle.tv_seats.specs.Tables.{Rows}
 use Rattle.tv_seats.proofs.Staging.{by-same, one, set-here, set-other, some-same, staged-count, staged-here, staged-long, staged-other}
-use Rattle.tv_seats.proofs.Listing.{same-idle}
+use Rattle.tv_seats.proofs.Listing.{same-at, same-numbers}
 
 -- ---- looking up
 
@@ -44,24 +45,28 @@ set-levels = set-kept (λ x. x.idle.levels)
 pub same-rooms : (xs : List StepSeats) (k : ℕ) (y z : StepSeats) → slice_get xs k ≡ Some y → z.idle.room ≡ y.idle.room → all_rooms (slice_set xs k z) ≡ all_rooms xs
 same-rooms = set-kept (λ x. x.idle.room)
 
-pub set-rooms : (xs : List StepSeats) (k : ℕ) (z : StepSeats) → all_rooms (slice_set xs k z) ≡ slice_set (all_rooms xs) k z.idle.room
-set-rooms [] k z = refl
-set-rooms (x ∷ xs) zero z = refl
-set-rooms (x ∷ xs) (suc k) z = ap (λ l. x.idle.room ∷ l) (set-rooms xs k z)
+pub set-all : (f : StepSeats → ℕ) (xs : List StepSeats) (k : ℕ) (z : StepSeats) → map f (slice_set xs k z) ≡ slice_set (map f xs) k (f z)
+set-all f [] k z = refl
+set-all f (x ∷ xs) zero z = refl
+set-all f (x ∷ xs) (suc k) z = ap (λ l. f x ∷ l) (set-all f xs k z)
 
-pub levels-at : (xs : List StepSeats) (k : ℕ) (y : StepSeats) → slice_get xs k ≡ Some y → levels_of (all_levels xs) k ≡ y.idle.levels
-levels-at [] k y e = cc
-levels-at (x ∷ xs) zero y e = ap (λ (w : StepSeats). w.idle.levels) (some-same e)
-levels-at (x ∷ xs) (suc k) y e = levels-at xs k y e
+pub set-rooms : (xs : List StepSeats) (k : ℕ) (z : StepSeats) → all_rooms (slice_set xs k z) ≡ slice_set (all_rooms xs) k z.idle.room
+set-rooms = set-all (λ x. x.idle.room)
+
+pub all-at : (f : StepSeats → ℕ) (xs : List StepSeats) (k : ℕ) (y : StepSeats) → slice_get xs k ≡ Some y → slice_index_or (map f xs) k 0 ≡ f y
+all-at f [] k y e = cc
+all-at f (x ∷ xs) zero y e = ap f (some-same e)
+all-at f (x ∷ xs) (suc k) y e = all-at f xs k y e
 
 pub room-at : (xs : List StepSeats) (k : ℕ) (y : StepSeats) → slice_get xs k ≡ Some y → slice_index_or (all_rooms xs) k 0 ≡ y.idle.room
-room-at [] k y e = cc
-room-at (x ∷ xs) zero y e = ap (λ (w : StepSeats). w.idle.room) (some-same e)
-room-at (x ∷ xs) (suc k) y e = room-at xs k y e
+room-at = all-at (λ x. x.idle.room)
+
+pub many-all : (f : StepSeats → ℕ) (xs : List StepSeats) → length (map f xs) ≡ length xs
+many-all f [] = refl
+many-all f (x ∷ xs) = ap suc (many-all f xs)
 
 pub many-levels : (xs : List StepSeats) → length (all_levels xs) ≡ length xs
-many-levels [] = refl
-many-levels (x ∷ xs) = ap suc (many-levels xs)
+many-levels = many-all (λ x. x.idle.levels)
 
 -- ---- one seat stands at another stage
 
@@ -102,13 +107,33 @@ module _ (seats : List Seat) (n : ℕ) (s : Seat) (x : Stage) (there : slice_get
       ∙ count-after p s.step
       ∙ ap (λ b. count_at p s.step seats + one (b && p x)) e
 
+  -- a list of its step that doesn't change
+  pub still-at : (p : Stage → Bool) (js ks : List (ℕ × List ℕ)) → ks ≡ js → p s.stage ≡ false → p x ≡ false
+      → AreJobsAt p seats s.step js → AreJobsAt p after s.step ks
+  still-at p js ks same was becomes a =
+      subst (AreJobsAt p after s.step) (sym same) (same-at p seats n s x there s.step js (λ e. was) (λ e. becomes) a)
+
+  pub still-numbers : (p : Stage → Bool) (ns ms : List ℕ) → ms ≡ ns → p s.stage ≡ false → p x ≡ false
+      → AreNumbersAt p seats s.step ns → AreNumbersAt p after s.step ms
+  still-numbers p ns ms same was becomes a =
+      subst (AreNumbersAt p after s.step) (sym same) (same-numbers p seats n s x there s.step ns (λ e. was) (λ e. becomes) a)
+
   -- at its step
-  pub step-changed : (y z : StepSeats) → StepIsKept seats s.step y → AreIdleJobs after s.step z.idle.jobs
+  pub step-changed : (y z : StepSeats) → StepIsKept seats s.step y
+      → AreJobsAt is_idle after s.step z.idle.jobs
+      → AreJobsAt is_aside after s.step z.aside.jobs
+      → AreNumbersAt is_nested after s.step z.nested.items
+      → z.aside.levels ≡ z.idle.levels
+      → length z.nested.items + z.nested_room ≤ vec_capacity z.nested
       → z.running + one (runs s.stage) ≡ y.running + one (runs x)
       → z.out + one (is_out s.stage) ≡ y.out + one (is_out x)
       → StepIsKept after s.step z
-  step-changed y z kept listed running out = record {
-    listed = listed;
+  step-changed y z kept idle aside nested levels room running out = record {
+    idle = idle;
+    aside = aside;
+    nested = nested;
+    levels = levels;
+    room = room;
     running =
         let a = count-here runs in
         let b = kept.running in
@@ -122,7 +147,11 @@ module _ (seats : List Seat) (n : ℕ) (s : Seat) (x : Stage) (there : slice_get
   -- at another
   step-other : (k : ℕ) (y : StepSeats) → s.step ≢ k → StepIsKept seats k y → StepIsKept after k y
   step-other k y ne kept = record {
-    listed = same-idle seats n s x there k y.idle.jobs (λ e. absurd (ne e)) (λ e. absurd (ne e)) kept.listed;
+    idle = same-at is_idle seats n s x there k y.idle.jobs (λ e. absurd (ne e)) (λ e. absurd (ne e)) kept.idle;
+    aside = same-at is_aside seats n s x there k y.aside.jobs (λ e. absurd (ne e)) (λ e. absurd (ne e)) kept.aside;
+    nested = same-numbers is_nested seats n s x there k y.nested.items (λ e. absurd (ne e)) (λ e. absurd (ne e)) kept.nested;
+    levels = kept.levels;
+    room = kept.room;
     running = let a = at_other runs in let b = kept.running in omega (arith, a, b);
     out = let a = at_other is_out in let b = kept.out in omega (arith, a, b);
   }
@@ -133,6 +162,13 @@ module _ (seats : List Seat) (n : ℕ) (s : Seat) (x : Stage) (there : slice_get
           by : (b : Bool) → (s.step == k) ≡ b → count_at p k after + one (b && p s.stage) ≡ count_at p k seats + one (b && p x) → count_at p k after ≡ count_at p k seats
           by true e h = absurd (ne (eqb-true s.step k e))
           by false e h = omega (arith, h)
+
+-- the same open flows have the same room
+pub same-nested : (seats : List Seat) (k : ℕ) (y z : StepSeats) → StepIsKept seats k y → z.nested ≡ y.nested → z.nested_room ≡ y.nested_room
+    → length z.nested.items + z.nested_room ≤ vec_capacity z.nested
+same-nested seats k y z kept nested room =
+    subst (λ (v : Vec ℕ Global). length v.items + z.nested_room ≤ vec_capacity v) (sym nested)
+    (subst (λ m. length y.nested.items + m ≤ vec_capacity y.nested) (sym room) kept.room)
 
 -- the table t becomes u, of its step y becomes z
 pub record Changes (t u : Rows) (n : ℕ) (s : Seat) (x : Stage) (steps after : List StepSeats) (y z : StepSeats) : Type 0 where
@@ -196,6 +232,10 @@ module _ (t : Rows) (steps : List StepSeats) (out : ℕ) (kept : AreKept t steps
   pub step-read : (y : StepSeats) → y ≡ slice_index_or steps s.step y → slice_get steps s.step ≡ Some y
   step-read y e = slice_get_read steps (length steps) s.step y refl inside e
 
+  -- where its step's number was read off the seats
+  pub step-at-read : (k : ℕ) → k ≡ step_at t.seats n → (y : StepSeats) → y ≡ slice_index_or steps k y → slice_get steps s.step ≡ Some y
+  step-at-read k e y f = step-read y (f ∙ ap (λ k. slice_index_or steps k y) (e ∙ step-there t.seats n s there))
+
   module _ (y : StepSeats) (step : slice_get steps s.step ≡ Some y) where
     -- the counts fit whatever it comes to
     counted-fits : (p : Stage → Bool) (x : Stage) → count_at p s.step t.seats + one (p x) < 2 ^ 32 + one (p s.stage)
@@ -233,6 +273,17 @@ module _ (t : Rows) (steps : List StepSeats) (out : ℕ) (kept : AreKept t steps
 
 -- ---- rooms
 
+-- one room less of its step
+pub one-taken : (f : StepSeats → ℕ) (t : Rows) (steps : List StepSeats) (out : ℕ) (kept : AreKept t steps out) (n : ℕ) (s : Seat) (there : slice_get t.seats n ≡ Some s)
+    → (k : ℕ) → k ≡ step_at t.seats n → (y z : StepSeats) → slice_get steps s.step ≡ Some y → f z ≡ f y - 1
+    → map f (slice_set steps k z) ≡ one_less (step_at t.seats n) (map f steps)
+one-taken f t steps out kept n s there k is y z step less =
+    let at = step-there t.seats n s there in
+    set-all f steps k z
+    ∙ ap (slice_set (map f steps) k) (less ∙ ap (λ m. m - 1) (sym (all-at f steps s.step y step)))
+    ∙ ap (λ k. slice_set (map f steps) k (room_at (map f steps) s.step - 1)) is
+    ∙ ap (λ k. slice_set (map f steps) (step_at t.seats n) (room_at (map f steps) k - 1)) (sym at)
+
 -- the same seats with another room
 pub roomy-kept : (t u : Rows) (steps : List StepSeats) (out : ℕ) → u.seats ≡ t.seats → u.widest ≡ t.widest → length u.seats + u.room < 2 ^ 32
     → AreKept t steps out → AreKept u steps out
@@ -246,13 +297,11 @@ roomy-kept t u steps out seats widest numbers kept = record {
 }
 
 pub reserved-kept : (t : Rows) (steps : List StepSeats) (out k : ℕ) (y z : StepSeats) → slice_get steps k ≡ Some y
-    → z.idle.jobs ≡ y.idle.jobs
     → z.idle.levels ≡ y.idle.levels
-    → z.running ≡ y.running
-    → z.out ≡ y.out
+    → (StepIsKept t.seats k y → StepIsKept t.seats k z)
     → AreKept t steps out
     → AreKept t (slice_set steps k z) out
-reserved-kept t steps out k y z step jobs levels running outs kept = record {
+reserved-kept t steps out k y z step levels keeps kept = record {
   each = λ l w e. by l w (l == k) refl e;
   of_steps = subst (λ ls. AreOfSteps ls t.seats) (sym same) kept.of_steps;
   apart = kept.apart;
@@ -264,20 +313,33 @@ reserved-kept t steps out k y z step jobs levels running outs kept = record {
     same : all_levels (slice_set steps k z) ≡ all_levels steps
     same = set-levels steps k y z step levels
 
-    new : StepIsKept t.seats k z
-    new =
-        let old = kept.each k y step in
-        record {
-          listed = subst (AreIdleJobs t.seats k) (sym jobs) old.listed;
-          running = running ∙ old.running;
-          out = outs ∙ old.out;
-        }
-
     by : (l : ℕ) (w : StepSeats) (b : Bool) → (l == k) ≡ b → slice_get (slice_set steps k z) l ≡ Some w → StepIsKept t.seats l w
     by l w true e h =
         let is : l ≡ k = eqb-true l k e in
         let at : w ≡ z = sym (some-same (sym (set-here steps k y z step) ∙ (ap (slice_get (slice_set steps k z)) (sym is) ∙ h))) in
-        subst (λ m. StepIsKept t.seats m w) (sym is) (subst (StepIsKept t.seats k) (sym at) new)
+        subst (λ m. StepIsKept t.seats m w) (sym is) (subst (StepIsKept t.seats k) (sym at) (keeps (kept.each k y step)))
     by l w false e h =
         let ne : l ≢ k = λ is. let f : false ≡ true = sym e ∙ eq-eqb l k is in cc in
         kept.each l w (sym (set-other steps k l z ne) ∙ h)
+
+-- the same jobs with another room
+pub roomy-step : (seats : List Seat) (k : ℕ) (y z : StepSeats)
+    → z.idle.jobs ≡ y.idle.jobs
+    → z.idle.levels ≡ y.idle.levels
+    → z.aside.jobs ≡ y.aside.jobs
+    → z.aside.levels ≡ y.aside.levels
+    → z.nested.items ≡ y.nested.items
+    → (length y.nested.items + y.nested_room ≤ vec_capacity y.nested → length z.nested.items + z.nested_room ≤ vec_capacity z.nested)
+    → z.running ≡ y.running
+    → z.out ≡ y.out
+    → StepIsKept seats k y
+    → StepIsKept seats k z
+roomy-step seats k y z idle levels aside aside_levels nested room running out kept = record {
+  idle = subst (AreJobsAt is_idle seats k) (sym idle) kept.idle;
+  aside = subst (AreJobsAt is_aside seats k) (sym aside) kept.aside;
+  nested = subst (AreNumbersAt is_nested seats k) (sym nested) kept.nested;
+  levels = aside_levels ∙ kept.levels ∙ sym levels;
+  room = room kept.room;
+  running = running ∙ kept.running;
+  out = out ∙ kept.out;
+}

@@ -4,10 +4,9 @@ use Rattle.std.proofs.Common.{arith, ap, subst, sym, ◌∙◌, inl, inr, length
 use Rattle.tv_seats.specs.declared.stage.Stage.{Stage}
 use Rattle.tv_seats.specs.declared.stage.Stage.TheVariants as stage
 use Rattle.tv_seats.specs.declared.steps.StepSeats.{StepSeats}
-use Rattle.tv_seats.specs.Firsts.{IsIdleSeat}
-use Rattle.tv_seats.specs.Kept.{AreApart, AreKept, AreOfSteps, StepIsKept, all_levels}
+use Rattle.tv_seats.specs.Kept.{AreApart, AreJobsAt, AreKept, AreOfSteps, IsSeatAt, StepIsKept, all_levels}
 use Rattle.tv_seats.specs.Seats.{IsFree, Seat, count_at, levels_of, new_seat, out_count}
-use Rattle.tv_seats.specs.Stages.{is_idle, is_out, runs}
+use Rattle.tv_seats.specs.Stages.{is_aside, is_idle, is_nested, is_out, runs}
 use Rattle.tv_seats.specs.Tables.{Rows}
 use Rattle.tv_seats.proofs.Staging.{count-last, one, some-same}
 
@@ -31,19 +30,27 @@ module _ (seats : List Seat) (k : ℕ) (q : List ℕ) where
   abbrev after : List Seat
   after = seats ++ new_seat k q ∷ []
 
-  idle-before : (l n : ℕ) (s : Seat) → IsIdleSeat after l n s → IsIdleSeat seats l n s
-  idle-before l n s i =
-      elim (get-last seats (new_seat k q) n s i.there) [
-        | inl h ↦ record { there = h; of_step = i.of_step; idle = i.idle }
-        | inr h ↦ let bad : true ≡ false = sym i.idle ∙ ap (λ (s : Seat). is_idle s.stage) h.1 in cc
-      ]
+  module _ (p : Stage → Bool) (waits : p stage.Waiting ≡ false) where
+    at-before : (l n : ℕ) (s : Seat) → IsSeatAt p after l n s → IsSeatAt p seats l n s
+    at-before l n s i =
+        elim (get-last seats (new_seat k q) n s i.there) [
+          | inl h ↦ record { there = h; of_step = i.of_step; stands = i.stands }
+          | inr h ↦ let bad : true ≡ false = sym i.stands ∙ ap (λ (s : Seat). p s.stage) h.1 ∙ waits in cc
+        ]
 
-  idle-after : (l n : ℕ) (s : Seat) → IsIdleSeat seats l n s → IsIdleSeat after l n s
-  idle-after l n s i = record {
-    there = get-front seats (new_seat k q ∷ []) n s i.there;
-    of_step = i.of_step;
-    idle = i.idle;
-  }
+    at-after : (l n : ℕ) (s : Seat) → IsSeatAt p seats l n s → IsSeatAt p after l n s
+    at-after l n s i = record {
+      there = get-front seats (new_seat k q ∷ []) n s i.there;
+      of_step = i.of_step;
+      stands = i.stands;
+    }
+
+    jobs-still : (l : ℕ) (js : List (ℕ × List ℕ)) → AreJobsAt p seats l js → AreJobsAt p after l js
+    jobs-still l js a = record {
+      in_order = a.in_order;
+      each = λ j o. let i = a.each j o in (i.0, at-after l j.0 i.0 i.1, i.2);
+      all = λ j i. a.all j (i.0, at-before l j.0 i.0 i.1, i.2);
+    }
 
   count-same : (p : Stage → Bool) (l : ℕ) → p stage.Waiting ≡ false → count_at p l after ≡ count_at p l seats
   count-same p l e =
@@ -57,11 +64,11 @@ module _ (seats : List Seat) (k : ℕ) (q : List ℕ) where
 
   step-still : (l : ℕ) (y : StepSeats) → StepIsKept seats l y → StepIsKept after l y
   step-still l y kept = record {
-    listed = record {
-      in_order = kept.listed.in_order;
-      idle = λ j o. let i = kept.listed.idle j o in (i.0, idle-after l j.0 i.0 i.1, i.2);
-      all = λ j i. kept.listed.all j (i.0, idle-before l j.0 i.0 i.1, i.2);
-    };
+    idle = jobs-still is_idle refl l y.idle.jobs kept.idle;
+    aside = jobs-still is_aside refl l y.aside.jobs kept.aside;
+    nested = record { jobs = kept.nested.jobs; numbers = kept.nested.numbers; are = jobs-still is_nested refl l kept.nested.jobs kept.nested.are };
+    levels = kept.levels;
+    room = kept.room;
     running = kept.running ∙ sym (count-same runs l refl);
     out = kept.out ∙ sym (count-same is_out l refl);
   }

@@ -5,7 +5,7 @@ use Rattle.std.proofs.Common.{arith, ap, sym, ◌∙◌, length-set}
 use Rattle.std.proofs.lemmas.Bool.{eq-eqb, eqb-true}
 use Rattle.std.proofs.lemmas.List.Sums.{sum_by-cons}
 use Rattle.tv_seats.specs.declared.stage.Stage.{Stage}
-use Rattle.tv_seats.specs.Firsts.{IsIdleSeat}
+use Rattle.tv_seats.specs.Kept.{IsSeatAt}
 use Rattle.tv_seats.specs.Seats.{Seat, staged, with_stage}
 
 -- ---- lists
@@ -80,7 +80,7 @@ module _ (seats : List Seat) (n : ℕ) (s : Seat) (x : Stage) (there : slice_get
   pub staged-count : (p : Seat → Bool) → count_by p (with_stage n x seats) + one (p s) ≡ count_by p seats + one (p (staged x s))
   staged-count p = ap (λ l. count_by p l + one (p s)) as-set ∙ count-set p seats n s (staged x s) there
 
-  -- ---- which are idle
+  -- ---- which are at such a stage
 
   pub by-same : {R : Type 0} (m : ℕ) → (m ≢ n → R) → (m ≡ n → R) → R
   by-same {R} m other same = by (m == n) refl
@@ -89,17 +89,17 @@ module _ (seats : List Seat) (n : ℕ) (s : Seat) (x : Stage) (there : slice_get
       by true e = same (eqb-true m n e)
       by false e = other (λ is. let f : false ≡ true = sym e ∙ eq-eqb m n is in cc)
 
-  -- one that is idle afterwards was so before, or is this one
-  pub idle-before : {R : Type 0} (k m : ℕ) (t : Seat) → IsIdleSeat after k m t
-      → (m ≢ n → IsIdleSeat seats k m t → R) → (m ≡ n → t ≡ staged x s → R) → R
-  idle-before k m t i other same =
+  -- one that is so afterwards was so before, or is this one
+  pub at-before : {R : Type 0} (p : Stage → Bool) (k m : ℕ) (t : Seat) → IsSeatAt p after k m t
+      → (m ≢ n → IsSeatAt p seats k m t → R) → (m ≡ n → t ≡ staged x s → R) → R
+  at-before p k m t i other same =
       by-same m
-      (λ ne. other ne (record { there = sym (staged-other m ne) ∙ i.there; of_step = i.of_step; idle = i.idle }))
+      (λ ne. other ne (record { there = sym (staged-other m ne) ∙ i.there; of_step = i.of_step; stands = i.stands }))
       (λ is. same is (sym (some-same (sym staged-here ∙ (ap (slice_get after) (sym is) ∙ i.there)))))
 
-  pub idle-after : {R : Type 0} (k m : ℕ) (t : Seat) → IsIdleSeat seats k m t
-      → (m ≢ n → IsIdleSeat after k m t → R) → (m ≡ n → t ≡ s → R) → R
-  idle-after k m t i other same =
+  pub at-after : {R : Type 0} (p : Stage → Bool) (k m : ℕ) (t : Seat) → IsSeatAt p seats k m t
+      → (m ≢ n → IsSeatAt p after k m t → R) → (m ≡ n → t ≡ s → R) → R
+  at-after p k m t i other same =
       by-same m
-      (λ ne. other ne (record { there = staged-other m ne ∙ i.there; of_step = i.of_step; idle = i.idle }))
+      (λ ne. other ne (record { there = staged-other m ne ∙ i.there; of_step = i.of_step; stands = i.stands }))
       (λ is. same is (sym (some-same (sym there ∙ (ap (slice_get seats) (sym is) ∙ i.there)))))

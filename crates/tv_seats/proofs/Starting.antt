@@ -1,13 +1,19 @@
 -- Steps of which no job is known.
-use Rattle.std.specs.Prelude.{◌≡◌, ℕ, zero, suc, ◌≤◌, ◌++◌, List, [], ◌∷◌, Some, slice_get, refl}
+use Rattle.std.specs.Prelude.{◌≡◌, ℕ, zero, suc, ◌≤◌, ◌++◌, Bool, List, [], ◌∷◌, Some, length, slice_get, refl}
 use Rattle.std.proofs.Common.{arith, ap, subst, sym}
+use Rattle.tv_seats.specs.declared.stage.Stage.{Stage}
 use Rattle.tv_seats.specs.declared.steps.StepSeats.{StepSeats}
-use Rattle.tv_seats.specs.Kept.{AreIdleJobs, AreKept, all_levels}
+use Rattle.tv_seats.specs.Kept.{AreJobsAt, AreKept, all_levels}
 use Rattle.tv_seats.specs.Seats.{levels_of}
+use Rattle.tv_seats.specs.Stages.{is_aside, is_idle, is_nested}
 use Rattle.tv_seats.specs.Tables.{Rows}
 
 pub record IsFresh (x : StepSeats) : Type 0 where
-  pub jobs : x.idle.jobs ≡ []
+  pub idle : x.idle.jobs ≡ []
+  pub aside : x.aside.jobs ≡ []
+  pub levels : x.aside.levels ≡ x.idle.levels
+  pub nested : x.nested.items ≡ []
+  pub room : x.nested_room ≡ 0
   pub running : x.running ≡ 0
   pub out : x.out ≡ 0
 
@@ -45,13 +51,11 @@ kept-at-start t steps seats room fresh wide =
       each = λ k x e.
           let f = fresh-at steps k x fresh e in
           record {
-            listed =
-                subst (AreIdleJobs [] k) (sym f.jobs)
-                (record {
-                  in_order = refl;
-                  idle = λ j o. absurd o;
-                  all = λ j i. let bad = i.1.there in cc;
-                });
+            idle = subst (AreJobsAt is_idle [] k) (sym f.idle) (none is_idle k);
+            aside = subst (AreJobsAt is_aside [] k) (sym f.aside) (none is_aside k);
+            nested = record { jobs = []; numbers = f.nested; are = none is_nested k };
+            levels = f.levels;
+            room = let a = ap length f.nested in let b = f.room in omega (arith, a, b);
             running = f.running;
             out = f.out;
           };
@@ -62,5 +66,8 @@ kept-at-start t steps seats room fresh wide =
       numbers = let r = room in omega (arith, r);
     })
   where
+    none : (p : Stage → Bool) (k : ℕ) → AreJobsAt p [] k []
+    none p k = record { in_order = refl; each = λ j o. absurd o; all = λ j i. let bad = i.1.there in cc }
+
     same : t ≡ record { seats = []; widest = t.widest; room = t.room }
     same = ap (λ ss. record { seats = ss; widest = t.widest; room = t.room }) seats

@@ -1,6 +1,7 @@
 pub mod Stages
 pub mod Seats
 pub mod Firsts
+pub mod Nested
 pub mod Tables
 pub mod Laid
 pub mod Kept

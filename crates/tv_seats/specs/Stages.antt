@@ -11,18 +11,42 @@ abbrev pub is_out : Stage → Bool
 is_out (stage.Out a t) = true
 is_out x = false
 
+-- with a try next
 abbrev pub is_idle : Stage → Bool
 is_idle (stage.Idle a t) = true
 is_idle x = false
 
+-- with a flow next
+abbrev pub is_aside : Stage → Bool
+is_aside (stage.Aside a) = true
+is_aside x = false
+
+-- the flow that it opened hasn't ended
+abbrev pub is_nested : Stage → Bool
+is_nested (stage.Nested i) = true
+is_nested x = false
+
 -- it has begun, and isn't settled
 abbrev pub runs : Stage → Bool
-runs x = is_out x || is_idle x
+runs x = is_out x || is_idle x || is_aside x || is_nested x
 
+-- its bouncing or its outcome may settle it
+abbrev pub may_settle_alone : Stage → Bool
+may_settle_alone x = is_waiting x || is_out x
+
+-- and so may the end of its flow
 abbrev pub may_settle : Stage → Bool
-may_settle x = is_waiting x || is_out x
+may_settle x = is_waiting x || is_out x || is_nested x
 
--- a try that is out is the next one again
+-- a try of it may go out
+abbrev pub may_go_out : Stage → Bool
+may_go_out x = is_waiting x || is_idle x
+
+-- its flow may be opened
+abbrev pub may_nest : Stage → Bool
+may_nest x = is_waiting x || is_aside x
+
+-- a try that is out is the next one again; flows stay open
 abbrev pub called_back : Stage → Stage
 called_back (stage.Out a t) = stage.Idle a t
 called_back x = x

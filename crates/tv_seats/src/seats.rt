@@ -1,9 +1,11 @@
 //! The seats of an instance's known jobs.
-ghost use Rattle.std.specs.Prelude.{◌≡◌, ◌^◌, ◌+◌, ◌-◌, ◌<◌, ◌≤◌, ◌++◌, ◌∷◌, [], true, length, map, slice_set, IfOk, OnErr, OnOk};
-ghost use Rattle.tv_seats.specs.declared.stage.Stage.TheVariants.{Idle as AnIdle, Out as AnOut, Settled as ASettled};
-ghost use Rattle.tv_seats.specs.Firsts.{IsFirstOf, MayGoOut};
-ghost use Rattle.tv_seats.specs.Seats.{HasBackRooms, IsFree, back, back_room, count_at, levels_of, new_seat, one_less, out_count, running_count, stage_at, stands, step_at, with_back, with_stage};
-ghost use Rattle.tv_seats.specs.Stages.{is_out, may_settle};
+ghost use Rattle.std.specs.Prelude.{◌≡◌, ◌^◌, ◌+◌, ◌-◌, ◌<◌, ◌≤◌, ◌++◌, ◌∷◌, [], true, length, map, nat_lt, slice_set, IfOk, OnErr, OnOk};
+ghost use Rattle.std.specs.List.{list_all};
+ghost use Rattle.tv_seats.specs.declared.stage.Stage.TheVariants.{Aside as AnAside, Idle as AnIdle, Nested as ANested, Out as AnOut, Settled as ASettled};
+ghost use Rattle.tv_seats.specs.Firsts.{IsFirstAsideOf, IsFirstOf, MayGoOut, MayNest};
+ghost use Rattle.tv_seats.specs.Nested.{AreNested, StandsBehind};
+ghost use Rattle.tv_seats.specs.Seats.{HasBackRooms, HasRoomsOrAsBefore, IsFree, back, back_room, count_at, levels_of, new_seat, one_less, out_count, place_at, room_at, running_count, stage_at, stands, step_at, with_back, with_stage};
+ghost use Rattle.tv_seats.specs.Stages.{is_nested, is_out, may_settle, may_settle_alone};
 
 use crate::stage::Stage;
 use crate::steps::StepSeats;
@@ -31,9 +33,16 @@ impl Model for Seats {
 
     ghost Value = { Seated };
 
-    ghost use Rattle.tv_seats.specs.Kept.{all_levels, all_rooms, AreKept};
+    ghost use Rattle.tv_seats.specs.Kept.{all_aside_rooms, all_levels, all_nested_rooms, all_rooms, AreKept};
 
-    ghost view = { λ s. record { seats = s.table.seats; levels = all_levels s.steps.items; room = s.table.room; back_rooms = all_rooms s.steps.items } };
+    ghost view = { λ s. record {
+      seats = s.table.seats;
+      levels = all_levels s.steps.items;
+      room = s.table.room;
+      back_rooms = all_rooms s.steps.items;
+      aside_rooms = all_aside_rooms s.steps.items;
+      nested_rooms = all_nested_rooms s.steps.items;
+    } };
 
     ghost invariant = { λ s. AreKept s.table s.steps.items s.out };
 }
@@ -72,6 +81,8 @@ impl Seats {
         ensures seats { self.new.seats ≡ self.old.seats }
         ensures levels { self.new.levels ≡ self.old.levels }
         ensures back_rooms { self.new.back_rooms ≡ self.old.back_rooms }
+        ensures aside_rooms { self.new.aside_rooms ≡ self.old.aside_rooms }
+        ensures nested_rooms { self.new.nested_rooms ≡ self.old.nested_rooms }
     {
         self.table.reserve(count)
     }
@@ -88,6 +99,8 @@ impl Seats {
         ensures levels { self.new.levels ≡ self.old.levels }
         ensures room { self.new.room ≡ self.old.room - 1 }
         ensures back_rooms { self.new.back_rooms ≡ self.old.back_rooms }
+        ensures aside_rooms { self.new.aside_rooms ≡ self.old.aside_rooms }
+        ensures nested_rooms { self.new.nested_rooms ≡ self.old.nested_rooms }
     {
         let number = self.table.len() as u64;
         self.table.push(step, place);
@@ -104,7 +117,23 @@ impl Seats {
         Some(self.table.stage(number as usize))
     }
 
-    /// How many jobs of a step run: they are out or idle.
+    /// The step of a job.
+    pub fn step(&self, number: u64) -> u32
+        requires { number < length self.now.seats }
+        ensures { result ≡ step_at self.now.seats number }
+    {
+        self.table.step(number as usize)
+    }
+
+    /// The place of a job.
+    pub fn place(&self, number: u64) -> &[u32]
+        requires { number < length self.now.seats }
+        ensures { result.now ≡ place_at self.now.seats number }
+    {
+        self.table.place(number as usize)
+    }
+
+    /// How many jobs of a step run: they are out, idle or set aside, or their flow is open.
     pub fn running(&self, step: u32) -> u32
         requires { step < length self.now.levels }
         ensures { result ≡ running_count step self.now.seats }
@@ -138,6 +167,8 @@ impl Seats {
         ensures levels { self.new.levels ≡ self.old.levels }
         ensures room { self.new.room ≡ self.old.room }
         ensures back_rooms { self.new.back_rooms ≡ self.old.back_rooms }
+        ensures aside_rooms { self.new.aside_rooms ≡ self.old.aside_rooms }
+        ensures nested_rooms { self.new.nested_rooms ≡ self.old.nested_rooms }
     {
         let at = number as usize;
         let step = self.table.step(at) as usize;
@@ -156,6 +187,8 @@ impl Seats {
         ensures seats { self.new.seats ≡ self.old.seats }
         ensures levels { self.new.levels ≡ self.old.levels }
         ensures room { self.new.room ≡ self.old.room }
+        ensures aside_rooms { self.new.aside_rooms ≡ self.old.aside_rooms }
+        ensures nested_rooms { self.new.nested_rooms ≡ self.old.nested_rooms }
     {
         self.reserve_for(step as usize, 1)
     }
@@ -169,6 +202,8 @@ impl Seats {
         ensures seats { self.new.seats ≡ self.old.seats }
         ensures levels { self.new.levels ≡ self.old.levels }
         ensures room { self.new.room ≡ self.old.room }
+        ensures aside_rooms { self.new.aside_rooms ≡ self.old.aside_rooms }
+        ensures nested_rooms { self.new.nested_rooms ≡ self.old.nested_rooms }
     {
         self.steps[step].reserve(count)
     }
@@ -184,6 +219,8 @@ impl Seats {
         ensures room { self.new.room ≡ self.old.room }
         ensures back_rooms { self.new.back_rooms
             ≡ one_less (step_at self.old.seats number) self.old.back_rooms }
+        ensures aside_rooms { self.new.aside_rooms ≡ self.old.aside_rooms }
+        ensures nested_rooms { self.new.nested_rooms ≡ self.old.nested_rooms }
     {
         let at = number as usize;
         let step = self.table.step(at) as usize;
@@ -192,13 +229,33 @@ impl Seats {
         self.out -= 1;
     }
 
-    /// A job that waits or is out is done. Takes no memory.
+    /// A job that waits, is out or has its flow open is done. Takes no memory. Constant, and where its flow was open linear in the open
+    /// flows of its step.
     pub fn settle(&mut self, number: u64)
         requires { stands may_settle self.old.seats number ≡ true }
         ensures seats { self.new.seats ≡ with_stage number ASettled self.old.seats }
         ensures levels { self.new.levels ≡ self.old.levels }
         ensures room { self.new.room ≡ self.old.room }
         ensures back_rooms { self.new.back_rooms ≡ self.old.back_rooms }
+        ensures aside_rooms { self.new.aside_rooms ≡ self.old.aside_rooms }
+        ensures nested_rooms { self.new.nested_rooms ≡ self.old.nested_rooms }
+    {
+        if self.table.is_nested(number as usize) {
+            self.settle_nested(number);
+        } else {
+            self.settle_alone(number);
+        }
+    }
+
+    /// A job that waits or is out is done.
+    fn settle_alone(&mut self, number: u64)
+        requires { stands may_settle_alone self.old.seats number ≡ true }
+        ensures seats { self.new.seats ≡ with_stage number ASettled self.old.seats }
+        ensures levels { self.new.levels ≡ self.old.levels }
+        ensures room { self.new.room ≡ self.old.room }
+        ensures back_rooms { self.new.back_rooms ≡ self.old.back_rooms }
+        ensures aside_rooms { self.new.aside_rooms ≡ self.old.aside_rooms }
+        ensures nested_rooms { self.new.nested_rooms ≡ self.old.nested_rooms }
     {
         let at = number as usize;
         let step = self.table.step(at) as usize;
@@ -208,6 +265,112 @@ impl Seats {
         self.out -= u64::from(was_out);
     }
 
+    /// A job whose flow is open is done.
+    fn settle_nested(&mut self, number: u64)
+        requires { stands is_nested self.old.seats number ≡ true }
+        ensures seats { self.new.seats ≡ with_stage number ASettled self.old.seats }
+        ensures levels { self.new.levels ≡ self.old.levels }
+        ensures room { self.new.room ≡ self.old.room }
+        ensures back_rooms { self.new.back_rooms ≡ self.old.back_rooms }
+        ensures aside_rooms { self.new.aside_rooms ≡ self.old.aside_rooms }
+        ensures nested_rooms { self.new.nested_rooms ≡ self.old.nested_rooms }
+    {
+        let at = number as usize;
+        let step = self.table.step(at) as usize;
+        let position = position_among(&self.table, self.steps[step].nested.as_slice(), at);
+        self.steps[step].leave(position);
+        self.table.set_stage(at, Stage::Settled);
+    }
+
+    /// Takes the room to set one job of a step aside.
+    pub fn reserve_aside(&mut self, step: u32) -> Result<(), NoMemory>
+        requires { step < length self.old.levels }
+        ensures ok { OnOk result (self.new.aside_rooms ≡ slice_set self.old.aside_rooms step 1) }
+        ensures taken { OnOk result (room_at self.new.aside_rooms step ≡ 1) }
+        ensures refused { OnErr result (self.new.aside_rooms ≡ self.old.aside_rooms) }
+        ensures seats { self.new.seats ≡ self.old.seats }
+        ensures levels { self.new.levels ≡ self.old.levels }
+        ensures room { self.new.room ≡ self.old.room }
+        ensures back_rooms { self.new.back_rooms ≡ self.old.back_rooms }
+        ensures nested_rooms { self.new.nested_rooms ≡ self.old.nested_rooms }
+    {
+        self.steps[step as usize].reserve_aside()
+    }
+
+    /// A job that is out is set aside: the flow of this activity comes next. Takes no memory. Costs as `put_back` does.
+    pub fn set_aside(&mut self, number: u64, activity: u32)
+        requires out { stands is_out self.old.seats number ≡ true }
+        requires room { 0 < room_at self.old.aside_rooms (step_at self.old.seats number) }
+        ensures seats { self.new.seats ≡ with_stage number (AnAside activity) self.old.seats }
+        ensures levels { self.new.levels ≡ self.old.levels }
+        ensures room { self.new.room ≡ self.old.room }
+        ensures back_rooms { self.new.back_rooms ≡ self.old.back_rooms }
+        ensures aside_rooms { self.new.aside_rooms
+            ≡ one_less (step_at self.old.seats number) self.old.aside_rooms }
+        ensures nested_rooms { self.new.nested_rooms ≡ self.old.nested_rooms }
+    {
+        let at = number as usize;
+        let step = self.table.step(at) as usize;
+        self.steps[step].set_aside(number as u32, self.table.place(at));
+        self.table.set_stage(at, Stage::Aside { activity });
+        self.out -= 1;
+    }
+
+    /// The number of the job of a step with the least place, of those that were set aside.
+    pub fn first_aside(&self, step: u32) -> Option<u64>
+        requires { step < length self.now.levels }
+        ensures { IsFirstAsideOf self.now.seats step result }
+    {
+        match self.steps[step as usize].aside.first() {
+            Some(number) => Some(number as u64),
+            None => None,
+        }
+    }
+
+    /// Takes the room for one more open flow of a step.
+    pub fn reserve_nested(&mut self, step: u32) -> Result<(), NoMemory>
+        requires { step < length self.old.levels }
+        ensures ok { OnOk result (self.new.nested_rooms ≡ slice_set self.old.nested_rooms step 1) }
+        ensures taken { OnOk result (room_at self.new.nested_rooms step ≡ 1) }
+        ensures refused { OnErr result (self.new.nested_rooms ≡ self.old.nested_rooms) }
+        ensures seats { self.new.seats ≡ self.old.seats }
+        ensures levels { self.new.levels ≡ self.old.levels }
+        ensures room { self.new.room ≡ self.old.room }
+        ensures back_rooms { self.new.back_rooms ≡ self.old.back_rooms }
+        ensures aside_rooms { self.new.aside_rooms ≡ self.old.aside_rooms }
+    {
+        self.steps[step as usize].reserve_nested()
+    }
+
+    /// The flow of a job is open from now on, as this instance. The job waits, or is the first of its step that was set aside. Takes
+    /// no memory. Linear in the open flows of its step, and for one that was set aside logarithmic in those that were so out of order.
+    pub fn nest(&mut self, number: u64, instance: u64)
+        requires may { MayNest self.old.seats number }
+        requires room { 0 < room_at self.old.nested_rooms (step_at self.old.seats number) }
+        ensures seats { self.new.seats ≡ with_stage number (ANested instance) self.old.seats }
+        ensures levels { self.new.levels ≡ self.old.levels }
+        ensures room { self.new.room ≡ self.old.room }
+        ensures back_rooms { self.new.back_rooms ≡ self.old.back_rooms }
+        ensures aside_rooms { self.new.aside_rooms ≡ self.old.aside_rooms }
+        ensures nested_rooms { self.new.nested_rooms
+            ≡ one_less (step_at self.old.seats number) self.old.nested_rooms }
+    {
+        let at = number as usize;
+        let step = self.table.step(at) as usize;
+        let waited = self.table.is_waiting(at);
+        let position = position_among(&self.table, self.steps[step].nested.as_slice(), at);
+        self.steps[step].nest(number as u32, waited, position);
+        self.table.set_stage(at, Stage::Nested { instance });
+    }
+
+    /// The numbers of the jobs of a step whose flow is open, in order of place.
+    pub fn nested(&self, step: u32) -> &[u32]
+        requires { step < length self.now.levels }
+        ensures { AreNested self.now.seats step result.now }
+    {
+        self.steps[step as usize].nested.as_slice()
+    }
+
     /// Takes the room to put all jobs back that are out. Where it is refused, it may have been taken for some steps. Linear in the
     /// steps.
     pub fn reserve_all_back(&mut self) -> Result<(), NoMemory>
@@ -215,6 +378,9 @@ impl Seats {
         ensures seats { self.new.seats ≡ self.old.seats }
         ensures levels { self.new.levels ≡ self.old.levels }
         ensures room { self.new.room ≡ self.old.room }
+        ensures back_rooms { HasRoomsOrAsBefore self.old self.new }
+        ensures aside_rooms { self.new.aside_rooms ≡ self.old.aside_rooms }
+        ensures nested_rooms { self.new.nested_rooms ≡ self.old.nested_rooms }
     {
         for step in 0..self.steps.len() {
             self.reserve_for(step, self.out_of(step))?;
@@ -238,6 +404,8 @@ impl Seats {
         ensures seats { self.new.seats ≡ map back self.old.seats }
         ensures levels { self.new.levels ≡ self.old.levels }
         ensures room { self.new.room ≡ self.old.room }
+        ensures aside_rooms { self.new.aside_rooms ≡ self.old.aside_rooms }
+        ensures nested_rooms { self.new.nested_rooms ≡ self.old.nested_rooms }
     {
         let count = self.out;
         for number in 0..self.len() {
@@ -254,12 +422,28 @@ impl Seats {
         ensures levels { self.new.levels ≡ self.old.levels }
         ensures room { self.new.room ≡ self.old.room }
         ensures rooms { HasBackRooms self.new }
+        ensures aside_rooms { self.new.aside_rooms ≡ self.old.aside_rooms }
+        ensures nested_rooms { self.new.nested_rooms ≡ self.old.nested_rooms }
     {
         match self.table.stage(number as usize) {
             Stage::Out { activity, attempt } => self.put_back(number, activity, attempt),
             _ => (),
         }
     }
+}
+
+/// How many of some jobs in order of place stand before a job: its position, where it is one of them. Linear.
+fn position_among(table: &Table, numbers: &[u32], at: usize) -> usize
+    requires at { at < length table.now.seats }
+    requires within { list_all (λ n. nat_lt n (length table.now.seats)) numbers.now ≡ true }
+    ensures { StandsBehind table.now.seats numbers.now at result }
+{
+    for position in 0..numbers.len() {
+        if !table.is_before(numbers[position] as usize, at) {
+            return position;
+        }
+    }
+    numbers.len()
 }
 
 /// The greater of two.

@@ -1,10 +1,12 @@
 //! The seats by number.
 ghost use Rattle.std.specs.Prelude.{◌≡◌, ◌++◌, ◌∷◌, ◌<◌, ◌≤◌, ◌-◌, ◌+◌, ◌^◌, [], Some, length, option_map, slice_get, OnOk, OnErr};
+ghost use Rattle.tv_seats.specs.Nested.{is_before};
 ghost use Rattle.tv_seats.specs.Seats.{new_seat, stage_at, stands, step_at, with_stage};
-ghost use Rattle.tv_seats.specs.Stages.{is_out, is_waiting};
+ghost use Rattle.tv_seats.specs.Stages.{is_nested, is_out, is_waiting};
 
 use crate::stage::Stage;
 use std::alloc::Global;
+use std::cmp::Ordering;
 use std::marker::Model;
 use tv_value::NoMemory;
 
@@ -148,6 +150,26 @@ impl Table {
         ensures { result ≡ stands is_out self.now.seats at }
     {
         matches!(self.rows[at].stage, Stage::Out { .. })
+    }
+
+    /// Whether its job's flow is open.
+    pub fn is_nested(&self, at: usize) -> bool
+        requires { at < length self.now.seats }
+        ensures { result ≡ stands is_nested self.now.seats at }
+    {
+        matches!(self.rows[at].stage, Stage::Nested { .. })
+    }
+
+    /// Whether one seat's place is lesser than another's.
+    pub fn is_before(&self, first: usize, second: usize) -> bool
+        requires first { first < length self.now.seats }
+        requires second { second < length self.now.seats }
+        ensures { result ≡ is_before self.now.seats first second }
+    {
+        match self.place(first).cmp(self.place(second)) {
+            Ordering::Less => true,
+            Ordering::Equal | Ordering::Greater => false,
+        }
     }
 
     /// The job stands there from now on.

@@ -23,12 +23,6 @@ module _ {A : Type 0} (P : A → Type 0) where
   each-at (x ∷ xs) zero d h l = h.0
   each-at (x ∷ xs) (suc i) d h l = each-at xs i d h.1 (omega arith)
 
-  -- at any position, where it is so of what is read past the end
-  pub each-read : (xs : List A) (i : ℕ) (d : A) → Each P xs → P d → P (get_or xs i d)
-  each-read [] i d h p = p
-  each-read (x ∷ xs) zero d h p = h.0
-  each-read (x ∷ xs) (suc i) d h p = each-read xs i d h.1 p
-
   -- one more of the first ones
   pub each-next : (xs : List A) (i : ℕ) (d : A) → Each P (take i xs) → i < length xs → P (get_or xs i d) → Each P (take (i + 1) xs)
   each-next xs i d h l p = subst (λ n. Each P (take n xs)) (plus i) (by xs i h l p)
@@ -40,11 +34,6 @@ module _ {A : Type 0} (P : A → Type 0) where
       by [] i h l p = tt
       by (x ∷ xs) zero h l p = (p, tt)
       by (x ∷ xs) (suc i) h l p = (h.0, by xs i h.1 (omega arith) p)
-
-  pub each-take : (n : ℕ) (xs : List A) → Each P xs → Each P (take n xs)
-  each-take zero xs h = tt
-  each-take (suc n) [] h = tt
-  each-take (suc n) (x ∷ xs) h = (h.0, each-take n xs h.1)
 
   pub each-filter : (p : A → Bool) (xs : List A) → Each P xs → Each P (filter p xs)
   each-filter p [] h = tt

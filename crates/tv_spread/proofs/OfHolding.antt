@@ -1,14 +1,13 @@
 -- Matchers that hold what they are told, step by step.
 use Rattle.std.specs.List.{range_with_len}
 use Rattle.std.specs.Option.{option_copied}
-use Rattle.std.specs.Prelude.{◌≡◌, ℕ, zero, suc, ◌+◌, ◌<◌, ◌≤◌, ◌⊎◌, Bool, true, false, List, [], ◌∷◌, ◌++◌, Option, Some, None, Result, Ok, Err, OnErr, OnOk, drop, filter, length, map, slice_get, take, refl}
+use Rattle.std.specs.Prelude.{◌≡◌, ℕ, zero, suc, ◌+◌, ◌<◌, ◌≤◌, ◌⊎◌, Bool, true, false, List, [], ◌∷◌, ◌++◌, Option, Some, None, drop, filter, length, map, slice_get, take, refl}
 use Rattle.std.proofs.Common.{Bor, arith, get_or, inl, inr, ap, sym, subst, ◌∙◌, append_assoc, append-nil}
 use Rattle.std.proofs.lemmas.List.{take-append-drop}
-use Rattle.tv_value.specs.Strategies.{Strategy}
 use Rattle.tv_strategy.specs.Sources.{Each}
 use Rattle.tv_matching.specs.Items.{if_so}
 use Rattle.tv_strategy.specs.Measures.{leaf_names}
-use Rattle.tv_matching.specs.Matchers.{CanTellAll, Holds}
+use Rattle.tv_matching.specs.Matchers.{CanTellAll}
 use Rattle.tv_matching.specs.Told.{Told}
 use Rattle.tv_matching.proofs.Lists.{each-append, each-weaken}
 use Rattle.tv_match.specs.declared.matchers.Matcher.{Matcher}
@@ -16,10 +15,9 @@ use Rattle.tv_match.specs.declared.told.Told as code
 use Rattle.tv_match.specs.Seen.{matching}
 use Rattle.tv_match.proofs.Scripts.{can-held}
 use Rattle.tv_telling.specs.declared.ways.Event.{Event}
-use Rattle.tv_telling.specs.Views.{AreTellings}
 use Rattle.tv_wires.specs.declared.wires.Wire.{Wire}
 use Rattle.tv_intake.specs.declared.intakes.Intakes.{Intakes}
-use Rattle.tv_intake.specs.Intaken.{AreIntaken, CanHold, CanShow, HoldsNone, HoldsThese, OthersStay, known_jobs, matcher_at, waiting_things}
+use Rattle.tv_intake.specs.Intaken.{AreIntaken, CanHold, CanShow, HoldsThese, OthersStay, known_jobs, matcher_at, waiting_things}
 use Rattle.tv_spread.specs.declared.around.Around.{Around}
 use Rattle.tv_spread.specs.Along.{is_walked, way_of, ways_into, wires_from}
 use Rattle.tv_spread.specs.Arounds.{IsAround, is_told, ports_at, told_at, told_steps, ways_at, wholes_at}
@@ -36,29 +34,6 @@ use Rattle.tv_spread.proofs.OfWires.{wires-sorted, wires-within}
 pub stays-same : (o : Option Matcher) → StaysAt o o
 stays-same None = tt
 stays-same (Some m) = (record { strategy = refl; mismatch = refl; told = refl; given = refl }, refl)
-
-pub stays-equal : (o p : Option Matcher) → p ≡ o → StaysAt o p
-stays-equal o p e = subst (StaysAt o) (sym e) (stays-same o)
-
-held-stays : (ts : List code.Told) (o p : Option Matcher) → HoldsThese ts o p → StaysAt o p
-held-stays ts None p h = absurd h
-held-stays ts (Some m) None h = h
-held-stays ts (Some m) (Some n) h = (record { strategy = h.0.strategy_is; mismatch = h.0.mismatch_is; told = h.0.told_is; given = h.0.given_is }, h.1)
-
-freed-stays : (o p : Option Matcher) → HoldsNone o p → StaysAt o p
-freed-stays None p h = absurd h
-freed-stays (Some m) None h = h
-freed-stays (Some m) (Some n) h = (record { strategy = h.0.strategy_is; mismatch = h.0.mismatch_is; told = h.0.told_is; given = h.0.given_is }, h.1)
-
-pub either-stays : {T E : Type 0} (r : Result T E) (ts : List code.Told) (o p : Option Matcher) → OnOk r (HoldsThese ts o p) → OnErr r (HoldsNone o p) → StaysAt o p
-either-stays (Ok x) ts o p h k = held-stays ts o p h
-either-stays (Err x) ts o p h k = freed-stays o p k
-
--- listed tellings are held as what they tell
-pub holds-at : (ts : List code.Told) (tellings : Strategy → List Told) → AreTellings ts tellings → (o p : Option Matcher) → HoldsThese ts o p → HoldsAt tellings o p
-holds-at ts tellings e None p h = h
-holds-at ts tellings e (Some m) None h = h
-holds-at ts tellings e (Some m) (Some n) h = (subst (λ l. Holds l (matching m) (matching n)) (e (matching m).strategy) h.0, h.1)
 
 -- what can be told can be held
 pub can-hold : (a : Around) (s : ℕ) (e : Event) → IsAround a s e → (c : ℕ) (o : Option Matcher) → CanBeTold (told_at a s e c) (ports_at a c) o → CanHoldThese (told_at a s e c) o
@@ -123,9 +98,6 @@ at-test (suc c) zero f g = g (λ e. omega (arith, e))
 at-test (suc c) (suc d) f g = at-test c d (λ e. f (ap suc e)) (λ ne. g (λ e. ne (omega (arith, e))))
 
 module _ (a : Around) (s : ℕ) (e : Event) (h : IsAround a s e) (i : Intakes) where
-  row : List Wire
-  row = wires_from a.wiring.now s
-
   pub telling-none : (touched : List ℕ) (rest : List Wire) → touched ≡ [] → rest ≡ wires_from a.wiring.now s → AreIntaken i → Telling a s e i i touched rest
   telling-none touched rest t r sound =
       record {
@@ -172,14 +144,6 @@ module _ (a : Around) (s : ℕ) (e : Event) (h : IsAround a s e) (i : Intakes) w
           first-in : (ws : List Wire) → Each (λ (w : Wire). w.step < length a.wiring.now.ports) ws → 0 < length ws → (get_or ws 0 d).step < length a.wiring.now.ports
           first-in [] h l = none 0 l
           first-in (w ∷ ws) h l = h.0
-
-      pub some-run : 0 < n
-      some-run = by n rest more first elsewhere
-        where
-          by : (n : ℕ) (ws : List Wire) → 0 < length ws → (get_or ws 0 d).step ≡ c → StartsElsewhere c (drop n ws) → 0 < n
-          by zero [] l f e = none 0 l
-          by zero (w ∷ ws) l f e = absurd (e f)
-          by (suc n) ws l f e = omega arith
 
       before-c : Each (λ (w : Wire). w.step < c) v.done
       before-c = each-weaken (λ (w : Wire). w.step < v.bound) (λ (w : Wire). w.step < c) (λ w l. omega (arith, l, bound-on)) v.done v.below
@@ -246,13 +210,6 @@ module _ (a : Around) (s : ℕ) (e : Event) (h : IsAround a s e) (i : Intakes) w
 
           early : (x : ℕ) → x < c → (x ≡ c → ⊥) → is_told a s e x ≡ true → HoldsAt (told_at a s e x) (matcher_at i x) (matcher_at k x)
           early x l ne f = subst (HoldsAt (told_at a s e x) (matcher_at i x)) (sym (t.others x ne)) (v.told x (known x l f) f)
-
-      -- where it fails there, all is as it was but what is held
-      pub stays-on : (k : Intakes) → StaysAt (matcher_at j c) (matcher_at k c) → OthersStay c j k → (x : ℕ) → StaysAt (matcher_at i x) (matcher_at k x)
-      stays-on k own others x =
-          at-test x c {C = StaysAt (matcher_at i x) (matcher_at k x)}
-          (λ g. subst (λ y. StaysAt (matcher_at i y) (matcher_at k y)) (sym g) (subst (λ o. StaysAt o (matcher_at k c)) not-yet own))
-          (λ ne. subst (StaysAt (matcher_at i x)) (sym (others x ne)) (v.stays x))
 
     -- ---- at the end
 

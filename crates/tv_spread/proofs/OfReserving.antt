@@ -39,14 +39,6 @@ matcher-same i j e c = ap (λ ms. slice_get ms c) e.matchers
 pub rooms-none : (i : Idles) → HasOtherRooms i i
 rooms-none i = record { steps = λ c. refl; as_many = refl; known = refl }
 
-pub rooms-then : (i j k : Idles) → HasOtherRooms i j → k.steps ≡ j.steps → k.known ≡ j.known → HasOtherRooms i k
-rooms-then i j k h e f =
-    record {
-      steps = λ c. subst (λ l. of_step l c ≡ with_rooms_of (of_step l c) (of_step i.steps c)) (sym e) (h.steps c);
-      as_many = ap length e ∙ h.as_many;
-      known = f ∙ h.known;
-    }
-
 module _ (j k : Idles) (c : ℕ) (within : c < length j.steps) (e : k.steps ≡ slice_set j.steps c (with_rooms_of (of_step k.steps c) (of_step j.steps c))) where
   reserved-own : of_step k.steps c ≡ with_rooms_of (of_step k.steps c) (of_step j.steps c)
   reserved-own = ap (λ l. of_step l c) e ∙ get_or-set_same j.steps c (with_rooms_of (of_step k.steps c) (of_step j.steps c)) (none_idle 0) within

@@ -194,9 +194,6 @@ both-each P Q R f [] h k = tt
 both-each P Q R f (x ∷ xs) h k = (f x h.0 k.0, both-each P Q R f xs h.1 k.1)
 
 module _ (i j k : Intakes) (idle now after : Idles) (done : List ℕ) (c : ℕ) (rest : List ℕ) (v : Showing i j idle now done (c ∷ rest)) (h : Shows c j k) (e : after ≡ with_all_new (is_faulty_now k) (drop (length (known_jobs j)) (known_jobs k)) now) where
-  news : List (ℕ × Place)
-  news = map (λ q. (c, q)) (new_places j c)
-
   later : Each (λ d. d ≡ c → ⊥) rest
   later = each-weaken (λ d. c < d) (λ d. d ≡ c → ⊥) (λ d l f. omega (arith, l, f)) rest v.ready.once.0
 

@@ -20,7 +20,7 @@ use Rattle.tv_spread.specs.declared.around.Around.{Around}
 use Rattle.tv_spread.specs.Along.{is_walked, leads_into, way_of, wires_from}
 use Rattle.tv_spread.specs.Wholes.{whole_port, wholes_with}
 use Rattle.tv_spread.specs.Arounds.{IsAround, IsFed, IsLinked, delivers_fault, is_told, ports_at, tells_some, ways_at, wholes_among, wholes_at}
-use Rattle.tv_spread.proofs.Lists.{each-filter, each-passing, each-read, filter-none}
+use Rattle.tv_spread.proofs.Lists.{each-filter, each-passing, filter-none}
 use Rattle.tv_spread.proofs.OfRuns.{no-ways}
 use Rattle.tv_spread.proofs.OfWires.{AreSo, IsSo, none-fed, wires-leaf, wires-so}
 
@@ -79,9 +79,6 @@ module _ (a : Around) (s : ℕ) (e : Event) where
         by : (b : Bool) → Each (λ (w : Whole). w.leaf < n) (if b then wholes_with (is_whole a.endings.now) s (delivers_fault a s e) ps else [])
         by true = each-map (λ (w : Whole). w.leaf < n) (whole_port (delivers_fault a s e)) (filter (has_whole_with (is_whole a.endings.now) s) ps) (each-filter (λ (p : Port). p.leaf < n) (has_whole_with (is_whole a.endings.now) s) ps l)
         by false = tt
-
-    pub ports-fed : (c : ℕ) → Each (λ (p : Port). IsFed a s e p.feed) (ports_at a c)
-    ports-fed c = each-read (λ (ps : List Port). Each (λ (p : Port). IsFed a s e p.feed) ps) a.wiring.now.ports c [] h.fed tt
 
     -- a step that no wire feeds is told nothing
     none-whole : (ps : List Port) → Each (λ (p : Port). feed_from s p.feed ≡ false) ps → wholes_among a s e ps ≡ []

@@ -43,13 +43,6 @@ impl Spread {
         }
     }
 
-    /// The steps that were told something by the last `hold`, in order.
-    pub fn touched(&self) -> &[u32]
-        ensures { result.now ≡ self.now.touched.items }
-    {
-        self.touched.as_slice()
-    }
-
     /// Has the matcher of each step that an event's step feeds work ahead what it is told with the event, takes all room that
     /// showing it needs, and answers how many jobs become known with it.
     ///

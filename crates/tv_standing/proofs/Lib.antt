@@ -1,9 +1,9 @@
 pub mod OfLists
 pub mod OfCounts
-pub mod OfSeats
 pub mod OfStages
+pub mod OfSeats
 pub mod OfTold
-pub mod OfOffers
-pub mod OfFirsts
 pub mod OfStates
-pub mod OfNames
+pub mod OfOffers
+pub mod OfNext
+pub mod OfOrder

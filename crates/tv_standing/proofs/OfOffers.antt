@@ -1,10 +1,10 @@
--- Which job is offered, by its seat.
+-- Which job goes on, by its seat.
 use Rattle.std.specs.Prelude.{◌≡◌, refl, ℕ, Bool, true, false, not, nat_lt, ◌&&◌, ◌||◌, List, [], Some, count_by, length, slice_get}
 use Rattle.std.specs.Option.{option_map_or}
 use Rattle.std.proofs.Common.{ap, ap₂, subst, sym, ◌∙◌}
 use Rattle.std.proofs.lemmas.Option.{same_Some}
 use Rattle.tv_value.specs.Orders.{named, same_job, same_name}
-use Rattle.tv_value.specs.Values.{Name}
+use Rattle.tv_value.specs.Values.{JobName, Name}
 use Rattle.tv_gate.specs.Outcomes.{Giving}
 use Rattle.tv_flow.specs.Flows.{Document, Step}
 use Rattle.tv_strategy.specs.Sources.{Each}
@@ -15,31 +15,29 @@ use Rattle.tv_model.specs.Made.{Meaning}
 use Rattle.tv_model.specs.Meanings.{flow_meaning, meaning}
 use Rattle.tv_model.specs.Turns.{is_bounced}
 use Rattle.tv_model.proofs.Members.{each_in}
+use Rattle.tv_model.proofs.Tests.{left_true, right_true}
 use Rattle.tv_model.proofs.Whole.{rank-each}
-use Rattle.tv_history.specs.Entries.{History, is_out}
-use Rattle.tv_history.specs.Histories.{all_known, has_place, is_idle, is_open, is_ready, is_running, is_settled}
+use Rattle.tv_history.specs.Entries.{History}
+use Rattle.tv_history.specs.Histories as histories
+use Rattle.tv_history.specs.Histories.{all_known, has_place, is_open, is_ready, is_running, is_settled}
 use Rattle.tv_order.specs.Parts.{IsInstance}
 use Rattle.tv_framing.specs.Views.{View}
 use Rattle.tv_seats.specs.Seats.{Seat, running_count}
-use Rattle.tv_seats.specs.Stages as stages
-use Rattle.tv_seats.specs.Stages.{is_waiting, runs}
+use Rattle.tv_seats.specs.Stages.{is_aside, is_idle, is_waiting, runs}
 use Rattle.tv_seats.specs.declared.stage.Stage.{Stage}
 use Rattle.tv_seats.specs.declared.stage.Stage.TheVariants as stage
 use Rattle.tv_viewed.proofs.OwnDepths.{AreNamed, formed-flow, formed-named}
 use Rattle.tv_tried.specs.Steps.{IsOwnStep}
 use Rattle.tv_tried.proofs.OfJobs.{job-of, limit-of}
 use Rattle.tv_tried.proofs.OfMade.{jobs-of}
-use Rattle.tv_offered.specs.Runs.{IsAlone}
-use Rattle.tv_offered.proofs.OfOffers.{by-stage}
-use Rattle.tv_offered.proofs.OfStages.{idle-is}
+use Rattle.tv_offered.proofs.OfEnds.{bounce-legal}
 use Rattle.tv_seated.specs.Seated.{Sit}
 use Rattle.tv_seated.proofs.OfLists.{is-member}
-use Rattle.tv_standing.specs.Offers.{IsOfferedBySeat, OfferedBySeat}
+use Rattle.tv_standing.specs.Offers.{BouncesBySeat, GoesOnBySeat, GoingBySeat}
 use Rattle.tv_standing.specs.Seats.{IsJobOf, is_over}
 use Rattle.tv_standing.specs.Stated.{StepsOfSeats}
-use Rattle.tv_standing.proofs.OfSeats.{alone}
-use Rattle.tv_standing.proofs.OfStages.{and-false, out-is, over-is, runs-is}
-use Rattle.tv_standing.proofs.OfTold.{are-counted}
+use Rattle.tv_standing.proofs.OfStages.{and-false, idle-is, over-is, runs-is}
+use Rattle.tv_standing.proofs.OfTold.{running-at}
 
 -- a ready job waits
 module _ (m : Meaning) (past : History) (j : Job) where
@@ -61,24 +59,14 @@ module _ (m : Meaning) (past : History) (j : Job) where
   ready-waits stage.Waiting r s = refl
   ready-waits (stage.Out a t) r s = runs-none r
   ready-waits (stage.Idle a t) r s = runs-none r
+  ready-waits (stage.Aside a) r s = runs-none r
+  ready-waits (stage.Nested i) r s = runs-none r
   ready-waits stage.Settled r s = over-none s
 
--- idle is what runs and isn't out
-idle-stage : (x : Stage) → (runs x && not (stages.is_out x)) ≡ stages.is_idle x
-idle-stage stage.Waiting = refl
-idle-stage (stage.Out a t) = refl
-idle-stage (stage.Idle a t) = refl
-idle-stage stage.Settled = refl
-
-module _ (gives : Giving) (d : Document) (past : History) (levels : Name → ℕ) (v : View) (ss : List Seat)
-    (sit : Sit gives d past levels v ss) where
+module _ (gives : Giving) (d : Document) (past : History) (I : JobName) (levels : Name → ℕ) (v : View)
+    (ss : List Seat) (sit : Sit gives d past I levels v ss) where
   abbrev m : Meaning
   m = meaning gives d
-
-  pub is-alone : IsAlone gives d past
-  is-alone =
-      let a = alone gives d past levels v ss sit in
-      record { legal = sit.in_run.legal; within = a.jobs; opens = a.none_opens }
 
   -- ---- the step of a job
 
@@ -95,7 +83,7 @@ module _ (gives : Giving) (d : Document) (past : History) (levels : Name → ℕ
   ranked-named =
       rank-each gives (λ n. Unit {0}) IsOwn (length v.flow.steps) [] v.flow.steps steps-named
 
-  module _ (n : ℕ) (s : Seat) (j : Job) (there : slice_get ss n ≡ Some s) (it : IsJobOf gives d v j s)
+  module _ (n : ℕ) (s : Seat) (j : Job) (there : slice_get ss n ≡ Some s) (it : IsJobOf gives d I v j s)
       (t : Name × Step) (at_step : slice_get v.flow.steps s.step ≡ Some t) where
     pub step-name : j.step ≡ t.0
     step-name = it.step ∙ ap (λ o. option_map_or (λ (w : Name × Step). w.0) o []) at_step
@@ -104,7 +92,7 @@ module _ (gives : Giving) (d : Document) (past : History) (levels : Name → ℕ
     nesting = sit.in_run.view.levels
 
     part : IsInstance gives d.flows m j.instance nesting v.flow v.inputs
-    part = subst (λ I. IsInstance gives d.flows m I nesting v.flow v.inputs) (sym it.within) sit.in_run.view.part
+    part = subst (λ J. IsInstance gives d.flows m J nesting v.flow v.inputs) (sym it.within) sit.in_run.view.part
 
     -- its step has a rank
     pub step-ranked : named j.step (ranked v.flow.steps) ≡ Some t.1
@@ -130,39 +118,38 @@ module _ (gives : Giving) (d : Document) (past : History) (levels : Name → ℕ
     runs-by : is_running past j ≡ runs s.stage
     runs-by = runs-is past j s.stage (sit.stages n s j there it)
 
-    out-by : is_out past j.name ≡ stages.is_out s.stage
-    out-by = out-is past j s.stage (sit.stages n s j there it)
-
     over-by : is_settled past j ≡ is_over s.stage
     over-by = over-is past j s.stage (sit.stages n s j there it)
 
-    idle-by : is_idle past j ≡ stages.is_idle s.stage
-    idle-by =
-        idle-is past j (is-alone.opens j it.listed) ∙ ap₂ (λ r o. r && not o) runs-by out-by ∙ idle-stage s.stage
+    idle-by : histories.is_idle past j ≡ (is_idle s.stage || is_aside s.stage)
+    idle-by = idle-is past j s.stage (sit.stages n s j there it)
 
     place-by : has_place m past j ≡ nat_lt (running_count s.step ss) t.1.jobs
     place-by =
         ap₂
-        (λ I k. nat_lt (count_by (λ i. same_job i.instance I && same_name i.step k && is_running past i) m.jobs) j.limit)
+        (λ J k. nat_lt (count_by (λ i. same_job i.instance J && same_name i.step k && is_running past i) m.jobs) j.limit)
         it.within step-name
-        ∙ ap₂ nat_lt ((are-counted gives d past levels v ss sit).running s.step t at_step)
-        (limit-of gives d j t.1 own-step)
+        ∙ ap₂ nat_lt (running-at gives d past I levels v ss sit s.step t at_step) (limit-of gives d j t.1 own-step)
 
     ready-by : is_ready m past j ≡ (is_waiting s.stage && is_ready m past j)
     ready-by = ready-waits m past j s.stage runs-by over-by
 
-    pub offered-by : IsOfferedBySeat gives d past ss s t.1 j
-    offered-by = record {
-      offered =
-          by-stage gives d past is-alone j it.listed
-          ∙ (λ i. idle-by i || (ready-by i && not (is_bounced j.ending) && place-by i));
+    pub going-by : GoesOnBySeat gives d past ss s t.1 j
+    going-by = record {
+      goes_on = λ i. idle-by i || (ready-by i && not (is_bounced j.ending) && place-by i);
       bounces = ap (λ r. r && is_bounced j.ending) ready-by;
     }
 
 pub steps-of_seats : StepsOfSeats
-steps-of_seats gives d past levels v ss sit n s j there it t at_step =
-    own-step gives d past levels v ss sit n s j there it t at_step
+steps-of_seats gives d past I levels v ss sit n s j there it t at_step =
+    own-step gives d past I levels v ss sit n s j there it t at_step
 
-pub offered-by_seat : OfferedBySeat
-offered-by_seat gives d past levels v ss sit n s j there it t at_step =
-    offered-by gives d past levels v ss sit n s j there it t at_step
+pub going-by_seat : GoingBySeat
+going-by_seat gives d past I levels v ss sit n s j there it t at_step =
+    going-by gives d past I levels v ss sit n s j there it t at_step
+
+pub bounces-by_seat : BouncesBySeat
+bounces-by_seat gives d past I levels v ss sit n s j there it h =
+    let m = meaning gives d in
+    bounce-legal gives d past j it.listed (left_true (is_ready m past j) (is_bounced j.ending) h)
+    (right_true (is_ready m past j) (is_bounced j.ending) h)

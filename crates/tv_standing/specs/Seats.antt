@@ -1,6 +1,6 @@
--- A job of the run by its seat.
-use Rattle.std.specs.Prelude.{Bool, List, Some, [], false, slice_get, true, ℕ, ◌||◌, ◌≡◌}
-use Rattle.tv_value.specs.Values.{Name}
+-- A job of the run by its seat, in every open instance.
+use Rattle.std.specs.Prelude.{Bool, List, Some, false, slice_get, true, ℕ, ◌||◌, ◌≡◌}
+use Rattle.tv_value.specs.Values.{JobName, Name}
 use Rattle.tv_gate.specs.Outcomes.{Giving}
 use Rattle.tv_flow.specs.Flows.{Document}
 use Rattle.tv_model.specs.Jobs.{Job}
@@ -15,38 +15,41 @@ use Rattle.tv_seats.specs.declared.stage.Stage.TheVariants as stage
 use Rattle.tv_viewed.specs.InRun.{IsJobThere}
 use Rattle.tv_seated.specs.Seated.{Sit, spot_of}
 
--- P holds of the seats of every run that opens no flow
-abbrev pub InEveryRun : (Giving → Document → History → (Name → ℕ) → View → List Seat → Type 0) → Type 0
+-- P holds of the seats of every open instance of every run
+abbrev pub InEveryRun :
+    (Giving → Document → History → JobName → (Name → ℕ) → View → List Seat → Type 0) → Type 0
 InEveryRun P =
-    (gives : Giving) (d : Document) (past : History) (levels : Name → ℕ) (v : View)
+    (gives : Giving) (d : Document) (past : History) (I : JobName) (levels : Name → ℕ) (v : View)
     → (ss : List Seat)
-    → Sit gives d past levels v ss → P gives d past levels v ss
+    → Sit gives d past I levels v ss → P gives d past I levels v ss
 
 -- the job is that of this seat
-abbrev pub IsJobOf : Giving → Document → View → Job → Seat → Type 0
-IsJobOf gives d v j s = IsJobThere gives d [] j (spot_of v.flow.steps s)
+abbrev pub IsJobOf : Giving → Document → JobName → View → Job → Seat → Type 0
+IsJobOf gives d I v j s = IsJobThere gives d I j (spot_of v.flow.steps s)
 
 -- P holds of each seat and its job
 abbrev pub AtEachSeat :
-    (Giving → Document → History → (Name → ℕ) → View → List Seat → ℕ → Seat → Job → Type 0) → Type 0
+    (Giving → Document → History → JobName → (Name → ℕ) → View → List Seat → ℕ → Seat → Job → Type 0)
+    → Type 0
 AtEachSeat P =
-    InEveryRun (λ gives d past levels v ss.
-    (n : ℕ) (s : Seat) (j : Job) → slice_get ss n ≡ Some s → IsJobOf gives d v j s
-    → P gives d past levels v ss n s j)
+    InEveryRun (λ gives d past I levels v ss.
+    (n : ℕ) (s : Seat) (j : Job) → slice_get ss n ≡ Some s → IsJobOf gives d I v j s
+    → P gives d past I levels v ss n s j)
 
 -- a seat has a job, which is the known one of the seat's number
-pub record HasJob (gives : Giving) (d : Document) (v : View) (n : ℕ) (s : Seat) : Type 0 where
-  pub job : Job
-  pub is_its : IsJobOf gives d v job s
-  pub known : numbered v n ≡ Some (spot_of v.flow.steps s)
+pub record HasJob (gives : Giving) (d : Document) (I : JobName) (v : View) (n : ℕ) (s : Seat) : Type 0
+  where
+    pub job : Job
+    pub is_its : IsJobOf gives d I v job s
+    pub known : numbered v n ≡ Some (spot_of v.flow.steps s)
 
 -- a job has a seat
-pub record HasSeat (gives : Giving) (d : Document) (v : View) (ss : List Seat) (j : Job) : Type 0
-  where
-    pub number : ℕ
-    pub seat : Seat
-    pub there : slice_get ss number ≡ Some seat
-    pub is_its : IsJobOf gives d v j seat
+pub record HasSeat (gives : Giving) (d : Document) (I : JobName) (v : View) (ss : List Seat) (j : Job)
+    : Type 0 where
+  pub number : ℕ
+  pub seat : Seat
+  pub there : slice_get ss number ≡ Some seat
+  pub is_its : IsJobOf gives d I v j seat
 
 -- a job stands somewhere: it is ready, runs, is settled, or a try of it is out
 abbrev pub stands_anywhere : Meaning → History → Job → Bool

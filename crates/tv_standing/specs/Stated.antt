@@ -1,34 +1,33 @@
--- Laws of what the seats of a main instance's known jobs tell of the run, where it opens no flow.
-use Rattle.std.specs.Prelude.{Bool, List, Some, [], count_by, filter, length, slice_get, true, ℕ, ◌&&◌, ◌≡◌}
+-- Laws of what the seats of an open instance tell of its jobs.
+use Rattle.std.specs.Prelude.{Bool, List, Some, count_by, slice_get, true, ℕ, ◌&&◌, ◌≡◌}
 use Rattle.tv_value.specs.Orders.{same_job, same_name}
-use Rattle.tv_value.specs.Values.{Name}
+use Rattle.tv_value.specs.Values.{JobName, Name}
 use Rattle.tv_gate.specs.Outcomes.{Giving}
 use Rattle.tv_flow.specs.Flows.{Document, Step}
 use Rattle.tv_model.specs.Jobs.{Job}
 use Rattle.tv_model.specs.Meanings.{meaning}
 use Rattle.tv_model.specs.Members.{In}
-use Rattle.tv_history.specs.Entries.{History}
-use Rattle.tv_history.specs.Histories as histories
-use Rattle.tv_history.specs.Histories.{is_running, is_settled}
+use Rattle.tv_history.specs.Histories.{is_running}
 use Rattle.tv_framing.specs.Views.{View}
 use Rattle.tv_seats.specs.Kept.{AreApart}
-use Rattle.tv_seats.specs.Seats.{Seat, out_count, running_count}
+use Rattle.tv_seats.specs.Seats.{Seat, running_count}
 use Rattle.tv_tried.specs.Steps.{IsOwnStep}
 use Rattle.tv_seated.specs.Seated.{spot_of}
-use Rattle.tv_standing.specs.Seats.{AtEachSeat, HasJob, HasSeat, InEveryRun, IsJobOf, is_over, stands_anywhere}
+use Rattle.tv_standing.specs.Seats.{AtEachSeat, HasJob, HasSeat, InEveryRun, IsJobOf, stands_anywhere}
 
 -- ---- seats and jobs
 
 abbrev pub SeatsHaveJobs : Type 0
 SeatsHaveJobs =
-    InEveryRun (λ gives d past levels v ss.
-    (n : ℕ) (s : Seat) → slice_get ss n ≡ Some s → HasJob gives d v n s)
+    InEveryRun (λ gives d past I levels v ss.
+    (n : ℕ) (s : Seat) → slice_get ss n ≡ Some s → HasJob gives d I v n s)
 
 abbrev pub JobsHaveSeats : Type 0
 JobsHaveSeats =
-    InEveryRun (λ gives d past levels v ss.
-    (j : Job) → In j (meaning gives d).jobs → stands_anywhere (meaning gives d) past j ≡ true
-    → HasSeat gives d v ss j)
+    InEveryRun (λ gives d past I levels v ss.
+    (j : Job) → In j (meaning gives d).jobs → j.instance ≡ I
+    → stands_anywhere (meaning gives d) past j ≡ true
+    → HasSeat gives d I v ss j)
 
 -- no two seats are at one spot
 pub record AreAtOwnSpots (v : View) (ss : List Seat) : Type 0 where
@@ -38,42 +37,39 @@ pub record AreAtOwnSpots (v : View) (ss : List Seat) : Type 0 where
   pub places : AreApart ss
 
 abbrev pub SeatsAreApart : Type 0
-SeatsAreApart = InEveryRun (λ gives d past levels v ss. AreAtOwnSpots v ss)
+SeatsAreApart = InEveryRun (λ gives d past I levels v ss. AreAtOwnSpots v ss)
 
 -- the job of a seat is of the step that the seat is of
 abbrev pub StepsOfSeats : Type 0
 StepsOfSeats =
-    AtEachSeat (λ gives d past levels v ss n s j.
+    AtEachSeat (λ gives d past I levels v ss n s j.
     (t : Name × Step) → slice_get v.flow.steps s.step ≡ Some t → IsOwnStep gives d j t.1)
 
 -- ---- how many
 
--- each job that counts has a seat, and counts where its seat does
-pub record IsToldBySeats (gives : Giving) (d : Document) (v : View) (ss : List Seat)
+-- each job of the instance that counts has a seat, and counts where its seat does
+pub record IsToldBySeats (gives : Giving) (d : Document) (I : JobName) (v : View) (ss : List Seat)
     (counts : Job → Bool) (seat_counts : Seat → Bool) : Type 0 where
-  pub seated : (j : Job) → In j (meaning gives d).jobs → counts j ≡ true → HasSeat gives d v ss j
+  pub seated :
+      (j : Job) → In j (meaning gives d).jobs → j.instance ≡ I → counts j ≡ true
+      → HasSeat gives d I v ss j
   pub alike :
-      (n : ℕ) (s : Seat) (j : Job) → slice_get ss n ≡ Some s → IsJobOf gives d v j s
+      (n : ℕ) (s : Seat) (j : Job) → slice_get ss n ≡ Some s → IsJobOf gives d I v j s
       → counts j ≡ seat_counts s
 
 abbrev pub CountsBySeats : Type 0
 CountsBySeats =
-    InEveryRun (λ gives d past levels v ss.
+    InEveryRun (λ gives d past I levels v ss.
     (counts : Job → Bool) (seat_counts : Seat → Bool)
-    → IsToldBySeats gives d v ss counts seat_counts
-    → count_by counts (meaning gives d).jobs ≡ count_by seat_counts ss)
+    → IsToldBySeats gives d I v ss counts seat_counts
+    → count_by (λ j. same_job j.instance I && counts j) (meaning gives d).jobs
+    ≡ count_by seat_counts ss)
 
-pub record IsCounted (gives : Giving) (d : Document) (past : History) (v : View) (ss : List Seat)
-    : Type 0 where
-  pub out : histories.out_count (meaning gives d) past ≡ out_count ss
-  -- at a step
-  pub running :
-      (k : ℕ) (t : Name × Step) → slice_get v.flow.steps k ≡ Some t
-      → count_by (λ j. same_job j.instance [] && same_name j.step t.0 && is_running past j)
-      (meaning gives d).jobs
-      ≡ running_count k ss
-  pub settled :
-      length (filter (is_settled past) (meaning gives d).jobs) ≡ count_by (λ s. is_over s.stage) ss
-
-abbrev pub AreCounted : Type 0
-AreCounted = InEveryRun (λ gives d past levels v ss. IsCounted gives d past v ss)
+-- so many of a step run
+abbrev pub RunningBySeats : Type 0
+RunningBySeats =
+    InEveryRun (λ gives d past I levels v ss.
+    (k : ℕ) (t : Name × Step) → slice_get v.flow.steps k ≡ Some t
+    → count_by (λ j. same_job j.instance I && same_name j.step t.0 && is_running past j)
+    (meaning gives d).jobs
+    ≡ running_count k ss)

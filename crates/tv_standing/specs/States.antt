@@ -1,5 +1,5 @@
--- Laws of where the jobs of seats stand, and of their names.
-use Rattle.std.specs.Prelude.{Bool, List, Some, [], false, filter, find, map, slice_get, true, ℕ, ◌∷◌, ◌≡◌}
+-- Laws of where the jobs of seats stand.
+use Rattle.std.specs.Prelude.{Bool, List, None, Some, [], false, filter, find, slice_get, true, ℕ, ◌≡◌}
 use Rattle.tv_value.specs.Orders.{same_job}
 use Rattle.tv_value.specs.Values.{JobName, Name}
 use Rattle.tv_gate.specs.Outcomes.{Giving}
@@ -13,14 +13,13 @@ use Rattle.tv_model.specs.Meanings.{meaning}
 use Rattle.tv_model.specs.Members.{In}
 use Rattle.tv_history.specs.Entries.{History, is_out}
 use Rattle.tv_history.specs.Histories.{has_open_instance, is_ready, is_running, is_settled, next_ask}
+use Rattle.tv_outcomes.specs.Activities.{last_activity}
 use Rattle.tv_framing.specs.Answers.{after_of}
 use Rattle.tv_framing.specs.Views.{View}
 use Rattle.tv_order.specs.JobOrder.{Apart}
-use Rattle.tv_seats.specs.Seats.{Seat}
 use Rattle.tv_seats.specs.declared.stage.Stage.{Stage}
 use Rattle.tv_seats.specs.declared.stage.Stage.TheVariants as stage
-use Rattle.tv_seated.specs.Seated.{spot_of}
-use Rattle.tv_standing.specs.Seats.{AtEachSeat, InEveryRun, is_over}
+use Rattle.tv_standing.specs.Seats.{AtEachSeat, is_over}
 
 -- ---- stages
 
@@ -50,12 +49,31 @@ pub record Runs (past : History) (j : Job) (a t : ℕ) (is_out_now : Bool) : Typ
   pub nothing_open : has_open_instance past j ≡ false
   pub next : IsTry past j a t
 
+-- a job runs, and its next try is none, but the flow of this activity: what callers are told of it is
+-- attempt 0 there
+pub record RunsAside (past : History) (j : Job) (a : ℕ) : Type 0 where
+  pub unsettled : is_settled past j ≡ false
+  pub running : is_running past j ≡ true
+  pub out : is_out past j.name ≡ false
+  pub nothing_open : has_open_instance past j ≡ false
+  pub none_next : next_ask past j ≡ None
+  pub after : a ≡ last_activity j.asks
+
+-- its flow is open
+pub record RunsInside (past : History) (j : Job) : Type 0 where
+  pub unsettled : is_settled past j ≡ false
+  pub running : is_running past j ≡ true
+  pub out : is_out past j.name ≡ false
+  pub open_inside : has_open_instance past j ≡ true
+
 -- what a stage tells
 abbrev pub StandsAt :
     Giving → Document → History → (Name → ℕ) → View → Name → Job → Stage → Type 0
 StandsAt gives d past levels v s j stage.Waiting = Waits gives d past levels v s j
 StandsAt gives d past levels v s j (stage.Out a t) = Runs past j a t true
 StandsAt gives d past levels v s j (stage.Idle a t) = Runs past j a t false
+StandsAt gives d past levels v s j (stage.Aside a) = RunsAside past j a
+StandsAt gives d past levels v s j (stage.Nested i) = RunsInside past j
 StandsAt gives d past levels v s j stage.Settled = is_settled past j ≡ true
 
 pub record IsStateOf (gives : Giving) (d : Document) (past : History) (levels : Name → ℕ) (v : View)
@@ -65,16 +83,13 @@ pub record IsStateOf (gives : Giving) (d : Document) (past : History) (levels : 
 
 abbrev pub StatesBySeats : Type 0
 StatesBySeats =
-    AtEachSeat (λ gives d past levels v ss n s j.
+    AtEachSeat (λ gives d past I levels v ss n s j.
     (t : Name × Step) → slice_get v.flow.steps s.step ≡ Some t
     → IsStateOf gives d past levels v t.0 j s.stage)
 
 -- ---- names
 
--- the jobs' names, by the numbers of their seats
-abbrev pub names_by : View → List Seat → List JobName
-names_by v ss = map (λ s. spot_of v.flow.steps s ∷ []) ss
-
+-- names of jobs, which differ; those of all ready ones are among them
 pub record AreNamesOfJobs (gives : Giving) (d : Document) (past : History) (names : List JobName)
     : Type 0 where
   pub distinct : Apart (λ n. n) names
@@ -88,9 +103,3 @@ pub record IsJobOfNumber (gives : Giving) (d : Document) (names : List JobName) 
   where
     pub named : slice_get names n ≡ Some j.name
     pub found : find (λ i. same_job j.name i.name) (meaning gives d).jobs ≡ Some j
-
-abbrev pub JobsByNumbers : Type 0
-JobsByNumbers = AtEachSeat (λ gives d past levels v ss n s j. IsJobOfNumber gives d (names_by v ss) n j)
-
-abbrev pub NamesOfSeats : Type 0
-NamesOfSeats = InEveryRun (λ gives d past levels v ss. AreNamesOfJobs gives d past (names_by v ss))

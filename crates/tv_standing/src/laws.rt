@@ -1,11 +1,11 @@
-//! What holds of the seats of every run that opens no flow: each law is the clause of a function that does
-//! nothing.
-ghost use Rattle.tv_standing.specs.Offers.{BouncesBySeat, FirstOfferedBySeats, NoneBouncesBySeats, NoneOfferedBySeats, OfferedBySeat};
-ghost use Rattle.tv_standing.specs.Stated.{AreCounted, CountsBySeats, JobsHaveSeats, SeatsAreApart, SeatsHaveJobs, StepsOfSeats};
-ghost use Rattle.tv_standing.specs.States.{JobsByNumbers, NamesOfSeats, StatesBySeats};
+//! What holds of the seats of every open instance of every run: each law is the clause of a function that
+//! does nothing.
+ghost use Rattle.tv_standing.specs.Offers.{BouncesBySeat, GoingBySeat, NextBySeat, OrderBySeats};
+ghost use Rattle.tv_standing.specs.Stated.{CountsBySeats, JobsHaveSeats, RunningBySeats, SeatsAreApart, SeatsHaveJobs, StepsOfSeats};
+ghost use Rattle.tv_standing.specs.States.{StatesBySeats};
 
-/// Each seat is that of a job of its step, each job that stands anywhere has a seat, and no two seats are
-/// one.
+/// Each seat is that of a job of its step, each job of the instance that stands anywhere has a seat, and no
+/// two seats are one.
 pub fn seats_and_jobs()
     ensures jobs { SeatsHaveJobs }
     ensures seats { JobsHaveSeats }
@@ -13,34 +13,25 @@ pub fn seats_and_jobs()
     ensures steps { StepsOfSeats }
 {}
 
-/// Jobs are counted by their seats: those that are out, that run at a step, and that are settled.
+/// Jobs of the instance are counted by their seats, and so are those of a step that run.
 pub fn counts_by_seats()
     ensures counts { CountsBySeats }
-    ensures counted { AreCounted }
+    ensures running { RunningBySeats }
 {}
 
-/// Whether a job is offered or can bounce is told by its seat.
-pub fn offered_by_seat()
-    ensures { OfferedBySeat }
-{}
-
-/// Which job is offered first is told by the steps and places of the seats, and none is where no seat's job
-/// is; a job of a seat that can bounce may, and none may where no seat's job can.
-pub fn firsts_by_seats()
-    ensures first { FirstOfferedBySeats }
-    ensures none { NoneOfferedBySeats }
+/// Whether a job goes on or can bounce is told by its seat, and whether it has an ask next or a flow.
+pub fn going_by_seat()
+    ensures going { GoingBySeat }
+    ensures next { NextBySeat }
     ensures bounces { BouncesBySeat }
-    ensures none_bounces { NoneBouncesBySeats }
+{}
+
+/// Which of two jobs stands behind the other is told by the steps and places of their seats.
+pub fn order_by_seats()
+    ensures { OrderBySeats }
 {}
 
 /// A seat's stage tells where its job stands, and with which try.
 pub fn states_by_seats()
     ensures { StatesBySeats }
-{}
-
-/// The names of the seats' jobs differ, those of all ready jobs are among them, and by its name each job is
-/// found.
-pub fn names_of_seats()
-    ensures names { NamesOfSeats }
-    ensures jobs { JobsByNumbers }
 {}

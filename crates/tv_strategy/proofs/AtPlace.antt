@@ -24,11 +24,6 @@ item_at-map f g no_trees i = refl
 item_at-map f g (tree t ts) zero = refl
 item_at-map f g (tree t ts) (suc i) = item_at-map f g ts i
 
--- below a list, the claim about what stands at an index
-abbrev AtItem : (Iteration → Binding → Type 0) → Option Iteration → Binding → Type 0
-AtItem P None c = ⊥
-AtItem P (Some t) c = P t c
-
 -- ---- a binding that is added
 
 added-item : (s : List Origin) (b : Binding) (q : Place) → ((t : Iteration) (c : Binding) → IsJob (at (added s b t) q) c → (d : Binding) × (c ≡ b ++ d) × IsJob (at t q) d) → (o : Option Iteration) (c : Binding) → IsJob (option_and_then (λ u. at u q) (option_map (added s b) o)) c → (d : Binding) × (c ≡ b ++ d) × IsJob (option_and_then (λ u. at u q) o) d

@@ -33,28 +33,14 @@ same-itself (i ∷ q) = both_true (i == i) (same_place q q) (eq-eqb i i refl) (s
 
 -- ---- a cross
 
-pub after-nothing : (o : Option Place) → o ≡ one_after (Some []) o
-after-nothing None = refl
-after-nothing (Some q) = refl
-
 after-both : (p q : Place) (o : Option Place) → one_after (Some p) (one_after (Some q) o) ≡ one_after (Some (p ++ q)) o
 after-both p q None = refl
 after-both p q (Some r) = ap Some (sym (append_assoc p q r))
-
-append-nothing : (p : Place) → p ++ [] ≡ p
-append-nothing [] = refl
-append-nothing (i ∷ p) = ap (λ q. i ∷ q) (append-nothing p)
 
 module _ (ports : Name → Place) where
   pub cross-next : (rest : Strategies) (c : Strategy) (cs : Strategies) (p q : Place) → rest ≡ strategy c cs → Some q ≡ joined ports c → one_after (Some p) (joined_cross ports rest) ≡ one_after (Some (p ++ q)) (joined_cross ports cs)
   cross-next rest c cs p q e h =
       ap (λ r. one_after (Some p) (joined_cross ports r)) e ∙ ap (λ o. one_after (Some p) (one_after o (joined_cross ports cs))) (sym h) ∙ after-both p q (joined_cross ports cs)
-
-  pub cross-none : (rest : Strategies) (c : Strategy) (cs : Strategies) (p : Place) → rest ≡ strategy c cs → None ≡ joined ports c → one_after (Some p) (joined_cross ports rest) ≡ None
-  cross-none rest c cs p e h = ap (λ r. one_after (Some p) (joined_cross ports r)) e ∙ ap (λ o. one_after (Some p) (one_after o (joined_cross ports cs))) (sym h)
-
-  pub cross-end : (rest : Strategies) (p : Place) → rest ≡ no_strategies → one_after (Some p) (joined_cross ports rest) ≡ Some p
-  cross-end rest p e = ap (λ r. one_after (Some p) (joined_cross ports r)) e ∙ ap Some (append-nothing p)
 
 -- ---- a dot
 
@@ -109,12 +95,6 @@ module _ (ports : Name → Place) where
   pub dot-all : (c : Strategy) (cs : Strategies) (q : Place) → joined ports c ≡ Some q → joined_dot ports (strategy c cs) ≡ all_at q cs
   dot-all c no_strategies q h = h
   dot-all c (strategy d ds) q h = ap (λ o. in_common o (joined_dot ports (strategy d ds))) h ∙ dot-next d ds q (joined ports d) (λ r k. dot-all d ds r k) refl
-
-  pub dot-none : (cs : Strategies) (c : Strategy) (ds : Strategies) → cs ≡ strategy c ds → None ≡ joined ports c → None ≡ joined_dot ports cs
-  dot-none cs c ds e h = sym (ap (joined_dot ports) e ∙ none-first c ds (sym h))
-
-  pub all_at-next : (rest : Strategies) (d : Strategy) (ds : Strategies) (q r : Place) → rest ≡ strategy d ds → Some r ≡ joined ports d → true ≡ same_place q r → all_at q rest ≡ all_at q ds
-  all_at-next rest d ds q r e h s = ap (all_at q) e ∙ ap (λ o. still q o (all_at q ds)) (sym h) ∙ ap (λ b. if b then all_at q ds else None) (sym s)
 
   pub all_at-differs : (rest : Strategies) (d : Strategy) (ds : Strategies) (q r : Place) → rest ≡ strategy d ds → Some r ≡ joined ports d → false ≡ same_place q r → all_at q rest ≡ None
   all_at-differs rest d ds q r e h s = ap (all_at q) e ∙ ap (λ o. still q o (all_at q ds)) (sym h) ∙ ap (λ b. if b then all_at q ds else None) (sym s)

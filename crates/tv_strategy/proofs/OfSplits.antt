@@ -25,9 +25,6 @@ pub record Taken (ports : Name → ℕ) (indices : Place) (whole : Strategies) (
   pub places_so_far : before ++ split_cross ports whole (take (sum_of_depths ports whole) indices) ≡ places ++ split_cross ports rest (take (sum_of_depths ports rest) (drop taken indices))
 
 module _ (ports : Name → ℕ) (indices : Place) (whole : Strategies) (before : List (Name × Place)) where
-  pub taken-first : AllDotsAgree ports whole → Taken ports indices whole before whole 0 before
-  taken-first h = record { agree = h; depth_so_far = omega arith; places_so_far = refl }
-
   pub taken-agrees : (rest : Strategies) (c : Strategy) (cs : Strategies) (taken : ℕ) (places : List (Name × Place)) → Taken ports indices whole before rest taken places → rest ≡ strategy c cs → DotsAgree ports c
   taken-agrees rest c cs taken places t e = (subst (λ r. AllDotsAgree ports r) e t.agree).0
 
@@ -59,18 +56,6 @@ module _ (ports : Name → ℕ) (indices : Place) (whole : Strategies) (before :
       further : (taken d n s r w : ℕ) → w ≡ taken + r → r ≡ n + s → d ≡ n → w ≡ taken + d + s
       further taken d n s r w p q h = omega arith
 
-  pub taken-end : (rest : Strategies) (taken : ℕ) (places : List (Name × Place)) → Taken ports indices whole before rest taken places → rest ≡ no_strategies → (taken ≡ sum_of_depths ports whole) × (places ≡ before ++ split_cross ports whole (take taken indices))
-  taken-end rest taken places t e =
-      let all = right taken (sum_of_depths ports rest) (sum_of_depths ports whole) t.depth_so_far (ap (sum_of_depths ports) e) in
-      (all, sym (ap (λ n. before ++ split_cross ports whole (take n indices)) all ∙ t.places_so_far ∙ ap (λ r. places ++ split_cross ports r (take (sum_of_depths ports r) (drop taken indices))) e ∙ append-nothing places))
-    where
-      right : (t r w : ℕ) → w ≡ t + r → r ≡ 0 → t ≡ w
-      right t r w p q = omega arith
-
-      append-nothing : (ps : List (Name × Place)) → ps ++ [] ≡ ps
-      append-nothing [] = refl
-      append-nothing (p ∷ ps) = ap (λ qs. p ∷ qs) (append-nothing ps)
-
 -- ---- a dot
 
 -- all of these agree, and have this depth
@@ -93,16 +78,3 @@ module _ (ports : Name → ℕ) (q : Place) (d : ℕ) (whole : Strategies) (befo
 
   pub given-child : (rest : Strategies) (c : Strategy) (cs : Strategies) (places : List (Name × Place)) → Given ports q d whole before rest places → rest ≡ strategy c cs → DotsAgree ports c × (strategy_depth ports c ≡ d)
   given-child rest c cs places g e = let h = subst (λ r. AllDeep ports d r) e g.deep in (h.0, h.1)
-
-  pub given-next : (rest : Strategies) (c : Strategy) (cs : Strategies) (places more : List (Name × Place)) → Given ports q d whole before rest places → rest ≡ strategy c cs → more ≡ places ++ split ports c q → Given ports q d whole before cs more
-  given-next rest c cs places more g e k = record {
-    deep = (subst (λ r. AllDeep ports d r) e g.deep).2;
-    places_so_far = g.places_so_far ∙ ap (λ r. places ++ split_dot ports r q) e ∙ sym (append_assoc places (split ports c q) (split_dot ports cs q)) ∙ ap (λ ps. ps ++ split_dot ports cs q) (sym k);
-  }
-
-  pub given-end : (rest : Strategies) (places : List (Name × Place)) → Given ports q d whole before rest places → rest ≡ no_strategies → places ≡ before ++ split_dot ports whole q
-  given-end rest places g e = sym (g.places_so_far ∙ ap (λ r. places ++ split_dot ports r q) e ∙ append-nothing places)
-    where
-      append-nothing : (ps : List (Name × Place)) → ps ++ [] ≡ ps
-      append-nothing [] = refl
-      append-nothing (p ∷ ps) = ap (λ qs. p ∷ qs) (append-nothing ps)

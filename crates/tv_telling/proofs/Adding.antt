@@ -1,6 +1,6 @@
 -- Tellings that are added to a list, whatever strategy has the leaf.
-use Rattle.std.specs.Prelude.{◌≡◌, List, [], ◌++◌, map, Result, Ok, Err, OnOk}
-use Rattle.std.proofs.Common.{ap, sym, ◌∙◌, append_assoc, append-nil}
+use Rattle.std.specs.Prelude.{◌≡◌, List, ◌++◌, map, Result, Ok, Err, OnOk}
+use Rattle.std.proofs.Common.{ap, ◌∙◌, append_assoc}
 use Rattle.tv_value.specs.Strategies.{Strategy}
 use Rattle.tv_matching.specs.Told.{Told}
 use Rattle.tv_match.specs.declared.told.Told as code
@@ -18,6 +18,3 @@ adds-both a b c f g h x y e = λ s. y s ∙ ap (λ t. t ++ g s) (x s) ∙ append
 
 pub adds-same : (a b : List code.Told) (f h : Strategy → List Told) → AddsTellings a b f → ((s : Strategy) → f s ≡ h s) → AddsTellings a b h
 adds-same a b f h x e = λ s. x s ∙ ap (λ t. map (told_view s) a ++ t) (e s)
-
-pub adds-none : (a : List code.Told) (h : Strategy → List Told) → ((s : Strategy) → [] ≡ h s) → AddsTellings a a h
-adds-none a h e = λ s. sym (append-nil (map (told_view s) a)) ∙ ap (λ t. map (told_view s) a ++ t) (e s)

@@ -3,7 +3,7 @@ use Rattle.std.specs.Prelude.{refl}
 use Rattle.std.specs.Fmt.{digits}
 use Rattle.json.specs.Print.{escape_byte}
 use Rattle.tv_words.proofs.OnLiterals.{words_on_literals}
-use Rattle.tv_top.specs.Worked.{RunsOneText, RunsChain, RunsFailure, RunsCross, ChecksCross, ChecksChain, RefusesCircle, RefusesNoDocument, RefusesDepth, TakesCommands, TakesNothingElse, AsksChain, AsksFailure, AsksAttempts, AsksNoCheck, AsksNoNestedFlow, RunsNoNestedFlow, TracesAttempts, TracesChain, TracesFailure}
+use Rattle.tv_top.specs.Worked.{RunsOneText, RunsChain, RunsFailure, RunsCross, ChecksCross, ChecksChain, RefusesCircle, RefusesNoDocument, RefusesDepth, TakesCommands, TakesNothingElse, AsksChain, AsksFailure, AsksAttempts, AsksNoCheck, AsksGenerated, RunsNestedFlow, RunsGenerated, TracesAttempts, TracesChain, TracesFailure}
 
 pub runs_one_text : RunsOneText
 unfolding digits escape_byte
@@ -43,7 +43,7 @@ refuses_depth = (refl, refl)
 
 pub takes_commands : TakesCommands
 unfolding words_on_literals
-takes_commands = (refl, refl, refl, refl)
+takes_commands = (refl, refl, refl, refl, refl)
 
 pub takes_nothing_else : TakesNothingElse
 unfolding words_on_literals
@@ -77,10 +77,14 @@ pub traces_failure : TracesFailure
 unfolding digits escape_byte
 traces_failure = refl
 
-pub runs_no_nested_flow : RunsNoNestedFlow
+pub runs_nested_flow : RunsNestedFlow
 unfolding digits escape_byte
-runs_no_nested_flow = (refl, refl)
+runs_nested_flow = refl
 
-pub asks_no_nested_flow : AsksNoNestedFlow
+pub runs_generated : RunsGenerated
 unfolding digits escape_byte
-asks_no_nested_flow = refl
+runs_generated = refl
+
+pub asks_generated : AsksGenerated
+unfolding digits escape_byte
+asks_generated = refl

@@ -5,3 +5,6 @@ pub mod Requests
 mod Computed
 pub mod Questions
 pub mod Traced
+mod OfNumbers
+mod Leaving
+mod Completed

@@ -1,36 +1,29 @@
 -- Only a run that is answered asks for something.
-use Rattle.std.specs.Prelude.{◌≡◌, ◌≢◌, ℕ, List, [], ◌∷◌, ◌++◌, Bool, true, false, Option, Some, None, Ok, Err, if◌then◌else◌, map, refl}
+use Rattle.std.specs.Prelude.{◌≡◌, ◌≢◌, ℕ, List, [], ◌∷◌, ◌++◌, Bool, true, false, Option, Some, None, Ok, Err, refl}
 use Rattle.std.proofs.Common.{ap, sym, subst, ◌∙◌, true≢false, inl, inr}
 use Rattle.std.proofs.lemmas.List.{append-nil}
 use Rattle.tv_value.specs.Values.{Name, Text}
 use Rattle.tv_gate.specs.Calls.{Call, IsSameCalls}
 use Rattle.tv_gate.specs.Outcomes.{Giving}
 use Rattle.tv_flow.specs.Flows.{Document}
-use Rattle.tv_model.specs.Meanings.{meaning}
-use Rattle.tv_model.specs.Turns.{ask_order}
-use Rattle.tv_going.specs.Flat.{opens_nothing}
-use Rattle.tv_work.specs.Asked.{call_of}
-use Rattle.tv_top.specs.Words.{Command, run, check, trace}
-use Rattle.tv_top.specs.Answers.{Answer, Reading, StatusLine, always, answer_of, answer_to, answer_to_reading, reading_of}
+use Rattle.tv_top.specs.Words.{Command, run, check, trace, gen}
+use Rattle.tv_top.specs.Answers.{Answer, Reading, StatusLine, answer_of, answer_to, answer_to_reading, reading_for, reading_of}
 use Rattle.tv_top.specs.Asking.{AsksThese, BeginsThese, BeginsForDocument, IsAsked, OthersAreNotAsked, OthersAskNothing, RefusalsAskNothing, ToldCalls, asks_of, asks_to, asks_to_reading, is_run}
 use Rattle.tv_top.specs.Headline.{Source}
 use Rattle.tv_top.specs.declared.status.Status.{Status}
-use Rattle.tv_top.specs.declared.status.Status.TheVariants.{Done, Usage, ReadFault, TooLong, NotJson, Form, Check, NotBuilt, WriteFault, NoMemory}
+use Rattle.tv_top.specs.declared.status.Status.TheVariants.{Done, Usage, ReadFault, TooLong, NotJson, Form, Check, WriteFault, NoMemory}
 
 -- a refusal has no calls
 abbrev Fits : Answer → List Call → Type 0
 Fits (Ok text) cs = Unit {0}
 Fits (Err r) cs = cs ≡ []
 
-fits-built : (b : Bool) (text : Text) (r : StatusLine) (cs : List Call) → Fits (if b then Ok text else Err r) (if b then cs else [])
-fits-built true text r cs = tt
-fits-built false text r cs = refl
-
 module _ (gives : Giving) where
   fits-accepted : (command : Command) (d : Document) → Fits (answer_to gives command d) (asks_to gives command d)
-  fits-accepted run d = fits-built (opens_nothing d) _ (always NotBuilt) (map call_of (ask_order (meaning gives d)))
+  fits-accepted run d = tt
   fits-accepted check d = tt
-  fits-accepted trace d = fits-built (opens_nothing d) _ (always NotBuilt) (map call_of (ask_order (meaning gives d)))
+  fits-accepted trace d = tt
+  fits-accepted (gen n) d = tt
 
   fits-reading : (command : Command) (reading : Reading) → Fits (answer_to_reading gives command reading) (asks_to_reading gives command reading)
   fits-reading command (Ok d) = fits-accepted command d
@@ -38,7 +31,7 @@ module _ (gives : Giving) where
 
   fits-words : (knows : Name → Bool) (words : Option Command) (bytes : List ℕ) → Fits (answer_of gives knows words bytes) (asks_of gives knows words bytes)
   fits-words knows None bytes = refl
-  fits-words knows (Some command) bytes = fits-reading command (reading_of knows bytes)
+  fits-words knows (Some command) bytes = fits-reading command (reading_for knows command bytes)
 
   check-asks : (reading : Reading) → asks_to_reading gives check reading ≡ []
   check-asks (Ok d) = refl
@@ -49,6 +42,7 @@ others-ask-nothing gives knows None bytes e = refl
 others-ask-nothing gives knows (Some run) bytes e = absurd (true≢false e)
 others-ask-nothing gives knows (Some check) bytes e = check-asks gives (reading_of knows bytes)
 others-ask-nothing gives knows (Some trace) bytes e = absurd (true≢false e)
+others-ask-nothing gives knows (Some (gen n)) bytes e = absurd (true≢false e)
 
 pub refusals-ask-nothing : RefusalsAskNothing
 refusals-ask-nothing gives knows words bytes r h = subst (λ a. Fits a (asks_of gives knows words bytes)) h (fits-words gives knows words bytes)
@@ -90,7 +84,6 @@ module _ (gives : Giving) (knows : Name → Bool) (words : Option Command) (s : 
   not-asked NotJson h = h
   not-asked Form h = h
   not-asked Check h = h
-  not-asked NotBuilt h = h
   not-asked WriteFault h = none-more before after (asks h.0.0) (none h.0.0) h.0.1
   not-asked NoMemory h = none-for h
 

@@ -12,16 +12,18 @@ use Rattle.tv_check.specs.Faulty as checking
 use Rattle.tv_check.specs.Passes.{checked}
 use Rattle.tv_model.specs.Meanings.{meaning}
 use Rattle.tv_model.specs.Results.{result_line}
+use Rattle.tv_model.specs.RowsOfSize.{generated}
+use Rattle.tv_model.specs.Totals.{totals}
 use Rattle.tv_model.specs.Turns.{ask_order}
-use Rattle.tv_going.specs.Flat.{opens_nothing}
 use Rattle.tv_report.specs.FormLines.{form_text}
 use Rattle.tv_report.specs.CheckLines.{check_text}
 use Rattle.tv_report.specs.DepthLines.{depth_text}
 use Rattle.tv_report.specs.TraceLines.{trace_text}
-use Rattle.tv_top.specs.Words.{Command, run, check, trace}
+use Rattle.tv_generated.specs.Summaries.{summary_text}
+use Rattle.tv_top.specs.Words.{Command, run, check, trace, gen}
 use Rattle.tv_top.specs.Lines.{fault_line}
 use Rattle.tv_top.specs.declared.status.Status.{Status}
-use Rattle.tv_top.specs.declared.status.Status.TheVariants.{Usage, TooLong, NotJson, Form, Check, NotBuilt}
+use Rattle.tv_top.specs.declared.status.Status.TheVariants.{Usage, TooLong, NotJson, Form, Check}
 
 -- a status with its line
 abbrev pub StatusLine : Type 0
@@ -63,6 +65,17 @@ module _ (knows : Name → Bool) where
   abbrev pub reading_of : List ℕ → Reading
   reading_of bytes = if nat_lt byte_limit (length bytes) then Err (always TooLong) else reading_of_json (json_of bytes)
 
+  -- the generated document of a number, where the check accepts it
+  abbrev pub generated_reading : ℕ → Reading
+  generated_reading n = unless_complaint (generated n) (checked knows (generated n))
+
+  -- what a command runs or checks: a document that is read, or one that is generated, whatever the bytes
+  abbrev pub reading_for : Command → List ℕ → Reading
+  reading_for run bytes = reading_of bytes
+  reading_for check bytes = reading_of bytes
+  reading_for trace bytes = reading_of bytes
+  reading_for (gen n) bytes = generated_reading n
+
 -- ---- answers
 
 -- a text to print, or a status with its line
@@ -71,15 +84,17 @@ Answer = Result Text StatusLine
 
 -- For all services, and for no worker or order of work.
 module _ (gives : Giving) where
-  -- of a document in which no activity opens a flow: others aren't run yet
-  abbrev pub if_built : Document → Text → Answer
-  if_built d text = if opens_nothing d then Ok text else Err (always NotBuilt)
+  -- the summary of the run of the document of a number
+  abbrev pub summary_of : ℕ → Document → Text
+  summary_of n d =
+      summary_text n (totals (meaning gives d).jobs) (length (result_line (meaning gives d)))
 
   -- what a command answers to an accepted document
   abbrev pub answer_to : Command → Document → Answer
-  answer_to run d = if_built d (result_line (meaning gives d))
+  answer_to run d = Ok (result_line (meaning gives d))
   answer_to check d = Ok (depth_text d)
-  answer_to trace d = if_built d (trace_text (map (λ p. p.0) (ask_order (meaning gives d))))
+  answer_to trace d = Ok (trace_text (map (λ p. p.0) (ask_order (meaning gives d))))
+  answer_to (gen n) d = Ok (summary_of n d)
 
   abbrev pub answer_to_reading : Command → Reading → Answer
   answer_to_reading command (Ok d) = answer_to command d
@@ -89,4 +104,4 @@ module _ (gives : Giving) where
     -- the answer to words and bytes
     abbrev pub answer_of : Option Command → List ℕ → Answer
     answer_of None bytes = Err (always Usage)
-    answer_of (Some command) bytes = answer_to_reading command (reading_of knows bytes)
+    answer_of (Some command) bytes = answer_to_reading command (reading_for knows command bytes)

@@ -1,5 +1,5 @@
 -- What a command asks of the services for the bytes that it reads, and what is asked by the status, where the asker tells its calls.
-use Rattle.std.specs.Prelude.{◌≡◌, ℕ, List, [], ◌++◌, map, Bool, true, false, if◌then◌else◌, Option, Some, None, ◌⊎◌, Result, Ok, Err}
+use Rattle.std.specs.Prelude.{◌≡◌, ℕ, List, [], ◌++◌, map, Bool, true, false, Option, Some, None, ◌⊎◌, Result, Ok, Err}
 use Rattle.tv_value.specs.Values.{Text, Name}
 use Rattle.tv_gate.specs.Calls.{Call, IsSameCalls}
 use Rattle.tv_gate.specs.Outcomes.{Giving}
@@ -7,27 +7,27 @@ use Rattle.tv_flow.specs.Flows.{Document}
 use Rattle.tv_model.specs.Meanings.{meaning}
 use Rattle.tv_model.specs.Turns.{ask_order}
 use Rattle.tv_history.specs.Alone.{IsFirstPart}
-use Rattle.tv_going.specs.Flat.{opens_nothing}
 use Rattle.tv_work.specs.Asked.{call_of}
-use Rattle.tv_top.specs.Words.{Command, run, check, trace}
-use Rattle.tv_top.specs.Answers.{Reading, StatusLine, reading_of, answer_of}
+use Rattle.tv_top.specs.Words.{Command, run, check, trace, gen}
+use Rattle.tv_top.specs.Answers.{Reading, StatusLine, reading_for, answer_of}
 use Rattle.tv_top.specs.Headline.{Source, OfDocument}
 use Rattle.tv_top.specs.declared.refusal.Refusal.{Refusal}
 use Rattle.tv_top.specs.declared.refusal.Refusal.TheVariants as why
 use Rattle.tv_top.specs.declared.status.Status.{Status}
-use Rattle.tv_top.specs.declared.status.Status.TheVariants.{Done, Usage, ReadFault, TooLong, NotJson, Form, Check, NotBuilt, WriteFault, NoMemory}
+use Rattle.tv_top.specs.declared.status.Status.TheVariants.{Done, Usage, ReadFault, TooLong, NotJson, Form, Check, WriteFault, NoMemory}
 
 -- For all services. What isn't answered by a run asks nothing.
 module _ (gives : Giving) where
   -- the calls of the order of one worker
   abbrev pub asks_of_run : Document → List Call
-  asks_of_run d = if opens_nothing d then map call_of (ask_order (meaning gives d)) else []
+  asks_of_run d = map call_of (ask_order (meaning gives d))
 
   -- the calls that a command takes for an accepted document
   abbrev pub asks_to : Command → Document → List Call
   asks_to run d = asks_of_run d
   asks_to check d = []
   asks_to trace d = asks_of_run d
+  asks_to (gen n) d = asks_of_run d
 
   abbrev pub asks_to_reading : Command → Reading → List Call
   asks_to_reading command (Ok d) = asks_to command d
@@ -37,7 +37,7 @@ module _ (gives : Giving) where
     -- the calls that the answer to words and bytes takes
     abbrev pub asks_of : Option Command → List ℕ → List Call
     asks_of None bytes = []
-    asks_of (Some command) bytes = asks_to_reading command (reading_of knows bytes)
+    asks_of (Some command) bytes = asks_to_reading command (reading_for knows command bytes)
 
 -- calls that an asker may tell
 abbrev pub ToldCalls : Type 0
@@ -84,18 +84,18 @@ IsAsked asks s before after TooLong = IsSameCalls before after
 IsAsked asks s before after NotJson = IsSameCalls before after
 IsAsked asks s before after Form = IsSameCalls before after
 IsAsked asks s before after Check = IsSameCalls before after
-IsAsked asks s before after NotBuilt = IsSameCalls before after
 IsAsked asks s before after WriteFault = AsksForDocument asks s before after
 IsAsked asks s before after NoMemory = BeginsForDocument asks s before after
 
 -- ---- laws
 
--- the words give a command that runs the document
+-- the words give a command that runs a document
 abbrev pub is_run : Option Command → Bool
 is_run None = false
 is_run (Some run) = true
 is_run (Some check) = false
 is_run (Some trace) = true
+is_run (Some (gen n)) = true
 
 -- other words take no call
 abbrev pub OthersAskNothing : Type 0

@@ -1,5 +1,5 @@
 -- The words of the headline: what each status says of the bytes that were read and written.
-use Rattle.std.specs.Prelude.{◌≡◌, ℕ, List, [], Option, Some, ◌⊎◌, Result, Ok, Err}
+use Rattle.std.specs.Prelude.{◌≡◌, ℕ, List, [], Option, None, Some, ◌⊎◌, Result, Ok, Err}
 use Rattle.tv_value.specs.Values.{Text}
 use Rattle.tv_io.specs.Rising.{HasRisen}
 use Rattle.tv_io.specs.declared.source.Source.{Ghosts as SourceGhosts}
@@ -9,10 +9,11 @@ use Rattle.tv_check.specs.RunViews.{run_view}
 use Rattle.tv_check.specs.declared.run.CheckedRun.{CheckedRun}
 use Rattle.tv_top.specs.Answers.{Answer, Reading, StatusLine}
 use Rattle.tv_top.specs.Lines.{fault_line}
+use Rattle.tv_top.specs.Words.{Command, check, gen, run, trace}
 use Rattle.tv_top.specs.Asked.{refusal_status, refusal_line}
 use Rattle.tv_top.specs.declared.refusal.Refusal.{Refusal}
 use Rattle.tv_top.specs.declared.status.Status.{Status}
-use Rattle.tv_top.specs.declared.status.Status.TheVariants.{Done, Usage, ReadFault, TooLong, NotJson, Form, Check, NotBuilt, WriteFault, NoMemory}
+use Rattle.tv_top.specs.declared.status.Status.TheVariants.{Done, Usage, ReadFault, TooLong, NotJson, Form, Check, WriteFault, NoMemory}
 
 -- bytes that a source or a sink may tell
 abbrev pub Told : Type 0
@@ -52,9 +53,27 @@ WriteFailed k = HasRisen k.faults k.faults_after
 abbrev pub OfDocument : Source → (List ℕ → Type 0) → Type 0
 OfDocument s P = (bytes : List ℕ) → s.left ≡ Some bytes → P bytes
 
--- the source was read to its end, and this text is the answer
-abbrev pub IsAnswer : (List ℕ → Answer) → Source → Text → Type 0
-IsAnswer answer s text = OfDocument s (λ bytes. (answer bytes ≡ Ok text) × (s.left_after ≡ Some []))
+-- how a source that had these bytes is left: read to its end, or as it was
+abbrev pub Leaving : Type 1
+Leaving = Source → List ℕ → Type 0
+
+abbrev pub read_whole : Leaving
+read_whole s bytes = s.left_after ≡ Some []
+
+abbrev pub unread : Leaving
+unread s bytes = s.left_after ≡ Some bytes
+
+-- by the command: a generated document isn't read
+abbrev pub left_by : Option Command → Leaving
+left_by None = unread
+left_by (Some run) = read_whole
+left_by (Some check) = read_whole
+left_by (Some trace) = read_whole
+left_by (Some (gen n)) = unread
+
+-- the source was left so, and this text is the answer
+abbrev pub IsAnswer : Leaving → (List ℕ → Answer) → Source → Text → Type 0
+IsAnswer left answer s text = OfDocument s (λ bytes. (answer bytes ≡ Ok text) × left s bytes)
 
 -- this refusal is the answer, whatever its line
 abbrev pub IsRefused : {A : Type 0} → (List ℕ → Result A StatusLine) → Status → List ℕ → Type 0
@@ -63,39 +82,37 @@ IsRefused answer status bytes = (line : Text) × (answer bytes ≡ Err (status, 
 abbrev pub IsRefusal : {A : Type 0} → (List ℕ → Result A StatusLine) → Source → Status → Type 0
 IsRefusal answer s status = OfDocument s (IsRefused answer status)
 
--- the source was read to its end, and this refusal is the answer
-abbrev pub IsReadRefusal : {A : Type 0} → (List ℕ → Result A StatusLine) → Source → Status → Type 0
-IsReadRefusal answer s status = OfDocument s (λ bytes. IsRefused answer status bytes × (s.left_after ≡ Some []))
+-- the source was left so, and this refusal is the answer
+abbrev pub IsReadRefusal : {A : Type 0} → Leaving → (List ℕ → Result A StatusLine) → Source → Status → Type 0
+IsReadRefusal left answer s status = OfDocument s (λ bytes. IsRefused answer status bytes × left s bytes)
 
 -- why a call ended with this status
-abbrev pub Cause : (List ℕ → Answer) → Source → Sink → Status → Type 0
--- the document was read to its end, and its answer was written whole
-Cause answer s out Done = OfDocument s (λ bytes. (text : Text) × (answer bytes ≡ Ok text) × (s.left_after ≡ Some []) × IsSentOf out.sent out.sent_after text)
-Cause answer s out Usage = IsRefusal answer s Usage
+abbrev pub Cause : Leaving → (List ℕ → Answer) → Source → Sink → Status → Type 0
+-- the document was read to its end, where one is read, and its answer was written whole
+Cause left answer s out Done = OfDocument s (λ bytes. (text : Text) × (answer bytes ≡ Ok text) × left s bytes × IsSentOf out.sent out.sent_after text)
+Cause left answer s out Usage = IsRefusal answer s Usage
 -- the source counted a fault
-Cause answer s out ReadFault = ReadFailed s
-Cause answer s out TooLong = IsRefusal answer s TooLong
-Cause answer s out NotJson = IsReadRefusal answer s NotJson
-Cause answer s out Form = IsReadRefusal answer s Form
-Cause answer s out Check = IsReadRefusal answer s Check
-Cause answer s out NotBuilt = IsReadRefusal answer s NotBuilt
--- the output counted a fault; the document was read to its end, and a beginning of its answer was written, not the whole
-Cause answer s out WriteFault = WriteFailed out × OfDocument s (λ bytes. (text : Text) × (answer bytes ≡ Ok text) × (s.left_after ≡ Some []) × IsCutShort out.sent out.sent_after text)
+Cause left answer s out ReadFault = ReadFailed s
+Cause left answer s out TooLong = IsRefusal answer s TooLong
+Cause left answer s out NotJson = IsReadRefusal left answer s NotJson
+Cause left answer s out Form = IsReadRefusal left answer s Form
+Cause left answer s out Check = IsReadRefusal left answer s Check
+-- the output counted a fault; the document was read to its end, where one is read, and a beginning of its answer was written, not the whole
+Cause left answer s out WriteFault = WriteFailed out × OfDocument s (λ bytes. (text : Text) × (answer bytes ≡ Ok text) × left s bytes × IsCutShort out.sent out.sent_after text)
 -- want of memory alone is free
-Cause answer s out NoMemory = Unit {0}
+Cause left answer s out NoMemory = Unit {0}
 
 -- why a call came to an end without a text to print
-abbrev pub RefusalCause : {A : Type 0} → (List ℕ → Result A StatusLine) → Source → Status → Type 0
-RefusalCause answer s Done = ⊥
-RefusalCause answer s Usage = IsRefusal answer s Usage
-RefusalCause answer s ReadFault = ReadFailed s
-RefusalCause answer s TooLong = IsRefusal answer s TooLong
-RefusalCause answer s NotJson = IsReadRefusal answer s NotJson
-RefusalCause answer s Form = IsReadRefusal answer s Form
-RefusalCause answer s Check = IsReadRefusal answer s Check
-RefusalCause answer s NotBuilt = IsReadRefusal answer s NotBuilt
-RefusalCause answer s WriteFault = ⊥
-RefusalCause answer s NoMemory = Unit {0}
+abbrev pub RefusalCause : {A : Type 0} → Leaving → (List ℕ → Result A StatusLine) → Source → Status → Type 0
+RefusalCause left answer s Done = ⊥
+RefusalCause left answer s Usage = IsRefusal answer s Usage
+RefusalCause left answer s ReadFault = ReadFailed s
+RefusalCause left answer s TooLong = IsRefusal answer s TooLong
+RefusalCause left answer s NotJson = IsReadRefusal left answer s NotJson
+RefusalCause left answer s Form = IsReadRefusal left answer s Form
+RefusalCause left answer s Check = IsReadRefusal left answer s Check
+RefusalCause left answer s WriteFault = ⊥
+RefusalCause left answer s NoMemory = Unit {0}
 
 -- the status that an answer asks for
 abbrev pub status_of : Answer → Status
@@ -121,25 +138,24 @@ IsLine answer s TooLong line = line ≡ fault_line TooLong
 IsLine answer s NotJson line = line ≡ fault_line NotJson
 IsLine answer s Form line = IsAnswersLine answer s Form line
 IsLine answer s Check line = IsAnswersLine answer s Check line
-IsLine answer s NotBuilt line = line ≡ fault_line NotBuilt
 IsLine answer s WriteFault line = line ≡ fault_line WriteFault
 IsLine answer s NoMemory line = line ≡ fault_line NoMemory
 
 -- a refusal has its cause and its line
-abbrev pub IsRefusedSo : {A : Type 0} → (List ℕ → Result A StatusLine) → Source → Refusal → Type 0
-IsRefusedSo answer s r = RefusalCause answer s (refusal_status r) × IsLine answer s (refusal_status r) (refusal_line r)
+abbrev pub IsRefusedSo : {A : Type 0} → Leaving → (List ℕ → Result A StatusLine) → Source → Refusal → Type 0
+IsRefusedSo left answer s r = RefusalCause left answer s (refusal_status r) × IsLine answer s (refusal_status r) (refusal_line r)
 
--- the document that some bytes are, which are those that the source had, where it tells them, and it was read to its end
-abbrev pub IsRead : (List ℕ → Reading) → Source → Result CheckedRun Refusal → Type 0
-IsRead reading s (Ok run) =
-    ((bytes : List ℕ) × (reading bytes ≡ Ok (run_view run)))
-    × OfDocument s (λ bytes. (reading bytes ≡ Ok (run_view run)) × (s.left_after ≡ Some []))
-IsRead reading s (Err r) = IsRefusedSo reading s r
+-- the document that some bytes are, which are those that the source had, where it tells them, and it was left so
+abbrev pub IsRead : Leaving → (List ℕ → Reading) → Source → Result CheckedRun Refusal → Type 0
+IsRead left reading s (Ok d) =
+    ((bytes : List ℕ) × (reading bytes ≡ Ok (run_view d)))
+    × OfDocument s (λ bytes. (reading bytes ≡ Ok (run_view d)) × left s bytes)
+IsRead left reading s (Err r) = IsRefusedSo left reading s r
 
 -- a text to print is the answer, and a refusal has its cause and its line
-abbrev pub IsAnswered : (List ℕ → Answer) → Source → Result Text Refusal → Type 0
-IsAnswered answer s (Ok text) = IsAnswer answer s text
-IsAnswered answer s (Err r) = IsRefusedSo answer s r
+abbrev pub IsAnswered : Leaving → (List ℕ → Answer) → Source → Result Text Refusal → Type 0
+IsAnswered left answer s (Ok text) = IsAnswer left answer s text
+IsAnswered left answer s (Err r) = IsRefusedSo left answer s r
 
 -- the line was written whole, or its sink counted a fault and a beginning of it was written, not the whole
 abbrev pub IsReported : Sink → Text → Type 0

@@ -2,7 +2,7 @@
 use Rattle.std.specs.Prelude.{ℕ, [], ◌∷◌, ◌++◌, codes}
 use Rattle.tv_value.specs.Values.{Text}
 use Rattle.tv_top.specs.declared.status.Status.{Status}
-use Rattle.tv_top.specs.declared.status.Status.TheVariants.{Done, Usage, ReadFault, TooLong, NotJson, Form, Check, NotBuilt, WriteFault, NoMemory}
+use Rattle.tv_top.specs.declared.status.Status.TheVariants.{Done, Usage, ReadFault, TooLong, NotJson, Form, Check, WriteFault, NoMemory}
 
 -- none for a fault of the form or of the check, whose line says which
 abbrev pub fault_line : Status → Text
@@ -13,7 +13,6 @@ fault_line TooLong = codes "taverna: input longer than 16777216 bytes" ++ 10 ∷
 fault_line NotJson = codes "taverna: not JSON" ++ 10 ∷ []
 fault_line Form = []
 fault_line Check = []
-fault_line NotBuilt = codes "taverna: not built" ++ 10 ∷ []
 fault_line WriteFault = codes "taverna: write fault" ++ 10 ∷ []
 fault_line NoMemory = codes "taverna: want of memory" ++ 10 ∷ []
 
@@ -28,4 +27,3 @@ code_of Form = 6
 code_of Check = 7
 code_of WriteFault = 9
 code_of NoMemory = 10
-code_of NotBuilt = 11

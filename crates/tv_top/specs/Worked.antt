@@ -6,13 +6,13 @@ use Rattle.tv_gate.specs.Calls.{Call}
 use Rattle.tv_flow.specs.Flows.{Document}
 use Rattle.tv_json.specs.Documents.{document_json}
 use Rattle.tv_local.specs.LocalGives.{local_gives, local_knows}
-use Rattle.tv_model.specs.Writing.{a, asks, b, constant_text, document, from_input, from_step, out, takes, words, x, y}
+use Rattle.tv_model.specs.Writing.{a, asks, b, constant_text, document, from_input, from_step, line, out, takes, words, x, y}
 use Rattle.tv_model.specs.RowsOfFlows.{opening as nested_flow}
-use Rattle.tv_top.specs.Words.{Command, command_of, run, check, trace}
+use Rattle.tv_top.specs.Words.{Command, command_of, run, check, trace, gen}
 use Rattle.tv_top.specs.Answers.{Answer, Reading, always, answer_of, answer_to_reading, reading_of_json}
-use Rattle.tv_top.specs.Asking.{asks_to_reading}
+use Rattle.tv_top.specs.Asking.{asks_of, asks_to_reading}
 use Rattle.tv_top.specs.Lines.{fault_line, code_of}
-use Rattle.tv_top.specs.declared.status.Status.TheVariants.{Done, Usage, ReadFault, TooLong, NotJson, Form, Check, NotBuilt, WriteFault, NoMemory}
+use Rattle.tv_top.specs.declared.status.Status.TheVariants.{Done, Usage, ReadFault, TooLong, NotJson, Form, Check, WriteFault, NoMemory}
 
 -- ---- documents
 
@@ -100,10 +100,15 @@ TracesChain = answer trace two_steps ≡ Ok (codes "p[0] 1\nq[0] 1\np[1] 1\nq[1]
 abbrev pub TracesFailure : Type 0
 TracesFailure = answer trace one_failure ≡ Ok (codes "f[0] 1\nu[0] 1\nf[1] 1\nf[2] 1\nu[2] 1\n")
 
--- what opens a flow isn't run yet, though it is checked
-abbrev pub RunsNoNestedFlow : Type 0
-RunsNoNestedFlow =
-    (answer run nested_flow ≡ Err (NotBuilt, codes "taverna: not built\n")) × (answer trace nested_flow ≡ Err (NotBuilt, codes "taverna: not built\n"))
+-- a job that opens a flow gives what the flow gives
+abbrev pub RunsNestedFlow : Type 0
+RunsNestedFlow = answer run nested_flow ≡ Ok (line nested_flow)
+
+-- a generated document is run, and its summary written, whatever there is to be read
+abbrev pub RunsGenerated : Type 0
+RunsGenerated =
+    answer_of local_gives local_knows (Some (gen 1)) []
+    ≡ Ok (codes "gen 1: jobs 4 attempts 4 bounced 1 failed 1 bytes 150\n")
 
 abbrev pub ChecksCross : Type 0
 ChecksCross = answer check two_ports ≡ Ok (codes "in m c a 0 1\nin m c b 0 1\nout m c o 0 2\nflow m out 2\n")
@@ -152,8 +157,9 @@ abbrev pub AsksAttempts : Type 0
 AsksAttempts =
     map (λ c. c.attempt) (asks_for trace third_attempt) ≡ 0 ∷ 1 ∷ 2 ∷ []
 
-abbrev pub AsksNoNestedFlow : Type 0
-AsksNoNestedFlow = asks_for run nested_flow ≡ []
+-- a generated document asks as any other does, whatever there is to be read
+abbrev pub AsksGenerated : Type 0
+AsksGenerated = map (λ c. c.attempt) (asks_of local_gives local_knows (Some (gen 1)) []) ≡ 0 ∷ 0 ∷ 1 ∷ 0 ∷ []
 
 abbrev pub AsksNoCheck : Type 0
 AsksNoCheck = asks_for check two_steps ≡ []
@@ -166,6 +172,7 @@ TakesCommands =
     × (command_of (codes "run" ∷ codes "--workers" ∷ codes "4" ∷ []) ≡ Some run)
     × (command_of (codes "check" ∷ []) ≡ Some check)
     × (command_of (codes "trace" ∷ []) ≡ Some trace)
+    × (command_of (codes "gen" ∷ codes "7" ∷ []) ≡ Some (gen 7))
 
 abbrev pub TakesNothingElse : Type 0
 TakesNothingElse =
@@ -175,12 +182,12 @@ TakesNothingElse =
     × (command_of (codes "run" ∷ codes "--workers" ∷ codes "0" ∷ []) ≡ None)
     × (command_of (codes "run" ∷ codes "--of" ∷ codes "out[]" ∷ []) ≡ None)
     × (command_of (codes "lineage" ∷ codes "--of" ∷ codes "out[]" ∷ []) ≡ None)
-    × (command_of (codes "gen" ∷ codes "1" ∷ []) ≡ None)
+    × (command_of (codes "gen" ∷ codes "201" ∷ []) ≡ None)
 
 abbrev pub TellsCodes : Type 0
 TellsCodes =
-    map code_of (Done ∷ Usage ∷ ReadFault ∷ TooLong ∷ NotJson ∷ Form ∷ Check ∷ WriteFault ∷ NoMemory ∷ NotBuilt ∷ []) ≡ 0 ∷ 2 ∷ 3 ∷ 4 ∷ 5 ∷ 6 ∷ 7 ∷ 9 ∷ 10 ∷ 11 ∷ []
+    map code_of (Done ∷ Usage ∷ ReadFault ∷ TooLong ∷ NotJson ∷ Form ∷ Check ∷ WriteFault ∷ NoMemory ∷ []) ≡ 0 ∷ 2 ∷ 3 ∷ 4 ∷ 5 ∷ 6 ∷ 7 ∷ 9 ∷ 10 ∷ []
 
 abbrev pub TellsLines : Type 0
 TellsLines =
-    map fault_line (ReadFault ∷ TooLong ∷ NotJson ∷ NotBuilt ∷ WriteFault ∷ NoMemory ∷ []) ≡ codes "taverna: read fault\n" ∷ codes "taverna: input longer than 16777216 bytes\n" ∷ codes "taverna: not JSON\n" ∷ codes "taverna: not built\n" ∷ codes "taverna: write fault\n" ∷ codes "taverna: want of memory\n" ∷ []
+    map fault_line (ReadFault ∷ TooLong ∷ NotJson ∷ WriteFault ∷ NoMemory ∷ []) ≡ codes "taverna: read fault\n" ∷ codes "taverna: input longer than 16777216 bytes\n" ∷ codes "taverna: not JSON\n" ∷ codes "taverna: write fault\n" ∷ codes "taverna: want of memory\n" ∷ []

@@ -1,8 +1,8 @@
 //! Laws of the definitions, and the definitions computed on worked examples: each is the clause of a function that does nothing,
 //! so a definition that comes to something else is refused.
-ghost use Rattle.tv_top.specs.Worked.{RunsOneText, RunsChain, RunsFailure, RunsCross, ChecksCross, ChecksChain, TracesAttempts, TracesChain, TracesFailure};
-ghost use Rattle.tv_top.specs.Worked.{RunsNoNestedFlow, RefusesDepth, RefusesCircle, RefusesNoDocument, RefusesNoJson, RefusesNoCommand};
-ghost use Rattle.tv_top.specs.Worked.{AsksChain, AsksFailure, AsksAttempts, AsksNoNestedFlow, AsksNoCheck};
+ghost use Rattle.tv_top.specs.Worked.{RunsOneText, RunsChain, RunsFailure, RunsCross, RunsNestedFlow, RunsGenerated, ChecksCross, ChecksChain, TracesAttempts, TracesChain, TracesFailure};
+ghost use Rattle.tv_top.specs.Worked.{RefusesDepth, RefusesCircle, RefusesNoDocument, RefusesNoJson, RefusesNoCommand};
+ghost use Rattle.tv_top.specs.Worked.{AsksChain, AsksFailure, AsksAttempts, AsksGenerated, AsksNoCheck};
 ghost use Rattle.tv_top.specs.Worked.{TakesCommands, TakesNothingElse, TellsCodes, TellsLines};
 ghost use Rattle.tv_top.specs.Asking.{OthersAreNotAsked, OthersAskNothing, RefusalsAskNothing};
 
@@ -12,6 +12,8 @@ pub fn worked_texts()
     ensures chain { RunsChain }
     ensures failure { RunsFailure }
     ensures cross { RunsCross }
+    ensures nested { RunsNestedFlow }
+    ensures generated { RunsGenerated }
     ensures attempts { TracesAttempts }
     ensures chain_trace { TracesChain }
     ensures failure_trace { TracesFailure }
@@ -21,7 +23,6 @@ pub fn worked_texts()
 
 /// What is refused, with its line.
 pub fn worked_refusals()
-    ensures nested { RunsNoNestedFlow }
     ensures depth { RefusesDepth }
     ensures circle { RefusesCircle }
     ensures no_document { RefusesNoDocument }
@@ -34,7 +35,7 @@ pub fn worked_asks()
     ensures chain { AsksChain }
     ensures failure { AsksFailure }
     ensures attempts { AsksAttempts }
-    ensures nested { AsksNoNestedFlow }
+    ensures generated { AsksGenerated }
     ensures checked { AsksNoCheck }
 {}
 

@@ -71,7 +71,10 @@ fn form_refusal(alloc: Global, fault: &FormFault) -> Refusal
     }
 }
 
-fn run_of_document<V: Services>(alloc: Global, document: Document) -> Result<CheckedRun, Refusal>
+pub(crate) fn run_of_document<V: Services>(
+    alloc: Global,
+    document: Document,
+) -> Result<CheckedRun, Refusal>
     ensures { GivesRun result (unless_complaint (document_view document) (checked V.knows (document_view document))) }
 {
     match check::<V>(alloc, document) {

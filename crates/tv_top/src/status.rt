@@ -18,8 +18,6 @@ pub enum Status {
     Form,
     /// The check complains of the document.
     Check,
-    /// The document is accepted, and isn't one that is run yet.
-    NotBuilt,
     /// A write of the output failed.
     WriteFault,
     /// Memory was wanting.
@@ -27,7 +25,7 @@ pub enum Status {
 }
 
 impl Status {
-    /// The exit code: 0, 2, 3, 4, 5, 6, 7, 11, 9 and 10 in the order above.
+    /// The exit code: 0, 2, 3, 4, 5, 6, 7, 9 and 10 in the order above.
     pub fn code(self) -> u8
         ensures { result ≡ code_of self }
     {
@@ -41,7 +39,6 @@ impl Status {
             Status::Check => 7,
             Status::WriteFault => 9,
             Status::NoMemory => 10,
-            Status::NotBuilt => 11,
         }
     }
 
@@ -59,7 +56,6 @@ impl Status {
             Status::NotJson => "taverna: not JSON\n",
             Status::Form => "",
             Status::Check => "",
-            Status::NotBuilt => "taverna: not built\n",
             Status::WriteFault => "taverna: write fault\n",
             Status::NoMemory => "taverna: want of memory\n",
         }

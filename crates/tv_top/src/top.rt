@@ -1,23 +1,24 @@
 //! The top calls.
-ghost use Rattle.std.specs.Prelude.{◌+◌, ◌≡◌, ◌≢◌, ◌↔◌, Some, None, IfErr};
+ghost use Rattle.std.specs.Prelude.{◌+◌, ◌≡◌, ◌≢◌, ◌≤◌, ◌↔◌, Some, None, IfErr};
 ghost use Rattle.tv_io.specs.ReadOf.{TakesAtMost};
-ghost use Rattle.tv_top.specs.Words.{command_of as asked_for};
-ghost use Rattle.tv_top.specs.CommandViews.{command_view};
-ghost use Rattle.tv_top.specs.Answers.{answer_of, byte_limit, reading_of};
-ghost use Rattle.tv_top.specs.Asked.{texts_of, refusal_status, refusal_line, ended};
+ghost use Rattle.tv_top.specs.Words.{IsGen, command_of as asked_for, gen};
+ghost use Rattle.tv_top.specs.CommandViews.{reading_view};
+ghost use Rattle.tv_top.specs.Answers.{answer_of, byte_limit, generated_reading, reading_of};
+ghost use Rattle.tv_top.specs.Asked.{GivesRun, texts_of, refusal_status, refusal_line, ended};
 ghost use Rattle.tv_top.specs.Asking.{asks_of, IsAsked, IsAskedFor};
-ghost use Rattle.tv_top.specs.Headline.{IsAnswered, Cause, IsComplete, IsLine, IsRead, IsReported, IsSaid, source_told, sink_told};
+ghost use Rattle.tv_top.specs.Headline.{IsAnswered, Cause, IsComplete, IsLine, IsRead, IsReported, IsSaid, Source as ASource, left_by, read_whole, source_told, sink_told, unread};
 
-use crate::answering::answer;
-use crate::reading::checked_run;
+use crate::answering::{answer, summary};
+use crate::reading::{checked_run, run_of_document};
 use crate::refusal::Refusal;
 use crate::status::Status;
-use crate::words::{Command, command_of};
+use crate::words::{Command, Reading, command_of};
 use std::alloc::Global;
 use std::sync::Wait;
 use std::thread::Threads;
 use tv_check::CheckedRun;
 use tv_gate::{Asker, Gate, Services};
+use tv_generated::generated;
 use tv_io::{ReadAllFault, Sink, Source, read_all, write_all};
 use tv_value::Text;
 
@@ -40,7 +41,7 @@ pub fn taverna_alone<S: Source, K: Sink, E: Sink, A: Asker>(
     asker: &mut A,
 ) -> Status
     // Why the status came, by the bytes of the document and of the answer.
-    ensures cause { Cause (answer_of A.Services.gives A.Services.knows (asked_for (texts_of words.now)))
+    ensures cause { Cause (left_by (asked_for (texts_of words.now))) (answer_of A.Services.gives A.Services.knows (asked_for (texts_of words.now)))
         (source_told ⟦<S as Source>⟧ source.old source.new)
         (sink_told ⟦<K as Sink>⟧ out.old out.new) result }
     ensures complete { IsComplete (answer_of A.Services.gives A.Services.knows (asked_for (texts_of words.now)))
@@ -50,6 +51,7 @@ pub fn taverna_alone<S: Source, K: Sink, E: Sink, A: Asker>(
     ensures usage { result ≢ Status.NoMemory → ((result ≡ Status.Usage) ↔ (asked_for (texts_of words.now) ≡ None)) }
     ensures taken { TakesAtMost (byte_limit + 1) (S.left source.old) (S.left source.new) }
     ensures unread { result ≡ Status.Usage → source.new ≡ source.old }
+    ensures unread_by_gen { IsGen (asked_for (texts_of words.now)) → source.new ≡ source.old }
     // The output has nothing but an answer, and the line on `err` is the status's.
     ensures silent { result ≢ Status.Done → result ≢ Status.WriteFault → out.new ≡ out.old }
     ensures unsaid { result ≡ Status.Done → err.new ≡ err.old }
@@ -89,7 +91,7 @@ fn carried_out<S: Source, K: Sink, A: Asker>(
     out: &mut K,
     asker: &mut A,
 ) -> Result<(), Refusal>
-    ensures cause { Cause (answer_of A.Services.gives A.Services.knows (asked_for (texts_of words.now)))
+    ensures cause { Cause (left_by (asked_for (texts_of words.now))) (answer_of A.Services.gives A.Services.knows (asked_for (texts_of words.now)))
         (source_told ⟦<S as Source>⟧ source.old source.new)
         (sink_told ⟦<K as Sink>⟧ out.old out.new) (ended result) }
     ensures line { IfErr result (λ r. IsLine (answer_of A.Services.gives A.Services.knows (asked_for (texts_of words.now)))
@@ -97,6 +99,7 @@ fn carried_out<S: Source, K: Sink, A: Asker>(
     ensures usage { ended result ≢ Status.NoMemory → ((ended result ≡ Status.Usage) ↔ (asked_for (texts_of words.now) ≡ None)) }
     ensures taken { TakesAtMost (byte_limit + 1) (S.left source.old) (S.left source.new) }
     ensures unread { ended result ≡ Status.Usage → source.new ≡ source.old }
+    ensures unread_by_gen { IsGen (asked_for (texts_of words.now)) → source.new ≡ source.old }
     ensures silent { ended result ≢ Status.Done → ended result ≢ Status.WriteFault → out.new ≡ out.old }
     ensures asked { IsAsked (asks_of A.Services.gives A.Services.knows (asked_for (texts_of words.now)))
         (source_told ⟦<S as Source>⟧ source.old source.new)
@@ -116,17 +119,19 @@ fn answered<S: Source, A: Asker>(
     source: &mut S,
     asker: &mut A,
 ) -> Result<Text, Refusal>
-    ensures answer { IsAnswered (answer_of A.Services.gives A.Services.knows (asked_for (texts_of words.now)))
+    ensures answer { IsAnswered (left_by (asked_for (texts_of words.now))) (answer_of A.Services.gives A.Services.knows (asked_for (texts_of words.now)))
         (source_told ⟦<S as Source>⟧ source.old source.new) result }
     ensures usage { ended result ≢ Status.NoMemory → ((ended result ≡ Status.Usage) ↔ (asked_for (texts_of words.now) ≡ None)) }
     ensures taken { TakesAtMost (byte_limit + 1) (S.left source.old) (S.left source.new) }
     ensures unread { ended result ≡ Status.Usage → source.new ≡ source.old }
+    ensures unread_by_gen { IsGen (asked_for (texts_of words.now)) → source.new ≡ source.old }
     ensures asked { IsAskedFor (asks_of A.Services.gives A.Services.knows (asked_for (texts_of words.now)))
         (source_told ⟦<S as Source>⟧ source.old source.new)
         (A.calls asker.old) (A.calls asker.new) result }
 {
     match command_of(alloc, words)? {
-        Some(command) => read_and_answered(alloc, command, source, asker),
+        Some(Command::Of(reading)) => read_and_answered(alloc, reading, source, asker),
+        Some(Command::Gen { number }) => generated_and_answered(alloc, number, asker),
         None => Err(Refusal::Plain(Status::Usage)),
     }
 }
@@ -134,24 +139,53 @@ fn answered<S: Source, A: Asker>(
 /// The document is read and checked before the first service is asked.
 fn read_and_answered<S: Source, A: Asker>(
     alloc: Global,
-    command: Command,
+    command: Reading,
     source: &mut S,
     asker: &mut A,
 ) -> Result<Text, Refusal>
-    ensures answer { IsAnswered (answer_of A.Services.gives A.Services.knows (Some (command_view command)))
+    ensures answer { IsAnswered read_whole (answer_of A.Services.gives A.Services.knows (Some (reading_view command)))
         (source_told ⟦<S as Source>⟧ source.old source.new) result }
     ensures taken { TakesAtMost (byte_limit + 1) (S.left source.old) (S.left source.new) }
     ensures command { ended result ≢ Status.Usage }
-    ensures asked { IsAskedFor (asks_of A.Services.gives A.Services.knows (Some (command_view command)))
+    ensures asked { IsAskedFor (asks_of A.Services.gives A.Services.knows (Some (reading_view command)))
         (source_told ⟦<S as Source>⟧ source.old source.new) (A.calls asker.old) (A.calls asker.new) result }
 {
     let run = run_read::<S, A::Services>(alloc, source)?;
     answer(alloc, command, run, asker)
 }
 
+/// The generated document is checked before the first service is asked. Nothing is read.
+fn generated_and_answered<A: Asker>(
+    alloc: Global,
+    number: u32,
+    asker: &mut A,
+) -> Result<Text, Refusal>
+    requires some { 1 ≤ number }
+    requires most { number ≤ 200 }
+    ensures answer { (s : ASource) → s.left_after ≡ s.left
+        → IsAnswered unread (answer_of A.Services.gives A.Services.knows (Some (gen number))) s result }
+    ensures command { ended result ≢ Status.Usage }
+    ensures asked { (s : ASource)
+        → IsAskedFor (asks_of A.Services.gives A.Services.knows (Some (gen number))) s (A.calls asker.old) (A.calls asker.new) result }
+{
+    let run = run_generated::<A::Services>(alloc, number)?;
+    summary(alloc, number, run, asker)
+}
+
+/// Makes the document of a number, and checks it.
+fn run_generated<V: Services>(alloc: Global, number: u32) -> Result<CheckedRun, Refusal>
+    requires some { 1 ≤ number }
+    requires most { number ≤ 200 }
+    ensures run { GivesRun result (generated_reading V.knows number) }
+    ensures command { ended result ≢ Status.Usage }
+{
+    let document = generated(alloc, number)?;
+    run_of_document::<V>(alloc, document)
+}
+
 /// Reads a document to its end, and checks it.
 fn run_read<S: Source, V: Services>(alloc: Global, source: &mut S) -> Result<CheckedRun, Refusal>
-    ensures read { IsRead (reading_of V.knows) (source_told ⟦<S as Source>⟧ source.old source.new) result }
+    ensures read { IsRead read_whole (reading_of V.knows) (source_told ⟦<S as Source>⟧ source.old source.new) result }
     ensures taken { TakesAtMost (byte_limit + 1) (S.left source.old) (S.left source.new) }
     ensures command { ended result ≢ Status.Usage }
 {
@@ -182,7 +216,7 @@ pub fn taverna<
     _gate: &G,
     asker: &mut A,
 ) -> Status
-    ensures cause { Cause (answer_of G.Services.gives G.Services.knows (asked_for (texts_of words.now)))
+    ensures cause { Cause (left_by (asked_for (texts_of words.now))) (answer_of G.Services.gives G.Services.knows (asked_for (texts_of words.now)))
         (source_told ⟦<S as Source>⟧ source.old source.new)
         (sink_told ⟦<K as Sink>⟧ out.old out.new) result }
     ensures complete { IsComplete (answer_of G.Services.gives G.Services.knows (asked_for (texts_of words.now)))
@@ -191,6 +225,7 @@ pub fn taverna<
     ensures usage { result ≢ Status.NoMemory → ((result ≡ Status.Usage) ↔ (asked_for (texts_of words.now) ≡ None)) }
     ensures taken { TakesAtMost (byte_limit + 1) (S.left source.old) (S.left source.new) }
     ensures unread { result ≡ Status.Usage → source.new ≡ source.old }
+    ensures unread_by_gen { IsGen (asked_for (texts_of words.now)) → source.new ≡ source.old }
     ensures silent { result ≢ Status.Done → result ≢ Status.WriteFault → out.new ≡ out.old }
     ensures unsaid { result ≡ Status.Done → err.new ≡ err.old }
     ensures said { result ≢ Status.Done → IsSaid (answer_of G.Services.gives G.Services.knows (asked_for (texts_of words.now)))

@@ -4,3 +4,4 @@ pub mod OfTurns
 pub mod OfTries
 pub mod OfNext
 pub mod OfParts
+pub mod OfFlows

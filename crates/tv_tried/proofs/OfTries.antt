@@ -58,7 +58,7 @@ module _ (gives : Giving) (s : Step) (j : Job) (t : IsTried gives s j) where
   abbrev end : Fate
   end = (taken_of gives s j).fate
 
-  left-stands : (past : History) → Stands s j gives end (asks_left past j.name j.asks)
+  pub left-stands : (past : History) → Stands s j gives end (asks_left past j.name j.asks)
   left-stands [] = inr (subst (λ l. Goes s j gives end l) (sym t.asks) (at-start s j gives))
   left-stands (e ∷ past) = by (is_accepted j.name e) (left-stands past)
     where

@@ -14,6 +14,7 @@ use Rattle.tv_model.specs.Jobs.{Job, failed_end, good_end}
 use Rattle.tv_model.specs.Meanings.{meaning}
 use Rattle.tv_history.specs.Entries.{Entry, History, accepted}
 use Rattle.tv_history.specs.Histories.{is_legal_after, is_right, is_settled, next_ask}
+use Rattle.tv_outcomes.specs.Activities.{last_activity}
 use Rattle.tv_tried.specs.Steps.{IsAskOf}
 
 -- it asks attempt t at activity a
@@ -61,6 +62,14 @@ pub record IsFirst (past : History) (j : Job) (s : Step) (p : Plan) : Type 0 whe
   pub not_failed : first_next p false ≡ next.Failed → ⊥
   pub not_done : first_next p false ≡ next.Done → ⊥
   pub not_bounced : first_next p false ≡ next.Bounce → ⊥
+
+-- the activity of the flow that the plan says comes next is the one after the last that is asked. (Of OpensNext alone it
+-- isn't so: a later activity may name the same flow.)
+pub record FlowComesAfterAsks (past : History) (j : Job) (p : Plan) : Type 0 where
+  pub first : (a : ℕ) → first_next p false ≡ next.Nest a → a ≡ last_activity j.asks
+  pub later :
+      (k : Ask) (a : ℕ) → next_ask past j ≡ Some k → next_after p k.activity k.attempt false ≡ next.Nest a
+      → a ≡ last_activity j.asks
 
 -- what the plan says comes after this ask
 abbrev pub said_after : Giving → Plan → Ask → Next

@@ -1,7 +1,8 @@
 -- Laws of the tries of one job, for every document and all services.
 use Rattle.std.specs.List.{list_any}
-use Rattle.std.specs.Prelude.{Some, false, true, ◌<◌, ◌≡◌, ◌∷◌}
-use Rattle.tv_value.specs.Values.{holds_fault}
+use Rattle.std.specs.Prelude.{Some, false, is_some, slice_get, true, ◌<◌, ◌≡◌, ◌∷◌}
+use Rattle.tv_value.specs.Activities.{nested}
+use Rattle.tv_value.specs.Values.{Name, holds_fault}
 use Rattle.tv_gate.specs.Outcomes.{Giving}
 use Rattle.tv_flow.specs.Flows.{Document, Step}
 use Rattle.tv_flow.specs.Formed.{is_formed}
@@ -15,8 +16,9 @@ use Rattle.tv_model.specs.Turns.{is_bounced, is_failed}
 use Rattle.tv_history.specs.Entries.{Entry, History, is_accepted, is_out}
 use Rattle.tv_history.specs.Histories.{is_legal, is_settled, next_ask}
 use Rattle.tv_history.specs.ReadOff.{has_failed}
+use Rattle.tv_outcomes.specs.Activities.{last_activity}
 use Rattle.tv_order.specs.Parts.{OwnPart}
-use Rattle.tv_tried.specs.NextTries.{IsAfter, IsFirst}
+use Rattle.tv_tried.specs.NextTries.{FlowComesAfterAsks, IsAfter, IsFirst}
 use Rattle.tv_tried.specs.Steps.{IsAskOf, IsBouncedJob, IsOfPlan, IsOwnStep, IsPlanOf}
 
 -- ---- next tries
@@ -51,6 +53,25 @@ OthersKeepTries =
     (past : History) (e : Entry) (j : Job)
     → is_accepted j.name e ≡ false
     → next_ask (e ∷ past) j ≡ next_ask past j
+
+-- ---- flows
+
+-- the plan of a job that opens a flow says that it comes after all that is asked
+abbrev pub FlowsComeAfterAsks : Type 0
+FlowsComeAfterAsks =
+    (gives : Giving) (d : Document) (past : History) (j : Job) (s : Step) (p : Plan)
+    → IsOwnStep gives d j s
+    → IsPlanOf p s
+    → is_some j.opens ≡ true
+    → FlowComesAfterAsks past j p
+
+-- which flow it is, the step tells at that activity
+abbrev pub FlowIsOfStep : Type 0
+FlowIsOfStep =
+    (gives : Giving) (d : Document) (j : Job) (s : Step)
+    → IsOwnStep gives d j s
+    → is_some j.opens ≡ true
+    → (g : Name) × (j.opens ≡ Some g) × (slice_get s.activities (last_activity j.asks) ≡ Some (nested g))
 
 -- ---- asks
 

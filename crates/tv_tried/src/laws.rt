@@ -1,11 +1,17 @@
 //! What holds of the tries of every job: each law is the clause of a function that does nothing.
-ghost use Rattle.tv_tried.specs.Stated.{ActivitiesAreFew, AsksAreOfPlan, AsksAreOfStep, BouncedAsksNone, BouncedByInputs, FirstTryIsFirst, LimitIsOfStep, NextTryFollows, OthersKeepTries, OwnPartsAre, TotalsByTries};
+ghost use Rattle.tv_tried.specs.Stated.{ActivitiesAreFew, AsksAreOfPlan, AsksAreOfStep, BouncedAsksNone, BouncedByInputs, FirstTryIsFirst, FlowIsOfStep, FlowsComeAfterAsks, LimitIsOfStep, NextTryFollows, OthersKeepTries, OwnPartsAre, TotalsByTries};
 
 /// What a job's plan says comes first, and after an outcome, is what the meaning and the history say of the job.
 pub fn tries_follow()
     ensures first { FirstTryIsFirst }
     ensures next { NextTryFollows }
     ensures others { OthersKeepTries }
+{}
+
+/// The flow that a job opens is that of the activity after the last that it asks, by its plan and by its step.
+pub fn flows_follow()
+    ensures after { FlowsComeAfterAsks }
+    ensures step { FlowIsOfStep }
 {}
 
 /// A job's next ask is an attempt at a service of its own step, one of the first eight, as the step's plan has it.

@@ -6,6 +6,7 @@
 //! - what the plan says comes first is the job's first ask, or the flow that it opens at once;
 //! - what the plan says comes after an outcome is the job's next ask, the flow that it opens then, or the end, with the
 //!   result that the meaning has;
+//! - the flow that a job opens is that of the activity after the last that it asks;
 //! - every ask is an attempt of the plan at a service of the job's own step, on the job's inputs;
 //! - a job with an error in its inputs, and no other, is bounced, asks nothing and opens nothing;
 //! - entries that accept no outcome of a job keep its next ask.

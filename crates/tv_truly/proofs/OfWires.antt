@@ -58,11 +58,6 @@ in-filter p x (y ∷ xs) h e = by (p y) refl h (λ g. in-filter p x xs g e)
     by false w (inl g) rec = absurd (true≢false (sym (ap p (sym g) ∙ e) ∙ w))
     by false w (inr g) rec = rec g
 
-pub in-get : {A : Type 0} (xs : List A) (k : ℕ) (x : A) → slice_get xs k ≡ Some x → In x xs
-in-get [] k x e = absurd (none-some x e)
-in-get (y ∷ xs) zero x e = inl (sym (same_Some y x e))
-in-get (y ∷ xs) (suc k) x e = inr (in-get xs k x e)
-
 pub get-in : {A : Type 0} (x : A) (xs : List A) → In x xs → (k : ℕ) × (slice_get xs k ≡ Some x)
 get-in x [] h = absurd h
 get-in x (y ∷ xs) (inl e) = (0, ap Some (sym e))

@@ -12,7 +12,7 @@ use Rattle.serde_json.specs.declared.value.Value.{Value as Json}
 use Rattle.tv_value.specs.Nested.{Trees, no_trees, trees_of}
 use Rattle.tv_value.specs.Values as spec
 use Rattle.tv_value.specs.Values.{Scalar}
-use Rattle.tv_value.specs.Readings.{Complaint, within, read, read_items, read_list, first_read, item_count, length_limit, ragged}
+use Rattle.tv_value.specs.Readings.{Complaint, read, read_items, read_list, first_read, item_count, length_limit, ragged}
 
 pub item_count-each : (xs : List Json) → item_count (json_items xs) ≡ length xs
 item_count-each [] = refl
@@ -23,10 +23,6 @@ abbrev pub put_before : List spec.Value → Result (Trees (Unit {0}) Scalar) Com
 put_before vs (Err c) = Err c
 put_before [] (Ok ts) = Ok ts
 put_before (v ∷ vs) (Ok ts) = first_read 0 (Ok v) (put_before vs (Ok ts))
-
-pub put_before-nothing : (r : Result (Trees (Unit {0}) Scalar) Complaint) → put_before [] r ≡ r
-put_before-nothing (Ok ts) = refl
-put_before-nothing (Err c) = refl
 
 pub put_before-push : (vs : List spec.Value) (v : spec.Value) (i : ℕ) (r : Result (Trees (Unit {0}) Scalar) Complaint) → put_before (vs ++ v ∷ []) r ≡ put_before vs (first_read i (Ok v) r)
 put_before-push vs v i (Err c) = refl
@@ -71,11 +67,6 @@ read_step xs i d vs v h e =
     ∙ ap (λ r. put_before vs (first_read i r (read_items (suc i) rest))) e
     ∙ sym (put_before-push vs v i (read_items (suc i) rest))
     ∙ ap (λ k. put_before (vs ++ v ∷ []) (read_items k (json_items (drop k xs)))) (sym (next i))
-
-pub read_stop : (xs : List Json) (i : ℕ) (d : Json) (vs : List spec.Value) (f : Complaint) → i < length xs → read (json_view (get_or xs i d)) ≡ Err f → put_before vs (read_items i (json_items (drop i xs))) ≡ Err (within i f)
-read_stop xs i d vs f h e =
-    ap (λ js. put_before vs (read_items i js)) (split_at xs i d h)
-    ∙ ap (λ r. put_before vs (first_read i r (read_items (suc i) (json_items (drop (suc i) xs))))) e
 
 pub read_end : (xs : List Json) (i : ℕ) (vs : List spec.Value) → length xs ≤ i → put_before vs (read_items i (json_items (drop i xs))) ≡ Ok (trees_of vs)
 read_end xs i vs h = ap (λ ys. put_before vs (read_items i (json_items ys))) (drop_all i xs h) ∙ put_before-end vs

@@ -1,6 +1,7 @@
 pub mod OwnDepths
 pub mod OfSteps
 pub mod OfRuns
+pub mod OfOpened
 pub mod OfJobs
 pub mod OfReady
 pub mod OfEndings

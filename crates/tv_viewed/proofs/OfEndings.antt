@@ -17,6 +17,7 @@ use Rattle.tv_instance.specs.Endings.{IsOwn, has_ended}
 use Rattle.tv_instance.specs.Events.{known_by}
 use Rattle.tv_instance.proofs.OfWholeness.{same_tests}
 use Rattle.tv_model.specs.Instances.{given_of}
+use Rattle.tv_model.specs.Jobs.{Job}
 use Rattle.tv_model.specs.Made.{Made, Meaning, feed_value, step_in}
 use Rattle.tv_model.specs.Meanings.{flow_meaning, instance_meaning, no_meaning}
 use Rattle.tv_model.specs.Members.{In}
@@ -36,6 +37,7 @@ use Rattle.tv_framing.specs.Answers.{AreOutputs, has_ended_now}
 use Rattle.tv_framing.specs.Views.{View}
 use Rattle.tv_framing.proofs.OfEndings.{all_ended-in_all}
 use Rattle.tv_viewed.proofs.OfJobs.{found}
+use Rattle.tv_viewed.proofs.OfOpened.{IsOpenedAs}
 use Rattle.tv_viewed.proofs.OfReady.{all-own}
 use Rattle.tv_viewed.proofs.OfRuns.{Runs, in-all, steps_here}
 use Rattle.tv_viewed.proofs.OfSteps.{of-made, of-step, own-alike, own_made}
@@ -194,3 +196,14 @@ main-told gives flows k f vs past levels v r e given ws h =
     outputs-told gives flows (flow_meaning gives flows (suc k) f [] vs) past [] levels v r k vs (main-instance gives flows k f v.flow e [] vs) given ws h
     ∙ sym (map-map (λ o. plain o.1) (λ (o : Name × Feed). (o.0, (feed_value (given_of v.flow vs) (made_of gives flows k v.flow [] vs) o.1).value)) v.flow.outputs)
     ∙ sym (ap (λ os. map (λ o. plain o.1) os) (main-outputs gives flows k f v.flow e [] vs))
+
+-- and one that a job opened gives what the job gives
+pub opened-told : (gives : Giving) (flows : List (Name × Flow)) (m : Meaning) (past : History) (j : Job) (levels : Name → ℕ) (v : View)
+    → Runs gives flows m past j.name levels v → (g : Name) → named g flows ≡ Some v.flow
+    → IsOpenedAs gives flows m j g v.flow v.inputs
+    → (ws : List Value) → AreOutputs v ws → ws ≡ j.result
+opened-told gives flows m past j levels v r g e o ws h =
+    outputs-told gives flows m past j.name levels v r o.levels v.inputs o.part refl ws h
+    ∙ sym (map-map (λ x. plain x.1) (λ (x : Name × Feed). (x.0, (feed_value (given_of v.flow v.inputs) (made_of gives flows o.levels v.flow j.name v.inputs) x.1).value)) v.flow.outputs)
+    ∙ sym (ap (λ os. map (λ x. plain x.1) os) (main-outputs gives flows o.levels g v.flow e j.name v.inputs))
+    ∙ sym o.result

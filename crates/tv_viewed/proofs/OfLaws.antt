@@ -17,9 +17,10 @@ use Rattle.tv_model.specs.Meanings.{flow_meaning, meaning}
 use Rattle.tv_history.specs.Entries.{History}
 use Rattle.tv_framing.specs.Views.{InAll, View, steps_with}
 use Rattle.tv_viewed.specs.InRun.{IsJobThere}
-use Rattle.tv_viewed.specs.Stated.{BegunIsKnown, InputsAreTold, InstancesEndAsTold, IsPlaced, JobsAreSomewhere, KnownJobsAreThere, LevelsSettleAsTold, OutputsAreMeant, PlacedJobsAreJobs, ReadyIsTold, TakenIsRunning}
-use Rattle.tv_viewed.proofs.OfEndings.{ending-told, main-told}
+use Rattle.tv_viewed.specs.Stated.{BegunIsKnown, InputsAreTold, InstancesEndAsTold, IsPlaced, JobsAreSomewhere, KnownJobsAreThere, LevelsSettleAsTold, OutputsAreMeant, OutputsAreResults, PlacedJobsAreJobs, ReadyIsTold, TakenIsRunning}
+use Rattle.tv_viewed.proofs.OfEndings.{ending-told, main-told, opened-told}
 use Rattle.tv_viewed.proofs.OfJobs.{Finds, begun-known, begun-told, bounced-told, ends-find, found-here, known-ends, settled-told, somewhere}
+use Rattle.tv_viewed.proofs.OfOpened.{opened-part}
 use Rattle.tv_viewed.proofs.OfReady.{ready-told, told-ready}
 use Rattle.tv_viewed.proofs.OfRuns.{Runs, results_here, runs}
 use Rattle.tv_viewed.proofs.OfSettling.{nothing-settles, settling-legal}
@@ -122,6 +123,12 @@ pub outputs-are_meant : OutputsAreMeant
 outputs-are_meant gives d past I levels v w main flow given ws h =
     main-told gives d.flows 7 d.main d.inputs past levels v
     (subst (λ J. Runs gives d.flows (meaning gives d) past J levels v) main (runs gives d past I levels v w)) flow given ws h
+
+pub outputs-are_results : OutputsAreResults
+outputs-are_results gives d past I levels v w j i e of_job ws h =
+    let r = runs gives d past I levels v w in
+    opened-told gives d.flows (meaning gives d) past j levels v (subst (λ J. Runs gives d.flows (meaning gives d) past J levels v) (sym e) r)
+    of_job.flow_name of_job.is_flow (opened-part gives d w.formed w.accepted j i v of_job) ws h
 
 pub levels-settle_as_told : LevelsSettleAsTold
 levels-settle_as_told gives d past I levels v w =

@@ -1,11 +1,12 @@
 -- The view of a frame as that of an instance in a run.
-use Rattle.std.specs.Prelude.{◌≡◌, ℕ, true, Some}
+use Rattle.std.specs.Prelude.{◌≡◌, ℕ, true, Some, map}
 use Rattle.tv_value.specs.Nested.{Place}
 use Rattle.tv_value.specs.Orders.{named}
 use Rattle.tv_value.specs.Values.{JobName, Name}
 use Rattle.tv_gate.specs.Outcomes.{Giving}
 use Rattle.tv_flow.specs.Flows.{Document}
 use Rattle.tv_flow.specs.Formed.{is_formed}
+use Rattle.tv_strategy.specs.Origins.{plain}
 use Rattle.tv_depths.specs.Steps.{spot}
 use Rattle.tv_check.specs.Plans.{IsAccepted}
 use Rattle.tv_instance.specs.Events.{Extends}
@@ -54,3 +55,11 @@ pub record IsJobThere (gives : Giving) (d : Document) (I : JobName) (j : Job) (x
   pub within : j.instance ≡ I
   pub step : j.step ≡ x.0
   pub name : j.name ≡ spot I x.0 x.1
+
+-- a view of the flow that the job opens, on what the job binds
+pub record IsOfJob (d : Document) (j : Job) (v : View) : Type 0 where
+  pub flow_name : Name
+  pub opens : j.opens ≡ Some flow_name
+  pub is_flow : named flow_name d.flows ≡ Some v.flow
+  pub names : map (λ x. x.0) v.inputs ≡ map (λ x. x.0) v.flow.inputs
+  pub values : map (λ x. x.1) v.inputs ≡ map plain j.inputs

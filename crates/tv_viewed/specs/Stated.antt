@@ -22,7 +22,7 @@ use Rattle.tv_history.specs.Entries.{Entry, History, closed, ended, fault_passed
 use Rattle.tv_history.specs.Histories.{can_end, can_settle, is_legal_after, is_ready, is_running, is_settled}
 use Rattle.tv_framing.specs.Answers.{AreInputs, AreOutputs, CanSettle, IsReadyJob, NothingSettles, has_ended_now}
 use Rattle.tv_framing.specs.Views.{AreOfDepth, InAll, View, steps_with}
-use Rattle.tv_viewed.specs.InRun.{IsInRun, IsJobThere}
+use Rattle.tv_viewed.specs.InRun.{IsInRun, IsJobThere, IsOfJob}
 
 -- P holds of the view of every frame in every legal run of every accepted document
 abbrev pub InEveryRun : (Giving → Document → History → JobName → (Name → ℕ) → View → Type 0) → Type 0
@@ -127,6 +127,13 @@ OutputsAreMeant =
     InEveryRun (λ gives d past I levels v.
     I ≡ [] → named d.main d.flows ≡ Some v.flow → given_of v.flow v.inputs ≡ given_of v.flow d.inputs
     → (vs : List Value) → AreOutputs v vs → vs ≡ map (λ o. plain o.1) (meaning gives d).outputs)
+
+-- of the one that a job opened, on what the job binds: what the view gives there is what the job gives
+abbrev pub OutputsAreResults : Type 0
+OutputsAreResults =
+    InEveryRun (λ gives d past I levels v.
+    (j : Job) → In j (meaning gives d).jobs → j.name ≡ I → IsOfJob d j v
+    → (vs : List Value) → AreOutputs v vs → vs ≡ j.result)
 
 -- ---- lists and faults
 

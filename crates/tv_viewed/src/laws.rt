@@ -1,5 +1,5 @@
 //! What holds of the view of every frame in a run: each law is the clause of a function that does nothing.
-ghost use Rattle.tv_viewed.specs.Stated.{BegunIsKnown, InputsAreTold, InstancesEndAsTold, JobsAreSomewhere, KnownJobsAreThere, LevelsSettleAsTold, OutputsAreMeant, PlacedJobsAreJobs, ReadyIsTold, TakenIsRunning};
+ghost use Rattle.tv_viewed.specs.Stated.{BegunIsKnown, InputsAreTold, InstancesEndAsTold, JobsAreSomewhere, KnownJobsAreThere, LevelsSettleAsTold, OutputsAreMeant, OutputsAreResults, PlacedJobsAreJobs, ReadyIsTold, TakenIsRunning};
 
 /// The known jobs of a view are jobs of the run, all that were begun are known, and each job of the instance stands at
 /// a step and place.
@@ -21,10 +21,11 @@ pub fn inputs_of_jobs()
     ensures inputs { InputsAreTold }
 {}
 
-/// By the view it is told whether the instance can end, which lists and faults can be settled, and of the main instance what
-/// the document means.
+/// By the view it is told whether the instance can end, which lists and faults can be settled, of the main instance what
+/// the document means, and of each other what the job that opened it gives.
 pub fn instance_in_the_run()
     ensures ends { InstancesEndAsTold }
     ensures settles { LevelsSettleAsTold }
     ensures outputs { OutputsAreMeant }
+    ensures results { OutputsAreResults }
 {}

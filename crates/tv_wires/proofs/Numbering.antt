@@ -2,7 +2,6 @@
 use Rattle.std.specs.Prelude.{◌≡◌, ℕ, suc, ◌<◌, ◌≤◌, ◌^◌, List, [], ◌∷◌, length, true, false, Bool, if◌then◌else◌, None, Some, Option, is_some, option_map, refl}
 use Rattle.std.specs.Option.{option_map_or}
 use Rattle.std.proofs.Common.{arith, get_or, ap, sym, subst, ◌∙◌}
-use Rattle.std.proofs.lemmas.List.{length-map}
 use Rattle.tv_value.specs.Values.{Name}
 use Rattle.tv_value.specs.Orders.{same_name, named}
 use Rattle.tv_flow.specs.Flows.{output}
@@ -14,7 +13,7 @@ use Rattle.tv_flow.specs.declared.document.Step.{Step}
 use Rattle.tv_naming.specs.Numbers.{number_in, position}
 use Rattle.tv_naming.proofs.ByPosition.{number-absent, number-found}
 use Rattle.tv_naming.proofs.Kept.{named-each, step-at}
-use Rattle.tv_naming.proofs.FormedParts.{few, flow-inputs, flow-steps, step-inputs, step-outputs}
+use Rattle.tv_naming.proofs.FormedParts.{few, step-inputs, step-outputs}
 use Rattle.tv_wires.specs.Feeds.{link_numbered, outputs_of}
 use Rattle.tv_wires.specs.declared.feeds.NumberedLink.{NumberedLink}
 use Rattle.tv_wires.specs.declared.feeds.NumberedLink.TheVariants.{Output}
@@ -73,12 +72,3 @@ few-outputs f k x h lt is =
     let step : is_step (step_view x.1) ≡ true = subst (λ (y : Name × Step). is_step (step_view y.1) ≡ true) (sym is) (step-at f k x h lt) in
     let le = few is_depth 0 16 x.1.outputs (step-outputs (step_view x.1) step) in
     omega (arith, le)
-
-pub few-inputs : (f : Flow) → is_flow (flow_view f) ≡ true → length f.inputs < 2 ^ 32
-few-inputs f h = let le = few is_depth 0 16 f.inputs (flow-inputs (flow_view f) h) in omega (arith, le)
-
-pub few-steps : (f : Flow) → is_flow (flow_view f) ≡ true → length f.steps < 2 ^ 32
-few-steps f h =
-    let le = few is_step 0 1000 (each step_view f.steps) (flow-steps (flow_view f) h) in
-    let e : length (each step_view f.steps) ≡ length f.steps = length-map f.steps (λ (x : Name × Step). (x.0, step_view x.1)) in
-    omega (arith, le, e)

@@ -5,7 +5,6 @@ pub mod OfEnds
 pub mod OfTurns
 pub mod OfWholes
 pub mod OfCalled
-pub mod OfNames
 pub mod OfByOne
 pub mod OfAsked
 pub mod OfAnswers

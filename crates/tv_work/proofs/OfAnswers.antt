@@ -28,7 +28,7 @@ use Rattle.tv_entries.specs.Refusals.{accepts}
 use Rattle.tv_entries.proofs.OfPasts.{name-more}
 use Rattle.tv_work.specs.Asked.{AsksEach, accepted_tries, call_for, call_of}
 use Rattle.tv_work.proofs.OfAsked.{tries-after}
-use Rattle.tv_work.proofs.OfNames.{one-newer}
+use Rattle.tv_entries.proofs.OfOneMore.{one-newer}
 use Rattle.tv_work.proofs.OfRuns.{jobs-of}
 
 -- ---- what is found

@@ -21,8 +21,7 @@ use Rattle.tv_entries.specs.declared.entry.Entry.TheVariants as entry
 use Rattle.tv_entries.specs.declared.ticket.Ticket.{Ticket}
 use Rattle.tv_flow.specs.Flows.{Document}
 use Rattle.tv_work.specs.Asked.{AreAsksOf, AsksAtMostOneMore, AsksEach, accepted_tries, call_for, call_of}
-use Rattle.tv_work.proofs.OfNames.{one-newer}
-use Rattle.tv_work.proofs.OfRuns.{named}
+use Rattle.tv_entries.proofs.OfOneMore.{named, one-newer}
 
 -- after an error that was passed on
 pub on-err : {A E P : Type 0} (r : Result A E) → P → OnErr r P

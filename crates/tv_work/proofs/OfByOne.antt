@@ -30,8 +30,7 @@ use Rattle.tv_entries.specs.declared.ticket.Ticket.{Ticket}
 use Rattle.tv_work.specs.ByOne.{StaysByOne}
 use Rattle.tv_work.specs.Working.{IsFree}
 use Rattle.tv_work.proofs.OfEnds.{none-out}
-use Rattle.tv_work.proofs.OfNames.{before-same, one-newer}
-use Rattle.tv_work.proofs.OfRuns.{before, named}
+use Rattle.tv_entries.proofs.OfOneMore.{before, before-same, named, one-newer}
 use Rattle.tv_work.proofs.OfTickets.{handed}
 
 -- ---- lists

@@ -4,8 +4,9 @@ use Rattle.std.specs.Option.{option_map_or}
 use Rattle.std.specs.Prelude.{Bool, List, [], count_by, cond, false, if◌then◌else◌, length, map, nat_lt, refl, reverse, suc, true, zero, ℕ, ◌&&◌, ◌++◌, ◌+◌, ◌<◌, ◌∷◌, ◌≡◌, ◌≤◌}
 use Rattle.std.proofs.Common.{ap, arith, subst, sym, ◌∙◌}
 use Rattle.std.proofs.lemmas.Bool.{lt-ltb}
-use Rattle.std.proofs.lemmas.List.{append_assoc, map-append, reverse-append}
+use Rattle.std.proofs.lemmas.List.{append_assoc}
 use Rattle.std.proofs.lemmas.List.Sums.{sum_by_push, sum_by-append}
+use Rattle.tv_entries.proofs.OfOneMore.{before, named, newest, past-mapped}
 use Rattle.tv_entries.proofs.OfPasts.{name-more}
 use Rattle.tv_entries.proofs.OfTotals.{count-told}
 use Rattle.tv_value.specs.Orders.{same_job}
@@ -32,25 +33,6 @@ use Rattle.tv_entries.specs.declared.entry.Entry.{Entry}
 use Rattle.tv_entries.specs.declared.entry.Entry.TheVariants as entry
 use Rattle.tv_history.specs.Going.{is_progress}
 use Rattle.tv_work.specs.Working.{GoesOn, IsFree, goes, progress}
-
--- ---- numbers of items that pass
-
--- ---- the history
-
-pub map-reverse : {A B : Type 0} (f : A → B) (xs : List A) → reverse (map f xs) ≡ map f (reverse xs)
-map-reverse f [] = refl
-map-reverse f (x ∷ xs) =
-    reverse-append (f x ∷ []) (map f xs)
-    ∙ ap (λ ys. ys ++ f x ∷ []) (map-reverse f xs)
-    ∙ sym (map-append f (reverse xs) (x ∷ []))
-    ∙ ap (map f) (sym (reverse-append (x ∷ []) xs))
-
--- an entry with its names
-abbrev pub named : Run → Entry → history.Entry
-named r e = with_names r.document r.names (instances_of r.names r.entries) e
-
-pub past-mapped : (r : Run) → past_of r ≡ map (named r) (reverse r.entries)
-past-mapped r = map-reverse (named r) r.entries
 
 pub progress-past : (r : Run) → count_by is_progress (past_of r) ≡ progress r
 progress-past = count-told is_progress goes same
@@ -126,17 +108,6 @@ module _ (gives : Giving) (d : Document) where
       (have-numbers ns is es (left_true _ (is_legal_after gives (meaning gives d) (map (with_names d ns is) es) (with_names d ns is e)) l))
 
 -- ---- one entry more
-
--- what was told before, with the names of now
-abbrev pub before : Run → Run → History
-before r s = map (named s) (reverse r.entries)
-
-pub newest : (r s : Run) (e : Entry) → Appends r s e → past_of s ≡ named s e ∷ before r s
-newest r s e a =
-    ap (λ es. reverse (map (named s) es)) a.entries
-    ∙ ap reverse (map-append (named s) r.entries (e ∷ []))
-    ∙ reverse-append (map (named s) r.entries) (named s e ∷ [])
-    ∙ ap (λ es. named s e ∷ es) (map-reverse (named s) r.entries)
 
 module _ (gives : Giving) (r s : Run) (l : IsLegalRun gives r) where
   pub numbers-before : list_all (has_number (length r.names)) (reverse r.entries) ≡ true

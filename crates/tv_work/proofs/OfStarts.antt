@@ -19,7 +19,7 @@ use Rattle.tv_entries.specs.declared.entry.Entry.{Entry}
 use Rattle.tv_entries.specs.declared.entry.Entry.TheVariants as entry
 use Rattle.tv_work.specs.InOrder.{HasOnlySettled}
 use Rattle.tv_work.proofs.OfByOne.{all-fail}
-use Rattle.tv_work.proofs.OfRuns.{past-mapped}
+use Rattle.tv_entries.proofs.OfOneMore.{past-mapped}
 
 all-reverse : {A : Type 0} (p : A → Bool) (xs : List A) → list_all p xs ≡ true → list_all p (reverse xs) ≡ true
 all-reverse p [] h = refl

@@ -23,7 +23,8 @@ use Rattle.tv_entries.specs.Calls.{hands_out, job_of, out_count, try_if_out, try
 use Rattle.tv_entries.specs.Refusals.{accepts}
 use Rattle.tv_entries.specs.declared.ticket.Ticket.{Ticket}
 use Rattle.tv_work.specs.Working.{IsOnlyOut}
-use Rattle.tv_work.proofs.OfRuns.{before, jobs-of, newest, out-after}
+use Rattle.tv_entries.proofs.OfOneMore.{before, newest}
+use Rattle.tv_work.proofs.OfRuns.{jobs-of, out-after}
 
 -- ---- what is found
 

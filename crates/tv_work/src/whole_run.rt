@@ -1,7 +1,6 @@
 //! A whole run by one worker.
-ghost use Rattle.std.specs.Prelude.{◌≡◌, IfOk, OnErr, OnOk, true};
+ghost use Rattle.std.specs.Prelude.{IfOk, OnErr, OnOk};
 ghost use Rattle.tv_check.specs.RunViews.{run_view};
-ghost use Rattle.tv_going.specs.Flat.{opens_nothing};
 ghost use Rattle.tv_work.specs.Asked.{AsksABeginning, AsksInOrder};
 ghost use Rattle.tv_work.specs.Ran.{IsRun, IsWholeRun};
 
@@ -21,7 +20,6 @@ pub fn run_whole<V: Services, A: Asker<Services = V>>(
     run: CheckedRun,
     asker: &mut A,
 ) -> Result<(Sequence<(Name, Value)>, Totals), NoMemory>
-    requires { opens_nothing (run_view run) ≡ true }
     ensures run { IfOk result (λ r. IsRun V.gives (run_view run) r) }
     ensures asked { OnOk result (AsksInOrder V.gives (run_view run) (A.calls asker.old) (A.calls asker.new)) }
     ensures beginning { OnErr result (AsksABeginning V.gives (run_view run) (A.calls asker.old) (A.calls asker.new)) }
@@ -39,7 +37,6 @@ pub fn run_board<V: Services, A: Asker<Services = V>>(
     run: CheckedRun,
     asker: &mut A,
 ) -> Result<Board<V>, NoMemory>
-    requires { opens_nothing (run_view run) ≡ true }
     ensures board { IfOk result (λ b. IsWholeRun V.gives (run_view run) b) }
     ensures asked { OnOk result (AsksInOrder V.gives (run_view run) (A.calls asker.old) (A.calls asker.new)) }
     ensures beginning { OnErr result (AsksABeginning V.gives (run_view run) (A.calls asker.old) (A.calls asker.new)) }

@@ -1,11 +1,6 @@
 //! Documents as texts.
-ghost use Rattle.std.specs.Prelude.{◌≡◌, IfOk, IfSome, true};
-ghost use Rattle.tv_check.specs.RunViews.{run_view};
-ghost use Rattle.tv_going.specs.Flat.{opens_nothing};
-
 use serde_json::Value as Json;
 use std::alloc::{AllocError, Global};
-use tv_board::opens_nothing;
 use tv_check::{CheckedRun, check};
 use tv_flow::read_document;
 use tv_gate::Services;
@@ -24,10 +19,8 @@ pub fn document(
     )
 }
 
-/// The document of a text, where it is accepted with these services and opens no flow. `None` also where memory is wanting.
-pub fn accepted<V: Services>(alloc: Global, text: &str) -> Option<CheckedRun>
-    ensures { IfSome result (λ r. opens_nothing (run_view r) ≡ true) }
-{
+/// The document of a text, where it is accepted with these services. `None` also where memory is wanting.
+pub fn accepted<V: Services>(alloc: Global, text: &str) -> Option<CheckedRun> {
     let Ok(json) = Json::from_str(alloc, text) else {
         return None;
     };
@@ -37,9 +30,5 @@ pub fn accepted<V: Services>(alloc: Global, text: &str) -> Option<CheckedRun>
     let Ok(run) = check::<V>(alloc, document) else {
         return None;
     };
-    if opens_nothing(run.document()) {
-        Some(run)
-    } else {
-        None
-    }
+    Some(run)
 }

@@ -17,10 +17,6 @@
 //! | `ask:0/0/0` | has the ticket's task answered by a gate | |
 //! | `alone:0/0/0` | the same by an asker | |
 //! | `accept:0` | has an answer accepted; one that is refused may be tried again | `again`, `good` or `failed`; if refused, where its job stands, or `other` for other inputs |
-ghost use Rattle.std.specs.Prelude.{◌≡◌, true};
-ghost use Rattle.tv_check.specs.RunViews.{run_view};
-ghost use Rattle.tv_going.specs.Flat.{opens_nothing};
-
 use crate::tests::telling::{push_history, push_state, push_task, push_ticket};
 use std::alloc::Global;
 use std::fmt::Write;
@@ -56,9 +52,7 @@ fn ticket_of(text: &str) -> Option<Ticket> {
 }
 
 impl Play {
-    pub(crate) fn start(alloc: Global, run: CheckedRun) -> Result<Play, NoMemory>
-        requires { opens_nothing (run_view run) ≡ true }
-    {
+    pub(crate) fn start(alloc: Global, run: CheckedRun) -> Result<Play, NoMemory> {
         Ok(Play {
             alloc,
             board: Board::start(alloc, run)?,

@@ -150,18 +150,24 @@ fn changed_documents_run(rt: HostRuntime) -> Result<(), Fail> {
 const NESTED: &str =
     "{\"taverna\":1,\"main\":\"m\",\"flows\":{\"m\":{\"steps\":{\"n\":{\"activities\":[{\"flow\":\"s\"}]}},\"outputs\":{}},\"s\":{\"outputs\":{}}}}";
 
-// It is checked, and neither run nor traced.
+// The job that opens it is the one job, and nothing is asked.
 #[test]
-fn what_opens_a_flow_is_not_built(rt: HostRuntime) -> Result<(), Fail> {
-    for word in ["run", "trace"] {
+fn what_opens_a_flow_is_run(rt: HostRuntime) -> Result<(), Fail> {
+    let line =
+        "{\"outputs\":{},\"totals\":{\"attempts\":0,\"bounced\":0,\"failed\":0,\"jobs\":1}}\n";
+    for (word, text) in [("run", line), ("trace", ""), ("check", "")] {
         let ran = alone(rt.alloc(), &[word], NESTED.as_bytes(), SOUND)?;
-        assert!(rt;
-            ran.is(Status::NotBuilt, "", "taverna: not built\n"),
-            "{word}"
-        );
+        assert!(rt; ran.is(Status::Done, text, ""), "{word}");
     }
-    let ran = alone(rt.alloc(), &["check"], NESTED.as_bytes(), SOUND)?;
-    assert!(rt; ran.is(Status::Done, "", ""));
+    Ok(())
+}
+
+// A document that is made, and not read.
+#[test]
+fn a_generated_document_is_run(rt: HostRuntime) -> Result<(), Fail> {
+    let line = "gen 1: jobs 4 attempts 4 bounced 1 failed 1 bytes 150\n";
+    let ran = alone(rt.alloc(), &["gen", "1"], b"", SOUND)?;
+    assert!(rt; ran.is(Status::Done, line, ""));
     Ok(())
 }
 

@@ -12,7 +12,7 @@ use tv_value::{Items, NoMemory};
 
 #[test]
 fn other_words_are_told_the_usage(rt: HostRuntime) -> Result<(), Fail> {
-    let table: [&[&str]; 13] = [
+    let table: [&[&str]; 12] = [
         &[],
         &[""],
         &["Run"],
@@ -24,7 +24,6 @@ fn other_words_are_told_the_usage(rt: HostRuntime) -> Result<(), Fail> {
         &["--help"],
         &["check", ""],
         &["trace", ""],
-        &["gen", "1"],
         &["lineage", "--of", "out[]"],
     ];
     for words in table {
@@ -337,7 +336,6 @@ fn each_status_has_its_code(rt: HostRuntime) {
         (Status::Check, 7),
         (Status::WriteFault, 9),
         (Status::NoMemory, 10),
-        (Status::NotBuilt, 11),
     ];
     for (status, code) in table {
         assert_eq!(rt; status.code(), code);

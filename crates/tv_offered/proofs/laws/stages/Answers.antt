@@ -2,4 +2,4 @@ use Rattle.tv_offered.proofs.OfStages.{stages}
 use Rattle.tv_offered.proofs.laws.stages.Goals as goal
 
 pub returns : goal.returns
-returns c = λ gives d past a j i. stages gives d past a j i
+returns c = λ gives d past l j i. stages gives d past l j i

@@ -1,5 +1,11 @@
-use Rattle.tv_seated.proofs.OfEntries.{handed_out-again, handed_out-first, job-settles, tried_again}
+use Rattle.tv_seated.proofs.OfEntries.{handed_out-again, handed_out-first, job-settles, put_aside, tried_again}
 use Rattle.tv_seated.proofs.laws.seats_of_jobs.Goals as goal
 
 pub returns : goal.returns
-returns c = record { first = handed_out-first; again = handed_out-again; settles = job-settles; tried = tried_again }
+returns c = record {
+  first = handed_out-first;
+  again = handed_out-again;
+  settles = job-settles;
+  tried = tried_again;
+  aside = put_aside;
+}

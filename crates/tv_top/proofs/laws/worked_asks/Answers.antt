@@ -1,4 +1,4 @@
-use Rattle.tv_top.proofs.Computed.{asks_chain, asks_failure, asks_attempts, asks_no_check, asks_no_nested_flow}
+use Rattle.tv_top.proofs.Computed.{asks_chain, asks_failure, asks_attempts, asks_no_check, asks_generated}
 use Rattle.tv_top.proofs.laws.worked_asks.Goals as goal
 
 pub returns-clause-chain : goal.returns-clause-chain
@@ -13,5 +13,5 @@ returns-clause-attempts c = asks_attempts
 pub returns-clause-checked : goal.returns-clause-checked
 returns-clause-checked c = asks_no_check
 
-pub returns-clause-nested : goal.returns-clause-nested
-returns-clause-nested c = asks_no_nested_flow
+pub returns-clause-generated : goal.returns-clause-generated
+returns-clause-generated c = asks_generated

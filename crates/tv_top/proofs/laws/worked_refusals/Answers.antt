@@ -1,8 +1,5 @@
-use Rattle.tv_top.proofs.Computed.{runs_no_nested_flow, refuses_depth, refuses_circle, refuses_no_document}
+use Rattle.tv_top.proofs.Computed.{refuses_depth, refuses_circle, refuses_no_document}
 use Rattle.tv_top.proofs.laws.worked_refusals.Goals as goal
-
-pub returns-clause-nested : goal.returns-clause-nested
-returns-clause-nested c = runs_no_nested_flow
 
 pub returns-clause-depth : goal.returns-clause-depth
 returns-clause-depth c = refuses_depth

@@ -1,4 +1,4 @@
-use Rattle.tv_top.proofs.Computed.{runs_one_text, runs_chain, runs_failure, checks_cross, checks_chain, runs_cross, traces_attempts, traces_chain, traces_failure}
+use Rattle.tv_top.proofs.Computed.{runs_one_text, runs_chain, runs_failure, checks_cross, checks_chain, runs_cross, runs_nested_flow, runs_generated, traces_attempts, traces_chain, traces_failure}
 use Rattle.tv_top.proofs.laws.worked_texts.Goals as goal
 
 pub returns-clause-one : goal.returns-clause-one
@@ -27,3 +27,9 @@ returns-clause-chain_trace c = traces_chain
 
 pub returns-clause-failure_trace : goal.returns-clause-failure_trace
 returns-clause-failure_trace c = traces_failure
+
+pub returns-clause-nested : goal.returns-clause-nested
+returns-clause-nested c = runs_nested_flow
+
+pub returns-clause-generated : goal.returns-clause-generated
+returns-clause-generated c = runs_generated

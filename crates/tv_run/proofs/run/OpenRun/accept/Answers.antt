@@ -1,14 +1,9 @@
 use Rattle.std.proofs.Common.{sym, ◌∙◌}
-use Rattle.tv_stream.proofs.Bases.{on-err}
 use Rattle.tv_flow.specs.Views.{step_view}
 use Rattle.tv_frame.proofs.OfFaultingRead.{ok-weaken}
 use Rattle.tv_gate.specs.Views.{outcome_view}
-use Rattle.tv_run.proofs.OfAcceptingOutcomes.{right-judged, wrong-judged}
-use Rattle.tv_run.proofs.OfAcceptingSettling.{stays-itself}
+use Rattle.tv_run.proofs.OfJudged.{right-judged, wrong-judged}
 use Rattle.tv_run.proofs.run.OpenRun.accept.Goals as goal
-
-pub returns-in_err-judge-clause-refused : goal.returns-in_err-judge-clause-refused
-returns-in_err-judge-clause-refused c = on-err c.from_residual.result _ (λ gives so. stays-itself gives c.args.self.now so)
 
 pub accept_right-requires : goal.accept_right-requires
 accept_right-requires c =

@@ -1,15 +1,10 @@
 use Rattle.std.proofs.Common.{ap, sym, true, ◌∙◌}
-use Rattle.tv_stream.proofs.Bases.{on-err}
 use Rattle.tv_cell.specs.PieceValues.{piece_values}
 use Rattle.tv_gate.specs.Outcomes.{good}
 use Rattle.tv_gate.specs.Views.{outcome_view}
-use Rattle.tv_run.proofs.OfAcceptingOutcomes.{right-settles}
-use Rattle.tv_run.proofs.OfAcceptingSettling.{stays-itself}
-use Rattle.tv_run.proofs.OfAcceptingTurns.{accepts-settled}
+use Rattle.tv_run.proofs.OfAccepted.{accepts-settled}
+use Rattle.tv_run.proofs.OfJudged.{right-settles}
 use Rattle.tv_run.proofs.run.OpenRun.accept_right.Goals as goal
-
-pub returns-in_err-pieces-in-Good-clause-refused : goal.returns-in_err-pieces-in-Good-clause-refused
-returns-in_err-pieces-in-Good-clause-refused c = on-err c.from_residual.result _ (λ gives so. stays-itself gives c.args.self.now so)
 
 pub settle_with-requires-clause-settles : goal.settle_with-requires-clause-settles
 settle_with-requires-clause-settles c =

@@ -1,33 +1,46 @@
-use Rattle.std.specs.Prelude.{vec_capacity, vec_len}
-use Rattle.std.proofs.Common.{[], ap, arith, subst, sym, ◌++◌, ◌<◌, ◌≤◌, ◌∷◌, ◌∙◌}
-use Rattle.tv_seats.specs.Seats.{with_stage}
-use Rattle.tv_seats.specs.declared.stage.Stage.TheVariants as stage
-use Rattle.tv_entries.specs.Calls.{hands_out}
-use Rattle.tv_run.proofs.OfHanding.{hands-out, room-to_hand}
+use Rattle.std.proofs.Common.{ap, arith}
+use Rattle.std.specs.Prelude.{length, vec_capacity}
+use Rattle.tv_run.proofs.OfHanding.{handed-here, handed-may, handed-ready, hands-out}
 use Rattle.tv_run.proofs.run.OpenRun.begin.Goals as goal
 
-pub push_within-requires : goal.push_within-requires
-push_within-requires c =
+pub take_out-requires : goal.take_out-requires
+take_out-requires c =
     let p = c.requires in
     let r = c.args.self.now in
-    let room = room-to_hand p.0 r p.1.0 p.1.1 c.args.ticket p.2 in
-    subst (λ x. vec_len x < vec_capacity x) (sym c.take_waiting.ensures.same.entries) (omega (arith, room, r.entries.ok.0))
+    let k = c.known-instance.result in (
+      p.1,
+      p.4.may.instance,
+      p.4.may.view,
+      handed-here p.0 r p.1 p.2 c.args.ticket p.4 k c.known-instance.ensures,
+      handed-may p.0 r p.1 p.2 c.args.ticket p.4 k c.known-instance.ensures,
+      handed-ready p.0 r p.1 p.2 c.args.ticket p.4 k c.known-instance.ensures,
+    )
+
+pub note-requires : goal.note-requires
+note-requires c =
+    let p = c.requires in
+    let r = c.args.self.now in
+    let k = c.known-instance.result in
+    let takes =
+    c.take_out.ensures.taken p.1 p.4.may.instance p.4.may.view
+    (handed-here p.0 r p.1 p.2 c.args.ticket p.4 k c.known-instance.ensures)
+    (handed-may p.0 r p.1 p.2 c.args.ticket p.4 k c.known-instance.ensures)
+    (handed-ready p.0 r p.1 p.2 c.args.ticket p.4 k c.known-instance.ensures) in
+    let many = ap (λ v. length v.items) takes.changes.rest.entries in
+    let wide = ap vec_capacity takes.changes.rest.entries in
+    let room = p.2.room in
+    let due = c.take_out.ensures.due in
+    omega (arith, many, wide, room, due)
 
 pub returns : goal.returns
-returns c = λ gives stands h.
+returns c = λ gives xs st undone h.
     let r = c.args.self.now in
     let t = c.args.ticket in
-    let same = c.take_waiting.ensures.same in
-    hands-out gives r stands.0 stands.1 t h _ (record {
-      run = same.run;
-      tries = same.tries;
-      pool = same.pool;
-      failed = same.failed;
-      done = same.done;
-      entries = c.push_within.ensures.items ∙ ap (λ x. x.items ++ hands_out t ∷ []) same.entries;
-      capacity = subst (λ x. vec_capacity x ≤ vec_capacity c.push_within.new.items) same.entries c.push_within.ensures.capacity;
-      seats = c.hand_out.ensures.seats ∙ ap (λ x. with_stage t.job (stage.Out t.activity t.attempt) x.seats) same.seats;
-      levels = c.hand_out.ensures.levels ∙ ap (λ x. x.levels) same.seats;
-      waited = c.take_waiting.ensures.waited;
-      went_on = c.take_waiting.ensures.went_on;
-    }) stands.2
+    let k = c.known-instance.result in
+    let takes =
+    c.take_out.ensures.taken xs h.may.instance h.may.view
+    (handed-here gives r xs st t h k c.known-instance.ensures)
+    (handed-may gives r xs st t h k c.known-instance.ensures)
+    (handed-ready gives r xs st t h k c.known-instance.ensures) in
+    hands-out gives r xs st t h k c.known-instance.ensures c.take_out.new.self c.note.new.self takes c.note.ensures
+    c.take_out.ensures.due undone

@@ -1,200 +1,114 @@
-use Rattle.std.proofs.Common.{ap, arith, length, refl, subst, sym, ◌<◌, ◌≡◌, ◌∙◌, Some}
-use Rattle.std.specs.Prelude.{slice_get}
+use Rattle.std.proofs.Common.{arith, refl, ◌∙◌}
 use Rattle.tv_cell.specs.PieceValues.{piece_values}
-use Rattle.tv_check.specs.RunViews.{run_view}
-use Rattle.tv_intake.specs.Intaken.{known_jobs}
-use Rattle.tv_run.proofs.OfBounces.{is-known, t}
-use Rattle.tv_run.proofs.OfBouncing.{bounce-gone, bounced-can_sit, bounced-kept, gives-result, is-at}
-use Rattle.tv_run.proofs.OfBouncing.{may, step-listed, step-within, to-bounce}
-use Rattle.tv_run.proofs.OfRooms.{main-keeps, room-stands, room-stays, roomy-stays}
-use Rattle.tv_run.proofs.OfSettled.{stays-from, when-refused}
+use Rattle.tv_run.specs.Settlements.{bounces_job}
+use Rattle.tv_run.proofs.OfBouncing.{listed-low, may-bounce, may-give, read-job, seat-here, step}
+use Rattle.tv_run.proofs.OfRooms.{stands-before, stays-before}
+use Rattle.tv_run.proofs.OfSettled.{when-refused}
+use Rattle.tv_run.proofs.OfSettlings.{bounce-goes, entry-room, settles-in}
 use Rattle.tv_run.proofs.run.OpenRun.bounce.Goals as goal
 
-pub job-requires : goal.job-requires
-job-requires c =
+pub index-job-requires : goal.index-job-requires
+index-job-requires c =
+    let p = c.requires in
+    let g = c.index.result.now in
+    let low = listed-low p.0 c.args.self.now c.args.instance c.args.number p.1 p.2 g c.index.ensures in
+    omega (arith, low, g.jobs.ok.0)
+
+pub bounced-requires : goal.bounced-requires
+bounced-requires c =
+    let p = c.requires in
     let r = c.args.self.now in
-    let so = c.requires.1 in
-    let plan = c.main_plan-plan.result.now in
-    (plan, r.pool, (run_view r.run).flows, so.0, main-keeps c.requires.0 r so plan c.main_plan-plan.ensures)
-
-pub unreachable-requires : goal.unreachable-requires
-unreachable-requires c =
-    let so = c.requires.1 in
-    let low = is-known c.requires.0 c.args.self.now so.0 so.1 c.args.job c.requires.2 in
-    let high = c.in_default.ensures.none refl in
-    omega (arith, low, high)
-
-pub name_of-requires : goal.name_of-requires
-name_of-requires c =
-    step-within c.requires.0 c.args.self.now c.requires.1 c.args.job c.requires.2 c.main_plan-plan.result.now
-    c.main_plan-plan.ensures c.in-Some.found.step c.in-Some.found.place.now c.in-Some.ensures.some
-
-pub returns-in_err-place-clause-refused : goal.returns-in_err-place-clause-refused
-returns-in_err-place-clause-refused c =
-    when-refused c.from_residual-in_err-place.result (λ gives so. record { stands = so; same = refl })
-
-pub bounds-as_slice-step : goal.bounds-as_slice-step
-bounds-as_slice-step c =
-    subst (λ l. c.in-Some.found.step < l) (sym (ap length c.as_slice.ensures))
-    (step-listed c.requires.0 c.args.self.now c.requires.1 c.args.job c.requires.2 c.main_plan-plan.result.now
-    c.main_plan-plan.ensures c.in-Some.found.step c.in-Some.found.place.now c.in-Some.ensures.some)
-
-pub returns-in_err-pieces-clause-refused : goal.returns-in_err-pieces-clause-refused
-returns-in_err-pieces-clause-refused c =
-    when-refused c.from_residual-in_err-pieces.result (λ gives so. record { stands = so; same = refl })
+    let k = c.index-job.result.now in
+    let b =
+    read-job p.0 r c.args.instance c.args.number p.1 p.2 c.index.result.now c.index.ensures k c.index-job.ensures in
+    (p.0, p.1.instances, b.0, p.1.stands, b.1)
 
 pub room_for_result-requires-clause-may : goal.room_for_result-requires-clause-may
 room_for_result-requires-clause-may c =
-    let gives = c.requires.0 in
-    let so = c.requires.1 in
-    let b = c.requires.2 in
+    let p = c.requires in
     let r = c.args.self.now in
-    let k = c.args.job in
-    let n = c.in-Some.found.step in
-    let q = c.in_ok-place.place in
-    let plan = c.main_plan-plan.result.now in
-    let is_main = c.main_plan-plan.ensures in
-    let found : slice_get (known_jobs r.frame.intakes) k ≡ Some (n, q) =
-    c.in-Some.ensures.some ∙ ap (λ p. Some (n, p)) (sym c.in_ok-place.ensures.ok) in
-    let is =
-    gives-result gives r so k b plan is_main n q found c.as_slice.result.now c.as_slice.ensures c.index-as_slice-step.result
-    c.index-as_slice-step.is c.in-Some.found.place.now c.in_ok-place.ensures.ok c.in_ok-name.name c.in_ok-name.ensures
-    (piece_values c.in_ok-inputs.inputs) c.in_ok-inputs.ensures.values (piece_values c.as_slice-2.result.now)
-    (ap piece_values c.as_slice-2.ensures) (piece_values c.in_ok-pieces.pieces) c.in_ok-pieces.ensures.values in (
-      (run_view r.run).flows,
-      so.0,
-      t gives r so.0 so.1 k b,
-      main-keeps gives r so plan is_main,
-      is-at gives r so k b plan is_main n q found,
-      may gives r so k b plan is_main n q found (piece_values c.in_ok-pieces.pieces) is,
+    let k = c.index-job.result.now in
+    let o = p.1 in
+    let b = read-job p.0 r c.args.instance c.args.number o p.2 c.index.result.now c.index.ensures k c.index-job.ensures in (
+      o.instances,
+      o.instance,
+      o.view,
+      b.1.seat,
+      step p.0 r o.instances k b.0 o.stands b.1,
+      seat-here p.0 r o.instances k b.0 o.stands b.1,
+      may-give p.0 r o.instances k b.0 o.stands b.1 (piece_values c.in_ok-pieces.pieces)
+          (c.in_ok-pieces.ensures.values p.0 o.instances b.0 o.stands b.1),
     )
 
-pub returns-in_err-more-clause-refused : goal.returns-in_err-more-clause-refused
-returns-in_err-more-clause-refused c =
-    when-refused c.from_residual-in_err-more.result
-    (λ gives so.
-    room-stays gives c.args.self.now so c.main_plan-plan.result.now c.main_plan-plan.ensures c.room_for_result.new.pool
-    c.room_for_result.new.self c.room_for_result.ensures.same)
+pub returns-in_err-spot-clause-refused : goal.returns-in_err-spot-clause-refused
+returns-in_err-spot-clause-refused c =
+    when-refused c.from_residual-in_err-spot.result
+    (λ gives so. stays-before gives c.args.self.now c.room_for_result.new.self c.room_for_result.ensures.same so)
 
-pub returns-in_err-reserve-clause-refused : goal.returns-in_err-reserve-clause-refused
-returns-in_err-reserve-clause-refused c =
+pub give_bounced-requires-clause-may : goal.give_bounced-requires-clause-may
+give_bounced-requires-clause-may c =
+    let p = c.requires in
     let r = c.args.self.now in
-    let plan = c.main_plan-plan.result.now in
-    let pool = c.room_for_result.new.pool in
-    let f = c.room_for_result.new.self in
-    let m = record r { pool = pool; frame = f } in
-    when-refused c.from_residual-in_err-reserve.result
-    (λ gives so.
-    stays-from gives r m c.reserve.new.self refl
-    (roomy-stays gives m so.0 (room-stands gives r so plan c.main_plan-plan.ensures pool f c.room_for_result.ensures.same)
-    c.reserve.new.self c.reserve.ensures.same c.reserve.ensures.kept so.2))
-
-pub bounce-requires-clause-ready : goal.bounce-requires-clause-ready
-bounce-requires-clause-ready c =
-    let gives = c.requires.0 in
-    let so = c.requires.1 in
-    let b = c.requires.2 in
-    let r = c.args.self.now in
-    let k = c.args.job in
-    let n = c.in-Some.found.step in
-    let q = c.in_ok-place.place in
-    let plan = c.main_plan-plan.result.now in
-    let is_main = c.main_plan-plan.ensures in
-    let found : slice_get (known_jobs r.frame.intakes) k ≡ Some (n, q) =
-    c.in-Some.ensures.some ∙ ap (λ p. Some (n, p)) (sym c.in_ok-place.ensures.ok) in
-    let is =
-    gives-result gives r so k b plan is_main n q found c.as_slice.result.now c.as_slice.ensures c.index-as_slice-step.result
-    c.index-as_slice-step.is c.in-Some.found.place.now c.in_ok-place.ensures.ok c.in_ok-name.name c.in_ok-name.ensures
-    (piece_values c.in_ok-inputs.inputs) c.in_ok-inputs.ensures.values (piece_values c.as_slice-2.result.now)
-    (ap piece_values c.as_slice-2.ensures) (piece_values c.in_ok-pieces.pieces) c.in_ok-pieces.ensures.values in (
-      (run_view r.run).flows,
-      so.0,
-      t gives r so.0 so.1 k b,
-      to-bounce gives r so k b plan is_main n q found (piece_values c.in_ok-pieces.pieces) is c.room_for_result.new.pool
-          c.room_for_result.new.self c.in_ok-more.more c.in_ok-more.ensures.ready c.in_ok-more.ensures.count c.reserve.new.self
-          c.reserve.ensures.same c.main_plan.result.now c.main_plan.ensures,
+    let k = c.index-job.result.now in
+    let o = p.1 in
+    let xs = o.instances in
+    let b = read-job p.0 r c.args.instance c.args.number o p.2 c.index.result.now c.index.ensures k c.index-job.ensures in
+    let vs = piece_values c.in_ok-pieces.pieces in
+    let t = step p.0 r xs k b.0 o.stands b.1 in
+    let ready =
+    c.in_ok-spot.ensures.ready xs o.instance o.view b.1.seat t (seat-here p.0 r xs k b.0 o.stands b.1)
+    (may-give p.0 r xs k b.0 o.stands b.1 vs (c.in_ok-pieces.ensures.values p.0 xs b.0 o.stands b.1)) in (
+      xs,
+      o.instance,
+      o.view,
+      b.1.seat,
+      t,
+      may-bounce p.0 r xs k b.0 o.stands b.1 c.room_for_result.new.self c.room_for_result.ensures.same vs c.in_ok-spot.spot
+          ready,
     )
 
-pub note-requires-clause-keeps : goal.note-requires-clause-keeps
-note-requires-clause-keeps c =
-    let gives = c.requires.0 in
-    let so = c.requires.1 in
-    let b = c.requires.2 in
+pub note-requires : goal.note-requires
+note-requires c =
+    let p = c.requires in
     let r = c.args.self.now in
-    let k = c.args.job in
-    let n = c.in-Some.found.step in
-    let q = c.in_ok-place.place in
-    let plan = c.main_plan-plan.result.now in
-    let is_main = c.main_plan-plan.ensures in
-    let found : slice_get (known_jobs r.frame.intakes) k ≡ Some (n, q) =
-    c.in-Some.ensures.some ∙ ap (λ p. Some (n, p)) (sym c.in_ok-place.ensures.ok) in
-    let is =
-    gives-result gives r so k b plan is_main n q found c.as_slice.result.now c.as_slice.ensures c.index-as_slice-step.result
-    c.index-as_slice-step.is c.in-Some.found.place.now c.in_ok-place.ensures.ok c.in_ok-name.name c.in_ok-name.ensures
-    (piece_values c.in_ok-inputs.inputs) c.in_ok-inputs.ensures.values (piece_values c.as_slice-2.result.now)
-    (ap piece_values c.as_slice-2.ensures) (piece_values c.in_ok-pieces.pieces) c.in_ok-pieces.ensures.values in
+    let k = c.index-job.result.now in
+    let o = p.1 in
+    let xs = o.instances in
+    let b = read-job p.0 r c.args.instance c.args.number o p.2 c.index.result.now c.index.ensures k c.index-job.ensures in
+    let vs = piece_values c.in_ok-pieces.pieces in
+    let t = step p.0 r xs k b.0 o.stands b.1 in
     let ready =
-    to-bounce gives r so k b plan is_main n q found (piece_values c.in_ok-pieces.pieces) is c.room_for_result.new.pool
-    c.room_for_result.new.self c.in_ok-more.more c.in_ok-more.ensures.ready c.in_ok-more.ensures.count c.reserve.new.self
-    c.reserve.ensures.same c.main_plan.result.now c.main_plan.ensures in
-    let on = c.bounce.ensures.goes_on (run_view r.run).flows so.0 (t gives r so.0 so.1 k b) ready in
-    bounced-kept gives r so k b plan is_main n q found (piece_values c.in_ok-pieces.pieces) is c.room_for_result.new.pool
-    c.room_for_result.new.self c.in_ok-more.more c.in_ok-more.ensures.ready c.in_ok-more.ensures.count c.reserve.new.self
-    c.reserve.ensures.same c.main_plan.result.now c.main_plan.ensures c.bounce.new.pool c.bounce.new.self on c.settle.new.self
-    c.settle.ensures.seats c.settle.ensures.levels c.settle.ensures.room c.in_ok-reserve.ensures.seats
-
-pub note-requires-clause-can : goal.note-requires-clause-can
-note-requires-clause-can c =
-    let gives = c.requires.0 in
-    let so = c.requires.1 in
-    let b = c.requires.2 in
-    let r = c.args.self.now in
-    let k = c.args.job in
-    let n = c.in-Some.found.step in
-    let q = c.in_ok-place.place in
-    let plan = c.main_plan-plan.result.now in
-    let is_main = c.main_plan-plan.ensures in
-    let found : slice_get (known_jobs r.frame.intakes) k ≡ Some (n, q) =
-    c.in-Some.ensures.some ∙ ap (λ p. Some (n, p)) (sym c.in_ok-place.ensures.ok) in
-    let is =
-    gives-result gives r so k b plan is_main n q found c.as_slice.result.now c.as_slice.ensures c.index-as_slice-step.result
-    c.index-as_slice-step.is c.in-Some.found.place.now c.in_ok-place.ensures.ok c.in_ok-name.name c.in_ok-name.ensures
-    (piece_values c.in_ok-inputs.inputs) c.in_ok-inputs.ensures.values (piece_values c.as_slice-2.result.now)
-    (ap piece_values c.as_slice-2.ensures) (piece_values c.in_ok-pieces.pieces) c.in_ok-pieces.ensures.values in
-    let ready =
-    to-bounce gives r so k b plan is_main n q found (piece_values c.in_ok-pieces.pieces) is c.room_for_result.new.pool
-    c.room_for_result.new.self c.in_ok-more.more c.in_ok-more.ensures.ready c.in_ok-more.ensures.count c.reserve.new.self
-    c.reserve.ensures.same c.main_plan.result.now c.main_plan.ensures in
-    let on = c.bounce.ensures.goes_on (run_view r.run).flows so.0 (t gives r so.0 so.1 k b) ready in
-    bounced-can_sit gives r so k b plan is_main n q found (piece_values c.in_ok-pieces.pieces) is c.room_for_result.new.pool
-    c.room_for_result.new.self c.in_ok-more.more c.in_ok-more.ensures.ready c.in_ok-more.ensures.count c.reserve.new.self
-    c.reserve.ensures.same c.main_plan.result.now c.main_plan.ensures c.bounce.new.pool c.bounce.new.self on c.settle.new.self
-    c.settle.ensures.seats c.settle.ensures.levels c.settle.ensures.room c.in_ok-reserve.ensures.seats
+    c.in_ok-spot.ensures.ready xs o.instance o.view b.1.seat t (seat-here p.0 r xs k b.0 o.stands b.1)
+    (may-give p.0 r xs k b.0 o.stands b.1 vs (c.in_ok-pieces.ensures.values p.0 xs b.0 o.stands b.1)) in
+    let tells =
+    c.give_bounced.ensures xs o.instance o.view b.1.seat t
+    (may-bounce p.0 r xs k b.0 o.stands b.1 c.room_for_result.new.self c.room_for_result.ensures.same vs c.in_ok-spot.spot
+    ready) in
+    entry-room c.room_for_result.new.self c.give_bounced.new.self c.args.instance c.in_ok-spot.spot.more ready.room
+    tells.changes.rest.entries
 
 pub returns-clause-bounced : goal.returns-clause-bounced
-returns-clause-bounced c = λ gives so b.
+returns-clause-bounced c = λ gives o found.
     let r = c.args.self.now in
-    let k = c.args.job in
-    let n = c.in-Some.found.step in
-    let q = c.in_ok-place.place in
-    let plan = c.main_plan-plan.result.now in
-    let is_main = c.main_plan-plan.ensures in
-    let found : slice_get (known_jobs r.frame.intakes) k ≡ Some (n, q) =
-    c.in-Some.ensures.some ∙ ap (λ p. Some (n, p)) (sym c.in_ok-place.ensures.ok) in
-    let is =
-    gives-result gives r so k b plan is_main n q found c.as_slice.result.now c.as_slice.ensures c.index-as_slice-step.result
-    c.index-as_slice-step.is c.in-Some.found.place.now c.in_ok-place.ensures.ok c.in_ok-name.name c.in_ok-name.ensures
-    (piece_values c.in_ok-inputs.inputs) c.in_ok-inputs.ensures.values (piece_values c.as_slice-2.result.now)
-    (ap piece_values c.as_slice-2.ensures) (piece_values c.in_ok-pieces.pieces) c.in_ok-pieces.ensures.values in
+    let i = c.args.instance in
+    let n = c.args.number in
+    let k = c.index-job.result.now in
+    let xs = o.instances in
+    let b = read-job gives r i n o found c.index.result.now c.index.ensures k c.index-job.ensures in
+    let j = b.0 in
+    let st = o.stands in
+    let m = c.room_for_result.new.self in
+    let before = c.room_for_result.ensures.same in
+    let vs = piece_values c.in_ok-pieces.pieces in
+    let is = c.in_ok-pieces.ensures.values gives xs j st b.1 in
+    let t = step gives r xs k j st b.1 in
     let ready =
-    to-bounce gives r so k b plan is_main n q found (piece_values c.in_ok-pieces.pieces) is c.room_for_result.new.pool
-    c.room_for_result.new.self c.in_ok-more.more c.in_ok-more.ensures.ready c.in_ok-more.ensures.count c.reserve.new.self
-    c.reserve.ensures.same c.main_plan.result.now c.main_plan.ensures in
-    let on = c.bounce.ensures.goes_on (run_view r.run).flows so.0 (t gives r so.0 so.1 k b) ready in
-    let taken = c.in_ok-reserve.ensures.entries in
-    let more = c.note.ensures.capacity in
-    bounce-gone gives r so k b plan is_main n q found (piece_values c.in_ok-pieces.pieces) is c.room_for_result.new.pool
-    c.room_for_result.new.self c.in_ok-more.more c.in_ok-more.ensures.ready c.in_ok-more.ensures.count c.reserve.new.self
-    c.reserve.ensures.same c.main_plan.result.now c.main_plan.ensures c.bounce.new.pool c.bounce.new.self on c.settle.new.self
-    c.settle.ensures.seats c.settle.ensures.levels c.settle.ensures.room c.in_ok-reserve.ensures.seats c.note.new.self
-    c.note.ensures.rest c.note.ensures.sit c.note.ensures.entries (omega (arith, taken, more))
+    c.in_ok-spot.ensures.ready xs o.instance o.view b.1.seat t (seat-here gives r xs k j st b.1)
+    (may-give gives r xs k j st b.1 vs is) in
+    let tells =
+    c.give_bounced.ensures xs o.instance o.view b.1.seat t
+    (may-bounce gives r xs k j st b.1 m before vs c.in_ok-spot.spot ready) in
+    settles-in gives r m c.note.new.self i (bounces_job k) before.same refl
+    (bounce-goes gives r m c.give_bounced.new.self c.note.new.self xs k j st b.1 before.same
+    (stands-before gives r m before xs st) (before.outs ∙ o.going) vs is c.in_ok-spot.spot.more tells c.note.ensures
+    ready.room.beside.entries)

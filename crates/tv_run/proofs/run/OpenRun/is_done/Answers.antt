@@ -1,5 +1,9 @@
-use Rattle.tv_run.proofs.OfLawful.{over-done}
+use Rattle.std.proofs.Common.{sym, ◌∙◌}
+use Rattle.tv_run.proofs.OfOver.{done-is, open-still, over-done}
 use Rattle.tv_run.proofs.run.OpenRun.is_done.Goals as goal
 
+pub returns-clause-done : goal.returns-clause-done
+returns-clause-done c = λ gives st. c.is_some.ensures ∙ done-is gives c.args.self.now st
+
 pub returns-clause-over : goal.returns-clause-over
-returns-clause-over c = λ done gives st. over-done gives c.args.self.now done st
+returns-clause-over c = λ e gives st. over-done gives c.args.self.now (sym c.is_some.ensures ∙ e) st

@@ -1,65 +1,69 @@
-use Rattle.std.proofs.Common.{ap, arith, length, true, ◌∙◌}
-use Rattle.tv_check.specs.RunViews.{run_view}
-use Rattle.tv_run.proofs.OfRooms.{roomy-stays}
-use Rattle.tv_run.proofs.OfSettled.{settles-from, when-refused}
-use Rattle.tv_run.proofs.OfSettling.{level-settled, ready, roomy-ready, settled-can_sit, settled-kept}
+use Rattle.std.proofs.Common.{subst}
+use Rattle.tv_stream.proofs.Bases.{on-err}
+use Rattle.tv_run.specs.Rooms.{IsNoted}
+use Rattle.tv_run.proofs.OfLevelSettled.{here-then, level-settled, open-low, ready-here}
+use Rattle.tv_run.proofs.OfRooms.{before-rooms, stays-before}
+use Rattle.tv_run.proofs.OfSettlings.{entry-room}
 use Rattle.tv_run.proofs.run.OpenRun.settle_level.Goals as goal
 
-pub returns-in_err-reserve-clause-refused : goal.returns-in_err-reserve-clause-refused
-returns-in_err-reserve-clause-refused c =
-    when-refused c.from_residual.result
+pub reserve_in-requires : goal.reserve_in-requires
+reserve_in-requires c =
+    let p = c.requires in
+    open-low p.0 c.args.self.now c.args.instance p.2.here
+
+pub returns-in_err-reserve_in-clause-refused : goal.returns-in_err-reserve_in-clause-refused
+returns-in_err-reserve_in-clause-refused c =
+    on-err c.from_residual.result _
     (λ gives so.
-    roomy-stays gives c.args.self.now so.0 so.1 c.reserve.new.self c.reserve.ensures.same c.reserve.ensures.kept so.2)
-
-pub settle-settled-requires : goal.settle-settled-requires
-settle-settled-requires c =
     let r = c.args.self.now in
-    let m = c.reserve.new.self in
-    let gives = c.requires.0 in
-    let q = roomy-ready gives r m c.args.more c.reserve.ensures.same c.reserve.ensures.kept c.requires.2 in
-    let x = ready gives m c.args.more q c.main_plan.result.now c.main_plan.ensures in
-    record { ready = ((run_view m.run).flows, q.view, x.0, x.1, x.2, x.3) }
+    let m = c.reserve_in.new.self in
+    stays-before gives r m (before-rooms r m c.reserve_in.ensures.same) so)
 
-pub note-requires-clause-keeps : goal.note-requires-clause-keeps
-note-requires-clause-keeps c =
+pub told_level-settled-requires : goal.told_level-settled-requires
+told_level-settled-requires c =
+    let p = c.requires in
+    let q = p.2 in
     let r = c.args.self.now in
-    let m = c.reserve.new.self in
-    let gives = c.requires.0 in
-    let q = roomy-ready gives r m c.args.more c.reserve.ensures.same c.reserve.ensures.kept c.requires.2 in
-    let plan = c.main_plan.result.now in
-    let x = ready gives m c.args.more q plan c.main_plan.ensures in
-    let on = c.settle-settled.ensures.goes_on (run_view m.run).flows q.view x.0 x.1 x.2 x.3 in
-    settled-kept gives m c.args.more q plan c.main_plan.ensures c.settle-settled.new.pool c.settle-settled.new.self
-    c.settle-settled.result on c.in_ok-reserve.ensures.seats
+    let i = c.args.instance in
+    let more = c.args.more in
+    let m = c.reserve_in.new.self in
+    let rooms = c.reserve_in.ensures.same in (
+      q.here.instances,
+      q.here.instance,
+      q.here.view,
+      p.1,
+      more,
+      here-then p.0 r i more p.1 q m rooms,
+      ready-here p.0 r i more p.1 q m rooms,
+      c.in_ok-reserve_in.ensures.rooms,
+    )
 
-pub note-requires-clause-can : goal.note-requires-clause-can
-note-requires-clause-can c =
+pub note-requires : goal.note-requires
+note-requires c =
+    let p = c.requires in
+    let q = p.2 in
     let r = c.args.self.now in
-    let m = c.reserve.new.self in
-    let gives = c.requires.0 in
-    let q = roomy-ready gives r m c.args.more c.reserve.ensures.same c.reserve.ensures.kept c.requires.2 in
-    let plan = c.main_plan.result.now in
-    let x = ready gives m c.args.more q plan c.main_plan.ensures in
-    let on = c.settle-settled.ensures.goes_on (run_view m.run).flows q.view x.0 x.1 x.2 x.3 in
-    settled-can_sit gives m c.args.more q plan c.main_plan.ensures c.settle-settled.new.pool c.settle-settled.new.self
-    c.settle-settled.result on c.in_ok-reserve.ensures.seats
+    let i = c.args.instance in
+    let more = c.args.more in
+    let m = c.reserve_in.new.self in
+    let rooms = c.reserve_in.ensures.same in
+    let room = c.in_ok-reserve_in.ensures.rooms in
+    let told =
+    c.told_level-settled.ensures q.here.instances q.here.instance q.here.view p.1 more
+    (here-then p.0 r i more p.1 q m rooms) (ready-here p.0 r i more p.1 q m rooms) room in
+    entry-room m c.told_level-settled.new.self i more room told.0.changes.rest.entries
 
 pub returns-clause-settled : goal.returns-clause-settled
-returns-clause-settled c = λ gives so level.
+returns-clause-settled c = λ gives e q.
     let r = c.args.self.now in
-    let m = c.reserve.new.self in
-    let s = c.note.new.self in
-    let same = c.reserve.ensures.same in
-    let q = roomy-ready gives r m c.args.more same c.reserve.ensures.kept level in
-    let plan = c.main_plan.result.now in
-    let x = ready gives m c.args.more q plan c.main_plan.ensures in
-    let on = c.settle-settled.ensures.goes_on (run_view m.run).flows q.view x.0 x.1 x.2 x.3 in
-    let stays = roomy-stays gives r so.0 so.1 m same c.reserve.ensures.kept so.2 in
-    let taken = c.in_ok-reserve.ensures.entries in
-    let long = ap length same.entries in
-    let many = ap length same.seats in
-    let more = c.note.ensures.capacity in
-    settles-from gives r m s true stays.same
-    (level-settled gives m c.args.more q plan c.main_plan.ensures c.settle-settled.new.pool c.settle-settled.new.self
-    c.settle-settled.result on c.in_ok-reserve.ensures.seats (same.done ∙ so.2) s c.note.ensures.rest c.note.ensures.sit
-    c.entry_of.result c.entry_of.ensures c.note.ensures.entries (omega (arith, taken, long, many, more)))
+    let i = c.args.instance in
+    let more = c.args.more in
+    let m = c.reserve_in.new.self in
+    let rooms = c.reserve_in.ensures.same in
+    let room = c.in_ok-reserve_in.ensures.rooms in
+    let t = c.told_level-settled.new.self in
+    let told =
+    c.told_level-settled.ensures q.here.instances q.here.instance q.here.view e more
+    (here-then gives r i more e q m rooms) (ready-here gives r i more e q m rooms) room in
+    level-settled gives r i more e q m rooms room t told.0 c.note.new.self c.told_level-settled.result told.1
+    (subst (IsNoted t c.note.new.self) c.entry_of.ensures c.note.ensures)

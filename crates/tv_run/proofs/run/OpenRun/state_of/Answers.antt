@@ -4,4 +4,4 @@ use Rattle.tv_run.proofs.run.OpenRun.state_of.Goals as goal
 
 pub returns-in-None : goal.returns-in-None
 returns-in-None c = λ gives s.
-    sym (no-state gives c.args.self.now s.0 s.1 s.2 c.args.job (sym c.stage.ensures ∙ c.in-None.is))
+    sym (no-state gives c.args.self.now s.0 s.1 c.args.job (sym c.stage_of.ensures ∙ c.in-None.is))

@@ -2,8 +2,7 @@ use Rattle.std.proofs.Common.{◌∙◌, subst, sym}
 use Rattle.tv_entries.specs.Answers.{question}
 use Rattle.tv_run.specs.Accepting.{IsAnswerTo}
 use Rattle.tv_run.specs.Standing.{run_of}
-use Rattle.tv_run.proofs.OfAsked.{none-there}
-use Rattle.tv_run.proofs.OfKeptFrames.{with-stands}
+use Rattle.tv_run.proofs.OfTriesOut.{none-there}
 use Rattle.tv_run.proofs.run.OpenRun.tested.Goals as goal
 
 pub returns-then-not-is_out : goal.returns-then-not-is_out
@@ -14,8 +13,7 @@ returns-then-not-is_out c = λ gives s. (
 
 pub asks-requires : goal.asks-requires
 asks-requires c =
-    with-stands c.args.self.now _ c.requires
-    (λ gives es v st. (gives, (es, v, st), sym (c.is_out.ensures.out gives (es, v, st)) ∙ c.if-not-is_out.false))
+    let w = c.requires in (w.0, w.1, sym (c.is_out.ensures.out w.0 w.1) ∙ c.if-not-is_out.false)
 
 pub returns-then-asks : goal.returns-then-asks
 returns-then-asks c = λ gives s.

@@ -1,26 +1,13 @@
-use Rattle.std.proofs.Common.{◌<◌, length, subst, sym}
-use Rattle.tv_naming.proofs.OfTold.{got-in}
-use Rattle.tv_run.proofs.OfKeptFrames.{kept-any, with-stands}
-use Rattle.tv_run.proofs.OfSteps.{tries-are, tries-within}
+use Rattle.tv_run.proofs.OfSteps.{tries-are, tries-there}
 use Rattle.tv_run.proofs.run.OpenRun.tries_at.Goals as goal
 
-pub job-requires : goal.job-requires
-job-requires c = kept-any c.args.self.now c.requires.stands
-
-pub bounds-as_slice-found : goal.bounds-as_slice-found
-bounds-as_slice-found c =
-    with-stands c.args.self.now _ c.requires.stands
-    (λ gives es v st. subst (λ l. c.in-Some.found.step < length l) (sym c.as_slice.ensures)
-    (tries-within gives c.args.self.now es v st c.args.job c.in-Some.found.step c.in-Some.found.place.now
-    c.in-Some.ensures.some))
+pub tries_of-requires : goal.tries_of-requires
+tries_of-requires c =
+    let q = c.requires in
+    tries-there c.args.self.now q.0 q.1 c.args.job c.known.result c.known.ensures c.step_number.result c.step_number.ensures
 
 pub returns : goal.returns
 returns c =
-    with-stands c.args.self.now _ c.requires.stands
-    (λ gives es v st.
-    let n = c.in-Some.found.step in
-    let x = c.index-as_slice-found.result in
-    let low = tries-within gives c.args.self.now es v st c.args.job n c.in-Some.found.place.now c.in-Some.ensures.some in
-    tries-are gives c.args.self.now es v st c.args.job n c.in-Some.found.place.now c.in-Some.ensures.some x
-    (got-in c.as_slice.result.now c.args.self.now.tries n x c.as_slice.ensures
-    (subst (λ l. n < length l) (sym c.as_slice.ensures) low) c.index-as_slice-found.is))
+    let q = c.requires in
+    tries-are c.args.self.now q.0 q.1 c.args.job c.known.result c.known.ensures c.step_number.result c.step_number.ensures
+    c.tries_of.result.now c.tries_of.ensures

@@ -1,109 +1,87 @@
-use Rattle.std.proofs.Common.{ap, arith, length, refl, subst, sym, ◌<◌, ◌∙◌, ◌++◌, ◌∷◌, [], map}
-use Rattle.tv_stream.proofs.Bases.{on-err}
-use Rattle.tv_seats.specs.Seats.{back_room, stands, step_at, with_stage}
-use Rattle.tv_seats.specs.Stages.{is_out}
+use Rattle.std.proofs.Common.{ap, arith, length, subst, ◌+◌, ◌<◌, ◌≡◌, ◌≤◌}
+use Rattle.std.specs.Prelude.{vec_capacity}
+use Rattle.tv_seats.specs.Seats.{with_stage}
 use Rattle.tv_seats.specs.declared.stage.Stage.TheVariants as stage
-use Rattle.tv_run.specs.Looks.{AllSit, CanSit, IsKept}
-use Rattle.tv_run.specs.Standing.{job_of}
-use Rattle.tv_run.proofs.OfAccepting.{its-out}
-use Rattle.tv_run.proofs.OfAcceptingRuns.{none-more, none-sit}
-use Rattle.tv_run.proofs.OfAcceptingSettling.{found-at, found-level, is-known, is-out_there, stays-framed}
-use Rattle.tv_run.proofs.OfAcceptingTurns.{accepts-again}
-use Rattle.tv_run.proofs.OfKeptFrames.{kept-frame}
-use Rattle.tv_run.proofs.OfSitting.{staged-jobs}
+use Rattle.tv_stream.proofs.Bases.{on-err}
+use Rattle.tv_forest.specs.Entries.{seated, with_instance}
+use Rattle.tv_run.specs.Accepting.{HasBackRoom, MovesTo}
+use Rattle.tv_run.specs.Rooms.{IsNoted}
+use Rattle.tv_run.specs.declared.instances.Numbered.{Numbered}
+use Rattle.tv_run.proofs.OfAccepted.{accepts-again}
+use Rattle.tv_run.proofs.OfFoundOut.{found-is, open-here, out-here, step-found, step-low}
+use Rattle.tv_run.proofs.OfJudged.{its-out, wrong-asked}
+use Rattle.tv_run.proofs.OfOutcomes.{next-try, tried-unsettled}
+use Rattle.tv_run.proofs.OfRooms.{before-itself, stays-before}
 use Rattle.tv_run.proofs.run.OpenRun.try_again.Goals as goal
 
-pub job-requires : goal.job-requires
-job-requires c =
-    let w = c.requires in kept-frame w.0 c.args.self.now c.args.self.now.entries.items w.3.0 w.3.1
-
-pub unreachable-requires : goal.unreachable-requires
-unreachable-requires c =
-    let w = c.requires in
+pub room_to_put_back-requires : goal.room_to_put_back-requires
+room_to_put_back-requires c =
+    let p = c.requires in
     let r = c.args.self.now in
-    let low = is-known w.0 r w.3.0 w.3.1 c.args.ticket _ (its-out w.0 r w.3.0 w.3.1 c.args.ticket w.1 w.2 w.4) in
-    let high = c.in-None.ensures.none refl in
-    omega (arith, low, high)
+    let t = c.args.ticket in
+    let o = its-out p.0 r p.3.0 p.3.1 t p.1 p.2 p.4 in (
+      p.3.0,
+      o.instance,
+      o.view,
+      open-here p.0 r p.3.0 p.3.1 t _ o c.known-instance.result c.known-instance.ensures r (before-itself r),
+      step-low p.0 r p.3.0 p.3.1 t _ o c.step_number.result c.step_number.ensures,
+    )
 
-pub reserve_back-requires : goal.reserve_back-requires
-reserve_back-requires c =
-    let w = c.requires in
-    let r = c.args.self.now in
-    found-level w.0 r w.3.0 w.3.1 c.args.ticket _ (its-out w.0 r w.3.0 w.3.1 c.args.ticket w.1 w.2 w.4) c.in-Some.found.step
-    c.in-Some.found.place.now c.in-Some.ensures.some
-
-pub returns-in_err-reserve_back-clause-refused : goal.returns-in_err-reserve_back-clause-refused
-returns-in_err-reserve_back-clause-refused c =
+pub returns-in_err-room_to_put_back-clause-refused : goal.returns-in_err-room_to_put_back-clause-refused
+returns-in_err-room_to_put_back-clause-refused c =
     on-err c.from_residual.result _
-    (λ gives so. stays-framed gives c.args.self.now _ so refl refl refl refl c.reserve_back.ensures.seats
-    c.reserve_back.ensures.levels refl (omega arith) refl refl)
+    (λ gives so. stays-before gives c.args.self.now c.room_to_put_back.new.self c.room_to_put_back.ensures.same so)
 
-pub returns-in_err-reserve-clause-refused : goal.returns-in_err-reserve-clause-refused
-returns-in_err-reserve-clause-refused c =
-    let same = c.reserve.ensures.same in
-    on-err c.from_residual-in_err-reserve.result _
-    (λ gives so. stays-framed gives c.args.self.now c.reserve.new.self so same.run same.tries same.pool same.frame
-    (same.seats ∙ c.reserve_back.ensures.seats) (same.levels ∙ c.reserve_back.ensures.levels) same.entries
-    c.reserve.ensures.kept same.failed same.done)
-
-pub put_back-requires-clause-out : goal.put_back-requires-clause-out
-put_back-requires-clause-out c =
-    let w = c.requires in
+pub put_back-requires-clause-may : goal.put_back-requires-clause-may
+put_back-requires-clause-may c =
+    let p = c.requires in
     let r = c.args.self.now in
-    ap (λ ss. stands is_out ss c.args.ticket.job) (c.reserve.ensures.same.seats ∙ c.reserve_back.ensures.seats)
-    ∙ is-out_there w.0 r w.3.0 w.3.1 c.args.ticket _ (its-out w.0 r w.3.0 w.3.1 c.args.ticket w.1 w.2 w.4)
+    let t = c.args.ticket in
+    let o = its-out p.0 r p.3.0 p.3.1 t p.1 p.2 p.4 in (
+      p.3.0,
+      o.instance,
+      o.view,
+      o.seat,
+      out-here p.0 r p.3.0 p.3.1 t _ o c.known-instance.result c.known-instance.ensures c.room_to_put_back.new.self
+          c.room_to_put_back.ensures.same,
+      subst (λ n. HasBackRoom c.room_to_put_back.new.self c.known-instance.result.instance n)
+          (step-found p.0 r p.3.0 p.3.1 t _ o c.step_number.result c.step_number.ensures)
+          c.in_ok-room_to_put_back.ensures.rooms.0,
+    )
 
-pub put_back-requires-clause-room : goal.put_back-requires-clause-room
-put_back-requires-clause-room c =
-    let w = c.requires in
+pub note-requires : goal.note-requires
+note-requires c =
+    let p = c.requires in
     let r = c.args.self.now in
-    let same = c.reserve.ensures.same in
-    let at =
-    ap (λ ss. step_at ss c.args.ticket.job) (same.seats ∙ c.reserve_back.ensures.seats)
-    ∙ found-at w.0 r w.3.0 w.3.1 c.args.ticket _ (its-out w.0 r w.3.0 w.3.1 c.args.ticket w.1 w.2 w.4) c.in-Some.found.step
-    c.in-Some.found.place.now c.in-Some.ensures.some in
-    subst (λ n. 0 < n) (sym ((λ i. back_room (same.back_rooms i) (at i)) ∙ c.in_ok-reserve_back.ensures.taken)) (omega arith)
-
-pub note-requires-clause-keeps : goal.note-requires-clause-keeps
-note-requires-clause-keeps c =
-    let w = c.requires in
-    subst IsKept (sym c.reserve.ensures.same.frame)
-    (kept-frame w.0 c.args.self.now c.args.self.now.entries.items w.3.0 w.3.1)
-
-pub note-requires-clause-can : goal.note-requires-clause-can
-note-requires-clause-can c =
-    let w = c.requires in
-    let r = c.args.self.now in
-    let seats = c.reserve.ensures.same.seats ∙ c.reserve_back.ensures.seats in
-    subst (λ f. CanSit f c.put_back.new.self) (sym c.reserve.ensures.same.frame)
-    (none-sit w.0 r w.3.0 w.3.1 c.put_back.new.self
-    (ap (map job_of) c.put_back.ensures.seats
-    ∙ staged-jobs c.args.ticket.job (stage.Idle c.args.activity c.args.attempt) c.reserve.new.self.seats.seats
-    ∙ ap (map job_of) seats))
+    let t = c.args.ticket in
+    let o = its-out p.0 r p.3.0 p.3.1 t p.1 p.2 p.4 in
+    let out =
+    out-here p.0 r p.3.0 p.3.1 t _ o c.known-instance.result c.known-instance.ensures c.room_to_put_back.new.self
+    c.room_to_put_back.ensures.same in
+    let same = (c.put_back.ensures.moved p.3.0 o.instance o.view o.seat out).changes.rest.entries in
+    let many = ap (λ v. length v.items) same in
+    let room = ap (λ v. vec_capacity v) same in
+    let enough = c.in_ok-room_to_put_back.ensures.rooms.1.entries in
+    omega (arith, many, room, enough)
 
 pub returns-clause-accepted : goal.returns-clause-accepted
-returns-clause-accepted c gives q o so asked wrong goes =
+returns-clause-accepted c = λ gives q oc so asked wrong goes.
     let r = c.args.self.now in
-    let same = c.reserve.ensures.same in
-    let rest = c.note.ensures.rest in
-    let room = c.in_ok-reserve.ensures.entries in
-    let kept = c.note.ensures.capacity in
-    let many = ap (λ l. length l) c.reserve_back.ensures.seats in
-    let seats = same.seats ∙ c.reserve_back.ensures.seats in
-    let idle = stage.Idle c.args.activity c.args.attempt in
-    let put = c.put_back.ensures.seats ∙ ap (with_stage c.args.ticket.job idle) seats in
-    let jobs = ap (map job_of) put ∙ staged-jobs c.args.ticket.job idle r.seats.seats in
-    accepts-again gives r c.args.ticket q o asked so.0 so.1 wrong c.args.activity c.args.attempt goes c.note.new.self
-    (record {
-      run = rest.run ∙ same.run;
-      tries = rest.tries ∙ same.tries;
-      pool = rest.pool ∙ same.pool;
-      frame = rest.frame ∙ same.frame;
-      failed = rest.failed ∙ same.failed;
-      done = rest.done ∙ same.done;
-    })
-    (none-more gives r so.0 so.1 c.put_back.new.self jobs c.note.new.self.seats
-    (subst (λ f. AllSit f c.put_back.new.self c.note.new.self.seats) same.frame c.note.ensures.sit) ∙ put)
-    (c.note.ensures.sit.levels ∙ c.put_back.ensures.levels ∙ same.levels ∙ c.reserve_back.ensures.levels)
-    (c.note.ensures.entries ∙ (λ i. same.entries i ++ c.entry_of.ensures i ∷ []))
-    (omega (arith, room, kept, many)) (rest.done ∙ same.done ∙ so.2)
+    let t = c.args.ticket in
+    let y = stage.Idle c.args.activity c.args.attempt in
+    let o = its-out gives r so.0 so.1 t q oc asked in
+    let is = wrong-asked gives r so.0 so.1 t q oc asked wrong in
+    let out =
+    out-here gives r so.0 so.1 t _ o c.known-instance.result c.known-instance.ensures c.room_to_put_back.new.self
+    c.room_to_put_back.ensures.same in
+    let moves =
+    subst
+    (λ (m : Numbered).
+    MovesTo c.room_to_put_back.new.self c.put_back.new.self
+    (with_instance so.0 m.instance (seated o.instance (with_stage m.number y o.instance.seats))))
+    (found-is gives r so.0 so.1 t _ o c.known-instance.result c.known-instance.ensures)
+    (c.put_back.ensures.moved so.0 o.instance o.view o.seat out) in
+    accepts-again gives r t q oc asked so.0 so.1 so.2 wrong y (tried-unsettled gives r so.0 so.1 t _ o is c.args.activity c.args.attempt goes)
+    (next-try gives r so.0 so.1 t _ o is c.args.activity c.args.attempt goes) c.room_to_put_back.new.self c.room_to_put_back.ensures.same c.in_ok-room_to_put_back.ensures.rooms.1
+    c.put_back.new.self c.note.new.self moves c.put_back.ensures.due
+    (subst (IsNoted c.put_back.new.self c.note.new.self) c.entry_of.ensures c.note.ensures)

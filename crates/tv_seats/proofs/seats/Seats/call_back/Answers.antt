@@ -32,4 +32,6 @@ returns-in_default c = record {
   levels = refl;
   room = refl;
   rooms = c.requires.rooms;
+  aside_rooms = refl;
+  nested_rooms = refl;
 }

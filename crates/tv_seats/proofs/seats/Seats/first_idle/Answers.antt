@@ -11,7 +11,7 @@ returns-in-Some c =
     let inside = subst (λ (v : Seated). k < length v.levels) (sym c.self.view_is) c.requires in
     let y = c.index.result.now in
     subst (λ (v : Seated). IsFirstOf v.seats k (Some c.in-Some.number)) c.self.view_is
-    (first-of r.table.seats k y.idle.jobs (Some c.in-Some.number) (kept-of r.table r.steps.items r.out c.self.invariant k y inside c.index.ensures).listed
+    (first-of r.table.seats k y.idle.jobs (Some c.in-Some.number) (kept-of r.table r.steps.items r.out c.self.invariant k y inside c.index.ensures).idle
     (sym c.in-Some.is ∙ c.first.ensures))
 
 pub returns-in-None : goal.returns-in-None
@@ -21,5 +21,5 @@ returns-in-None c =
     let inside = subst (λ (v : Seated). k < length v.levels) (sym c.self.view_is) c.requires in
     let y = c.index.result.now in
     subst (λ (v : Seated). IsFirstOf v.seats k None) c.self.view_is
-    (first-of r.table.seats k y.idle.jobs None (kept-of r.table r.steps.items r.out c.self.invariant k y inside c.index.ensures).listed
+    (first-of r.table.seats k y.idle.jobs None (kept-of r.table r.steps.items r.out c.self.invariant k y inside c.index.ensures).idle
     (sym c.in-None.is ∙ c.first.ensures))

@@ -24,6 +24,8 @@ loop-number-preserved c =
       levels = c.call_back.ensures.levels ∙ i.levels;
       room = c.call_back.ensures.room ∙ i.room;
       rooms = c.call_back.ensures.rooms;
+      aside_rooms = c.call_back.ensures.aside_rooms ∙ i.aside_rooms;
+      nested_rooms = c.call_back.ensures.nested_rooms ∙ i.nested_rooms;
     }
 
 pub returns-clause-seats : goal.returns-clause-seats

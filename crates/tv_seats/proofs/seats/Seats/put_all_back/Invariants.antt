@@ -9,4 +9,6 @@ invariant-loop-number l = record {
   levels : l.self.levels ≡ l.fn.self.levels;
   room : l.self.room ≡ l.fn.self.room;
   rooms : HasBackRooms l.self;
+  aside_rooms : l.self.aside_rooms ≡ l.fn.self.aside_rooms;
+  nested_rooms : l.self.nested_rooms ≡ l.fn.self.nested_rooms;
 }

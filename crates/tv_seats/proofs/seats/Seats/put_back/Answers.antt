@@ -1,13 +1,13 @@
 use Rattle.std.proofs.Common.{◌≡◌, ◌-◌, arith, ap, sym, ◌∙◌, slice_index_or, slice_set}
 use Rattle.std.specs.Prelude.{option_map}
 use Rattle.std.proofs.lemmas.Option.{slice_get_within}
-use Rattle.tv_ready.specs.Listed.{with_job}
+use Rattle.tv_ready.specs.Listed.{Listed, with_job}
 use Rattle.tv_seats.specs.declared.stage.Stage.TheVariants as stage
-use Rattle.tv_seats.specs.Kept.{all_levels, all_rooms}
+use Rattle.tv_seats.specs.Kept.{all_aside_rooms, all_levels, all_nested_rooms, all_rooms}
 use Rattle.tv_seats.specs.Seats.{Seat, Seated, back_room, stands, step_at}
 use Rattle.tv_seats.specs.Stages.{is_out}
 use Rattle.tv_seats.proofs.ComingBack.{back-is-kept}
-use Rattle.tv_seats.proofs.Keeping.{is-counted, kept-changed, out-itself, room-at, set-levels, set-rooms, stands-there, step-read, step-there}
+use Rattle.tv_seats.proofs.Keeping.{is-counted, kept-changed, out-itself, room-at, set-kept, set-levels, set-rooms, stands-there, step-at-read, step-read, step-there}
 use Rattle.tv_seats.proofs.Staging.{one, some-same}
 use Rattle.tv_seats.proofs.seats.Seats.put_back.Goals as goal
 
@@ -65,7 +65,8 @@ invariant_of-self c =
     })
     c.self.invariant
     (back-is-kept r.table r.steps.items r.out n f.0 c.self.invariant f.1 c.args.activity c.args.attempt y z f.2 step
-    (c.put_back.ensures.jobs ∙ ap (λ q. with_job (n, q) y.idle.jobs) place) c.put_back.ensures.running c.put_back.ensures.out (omega (arith, itself, is)))
+    (c.put_back.ensures.jobs ∙ ap (λ q. with_job (n, q) y.idle.jobs) place) c.put_back.ensures.levels
+    c.put_back.ensures.aside c.put_back.ensures.nested c.put_back.ensures.nested_room c.put_back.ensures.running c.put_back.ensures.out (omega (arith, itself, is)))
     (omega (arith, counted, is))
 
 pub returns-clause-levels : goal.returns-clause-levels
@@ -97,3 +98,27 @@ returns-clause-back_rooms c =
     ∙ ap (λ k. slice_set rooms k (back_room rooms f.0.step - 1)) c.step-step.ensures
     ∙ ap (λ k. slice_set rooms (step_at r.table.seats n) (back_room rooms k - 1)) (sym at)
     ∙ ap (λ (v : Seated). slice_set v.back_rooms (step_at v.seats n) (back_room v.back_rooms (step_at v.seats n) - 1)) c.self.view_is
+
+pub returns-clause-aside_rooms : goal.returns-clause-aside_rooms
+returns-clause-aside_rooms c =
+    let r = c.self.inside in
+    let n = c.args.number in
+    let f = stands-there is_out r.table.seats n (ap (λ (v : Seated). stands is_out v.seats n) c.self.view_is ∙ c.requires.out) in
+    let y = c.index_mut.result.now in
+    let z = c.put_back.new.self in
+    let step = step-at-read r.table r.steps.items r.out c.self.invariant n f.0 f.1 c.step-step.result c.step-step.ensures y c.index_mut.ensures.value in
+    ap (λ k. all_aside_rooms (slice_set r.steps.items k z)) (c.step-step.ensures ∙ step-there r.table.seats n f.0 f.1)
+    ∙ set-kept (λ x. x.aside.room) r.steps.items f.0.step y z step (ap (λ (l : Listed). l.room) c.put_back.ensures.aside)
+    ∙ ap (λ (v : Seated). v.aside_rooms) c.self.view_is
+
+pub returns-clause-nested_rooms : goal.returns-clause-nested_rooms
+returns-clause-nested_rooms c =
+    let r = c.self.inside in
+    let n = c.args.number in
+    let f = stands-there is_out r.table.seats n (ap (λ (v : Seated). stands is_out v.seats n) c.self.view_is ∙ c.requires.out) in
+    let y = c.index_mut.result.now in
+    let z = c.put_back.new.self in
+    let step = step-at-read r.table r.steps.items r.out c.self.invariant n f.0 f.1 c.step-step.result c.step-step.ensures y c.index_mut.ensures.value in
+    ap (λ k. all_nested_rooms (slice_set r.steps.items k z)) (c.step-step.ensures ∙ step-there r.table.seats n f.0 f.1)
+    ∙ set-kept (λ x. x.nested_room) r.steps.items f.0.step y z step c.put_back.ensures.nested_room
+    ∙ ap (λ (v : Seated). v.nested_rooms) c.self.view_is

@@ -23,7 +23,16 @@ loop-count-preserved c =
           ∙ sym (take_more ls n 0 low);
       fresh =
           subst AreFresh (sym items)
-          (fresh-more xs new i.fresh (record { jobs = c.new.ensures.jobs; running = c.new.ensures.running; out = c.new.ensures.out }));
+          (fresh-more xs new i.fresh
+          (record {
+            idle = c.new.ensures.idle;
+            aside = c.new.ensures.aside;
+            levels = c.new.ensures.aside_levels ∙ sym c.new.ensures.levels;
+            nested = c.new.ensures.nested;
+            room = c.new.ensures.nested_room;
+            running = c.new.ensures.running;
+            out = c.new.ensures.out;
+          }));
       within =
           subst (λ l. AreWithin l v) (sym more)
           (within-more (all_levels xs) new.idle.levels c.loop-count.widest v i.within c.wider-widest.ensures.first

@@ -1,0 +1,3 @@
+pub mod OfRegions
+pub mod OfFrames
+pub mod OfTheirs

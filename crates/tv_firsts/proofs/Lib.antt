@@ -1,0 +1,10 @@
+pub mod OfHistories
+pub mod OfOpened
+pub mod OfSeats
+pub mod OfInstances
+pub mod OfFlows
+pub mod OfFirsts
+pub mod OfQuiet
+pub mod OfEnds
+pub mod OfCounts
+pub mod OfNames

@@ -1,0 +1,3 @@
+pub mod FirstWithin
+pub mod Opening
+pub mod Told

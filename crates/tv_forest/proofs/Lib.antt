@@ -1,0 +1,10 @@
+pub mod OfLists
+pub mod OfSeats
+pub mod OfInstances
+pub mod OfStart
+pub mod OfOne
+pub mod OfEntries
+pub mod OfRecalls
+pub mod OfOpening
+pub mod OfEnds
+pub mod OfMainEnd

@@ -1,0 +1,6 @@
+use Rattle.tv_forest.proofs.OfEntries.{level-settling}
+use Rattle.tv_forest.proofs.OfRecalls.{recalling}
+use Rattle.tv_forest.proofs.laws.entries_of_no_job.Goals as goal
+
+pub returns : goal.returns
+returns c = record { levels = level-settling; recalls = recalling }

@@ -1,0 +1,7 @@
+use Rattle.tv_forest.proofs.OfEnds.{ending}
+use Rattle.tv_forest.proofs.OfMainEnd.{ending-main, none-open_at_end}
+use Rattle.tv_forest.proofs.OfOpening.{opening}
+use Rattle.tv_forest.proofs.laws.instances_come_and_go.Goals as goal
+
+pub returns : goal.returns
+returns c = record { opens = opening; ends = ending; ends_main = ending-main; none_open = none-open_at_end }

@@ -1,0 +1,5 @@
+use Rattle.tv_forest.proofs.OfStart.{starting}
+use Rattle.tv_forest.proofs.laws.instances_start.Goals as goal
+
+pub returns : goal.returns
+returns c = starting

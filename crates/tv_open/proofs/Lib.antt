@@ -1,0 +1,16 @@
+pub mod OfLists
+pub mod OfKnownJobs
+pub mod OfSeating
+pub mod OfPlanLevels
+pub mod OfSeats
+pub mod OfSitting
+pub mod OfOpen
+pub mod OfTelling
+pub mod OfTaking
+pub mod OfGiving
+pub mod OfSettling
+pub mod OfRegions
+pub mod OfStarting
+pub mod OfFirstSeats
+pub mod OfFirsts
+pub mod OfFaulty

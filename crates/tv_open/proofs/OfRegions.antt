@@ -1,0 +1,40 @@
+-- A region that is new and is released again.
+use Rattle.std.specs.Prelude.{◌≡◌, ◌⊎◌, refl, ℕ, zero, suc, List, [], ◌∷◌, Option, None, length, slice_index_or, slice_set}
+use Rattle.std.proofs.Common.{sym, ap, ◌∙◌, inl, inr}
+use Rattle.tv_depths.proofs.OfRanked.{same-or-not}
+use Rattle.tv_pool.specs.Pool.{region_at, regions_with}
+use Rattle.tv_nodes.specs.Calls.{KeepsRegions}
+use Rattle.tv_outputs.specs.Known.{Nodes}
+use Rattle.tv_frame.specs.Calls.{SameRegions}
+
+module _ {A : Type 0} where
+  set-none : (xs : List (Option A)) (n : ℕ) → slice_index_or (slice_set xs n None) n None ≡ None
+  set-none [] n = refl
+  set-none (x ∷ xs) zero = refl
+  set-none (x ∷ xs) (suc n) = set-none xs n
+
+  set-other : (xs : List (Option A)) (n k : ℕ) (y : Option A) → (k ≡ n → ⊥)
+      → slice_index_or (slice_set xs n y) k None ≡ slice_index_or xs k None
+  set-other [] n k y h = refl
+  set-other (x ∷ xs) zero zero y h = absurd (h refl)
+  set-other (x ∷ xs) zero (suc k) y h = refl
+  set-other (x ∷ xs) (suc n) zero y h = refl
+  set-other (x ∷ xs) (suc n) (suc k) y h = set-other xs n k y (λ e. h (ap suc e))
+
+  past-end : (xs : List (Option A)) → slice_index_or xs (length xs) None ≡ None
+  past-end [] = refl
+  past-end (x ∷ xs) = past-end xs
+
+-- where it is released, all is as it was
+pub given-up : (old mid new : Nodes) (number : ℕ) → number ≡ length old.regions → KeepsRegions old mid number
+    → new.regions ≡ regions_with mid number None → SameRegions old new
+given-up old mid new number is k e n = by (same-or-not n number)
+  where
+    by : (n ≡ number) ⊎ (n ≡ number → ⊥) → region_at new n ≡ region_at old n
+    by (inl same) =
+        ap (λ rs. slice_index_or rs n None) e
+        ∙ ap (λ m. slice_index_or (slice_set mid.regions number None) m None) same
+        ∙ set-none mid.regions number
+        ∙ sym (ap (λ m. slice_index_or old.regions m None) (same ∙ is) ∙ past-end old.regions)
+    by (inr ne) =
+        ap (λ rs. slice_index_or rs n None) e ∙ set-other mid.regions number n None ne ∙ k.others n ne

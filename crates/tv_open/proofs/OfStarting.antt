@@ -1,0 +1,54 @@
+-- An instance that starts: the jobs that its frame knows sit down.
+use Rattle.std.specs.Prelude.{◌≡◌, ◌≤◌, List, [], ◌++◌, length, map}
+use Rattle.std.proofs.Common.{sym, ap, subst, ◌∙◌}
+use Rattle.tv_value.specs.Values.{Value}
+use Rattle.tv_flow.specs.Flows.{Document, Flow}
+use Rattle.tv_flow.specs.Views.{flow_view}
+use Rattle.tv_check.specs.declared.plans.FlowPlan.{FlowPlan}
+use Rattle.tv_outputs.specs.Known.{Nodes}
+use Rattle.tv_intake.specs.Intaken.{known_jobs}
+use Rattle.tv_framing.specs.Views.{View}
+use Rattle.tv_frame.specs.Calls.{Starts}
+use Rattle.tv_frame.specs.declared.frame.Frame.{Frame}
+use Rattle.tv_frame.specs.Kept.{Keeps}
+use Rattle.tv_frame.specs.Tables.{levels_in}
+use Rattle.tv_seats.specs.Seats.{Seated}
+use Rattle.tv_seated.specs.GoingOn.{AreNewSeats}
+use Rattle.tv_open.specs.Seating.{AllSit, CanSit, IsKept, seat_for, unseated}
+use Rattle.tv_open.specs.Standing.{StartsOpen, job_of}
+use Rattle.tv_open.proofs.OfSeats.{all-known}
+use Rattle.tv_open.proofs.OfSitting.{may-sit, new-seats}
+
+module _ (d : Document) (plan : FlowPlan) (values : List Value) (pool : Nodes) (f : Frame)
+    (st : Starts d.flows plan values pool f) (x : Seated) (none : x.seats ≡ [])
+    (levels : x.levels ≡ map (λ s. levels_in (flow_view plan.flow) s.0) (flow_view plan.flow).steps) where
+  abbrev v : View
+  v = st.0
+
+  keeps : Keeps d.flows plan pool f v
+  keeps = st.3
+
+  pub first-kept : IsKept f
+  first-kept = (plan, pool, d.flows, v, keeps)
+
+  first-levels : x.levels ≡ map (λ s. levels_in v.flow s.0) v.flow.steps
+  first-levels = levels ∙ ap (λ (g : Flow). map (λ s. levels_in g s.0) g.steps) (sym keeps.flow_is)
+
+  begins : known_jobs f.intakes ≡ map job_of x.seats ++ known_jobs f.intakes
+  begins = ap (λ l. map job_of l ++ known_jobs f.intakes) (sym none)
+
+  module _ (room : length (known_jobs f.intakes) ≤ x.room) where
+    pub first-can : CanSit f x
+    first-can = may-sit f x (known_jobs f.intakes) begins d.flows plan pool v keeps first-levels room
+
+    pub starts-open : (y : Seated) → AllSit f x y → StartsOpen d plan values pool (record { frame = f; seats = y })
+    starts-open y all = record {
+      view = v;
+      untold = st.1;
+      inputs = st.2;
+      is_open = record { keeps = keeps; known = all-known f x y first-can all; levels = all.levels ∙ first-levels };
+      new =
+          subst (AreNewSeats v.flow.steps)
+          (sym (all.seats ∙ ap (λ l. l ++ map seat_for (unseated f x.seats)) none))
+          (new-seats f x (known_jobs f.intakes) begins d.flows plan pool v keeps);
+    }

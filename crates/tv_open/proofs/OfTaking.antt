@@ -1,0 +1,91 @@
+-- A job that waits, and is ready, is taken.
+use Rattle.std.specs.Option.{option_map_or}
+use Rattle.std.specs.Prelude.{◌≡◌, refl, ℕ, true, false, [], Some, map, slice_get}
+use Rattle.std.proofs.Common.{sym, ap, subst, ◌∙◌}
+use Rattle.std.proofs.lemmas.Bool.{true≢false}
+use Rattle.std.proofs.lemmas.List.{append-nil}
+use Rattle.std.proofs.lemmas.Option.{same_Some}
+use Rattle.tv_value.specs.Nested.{Place}
+use Rattle.tv_value.specs.Values.{Name}
+use Rattle.tv_flow.specs.Flows.{Document}
+use Rattle.tv_check.specs.declared.plans.FlowPlan.{FlowPlan}
+use Rattle.tv_outputs.specs.Known.{Nodes}
+use Rattle.tv_instance.specs.Events.{took}
+use Rattle.tv_framing.specs.Frames.{Comes, with_event}
+use Rattle.tv_framing.specs.Views.{View}
+use Rattle.tv_frame.specs.declared.frame.Frame.{Frame}
+use Rattle.tv_frame.specs.Kept.{Keeps}
+use Rattle.tv_frame.specs.Tables.{levels_in}
+use Rattle.tv_seats.specs.Seats.{Seat, Seated, stage_at, with_stage}
+use Rattle.tv_seats.specs.Stages.{is_waiting}
+use Rattle.tv_seats.specs.declared.stage.Stage.{Stage}
+use Rattle.tv_seated.specs.GoingOn.{GoesOn}
+use Rattle.tv_seated.specs.Seated.{spot_of}
+use Rattle.tv_open.specs.Events.{IsTaken, IsToldTaken}
+use Rattle.tv_open.specs.Standing.{IsOpen, job_of}
+use Rattle.tv_open.specs.declared.open.Open.{Open}
+use Rattle.tv_open.proofs.OfSeats.{staged-jobs, waits-as}
+use Rattle.tv_open.proofs.OfSitting.{goes-on_alone, known-alone}
+
+module _ (d : Document) (plan : FlowPlan) (pool : Nodes) (o : Open) (v : View) (io : IsOpen d plan pool o v) (n : ℕ)
+    (s : Seat) (there : slice_get o.seats.seats n ≡ Some s) where
+  -- a seat of that number is the same one
+  one-seat : (P : Seat → Type 0) (t : Seat) → slice_get o.seats.seats n ≡ Some t → P s → P t
+  one-seat P t e p = subst P (same_Some s t (sym there ∙ e)) p
+
+  -- ---- one that waits
+
+  module _ (waits : is_waiting s.stage ≡ true) (f : Frame) where
+    abbrev spot : Name × Place
+    spot = spot_of v.flow.steps s
+
+    abbrev then : View
+    then = with_event v (took spot.0 spot.1) []
+
+    comes : Comes v then (took spot.0 spot.1) 0
+    comes = record { flow = refl; inputs = refl; events = refl; jobs = ([], refl, refl) }
+
+    pub told-waiting : Keeps d.flows plan pool f then → IsToldTaken d plan pool o (record o { frame = f }) v n
+    told-waiting k = record {
+      view = then;
+      is_open = record {
+        keeps = k;
+        known =
+            sym (append-nil (map job_of o.seats.seats))
+            ∙ known-alone d plan pool o v io pool f then (took spot.0 spot.1) 0 comes k o.seats refl refl;
+        levels = io.levels;
+      };
+      waited = λ t e w.
+          one-seat (λ u. GoesOn d (levels_in v.flow) v then (took (spot_of v.flow.steps u).0 u.place) []) t e
+          (goes-on_alone d plan pool o v io pool f then (took spot.0 spot.1) 0 comes k o.seats refl refl);
+      went_on = λ t e w. absurd (true≢false (sym (one-seat (λ u. is_waiting u.stage ≡ true) t e waits) ∙ w));
+    }
+
+-- ---- one that doesn't
+
+pub told-nothing : (d : Document) (plan : FlowPlan) (pool : Nodes) (o : Open) (v : View) → IsOpen d plan pool o v
+    → (n : ℕ) → option_map_or is_waiting (stage_at o.seats.seats n) false ≡ false → IsToldTaken d plan pool o o v n
+told-nothing d plan pool o v io n rests = record {
+  view = v;
+  is_open = io;
+  waited = λ t e w. absurd (true≢false (sym w ∙ sym (waits-as o.seats.seats n t e) ∙ rests));
+  went_on = λ t e w. refl;
+}
+
+-- ---- then its seat moves
+
+pub taken : (d : Document) (plan : FlowPlan) (pool : Nodes) (o m : Open) (v : View) (n : ℕ) (x : Stage)
+    → IsToldTaken d plan pool o m v n → m.seats ≡ o.seats
+    → (y : Seated) → y.seats ≡ with_stage n x m.seats.seats → y.levels ≡ m.seats.levels
+    → IsTaken d plan pool o (record { frame = m.frame; seats = y }) v n x
+taken d plan pool o m v n x t same y seats levels = record {
+  view = t.view;
+  is_open = record {
+    keeps = t.is_open.keeps;
+    known = ap (map job_of) seats ∙ staged-jobs n x m.seats.seats ∙ t.is_open.known;
+    levels = levels ∙ t.is_open.levels;
+  };
+  waited = t.waited;
+  went_on = t.went_on;
+  seats = seats ∙ ap (λ (u : Seated). with_stage n x u.seats) same;
+}

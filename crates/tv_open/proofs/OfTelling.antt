@@ -1,0 +1,66 @@
+-- An open instance whose frame was told an event: the jobs that became known with it sit down.
+use Rattle.std.specs.Prelude.{◌≡◌, ℕ, ◌∷◌, ◌++◌, [], List, map}
+use Rattle.std.proofs.Common.{sym, ap, arith, subst, ◌∙◌}
+use Rattle.tv_flow.specs.Flows.{Document, Flow}
+use Rattle.tv_depths.specs.Ranks.{ranked}
+use Rattle.tv_check.specs.declared.plans.FlowPlan.{FlowPlan}
+use Rattle.tv_outputs.specs.Known.{Nodes}
+use Rattle.tv_instance.specs.Events.{Event}
+use Rattle.tv_framing.specs.Frames.{Comes, with_event}
+use Rattle.tv_framing.specs.Views.{AreGiven, View}
+use Rattle.tv_framing.proofs.OfPossible.{some-possible}
+use Rattle.tv_frame.specs.Calls.{Brings, GoesOn}
+use Rattle.tv_frame.specs.declared.frame.Frame.{Frame}
+use Rattle.tv_frame.specs.Tables.{levels_in}
+use Rattle.tv_seats.specs.Seats.{Seat, Seated}
+use Rattle.tv_open.specs.Events.{IsTold}
+use Rattle.tv_open.specs.Seating.{AllSit, CanSit, IsKept, seat_for, unseated}
+use Rattle.tv_open.specs.Standing.{IsOpen, job_of}
+use Rattle.tv_open.specs.declared.open.Open.{Open}
+use Rattle.tv_open.proofs.OfSeats.{all-known}
+use Rattle.tv_open.proofs.OfSitting.{can-sit, goes-on, many-sit}
+
+-- so many jobs become known with an event, and no other number
+brings-once :
+    (v w : View) (e : Event) (k n m : ℕ) → Comes v w e k → AreGiven (ranked w.flow.steps) w.events
+    → Brings v e n → Brings v e m → n ≡ m
+brings-once v w e k n m c given b g =
+    let there : AreGiven (ranked v.flow.steps) (e ∷ v.events) =
+    subst (λ (f : Flow). AreGiven (ranked f.steps) (e ∷ v.events)) c.flow
+    (subst (AreGiven (ranked w.flow.steps)) c.events given) in
+    let r = some-possible (with_event v e []) [] there in
+    sym (b [] r.0 r.1 r.2) ∙ g [] r.0 r.1 r.2
+
+-- the frame g was told the event; y are the seats by then, with room for the jobs that become known with it
+module _ (d : Document) (plan : FlowPlan) (pool : Nodes) (o : Open) (v : View) (io : IsOpen d plan pool o v) (e : Event)
+    (more : ℕ) (brings : Brings v e more) (after : Nodes) (g : Frame) (on : GoesOn d.flows plan after g v e) (y : Seated)
+    (jobs : map job_of y.seats ≡ map job_of o.seats.seats) (levels : y.levels ≡ o.seats.levels) (room : y.room ≡ more) where
+  abbrev w : View
+  w = on.0
+
+  same-number : on.1 ≡ more
+  same-number = brings-once v w e on.1 on.1 more on.2 on.4.frame.given on.3 brings
+
+  pub then-kept : IsKept g
+  then-kept = (plan, after, d.flows, w, on.4)
+
+  pub then-can : CanSit g y
+  then-can =
+      can-sit d plan pool o v io after g w e on.1 on.2 on.4 y jobs levels
+      (let n = same-number in omega (arith, n, room))
+
+  pub then-told : (z : Seated) → AllSit g y z → (ss : List Seat) → y.seats ≡ ss
+      → IsTold d plan after (record { frame = g; seats = z }) v e more ss
+  then-told z all ss is = record {
+    view = w;
+    new = map seat_for (unseated g y.seats);
+    is_open = record {
+      keeps = on.4;
+      known = all-known g y z then-can all;
+      levels =
+          all.levels ∙ levels ∙ io.levels ∙ ap (λ (f : Flow). map (λ s. levels_in f s.0) f.steps) (sym on.2.flow);
+    };
+    goes_on = goes-on d plan pool o v io after g w e on.1 on.2 on.4 y jobs;
+    many = many-sit d plan pool o v io after g w e on.1 on.2 on.4 y jobs ∙ same-number;
+    seats = all.seats ∙ ap (λ l. l ++ map seat_for (unseated g y.seats)) is;
+  }

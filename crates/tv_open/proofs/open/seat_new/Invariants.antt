@@ -1,0 +1,5 @@
+use Rattle.tv_open.proofs.OfSeating.{AreSitting}
+use Rattle.tv_open.proofs.open.seat_new.Given as goal
+
+abbrev pub invariant-loop-number : goal.invariant-loop-number
+invariant-loop-number l = AreSitting l.frame l.initial.seats l.seats l.number

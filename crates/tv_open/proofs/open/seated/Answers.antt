@@ -1,0 +1,25 @@
+use Rattle.std.proofs.Common.{arith, ◌∙◌}
+use Rattle.tv_open.proofs.OfStarting.{first-can, first-kept, starts-open}
+use Rattle.tv_open.proofs.open.seated.Goals as goal
+
+pub seat_new-requires-clause-keeps : goal.seat_new-requires-clause-keeps
+seat_new-requires-clause-keeps c =
+    let q = c.requires.starts in
+    first-kept q.0 c.args.plan.now q.1 c.args.pool.now c.args.frame q.2 c.reserve.new.self
+    (c.reserve.ensures.seats ∙ c.requires.empty) (c.reserve.ensures.levels ∙ c.requires.levels)
+
+pub seat_new-requires-clause-can : goal.seat_new-requires-clause-can
+seat_new-requires-clause-can c =
+    let q = c.requires.starts in
+    first-can q.0 c.args.plan.now q.1 c.args.pool.now c.args.frame q.2 c.reserve.new.self
+    (c.reserve.ensures.seats ∙ c.requires.empty) (c.reserve.ensures.levels ∙ c.requires.levels)
+    (let a = c.in-Ok.ensures.ok in let b = c.known.ensures in omega (arith, a, b))
+
+pub returns-in-Ok-clause-ok : goal.returns-in-Ok-clause-ok
+returns-in-Ok-clause-ok c d values st =
+    starts-open d c.args.plan.now values c.args.pool.now c.args.frame st c.reserve.new.self
+    (c.reserve.ensures.seats ∙ c.requires.empty) (c.reserve.ensures.levels ∙ c.requires.levels)
+    (let a = c.in-Ok.ensures.ok in let b = c.known.ensures in omega (arith, a, b)) c.seat_new.new.seats c.seat_new.ensures
+
+pub abandon-requires : goal.abandon-requires
+abandon-requires c = c.requires.starts.2.3.live

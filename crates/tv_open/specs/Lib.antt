@@ -1,0 +1,5 @@
+pub mod Standing
+pub mod Seating
+pub mod Firsts
+pub mod Events
+pub mod Tries

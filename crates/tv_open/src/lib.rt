@@ -1,0 +1,25 @@
+//! An open instance of a flow: its frame and the seats of its jobs.
+//!
+//! An `Open` has the instance's frame (`tv_frame`), which is told each result, closed list and passed fault and knows at once what
+//! follows, and for each job that the frame knows a seat (`tv_seats`), which tells where the job stands. Each call tells the frame and
+//! moves the seats. A contract sees what the frame was told, the view, and the seats by number: it says nothing of histories, services
+//! or other instances. The nodes of all instances stand in one pool, each in its own region.
+//!
+//! A call that may want memory comes before the one that changes something, and leaves all as it was where it is refused.
+//!
+//! - `open`: the instance, its start and its end
+//! - `looks`: what is asked of its jobs
+//! - `firsts`: its first job that goes on, or that can be bounced
+//! - `events`: a job taken, opened, given its result or bounced, a list closed or a fault passed
+//! - `tries`: jobs that are idle again, or have a flow next
+#![tactic(auto)]
+
+mod events;
+mod firsts;
+mod looks;
+mod open;
+mod tries;
+
+pub use events::Spot;
+pub use firsts::Seeking;
+pub use open::Open;

@@ -1,0 +1,182 @@
+//! The instance, its start and its end.
+ghost use Rattle.std.specs.Prelude.{◌≡◌, ◌-◌, ◌<◌, ◌++◌, ◌∷◌, ℕ, [], true, IfOk, None, OnErr, OnOk, Some, length, map, slice_get, option_map};
+ghost use Rattle.tv_value.specs.Nested.{Place};
+ghost use Rattle.tv_flow.specs.Flows.{Document};
+ghost use Rattle.tv_flow.specs.Views.{flow_view};
+ghost use Rattle.tv_pool.specs.Pool.{number_of, regions_with, IsLive};
+ghost use Rattle.tv_nodes.specs.Calls.{KeepsRegions};
+ghost use Rattle.tv_cell.specs.PieceValues.{piece_values};
+ghost use Rattle.tv_cell.specs.Soundness.{AreSound};
+ghost use Rattle.tv_check.specs.declared.plans.FlowPlan.{FlowPlan as ThePlan};
+ghost use Rattle.tv_outputs.specs.Known.{Nodes as TheNodes};
+ghost use Rattle.tv_intake.specs.Intaken.{known_jobs};
+ghost use Rattle.tv_framing.specs.Answers.{AreOutputs, has_ended_now};
+ghost use Rattle.tv_framing.specs.Views.{View};
+ghost use Rattle.tv_turn.specs.FirstReady.{by_falling_rank};
+ghost use Rattle.tv_frame.specs.Calls.{CanStart, SameRegions, Starts};
+ghost use Rattle.tv_frame.specs.Kept.{AreOuts};
+ghost use Rattle.tv_frame.specs.Tables.{levels_in};
+ghost use Rattle.tv_open.specs.Seating.{AllSit, CanSit, IsKept, seat_for};
+ghost use Rattle.tv_open.specs.Standing.{IsOpen, StartsOpen};
+
+use std::alloc::Global;
+use tv_cell::Pieces;
+use tv_check::FlowPlan;
+use tv_frame::Frame;
+use tv_outputs::Nodes;
+use tv_seats::Seats;
+use tv_value::NoMemory;
+
+/// An open instance of a flow.
+#[derive(Drop)]
+pub struct Open {
+    pub(crate) frame: Frame,
+    pub(crate) seats: Seats,
+}
+
+/// The levels that the iteration of each step has.
+fn levels_of(alloc: Global, plan: &FlowPlan) -> Result<Vec<u32>, NoMemory>
+    ensures { IfOk result (λ ls. ls.items
+        ≡ map (λ s. levels_in (flow_view plan.now.flow) s.0) (flow_view plan.now.flow).steps) }
+{
+    let steps = plan.steps.as_slice();
+    let mut levels = Vec::with_capacity(alloc, steps.len())?;
+    for step in steps {
+        levels.push(step.depth)?;
+    }
+    Ok(levels)
+}
+
+/// The jobs that a frame knows and that have no seat sit down. Takes no memory.
+pub(crate) fn seat_new(frame: &Frame, seats: &mut Seats)
+    requires keeps { IsKept frame.now }
+    requires can { CanSit frame.now seats.old }
+    ensures { AllSit frame.now seats.old seats.new }
+{
+    for number in seats.len()..frame.known() {
+        seat_job(frame, seats, number);
+    }
+}
+
+fn seat_job(frame: &Frame, seats: &mut Seats, number: u64)
+    requires keeps { IsKept frame.now }
+    requires can { CanSit frame.now seats.old }
+    requires next { number ≡ length seats.old.seats }
+    requires known { number < length (known_jobs frame.now.intakes) }
+    ensures seats { (j : ℕ × Place) → slice_get (known_jobs frame.now.intakes) number ≡ Some j
+        → seats.new.seats ≡ seats.old.seats ++ seat_for j ∷ [] }
+    ensures levels { seats.new.levels ≡ seats.old.levels }
+    ensures room { seats.new.room ≡ seats.old.room - 1 }
+    ensures back_rooms { seats.new.back_rooms ≡ seats.old.back_rooms }
+{
+    match frame.job(number) {
+        Some(job) => {
+            let _number = seats.sit(job.step, job.place);
+        }
+        None => unreachable!(),
+    }
+}
+
+/// The jobs that a frame knows from its start sit down. Where that is refused, its region is released.
+fn seated(
+    frame: Frame,
+    mut seats: Seats,
+    plan: &FlowPlan,
+    pool: &mut Nodes,
+) -> Result<Open, NoMemory>
+    requires starts { (d : Document) × (values : _) × Starts d.flows plan.now values pool.old frame }
+    requires empty { seats.seats ≡ [] }
+    requires levels { seats.levels
+        ≡ map (λ s. levels_in (flow_view plan.now.flow) s.0) (flow_view plan.now.flow).steps }
+    ensures ok { IfOk result (λ o. (d : Document) (values : _)
+        → Starts d.flows plan.now values pool.old frame
+        → StartsOpen d plan.now values pool.new o) }
+    ensures region { IfOk result (λ o. o.frame.region ≡ frame.region) }
+    ensures kept { OnOk result (pool.new ≡ pool.old) }
+    ensures refused { OnErr result (pool.new.regions
+        ≡ regions_with pool.old (number_of frame.region) None) }
+{
+    match seats.reserve(frame.known() as usize) {
+        Ok(()) => {
+            seat_new(&frame, &mut seats);
+            Ok(Open { frame, seats })
+        }
+        Err(error) => {
+            frame.abandon(pool);
+            Err(error)
+        }
+    }
+}
+
+impl Open {
+    /// The instance of a plan's flow on its inputs, told nothing, in a region that is new in the pool. Linear in the flow, and in the
+    /// inputs, which are looked through for faults. A refusal leaves the pool's regions as they were.
+    pub fn start(
+        alloc: Global,
+        plan: &FlowPlan,
+        inputs: Pieces,
+        pool: &mut Nodes,
+    ) -> Result<Open, NoMemory>
+        requires can { (d : Document) × CanStart d.flows plan.now (piece_values inputs) }
+        requires sound { AreSound inputs }
+        ensures ok { IfOk result (λ o. (d : Document)
+            → CanStart d.flows plan.now (piece_values inputs)
+            → StartsOpen d plan.now (piece_values inputs) pool.new o) }
+        ensures own { IfOk result (λ o. number_of o.frame.region ≡ length pool.old.regions) }
+        ensures kept { IfOk result (λ o. KeepsRegions pool.old pool.new (number_of o.frame.region)) }
+        ensures refused { OnErr result (SameRegions pool.old pool.new) }
+    {
+        let levels = levels_of(alloc, plan)?;
+        let seats = Seats::start(alloc, levels.as_slice())?;
+        let frame = Frame::start(alloc, plan, inputs, pool)?;
+        seated(frame, seats, plan, pool)
+    }
+
+    /// Whether the instance has ended.
+    pub fn ended(&self) -> bool
+        ensures { (d : Document) (plan : ThePlan) (pool : TheNodes) (v : View)
+            → IsOpen d plan pool self.now v → result ≡ has_ended_now (levels_in v.flow) v }
+    {
+        self.frame.ended()
+    }
+
+    /// The steps of its flow by number, that of the greatest rank first.
+    pub fn order(&self) -> &[u32]
+        ensures { (d : Document) (plan : ThePlan) (pool : TheNodes) (v : View)
+            → IsOpen d plan pool self.now v → result.now ≡ by_falling_rank v.flow }
+    {
+        self.frame.order()
+    }
+
+    /// The flow's outputs, once the instance has ended.
+    pub fn outputs(&self) -> Option<&Pieces>
+        ensures { (d : Document) (plan : ThePlan) (pool : TheNodes) (v : View)
+            → IsOpen d plan pool self.now v
+            → AreOuts v (has_ended_now (levels_in v.flow) v) (option_map (λ ps. ps.now) result) }
+    {
+        self.frame.outputs()
+    }
+
+    /// Gives the outputs of an instance that has ended with its jobs' seats, and releases its region. Takes no memory.
+    pub fn finish(self, pool: &mut Nodes) -> (Pieces, Seats)
+        requires ended { (d : Document) × (plan : ThePlan) × (v : View)
+            × IsOpen d plan pool.old self v × (has_ended_now (levels_in v.flow) v ≡ true) }
+        ensures outputs { (d : Document) (plan : ThePlan) (v : View) → IsOpen d plan pool.old self v
+            → AreSound result.0 × AreOutputs v (piece_values result.0) }
+        ensures seats { result.1.seats ≡ self.seats.seats }
+        ensures gone { pool.new.regions
+            ≡ regions_with pool.old (number_of self.frame.region) None }
+    {
+        let Open { frame, seats } = self;
+        let outs = frame.finish(pool);
+        (outs, seats)
+    }
+
+    /// Releases the region of an instance whose opening is refused. Takes no memory.
+    pub fn abandon(self, pool: &mut Nodes)
+        requires { IsLive pool.old self.frame.region }
+        ensures { pool.new.regions ≡ regions_with pool.old (number_of self.frame.region) None }
+    {
+        self.frame.abandon(pool);
+    }
+}

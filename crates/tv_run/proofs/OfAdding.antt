@@ -1,0 +1,110 @@
+-- An instance is added to a run: where that is refused, the run is as it was.
+use Rattle.std.specs.Global.{Global}
+use Rattle.std.specs.Prelude.{◌≡◌, refl, ℕ, ◌+◌, ◌<◌, ◌≤◌, [], Err, Ok, None, OnErr, Option, Result, Some, Vec, length, option_map, slice_get, vec_capacity}
+use Rattle.std.proofs.Common.{ap, arith, subst, sym, ◌∙◌}
+use Rattle.std.proofs.lemmas.Option.{none-some, same_Some, slice_get_within}
+use Rattle.tv_value.specs.Values.{Name}
+use Rattle.tv_flow.specs.Flows.{Document, Flow}
+use Rattle.tv_frame.specs.Calls.{SameRegions}
+use Rattle.tv_pool.specs.Pool.{number_of, regions_with}
+use Rattle.tv_nodes.specs.Calls.{KeepsRegions}
+use Rattle.tv_open.proofs.OfRegions.{given-up}
+use Rattle.tv_open.specs.declared.open.Open.{Open}
+use Rattle.tv_outputs.specs.Known.{Nodes}
+use Rattle.tv_run.specs.Following.{IsEntering}
+use Rattle.tv_run.specs.Looks.{IsFlow}
+use Rattle.tv_run.specs.Rooms.{HasRoomBeside, IsAsBefore, IsSameButRooms, IsSameInstance}
+use Rattle.tv_run.specs.declared.instances.Instance as code
+use Rattle.tv_run.specs.declared.run.OpenRun.{OpenRun}
+use Rattle.tv_run.proofs.OfRooms.{before-but_pool}
+
+-- a fact that stands beside a refusal
+pub on-err : {A E P : Type 0} (r : Result A E) → P → OnErr r P
+on-err (Ok x) p = tt
+on-err (Err e) p = p
+
+-- the number of a flow is below their count
+pub flow-low : (d : Document) (k : ℕ) (f : Flow) → IsFlow d k f → k < length d.flows
+flow-low d k f e = by (slice_get d.flows k) refl e
+  where
+    by : (o : Option (Name × Flow)) → slice_get d.flows k ≡ o → option_map (λ x. x.1) o ≡ Some f → k < length d.flows
+    by None a h = absurd (none-some f h)
+    by (Some x) a h = slice_get_within d.flows k x a
+
+same-instance : (c : code.Instance) → IsSameInstance c c
+same-instance c = record { flow = refl; opener = refl; jobs = refl; is_busy = refl; opened = refl; seats = refl }
+
+-- with other room for instances
+module _ (r : OpenRun) (instances : Vec code.Instance Global) (same : instances.items ≡ r.instances.items) where
+  abbrev with_room : OpenRun
+  with_room = record r { instances = instances }
+
+  room-taken : IsSameButRooms r with_room
+  room-taken = record {
+    alloc = refl;
+    run = refl;
+    looks = refl;
+    pool = refl;
+    as_many = ap length same;
+    instances = λ i c e was is.
+        subst (IsSameInstance c) (same_Some c e (sym was ∙ sym (ap (λ l. slice_get l i) same) ∙ is)) (same-instance c);
+    busy = refl;
+    jobs = refl;
+    entries = refl;
+    capacity = omega arith;
+    due = refl;
+    failed = refl;
+    outs = refl;
+  }
+
+  -- and in another pool with the same regions
+  pub before-room : (pool : Nodes) → SameRegions r.pool pool → IsAsBefore r (record with_room { pool = pool })
+  before-room pool regions =
+      before-but_pool r (record with_room { pool = pool }) (record { rooms = room-taken; regions = regions })
+
+  -- the room for the rest was refused, and the region that was started is given up
+  module _ (mid after : Nodes) (t : OpenRun) (o : Open) (rooms : IsSameButRooms (record with_room { pool = mid }) t)
+      (own : number_of o.frame.region ≡ length r.pool.regions)
+      (keeps : KeepsRegions r.pool mid (number_of o.frame.region))
+      (gone : after.regions ≡ regions_with t.pool (number_of o.frame.region) None) where
+    regions-same : SameRegions r.pool after
+    regions-same =
+        given-up r.pool mid after (number_of o.frame.region) own keeps
+        (gone ∙ ap (λ p. regions_with p (number_of o.frame.region) None) rooms.pool)
+
+    rooms-then : IsSameButRooms r (record t { pool = r.pool })
+    rooms-then = record {
+      alloc = rooms.alloc;
+      run = rooms.run;
+      looks = rooms.looks;
+      pool = refl;
+      as_many = rooms.as_many ∙ ap length same;
+      instances = λ i c e was is. rooms.instances i c e (ap (λ l. slice_get l i) same ∙ was) is;
+      busy = rooms.busy;
+      jobs = rooms.jobs;
+      entries = rooms.entries;
+      capacity = rooms.capacity;
+      due = rooms.due;
+      failed = rooms.failed;
+      outs = rooms.outs;
+    }
+
+    pub before-given_up : IsAsBefore r (record t { pool = after })
+    before-given_up =
+        before-but_pool r (record t { pool = after }) (record { rooms = rooms-then; regions = regions-same })
+
+  -- the room is there for it to enter
+  pub is-entering : (mid : Nodes) (t : OpenRun) (o : Open) (jobs : Vec ℕ Global) (slot : Vec Open Global)
+      → IsSameButRooms (record with_room { pool = mid }) t → slot.items ≡ [] → 0 < vec_capacity slot → jobs.items ≡ []
+      → HasRoomBeside t (length o.seats.seats) → length jobs.items + length o.seats.seats ≤ vec_capacity jobs
+      → length t.instances.items < vec_capacity t.instances → IsEntering t jobs slot o
+  is-entering mid t o jobs slot rooms empty place none beside numbers instances = record {
+    instances = instances;
+    empty = empty;
+    place = place;
+    none_numbered = none;
+    numbers = let long = ap length none in omega (arith, long, numbers);
+    room = beside.jobs;
+    busy = let busy = beside.busy in omega (arith, busy);
+    entries = beside.entries;
+  }

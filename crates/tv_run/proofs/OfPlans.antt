@@ -1,0 +1,28 @@
+-- Each flow of a checked run has a plan.
+use Rattle.std.specs.Prelude.{◌≡◌, refl, ℕ, None, Option, Some, map, option_map, slice_get}
+use Rattle.std.proofs.Common.{ap, sym, ◌∙◌}
+use Rattle.std.proofs.lemmas.Option.{none-some, same_Some}
+use Rattle.tv_value.specs.Values.{Name}
+use Rattle.tv_flow.specs.Flows.{Document, Flow}
+use Rattle.tv_flow.specs.Views.{flow_view}
+use Rattle.tv_check.specs.FlowPlanViews.{flow_plan_view}
+use Rattle.tv_check.specs.Plans.{flow_plan}
+use Rattle.tv_check.specs.RunViews.{run_view}
+use Rattle.tv_check.specs.declared.plans.FlowPlan.{FlowPlan}
+use Rattle.tv_check.specs.declared.run.CheckedRun.{CheckedRun}
+use Rattle.tv_seated.proofs.OfLists.{get-image, of-image}
+use Rattle.tv_run.specs.Looks.{IsFlow}
+
+pub plan-there : (run : CheckedRun) (k : ℕ) (f : Flow) → IsFlow (run_view run) k f
+    → (p : FlowPlan) × (flow_view p.flow ≡ f)
+plan-there run k f h = by (slice_get (run_view run).flows k) refl h
+  where
+    by : (o : Option (Name × Flow)) → slice_get (run_view run).flows k ≡ o → option_map (λ x. x.1) o ≡ Some f
+        → (p : FlowPlan) × (flow_view p.flow ≡ f)
+    by None e h = absurd (none-some f h)
+    by (Some g) e h =
+        let w =
+        of-image flow_plan_view run.plans k (flow_plan g.1)
+        (ap (λ l. slice_get l k) run.kept.1.0
+        ∙ get-image (λ (x : Name × Flow). flow_plan x.1) (run_view run).flows k g e) in
+        (w.0, ap (λ q. q.flow) w.2 ∙ same_Some g.1 f h)

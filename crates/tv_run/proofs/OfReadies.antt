@@ -1,0 +1,68 @@
+-- An open instance is ready for an event by any plan of its flow.
+use Rattle.std.specs.Prelude.{◌≡◌, ℕ, List}
+use Rattle.std.proofs.Common.{sym}
+use Rattle.tv_value.specs.Values.{Name, Value}
+use Rattle.tv_flow.specs.Flows.{Document, Flow, Step}
+use Rattle.tv_flow.specs.Views.{flow_view}
+use Rattle.tv_check.specs.declared.plans.FlowPlan.{FlowPlan}
+use Rattle.tv_outputs.specs.Known.{Nodes}
+use Rattle.tv_instance.specs.Events.{Event}
+use Rattle.tv_framing.specs.Views.{View}
+use Rattle.tv_frame.specs.Calls.{IsReadyToSettle}
+use Rattle.tv_frame.specs.Prepared.{IsReadyFor}
+use Rattle.tv_frame.specs.declared.frame.Frame.{Frame}
+use Rattle.tv_seats.specs.Seats.{Seat}
+use Rattle.tv_open.specs.Events.{IsReadyToGive, IsReadyToSettleAt}
+use Rattle.tv_open.specs.declared.events.Spot.{Spot}
+use Rattle.tv_open.specs.declared.open.Open.{Open}
+use Rattle.tv_run.proofs.OfOpens.{keeps-any, open-any}
+
+ready-for_plan :
+    (flows : List (Name × Flow)) (plan other : FlowPlan) (pool : Nodes) (f : Frame) (v : View) (n : ℕ) (s : Name × Step)
+    (e : Event) → flow_view other.flow ≡ v.flow → IsReadyFor flows plan pool f v n s e → IsReadyFor flows other pool f v n s e
+ready-for_plan flows plan other pool f v n s e h k = record {
+  keeps = keeps-any flows plan other pool f v h k.keeps;
+  next = k.next;
+  at = k.at;
+  named = k.named;
+  room = k.room;
+  from = k.from;
+  turns = k.turns;
+  whole = k.whole;
+  told = k.told;
+  show = k.show;
+  outs = k.outs;
+}
+
+pub give-by_plan :
+    (d : Document) (plan other : FlowPlan) (pool : Nodes) (o : Open) (v : View) (s : Seat) (t : Name × Step) (vs : List Value)
+    (x : Spot) → flow_view other.flow ≡ v.flow → IsReadyToGive d plan pool o v s t vs x
+    → IsReadyToGive d other pool o v s t vs x
+give-by_plan d plan other pool o v s t vs x h k = record {
+  is_open = open-any d plan other pool o v h k.is_open;
+  step = k.step;
+  place = k.place;
+  ready = ready-for_plan d.flows plan other pool o.frame v s.step t _ h k.ready;
+  brings = k.brings;
+  room = k.room;
+}
+
+pub settle-by_plan :
+    (d : Document) (plan other : FlowPlan) (pool : Nodes) (o : Open) (v : View) (e : Event) (more : ℕ)
+    → flow_view other.flow ≡ v.flow → IsReadyToSettleAt d plan pool o v e more → IsReadyToSettleAt d other pool o v e more
+settle-by_plan d plan other pool o v e more h k = record {
+  is_open = open-any d plan other pool o v h k.is_open;
+  number = k.number;
+  step = k.step;
+  ready = record {
+    ready = ready-for_plan d.flows plan other pool o.frame v k.number k.step e h k.ready.ready;
+    outcome = k.ready.outcome;
+    last = k.ready.last;
+    settles = k.ready.settles;
+    place = k.ready.place;
+    pieces = k.ready.pieces;
+  };
+  can = k.can;
+  brings = k.brings;
+  room = k.room;
+}

@@ -1,0 +1,31 @@
+use Rattle.std.specs.Prelude.{Some, length, ◌*◌, ◌+◌, ◌≡◌}
+use Rattle.tv_gate.specs.Outcomes.{Giving}
+use Rattle.tv_framing.specs.Views.{View}
+use Rattle.tv_forest.specs.Forest.{Instance, Instances, IsAt}
+use Rattle.tv_run.specs.Standing.{Stands}
+use Rattle.tv_run.specs.Walking.{IsOwn}
+use Rattle.tv_run.proofs.OfWalkInside.{NoneOfFirst}
+use Rattle.tv_run.proofs.OfWalkSteps.{NoneAmong}
+use Rattle.tv_run.proofs.run.OpenRun.+walk.Given as goal
+
+abbrev pub decreases-first_in : goal.decreases-first_in
+decreases-first_in l = 3 * l.levels + 2
+
+abbrev pub decreases-first_at : goal.decreases-first_at
+decreases-first_at l = 3 * l.levels + 1
+
+abbrev pub decreases-first_inside : goal.decreases-first_inside
+decreases-first_inside l = 3 * l.levels
+
+abbrev pub invariant-first_in-loop-step : goal.invariant-first_in-loop-step
+invariant-first_in-loop-step l =
+    (gives : Giving) (xs : Instances) (x : Instance) (v : View) → Stands gives l.self xs → IsAt xs l.instance x
+    → x.view ≡ Some v → length x.name + l.levels ≡ 8
+    → NoneOfFirst gives l.self xs l.seeking l.instance x v l.step-index
+
+abbrev pub invariant-first_inside-loop-number : goal.invariant-first_inside-loop-number
+invariant-first_inside-loop-number l =
+    (gives : Giving) (xs : Instances) (x : Instance) (v : View) → Stands gives l.self xs → IsAt xs l.instance x
+    → x.view ≡ Some v → length x.name + l.levels ≡ 8
+    → IsOwn gives l.self xs l.seeking l.instance x l.step l.own
+    → NoneAmong gives l.self xs l.seeking l.instance x l.number-items l.number-index

@@ -1,0 +1,70 @@
+use Rattle.std.proofs.Common.{arith}
+use Rattle.tv_check.specs.RunViews.{run_view}
+use Rattle.tv_run.proofs.OfEnding.{open-some}
+use Rattle.tv_run.proofs.OfItself.{number-low, open-low}
+use Rattle.tv_run.proofs.OfShut.{changes-closed, closes, names-closed, popped-is, with_closed}
+use Rattle.tv_run.proofs.run.OpenRun.close.Goals as goal
+
+pub index_mut-ended-requires : goal.index_mut-ended-requires
+index_mut-ended-requires c =
+    let q = c.requires in
+    let r = c.args.self.now in
+    let low = number-low r c.args.instance q.0 q.1 q.2 q.3 in
+    omega (arith, low, r.instances.ok.0)
+
+pub finish-outs-requires : goal.finish-outs-requires
+finish-outs-requires c =
+    let q = c.requires in
+    let r = c.args.self.now in
+    let i = c.args.instance in
+    let same =
+    popped-is r i q.0 q.1 q.2 q.3 c.index_mut-ended.result.now c.index_mut-ended.ensures.value c.pop.new.self.items
+    c.in-Some.itself c.in-Some.ensures.items in
+    let w = open-some r i q.0 q.1 q.2 q.3 c.in-Some.itself same in
+    record { ended = (run_view r.run, w.0, q.2, w.1, q.4) }
+
+pub unreachable-requires : goal.unreachable-requires
+unreachable-requires c =
+    let q = c.requires in
+    let g = c.index_mut-ended.result.now in
+    let low =
+    open-low c.args.self.now c.args.instance q.0 q.1 q.2 q.3 g c.index_mut-ended.ensures.value in
+    let none = c.in-None.ensures.cases in
+    omega (arith, low, none.0, g.open.ok.0)
+
+pub returns-clause-outputs : goal.returns-clause-outputs
+returns-clause-outputs c = λ xs x v here ends.
+    let r = c.args.self.now in
+    let i = c.args.instance in
+    let same =
+    popped-is r i xs x v here c.index_mut-ended.result.now c.index_mut-ended.ensures.value c.pop.new.self.items
+    c.in-Some.itself c.in-Some.ensures.items in
+    let w = open-some r i xs x v here c.in-Some.itself same in
+    c.finish-outs.ensures.outputs (run_view r.run) w.0 v w.1
+
+pub returns-clause-shut : goal.returns-clause-shut
+returns-clause-shut c = λ xs x v here ends.
+    let r = c.args.self.now in
+    let i = c.args.instance in
+    let g = c.index_mut-ended.result.now in
+    let p = c.in-Some.itself in
+    let same =
+    popped-is r i xs x v here g c.index_mut-ended.ensures.value c.pop.new.self.items p c.in-Some.ensures.items in
+    changes-closed r i xs x v here _ g c.index_mut-ended.ensures.value p same
+    (closes r i g p c.new.result c.new.ensures.items c.finish-outs.result.1 c.finish-outs.ensures.seats
+    c.finish-outs.new.pool c.finish-outs.ensures.gone)
+
+pub returns-clause-names : goal.returns-clause-names
+returns-clause-names c =
+    let q = c.requires in
+    let r = c.args.self.now in
+    let i = c.args.instance in
+    let g = c.index_mut-ended.result.now in
+    let p = c.in-Some.itself in
+    let same =
+    popped-is r i q.0 q.1 q.2 q.3 g c.index_mut-ended.ensures.value c.pop.new.self.items p c.in-Some.ensures.items in
+    names-closed r i q.0 q.1 q.2 q.3
+    (with_closed r i g c.new.result c.finish-outs.result.1 c.finish-outs.new.pool)
+    g c.index_mut-ended.ensures.value p same
+    (closes r i g p c.new.result c.new.ensures.items c.finish-outs.result.1 c.finish-outs.ensures.seats
+    c.finish-outs.new.pool c.finish-outs.ensures.gone)

@@ -1,0 +1,37 @@
+use Rattle.std.proofs.Common.{ap, map, ◌∙◌}
+use Rattle.std.specs.Prelude.{length, ◌≡◌}
+use Rattle.tv_value.specs.Values.{Text}
+use Rattle.tv_check.specs.RunViews.{run_view}
+use Rattle.tv_generated.specs.Summaries.{summary_text}
+use Rattle.tv_model.specs.Meanings.{meaning}
+use Rattle.tv_model.specs.Results.{result_line}
+use Rattle.tv_model.specs.Totals.{totals}
+use Rattle.tv_model.specs.TotalsViews.{totals_view}
+use Rattle.tv_model.specs.Turns.{ask_order}
+use Rattle.tv_report.specs.ResultLines.{line_of_result}
+use Rattle.tv_top.proofs.Plainly.{line-plain}
+use Rattle.tv_work.specs.Asked.{call_of}
+use Rattle.tv_work.proofs.OfAsked.{on-err}
+use Rattle.tv_top.proofs.Questions.{all-begin}
+use Rattle.tv_top.proofs.answering.summary_of_run.Goals as goal
+
+pub returns-clause-line : goal.returns-clause-line
+returns-clause-line g c =
+    let m = meaning g.A.Services.Services.gives (run_view c.args.run) in
+    let line : c.in_ok-line.line ≡ result_line m =
+    c.in_ok-line.ensures
+    ∙ ap (λ os. line_of_result os (totals_view c.in_ok-outputs.totals)) c.in_ok-outputs.ensures.run.0
+    ∙ line-plain m.outputs (totals_view c.in_ok-outputs.totals)
+    ∙ ap (line_of_result m.outputs) c.in_ok-outputs.ensures.run.1 in
+    c.in_ok-summary.ensures
+    ∙ ap (λ t. summary_text c.args.number t (length c.as_str.result.now)) c.in_ok-outputs.ensures.run.1
+    ∙ ap (λ (t : Text). summary_text c.args.number (totals m.jobs) (length t)) (c.as_str.ensures ∙ line)
+
+-- all was asked, and a text found no memory
+pub returns-in_err-line-clause-begun : goal.returns-in_err-line-clause-begun
+returns-in_err-line-clause-begun g c =
+    on-err c.from_residual-in_err-line.result (all-begin (g.A.Asker.calls c.args.asker.now) (g.A.Asker.calls c.run_whole.new.asker) (map call_of (ask_order (meaning g.A.Services.Services.gives (run_view c.args.run)))) c.in_ok-outputs.ensures.asked)
+
+pub returns-in_err-summary-clause-begun : goal.returns-in_err-summary-clause-begun
+returns-in_err-summary-clause-begun g c =
+    on-err c.from_residual-in_err-summary.result (all-begin (g.A.Asker.calls c.args.asker.now) (g.A.Asker.calls c.run_whole.new.asker) (map call_of (ask_order (meaning g.A.Services.Services.gives (run_view c.args.run)))) c.in_ok-outputs.ensures.asked)
