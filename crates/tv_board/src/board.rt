@@ -109,8 +109,9 @@ impl<V: Services> Board<V> {
         self.run.is_lawful();
     }
 
-    /// Bounces a job that can be, or else closes a list or passes a fault that can be, or else ends the run where it can
-    /// end; `false` where none of these can be.
+    /// Bounces a job that can be, or else closes a list or passes a fault that can be, or else ends an instance that can end, the
+    /// main one's end being the run's; or else opens the flow of the first job that goes on, where it has one next; `false` where
+    /// none of these can be.
     pub fn settle_one(&mut self) -> Result<bool, NoMemory>
         ensures settled { IfOk result (λ b. IsSettling V.gives self.old self.new b) }
         ensures refused { OnErr result (self.new ≡ self.old) }
@@ -196,6 +197,13 @@ impl<V: Services> Board<V> {
         ensures { IfOk result (λ os. each view os ≡ map (λ o. (o.0, plain o.1)) (meant V.gives self.now).outputs) }
     {
         self.run.outputs()
+    }
+
+    /// How many nodes the pool keeps for the open instances: none once the run is done. Constant. Takes no memory.
+    pub fn live(&self) -> u64
+        ensures { is_done (past_of self.now) ≡ true → result ≡ 0 }
+    {
+        self.run.live()
     }
 
     /// The totals of the history so far: its accepted outcomes and bounced jobs, and of the settled jobs how many there are

@@ -40,6 +40,7 @@ pub mod OfLeaving
 pub mod OfLeft
 pub mod OfLevelSettled
 pub mod OfLevels
+pub mod OfLive
 pub mod OfLooking
 pub mod OfMoved
 pub mod OfNamedValues

@@ -168,7 +168,7 @@ module _ (gives : Giving) (r : OpenRun) (xs : Instances) (st : Stands gives r xs
 -- ---- ended or not
 
 -- where there are outputs the main instance has ended
-shut-main : (gives : Giving) (r : OpenRun) (xs : Instances) (st : Stands gives r xs) → is_some r.outs ≡ true
+pub shut-main : (gives : Giving) (r : OpenRun) (xs : Instances) (st : Stands gives r xs) → is_some r.outs ≡ true
     → (x : Instance) × IsAt xs 0 x × (x.view ≡ None)
 shut-main gives r xs st some =
     let x = st.stand.main in

@@ -9,6 +9,7 @@ ghost use Rattle.tv_strategy.specs.Origins.{plain};
 ghost use Rattle.tv_cell.specs.PieceValues.{piece_values};
 ghost use Rattle.tv_cell.specs.Soundness.{AreSound};
 ghost use Rattle.tv_model.specs.TotalsViews.{totals_view};
+ghost use Rattle.tv_pool.specs.Pool.{live_count};
 ghost use Rattle.tv_history.specs.Histories.{is_done, is_settled};
 ghost use Rattle.tv_entries.specs.Calls.{totals_so_far};
 ghost use Rattle.tv_entries.specs.Counted.{is_acceptance, is_bounce};
@@ -100,6 +101,15 @@ impl OpenRun {
             ),
             None => unreachable!(),
         }
+    }
+
+    /// How many nodes the open instances keep: none once the run is done. Constant.
+    pub fn live(&self) -> u64
+        ensures counted { result ≡ live_count self.now.pool.regions }
+        ensures done { (gives : Giving) → StandsStill gives self.now
+            → is_done (past_of (run_of self.now)) ≡ true → result ≡ 0 }
+    {
+        self.pool.live()
     }
 
     /// How many jobs are settled. Linear in the jobs.
