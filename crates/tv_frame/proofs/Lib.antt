@@ -61,3 +61,5 @@ pub mod OfReady
 pub mod OfReadySteps
 pub mod OfReadyFirst
 pub mod OfJobInputs
+pub mod OfLists
+pub mod OfPlanLevels

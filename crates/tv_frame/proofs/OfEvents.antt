@@ -62,8 +62,8 @@ module _ (flows : List (Name × Flow)) (plan : FlowPlan) (pool : Nodes) (f : Fra
   step-so : n < length v.flow.steps
   step-so = slice_get_within v.flow.steps n s r.at
 
-  pub firsts-read : n < f.tables.firsts.len
-  firsts-read = subst (λ m. n < m) (sym f.tables.firsts.ok.0) (firsts-within flows plan pool f v n s k r.at)
+  pub firsts-read : n < length f.tables.firsts.items
+  firsts-read = firsts-within flows plan pool f v n s k r.at
 
   number-so : event_number v e ≡ n
   number-so = number-is flows plan pool f v n s k r.at e r.next r.named

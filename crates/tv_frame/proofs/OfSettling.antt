@@ -87,8 +87,8 @@ module _ (flows : List (Name × Flow)) (plan : FlowPlan) (pool : Nodes) (f : Fra
   place-of (Closed m) = refl
   place-of (Passed l) = refl
 
-  pub settle-reads : step < f.tables.firsts.len
-  settle-reads = subst (λ i. i < f.tables.firsts.len) (sym step-is) (firsts-read flows plan pool f v n s e h.ready)
+  pub settle-reads : step < length f.tables.firsts.items
+  settle-reads = subst (λ i. i < length f.tables.firsts.items) (sym step-is) (firsts-read flows plan pool f v n s e h.ready)
 
   pub settle-turns : f.ahead.whole ≡ true → CanTurnWhole plan.wiring step f.endings
   settle-turns w = subst (λ i. CanTurnWhole plan.wiring i f.endings) (sym step-is) (can-turn flows plan pool f v n s e h.ready w)

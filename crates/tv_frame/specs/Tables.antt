@@ -48,9 +48,12 @@ step_starts f s = starts (number_of (mismatches f s.1)) 0 (strategy_of s.1)
 
 -- ---- all of it
 
--- the tables of a flow: first trees, starts, the steps with the greatest rank first, and constants
+-- the tables of a flow: first trees, starts, the steps with the greatest rank first, the levels of each step, the depth of
+-- each tree, and constants
 pub record AreTables (f : Flow) (t : Tables) : Type 0 where
   pub firsts_are : t.firsts.items ≡ map (first_tree f.steps) (range_with_len 0 (length f.steps))
   pub starts_are : map (λ is. is.items) t.starts.items ≡ map (λ s. map (λ x. x.1) (step_starts f s)) f.steps
   pub order_is : t.order.items ≡ by_falling_rank f
+  pub levels_are : t.levels.items ≡ map (λ s. levels_in f s.0) f.steps
+  pub depths_are : t.depths.items ≡ tree_depths f
   pub constants_are : constants_view t.constants ≡ flow_constants f

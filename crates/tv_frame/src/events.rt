@@ -67,7 +67,7 @@ impl Frame {
         ensures regions { KeepsRegions pool.old pool.new (number_of self.old.region) }
         ensures region { self.new.region ≡ self.old.region }
     {
-        let first = self.tables.firsts[step as usize];
+        let first = self.tables.first_tree(step);
         self.put(pool, first, place, outputs);
         self.show(plan, step);
     }
@@ -111,7 +111,7 @@ impl Frame {
         let Some(place) = self.ahead.place.take() else {
             unreachable!()
         };
-        let first = self.tables.firsts[step as usize];
+        let first = self.tables.first_tree(step);
         self.intakes.settle_last();
         match kind {
             Kind::Closed(length) => {

@@ -21,7 +21,7 @@ ghost use Rattle.tv_frame.specs.Started.{AreFirstOuts, AreParts};
 ghost use Rattle.tv_frame.specs.Tables.{AreTables, levels_in, tree_depths};
 
 use crate::starting::start_steps;
-use crate::tables::{Tables, tables_of, tree_depths};
+use crate::tables::{FlowTables, Tables};
 use std::alloc::Global;
 use tv_bound::{Sources, flow_outputs};
 use tv_cell::{Piece, Pieces};
@@ -39,7 +39,7 @@ use tv_value::{NoMemory, Place};
 pub struct Frame {
     pub(crate) alloc: Global,
     pub(crate) region: Region,
-    pub(crate) tables: Tables,
+    pub(crate) tables: FlowTables,
     pub(crate) inputs: Pieces,
     // For each input of the flow whether it holds a fault.
     pub(crate) faulty_inputs: Vec<bool>,
@@ -66,20 +66,22 @@ pub(crate) struct Ahead {
 }
 
 impl Frame {
-    /// The instance of a flow on its inputs, told nothing yet. Puts the flow's constants into cells. Known jobs are numbered
+    /// The instance of a flow on its inputs, told nothing yet. Takes the flow's tables, which it shares. Known jobs are numbered
     /// from 0 in the order in which they become known. An instance of a flow without steps has ended at once.
     ///
-    /// Its nodes stand in a region that is new in the pool. Linear in the flow with its constants, and in the inputs, which are looked
-    /// through for faults.
+    /// Its nodes stand in a region that is new in the pool. Linear in the flow, and in the inputs, which are looked through for
+    /// faults.
     pub fn start(
         alloc: Global,
         plan: &FlowPlan,
+        tables: &FlowTables,
         inputs: Pieces,
         pool: &mut Nodes,
     ) -> Result<Frame, NoMemory>
         requires can { (flows : List (Name × Flow))
             × CanStart flows plan.now (piece_values inputs) }
         requires sound { AreSound inputs }
+        requires tables { AreTables (flow_view plan.now.flow) tables.now }
         ensures ok { IfOk result (λ f. (flows : List (Name × Flow))
             → CanStart flows plan.now (piece_values inputs)
             → Starts flows plan.now (piece_values inputs) pool.new f) }
@@ -87,13 +89,12 @@ impl Frame {
         ensures kept { IfOk result (λ f. KeepsRegions pool.old pool.new (number_of f.region)) }
         ensures refused { OnErr result (SameRegions pool.old pool.new) }
     {
-        let parts = parts_of(alloc, plan, inputs.as_slice())?;
-        let depths = tree_depths(alloc, plan)?;
+        let parts = parts_of(alloc, plan, tables, inputs.as_slice())?;
         let region = match pool.begin() {
             Ok(region) => region,
             Err(_full) => return Err(NoMemory),
         };
-        match Outputs::start(alloc, pool, &region, depths.as_slice()) {
+        match Outputs::start(alloc, pool, &region, tables.depths()) {
             Ok(outputs) => Frame::begun(alloc, plan, inputs, pool, parts, region, outputs),
             Err(error) => {
                 pool.release(region);
@@ -132,7 +133,7 @@ impl Frame {
         match first_outs(
             alloc,
             plan,
-            &parts.tables,
+            parts.tables.read(),
             inputs.as_slice(),
             &outputs,
             pool,
@@ -176,7 +177,7 @@ impl Frame {
         ensures { (flows : List (Name × Flow)) (plan : ThePlan) (pool : TheNodes) (v : View)
             → Keeps flows plan pool self.now v → result.now ≡ by_falling_rank v.flow }
     {
-        self.tables.order.as_slice()
+        self.tables.order()
     }
 
     /// The flow's outputs, once the instance has ended.
@@ -217,23 +218,29 @@ impl Frame {
 /// What a frame has of its flow and inputs.
 #[derive(Drop)]
 struct Parts {
-    tables: Tables,
+    tables: FlowTables,
     faulty_inputs: Vec<bool>,
     intakes: Intakes,
     idle: Idle,
     endings: Endings,
 }
 
-fn parts_of(alloc: Global, plan: &FlowPlan, inputs: &[Piece]) -> Result<Parts, NoMemory>
+fn parts_of(
+    alloc: Global,
+    plan: &FlowPlan,
+    tables: &FlowTables,
+    inputs: &[Piece],
+) -> Result<Parts, NoMemory>
     requires can { (flows : List (Name × Flow))
         × CanStart flows plan.now (piece_values inputs.now) }
+    requires tables { AreTables (flow_view plan.now.flow) tables.now }
     ensures { IfOk result (λ p. AreParts plan.now inputs.now p) }
 {
-    let tables = tables_of(alloc, plan)?;
+    let tables = tables.share()?;
     let faulty_inputs = faults_of(alloc, inputs)?;
     let mut intakes = Intakes::new(alloc);
     let mut idle = Idle::new(alloc);
-    start_steps(alloc, plan, &tables, inputs, &mut intakes, &mut idle)?;
+    start_steps(alloc, plan, tables.read(), inputs, &mut intakes, &mut idle)?;
     let endings = Endings::start(alloc, plan.wiring.after.as_slice())?;
     Ok(Parts {
         tables,

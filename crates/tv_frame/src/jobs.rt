@@ -138,7 +138,7 @@ impl Frame {
             self.now.tables.order.items (option_map (λ a. (a.0, a.1.now)) after.entry) }
         ensures few { IfSome result (λ n. n < 2 ^ 32) }
     {
-        let order = self.tables.order.as_slice();
+        let order = self.tables.order();
         match first_ready(&self.idle, &self.endings, &plan.wiring, order, after) {
             Some(number) => Some(number as u64),
             None => None,
@@ -237,7 +237,7 @@ impl Frame {
         job_inputs(
             alloc,
             &self.sources(pool),
-            &self.tables.constants,
+            self.tables.constants(),
             &ports,
             &place,
         )
@@ -253,9 +253,9 @@ impl Frame {
     {
         let (step, place, _) = self.intakes.job(number as usize);
         let ports = ports_at(plan, step as usize);
-        let starts = self.tables.starts[step as usize].as_slice();
+        let starts = self.tables.read().starts[step as usize].as_slice();
         let sources = self.sources(pool);
-        let constants = &self.tables.constants;
+        let constants = self.tables.constants();
         job_binds(&sources, constants, &ports, starts, place, values)
     }
 }

@@ -7,7 +7,7 @@
 //! An event comes in two halves. `room_for_result` and `room_for_settle` take all memory that it needs, and tell how many
 //! jobs it will make known; they may be refused, and then nothing has changed but rooms. `result` and `settle` take no memory.
 //!
-//! - `tables`: what a frame looks up of its flow
+//! - `tables`: what the frames of a flow look up of it, made once and shared
 //! - `frame`: the frame, its start and its end
 //! - `starting`: what the steps are told at the start
 //! - `rooms`, `events`: both halves of an event
@@ -26,3 +26,4 @@ mod tables;
 pub use events::Settled;
 pub use frame::Frame;
 pub use jobs::FrameJob;
+pub use tables::FlowTables;

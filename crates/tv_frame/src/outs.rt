@@ -65,7 +65,7 @@ impl Frame {
         flow_outputs_over(
             self.alloc,
             &self.sources(pool),
-            &self.tables.constants,
+            self.tables.constants(),
             plan.wiring.outputs.as_slice(),
             &coming,
         )

@@ -72,7 +72,7 @@ impl Frame {
             → MayGive v s place.now (piece_values outputs.now)
             → Brings v (gave s.0 place.now (piece_values outputs.now)) n) }
     {
-        let first = self.tables.firsts[step as usize];
+        let first = self.tables.first_tree(step);
         let trees = trees_of(plan, step as usize);
         self.outputs.reserve(pool, first, trees)?;
         let mut faults = Vec::new(self.alloc);
@@ -162,7 +162,7 @@ impl Frame {
             → CanSettle v (closed s.0 place.now length)
             → Brings v (closed s.0 place.now length) n) }
     {
-        let first = self.tables.firsts[step as usize];
+        let first = self.tables.first_tree(step);
         let trees = trees_of(plan, step as usize);
         self.outputs.reserve(pool, first, trees)?;
         let mut faults = Vec::new(self.alloc);
@@ -213,7 +213,7 @@ impl Frame {
             × HasPieces v s (fault_set s.0 place.now d) self.new.ahead.pieces
             × Brings v (fault_set s.0 place.now d) n) }
     {
-        let first = self.tables.firsts[step as usize];
+        let first = self.tables.first_tree(step);
         let trees = trees_of(plan, step as usize);
         let pieces = self.passed_pieces(plan, pool, step as usize, place, leaf)?;
         self.outputs.reserve(pool, first, trees)?;
@@ -249,7 +249,7 @@ impl Frame {
         ensures count { IfOk result (λ n. n
             ≡ new_count self.new.intakes self.new.spread.touched.items) }
     {
-        let first = self.tables.firsts[step as usize];
+        let first = self.tables.first_tree(step);
         let mut faults = Vec::new(self.alloc);
         self.outputs
             .faults_by_arrival(pool, first, place, pieces, &mut faults)?;
@@ -302,7 +302,7 @@ impl Frame {
             endings: &self.endings,
             outputs: &self.outputs,
             pool,
-            firsts: self.tables.firsts.as_slice(),
+            firsts: self.tables.firsts(),
             faulty_inputs: self.faulty_inputs.as_slice(),
         };
         self.spread.hold(
@@ -398,11 +398,11 @@ impl Frame {
             → (d : ErrorDoc) × (piece_value p ≡ fault_value d)
             × CanSettle v (fault_set s.0 place.now d)) }
     {
-        let start = self.tables.starts[step][leaf as usize] as usize;
+        let start = self.tables.read().starts[step][leaf as usize] as usize;
         let inside = Place::of(self.alloc, rest_of(place.as_slice(), start))?;
         let ports = plan.wiring.ports.as_slice()[step].as_slice();
         let number = port_of(ports, leaf);
-        let constant = self.tables.constants.of_port(step, number);
+        let constant = self.tables.constants().of_port(step, number);
         let sources = self.sources(pool);
         feed_piece(self.alloc, &sources, &ports[number].feed, constant, &inside)
     }
@@ -418,7 +418,7 @@ impl Frame {
             inputs: self.inputs.as_slice(),
             outputs: &self.outputs,
             pool,
-            firsts: self.tables.firsts.as_slice(),
+            firsts: self.tables.firsts(),
         }
     }
 }

@@ -1,7 +1,5 @@
-pub mod OfLists
 pub mod OfKnownJobs
 pub mod OfSeating
-pub mod OfPlanLevels
 pub mod OfSeats
 pub mod OfSitting
 pub mod OfOpen

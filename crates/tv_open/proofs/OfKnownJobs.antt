@@ -37,7 +37,7 @@ use Rattle.tv_frame.proofs.OfIdling.{stands}
 use Rattle.tv_frame.proofs.OfJobInputs.{job-deep}
 use Rattle.tv_frame.proofs.OfKeeping.{kept-ranked}
 use Rattle.tv_seated.proofs.OfLists.{get-image, is-member, of-image}
-use Rattle.tv_open.proofs.OfLists.{same-maps}
+use Rattle.tv_frame.proofs.OfLists.{same-maps}
 
 -- the job of a spot, by the number of its step
 abbrev pub numbered_job : List (Name × Step) → Name × Place → ℕ × Place

@@ -15,14 +15,14 @@ ghost use Rattle.tv_framing.specs.Views.{View};
 ghost use Rattle.tv_turn.specs.FirstReady.{by_falling_rank};
 ghost use Rattle.tv_frame.specs.Calls.{CanStart, SameRegions, Starts};
 ghost use Rattle.tv_frame.specs.Kept.{AreOuts};
-ghost use Rattle.tv_frame.specs.Tables.{levels_in};
+ghost use Rattle.tv_frame.specs.Tables.{AreTables, levels_in};
 ghost use Rattle.tv_open.specs.Seating.{AllSit, CanSit, IsKept, seat_for};
 ghost use Rattle.tv_open.specs.Standing.{IsOpen, StartsOpen};
 
 use std::alloc::Global;
 use tv_cell::Pieces;
 use tv_check::FlowPlan;
-use tv_frame::Frame;
+use tv_frame::{FlowTables, Frame};
 use tv_outputs::Nodes;
 use tv_seats::Seats;
 use tv_value::NoMemory;
@@ -32,19 +32,6 @@ use tv_value::NoMemory;
 pub struct Open {
     pub(crate) frame: Frame,
     pub(crate) seats: Seats,
-}
-
-/// The levels that the iteration of each step has.
-fn levels_of(alloc: Global, plan: &FlowPlan) -> Result<Vec<u32>, NoMemory>
-    ensures { IfOk result (λ ls. ls.items
-        ≡ map (λ s. levels_in (flow_view plan.now.flow) s.0) (flow_view plan.now.flow).steps) }
-{
-    let steps = plan.steps.as_slice();
-    let mut levels = Vec::with_capacity(alloc, steps.len())?;
-    for step in steps {
-        levels.push(step.depth)?;
-    }
-    Ok(levels)
 }
 
 /// The jobs that a frame knows and that have no seat sit down. Takes no memory.
@@ -109,16 +96,19 @@ fn seated(
 }
 
 impl Open {
-    /// The instance of a plan's flow on its inputs, told nothing, in a region that is new in the pool. Linear in the flow, and in the
-    /// inputs, which are looked through for faults. A refusal leaves the pool's regions as they were.
+    /// The instance of a plan's flow on its inputs, told nothing, in a region that is new in the pool. Takes the flow's tables, which
+    /// it shares. Linear in the flow, and in the inputs, which are looked through for faults. A refusal leaves the pool's regions as
+    /// they were.
     pub fn start(
         alloc: Global,
         plan: &FlowPlan,
+        tables: &FlowTables,
         inputs: Pieces,
         pool: &mut Nodes,
     ) -> Result<Open, NoMemory>
         requires can { (d : Document) × CanStart d.flows plan.now (piece_values inputs) }
         requires sound { AreSound inputs }
+        requires tables { AreTables (flow_view plan.now.flow) tables.now }
         ensures ok { IfOk result (λ o. (d : Document)
             → CanStart d.flows plan.now (piece_values inputs)
             → StartsOpen d plan.now (piece_values inputs) pool.new o) }
@@ -126,9 +116,8 @@ impl Open {
         ensures kept { IfOk result (λ o. KeepsRegions pool.old pool.new (number_of o.frame.region)) }
         ensures refused { OnErr result (SameRegions pool.old pool.new) }
     {
-        let levels = levels_of(alloc, plan)?;
-        let seats = Seats::start(alloc, levels.as_slice())?;
-        let frame = Frame::start(alloc, plan, inputs, pool)?;
+        let seats = Seats::start(alloc, tables.levels())?;
+        let frame = Frame::start(alloc, plan, tables, inputs, pool)?;
         seated(frame, seats, plan, pool)
     }
 

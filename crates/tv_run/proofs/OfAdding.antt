@@ -1,20 +1,22 @@
 -- An instance is added to a run: where that is refused, the run is as it was.
 use Rattle.std.specs.Global.{Global}
-use Rattle.std.specs.Prelude.{◌≡◌, refl, ℕ, ◌+◌, ◌<◌, ◌≤◌, [], Err, Ok, None, OnErr, Option, Result, Some, Vec, length, option_map, slice_get, vec_capacity}
-use Rattle.std.proofs.Common.{ap, arith, subst, sym, ◌∙◌}
-use Rattle.std.proofs.lemmas.Option.{none-some, same_Some, slice_get_within}
+use Rattle.std.specs.Prelude.{◌≡◌, refl, ℕ, ◌+◌, ◌<◌, ◌≤◌, [], Err, List, Ok, None, OnErr, Option, Result, Some, Vec, length, option_map, slice_get, vec_capacity}
+use Rattle.std.proofs.Common.{ap, arith, get_or, subst, sym, ◌∙◌}
+use Rattle.std.proofs.lemmas.Option.{none-some, same_Some, slice_get-get_or, slice_get_within}
 use Rattle.tv_value.specs.Values.{Name}
 use Rattle.tv_flow.specs.Flows.{Document, Flow}
 use Rattle.tv_frame.specs.Calls.{SameRegions}
+use Rattle.tv_frame.specs.Tables.{AreTables}
 use Rattle.tv_pool.specs.Pool.{number_of, regions_with}
 use Rattle.tv_nodes.specs.Calls.{KeepsRegions}
 use Rattle.tv_open.proofs.OfRegions.{given-up}
 use Rattle.tv_open.specs.declared.open.Open.{Open}
 use Rattle.tv_outputs.specs.Known.{Nodes}
 use Rattle.tv_run.specs.Following.{IsEntering}
-use Rattle.tv_run.specs.Looks.{IsFlow}
+use Rattle.tv_run.specs.Looks.{AreLooks, IsFlow}
 use Rattle.tv_run.specs.Rooms.{HasRoomBeside, IsAsBefore, IsSameButRooms, IsSameInstance}
 use Rattle.tv_run.specs.declared.instances.Instance as code
+use Rattle.tv_run.specs.declared.plans.FlowLook.{FlowLook}
 use Rattle.tv_run.specs.declared.run.OpenRun.{OpenRun}
 use Rattle.tv_run.proofs.OfRooms.{before-but_pool}
 
@@ -30,6 +32,21 @@ flow-low d k f e = by (slice_get d.flows k) refl e
     by : (o : Option (Name × Flow)) → slice_get d.flows k ≡ o → option_map (λ x. x.1) o ≡ Some f → k < length d.flows
     by None a h = absurd (none-some f h)
     by (Some x) a h = slice_get_within d.flows k x a
+
+-- what is looked up of a flow by its number has its tables
+module _ (d : Document) (looks : List FlowLook) (are : AreLooks d looks) (k : ℕ) (f : Flow) (is : IsFlow d k f) where
+  pub looks-low : k < length looks
+  looks-low = subst (λ n. k < n) (sym are.as_many) (flow-low d k f is)
+
+  pub tables-are : (l : FlowLook) → l ≡ get_or looks k l → AreTables f l.tables
+  tables-are l e = by (slice_get d.flows k) refl is
+    where
+      there : slice_get looks k ≡ Some l
+      there = slice_get-get_or looks k l looks-low ∙ ap Some (sym e)
+
+      by : (o : Option (Name × Flow)) → slice_get d.flows k ≡ o → option_map (λ x. x.1) o ≡ Some f → AreTables f l.tables
+      by None a h = absurd (none-some f h)
+      by (Some x) a h = subst (λ g. AreTables g l.tables) (same_Some x.1 f h) (are.each k x l a there).tables
 
 same-instance : (c : code.Instance) → IsSameInstance c c
 same-instance c = record { flow = refl; opener = refl; jobs = refl; is_busy = refl; opened = refl; seats = refl }

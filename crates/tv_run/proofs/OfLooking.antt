@@ -1,6 +1,5 @@
 -- What is looked up of the document, one after another.
-use Rattle.std.specs.Global.{Global}
-use Rattle.std.specs.Prelude.{◌≡◌, refl, ℕ, zero, suc, ◌+◌, ◌<◌, ◌≤◌, ◌&&◌, ◌++◌, true, false, Bool, if◌then◌else◌, List, [], ◌∷◌, None, Option, Some, Vec, drop, get_or, length, map, slice_get}
+use Rattle.std.specs.Prelude.{◌≡◌, refl, ℕ, zero, suc, ◌+◌, ◌<◌, ◌≤◌, ◌&&◌, ◌++◌, true, false, Bool, if◌then◌else◌, List, [], ◌∷◌, None, Option, Some, drop, get_or, length, map, slice_get}
 use Rattle.std.proofs.Common.{ap, arith, length-append, subst, sym, ◌∙◌}
 use Rattle.std.proofs.lemmas.List.{drop_more, length-map}
 use Rattle.std.proofs.lemmas.Option.{get_or_from_slice_get, none-some, same_Some, slice_get-get_or}
@@ -24,7 +23,7 @@ use Rattle.tv_seated.proofs.OfLists.{get-image, of-image}
 use Rattle.tv_entries.specs.Runs.{first_flow}
 use Rattle.tv_check.specs.RunViews.{run_view}
 use Rattle.tv_check.specs.declared.run.CheckedRun.{CheckedRun}
-use Rattle.tv_run.specs.Looks.{AreFlowsOf, AreLooks, IsFlowNumber, IsLook, IsStepLook}
+use Rattle.tv_run.specs.Looks.{AreFlowsOf, AreLooks, AreStepLooks, IsFlowNumber, IsLook, IsStepLook}
 use Rattle.tv_run.specs.declared.plans.FlowLook.{FlowLook}
 use Rattle.tv_run.specs.declared.plans.StepLook.{StepLook}
 use Rattle.tv_run.proofs.OfGrown.{get-either}
@@ -129,8 +128,8 @@ module _ (d : Document) (steps : List (Name × code_step.Step)) where
       last k t y at (suc p) e h = absurd (none-some y h)
 
   -- all of a flow
-  pub all-steps : (f : Flow) → f.steps ≡ each step_view steps → (looks : Vec StepLook Global) (n : ℕ)
-      → length steps ≤ n → AreStepsSoFar looks.items n → IsLook d f (record { steps = looks })
+  pub all-steps : (f : Flow) → f.steps ≡ each step_view steps → (looks : List StepLook) (n : ℕ)
+      → length steps ≤ n → AreStepsSoFar looks n → AreStepLooks d f looks
   all-steps f are looks n most so_far = record {
     as_many =
         let many = so_far.as_many in

@@ -135,8 +135,8 @@ module _ (r : OpenRun) (xs : Instances) (fits : Fits r xs) (i : ℕ) (x : Instan
     look-is = subst (λ f. IsLook d f l) flow-there.2 (fits.looks.each c.flow flow-there.0 l flow-there.1 there)
 
     pub step-low : (n : ℕ) → n < length x.flow.steps → n < length l.steps.items
-    step-low n h = subst (λ a. n < a) (sym look-is.as_many) h
+    step-low n h = subst (λ a. n < a) (sym look-is.steps.as_many) h
 
     pub step-look : (n : ℕ) (s : Name × Step) (y : StepLook) → slice_get x.flow.steps n ≡ Some s
         → slice_get l.steps.items n ≡ Some y → IsStepLook d s.1 y
-    step-look n s y e f = look-is.each n s y e f
+    step-look n s y e f = look-is.steps.each n s y e f

@@ -8,6 +8,7 @@ use Rattle.tv_flow.specs.declared.document.Flow.{Flow as CodeFlow}
 use Rattle.tv_dispatch.specs.Plans as plans
 use Rattle.tv_dispatch.specs.declared.plan.Plan.{Plan}
 use Rattle.tv_entries.specs.Runs.{first_flow}
+use Rattle.tv_frame.specs.Tables.{AreTables}
 use Rattle.tv_run.specs.declared.plans.FlowLook.{FlowLook}
 use Rattle.tv_run.specs.declared.plans.StepLook.{StepLook}
 
@@ -44,11 +45,15 @@ pub record IsStepLook (d : Document) (s : Step) (l : StepLook) : Type 0 where
   pub tries : l.tries ≡ tries_of s
   pub opens : OpensNumber d (first_flow s.activities) l.opens
 
-pub record IsLook (d : Document) (f : Flow) (l : FlowLook) : Type 0 where
-  pub as_many : length l.steps.items ≡ length f.steps
+pub record AreStepLooks (d : Document) (f : Flow) (ls : List StepLook) : Type 0 where
+  pub as_many : length ls ≡ length f.steps
   pub each :
-      (k : ℕ) (s : Name × Step) (x : StepLook) → slice_get f.steps k ≡ Some s → slice_get l.steps.items k ≡ Some x
+      (k : ℕ) (s : Name × Step) (x : StepLook) → slice_get f.steps k ≡ Some s → slice_get ls k ≡ Some x
       → IsStepLook d s.1 x
+
+pub record IsLook (d : Document) (f : Flow) (l : FlowLook) : Type 0 where
+  pub steps : AreStepLooks d f l.steps.items
+  pub tables : AreTables f l.tables
 
 pub record AreLooks (d : Document) (looks : List FlowLook) : Type 0 where
   pub as_many : length looks ≡ length d.flows

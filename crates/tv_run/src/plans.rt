@@ -1,16 +1,18 @@
-//! What is looked up of the document: of each step of each flow the tries, and the flow that its jobs open.
+//! What is looked up of the document: of each step of each flow the tries, and the flow that its jobs open; of each flow the tables
+//! that its instances share.
 ghost use Rattle.std.specs.Prelude.{◌≡◌, IfOk, Some, map};
 ghost use Rattle.tv_flow.specs.Flows.{Document};
 ghost use Rattle.tv_flow.specs.Views.{activity_view, flow_view, step_view};
 ghost use Rattle.tv_check.specs.RunViews.{run_view};
 ghost use Rattle.tv_dispatch.specs.Plans.{kind_of};
 ghost use Rattle.tv_entries.specs.Runs.{first_flow};
-ghost use Rattle.tv_run.specs.Looks.{AreFlowsOf, AreLooks, IsLook, OpensNumber, tries_of};
+ghost use Rattle.tv_run.specs.Looks.{AreFlowsOf, AreLooks, AreStepLooks, IsLook, OpensNumber, tries_of};
 
 use std::alloc::Global;
 use tv_check::{CheckedRun, FlowPlan};
 use tv_dispatch::{Kind, Kinds, Plan};
 use tv_flow::{Activity, Flows, Step};
+use tv_frame::FlowTables;
 use tv_naming::number_of;
 use tv_value::{Name, NoMemory, Sequence};
 
@@ -22,10 +24,11 @@ pub(crate) struct StepLook {
     pub(crate) opens: Option<u32>,
 }
 
-/// What a run looks up of the steps of a flow.
+/// What a run looks up of a flow: of its steps, and what its instances share.
 #[derive(Drop)]
 pub(crate) struct FlowLook {
     pub(crate) steps: Vec<StepLook>,
+    pub(crate) tables: FlowTables,
 }
 
 fn kind_of(activity: &Activity) -> Kind
@@ -84,7 +87,7 @@ fn flow_number(flows: &Flows, name: &Name) -> Option<u32>
 fn steps_of(alloc: Global, flows: &Flows, plan: &FlowPlan) -> Result<Vec<StepLook>, NoMemory>
     requires { (d : Document) × AreFlowsOf d flows.now }
     ensures { IfOk result (λ ls. (d : Document) → AreFlowsOf d flows.now
-        → IsLook d (flow_view plan.now.flow) (record { steps = ls })) }
+        → AreStepLooks d (flow_view plan.now.flow) ls.items) }
 {
     let steps = plan.flow.steps.as_slice();
     let mut looks = Vec::with_capacity(alloc, steps.len())?;
@@ -97,16 +100,26 @@ fn steps_of(alloc: Global, flows: &Flows, plan: &FlowPlan) -> Result<Vec<StepLoo
     Ok(looks)
 }
 
-/// What is looked up of each flow, in the order of the flows. Linear in the flows, with a look-up for each step that opens one.
+fn look_of(alloc: Global, flows: &Flows, plan: &FlowPlan) -> Result<FlowLook, NoMemory>
+    requires { (d : Document) × AreFlowsOf d flows.now }
+    ensures { IfOk result (λ l. (d : Document) → AreFlowsOf d flows.now
+        → IsLook d (flow_view plan.now.flow) l) }
+{
+    Ok(FlowLook {
+        steps: steps_of(alloc, flows, plan)?,
+        tables: FlowTables::start(alloc, plan)?,
+    })
+}
+
+/// What is looked up of each flow, in the order of the flows. Linear in the flows, with a look-up for each step that opens one, and
+/// one for each leaf of a strategy. The flows' constants are copied.
 pub(crate) fn looks_of(alloc: Global, run: &CheckedRun) -> Result<Vec<FlowLook>, NoMemory>
     ensures { IfOk result (λ ls. AreLooks (run_view run.now) ls.items) }
 {
     let flows = &run.document().flows;
     let mut looks = Vec::with_capacity(alloc, run.flows() as usize)?;
     for number in 0..run.flows() {
-        looks.push(FlowLook {
-            steps: steps_of(alloc, flows, run.flow(number))?,
-        })?;
+        looks.push(look_of(alloc, flows, run.flow(number))?)?;
     }
     Ok(looks)
 }

@@ -134,7 +134,9 @@ impl OpenRun {
     {
         self.instances.reserve(1)?;
         let slot = Vec::with_capacity(self.alloc, 1)?;
-        let open = Open::start(self.alloc, self.run.flow(flow), inputs, &mut self.pool)?;
+        let plan = self.run.flow(flow);
+        let tables = &self.looks[flow as usize].tables;
+        let open = Open::start(self.alloc, plan, tables, inputs, &mut self.pool)?;
         let mut jobs = Vec::new(self.alloc);
         match self.reserve(&mut jobs, open.known()) {
             Ok(()) => {

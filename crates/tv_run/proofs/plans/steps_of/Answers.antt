@@ -22,5 +22,5 @@ loop-step-preserved c d are =
 pub returns : goal.returns
 returns c d are =
     all-steps d c.as_slice-steps.result.now (flow_view c.args.plan.now.flow)
-    (sym (ap (each step_view) c.as_slice-steps.ensures)) c.loop-step.looks c.loop-step.step-index
+    (sym (ap (each step_view) c.as_slice-steps.ensures)) c.loop-step.looks.items c.loop-step.step-index
     (omega (arith, c.loop-step-test.false)) (c.loop-step.invariant d are)

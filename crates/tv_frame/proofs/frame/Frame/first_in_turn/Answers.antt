@@ -9,4 +9,4 @@ first_ready-requires-clause-steps c = steps-there c.requires.0 c.args.plan.now c
 
 pub first_ready-requires-clause-order : goal.first_ready-requires-clause-order
 first_ready-requires-clause-order c =
-    order-there c.requires.0 c.args.plan.now c.args.pool.now c.args.self.now c.requires.1 c.requires.2 c.as_slice-order.result.now c.as_slice-order.ensures.value
+    order-there c.requires.0 c.args.plan.now c.args.pool.now c.args.self.now c.requires.1 c.requires.2 c.order-order.result.now c.order-order.ensures

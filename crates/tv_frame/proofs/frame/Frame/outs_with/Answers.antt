@@ -1,4 +1,5 @@
 use Rattle.std.proofs.Common.{arith, length, refl, ap, ◌∙◌}
+use Rattle.tv_bound.specs.Constants.{constants_view}
 use Rattle.tv_frame.proofs.OfFirstOuts.{outputs-counted}
 use Rattle.tv_frame.proofs.OfOuts.{can-come, coming-of, delivered-where_ok, found-so, many-there, outputs-few, outputs-same}
 use Rattle.tv_frame.proofs.frame.Frame.outs_with.Goals as goal
@@ -34,7 +35,7 @@ flow_outputs_over-requires-clause-found c =
     (record { step = c.args.over.now.step; outputs = length c.as_slice-outputs.result.now; place = c.args.over.now.place; brought = c.brought_by-brought.result })
     (coming-of r.2 c.args.over.now _ c.as_slice-outputs.result.now
     (c.as_slice-outputs.ensures ∙ outputs-same r.0 c.args.plan.now c.args.pool.now c.args.self.now r.1 r.5 c.args.over.now.step r.2 r.6.at c.as_slice.result.now c.as_slice.ensures c.index-as_slice-over.result)
-    refl refl refl c.brought_by-brought.ensures) r.7 _ c.as_slice-2.result.now refl c.as_slice-2.ensures
+    refl refl refl c.brought_by-brought.ensures) r.7 _ c.as_slice-2.result.now (ap constants_view c.constants.ensures) c.as_slice-2.ensures
 
 pub returns-clause-outputs : goal.returns-clause-outputs
 returns-clause-outputs c =
@@ -44,4 +45,4 @@ returns-clause-outputs c =
     coming-of s c.args.over.now _ c.as_slice-outputs.result.now
     (c.as_slice-outputs.ensures ∙ outputs-same flows c.args.plan.now c.args.pool.now c.args.self.now v keeps c.args.over.now.step s at c.as_slice.result.now c.as_slice.ensures c.index-as_slice-over.result)
     refl refl refl c.brought_by-brought.ensures)
-    _ c.as_slice-2.result.now refl c.as_slice-2.ensures c.flow_outputs_over.result c.flow_outputs_over.ensures.values
+    _ c.as_slice-2.result.now (ap constants_view c.constants.ensures) c.as_slice-2.ensures c.flow_outputs_over.result c.flow_outputs_over.ensures.values

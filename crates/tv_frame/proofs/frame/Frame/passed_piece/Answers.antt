@@ -2,13 +2,16 @@ use Rattle.std.proofs.Common.{◌≡◌, ◌∙◌, ◌<◌, ap, refl, subst, sy
 use Rattle.std.proofs.lemmas.Option.{same_Some}
 use Rattle.std.specs.Bool.{IsTrue}
 use Rattle.std.specs.Option.{is_some}
+use Rattle.tv_bound.specs.Constants.{constant_of_port, constants_view}
+use Rattle.tv_bound.specs.declared.constants.Constants.{Constants}
+use Rattle.tv_frame.specs.declared.tables.Tables.{Tables}
 use Rattle.tv_frame.proofs.OfFaultingRead.{fault-read, feed-few, leaf-within, ok-weaken, port-within, ports-read, ports-within, start-is, step-small}
 use Rattle.tv_frame.proofs.frame.Frame.passed_piece.Goals as goal
 
 pub index-requires-2 : goal.index-requires-2
 index-requires-2 c =
     let r = c.requires in
-    subst (λ m. c.args.leaf < m) (sym c.index.result.now.ok.0) (leaf-within r.0 c.args.plan.now c.args.pool.now c.args.self.now r.1 c.args.step r.2 r.3 r.4 c.args.place.now c.args.leaf r.5 c.index.result.now c.index.ensures)
+    subst (λ m. c.args.leaf < m) (sym c.index.result.now.ok.0) (leaf-within r.0 c.args.plan.now c.args.pool.now c.args.self.now r.1 c.args.step r.2 r.3 r.4 c.args.place.now c.args.leaf r.5 c.index.result.now (c.index.ensures ∙ ap (λ (t : Tables). slice_index_or t.starts.items c.args.step c.index.result.now) c.read.ensures))
 
 pub offset_bounds-as_slice-step : goal.offset_bounds-as_slice-step
 offset_bounds-as_slice-step c =
@@ -49,8 +52,11 @@ feed_piece-requires-clause-found c =
     (ports-read r.0 c.args.plan.now c.args.pool.now c.args.self.now r.1 c.args.step r.2 r.3 r.4 c.args.place.now c.args.leaf r.5 c.as_slice-2.result.now c.index-as_slice-step.result c.as_slice-ports.result.now c.as_slice-2.ensures (c.as_slice-ports.ensures ∙ here))
     c.port_of-number.result c.port_of-number.ensures.found
     c.sources-sources.result c.sources-sources.ensures.inputs c.sources-sources.ensures.outputs c.sources-sources.ensures.pool c.sources-sources.ensures.firsts
-    c.index-ports-number.result _ c.of_port-constant.ensures c.index-2.result.now
-    (start-is r.0 c.args.plan.now c.args.pool.now c.args.self.now r.1 c.args.step r.2 r.3 r.4 c.args.place.now c.args.leaf r.5 c.index.result.now c.index-2.result.now c.index.ensures c.index-2.ensures)
+    c.index-ports-number.result _
+    (c.of_port-constant.ensures ∙ ap (λ (k : Constants). constant_of_port (constants_view k) c.args.step c.port_of-number.result) c.constants.ensures)
+    c.index-2.result.now
+    (start-is r.0 c.args.plan.now c.args.pool.now c.args.self.now r.1 c.args.step r.2 r.3 r.4 c.args.place.now c.args.leaf r.5 c.index.result.now c.index-2.result.now
+    (c.index.ensures ∙ ap (λ (t : Tables). slice_index_or t.starts.items c.args.step c.index.result.now) c.read.ensures) c.index-2.ensures)
     _ (c.in_ok-inside.ensures.ok ∙ c.rest_of.ensures ∙ ap (drop c.index-2.result.now) c.as_slice.ensures) in
     subst (λ o. IsTrue (is_some o)) (sym e.1) refl
 
@@ -64,8 +70,11 @@ returns-clause-value c =
     (ports-read flows c.args.plan.now c.args.pool.now c.args.self.now v c.args.step s keeps at c.args.place.now c.args.leaf waits c.as_slice-2.result.now c.index-as_slice-step.result c.as_slice-ports.result.now c.as_slice-2.ensures (c.as_slice-ports.ensures ∙ here))
     c.port_of-number.result c.port_of-number.ensures.found
     c.sources-sources.result c.sources-sources.ensures.inputs c.sources-sources.ensures.outputs c.sources-sources.ensures.pool c.sources-sources.ensures.firsts
-    c.index-ports-number.result _ c.of_port-constant.ensures c.index-2.result.now
-    (start-is flows c.args.plan.now c.args.pool.now c.args.self.now v c.args.step s keeps at c.args.place.now c.args.leaf waits c.index.result.now c.index-2.result.now c.index.ensures c.index-2.ensures)
+    c.index-ports-number.result _
+    (c.of_port-constant.ensures ∙ ap (λ (k : Constants). constant_of_port (constants_view k) c.args.step c.port_of-number.result) c.constants.ensures)
+    c.index-2.result.now
+    (start-is flows c.args.plan.now c.args.pool.now c.args.self.now v c.args.step s keeps at c.args.place.now c.args.leaf waits c.index.result.now c.index-2.result.now
+    (c.index.ensures ∙ ap (λ (t : Tables). slice_index_or t.starts.items c.args.step c.index.result.now) c.read.ensures) c.index-2.ensures)
     _ (c.in_ok-inside.ensures.ok ∙ c.rest_of.ensures ∙ ap (drop c.index-2.result.now) c.as_slice.ensures) in
     (e.0, same_Some _ _ (sym found ∙ e.1), e.2))
     c.feed_piece.ensures.value

@@ -5,20 +5,20 @@ use Rattle.tv_frame.proofs.OfEvents.{can-turn, firsts-read, other-trees, turn-re
 use Rattle.tv_frame.proofs.OfResults.{result-arrives, result-goes, result-room}
 use Rattle.tv_frame.proofs.frame.Frame.result.Goals as goal
 
-pub index-first-requires : goal.index-first-requires
-index-first-requires c =
+pub first_tree-first-requires : goal.first_tree-first-requires
+first_tree-first-requires c =
     let r = c.requires.ready in
     firsts-read r.0 c.args.plan.now c.args.pool.now c.args.self.now r.1 c.args.step r.2 (gave r.2.0 c.args.place.now (piece_values c.args.outputs)) r.3
 
 pub put-requires-clause-can : goal.put-requires-clause-can
 put-requires-clause-can c =
     let r = c.requires.ready in
-    result-arrives r.0 c.args.plan.now c.args.pool.now c.args.self.now r.1 c.args.step r.2 c.args.place.now (piece_values c.args.outputs) r.3 c.index-first.result.now c.index-first.ensures
+    result-arrives r.0 c.args.plan.now c.args.pool.now c.args.self.now r.1 c.args.step r.2 c.args.place.now (piece_values c.args.outputs) r.3 c.first_tree-first.result c.first_tree-first.ensures
 
 pub put-requires-clause-room : goal.put-requires-clause-room
 put-requires-clause-room c =
     let r = c.requires.ready in
-    result-room r.0 c.args.plan.now c.args.pool.now c.args.self.now r.1 c.args.step r.2 c.args.place.now (piece_values c.args.outputs) r.3 c.index-first.result.now c.index-first.ensures
+    result-room r.0 c.args.plan.now c.args.pool.now c.args.self.now r.1 c.args.step r.2 c.args.place.now (piece_values c.args.outputs) r.3 c.first_tree-first.result c.first_tree-first.ensures
 
 pub show-requires-clause-ends : goal.show-requires-clause-ends
 show-requires-clause-ends c =
@@ -29,5 +29,5 @@ show-requires-clause-ends c =
 
 pub returns-clause-goes_on : goal.returns-clause-goes_on
 returns-clause-goes_on c = λ flows v s r taken.
-    result-goes flows c.args.plan.now c.args.pool.now c.args.self.now v c.args.step s c.args.place.now (piece_values c.args.outputs) r c.index-first.result.now c.index-first.ensures
+    result-goes flows c.args.plan.now c.args.pool.now c.args.self.now v c.args.step s c.args.place.now (piece_values c.args.outputs) r c.first_tree-first.result c.first_tree-first.ensures
     c.put.new.pool c.put.new.self c.show.new.self taken c.put.ensures.others c.put.ensures.regions c.put.ensures.stand c.put.ensures.depths c.put.ensures.known c.show.ensures

@@ -1,4 +1,4 @@
-use Rattle.std.proofs.Common.{◌≡◌, ◌+◌, ◌==◌, ◌<◌, ◌≤◌, length, refl, ap, sym, subst, ◌∙◌}
+use Rattle.std.proofs.Common.{◌≡◌, ◌+◌, ◌==◌, ◌≤◌, length, refl, ap, sym, subst, ◌∙◌}
 use Rattle.tv_parts.specs.Changes.{close_at}
 use Rattle.tv_outputs.specs.Changes.{AllCanClose}
 use Rattle.tv_outputs.specs.Known.{depths, known, needed, tree_in}
@@ -12,10 +12,10 @@ use Rattle.tv_frame.proofs.OfPutting.{depths-there}
 use Rattle.tv_frame.proofs.OfRooms.{close-all, close-coming, close-first_can, close-first_short, close-next, close-there, close-turns, counts-new, worked-ready}
 use Rattle.tv_frame.proofs.frame.Frame.room_for_close.Goals as goal
 
-pub index-first-requires : goal.index-first-requires
-index-first-requires c =
+pub first_tree-first-requires : goal.first_tree-first-requires
+first_tree-first-requires c =
     let r = c.requires.next in
-    subst (λ m. c.args.step < m) (sym c.args.self.now.tables.firsts.ok.0) (firsts-within r.0 c.args.plan.now c.args.pool.now c.args.self.now r.1 c.args.step r.2 r.3 r.4)
+    firsts-within r.0 c.args.plan.now c.args.pool.now c.args.self.now r.1 c.args.step r.2 r.3 r.4
 
 pub trees_of-trees-requires : goal.trees_of-trees-requires
 trees_of-trees-requires c =
@@ -25,7 +25,7 @@ trees_of-trees-requires c =
 pub reserve-requires : goal.reserve-requires
 reserve-requires c =
     let r = c.requires.next in
-    let first : c.index-first.result.now ≡ first_tree r.1.flow.steps c.args.step = first-is r.0 c.args.plan.now c.args.pool.now c.args.self.now r.1 c.args.step r.2 r.3 r.4 c.index-first.result.now c.index-first.ensures in
+    let first : c.first_tree-first.result ≡ first_tree r.1.flow.steps c.args.step = first-is r.0 c.args.plan.now c.args.pool.now c.args.self.now r.1 c.args.step r.2 r.3 r.4 c.first_tree-first.result c.first_tree-first.ensures in
     let many : c.trees_of-trees.result ≡ trees_of r.2 = c.trees_of-trees.ensures r.2 (step-there r.0 c.args.plan.now c.args.pool.now c.args.self.now r.1 c.args.step r.2 r.3 r.4) in
     subst (λ x. x + c.trees_of-trees.result ≤ length (depths c.args.self.now.outputs)) (sym first)
     (subst (λ m. first_tree r.1.flow.steps c.args.step + m ≤ length (depths c.args.self.now.outputs)) (sym many)
@@ -42,8 +42,8 @@ faults_by_close-requires-clause-there c =
     let f = c.args.self.now in
     let pool = c.reserve.new.pool in
     let kept = keeps-room r.0 c.args.plan.now c.args.pool.now pool f r.1 c.reserve.ensures.regions c.reserve.ensures.known c.reserve.ensures.stand r.3 in
-    let x = c.index-first.result.now in
-    let first = first-is r.0 c.args.plan.now c.args.pool.now f r.1 c.args.step r.2 r.3 r.4 x c.index-first.ensures in
+    let x = c.first_tree-first.result in
+    let first = first-is r.0 c.args.plan.now c.args.pool.now f r.1 c.args.step r.2 r.3 r.4 x c.first_tree-first.ensures in
     let outs : c.outputs_of-outputs.result ≡ length r.2.1.outputs = c.outputs_of-outputs.ensures r.2 (step-there r.0 c.args.plan.now c.args.pool.now f r.1 c.args.step r.2 r.3 r.4) in
     subst (λ m. x + m ≤ length (known pool f.outputs)) (sym outs)
     (close-all r.0 c.args.plan.now pool f r.1 c.args.step r.2 kept r.4 c.args.place.now c.args.length r.5 x first).there
@@ -54,8 +54,8 @@ whole_by_close-whole_from-requires-clause-there c =
     let f = c.args.self.now in
     let pool = c.reserve.new.pool in
     let kept = keeps-room r.0 c.args.plan.now c.args.pool.now pool f r.1 c.reserve.ensures.regions c.reserve.ensures.known c.reserve.ensures.stand r.3 in
-    let first = first-is r.0 c.args.plan.now c.args.pool.now f r.1 c.args.step r.2 r.3 r.4 c.index-first.result.now c.index-first.ensures in
-    close-there r.0 c.args.plan.now pool f r.1 c.args.step r.2 kept r.4 c.args.place.now c.args.length r.5 c.index-first.result.now first
+    let first = first-is r.0 c.args.plan.now c.args.pool.now f r.1 c.args.step r.2 r.3 r.4 c.first_tree-first.result c.first_tree-first.ensures in
+    close-there r.0 c.args.plan.now pool f r.1 c.args.step r.2 kept r.4 c.args.place.now c.args.length r.5 c.first_tree-first.result first
 
 pub whole_by_close-whole_from-requires-clause-short : goal.whole_by_close-whole_from-requires-clause-short
 whole_by_close-whole_from-requires-clause-short c =
@@ -63,8 +63,8 @@ whole_by_close-whole_from-requires-clause-short c =
     let f = c.args.self.now in
     let pool = c.reserve.new.pool in
     let kept = keeps-room r.0 c.args.plan.now c.args.pool.now pool f r.1 c.reserve.ensures.regions c.reserve.ensures.known c.reserve.ensures.stand r.3 in
-    let first = first-is r.0 c.args.plan.now c.args.pool.now f r.1 c.args.step r.2 r.3 r.4 c.index-first.result.now c.index-first.ensures in
-    close-first_short r.0 c.args.plan.now pool f r.1 c.args.step r.2 kept r.4 c.args.place.now c.args.length r.5 c.index-first.result.now first
+    let first = first-is r.0 c.args.plan.now c.args.pool.now f r.1 c.args.step r.2 r.3 r.4 c.first_tree-first.result c.first_tree-first.ensures in
+    close-first_short r.0 c.args.plan.now pool f r.1 c.args.step r.2 kept r.4 c.args.place.now c.args.length r.5 c.first_tree-first.result first
 
 pub whole_by_close-whole_from-requires-clause-can : goal.whole_by_close-whole_from-requires-clause-can
 whole_by_close-whole_from-requires-clause-can c =
@@ -72,8 +72,8 @@ whole_by_close-whole_from-requires-clause-can c =
     let f = c.args.self.now in
     let pool = c.reserve.new.pool in
     let kept = keeps-room r.0 c.args.plan.now c.args.pool.now pool f r.1 c.reserve.ensures.regions c.reserve.ensures.known c.reserve.ensures.stand r.3 in
-    let first = first-is r.0 c.args.plan.now c.args.pool.now f r.1 c.args.step r.2 r.3 r.4 c.index-first.result.now c.index-first.ensures in
-    close-first_can r.0 c.args.plan.now pool f r.1 c.args.step r.2 kept r.4 c.args.place.now c.args.length r.5 c.index-first.result.now first
+    let first = first-is r.0 c.args.plan.now c.args.pool.now f r.1 c.args.step r.2 r.3 r.4 c.first_tree-first.result c.first_tree-first.ensures in
+    close-first_can r.0 c.args.plan.now pool f r.1 c.args.step r.2 kept r.4 c.args.place.now c.args.length r.5 c.first_tree-first.result first
 
 pub hold-requires : goal.hold-requires
 hold-requires c =
@@ -84,8 +84,8 @@ hold-requires c =
     let pool = c.reserve.new.pool in
     let e = closed r.2.0 q size in
     let kept = keeps-room r.0 c.args.plan.now c.args.pool.now pool f r.1 c.reserve.ensures.regions c.reserve.ensures.known c.reserve.ensures.stand r.3 in
-    let x = c.index-first.result.now in
-    let first = first-is r.0 c.args.plan.now c.args.pool.now f r.1 c.args.step r.2 r.3 r.4 x c.index-first.ensures in
+    let x = c.first_tree-first.result in
+    let first = first-is r.0 c.args.plan.now c.args.pool.now f r.1 c.args.step r.2 r.3 r.4 x c.first_tree-first.ensures in
     let outs : c.outputs_of-outputs.result ≡ length r.2.1.outputs = c.outputs_of-outputs.ensures r.2 (step-there r.0 c.args.plan.now c.args.pool.now f r.1 c.args.step r.2 r.3 r.4) in
     let all = close-all r.0 c.args.plan.now pool f r.1 c.args.step r.2 kept r.4 q size r.5 x first in (
       r.0,
@@ -109,8 +109,8 @@ find_outs-requires c =
     let size = c.args.length in
     let pool = c.reserve.new.pool in
     let kept = keeps-room r.0 c.args.plan.now c.args.pool.now pool f r.1 c.reserve.ensures.regions c.reserve.ensures.known c.reserve.ensures.stand r.3 in
-    let x = c.index-first.result.now in
-    let first = first-is r.0 c.args.plan.now c.args.pool.now f r.1 c.args.step r.2 r.3 r.4 x c.index-first.ensures in (
+    let x = c.first_tree-first.result in
+    let first = first-is r.0 c.args.plan.now c.args.pool.now f r.1 c.args.step r.2 r.3 r.4 x c.first_tree-first.ensures in (
       r.0,
       r.1,
       r.2,
@@ -140,9 +140,9 @@ returns-clause-ready c = λ flows v s k at can.
     let pool = c.reserve.new.pool in
     let e = closed s.0 q size in
     let kept = keeps-room flows c.args.plan.now c.args.pool.now pool f v c.reserve.ensures.regions c.reserve.ensures.known c.reserve.ensures.stand k in
-    let x = c.index-first.result.now in
+    let x = c.first_tree-first.result in
     let there = step-there flows c.args.plan.now c.args.pool.now f v c.args.step s k at in
-    let first : x ≡ first_tree v.flow.steps c.args.step = first-is flows c.args.plan.now c.args.pool.now f v c.args.step s k at x c.index-first.ensures in
+    let first : x ≡ first_tree v.flow.steps c.args.step = first-is flows c.args.plan.now c.args.pool.now f v c.args.step s k at x c.first_tree-first.ensures in
     let many : c.trees_of-trees.result ≡ trees_of s = c.trees_of-trees.ensures s there in
     let outs : c.outputs_of-outputs.result ≡ length s.1.outputs = c.outputs_of-outputs.ensures s there in
     let all = close-all flows c.args.plan.now pool f v c.args.step s kept at q size can x first in

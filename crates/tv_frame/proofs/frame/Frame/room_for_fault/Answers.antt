@@ -1,4 +1,4 @@
-use Rattle.std.proofs.Common.{◌≡◌, ◌+◌, ◌<◌, ◌≤◌, length, sym, subst, Some}
+use Rattle.std.proofs.Common.{◌≡◌, ◌+◌, ◌≤◌, length, sym, subst, Some}
 use Rattle.tv_outputs.specs.Known.{depths, needed}
 use Rattle.tv_instance.specs.Events.{fault_set}
 use Rattle.tv_frame.specs.Calls.{ArePassed, Brings}
@@ -9,12 +9,12 @@ use Rattle.tv_frame.proofs.OfPassing.{keeps-aside, ready-aside}
 use Rattle.tv_frame.proofs.OfPutting.{depths-there}
 use Rattle.tv_frame.proofs.frame.Frame.room_for_fault.Goals as goal
 
-pub index-first-requires : goal.index-first-requires
-index-first-requires c =
+pub first_tree-first-requires : goal.first_tree-first-requires
+first_tree-first-requires c =
     let r = c.requires.next in
     let f = c.args.self.now in
     let plan = c.args.plan.now in
-    subst (λ m. c.args.step < m) (sym f.tables.firsts.ok.0) (firsts-within r.0 plan c.args.pool.now f r.1 c.args.step r.2 r.3 r.4)
+    firsts-within r.0 plan c.args.pool.now f r.1 c.args.step r.2 r.3 r.4
 
 pub trees_of-trees-requires : goal.trees_of-trees-requires
 trees_of-trees-requires c =
@@ -28,7 +28,7 @@ reserve-requires c =
     let r = c.requires.next in
     let f = c.args.self.now in
     let plan = c.args.plan.now in
-    let first : c.index-first.result.now ≡ first_tree r.1.flow.steps c.args.step = first-is r.0 plan c.args.pool.now f r.1 c.args.step r.2 r.3 r.4 c.index-first.result.now c.index-first.ensures in
+    let first : c.first_tree-first.result ≡ first_tree r.1.flow.steps c.args.step = first-is r.0 plan c.args.pool.now f r.1 c.args.step r.2 r.3 r.4 c.first_tree-first.result c.first_tree-first.ensures in
     let many : c.trees_of-trees.result ≡ trees_of r.2 = c.trees_of-trees.ensures r.2 (step-there r.0 plan c.args.pool.now f r.1 c.args.step r.2 r.3 r.4) in
     subst (λ x. x + c.trees_of-trees.result ≤ length (depths f.outputs)) (sym first)
     (subst (λ m. first_tree r.1.flow.steps c.args.step + m ≤ length (depths f.outputs)) (sym many)
@@ -69,8 +69,8 @@ returns-clause-ready c = λ flows v s k at waits.
     let p = c.in_ok-pieces.ensures flows v s k at waits in
     let e = fault_set s.0 q p.0 in
     let kept = keeps-room flows plan c.args.pool.now pool f v c.reserve.ensures.regions c.reserve.ensures.known c.reserve.ensures.stand k in
-    let x = c.index-first.result.now in
-    let first : x ≡ first_tree v.flow.steps c.args.step = first-is flows plan c.args.pool.now f v c.args.step s k at x c.index-first.ensures in
+    let x = c.first_tree-first.result in
+    let first : x ≡ first_tree v.flow.steps c.args.step = first-is flows plan c.args.pool.now f v c.args.step s k at x c.first_tree-first.ensures in
     let many : c.trees_of-trees.result ≡ trees_of s = c.trees_of-trees.ensures s (step-there flows plan c.args.pool.now f v c.args.step s k at) in
     let passed = subst (ArePassed v s q p.0) (sym c.as_slice.ensures) p.2 in
     let room = subst (λ y. needed (depths f.outputs) y (trees_of s) ≤ pool.spare) first (subst (λ m. needed (depths f.outputs) x m ≤ pool.spare) many c.in_ok-reserve.ensures.ok) in

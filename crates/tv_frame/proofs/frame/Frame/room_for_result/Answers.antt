@@ -11,10 +11,10 @@ use Rattle.tv_frame.proofs.OfPutting.{depths-there}
 use Rattle.tv_frame.proofs.OfRooms.{counts-new, result-arrives, result-coming, result-first_can, result-first_short, result-next, result-there, result-turns, worked-ready}
 use Rattle.tv_frame.proofs.frame.Frame.room_for_result.Goals as goal
 
-pub index-first-requires : goal.index-first-requires
-index-first-requires c =
+pub first_tree-first-requires : goal.first_tree-first-requires
+first_tree-first-requires c =
     let r = c.requires.may in
-    subst (λ m. c.args.step < m) (sym c.args.self.now.tables.firsts.ok.0) (firsts-within r.0 c.args.plan.now c.args.pool.now c.args.self.now r.1 c.args.step r.2 r.3 r.4)
+    firsts-within r.0 c.args.plan.now c.args.pool.now c.args.self.now r.1 c.args.step r.2 r.3 r.4
 
 pub trees_of-trees-requires : goal.trees_of-trees-requires
 trees_of-trees-requires c =
@@ -24,7 +24,7 @@ trees_of-trees-requires c =
 pub reserve-requires : goal.reserve-requires
 reserve-requires c =
     let r = c.requires.may in
-    let first : c.index-first.result.now ≡ first_tree r.1.flow.steps c.args.step = first-is r.0 c.args.plan.now c.args.pool.now c.args.self.now r.1 c.args.step r.2 r.3 r.4 c.index-first.result.now c.index-first.ensures in
+    let first : c.first_tree-first.result ≡ first_tree r.1.flow.steps c.args.step = first-is r.0 c.args.plan.now c.args.pool.now c.args.self.now r.1 c.args.step r.2 r.3 r.4 c.first_tree-first.result c.first_tree-first.ensures in
     let many : c.trees_of-trees.result ≡ trees_of r.2 = c.trees_of-trees.ensures r.2 (step-there r.0 c.args.plan.now c.args.pool.now c.args.self.now r.1 c.args.step r.2 r.3 r.4) in
     subst (λ x. x + c.trees_of-trees.result ≤ length (depths c.args.self.now.outputs)) (sym first)
     (subst (λ m. first_tree r.1.flow.steps c.args.step + m ≤ length (depths c.args.self.now.outputs)) (sym many)
@@ -36,9 +36,9 @@ faults_by_arrival-requires-clause-can c =
     let f = c.args.self.now in
     let pool = c.reserve.new.pool in
     let kept = keeps-room r.0 c.args.plan.now c.args.pool.now pool f r.1 c.reserve.ensures.regions c.reserve.ensures.known c.reserve.ensures.stand r.3 in
-    let first = first-is r.0 c.args.plan.now c.args.pool.now f r.1 c.args.step r.2 r.3 r.4 c.index-first.result.now c.index-first.ensures in
-    subst (λ l. AllCanArrive c.index-first.result.now (length l) c.args.place.now (depths f.outputs) (known pool f.outputs)) (sym c.as_slice.ensures)
-    (result-arrives r.0 c.args.plan.now pool f r.1 c.args.step r.2 kept r.4 c.args.place.now c.args.outputs.now r.5 c.index-first.result.now first)
+    let first = first-is r.0 c.args.plan.now c.args.pool.now f r.1 c.args.step r.2 r.3 r.4 c.first_tree-first.result c.first_tree-first.ensures in
+    subst (λ l. AllCanArrive c.first_tree-first.result (length l) c.args.place.now (depths f.outputs) (known pool f.outputs)) (sym c.as_slice.ensures)
+    (result-arrives r.0 c.args.plan.now pool f r.1 c.args.step r.2 kept r.4 c.args.place.now c.args.outputs.now r.5 c.first_tree-first.result first)
 
 pub whole_by_arrival-requires-clause-there : goal.whole_by_arrival-requires-clause-there
 whole_by_arrival-requires-clause-there c =
@@ -46,8 +46,8 @@ whole_by_arrival-requires-clause-there c =
     let f = c.args.self.now in
     let pool = c.reserve.new.pool in
     let kept = keeps-room r.0 c.args.plan.now c.args.pool.now pool f r.1 c.reserve.ensures.regions c.reserve.ensures.known c.reserve.ensures.stand r.3 in
-    let first = first-is r.0 c.args.plan.now c.args.pool.now f r.1 c.args.step r.2 r.3 r.4 c.index-first.result.now c.index-first.ensures in
-    result-there r.0 c.args.plan.now pool f r.1 c.args.step r.2 kept r.4 c.args.place.now c.args.outputs.now r.5 c.index-first.result.now first
+    let first = first-is r.0 c.args.plan.now c.args.pool.now f r.1 c.args.step r.2 r.3 r.4 c.first_tree-first.result c.first_tree-first.ensures in
+    result-there r.0 c.args.plan.now pool f r.1 c.args.step r.2 kept r.4 c.args.place.now c.args.outputs.now r.5 c.first_tree-first.result first
 
 pub whole_by_arrival-requires-clause-short : goal.whole_by_arrival-requires-clause-short
 whole_by_arrival-requires-clause-short c =
@@ -55,8 +55,8 @@ whole_by_arrival-requires-clause-short c =
     let f = c.args.self.now in
     let pool = c.reserve.new.pool in
     let kept = keeps-room r.0 c.args.plan.now c.args.pool.now pool f r.1 c.reserve.ensures.regions c.reserve.ensures.known c.reserve.ensures.stand r.3 in
-    let first = first-is r.0 c.args.plan.now c.args.pool.now f r.1 c.args.step r.2 r.3 r.4 c.index-first.result.now c.index-first.ensures in
-    result-first_short r.0 c.args.plan.now pool f r.1 c.args.step r.2 kept r.4 c.args.place.now c.args.outputs.now r.5 c.index-first.result.now first
+    let first = first-is r.0 c.args.plan.now c.args.pool.now f r.1 c.args.step r.2 r.3 r.4 c.first_tree-first.result c.first_tree-first.ensures in
+    result-first_short r.0 c.args.plan.now pool f r.1 c.args.step r.2 kept r.4 c.args.place.now c.args.outputs.now r.5 c.first_tree-first.result first
 
 pub whole_by_arrival-requires-clause-can : goal.whole_by_arrival-requires-clause-can
 whole_by_arrival-requires-clause-can c =
@@ -64,8 +64,8 @@ whole_by_arrival-requires-clause-can c =
     let f = c.args.self.now in
     let pool = c.reserve.new.pool in
     let kept = keeps-room r.0 c.args.plan.now c.args.pool.now pool f r.1 c.reserve.ensures.regions c.reserve.ensures.known c.reserve.ensures.stand r.3 in
-    let first = first-is r.0 c.args.plan.now c.args.pool.now f r.1 c.args.step r.2 r.3 r.4 c.index-first.result.now c.index-first.ensures in
-    result-first_can r.0 c.args.plan.now pool f r.1 c.args.step r.2 kept r.4 c.args.place.now c.args.outputs.now r.5 c.index-first.result.now first
+    let first = first-is r.0 c.args.plan.now c.args.pool.now f r.1 c.args.step r.2 r.3 r.4 c.first_tree-first.result c.first_tree-first.ensures in
+    result-first_can r.0 c.args.plan.now pool f r.1 c.args.step r.2 kept r.4 c.args.place.now c.args.outputs.now r.5 c.first_tree-first.result first
 
 pub hold-requires : goal.hold-requires
 hold-requires c =
@@ -75,8 +75,8 @@ hold-requires c =
     let ps = c.args.outputs.now in
     let pool = c.reserve.new.pool in
     let kept = keeps-room r.0 c.args.plan.now c.args.pool.now pool f r.1 c.reserve.ensures.regions c.reserve.ensures.known c.reserve.ensures.stand r.3 in
-    let x = c.index-first.result.now in
-    let first = first-is r.0 c.args.plan.now c.args.pool.now f r.1 c.args.step r.2 r.3 r.4 x c.index-first.ensures in (
+    let x = c.first_tree-first.result in
+    let first = first-is r.0 c.args.plan.now c.args.pool.now f r.1 c.args.step r.2 r.3 r.4 x c.first_tree-first.ensures in (
       r.0,
       r.1,
       r.2,
@@ -97,8 +97,8 @@ find_outs-requires c =
     let ps = c.args.outputs.now in
     let pool = c.reserve.new.pool in
     let kept = keeps-room r.0 c.args.plan.now c.args.pool.now pool f r.1 c.reserve.ensures.regions c.reserve.ensures.known c.reserve.ensures.stand r.3 in
-    let x = c.index-first.result.now in
-    let first = first-is r.0 c.args.plan.now c.args.pool.now f r.1 c.args.step r.2 r.3 r.4 x c.index-first.ensures in (
+    let x = c.first_tree-first.result in
+    let first = first-is r.0 c.args.plan.now c.args.pool.now f r.1 c.args.step r.2 r.3 r.4 x c.first_tree-first.ensures in (
       r.0,
       r.1,
       r.2,
@@ -122,8 +122,8 @@ returns-clause-ready c = λ flows v s k at may.
     let pool = c.reserve.new.pool in
     let e = gave s.0 q (piece_values ps) in
     let kept = keeps-room flows c.args.plan.now c.args.pool.now pool f v c.reserve.ensures.regions c.reserve.ensures.known c.reserve.ensures.stand k in
-    let x = c.index-first.result.now in
-    let first : x ≡ first_tree v.flow.steps c.args.step = first-is flows c.args.plan.now c.args.pool.now f v c.args.step s k at x c.index-first.ensures in
+    let x = c.first_tree-first.result in
+    let first : x ≡ first_tree v.flow.steps c.args.step = first-is flows c.args.plan.now c.args.pool.now f v c.args.step s k at x c.first_tree-first.ensures in
     let many : c.trees_of-trees.result ≡ trees_of s = c.trees_of-trees.ensures s (step-there flows c.args.plan.now c.args.pool.now f v c.args.step s k at) in
     let next = result-next flows c.args.plan.now pool f v c.args.step s kept at q ps may in
     let turns = result-turns flows c.args.plan.now pool f v c.args.step s kept at q ps may x first c.whole_by_arrival.result c.whole_by_arrival.ensures in

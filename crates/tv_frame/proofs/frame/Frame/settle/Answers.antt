@@ -4,8 +4,8 @@ use Rattle.tv_frame.proofs.OfEvents.{show-ready, turn-ready}
 use Rattle.tv_frame.proofs.OfSettling.{fault-arrives, fault-goes, fault-room, fault-sound, left, list-closes, list-goes, list-room, prepared-then, settle-reads, settle-turns}
 use Rattle.tv_frame.proofs.frame.Frame.settle.Goals as goal
 
-pub index-first-requires : goal.index-first-requires
-index-first-requires c =
+pub first_tree-first-requires : goal.first_tree-first-requires
+first_tree-first-requires c =
     let r = c.requires.ready in
     let w = c.waiting_at-step.result in
     settle-reads r.0 c.args.plan.now c.args.pool.now c.args.self.now r.1 r.2 r.3 r.4 r.5 c.waiting.result w.0 w.1.now w.2 c.waiting.ensures c.waiting_at-step.ensures
@@ -14,14 +14,14 @@ pub close-requires-clause-can : goal.close-requires-clause-can
 close-requires-clause-can c =
     let r = c.requires.ready in
     let w = c.waiting_at-step.result in
-    list-closes r.0 c.args.plan.now c.args.pool.now c.args.self.now r.1 r.2 r.3 r.4 r.5 c.waiting.result w.0 w.1.now w.2 c.waiting.ensures c.waiting_at-step.ensures c.index-first.result.now c.index-first.ensures c.in-Closed.length c.in-Closed.is c.in-Some.place
+    list-closes r.0 c.args.plan.now c.args.pool.now c.args.self.now r.1 r.2 r.3 r.4 r.5 c.waiting.result w.0 w.1.now w.2 c.waiting.ensures c.waiting_at-step.ensures c.first_tree-first.result c.first_tree-first.ensures c.in-Closed.length c.in-Closed.is c.in-Some.place
     (sym c.in-Some.is ∙ c.take.ensures.value) c.trees_of-trees.result c.trees_of-trees.ensures
 
 pub close-requires-clause-room : goal.close-requires-clause-room
 close-requires-clause-room c =
     let r = c.requires.ready in
     let w = c.waiting_at-step.result in
-    list-room r.0 c.args.plan.now c.args.pool.now c.args.self.now r.1 r.2 r.3 r.4 r.5 c.waiting.result w.0 w.1.now w.2 c.waiting.ensures c.waiting_at-step.ensures c.index-first.result.now c.index-first.ensures c.in-Closed.length c.in-Closed.is c.in-Some.place
+    list-room r.0 c.args.plan.now c.args.pool.now c.args.self.now r.1 r.2 r.3 r.4 r.5 c.waiting.result w.0 w.1.now w.2 c.waiting.ensures c.waiting_at-step.ensures c.first_tree-first.result c.first_tree-first.ensures c.in-Closed.length c.in-Closed.is c.in-Some.place
     (sym c.in-Some.is ∙ c.take.ensures.value) c.trees_of-trees.result c.trees_of-trees.ensures
 
 pub show-requires-clause-ready : goal.show-requires-clause-ready
@@ -64,9 +64,9 @@ put-requires c =
     record {
       live = r.5.ready.keeps.live;
       stand = r.5.ready.keeps.stand;
-      can = fault-arrives r.0 c.args.plan.now c.args.pool.now f r.1 r.2 r.3 r.4 r.5 c.waiting.result w.0 w.1.now w.2 c.waiting.ensures c.waiting_at-step.ensures c.index-first.result.now c.index-first.ensures c.in_default-kind.not-Closed c.in-Some.place taken c.in-Some-take.pieces aside;
-      sound = fault-sound r.0 c.args.plan.now c.args.pool.now f r.1 r.2 r.3 r.4 r.5 c.waiting.result w.0 w.1.now w.2 c.waiting.ensures c.waiting_at-step.ensures c.index-first.result.now c.index-first.ensures c.in_default-kind.not-Closed c.in-Some.place taken c.in-Some-take.pieces aside;
-      room = fault-room r.0 c.args.plan.now c.args.pool.now f r.1 r.2 r.3 r.4 r.5 c.waiting.result w.0 w.1.now w.2 c.waiting.ensures c.waiting_at-step.ensures c.index-first.result.now c.index-first.ensures c.in_default-kind.not-Closed c.in-Some.place taken c.in-Some-take.pieces aside;
+      can = fault-arrives r.0 c.args.plan.now c.args.pool.now f r.1 r.2 r.3 r.4 r.5 c.waiting.result w.0 w.1.now w.2 c.waiting.ensures c.waiting_at-step.ensures c.first_tree-first.result c.first_tree-first.ensures c.in_default-kind.not-Closed c.in-Some.place taken c.in-Some-take.pieces aside;
+      sound = fault-sound r.0 c.args.plan.now c.args.pool.now f r.1 r.2 r.3 r.4 r.5 c.waiting.result w.0 w.1.now w.2 c.waiting.ensures c.waiting_at-step.ensures c.first_tree-first.result c.first_tree-first.ensures c.in_default-kind.not-Closed c.in-Some.place taken c.in-Some-take.pieces aside;
+      room = fault-room r.0 c.args.plan.now c.args.pool.now f r.1 r.2 r.3 r.4 r.5 c.waiting.result w.0 w.1.now w.2 c.waiting.ensures c.waiting_at-step.ensures c.first_tree-first.result c.first_tree-first.ensures c.in_default-kind.not-Closed c.in-Some.place taken c.in-Some-take.pieces aside;
     }
 
 pub show-requires-in_default-kind : goal.show-requires-in_default-kind
@@ -106,7 +106,7 @@ show-requires-in_default-kind c =
 pub returns-in-Closed-clause-goes_on : goal.returns-in-Closed-clause-goes_on
 returns-in-Closed-clause-goes_on c = λ flows v n s e h.
     let w = c.waiting_at-step.result in
-    list-goes flows c.args.plan.now c.args.pool.now c.args.self.now v n s e h c.waiting.result w.0 w.1.now w.2 c.waiting.ensures c.waiting_at-step.ensures c.index-first.result.now c.index-first.ensures c.in-Closed.length c.in-Closed.is c.in-Some.place
+    list-goes flows c.args.plan.now c.args.pool.now c.args.self.now v n s e h c.waiting.result w.0 w.1.now w.2 c.waiting.ensures c.waiting_at-step.ensures c.first_tree-first.result c.first_tree-first.ensures c.in-Closed.length c.in-Closed.is c.in-Some.place
     (sym c.in-Some.is ∙ c.take.ensures.value) c.trees_of-trees.result c.trees_of-trees.ensures
     c.close.new.pool _ c.show.new.self c.show.ensures
     (record {
@@ -133,7 +133,7 @@ returns-in-Some-take c = record {
       let w = c.waiting_at-step.result in
       let taken = sym c.in-Some.is ∙ c.take.ensures.value in
       let aside = sym c.in-Some-take.is ∙ c.take-in_default-kind.ensures.value in
-      fault-goes flows c.args.plan.now c.args.pool.now f v n s e h c.waiting.result w.0 w.1.now w.2 c.waiting.ensures c.waiting_at-step.ensures c.index-first.result.now c.index-first.ensures c.in_default-kind.not-Closed c.in-Some.place taken c.in-Some-take.pieces aside
+      fault-goes flows c.args.plan.now c.args.pool.now f v n s e h c.waiting.result w.0 w.1.now w.2 c.waiting.ensures c.waiting_at-step.ensures c.first_tree-first.result c.first_tree-first.ensures c.in_default-kind.not-Closed c.in-Some.place taken c.in-Some-take.pieces aside
       c.put.new.pool c.put.new.self c.show-in_default-kind.new.self c.show-in_default-kind.ensures
       (prepared-then f _ c.put.new.self
       (left flows c.args.plan.now c.args.pool.now f v n s e h c.waiting.result w.0 w.1.now w.2 c.waiting.ensures c.waiting_at-step.ensures)

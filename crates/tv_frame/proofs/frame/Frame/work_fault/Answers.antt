@@ -1,5 +1,5 @@
 use Rattle.std.specs.Prelude.{take}
-use Rattle.std.proofs.Common.{◌≡◌, ◌==◌, ◌<◌, length, refl, ap, sym, subst, ◌∙◌, Some}
+use Rattle.std.proofs.Common.{◌≡◌, ◌==◌, length, refl, ap, sym, subst, ◌∙◌, Some}
 use Rattle.tv_outputs.specs.Known.{known}
 use Rattle.tv_telling.specs.Views.{HasPiece}
 use Rattle.tv_instance.specs.Events.{fault_set}
@@ -10,13 +10,13 @@ use Rattle.tv_frame.proofs.OfPassing.{fault-arrives, fault-coming, fault-first_c
 use Rattle.tv_frame.proofs.OfRooms.{worked-ready}
 use Rattle.tv_frame.proofs.frame.Frame.work_fault.Goals as goal
 
-pub index-first-requires : goal.index-first-requires
-index-first-requires c =
+pub first_tree-first-requires : goal.first_tree-first-requires
+first_tree-first-requires c =
     let r = c.requires.next in
     let f = c.args.self.now in
     let plan = c.args.plan.now in
     let pool = c.args.pool.now in
-    subst (λ m. c.args.step < m) (sym f.tables.firsts.ok.0) (firsts-within r.0 plan pool f r.1 c.args.step r.2 r.4 r.5)
+    firsts-within r.0 plan pool f r.1 c.args.step r.2 r.4 r.5
 
 pub outputs_of-requires : goal.outputs_of-requires
 outputs_of-requires c =
@@ -32,8 +32,8 @@ faults_by_arrival-requires-clause-can c =
     let f = c.args.self.now in
     let plan = c.args.plan.now in
     let pool = c.args.pool.now in
-    let x = c.index-first.result.now in
-    let first = first-is r.0 plan pool f r.1 c.args.step r.2 r.4 r.5 x c.index-first.ensures in
+    let x = c.first_tree-first.result in
+    let first = first-is r.0 plan pool f r.1 c.args.step r.2 r.4 r.5 x c.first_tree-first.ensures in
     fault-arrives r.0 plan pool f r.1 c.args.step r.2 r.4 r.5 c.args.place.now r.3 c.args.pieces.now r.6 r.7 x first
 
 pub whole_by_arrival-whole_from-requires-clause-there : goal.whole_by_arrival-whole_from-requires-clause-there
@@ -42,8 +42,8 @@ whole_by_arrival-whole_from-requires-clause-there c =
     let f = c.args.self.now in
     let plan = c.args.plan.now in
     let pool = c.args.pool.now in
-    let x = c.index-first.result.now in
-    let first = first-is r.0 plan pool f r.1 c.args.step r.2 r.4 r.5 x c.index-first.ensures in
+    let x = c.first_tree-first.result in
+    let first = first-is r.0 plan pool f r.1 c.args.step r.2 r.4 r.5 x c.first_tree-first.ensures in
     fault-there r.0 plan pool f r.1 c.args.step r.2 r.4 r.5 c.args.place.now r.3 c.args.pieces.now r.6 r.7 x first
 
 pub whole_by_arrival-whole_from-requires-clause-short : goal.whole_by_arrival-whole_from-requires-clause-short
@@ -52,8 +52,8 @@ whole_by_arrival-whole_from-requires-clause-short c =
     let f = c.args.self.now in
     let plan = c.args.plan.now in
     let pool = c.args.pool.now in
-    let x = c.index-first.result.now in
-    let first = first-is r.0 plan pool f r.1 c.args.step r.2 r.4 r.5 x c.index-first.ensures in
+    let x = c.first_tree-first.result in
+    let first = first-is r.0 plan pool f r.1 c.args.step r.2 r.4 r.5 x c.first_tree-first.ensures in
     fault-first_short r.0 plan pool f r.1 c.args.step r.2 r.4 r.5 c.args.place.now r.3 c.args.pieces.now r.6 r.7 x first
 
 pub whole_by_arrival-whole_from-requires-clause-can : goal.whole_by_arrival-whole_from-requires-clause-can
@@ -62,8 +62,8 @@ whole_by_arrival-whole_from-requires-clause-can c =
     let f = c.args.self.now in
     let plan = c.args.plan.now in
     let pool = c.args.pool.now in
-    let x = c.index-first.result.now in
-    let first = first-is r.0 plan pool f r.1 c.args.step r.2 r.4 r.5 x c.index-first.ensures in
+    let x = c.first_tree-first.result in
+    let first = first-is r.0 plan pool f r.1 c.args.step r.2 r.4 r.5 x c.first_tree-first.ensures in
     fault-first_can r.0 plan pool f r.1 c.args.step r.2 r.4 r.5 c.args.place.now r.3 c.args.pieces.now r.6 r.7 x first
 
 pub hold-requires : goal.hold-requires
@@ -72,8 +72,8 @@ hold-requires c =
     let f = c.args.self.now in
     let plan = c.args.plan.now in
     let pool = c.args.pool.now in
-    let x = c.index-first.result.now in
-    let first = first-is r.0 plan pool f r.1 c.args.step r.2 r.4 r.5 x c.index-first.ensures in
+    let x = c.first_tree-first.result in
+    let first = first-is r.0 plan pool f r.1 c.args.step r.2 r.4 r.5 x c.first_tree-first.ensures in
     let e = fault_set r.2.0 c.args.place.now r.3 in
     let outs : c.outputs_of.result ≡ length r.2.1.outputs = c.outputs_of.ensures r.2 (step-there r.0 plan pool f r.1 c.args.step r.2 r.4 r.5) in (
       r.0,
@@ -96,8 +96,8 @@ find_outs-requires c =
     let f = c.args.self.now in
     let plan = c.args.plan.now in
     let pool = c.args.pool.now in
-    let x = c.index-first.result.now in
-    let first = first-is r.0 plan pool f r.1 c.args.step r.2 r.4 r.5 x c.index-first.ensures in
+    let x = c.first_tree-first.result in
+    let first = first-is r.0 plan pool f r.1 c.args.step r.2 r.4 r.5 x c.first_tree-first.ensures in
     let e = fault_set r.2.0 c.args.place.now r.3 in (
       r.0,
       r.1,
@@ -122,8 +122,8 @@ returns-clause-ready c = λ flows v s d k at can passed room.
     let q = c.args.place.now in
     let ps = c.args.pieces.now in
     let e = fault_set s.0 q d in
-    let x = c.index-first.result.now in
-    let first = first-is flows plan pool f v c.args.step s k at x c.index-first.ensures in
+    let x = c.first_tree-first.result in
+    let first = first-is flows plan pool f v c.args.step s k at x c.first_tree-first.ensures in
     let outs : c.outputs_of.result ≡ length s.1.outputs = c.outputs_of.ensures s (step-there flows plan pool f v c.args.step s k at) in
     let next = fault-next flows plan pool f v c.args.step s k at q d ps can passed in
     let turns = fault-turns flows plan pool f v c.args.step s k at q d ps can passed x first c.whole_by_arrival-whole_from.result c.whole_by_arrival-whole_from.ensures in

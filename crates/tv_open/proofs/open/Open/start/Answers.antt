@@ -1,3 +1,4 @@
+use Rattle.std.proofs.Common.{◌∙◌}
 use Rattle.std.proofs.lemmas.Result.{on_err_weaker}
 use Rattle.tv_cell.specs.PieceValues.{piece_values}
 use Rattle.tv_pool.specs.Pool.{number_of}
@@ -8,6 +9,9 @@ pub seated-requires-clause-starts : goal.seated-requires-clause-starts
 seated-requires-clause-starts c =
     let q = c.requires.can in
     (q.0, piece_values c.args.inputs, c.in_ok-frame.ensures.ok q.0.flows q.1)
+
+pub seated-requires-clause-levels : goal.seated-requires-clause-levels
+seated-requires-clause-levels c = c.in_ok-seats.ensures.levels ∙ c.levels.ensures ∙ c.requires.tables.levels_are
 
 pub returns-clause-refused : goal.returns-clause-refused
 returns-clause-refused c =

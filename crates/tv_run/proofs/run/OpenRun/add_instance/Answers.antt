@@ -1,11 +1,12 @@
-use Rattle.std.specs.Prelude.{refl, length, ◌+◌, ◌≤◌, vec_capacity}
+use Rattle.std.specs.Prelude.{refl, length, ◌+◌, ◌<◌, ◌≤◌, vec_capacity}
 use Rattle.std.proofs.Common.{ap, arith, subst, sym, ◌∙◌}
 use Rattle.tv_cell.specs.PieceValues.{piece_values}
 use Rattle.tv_pool.specs.Pool.{IsLive}
 use Rattle.tv_check.specs.RunViews.{run_view}
+use Rattle.tv_frame.specs.Tables.{AreTables}
 use Rattle.tv_run.specs.Rooms.{HasRoomBeside}
 use Rattle.tv_run.specs.declared.run.OpenRun.{OpenRun}
-use Rattle.tv_run.proofs.OfAdding.{before-given_up, before-room, flow-low, is-entering, on-err}
+use Rattle.tv_run.proofs.OfAdding.{before-given_up, before-room, flow-low, is-entering, looks-low, on-err, tables-are}
 use Rattle.tv_run.proofs.OfEnters.{IsStarted, adds-to, entered, opened-on}
 use Rattle.tv_run.proofs.OfFlowPlans.{plan-flow}
 use Rattle.tv_run.proofs.run.OpenRun.add_instance.Goals as goal
@@ -20,8 +21,8 @@ returns-in_err-slot-clause-refused c =
     on-err c.from_residual-in_err-slot.result
     (before-room c.args.self.now c.reserve.new.self c.reserve.ensures.items c.args.self.now.pool (λ n. refl))
 
-pub flow-requires : goal.flow-requires
-flow-requires c =
+pub flow-plan-requires : goal.flow-plan-requires
+flow-plan-requires c =
     let q = c.requires.fits in
     flow-low (run_view c.args.self.now.run) c.args.flow q.1 q.3.is_flow
 
@@ -29,7 +30,23 @@ pub start-requires-clause-can : goal.start-requires-clause-can
 start-requires-clause-can c =
     let q = c.requires.fits in
     let d = run_view c.args.self.now.run in
-    (d, q.3.start c.flow.result.now (plan-flow d c.args.flow q.1 c.flow.result.now q.3.is_flow c.flow.ensures))
+    (d, q.3.start c.flow-plan.result.now (plan-flow d c.args.flow q.1 c.flow-plan.result.now q.3.is_flow c.flow-plan.ensures))
+
+pub index-requires : goal.index-requires
+index-requires c =
+    let q = c.requires.fits in
+    let r = c.args.self.now in
+    subst (λ n. c.args.flow < n) (sym r.looks.ok.0)
+    (looks-low (run_view r.run) r.looks.items q.3.fits.looks c.args.flow q.1 q.3.is_flow)
+
+pub start-requires-clause-tables : goal.start-requires-clause-tables
+start-requires-clause-tables c =
+    let q = c.requires.fits in
+    let r = c.args.self.now in
+    let d = run_view r.run in
+    subst (λ f. AreTables f c.index.result.now.tables)
+    (sym (plan-flow d c.args.flow q.1 c.flow-plan.result.now q.3.is_flow c.flow-plan.ensures))
+    (tables-are d r.looks.items q.3.fits.looks c.args.flow q.1 q.3.is_flow c.index.result.now c.index.ensures)
 
 pub returns-in_err-open-clause-refused : goal.returns-in_err-open-clause-refused
 returns-in_err-open-clause-refused c =
@@ -60,7 +77,7 @@ abandon-requires c =
     let d = run_view c.args.self.now.run in
     let starts =
     c.in_ok-open.ensures.ok d
-    (q.3.start c.flow.result.now (plan-flow d c.args.flow q.1 c.flow.result.now q.3.is_flow c.flow.ensures)) in
+    (q.3.start c.flow-plan.result.now (plan-flow d c.args.flow q.1 c.flow-plan.result.now q.3.is_flow c.flow-plan.ensures)) in
     subst (λ p. IsLive p c.in_ok-open.open.frame.region) (sym c.reserve-2.ensures.same.pool) starts.is_open.keeps.live
 
 pub returns-in-Ok-clause-added : goal.returns-in-Ok-clause-added
@@ -69,8 +86,8 @@ returns-in-Ok-clause-added c xs f name can =
     let d = run_view r.run in
     let m : OpenRun = record r { instances = c.reserve.new.self; pool = c.start.new.pool } in
     let o = c.in_ok-open.open in
-    let plan = c.flow.result.now in
-    let of_flow = plan-flow d c.args.flow f plan can.is_flow c.flow.ensures in
+    let plan = c.flow-plan.result.now in
+    let of_flow = plan-flow d c.args.flow f plan can.is_flow c.flow-plan.ensures in
     let vs = piece_values c.args.inputs in
     let starts = c.in_ok-open.ensures.ok d (can.start plan of_flow) in
     let started : IsStarted r m o =

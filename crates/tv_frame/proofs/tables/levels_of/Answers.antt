@@ -1,6 +1,6 @@
 use Rattle.std.proofs.Common.{arith, ◌∙◌}
-use Rattle.tv_open.proofs.OfPlanLevels.{planned-levels}
-use Rattle.tv_open.proofs.open.levels_of.Goals as goal
+use Rattle.tv_frame.proofs.OfPlanLevels.{planned-levels}
+use Rattle.tv_frame.proofs.tables.levels_of.Goals as goal
 
 pub returns : goal.returns
 returns c =

@@ -12,7 +12,7 @@ use Rattle.tv_check.specs.declared.plans.StepPlan.{StepPlan}
 use Rattle.tv_frame.specs.Tables.{levels_in}
 use Rattle.tv_frame.proofs.OfKeeping.{levels-are}
 use Rattle.tv_frame.proofs.OfTables.{plan-wired, steps-are}
-use Rattle.tv_open.proofs.OfLists.{same-maps}
+use Rattle.tv_frame.proofs.OfLists.{same-maps}
 
 pub planned-levels :
     (p : FlowPlan) (xs : List StepPlan) (n : ℕ) → xs ≡ p.steps → length xs ≤ n
