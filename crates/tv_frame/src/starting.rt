@@ -1,5 +1,5 @@
 //! What the steps are told at the start: all that is known of inputs and constants.
-ghost use Rattle.std.specs.Prelude.{◌≡◌, ◌+◌, ℕ, List, Some, IfOk, OnOk, IsPermutation, length, map, slice_get};
+ghost use Rattle.std.specs.Prelude.{◌≡◌, ◌+◌, ◌++◌, ℕ, List, Some, IfOk, OnOk, IsPermutation, length, map, slice_get};
 ghost use Rattle.tv_value.specs.Values.{Name};
 ghost use Rattle.tv_value.specs.Views.{strategy_view};
 ghost use Rattle.tv_flow.specs.Flows.{Flow, Step};
@@ -28,7 +28,7 @@ use tv_cell::Piece;
 use tv_check::{FlowPlan, StepPlan};
 use tv_idle::Idle;
 use tv_intake::Intakes;
-use tv_match::Tolds;
+use tv_match::{Told, Tolds};
 use tv_opening::port_start;
 use tv_spread::add_known;
 use tv_value::NoMemory;
@@ -135,7 +135,20 @@ fn step_start(
         let number = count - 1 - back;
         let fixed = constants.of_port(step, number);
         let told = port_start(alloc, inputs, &ports[number], fixed)?;
-        tellings.append(&mut told.into_vec())?;
+        tellings = joined(tellings, told)?;
     }
     Ok(Tolds::of(tellings))
+}
+
+/// The tellings, and more behind them. Takes no memory where one of the two is empty.
+fn joined(tellings: Vec<Told>, more: Tolds) -> Result<Vec<Told>, NoMemory>
+    ensures { IfOk result (λ ts. ts.items ≡ tellings.items ++ more) }
+{
+    let mut more = more.into_vec();
+    if tellings.is_empty() {
+        return Ok(more);
+    }
+    let mut all = tellings;
+    all.append(&mut more)?;
+    Ok(all)
 }
