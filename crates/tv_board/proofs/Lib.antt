@@ -1,3 +1,4 @@
 mod OfGiven
 mod OfCalls
 mod OfAnswers
+mod OfAsking

@@ -1,5 +1,5 @@
 //! The type of boards, and its calls.
-ghost use Rattle.std.specs.Prelude.{◌≡◌, [], IfErr, IfOk, IsOk, MatchOption, OnErr, OnOk, Some, map, slice_get, true};
+ghost use Rattle.std.specs.Prelude.{◌≡◌, [], IfErr, IfOk, IsOk, MatchOption, OnErr, OnOk, Some, is_some, map, slice_get, true};
 ghost use Rattle.tv_value.specs.Views.{view};
 ghost use Rattle.tv_flow.specs.Views.{each};
 ghost use Rattle.tv_gate.specs.Views.{outcome_view};
@@ -10,9 +10,10 @@ ghost use Rattle.tv_model.specs.Totals as model;
 ghost use Rattle.tv_model.specs.TotalsViews.{totals_view};
 ghost use Rattle.tv_history.specs.Histories.{is_done};
 ghost use Rattle.tv_entries.specs.Answers.{question};
-ghost use Rattle.tv_entries.specs.Calls.{IsNothingOffered, IsTask, IsTaskFault, hands_out, out_count, totals_so_far};
+ghost use Rattle.tv_entries.specs.Calls.{IsNothingOffered, IsTask, IsTaskFault, hands_out, out_count, totals_so_far, try_if_out};
 ghost use Rattle.tv_entries.specs.Declarations.{declared_for};
 ghost use Rattle.tv_entries.specs.Idle.{AreIdle};
+ghost use Rattle.tv_board.specs.Asked.{AsksAndAccepts, AsksOnceAtMost};
 ghost use Rattle.tv_board.specs.Refusals.{IsRefused, answered, told_or_back};
 ghost use Rattle.tv_entries.specs.Refusals.{IsAccepting};
 ghost use Rattle.tv_entries.specs.Runs.{Appends, IsLegalRun, meant, past_of};
@@ -25,7 +26,7 @@ use std::alloc::Global;
 use std::marker::{Model, PhantomData};
 use tv_check::CheckedRun;
 use tv_entries::{Accepted, Entry, Task, TaskFault, Tested, Ticket};
-use tv_gate::Services;
+use tv_gate::{Asker, Services};
 use tv_model::Totals;
 use tv_run::OpenRun;
 use tv_value::{JobName, Name, NoMemory, Sequence, Value};
@@ -188,6 +189,29 @@ impl<V: Services> Board<V> {
                 told_or_back(told, answer)
             }
         }
+    }
+
+    /// Asks for a try that is out, by one call, and accepts the outcome, as `task`, `ask_alone` and
+    /// `accept` do one after the other, but copies no names and no outcome and compares nothing. After
+    /// `Err` the board is as it was, the asker was called once at the most, and its answer is gone.
+    pub fn ask_and_accept<A: Asker<Services = V>>(
+        &mut self,
+        alloc: Global,
+        ticket: &Ticket,
+        asker: &mut A,
+    ) -> Result<Accepted, NoMemory>
+        requires { is_some (try_if_out V.gives self.old ticket.now) ≡ true }
+        ensures accepted { IfOk result (λ a. AsksAndAccepts V.gives self.old self.new ticket.now
+            (A.calls asker.old) (A.calls asker.new) a) }
+        ensures refused { OnErr result (AsksOnceAtMost V.gives self.old ticket.now
+            (A.calls asker.old) (A.calls asker.new)) }
+        ensures unchanged { OnErr result (self.new ≡ self.old) }
+        ensures legal { IsLegalRun V.gives self.new }
+    {
+        let inputs = self.run.asked_inputs(*ticket)?;
+        let service = self.run.asked_service(*ticket).as_str();
+        let outcome = asker.call(alloc, service, &inputs, ticket.attempt)?;
+        self.run.accept_own(*ticket, outcome)
     }
 
     /// The outputs of a run that is done: those that the document means by the services, in the order of the flow's outputs.

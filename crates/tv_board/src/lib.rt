@@ -13,7 +13,9 @@
 //! - `task` is linear in what is asked; `ask` and `ask_alone` cost the one call that they make
 //! - `hand_out` and `settle_one` walk down to the first job that goes on, and then cost what they change; a job that is bounced costs
 //!   what it binds too, and an instance that is opened a look at each step of its flow
-//! - `accept` compares the inputs, and then costs what it changes: what its job gives, and what becomes known with it
+//! - `accept` compares the inputs, copies the outcome, and then costs what it changes: what its job gives, and what becomes known
+//!   with it
+//! - `ask_and_accept` costs the one call that it makes, what is asked and what changes: it compares nothing and copies no outcome
 //! - `recall_all` is linear in the jobs that are known and in the steps, of the open instances; `totals` is linear in the history
 //!
 //! - `board`: the type and its calls

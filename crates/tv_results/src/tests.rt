@@ -61,7 +61,7 @@ fn bound(alloc: Global) -> Result<Items, NoMemory> {
 fn what_jobs_give(rt: HostRuntime) -> Result<(), Fail> {
     let alloc = rt.alloc();
     let values = bound(alloc)?;
-    let pieces = value_pieces(alloc, &values)?;
+    let pieces = value_pieces(alloc, values.copy(alloc)?)?;
     let back = values_of(alloc, pieces.as_slice())?;
     assert_eq!(&rt; same_value(&Value::List(back), &Value::List(values)), true);
     let failed = error_pieces(

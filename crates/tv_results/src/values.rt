@@ -8,23 +8,32 @@ use std::alloc::Global;
 use tv_cell::{Cell, Piece, Pieces, Row, assemble};
 use tv_value::{Copied, Items, NoMemory, Place, Value};
 
-/// A piece of its own for each of these values. Copies them.
-pub fn value_pieces(alloc: Global, values: &Items) -> Result<Pieces, NoMemory>
+/// A piece of its own for each of these values. Moves them into cells as they are: linear in their number.
+pub fn value_pieces(alloc: Global, values: Items) -> Result<Pieces, NoMemory>
     ensures sound { IfOk result AreSound }
-    ensures values { IfOk result (λ ps. piece_values ps ≡ values_view values.now) }
+    ensures values { IfOk result (λ ps. piece_values ps ≡ values_view values) }
 {
-    pieces_of(alloc, values.as_slice())
+    pieces_of(alloc, values.into_vec())
 }
 
-fn pieces_of(alloc: Global, values: &[Value]) -> Result<Pieces, NoMemory>
+fn pieces_of(alloc: Global, values: Vec<Value>) -> Result<Pieces, NoMemory>
     ensures sound { IfOk result AreSound }
-    ensures values { IfOk result (λ ps. piece_values ps ≡ map view values.now) }
+    ensures values { IfOk result (λ ps. piece_values ps ≡ map view values.items) }
 {
     let mut pieces = Vec::with_capacity(alloc, values.len())?;
     for value in values {
-        pieces.push(value_piece(alloc, value)?)?;
+        pieces.push(own_piece(alloc, value)?)?;
     }
     Ok(Row::of(pieces))
+}
+
+/// A piece that stands for a value, which is moved.
+fn own_piece(alloc: Global, value: Value) -> Result<Piece, NoMemory>
+    ensures sound { IfOk result IsSound }
+    ensures value { IfOk result (λ p. piece_value p ≡ view value) }
+{
+    let cell = Cell::put(alloc, value)?;
+    Ok(Piece::Part(cell, Place::top(alloc)))
 }
 
 /// A piece that stands for a copy of a value.
@@ -32,8 +41,7 @@ pub fn value_piece(alloc: Global, value: &Value) -> Result<Piece, NoMemory>
     ensures sound { IfOk result IsSound }
     ensures value { IfOk result (λ p. piece_value p ≡ view value.now) }
 {
-    let cell = Cell::put(alloc, value.copy(alloc)?)?;
-    Ok(Piece::Part(cell, Place::top(alloc)))
+    own_piece(alloc, value.copy(alloc)?)
 }
 
 /// The values that pieces stand for. Linear in the values.

@@ -32,13 +32,14 @@ ghost use Rattle.tv_run.specs.declared.instances.Numbered.{Numbered as TheNumber
 
 use crate::instances::Numbered;
 use crate::run::OpenRun;
+use std::alloc::Global;
 use tv_cell::Pieces;
 use tv_dispatch::{Next, Verdict, after, judge};
 use tv_entries::{Accepted, Entry, Tested, Ticket};
 use tv_flow::Activity;
 use tv_gate::Outcome;
 use tv_results::{error_pieces, value_pieces};
-use tv_value::{Depths, Items, Name, NoMemory, Sequence, Text};
+use tv_value::{Copied, Depths, Items, Name, NoMemory, Sequence, Text};
 
 /// Whether two lists of outputs have the same depths, in order.
 fn same_depths(first: &[(Name, u32)], second: &[(Name, u32)]) -> bool
@@ -62,6 +63,16 @@ fn is_service(activity: &Activity, service: &Name) -> bool
     match activity {
         Activity::Service(name) => *name == *service,
         Activity::Nested(_) => false,
+    }
+}
+
+/// An equal outcome of its own. Linear in its size.
+fn copy_of(alloc: Global, outcome: &Outcome) -> Result<Outcome, NoMemory>
+    ensures { IfOk result (λ o. outcome_view o ≡ outcome_view outcome.now) }
+{
+    match outcome {
+        Outcome::Good(values) => Ok(Outcome::Good(values.copy(alloc)?)),
+        Outcome::Bad(why) => Ok(Outcome::Bad(why.copy(alloc)?)),
     }
 }
 
@@ -121,22 +132,36 @@ impl OpenRun {
             .binds(plan, &self.pool, number, inputs.as_slice())
     }
 
-    /// Accepts an outcome of a try that is out, by the judgment of it.
+    /// Accepts an outcome of a try that is out, by the judgment of it. Copies the outcome.
     pub fn accept(&mut self, ticket: Ticket, outcome: &Outcome) -> Result<Accepted, NoMemory>
         requires { (gives : Giving) × (q : Question) × StandsOpen gives self.old × IsAsked gives self.old ticket q (outcome_view outcome.now) }
         ensures accepted { IfOk result (λ a. (gives : Giving) (q : Question) → StandsOpen gives self.old → IsAsked gives self.old ticket q (outcome_view outcome.now) → AcceptsTo gives self.old self.new q (outcome_view outcome.now) a) }
         ensures refused { OnErr result ((gives : Giving) → StandsOpen gives self.old → StaysAs gives self.old self.new) }
     {
+        let own = copy_of(self.alloc, outcome)?;
+        self.accept_own(ticket, own)
+    }
+
+    /// Accepts an outcome of a try that is out, by the judgment of it. The values that it gives are moved
+    /// and not copied. After `Err` they are gone.
+    pub fn accept_own(&mut self, ticket: Ticket, outcome: Outcome) -> Result<Accepted, NoMemory>
+        requires { (gives : Giving) × (q : Question) × StandsOpen gives self.old
+            × IsAsked gives self.old ticket q (outcome_view outcome) }
+        ensures accepted { IfOk result (λ a. (gives : Giving) (q : Question) → StandsOpen gives self.old
+            → IsAsked gives self.old ticket q (outcome_view outcome)
+            → AcceptsTo gives self.old self.new q (outcome_view outcome) a) }
+        ensures refused { OnErr result ((gives : Giving) → StandsOpen gives self.old → StaysAs gives self.old self.new) }
+    {
         let outputs = &self.step_at(ticket.job).outputs;
-        match judge(self.alloc, outputs, outcome)? {
+        match judge(self.alloc, outputs, &outcome)? {
             Verdict::Right => self.accept_right(ticket, outcome),
             Verdict::Wrong(why) => self.accept_wrong(ticket, why),
         }
     }
 
-    fn accept_right(&mut self, ticket: Ticket, outcome: &Outcome) -> Result<Accepted, NoMemory>
-        requires { (gives : Giving) × (q : Question) × StandsOpen gives self.old × IsAsked gives self.old ticket q (outcome_view outcome.now) × (is_right q (outcome_view outcome.now) ≡ true) }
-        ensures accepted { IfOk result (λ a. (gives : Giving) (q : Question) → StandsOpen gives self.old → IsAsked gives self.old ticket q (outcome_view outcome.now) → is_right q (outcome_view outcome.now) ≡ true → AcceptsTo gives self.old self.new q (outcome_view outcome.now) a) }
+    fn accept_right(&mut self, ticket: Ticket, outcome: Outcome) -> Result<Accepted, NoMemory>
+        requires { (gives : Giving) × (q : Question) × StandsOpen gives self.old × IsAsked gives self.old ticket q (outcome_view outcome) × (is_right q (outcome_view outcome) ≡ true) }
+        ensures accepted { IfOk result (λ a. (gives : Giving) (q : Question) → StandsOpen gives self.old → IsAsked gives self.old ticket q (outcome_view outcome) → is_right q (outcome_view outcome) ≡ true → AcceptsTo gives self.old self.new q (outcome_view outcome) a) }
         ensures refused { OnErr result ((gives : Giving) → StandsOpen gives self.old → StaysAs gives self.old self.new) }
     {
         match outcome {

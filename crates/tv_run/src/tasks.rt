@@ -1,6 +1,8 @@
 //! Tasks of tickets.
 ghost use Rattle.std.specs.Prelude.{◌≡◌, Some, IfOk, is_some, slice_get, true};
 ghost use Rattle.tv_value.specs.Activities.{service};
+ghost use Rattle.tv_value.specs.Views.{values_view};
+ghost use Rattle.tv_dispatch.specs.Jobs.{Ask};
 ghost use Rattle.tv_gate.specs.Outcomes.{Giving};
 ghost use Rattle.tv_flow.specs.Views.{activity_view};
 ghost use Rattle.tv_entries.specs.Answers.{question};
@@ -19,20 +21,19 @@ ghost use Rattle.tv_run.specs.Standing.{Fits, StandsStill, run_of};
 
 use crate::instances::Numbered;
 use crate::run::OpenRun;
-use std::alloc::Global;
 use tv_cell::Pieces;
 use tv_entries::{Task, Ticket};
 use tv_flow::Activity;
 use tv_results::values_of;
-use tv_value::{Copied, Name, NoMemory};
+use tv_value::{Copied, Items, Name, NoMemory};
 
 /// The name of the service of an activity that is one.
-fn service_of(alloc: Global, activity: &Activity) -> Result<Name, NoMemory>
+fn service_of(activity: &Activity) -> &Name
     requires { is_service (activity_view activity.now) ≡ true }
-    ensures { IfOk result (λ n. activity_view activity.now ≡ service n) }
+    ensures { activity_view activity.now ≡ service result.now }
 {
     match activity {
-        Activity::Service(name) => name.copy(alloc),
+        Activity::Service(name) => name,
         Activity::Nested(_) => unreachable!(),
     }
 }
@@ -44,18 +45,37 @@ impl OpenRun {
         ensures ticket { IfOk result (λ t. t.ticket ≡ ticket) }
         ensures task { IfOk result (λ t. (gives : Giving) → StandsStill gives self.now → is_some (try_if_out gives (run_of self.now) ticket) ≡ true → IsTask gives (run_of self.now) (question t.ticket t.service t.inputs t.outputs) × (declared_for gives (run_of self.now) ticket.job ≡ Some t.outputs)) }
     {
-        let step = self.step_at(ticket.job);
-        let activity = &step.activities.as_slice()[ticket.activity as usize];
-        let service = service_of(self.alloc, activity)?;
-        let pieces = self.inputs_of(ticket.job)?;
-        let inputs = values_of(self.alloc, pieces.as_slice())?;
-        let outputs = step.outputs.copy(self.alloc)?;
+        let service = self.asked_service(ticket).copy(self.alloc)?;
+        let inputs = self.asked_inputs(ticket)?;
+        let outputs = self.step_at(ticket.job).outputs.copy(self.alloc)?;
         Ok(Task {
             ticket,
             service,
             inputs,
             outputs,
         })
+    }
+
+    /// The service that a ticket's try asks, which is out. Takes no memory.
+    pub fn asked_service(&self, ticket: Ticket) -> &Name
+        requires { (gives : Giving) × StandsStill gives self.now
+            × (is_some (try_if_out gives (run_of self.now) ticket) ≡ true) }
+        ensures { (gives : Giving) (a : Ask) → StandsStill gives self.now
+            → try_if_out gives (run_of self.now) ticket ≡ Some a → result.now ≡ a.service }
+    {
+        let step = self.step_at(ticket.job);
+        service_of(&step.activities.as_slice()[ticket.activity as usize])
+    }
+
+    /// The values that a ticket's try asks it for, which is out. Linear in them.
+    pub fn asked_inputs(&self, ticket: Ticket) -> Result<Items, NoMemory>
+        requires { (gives : Giving) × StandsStill gives self.now
+            × (is_some (try_if_out gives (run_of self.now) ticket) ≡ true) }
+        ensures { IfOk result (λ vs. (gives : Giving) (a : Ask) → StandsStill gives self.now
+            → try_if_out gives (run_of self.now) ticket ≡ Some a → values_view vs ≡ a.inputs) }
+    {
+        let pieces = self.inputs_of(ticket.job)?;
+        values_of(self.alloc, pieces.as_slice())
     }
 
     /// What a job of an open instance binds.

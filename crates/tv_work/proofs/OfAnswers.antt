@@ -26,7 +26,8 @@ use Rattle.tv_entries.specs.Answers.{Question}
 use Rattle.tv_entries.specs.Calls.{IsTask, job_of, try_out}
 use Rattle.tv_entries.specs.Refusals.{accepts}
 use Rattle.tv_entries.proofs.OfPasts.{name-more}
-use Rattle.tv_work.specs.Asked.{AsksEach, accepted_tries, call_for, call_of}
+use Rattle.tv_board.specs.Asked.{call_for}
+use Rattle.tv_work.specs.Asked.{AsksEach, accepted_tries, call_of}
 use Rattle.tv_work.proofs.OfAsked.{tries-after}
 use Rattle.tv_entries.proofs.OfOneMore.{one-newer}
 use Rattle.tv_work.proofs.OfRuns.{jobs-of}

@@ -12,7 +12,7 @@ use Rattle.tv_model.specs.Meanings.{meaning}
 use Rattle.tv_model.proofs.Order.{in-append}
 use Rattle.tv_model.proofs.Tests.{true≠false}
 use Rattle.tv_history.specs.Tries.{all_tries, ask_try, entry_try}
-use Rattle.tv_board.specs.Asked.{IsSameOrCalled}
+use Rattle.tv_board.specs.Asked.{IsSameOrCalled, call_for}
 use Rattle.tv_entries.specs.Answers.{Question}
 use Rattle.tv_entries.specs.Calls.{IsTask, Settles, hands_out, settles}
 use Rattle.tv_entries.specs.Runs.{Appends, IsLegalRun, Run, instances_of, meant, with_names}
@@ -20,7 +20,7 @@ use Rattle.tv_entries.specs.declared.entry.Entry.{Entry}
 use Rattle.tv_entries.specs.declared.entry.Entry.TheVariants as entry
 use Rattle.tv_entries.specs.declared.ticket.Ticket.{Ticket}
 use Rattle.tv_flow.specs.Flows.{Document}
-use Rattle.tv_work.specs.Asked.{AreAsksOf, AsksAtMostOneMore, AsksEach, accepted_tries, call_for, call_of}
+use Rattle.tv_work.specs.Asked.{AreAsksOf, AsksAtMostOneMore, AsksEach, accepted_tries, call_of}
 use Rattle.tv_entries.proofs.OfOneMore.{named, one-newer}
 
 -- after an error that was passed on

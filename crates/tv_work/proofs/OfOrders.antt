@@ -33,7 +33,8 @@ use Rattle.tv_outcomes.proofs.Read.{documents-have_activities}
 use Rattle.tv_entries.specs.Answers.{Question}
 use Rattle.tv_entries.specs.Calls.{IsTask}
 use Rattle.tv_entries.specs.Runs.{IsLegalRun, Run, meant, past_of}
-use Rattle.tv_work.specs.Asked.{AreAsksOf, AsksABeginning, AsksAtMostOneMore, AsksEach, AsksInOrder, accepted_tries, call_for, call_of}
+use Rattle.tv_board.specs.Asked.{call_for}
+use Rattle.tv_work.specs.Asked.{AreAsksOf, AsksABeginning, AsksAtMostOneMore, AsksEach, AsksInOrder, accepted_tries, call_of}
 use Rattle.tv_work.specs.ByOne.{IsByOne, StaysByOne}
 use Rattle.tv_work.specs.InOrder.{HasOnlySettled}
 use Rattle.tv_work.specs.Working.{IsWorkedOff}

@@ -1,26 +1,17 @@
 -- One turn of a worker: what it settles, hands out and has accepted.
-use Rattle.std.specs.Prelude.{Bool, false, is_some, true, unwrap_or, ◌+◌, ◌-◌, ◌<◌, ◌≡◌, ◌≤◌}
-use Rattle.std.proofs.Common.{ap, arith, subst, sym, ◌∙◌}
+use Rattle.std.specs.Prelude.{Bool, false, true, ◌-◌, ◌<◌, ◌≡◌, ◌≤◌}
+use Rattle.std.proofs.Common.{ap, arith, subst, sym}
 use Rattle.tv_gate.specs.Outcomes.{Giving, Outcome}
-use Rattle.tv_gate.specs.declared.services.Services.{Ghosts}
-use Rattle.tv_dispatch.specs.Jobs.{Ask}
 use Rattle.tv_flow.specs.Formed.{is_formed}
 use Rattle.tv_model.specs.Meanings.{meaning}
-use Rattle.tv_model.proofs.Tests.{true≠false}
 use Rattle.tv_history.specs.Going.{most_entries}
 use Rattle.tv_entries.specs.Answers.{Question}
-use Rattle.tv_entries.specs.Calls.{IsTask, IsTaskFault, out_count}
+use Rattle.tv_entries.specs.Calls.{IsTask, out_count}
 use Rattle.tv_entries.specs.Refusals.{IsAccepting, accepts}
-use Rattle.tv_board.specs.Refusals.{IsRefused}
 use Rattle.tv_entries.specs.Runs.{Appends, IsLegalRun, Run, meant, past_of}
 use Rattle.tv_entries.specs.declared.told.Accepted.{Accepted}
 use Rattle.tv_entries.specs.declared.told.Accepted.TheVariants as accepted
-use Rattle.tv_board.specs.declared.refused.Refused.{Refused}
-use Rattle.tv_board.specs.declared.refused.Refused.TheVariants as refused
-use Rattle.tv_entries.specs.declared.told.TaskFault.{TaskFault}
-use Rattle.tv_entries.specs.declared.told.TaskFault.TheVariants as task_fault
 use Rattle.tv_entries.specs.declared.ticket.Ticket.{Ticket}
-use Rattle.tv_work.specs.Wants.{IsNoRoom, IsNoTask}
 use Rattle.tv_work.specs.Working.{GoesOn, IsFree, IsOnlyOut, IsTurn, progress}
 use Rattle.tv_work.proofs.OfProgress.{progress-bounded}
 use Rattle.tv_work.proofs.OfRuns.{goes_on-one, progress-after, progress-grows, progress-past}
@@ -47,6 +38,10 @@ accepts-one : (gives : Giving) (s u : Run) (q : Question) (o : Outcome) (a : Acc
 accepts-one gives s u q o accepted.Again h = (false, h.0.appends)
 accepts-one gives s u q o (accepted.Settled good) h = (good, h.0.appends)
 
+pub accepted-task : (gives : Giving) (s u : Run) (q : Question) (o : Outcome) (a : Accepted) → IsAccepting gives s u q o a → IsTask gives s q
+accepted-task gives s u q o accepted.Again h = h.0.task
+accepted-task gives s u q o (accepted.Settled good) h = h.0.task
+
 module _ (gives : Giving) (s u : Run) (t : Ticket) (q : Question) (o : Outcome) (a : Accepted) (same : q.ticket ≡ t) (h : IsAccepting gives s u q o a) where
   pub its-entry : (right : Bool) × Appends s u (accepts t right)
   its-entry = let r = accepts-one gives s u q o a h in (r.0, subst (λ k. Appends s u (accepts k r.0)) same r.1)
@@ -56,16 +51,3 @@ module _ (gives : Giving) (s u : Run) (t : Ticket) (q : Question) (o : Outcome) 
 
   pub accepted-turn : IsLegalRun gives s → IsOnlyOut gives s t → IsTurn gives s u true
   accepted-turn l only = (accepted-none gives s u t its-entry.0 l only its-entry.1, (omega (arith, progress-after s u (accepts t its-entry.0) its-entry.1)))
-
--- ---- refusals
-
-pub only-no_task : (gives : Giving) (r : Run) (t : Ticket) (f : TaskFault) → IsOnlyOut gives r t → IsTaskFault gives r t f → IsNoTask f
-only-no_task gives r t (task_fault.NotOut s) only h = absurd (true≠false (sym only.out ∙ ap is_some h.0))
-only-no_task gives r t task_fault.NoMemory only h = tt
-
-pub task-no_room : {V : Type 0} {services : Ghosts V} (gives : Giving) (r : Run) (q : Question) (o : Outcome) (f : Refused V services) → IsTask gives r q → IsRefused gives r q o f → IsNoRoom f
-task-no_room gives r q o (refused.NotOut a s) task h = absurd (true≠false (ap is_some (sym task.out ∙ h.1.0)))
-task-no_room gives r q o (refused.OtherInputs a) task h =
-    let same = ap (λ k. unwrap_or k task.asked) (sym task.out ∙ h.1.out) in
-    absurd (h.1.other (task.service ∙ ap (λ (k : Ask). k.service) same, task.inputs ∙ ap (λ (k : Ask). k.inputs) same, task.outputs ∙ ap (λ (k : Ask). k.outputs) same))
-task-no_room gives r q o (refused.NoMemory a) task h = tt

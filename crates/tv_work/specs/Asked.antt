@@ -11,6 +11,7 @@ use Rattle.tv_model.specs.Members.{In}
 use Rattle.tv_model.specs.Turns.{ask_order}
 use Rattle.tv_history.specs.Alone.{IsFirstPart}
 use Rattle.tv_history.specs.Tries.{NamedTry, all_tries, ask_try}
+use Rattle.tv_board.specs.Asked.{call_for}
 use Rattle.tv_entries.specs.Answers.{Question}
 use Rattle.tv_entries.specs.Calls.{IsTask}
 use Rattle.tv_entries.specs.Runs.{Run, meant, past_of}
@@ -36,10 +37,6 @@ AsksEach gives before after r s =
     × (after ≡ Some (calls ++ map call_of asks))
     × (accepted_tries s ≡ accepted_tries r ++ map (ask_try gives) asks)
     × AreAsksOf (meant gives r).jobs asks
-
--- the call of what a task asks
-abbrev pub call_for : Question → Call
-call_for q = record { service = q.service; inputs = q.inputs; attempt = q.ticket.attempt }
 
 -- such calls, and then perhaps that of a try that is still out, whose answer was lost
 abbrev pub AsksAtMostOneMore : Giving → Option (List Call) → Option (List Call) → Run → Run → Type 0

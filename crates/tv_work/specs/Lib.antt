@@ -3,7 +3,6 @@ pub mod Working
 pub mod Asked
 pub mod InOrder
 pub mod ByOne
-pub mod Wants
 pub mod Ran
 pub mod Called
 pub mod Stuck

@@ -6,11 +6,10 @@ ghost use Rattle.tv_entries.specs.Settlements.{IsSettling};
 ghost use Rattle.tv_work.specs.Asked.{AsksABeginning, AsksAtMostOneMore, AsksEach, AsksInOrder, accepted_tries};
 ghost use Rattle.tv_work.specs.ByOne.{StaysByOne};
 ghost use Rattle.tv_work.specs.InOrder.{AcceptsABeginning, AcceptsInOrder, HasOnlySettled};
-ghost use Rattle.tv_work.specs.Wants.{IsNoRoom, IsNoTask};
 ghost use Rattle.tv_work.specs.Working.{GoesOn, IsFree, IsOnlyOut, IsTurn, IsWorkedOff};
 
 use std::alloc::Global;
-use tv_board::{Board, Refused, TaskFault, Ticket, ask_alone};
+use tv_board::{Board, Ticket};
 use tv_gate::{Asker, Services};
 use tv_value::NoMemory;
 
@@ -109,37 +108,6 @@ fn ask_for<V: Services, A: Asker<Services = V>>(
     ensures lost { OnErr result (AsksAtMostOneMore V.gives (A.calls asker.old) (A.calls asker.new) board.old board.new) }
     ensures by_one { StaysByOne V.gives board.old board.new }
 {
-    let task = match board.task(ticket) {
-        Ok(task) => task,
-        Err(fault) => return Err(no_task(fault)),
-    };
-    let answer = ask_alone(alloc, task, asker)?;
-    match board.accept(answer) {
-        Ok(_accepted) => Ok(()),
-        Err(refused) => Err(no_room(refused)),
-    }
-}
-
-/// A task is refused for want of memory, where its try is out.
-fn no_task(fault: TaskFault) -> NoMemory
-    requires { IsNoTask fault }
-{
-    match fault {
-        TaskFault::NoMemory => NoMemory,
-        TaskFault::NotOut(_) => unreachable!(),
-    }
-}
-
-/// An answer is refused for want of memory, where it is what its try asks.
-fn no_room<V: Services>(refused: Refused<V>) -> NoMemory
-    requires { IsNoRoom refused }
-{
-    match refused {
-        Refused::NoMemory { answer: _answer } => NoMemory,
-        Refused::NotOut {
-            answer: _answer,
-            state: _,
-        } => unreachable!(),
-        Refused::OtherInputs { answer: _answer } => unreachable!(),
-    }
+    let _accepted = board.ask_and_accept(alloc, ticket, asker)?;
+    Ok(())
 }

@@ -8,5 +8,5 @@ use Rattle.tv_results.proofs.values.value_pieces.Goals as goal
 pub returns-clause-values : goal.returns-clause-values
 returns-clause-values c =
     IfOk-weaker c.pieces_of.result _ _
-    (λ ps h. h ∙ sym (items-trees_of (map view c.as_slice.result.now)) ∙ ap items c.as_slice.ensures)
+    (λ ps h. h ∙ sym (items-trees_of (map view c.into_vec.result.items)) ∙ ap items c.into_vec.ensures)
     c.pieces_of.ensures.values
