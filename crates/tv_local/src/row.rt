@@ -1,7 +1,8 @@
 // The rows of the table: which services there are, and what each wants.
-ghost use Rattle.std.specs.Prelude.{◌≡◌, map};
+ghost use Rattle.std.specs.Prelude.{◌≡◌, filter, map};
 ghost use Rattle.tv_value.specs.Orders.{named};
 ghost use Rattle.tv_local.specs.Table.{names, wants};
+ghost use Rattle.tv_local.specs.Beginnings.{begins};
 
 /// A local service.
 #[derive(Clone, Copy, Debug, PartialEq, Eq)]
@@ -41,33 +42,39 @@ pub enum Want {
     Any,
 }
 
-/// The services by name.
-const NAMES: [(&str, Local); 18] = [
-    ("add", Local::Add),
-    ("concat", Local::Concat),
-    ("count", Local::Count),
-    ("distinct", Local::Distinct),
-    ("echo", Local::Echo),
-    ("fail_if", Local::FailIf),
-    ("flaky", Local::Flaky),
-    ("flatten", Local::Flatten),
-    ("intersect", Local::Intersect),
-    ("join", Local::Join),
-    ("length", Local::Length),
-    ("lower", Local::Lower),
-    ("range", Local::Range),
-    ("reverse", Local::Reverse),
-    ("split", Local::Split),
-    ("subtract", Local::Subtract),
-    ("take", Local::Take),
-    ("upper", Local::Upper),
-];
+/// The services whose names begin with this byte, by name.
+fn rows_from(first: u8) -> &'static [(&'static str, Local)]
+    ensures { map (λ r. (r.0.now, r.1)) result.now ≡ filter (λ r. begins first r.0) names }
+{
+    match first {
+        b'a' => &[("add", Local::Add)],
+        b'c' => &[("concat", Local::Concat), ("count", Local::Count)],
+        b'd' => &[("distinct", Local::Distinct)],
+        b'e' => &[("echo", Local::Echo)],
+        b'f' => &[
+            ("fail_if", Local::FailIf),
+            ("flaky", Local::Flaky),
+            ("flatten", Local::Flatten),
+        ],
+        b'i' => &[("intersect", Local::Intersect)],
+        b'j' => &[("join", Local::Join)],
+        b'l' => &[("length", Local::Length), ("lower", Local::Lower)],
+        b'r' => &[("range", Local::Range), ("reverse", Local::Reverse)],
+        b's' => &[("split", Local::Split), ("subtract", Local::Subtract)],
+        b't' => &[("take", Local::Take)],
+        b'u' => &[("upper", Local::Upper)],
+        _ => &[],
+    }
+}
 
-/// The service of a name.
+/// The service of a name. Compares it with the names that begin as it does, three at the most.
 pub(crate) fn find(name: &str) -> Option<Local>
     ensures { result ≡ named name.now names }
 {
-    find_among(&NAMES, name)
+    match name.as_bytes() {
+        [first, ..] => find_among(rows_from(*first), name),
+        [] => None,
+    }
 }
 
 fn find_among(rows: &[(&str, Local)], name: &str) -> Option<Local>
