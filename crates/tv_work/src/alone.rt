@@ -108,6 +108,8 @@ fn ask_for<V: Services, A: Asker<Services = V>>(
     ensures lost { OnErr result (AsksAtMostOneMore V.gives (A.calls asker.old) (A.calls asker.new) board.old board.new) }
     ensures by_one { StaysByOne V.gives board.old board.new }
 {
-    let _accepted = board.ask_and_accept(alloc, ticket, asker)?;
-    Ok(())
+    match board.ask_and_accept(alloc, ticket, asker) {
+        Ok(_accepted) => Ok(()),
+        Err(refused) => Err(refused),
+    }
 }
