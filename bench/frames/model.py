@@ -213,6 +213,9 @@ class Instance:
             return Node(None, [self.fed(link) for link in feed["merge"]])
         return nodes(None, feed["constant"])
 
+    def work(self, name):
+        """Here a step's jobs are worked out, where their results aren't given."""
+
     def take(self, name, step):
         mismatch, delivered = {}, {}
         for port, described in step["inputs"].items():
@@ -224,6 +227,7 @@ class Instance:
         tree = step.get("strategy") or {"cross": sorted(step["inputs"])}
         self.steps[name] = Step(name, step, tree, mismatch, delivered)
         self.depths[name] = self.steps[name].depth
+        self.work(name)
         for port in step["outputs"]:
             self.values[name, port] = self.steps[name].output(port, self.results)
 

@@ -1,4 +1,5 @@
-/* The calls by which a program of `rt try` takes memory: they refuse the one of which FRAMES_REFUSED has the number, from 1. */
+/* The calls by which a program of `rt try` takes memory: they refuse the one of which FRAMES_REFUSED has the number, from 1. Where
+   FRAMES_TOLD has the number of an open file, a byte is written to it then. */
 struct taken {
     unsigned long given;
     void *at;
@@ -6,11 +7,19 @@ struct taken {
 
 char *getenv(const char *name);
 unsigned long strtoul(const char *text, char **end, int base);
+long write(int file, const void *bytes, unsigned long count);
 struct taken rattle_alloc(unsigned long size, unsigned long align);
 struct taken rattle_realloc(void *at, unsigned long before, unsigned long size, unsigned long align);
 
 static unsigned long calls;
 static unsigned long refused;
+
+static void tell(void)
+{
+    const char *file = getenv("FRAMES_TOLD");
+    if (file && write(strtoul(file, 0, 10), "!", 1) != 1)
+        __builtin_trap();
+}
 
 static int is_refused(void)
 {
@@ -20,7 +29,10 @@ static int is_refused(void)
         refused = number ? strtoul(number, 0, 10) : 0;
     }
     calls += 1;
-    return calls == refused;
+    if (calls != refused)
+        return 0;
+    tell();
+    return 1;
 }
 
 struct taken try_rattle_alloc(unsigned long size, unsigned long align)
