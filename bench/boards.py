@@ -96,7 +96,7 @@ def refused(program, case):
         kinds = [json.loads(line)["refused"] for line in lines if line.startswith(REFUSED)]
         counts.update(allocations=1, **collections.Counter(kinds or ["elsewhere"]))
         lines = [line for line in lines if not line.startswith(REFUSED)]
-        if (lines != whole) if status == 0 else (kinds or b"memory" not in beside or lines != whole[: len(lines)]):
+        if (lines != whole) if status == 0 else (kinds or b"memory" not in beside.lower() or lines != whole[: len(lines)]):
             differences.append((case, f"allocation {number}, {kinds}: status {status}: {beside.decode()}"))
     return counts, differences
 
