@@ -11,8 +11,12 @@
 //!
 //! - `history`, `is_done` are constant, `name_of` linear in the name, `outputs` linear in them
 //! - `task` is linear in what is asked; `ask` and `ask_alone` cost the one call that they make
-//! - `hand_out` and `settle_one` walk down to the first job that goes on, and then cost what they change; a job that is bounced costs
-//!   what it binds too, and an instance that is opened a look at each step of its flow
+//! - `hand_out` and `settle_one` walk down to the first job that goes on, by the steps before it,
+//!   but for the first ones as long as no job of them waits, goes on or has its flow open: those are
+//!   looked at once more only where a job before them becomes known, comes back or opens its flow.
+//!   `settle_one` looks at the other steps of an instance in which something happened. Then they
+//!   cost what they change; a job that is bounced costs what it binds too, and an instance that is
+//!   opened a look at each step of its flow
 //! - `accept` compares the inputs, copies the outcome, and then costs what it changes: what its job gives, and what becomes known
 //!   with it
 //! - `ask_and_accept` costs the one call that it makes, what is asked and what changes: it compares nothing and copies no outcome

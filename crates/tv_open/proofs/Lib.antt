@@ -1,3 +1,7 @@
+pub mod OfQuiet
+pub mod OfTurns
+pub mod OfOrder
+pub mod OfTries
 pub mod OfKnownJobs
 pub mod OfSeating
 pub mod OfSeats
@@ -12,3 +16,4 @@ pub mod OfStarting
 pub mod OfFirstSeats
 pub mod OfFirsts
 pub mod OfFaulty
+pub mod OfGoing

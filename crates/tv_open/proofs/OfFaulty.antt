@@ -1,6 +1,6 @@
 -- The first job that can be bounced, of the steps in turn.
-use Rattle.std.specs.Prelude.{◌≡◌, refl, ℕ, ◌+◌, ◌<◌, ◌≤◌, true, false, nat_lt, List, Option, None, Some, get_or, length, slice_get}
-use Rattle.std.proofs.Common.{ap, arith, subst, sym, ◌∙◌}
+use Rattle.std.specs.Prelude.{◌≡◌, refl, ℕ, ◌+◌, ◌<◌, ◌≤◌, true, false, nat_lt, List, ◌++◌, Option, None, Some, get_or, length, slice_get}
+use Rattle.std.proofs.Common.{ap, arith, length-append, subst, sym, ◌∙◌}
 use Rattle.std.proofs.lemmas.Bool.{ltb-false, ltb-true}
 use Rattle.std.proofs.lemmas.Option.{get_or_from_slice_get, same_Some, slice_get_within}
 use Rattle.tv_lemmas.proofs.Cases.{on_test}
@@ -15,18 +15,21 @@ use Rattle.tv_model.specs.Members.{In}
 use Rattle.tv_framing.specs.Views.{View}
 use Rattle.tv_drawn.specs.Steps.{IsStepAt}
 use Rattle.tv_turn.specs.FirstReady.{by_falling_rank}
-use Rattle.tv_turn.proofs.OfRanks.{at-in, has-number, number-of, numbers-step}
+use Rattle.tv_turn.proofs.OfRanks.{has-number, number-of}
 use Rattle.tv_frame.specs.Ready.{IsFirstOfStep}
 use Rattle.tv_frame.specs.Tables.{levels_in}
 use Rattle.tv_frame.proofs.OfIdling.{stands}
 use Rattle.tv_frame.proofs.OfKeeping.{kept-ranked, kept-wired}
 use Rattle.tv_seats.specs.Seats.{Seat}
-use Rattle.tv_seated.proofs.OfLists.{is-member, place-of}
+use Rattle.tv_seated.proofs.OfLists.{in-behind, in-front, place-of}
 use Rattle.tv_open.specs.Firsts.{BindsFault, IsFirstFaulty, IsReadySeat}
+use Rattle.tv_open.specs.Quiet.{AreGoing}
 use Rattle.tv_open.specs.Standing.{IsOpen}
 use Rattle.tv_open.specs.declared.open.Open.{Open}
 use Rattle.tv_open.proofs.OfFirsts.{binds-said, ready-seat, seat-ready}
 use Rattle.tv_open.proofs.OfOpen.{its-step-at}
+use Rattle.tv_open.proofs.OfOrder.{ordered-low}
+use Rattle.tv_open.proofs.OfQuiet.{begun-unready}
 
 -- no ready job of the step binds a fault
 abbrev pub NoneFaulty : View → List Seat → ℕ → Type 0
@@ -36,18 +39,33 @@ NoneFaulty v ss k = (n : ℕ) (s : Seat) → slice_get ss n ≡ Some s → s.ste
 abbrev pub NoneFaultyBefore : View → List Seat → ℕ → Type 0
 NoneFaultyBefore v ss n = (i k : ℕ) → i < n → slice_get (by_falling_rank v.flow) i ≡ Some k → NoneFaulty v ss k
 
--- what a loop over the steps in turn says of those gone through
-abbrev pub NoneFaultyYet : FlowPlan → Nodes → Open → ℕ → Type 0
-NoneFaultyYet plan pool o n =
-    (d : Document) (v : View) → IsOpen d plan pool o v → NoneFaultyBefore v o.seats.seats n
+-- what a loop over the steps that aren't passed says of those gone through
+abbrev pub NoneFaultyYet : FlowPlan → Nodes → Open → List ℕ → ℕ → Type 0
+NoneFaultyYet plan pool o going n =
+    (d : Document) (v : View) → IsOpen d plan pool o v → (passed : List ℕ)
+    → passed ++ going ≡ by_falling_rank v.flow → NoneFaultyBefore v o.seats.seats (length passed + n)
 
 -- the first of a step, or none is
 abbrev IsFaultyOf : View → List Seat → ℕ → Option ℕ → Type 0
 IsFaultyOf v ss k None = NoneFaulty v ss k
 IsFaultyOf v ss k (Some n) = IsFirstFaulty v ss (Some n)
 
-pub none-first : (v : View) (ss : List Seat) → NoneFaultyBefore v ss 0
-none-first v ss i k l = absurd (omega (arith, l))
+-- of those that are passed none is, since each of their jobs has begun
+pub none-first : (v : View) (ss : List Seat) (going : List ℕ) → AreGoing v ss going → (passed : List ℕ)
+    → passed ++ going ≡ by_falling_rank v.flow → NoneFaultyBefore v ss (length passed + 0)
+none-first v ss going g passed same i k l at n s there of ready =
+    absurd (begun-unready v s ready (g.quiet i k was n s there of).begun)
+  where
+    as-many : length g.passed + length going ≡ length passed + length going
+    as-many =
+        sym (length-append g.passed going) ∙ ap length (g.in_order ∙ sym same) ∙ length-append passed going
+
+    was : slice_get g.passed i ≡ Some k
+    was =
+        let x = stands g.passed i (let m = as-many in omega (arith, l, m)) in
+        x.1
+        ∙ ap Some
+        (same_Some x.0 k (sym (in-front g.passed going i x.0 x.1) ∙ ap (λ l. slice_get l i) g.in_order ∙ at))
 
 none-more : (v : View) (ss : List Seat) (n k : ℕ) → slice_get (by_falling_rank v.flow) n ≡ Some k → NoneFaulty v ss k
     → NoneFaultyBefore v ss n → NoneFaultyBefore v ss (n + 1)
@@ -62,27 +80,24 @@ none-more v ss n k at none before i l e at-l =
 module _ (d : Document) (plan : FlowPlan) (pool : Nodes) (o : Open) (v : View) (io : IsOpen d plan pool o v) where
   -- ---- the steps in turn
 
-  turn-at : (order : List ℕ) → order ≡ by_falling_rank v.flow → (n : ℕ) → n < length order
-      → slice_get (by_falling_rank v.flow) n ≡ Some (get_or order n 0)
-  turn-at order same n low =
-      let x = stands order n low in
-      ap (λ l. slice_get l n) (sym same) ∙ x.1 ∙ ap Some (sym (get_or_from_slice_get order n x.0 0 x.1))
+  turn-at : (passed going : List ℕ) → passed ++ going ≡ by_falling_rank v.flow → (n : ℕ) → n < length going
+      → slice_get (by_falling_rank v.flow) (length passed + n) ≡ Some (get_or going n 0)
+  turn-at passed going same n low =
+      let x = stands going n low in
+      ap (λ l. slice_get l (length passed + n)) (sym same)
+      ∙ in-behind passed going n
+      ∙ x.1
+      ∙ ap Some (sym (get_or_from_slice_get going n x.0 0 x.1))
 
   -- each of them is a step
-  step-within : (n k : ℕ) → slice_get (by_falling_rank v.flow) n ≡ Some k → k < length v.flow.steps
-  step-within n k e =
-      let rise = steps-ascend v.flow (kept-ranked d.flows plan pool o.frame v io.keeps).formed in
-      let m = numbers-step v.flow.steps (λ s. position s.0 v.flow.steps) k (is-member k (by_falling_rank v.flow) n e) in
-      let at = at-in v.flow.steps m.0 m.1 in
-      subst (λ i. i < length v.flow.steps) (sym (m.2 ∙ number-of v.flow.steps at.0 m.0 rise at.1))
-      (slice_get_within v.flow.steps at.0 m.0 at.1)
-
-  pub turn-within : (order : List ℕ) → order ≡ by_falling_rank v.flow → (n : ℕ) → n < length order
-      → get_or order n 0 < length v.flow.steps
-  turn-within order same n low = step-within n (get_or order n 0) (turn-at order same n low)
+  pub turn-within : (going : List ℕ) → AreGoing v o.seats.seats going → (n : ℕ) → n < length going
+      → get_or going n 0 < length v.flow.steps
+  turn-within going g n low =
+      ordered-low d.flows plan pool o.frame v io.keeps (length g.passed + n) (get_or going n 0)
+      (turn-at g.passed going g.in_order n low)
 
   -- and each step of a seat is one of them
-  turn-of : (n : ℕ) (s : Seat) → slice_get o.seats.seats n ≡ Some s
+  pub turn-of : (n : ℕ) (s : Seat) → slice_get o.seats.seats n ≡ Some s
       → (i : ℕ) × (slice_get (by_falling_rank v.flow) i ≡ Some s.step)
   turn-of n s e =
       let rise = steps-ascend v.flow (kept-ranked d.flows plan pool o.frame v io.keeps).formed in
@@ -112,30 +127,33 @@ module _ (d : Document) (plan : FlowPlan) (pool : Nodes) (o : Open) (v : View) (
       by t at (Some n) f =
           let w = seat-ready d plan pool o v io k t at n f.place true f.is in (w.seat, w.there, w.ready, w.binds)
 
-  module _ (order : List ℕ) (same : order ≡ by_falling_rank v.flow) (n : ℕ) where
+  module _ (going : List ℕ) (g : AreGoing v o.seats.seats going) (n : ℕ) where
     abbrev k : ℕ
-    k = get_or order n 0
+    k = get_or going n 0
 
     abbrev Found : Option ℕ → Type 0
     Found u =
         (t : Name × Step) → IsStepAt v k t
         → IsFirstOfStep (levels_in v.flow) v (λ q. is_faulty_now o.frame.intakes (k, q)) t.0 true u
 
-    pub faulty-first : n < length order → (u : Option ℕ) (job : ℕ) → u ≡ Some job → Found u
+    pub faulty-first : n < length going → (u : Option ℕ) (job : ℕ) → u ≡ Some job → Found u
         → IsFirstFaulty v o.seats.seats (Some job)
     faulty-first low u job is first =
-        subst (IsFaultyOf v o.seats.seats k) is (faulty-of k (turn-within order same n low) u first)
+        subst (IsFaultyOf v o.seats.seats k) is (faulty-of k (turn-within going g n low) u first)
 
-    pub faulty-none : n < length order → (u : Option ℕ) → u ≡ None → Found u → NoneFaultyBefore v o.seats.seats n
-        → NoneFaultyBefore v o.seats.seats (n + 1)
-    faulty-none low u is first before =
-        none-more v o.seats.seats n k (turn-at order same n low)
-        (subst (IsFaultyOf v o.seats.seats k) is (faulty-of k (turn-within order same n low) u first)) before
+    pub faulty-none : n < length going → (u : Option ℕ) → u ≡ None → Found u → (passed : List ℕ)
+        → passed ++ going ≡ by_falling_rank v.flow → NoneFaultyBefore v o.seats.seats (length passed + n)
+        → NoneFaultyBefore v o.seats.seats (length passed + (n + 1))
+    faulty-none low u is first passed same before =
+        let next : length passed + n + 1 ≡ length passed + (n + 1) = omega arith in
+        subst (NoneFaultyBefore v o.seats.seats) next
+        (none-more v o.seats.seats (length passed + n) k (turn-at passed going same n low)
+        (subst (IsFaultyOf v o.seats.seats k) is (faulty-of k (turn-within going g n low) u first)) before)
 
     -- where no step is left, none is
-    pub none-left : length order ≤ n → NoneFaultyBefore v o.seats.seats n → IsFirstFaulty v o.seats.seats None
+    pub none-left : length going ≤ n → NoneFaultyYet plan pool o going n → IsFirstFaulty v o.seats.seats None
     none-left all none m s there ready =
         let i = turn-of m s there in
         let low = slice_get_within (by_falling_rank v.flow) i.0 s.step i.1 in
-        let many = ap length same in
-        none i.0 s.step (omega (arith, low, all, many)) i.1 m s there refl ready
+        let many = sym (length-append g.passed going) ∙ ap length g.in_order in
+        none d v io g.passed g.in_order i.0 s.step (omega (arith, low, all, many)) i.1 m s there refl ready

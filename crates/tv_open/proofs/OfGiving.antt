@@ -1,6 +1,6 @@
 -- A job gives its result, or is bounced.
-use Rattle.std.specs.Prelude.{◌≡◌, ℕ, true, List, Some, map, slice_get}
-use Rattle.std.proofs.Common.{sym, ap, subst, ◌∙◌}
+use Rattle.std.specs.Prelude.{◌≡◌, refl, ℕ, true, List, Some, length, map, slice_get}
+use Rattle.std.proofs.Common.{inl, sym, ap, subst, ◌∙◌}
 use Rattle.tv_value.specs.Nested.{Place}
 use Rattle.tv_value.specs.Values.{Name, Value}
 use Rattle.tv_flow.specs.Flows.{Document, Flow, Step}
@@ -21,9 +21,12 @@ use Rattle.tv_seats.specs.declared.stage.Stage.TheVariants as stage
 use Rattle.tv_open.specs.Events.{IsReadyToGive, IsTold, MayBeBounced, MayBeGiven}
 use Rattle.tv_open.specs.Seating.{AllSit, CanSit, IsKept}
 use Rattle.tv_open.specs.Standing.{IsOpen, job_of}
+use Rattle.tv_open.specs.Turns.{TakeIn}
+use Rattle.tv_open.specs.declared.turns.Turns.{Turns}
 use Rattle.tv_open.specs.declared.events.Spot.{Spot}
 use Rattle.tv_open.specs.declared.open.Open.{Open}
 use Rattle.tv_open.proofs.OfOpen.{found-at, numbered-step, still-open}
+use Rattle.tv_open.proofs.OfQuiet.{of-staged}
 use Rattle.tv_open.proofs.OfSeats.{staged-jobs}
 use Rattle.tv_open.proofs.OfTelling.{then-can, then-kept, then-told}
 
@@ -57,12 +60,13 @@ module _ (d : Document) (plan : FlowPlan) (pool : Nodes) (o : Open) (v : View) (
 
   module _ (after : Nodes) (p : Open)
       (same : (flows : List (Name × Flow)) (u : View) → Keeps flows plan pool o.frame u → Keeps flows plan after p.frame u)
-      (seats : p.seats.seats ≡ o.seats.seats) (levels : p.seats.levels ≡ o.seats.levels) (x : Spot) (step : x.step ≡ k)
+      (seats : p.seats.seats ≡ o.seats.seats) (levels : p.seats.levels ≡ o.seats.levels) (turns : p.turns ≡ o.turns)
+      (x : Spot) (step : x.step ≡ k)
       (place : x.place ≡ q) (room : p.seats.room ≡ x.more) (prepares : Prepares plan pool o.frame after p.frame k q vs)
       (counts : Counts plan pool o.frame k q vs x.more) where
     pub ready-to_give : IsReadyToGive d plan after p v s t vs x
     ready-to_give = record {
-      is_open = still-open d plan pool o v io after p (same d.flows v io.keeps) seats levels;
+      is_open = still-open d plan pool o v io after p (same d.flows v io.keeps) seats levels turns;
       step = step ∙ sym same-step;
       place = place ∙ sym same-place;
       ready =
@@ -102,12 +106,14 @@ module _ (d : Document) (plan : FlowPlan) (pool : Nodes) (o : Open) (v : View) (
         then-can d plan pool o v r.is_open (gave t.0 s.place vs) x.more r.brings after g on-there y jobs levels
         (room ∙ r.room)
 
-    pub given-told : (z : Seated) → AllSit g y z
-        → IsTold d plan after (record { frame = g; seats = z }) v (gave t.0 s.place vs) x.more
+    pub given-told : (z : Seated) → AllSit g y z → (u : Turns) → TakeIn o.turns u (length y.seats) z.seats
+        → IsTold d plan after (record { frame = g; seats = z; turns = u }) v (gave t.0 s.place vs) x.more
         (with_stage n stage.Settled o.seats.seats)
-    given-told z all =
+    given-told z all u take =
         then-told d plan pool o v r.is_open (gave t.0 s.place vs) x.more r.brings after g on-there y jobs levels
-        (room ∙ r.room) z all (with_stage n stage.Settled o.seats.seats) seats
+        (room ∙ r.room) z all u take
+        (of-staged o.seats.seats y.seats o.turns.positions.items u.from n stage.Settled seats (inl refl))
+        (with_stage n stage.Settled o.seats.seats) seats
 
 -- one that runs is taken at its place
 pub taken-there : (d : Document) (plan : FlowPlan) (pool : Nodes) (o : Open) (v : View) (n : ℕ) (s : Seat) (t : Name × Step)

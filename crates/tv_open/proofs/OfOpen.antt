@@ -26,6 +26,7 @@ use Rattle.tv_seated.proofs.OfLists.{get-image, is-member, of-image}
 use Rattle.tv_open.specs.Standing.{IsOpen, job_of}
 use Rattle.tv_open.specs.declared.open.Open.{Open}
 use Rattle.tv_open.proofs.OfKnownJobs.{by-names, its-step, numbered-so}
+use Rattle.tv_open.proofs.OfQuiet.{quiet-as}
 
 -- the spot of a seat of a step
 pub spot-at : (steps : List (Name × Step)) (s : Seat) (t : Name × Step) → slice_get steps s.step ≡ Some t
@@ -47,8 +48,8 @@ module _ (d : Document) (plan : FlowPlan) (pool : Nodes) (o : Open) (v : View) (
 
   -- the same instance with another frame that keeps the view, and other rooms
   pub still-open : (after : Nodes) (p : Open) → Keeps d.flows plan after p.frame v → p.seats.seats ≡ ss
-      → p.seats.levels ≡ o.seats.levels → IsOpen d plan after p v
-  still-open after p k seats levels = record {
+      → p.seats.levels ≡ o.seats.levels → p.turns ≡ o.turns → IsOpen d plan after p v
+  still-open after p k seats levels turns = record {
     keeps = k;
     known =
         ap (map job_of) seats
@@ -56,6 +57,7 @@ module _ (d : Document) (plan : FlowPlan) (pool : Nodes) (o : Open) (v : View) (
         ∙ sym (by-names d.flows plan pool o.frame v io.keeps)
         ∙ by-names d.flows plan after p.frame v k;
     levels = levels ∙ io.levels;
+    quiet = quiet-as v ss p.seats.seats o.turns p.turns seats turns io.quiet;
   }
 
   -- ---- a job by its number

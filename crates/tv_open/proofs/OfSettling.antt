@@ -1,5 +1,5 @@
 -- A list is closed, or a fault passed.
-use Rattle.std.specs.Prelude.{◌≡◌, refl, ℕ, List, Option, Some, IfSome}
+use Rattle.std.specs.Prelude.{◌≡◌, refl, ℕ, List, Option, Some, IfSome, length}
 use Rattle.std.proofs.Common.{subst}
 use Rattle.tv_value.specs.Values.{Name}
 use Rattle.tv_flow.specs.Flows.{Document, Flow, Step}
@@ -16,8 +16,11 @@ use Rattle.tv_seats.specs.Seats.{Seated}
 use Rattle.tv_open.specs.Events.{IsReadyToSettleAt, IsTold, TellsAt}
 use Rattle.tv_open.specs.Seating.{AllSit, CanSit, IsKept}
 use Rattle.tv_open.specs.Standing.{IsOpen}
+use Rattle.tv_open.specs.Turns.{TakeIn}
+use Rattle.tv_open.specs.declared.turns.Turns.{Turns}
 use Rattle.tv_open.specs.declared.open.Open.{Open}
 use Rattle.tv_open.proofs.OfOpen.{still-open}
+use Rattle.tv_open.proofs.OfQuiet.{of-same}
 use Rattle.tv_open.proofs.OfTelling.{then-can, then-kept, then-told}
 
 pub at-some : (P : ℕ → Type 0) (o : Option ℕ) (n : ℕ) → o ≡ Some n → IfSome o P → P n
@@ -28,14 +31,14 @@ pub ready-settle :
     (d : Document) (plan : FlowPlan) (pool : Nodes) (o : Open) (v : View) → IsOpen d plan pool o v
     → (after : Nodes) (p : Open)
     → ((flows : List (Name × Flow)) (u : View) → Keeps flows plan pool o.frame u → Keeps flows plan after p.frame u)
-    → p.seats.seats ≡ o.seats.seats → p.seats.levels ≡ o.seats.levels → (more : ℕ) → p.seats.room ≡ more
+    → p.seats.seats ≡ o.seats.seats → p.seats.levels ≡ o.seats.levels → p.turns ≡ o.turns → (more : ℕ) → p.seats.room ≡ more
     → ((n : ℕ) × (s : Name × Step) × (e : Event)
     × IsReadyToSettle d.flows plan after p.frame v n s e × CanSettle v e × Brings v e more)
     → (e : Event) × IsReadyToSettleAt d plan after p v e more
-ready-settle d plan pool o v io after p same seats levels more room x = (
+ready-settle d plan pool o v io after p same seats levels turns more room x = (
   x.2,
   record {
-    is_open = still-open d plan pool o v io after p (same d.flows v io.keeps) seats levels;
+    is_open = still-open d plan pool o v io after p (same d.flows v io.keeps) seats levels turns;
     number = x.0;
     step = x.1;
     ready = x.3;
@@ -56,9 +59,11 @@ module _ (d : Document) (plan : FlowPlan) (pool : Nodes) (o : Open) (v : View) (
   pub settled-can : CanSit g o.seats
   settled-can = then-can d plan pool o v r.is_open e more r.brings after g on.0 o.seats refl refl r.room
 
-  pub settled-told : (z : Seated) → AllSit g o.seats z
-      → IsTold d plan after (record { frame = g; seats = z }) v e more o.seats.seats × TellsAt v.flow.steps x e
-  settled-told z all = (
-    then-told d plan pool o v r.is_open e more r.brings after g on.0 o.seats refl refl r.room z all o.seats.seats refl,
+  pub settled-told : (z : Seated) → AllSit g o.seats z → (u : Turns) → TakeIn o.turns u (length o.seats.seats) z.seats
+      → IsTold d plan after (record { frame = g; seats = z; turns = u }) v e more o.seats.seats
+      × TellsAt v.flow.steps x e
+  settled-told z all u take = (
+    then-told d plan pool o v r.is_open e more r.brings after g on.0 o.seats refl refl r.room z all u take
+        (of-same o.seats.seats o.seats.seats o.turns.positions.items u.from refl) o.seats.seats refl,
     (r.number, r.step, r.ready.ready.at, r.ready.ready.named, on.1),
   )

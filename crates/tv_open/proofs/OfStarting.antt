@@ -1,6 +1,7 @@
 -- An instance that starts: the jobs that its frame knows sit down.
 use Rattle.std.specs.Prelude.{◌≡◌, ◌≤◌, List, [], ◌++◌, length, map}
-use Rattle.std.proofs.Common.{sym, ap, subst, ◌∙◌}
+use Rattle.tv_turn.specs.FirstReady.{by_falling_rank}
+use Rattle.std.proofs.Common.{arith, sym, ap, subst, ◌∙◌}
 use Rattle.tv_value.specs.Values.{Value}
 use Rattle.tv_flow.specs.Flows.{Document, Flow}
 use Rattle.tv_flow.specs.Views.{flow_view}
@@ -16,6 +17,8 @@ use Rattle.tv_seats.specs.Seats.{Seated}
 use Rattle.tv_seated.specs.GoingOn.{AreNewSeats}
 use Rattle.tv_open.specs.Seating.{AllSit, CanSit, IsKept, seat_for, unseated}
 use Rattle.tv_open.specs.Standing.{StartsOpen, job_of}
+use Rattle.tv_open.specs.Turns.{AreTurns, TakeIn}
+use Rattle.tv_open.specs.declared.turns.Turns.{Turns}
 use Rattle.tv_open.proofs.OfSeats.{all-known}
 use Rattle.tv_open.proofs.OfSitting.{may-sit, new-seats}
 
@@ -41,12 +44,25 @@ module _ (d : Document) (plan : FlowPlan) (values : List Value) (pool : Nodes) (
     pub first-can : CanSit f x
     first-can = may-sit f x (known_jobs f.intakes) begins d.flows plan pool v keeps first-levels room
 
-    pub starts-open : (y : Seated) → AllSit f x y → StartsOpen d plan values pool (record { frame = f; seats = y })
-    starts-open y all = record {
+    pub starts-open : (y : Seated) → AllSit f x y → (t u : Turns)
+        → AreTurns (by_falling_rank (flow_view plan.flow)) t.positions.items → t.from ≡ 0
+        → TakeIn t u (length x.seats) y.seats → StartsOpen d plan values pool (record { frame = f; seats = y; turns = u })
+    starts-open y all t u turns from take = record {
       view = v;
       untold = st.1;
       inputs = st.2;
-      is_open = record { keeps = keeps; known = all-known f x y first-can all; levels = all.levels ∙ first-levels };
+      is_open = record {
+        keeps = keeps;
+        known = all-known f x y first-can all;
+        levels = all.levels ∙ first-levels;
+        quiet = record {
+          turns =
+              subst (λ (g : Flow). AreTurns (by_falling_rank g) u.positions.items) (sym keeps.flow_is)
+              (subst (AreTurns (by_falling_rank (flow_view plan.flow))) (sym take.positions) turns);
+          inside = let a = take.fewer in omega (arith, a, from);
+          quiet = λ n s e low. let a = take.fewer in absurd (omega (arith, low, a, from));
+        };
+      };
       new =
           subst (AreNewSeats v.flow.steps)
           (sym (all.seats ∙ ap (λ l. l ++ map seat_for (unseated f x.seats)) none))

@@ -1,5 +1,5 @@
 -- An open instance whose frame was told an event: the jobs that became known with it sit down.
-use Rattle.std.specs.Prelude.{◌≡◌, ℕ, ◌∷◌, ◌++◌, [], List, map}
+use Rattle.std.specs.Prelude.{◌≡◌, ℕ, ◌∷◌, ◌++◌, [], List, length, map}
 use Rattle.std.proofs.Common.{sym, ap, arith, subst, ◌∙◌}
 use Rattle.tv_flow.specs.Flows.{Document, Flow}
 use Rattle.tv_depths.specs.Ranks.{ranked}
@@ -16,7 +16,10 @@ use Rattle.tv_seats.specs.Seats.{Seat, Seated}
 use Rattle.tv_open.specs.Events.{IsTold}
 use Rattle.tv_open.specs.Seating.{AllSit, CanSit, IsKept, seat_for, unseated}
 use Rattle.tv_open.specs.Standing.{IsOpen, job_of}
+use Rattle.tv_open.specs.Turns.{TakeIn}
+use Rattle.tv_open.specs.declared.turns.Turns.{Turns}
 use Rattle.tv_open.specs.declared.open.Open.{Open}
+use Rattle.tv_open.proofs.OfQuiet.{AreOf, begun-then, of-more, still-quiet}
 use Rattle.tv_open.proofs.OfSeats.{all-known}
 use Rattle.tv_open.proofs.OfSitting.{can-sit, goes-on, many-sit}
 
@@ -49,9 +52,10 @@ module _ (d : Document) (plan : FlowPlan) (pool : Nodes) (o : Open) (v : View) (
       can-sit d plan pool o v io after g w e on.1 on.2 on.4 y jobs levels
       (let n = same-number in omega (arith, n, room))
 
-  pub then-told : (z : Seated) → AllSit g y z → (ss : List Seat) → y.seats ≡ ss
-      → IsTold d plan after (record { frame = g; seats = z }) v e more ss
-  then-told z all ss is = record {
+  pub then-told : (z : Seated) → AllSit g y z → (u : Turns) → TakeIn o.turns u (length y.seats) z.seats
+      → AreOf o.seats.seats y.seats o.turns.positions.items u.from → (ss : List Seat) → y.seats ≡ ss
+      → IsTold d plan after (record { frame = g; seats = z; turns = u }) v e more ss
+  then-told z all u take of ss is = record {
     view = w;
     new = map seat_for (unseated g y.seats);
     is_open = record {
@@ -59,8 +63,27 @@ module _ (d : Document) (plan : FlowPlan) (pool : Nodes) (o : Open) (v : View) (
       known = all-known g y z then-can all;
       levels =
           all.levels ∙ levels ∙ io.levels ∙ ap (λ (f : Flow). map (λ s. levels_in f s.0) f.steps) (sym on.2.flow);
+      quiet =
+          still-quiet v w on.2.flow (begun-then v w e on.2.events) o.seats.seats z.seats o.turns u io.quiet take.positions
+          take.fewer
+          (of-more o.seats.seats y.seats z.seats (map seat_for (unseated g y.seats)) o.turns.positions.items u.from all.seats
+          of take.ahead);
     };
     goes_on = goes-on d plan pool o v io after g w e on.1 on.2 on.4 y jobs;
     many = many-sit d plan pool o v io after g w e on.1 on.2 on.4 y jobs ∙ same-number;
     seats = all.seats ∙ ap (λ l. l ++ map seat_for (unseated g y.seats)) is;
   }
+
+-- quiet steps are passed
+pub told-passed : (d : Document) (plan : FlowPlan) (pool : Nodes) (m p : Open) (v : View) (e : Event) (more : ℕ)
+    (ss : List Seat) → IsTold d plan pool m v e more ss
+    → ((w : View) → IsOpen d plan pool m w → IsOpen d plan pool p w) → p.seats ≡ m.seats
+    → IsTold d plan pool p v e more ss
+told-passed d plan pool m p v e more ss t opens same = record {
+  view = t.view;
+  new = t.new;
+  is_open = opens t.view t.is_open;
+  goes_on = t.goes_on;
+  many = t.many;
+  seats = ap (λ (u : Seated). u.seats) same ∙ t.seats;
+}

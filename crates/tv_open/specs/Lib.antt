@@ -1,3 +1,5 @@
+pub mod Turns
+pub mod Quiet
 pub mod Standing
 pub mod Seating
 pub mod Firsts

@@ -11,6 +11,7 @@ use Rattle.tv_frame.specs.Kept.{Keeps}
 use Rattle.tv_frame.specs.Tables.{levels_in}
 use Rattle.tv_seats.specs.Seats.{Seat}
 use Rattle.tv_seated.specs.GoingOn.{AreNewSeats}
+use Rattle.tv_open.specs.Quiet.{AreQuiet}
 use Rattle.tv_open.specs.declared.open.Open.{Open}
 
 -- a job by its step's number and its place
@@ -22,6 +23,8 @@ pub record IsOpen (d : Document) (plan : FlowPlan) (pool : Nodes) (o : Open) (v 
   pub keeps : Keeps d.flows plan pool o.frame v
   pub known : map job_of o.seats.seats ≡ known_jobs o.frame.intakes
   pub levels : o.seats.levels ≡ map (λ s. levels_in v.flow s.0) v.flow.steps
+  -- the steps that are passed are quiet
+  pub quiet : AreQuiet v o.seats.seats o.turns.positions.items o.turns.from
 
 -- of some flow
 abbrev pub IsSome : Open → Type 0

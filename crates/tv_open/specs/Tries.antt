@@ -1,7 +1,8 @@
 -- Seats that move while the frame is told nothing.
 use Rattle.std.specs.Prelude.{ℕ, ◌≡◌}
-use Rattle.tv_seats.specs.Seats.{with_stage}
+use Rattle.tv_seats.specs.Seats.{step_at, with_stage}
 use Rattle.tv_seats.specs.declared.stage.Stage.{Stage}
+use Rattle.tv_open.specs.Turns.{TakesIn}
 use Rattle.tv_open.specs.declared.open.Open.{Open}
 
 -- the same but for rooms
@@ -9,9 +10,12 @@ pub record IsSameButRooms (o p : Open) : Type 0 where
   pub frame : p.frame ≡ o.frame
   pub seats : p.seats.seats ≡ o.seats.seats
   pub levels : p.seats.levels ≡ o.seats.levels
+  pub turns : p.turns ≡ o.turns
 
 -- the job is at this stage from now on
 pub record HasStage (o p : Open) (n : ℕ) (x : Stage) : Type 0 where
   pub frame : p.frame ≡ o.frame
   pub seats : p.seats.seats ≡ with_stage n x o.seats.seats
   pub levels : p.seats.levels ≡ o.seats.levels
+  -- its step isn't passed
+  pub turns : TakesIn o.turns p.turns (step_at o.seats.seats n)

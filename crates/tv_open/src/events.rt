@@ -53,7 +53,8 @@ fn waits(stage: Option<Stage>) -> bool
 }
 
 impl Open {
-    /// A try of a job goes out: of a waiting one, which is ready, the frame is told that it is taken. Takes no memory.
+    /// A try of a job goes out: of a waiting one, which is ready, the frame is told that it is taken. Takes no memory. Linear in the
+    /// steps that are passed then.
     pub fn hand_out(
         &mut self,
         plan: &FlowPlan,
@@ -69,12 +70,15 @@ impl Open {
             → IsTaken d plan.now pool.now self.old self.new v number (AnOut activity attempt) }
         ensures region { self.new.frame.region ≡ self.old.frame.region }
     {
+        let step = self.seats.step(number);
         self.take(plan, pool, number);
         self.seats.hand_out(number, activity, attempt);
+        self.pass_quiet(step);
     }
 
     /// The flow of a job is open from now on, as this instance: the job waits, and is ready, or is the first of its step that was put
-    /// aside. Takes no memory. Linear in the step's open flows.
+    /// aside. Takes no memory. Linear in the step's open flows, and in the steps that are passed
+    /// then.
     pub fn nest(&mut self, plan: &FlowPlan, pool: &Nodes, number: u64, instance: u64)
         requires may { (d : Document) × (v : View) × IsOpen d plan.now pool.now self.old v
             × MayNest self.old.seats.seats number × WaitsReady v self.old.seats.seats number }
@@ -85,8 +89,11 @@ impl Open {
             → IsTaken d plan.now pool.now self.old self.new v number (ANested instance) }
         ensures region { self.new.frame.region ≡ self.old.frame.region }
     {
+        let step = self.seats.step(number);
         self.take(plan, pool, number);
+        self.turns.take_in(step);
         self.seats.nest(number, instance);
+        self.pass_quiet(step);
     }
 
     /// Of a waiting job the frame is told that it is taken.
@@ -163,10 +170,11 @@ impl Open {
         self.frame
             .result(plan, pool, spot.step, &spot.place, pieces);
         self.seats.settle(number);
-        seat_new(&self.frame, &mut self.seats);
+        seat_new(&self.frame, &mut self.seats, &mut self.turns);
     }
 
-    /// A job that waits, and is ready, is settled with these: it is bounced. Takes no memory.
+    /// A job that waits, and is ready, is settled with these: it is bounced. Takes no memory. Linear in the steps that are passed
+    /// then, besides what its result costs.
     pub fn bounce(
         &mut self,
         plan: &FlowPlan,
@@ -188,7 +196,8 @@ impl Open {
         self.frame
             .bounce(plan, pool, number, spot.step, &spot.place, pieces);
         self.seats.settle(number);
-        seat_new(&self.frame, &mut self.seats);
+        seat_new(&self.frame, &mut self.seats, &mut self.turns);
+        self.pass_quiet(spot.step);
     }
 
     /// Takes the room for settling a list or a fault, and tells how many jobs become known with it; `None` where none can be settled.
@@ -230,7 +239,7 @@ impl Open {
         ensures region { self.new.frame.region ≡ self.old.frame.region }
     {
         let settled = self.frame.settle(plan, pool);
-        seat_new(&self.frame, &mut self.seats);
+        seat_new(&self.frame, &mut self.seats, &mut self.turns);
         settled
     }
 }

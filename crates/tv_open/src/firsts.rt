@@ -31,13 +31,14 @@ impl Seeking {
 }
 
 impl Open {
-    /// The first job that can be bounced, in job order. Linear in the steps of the flow.
+    /// The first job that can be bounced, in job order. Linear in the steps before it that aren't
+    /// passed.
     pub fn first_to_bounce(&self, plan: &FlowPlan, pool: &Nodes) -> Option<u64>
         requires { (d : Document) × (v : View) × IsOpen d plan.now pool.now self.now v }
         ensures { (d : Document) (v : View) → IsOpen d plan.now pool.now self.now v
             → IsFirstFaulty v self.now.seats.seats result }
     {
-        for step in self.frame.order() {
+        for step in self.going() {
             if let Some(job) = self.frame.first_faulty(plan, pool, *step) {
                 return Some(job);
             }

@@ -12,6 +12,7 @@
 //! - `firsts`: its first job that goes on, or that can be bounced
 //! - `events`: a job taken, opened, given its result or bounced, a list closed or a fault passed
 //! - `tries`: jobs that are idle again, or have a flow next
+//! - `turns`: which steps are looked at, that of the greatest rank first
 #![tactic(auto)]
 
 mod events;
@@ -19,6 +20,7 @@ mod firsts;
 mod looks;
 mod open;
 mod tries;
+mod turns;
 
 pub use events::Spot;
 pub use firsts::Seeking;

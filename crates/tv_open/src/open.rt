@@ -17,8 +17,10 @@ ghost use Rattle.tv_frame.specs.Calls.{CanStart, SameRegions, Starts};
 ghost use Rattle.tv_frame.specs.Kept.{AreOuts};
 ghost use Rattle.tv_frame.specs.Tables.{AreTables, levels_in};
 ghost use Rattle.tv_open.specs.Seating.{AllSit, CanSit, IsKept, seat_for};
+ghost use Rattle.tv_open.specs.Turns.{AreTurns, TakeIn, TakesIn};
 ghost use Rattle.tv_open.specs.Standing.{IsOpen, StartsOpen};
 
+use crate::turns::Turns;
 use std::alloc::Global;
 use tv_cell::Pieces;
 use tv_check::FlowPlan;
@@ -32,24 +34,29 @@ use tv_value::NoMemory;
 pub struct Open {
     pub(crate) frame: Frame,
     pub(crate) seats: Seats,
+    pub(crate) turns: Turns,
 }
 
-/// The jobs that a frame knows and that have no seat sit down. Takes no memory.
-pub(crate) fn seat_new(frame: &Frame, seats: &mut Seats)
+/// The jobs that a frame knows and that have no seat sit down, and their steps aren't passed any
+/// more. Takes no memory.
+pub(crate) fn seat_new(frame: &Frame, seats: &mut Seats, turns: &mut Turns)
     requires keeps { IsKept frame.now }
     requires can { CanSit frame.now seats.old }
-    ensures { AllSit frame.now seats.old seats.new }
+    ensures all { AllSit frame.now seats.old seats.new }
+    ensures turns { TakeIn turns.old turns.new (length seats.old.seats) seats.new.seats }
 {
     for number in seats.len()..frame.known() {
-        seat_job(frame, seats, number);
+        seat_job(frame, seats, turns, number);
     }
 }
 
-fn seat_job(frame: &Frame, seats: &mut Seats, number: u64)
+fn seat_job(frame: &Frame, seats: &mut Seats, turns: &mut Turns, number: u64)
     requires keeps { IsKept frame.now }
     requires can { CanSit frame.now seats.old }
     requires next { number ≡ length seats.old.seats }
     requires known { number < length (known_jobs frame.now.intakes) }
+    ensures turns { (j : ℕ × Place) → slice_get (known_jobs frame.now.intakes) number ≡ Some j
+        → TakesIn turns.old turns.new j.0 }
     ensures seats { (j : ℕ × Place) → slice_get (known_jobs frame.now.intakes) number ≡ Some j
         → seats.new.seats ≡ seats.old.seats ++ seat_for j ∷ [] }
     ensures levels { seats.new.levels ≡ seats.old.levels }
@@ -59,13 +66,37 @@ fn seat_job(frame: &Frame, seats: &mut Seats, number: u64)
     match frame.job(number) {
         Some(job) => {
             let _number = seats.sit(job.step, job.place);
+            turns.take_in(job.step);
         }
         None => unreachable!(),
     }
 }
 
+/// Takes the room for the jobs that a frame knows from its start to sit down. Answers the turns of
+/// its steps, of which none is passed.
+fn room_to_sit(
+    alloc: Global,
+    frame: &Frame,
+    seats: &mut Seats,
+    plan: &FlowPlan,
+) -> Result<Turns, NoMemory>
+    requires { (d : Document) × (values : _) × (pool : TheNodes)
+        × Starts d.flows plan.now values pool frame.now }
+    ensures turns { IfOk result (λ t.
+        AreTurns (by_falling_rank (flow_view plan.now.flow)) t.positions.items
+        × (t.from ≡ 0)) }
+    ensures room { OnOk result (seats.new.room ≡ length (known_jobs frame.now.intakes)) }
+    ensures seats { seats.new.seats ≡ seats.old.seats }
+    ensures levels { seats.new.levels ≡ seats.old.levels }
+{
+    let turns = Turns::start(alloc, plan.steps.as_slice().len(), frame.order())?;
+    seats.reserve(frame.known() as usize)?;
+    Ok(turns)
+}
+
 /// The jobs that a frame knows from its start sit down. Where that is refused, its region is released.
 fn seated(
+    alloc: Global,
     frame: Frame,
     mut seats: Seats,
     plan: &FlowPlan,
@@ -83,10 +114,14 @@ fn seated(
     ensures refused { OnErr result (pool.new.regions
         ≡ regions_with pool.old (number_of frame.region) None) }
 {
-    match seats.reserve(frame.known() as usize) {
-        Ok(()) => {
-            seat_new(&frame, &mut seats);
-            Ok(Open { frame, seats })
+    match room_to_sit(alloc, &frame, &mut seats, plan) {
+        Ok(mut turns) => {
+            seat_new(&frame, &mut seats, &mut turns);
+            Ok(Open {
+                frame,
+                seats,
+                turns,
+            })
         }
         Err(error) => {
             frame.abandon(pool);
@@ -118,7 +153,7 @@ impl Open {
     {
         let seats = Seats::start(alloc, tables.levels())?;
         let frame = Frame::start(alloc, plan, tables, inputs, pool)?;
-        seated(frame, seats, plan, pool)
+        seated(alloc, frame, seats, plan, pool)
     }
 
     /// Whether the instance has ended.
@@ -127,14 +162,6 @@ impl Open {
             → IsOpen d plan pool self.now v → result ≡ has_ended_now (levels_in v.flow) v }
     {
         self.frame.ended()
-    }
-
-    /// The steps of its flow by number, that of the greatest rank first.
-    pub fn order(&self) -> &[u32]
-        ensures { (d : Document) (plan : ThePlan) (pool : TheNodes) (v : View)
-            → IsOpen d plan pool self.now v → result.now ≡ by_falling_rank v.flow }
-    {
-        self.frame.order()
     }
 
     /// The flow's outputs, once the instance has ended.
@@ -156,7 +183,7 @@ impl Open {
         ensures gone { pool.new.regions
             ≡ regions_with pool.old (number_of self.frame.region) None }
     {
-        let Open { frame, seats } = self;
+        let Open { frame, seats, .. } = self;
         let outs = frame.finish(pool);
         (outs, seats)
     }

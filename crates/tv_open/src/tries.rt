@@ -3,6 +3,7 @@ ghost use Rattle.std.specs.Prelude.{◌≡◌, ◌<◌, OnOk, length, map, true}
 ghost use Rattle.tv_seats.specs.Seats.{HasBackRooms, back, back_room, out_count, room_at, stands, step_at};
 ghost use Rattle.tv_seats.specs.Stages.{is_out};
 ghost use Rattle.tv_seats.specs.declared.stage.Stage.TheVariants.{Aside as AnAside, Idle as AnIdle};
+ghost use Rattle.tv_open.specs.Turns.{AreRestarted};
 ghost use Rattle.tv_open.specs.Tries.{HasStage, IsSameButRooms};
 
 use crate::open::Open;
@@ -24,6 +25,7 @@ impl Open {
         requires room { 0 < back_room self.old.seats.back_rooms (step_at self.old.seats.seats number) }
         ensures { HasStage self.old self.new number (AnIdle activity attempt) }
     {
+        self.turns.take_in(self.seats.step(number));
         self.seats.put_back(number, activity, attempt);
     }
 
@@ -42,6 +44,7 @@ impl Open {
         requires room { 0 < room_at self.old.seats.aside_rooms (step_at self.old.seats.seats number) }
         ensures { HasStage self.old self.new number (AnAside activity) }
     {
+        self.turns.take_in(self.seats.step(number));
         self.seats.set_aside(number, activity);
     }
 
@@ -69,7 +72,9 @@ impl Open {
         ensures frame { self.new.frame ≡ self.old.frame }
         ensures seats { self.new.seats.seats ≡ map back self.old.seats.seats }
         ensures levels { self.new.seats.levels ≡ self.old.seats.levels }
+        ensures turns { AreRestarted self.old.turns self.new.turns }
     {
+        self.turns.restart();
         self.seats.put_all_back()
     }
 }

@@ -81,6 +81,7 @@ pub mod OfTotals
 pub mod OfTriesOut
 pub mod OfWalkFound
 pub mod OfWalkGoing
+pub mod OfWalkQuiet
 pub mod OfWalkInside
 pub mod OfWalkNested
 pub mod OfWalkNumbers

@@ -19,6 +19,7 @@ use Rattle.tv_forest.specs.Forest.{Instance, Instances}
 use Rattle.tv_forest.proofs.OfLists.{same-number}
 use Rattle.tv_open.specs.Standing.{IsOpen, job_of}
 use Rattle.tv_open.specs.Tries.{IsSameButRooms}
+use Rattle.tv_open.proofs.OfTries.{quiet-roomy}
 use Rattle.tv_open.specs.declared.open.Open.{Open}
 use Rattle.tv_run.specs.Following.{HasSameAround}
 use Rattle.tv_run.specs.Recalling.{HasRoomsIn, HasSameOpens, OtherRoomsIn}
@@ -110,6 +111,7 @@ opens-itself c = record {
       frame = ap (λ (q : Open). q.frame) e;
       seats = ap (λ (q : Open). q.seats.seats) e;
       levels = ap (λ (q : Open). q.seats.levels) e;
+      turns = ap (λ (q : Open). q.turns) e;
     }
 
 pub opens-then : (c d e : code.Instance) → HasSameOpens c d → HasSameOpens d e → HasSameOpens c e
@@ -123,7 +125,12 @@ opens-then c d e a b = record {
       let q = within-get d.open.items 0 (subst (λ n. 0 < n) (sym a.as_many) (slice_get_within c.open.items 0 o f)) in
       let x = a.opens o q.0 f q.1 in
       let y = b.opens q.0 p q.1 g in
-      record { frame = y.frame ∙ x.frame; seats = y.seats ∙ x.seats; levels = y.levels ∙ x.levels };
+      record {
+        frame = y.frame ∙ x.frame;
+        seats = y.seats ∙ x.seats;
+        levels = y.levels ∙ x.levels;
+        turns = y.turns ∙ x.turns;
+      };
   seats = b.seats ∙ a.seats;
 }
 
@@ -248,6 +255,7 @@ module _ (r s : OpenRun) (a : AreOtherRooms r s) where
             known =
                 ap (map job_of) is.seats ∙ was.known ∙ ap (λ (f : Frame). known_jobs f.intakes) (sym is.frame);
             levels = is.levels ∙ was.levels;
+            quiet = quiet-roomy v o p is was.quiet;
           }))
 
   abbrev frame_of : Option code.Instance → Option Frame

@@ -1,5 +1,5 @@
 -- An open instance by any plan of its flow, and beside others in the pool.
-use Rattle.std.specs.Prelude.{◌≡◌, refl, ℕ, List, [], ◌∷◌, None, Option, Some, option_and_then, option_map, slice_get}
+use Rattle.std.specs.Prelude.{◌≡◌, ℕ, List, [], ◌∷◌, None, Option, Some, option_and_then, option_map, slice_get}
 use Rattle.std.proofs.Common.{ap, subst, sym, ◌∙◌}
 use Rattle.std.proofs.lemmas.Option.{none-some, same_Some}
 use Rattle.tv_value.specs.Values.{Name}
@@ -16,7 +16,7 @@ use Rattle.tv_beside.proofs.OfFrames.{keeps-beside}
 use Rattle.tv_forest.specs.Forest.{Instance}
 use Rattle.tv_open.specs.Standing.{IsOpen}
 use Rattle.tv_open.specs.declared.open.Open.{Open}
-use Rattle.tv_run.specs.Standing.{IsLife, IsOpenOf, frame_at}
+use Rattle.tv_run.specs.Standing.{IsLife, frame_at}
 use Rattle.tv_run.specs.declared.instances.Instance as code
 use Rattle.tv_run.specs.declared.run.OpenRun.{OpenRun}
 
@@ -51,6 +51,7 @@ open-any d plan other pool o v h k = record {
   keeps = keeps-any d.flows plan other pool o.frame v h k.keeps;
   known = k.known;
   levels = k.levels;
+  quiet = k.quiet;
 }
 
 -- where its region is what it was
@@ -60,6 +61,7 @@ open-beside d plan pool after o v same k = record {
   keeps = keeps-beside d.flows plan pool after o.frame v k.keeps same;
   known = k.known;
   levels = k.levels;
+  quiet = k.quiet;
 }
 
 -- ---- in a run

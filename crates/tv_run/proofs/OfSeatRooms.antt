@@ -1,11 +1,11 @@
 -- The room of an open instance's seats: that it is taken changes nothing, and what it is of a job that is out.
 use Rattle.std.specs.Option.{option_map_or}
-use Rattle.std.specs.Prelude.{◌≡◌, refl, ℕ, ◌<◌, true, false, List, [], ◌∷◌, Err, Ok, OnOk, Result, Some, length, map, slice_get, slice_index_or}
-use Rattle.std.proofs.Common.{ap, arith, subst, sym, ◌∙◌}
+use Rattle.std.specs.Prelude.{◌≡◌, ℕ, ◌<◌, true, false, Err, Ok, OnOk, Result, Some, length, map, slice_get, slice_index_or}
+use Rattle.std.proofs.Common.{ap, subst, sym, ◌∙◌}
 use Rattle.std.proofs.lemmas.List.{length-map}
 use Rattle.std.proofs.lemmas.Option.{same_Some}
 use Rattle.tv_value.specs.Values.{Name}
-use Rattle.tv_flow.specs.Flows.{Document, Flow, Step}
+use Rattle.tv_flow.specs.Flows.{Flow, Step}
 use Rattle.tv_flow.specs.Views.{flow_view}
 use Rattle.tv_check.specs.RunViews.{run_view}
 use Rattle.tv_check.specs.declared.plans.FlowPlan.{FlowPlan}
@@ -20,10 +20,10 @@ use Rattle.tv_seats.specs.Stages.{is_out}
 use Rattle.tv_forest.specs.Forest.{Instance, Instances}
 use Rattle.tv_open.specs.Standing.{IsOpen, job_of}
 use Rattle.tv_open.specs.Tries.{IsSameButRooms}
+use Rattle.tv_open.proofs.OfTries.{quiet-roomy}
 use Rattle.tv_open.specs.declared.open.Open.{Open}
-use Rattle.tv_run.specs.Accepting.{HasAsideRoom, HasBackRoom, IsOutHere}
+use Rattle.tv_run.specs.Accepting.{HasAsideRoom, HasBackRoom}
 use Rattle.tv_run.specs.Changes.{IsOpenHere}
-use Rattle.tv_run.specs.Looks.{IsFlow}
 use Rattle.tv_run.specs.Rooms.{IsAsBefore}
 use Rattle.tv_run.specs.declared.instances.Instance as code
 use Rattle.tv_run.specs.declared.run.OpenRun.{OpenRun}
@@ -106,6 +106,7 @@ module _ (r : OpenRun) (i : ℕ) (xs : Instances) (x : Instance) (v : View) (her
           known =
               ap (map job_of) same.seats ∙ k.known ∙ ap (λ (f : Frame). known_jobs f.intakes) (sym same.frame);
           levels = same.levels ∙ k.levels;
+          quiet = quiet-roomy w o p same k.quiet;
         }))
         (λ f h. plan.1 ∙ same_Some x.flow f (sym its.kept.flow ∙ h))
       where

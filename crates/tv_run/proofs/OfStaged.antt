@@ -1,16 +1,12 @@
 -- A job that is out is at another stage from now on, and its frame is told nothing: the run fits that.
 use Rattle.std.specs.Option.{option_map_or}
-use Rattle.std.specs.Prelude.{◌≡◌, ◌≢◌, refl, ℕ, ◌+◌, Bool, true, false, List, [], ◌∷◌, None, Option, Some, cond, count_by, is_some, map, option_and_then, option_map, slice_get, slice_set}
+use Rattle.std.specs.Prelude.{◌≡◌, refl, ℕ, ◌+◌, true, false, List, [], ◌∷◌, None, Option, Some, cond, count_by, map, option_and_then, option_map, slice_get, slice_set}
 use Rattle.std.proofs.Common.{ap, append-nil, arith, subst, sym, ◌∙◌}
 use Rattle.std.proofs.lemmas.Option.{same_Some}
-use Rattle.tv_value.specs.Nested.{Place}
-use Rattle.tv_value.specs.Values.{JobName, Name}
-use Rattle.tv_flow.specs.Flows.{Flow, Step}
 use Rattle.tv_flow.specs.Views.{flow_view}
 use Rattle.tv_check.specs.RunViews.{run_view}
 use Rattle.tv_check.specs.declared.plans.FlowPlan.{FlowPlan}
 use Rattle.tv_intake.specs.Intaken.{known_jobs}
-use Rattle.tv_framing.specs.Answers.{IsReadyJob}
 use Rattle.tv_framing.specs.Views.{View}
 use Rattle.tv_frame.specs.Kept.{Keeps}
 use Rattle.tv_frame.specs.Tables.{levels_in}
@@ -21,17 +17,17 @@ use Rattle.tv_seats.specs.Seats.{Seat, staged, with_stage}
 use Rattle.tv_seats.specs.Stages.{is_out, is_waiting}
 use Rattle.tv_seats.specs.declared.stage.Stage.{Stage}
 use Rattle.tv_seats.specs.declared.stage.Stage.TheVariants as stage
-use Rattle.tv_seated.specs.Seated.{spot_of}
 use Rattle.tv_seated.proofs.OfLists.{same-images}
 use Rattle.tv_forest.specs.Entries.{seated, with_instance}
 use Rattle.tv_forest.specs.Forest.{Instance, Instances}
 use Rattle.tv_forest.proofs.OfLists.{at-set, of-set, one-at, same-number}
-use Rattle.tv_firsts.specs.Opening.{IsReadySeat, IsStill}
+use Rattle.tv_firsts.specs.Opening.{IsStill}
 use Rattle.tv_open.specs.Standing.{IsOpen, job_of}
 use Rattle.tv_open.specs.Tries.{HasStage}
+use Rattle.tv_open.proofs.OfTries.{quiet-staged}
 use Rattle.tv_open.specs.declared.open.Open.{Open}
 use Rattle.tv_run.specs.Accepting.{IsOutHere, MovesTo}
-use Rattle.tv_run.specs.Standing.{Fits, IsLife, IsOpenOf, due_in, frame_at, is_due, names_of, seats_of}
+use Rattle.tv_run.specs.Standing.{IsLife, IsOpenOf, frame_at, is_due, names_of, seats_of}
 use Rattle.tv_run.specs.declared.instances.Instance as code
 use Rattle.tv_run.specs.declared.run.OpenRun.{OpenRun}
 use Rattle.tv_run.proofs.OfJobs.{open-is, seats-open}
@@ -180,6 +176,7 @@ module _ (r s : OpenRun) (i n : ℕ) (y : Stage) (before : code.Instance) (old n
               ∙ k.known
               ∙ ap (λ (f : Frame). known_jobs f.intakes) (sym w.has_stage.frame);
           levels = w.has_stage.levels ∙ k.levels;
+          quiet = quiet-staged v old new n y w.has_stage k.quiet;
         }))
 
     life : IsLife s after z z.view

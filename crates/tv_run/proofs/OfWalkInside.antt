@@ -1,5 +1,5 @@
 -- The walk through the steps of an open instance: the first job inside it that passes.
-use Rattle.std.specs.Prelude.{◌≡◌, refl, ℕ, ◌+◌, ◌<◌, ◌≤◌, true, false, nat_lt, [], ◌++◌, ◌∷◌, None, Option, Some, is_none, is_some, length, slice_get}
+use Rattle.std.specs.Prelude.{◌≡◌, refl, ℕ, ◌+◌, ◌<◌, ◌≤◌, true, false, nat_lt, List, [], ◌++◌, ◌∷◌, None, Option, Some, is_none, is_some, length, slice_get}
 use Rattle.std.proofs.Common.{ap, arith, inl, inr, length-append, subst, sym, ◌∙◌}
 use Rattle.std.proofs.lemmas.Bool.{false_from_ne_true, ltb-false, ltb-true}
 use Rattle.std.proofs.lemmas.Option.{same_Some, slice_get_within}
@@ -15,14 +15,17 @@ use Rattle.tv_order.specs.JobOrder.{place_before}
 use Rattle.tv_order.proofs.OfDocuments.{name-length}
 use Rattle.tv_framing.specs.Views.{View}
 use Rattle.tv_frame.specs.Tables.{levels_in}
+use Rattle.tv_frame.proofs.OfHoldAround.{within-get}
 use Rattle.tv_turn.specs.FirstReady.{by_falling_rank}
 use Rattle.tv_seats.specs.Seats.{Seat}
+use Rattle.tv_seated.proofs.OfLists.{in-front}
 use Rattle.tv_standing.specs.Offers.{ComesNotBefore}
 use Rattle.tv_forest.specs.Forest.{Instance, Instances, IsAt, IsJobAt}
 use Rattle.tv_firsts.specs.FirstWithin.{IsFirstOfSeats, IsFirstWithin, IsFoundAt, Passing}
 use Rattle.tv_firsts.proofs.OfFirsts.{first-by_seats, inside-parts}
 use Rattle.tv_firsts.proofs.OfHistories.{first-of_all_jobs}
 use Rattle.tv_entries.specs.Runs.{past_of}
+use Rattle.tv_open.specs.Quiet.{AreGoing}
 use Rattle.tv_open.specs.declared.firsts.Seeking.{Seeking}
 use Rattle.tv_open.specs.declared.firsts.Seeking.TheVariants as seeking
 use Rattle.tv_run.specs.Standing.{OutsAre, Stands, run_of}
@@ -30,6 +33,7 @@ use Rattle.tv_run.specs.Walking.{IsFound, IsFoundAtStep, IsFoundInside, IsFoundO
 use Rattle.tv_run.specs.declared.run.OpenRun.{OpenRun}
 use Rattle.tv_run.proofs.OfWalkFound.{found-by, found_at, found_by, is-found, one-found}
 use Rattle.tv_run.proofs.OfWalkOpen.{job-there, turn-of}
+use Rattle.tv_run.proofs.OfWalkQuiet.{none-quiet}
 
 -- what is sought is what is offered, or all that goes on
 passing-is : (gives : Giving) (r : OpenRun) (k : Seeking) → Passing gives (run_view r.run) (past_of (run_of r)) (passes gives r k)
@@ -41,10 +45,6 @@ abbrev pub NoneOfFirst : Giving → OpenRun → Instances → Seeking → ℕ �
 NoneOfFirst gives r xs k i x v q =
     (p step : ℕ) → p < q → slice_get (by_falling_rank v.flow) p ≡ Some step → IsFoundOf gives r xs k i x step None
 
-pub none-of_first : (gives : Giving) (r : OpenRun) (xs : Instances) (k : Seeking) (i : ℕ) (x : Instance) (v : View)
-    → NoneOfFirst gives r xs k i x v 0
-none-of_first gives r xs k i x v p step low = absurd (omega (arith, low))
-
 module _ (gives : Giving) (r : OpenRun) (xs : Instances) (st : Stands gives r xs) (i : ℕ) (x : Instance) (v : View)
     (at : IsAt xs i x) (told : x.view ≡ Some v) (k : Seeking) where
   abbrev past : History
@@ -52,6 +52,25 @@ module _ (gives : Giving) (r : OpenRun) (xs : Instances) (st : Stands gives r xs
 
   abbrev NoneTo : ℕ → Type 0
   NoneTo q = NoneOfFirst gives r xs k i x v q
+
+  -- at those that are passed nothing is
+  pub none-passed : (going : List ℕ) → AreGoing v x.seats going → (passed : List ℕ)
+      → passed ++ going ≡ by_falling_rank v.flow → NoneTo (length passed + 0)
+  none-passed going g passed same p step low here =
+      none-quiet gives r xs st i x v at told k step (g.quiet p step was)
+    where
+      as-many : length g.passed + length going ≡ length passed + length going
+      as-many =
+          sym (length-append g.passed going) ∙ ap (λ (l : List ℕ). length l) (g.in_order ∙ sym same)
+          ∙ length-append passed going
+
+      was : slice_get g.passed p ≡ Some step
+      was =
+          let u = within-get g.passed p (let m = as-many in omega (arith, low, m)) in
+          u.1
+          ∙ ap Some
+          (same_Some u.0 step
+          (sym (in-front g.passed going p u.0 u.1) ∙ ap (λ (l : List ℕ). slice_get l p) g.in_order ∙ here))
 
   pub one-more : (q step : ℕ) → slice_get (by_falling_rank v.flow) q ≡ Some step → NoneTo q
       → IsFoundOf gives r xs k i x step None → NoneTo (q + 1)
@@ -90,13 +109,19 @@ module _ (gives : Giving) (r : OpenRun) (xs : Instances) (st : Stands gives r xs
       found-as n s j.0 j.1 None (none n s j.0 j.1 refl)
 
   -- where nothing is found at any step
-  pub none-inside : (q : ℕ) → length (by_falling_rank v.flow) ≤ q → NoneTo q → IsFoundInside gives r xs k x None
+  none-inside : (q : ℕ) → length (by_falling_rank v.flow) ≤ q → NoneTo q → IsFoundInside gives r xs k x None
   none-inside q all none =
       first-of.none
       (λ n s e.
       let l = turn-of gives r xs st i x v at told n s e in
       none-found n s e
       (none l.0 s.step (omega (arith, all, slice_get_within (by_falling_rank v.flow) l.0 s.step l.1)) l.1))
+
+  pub none-left : (going : List ℕ) (g : AreGoing v x.seats going) (q : ℕ) → length going ≤ q
+      → NoneTo (length g.passed + q) → IsFoundInside gives r xs k x None
+  none-left going g q all =
+      let many = sym (length-append g.passed going) ∙ ap (λ (l : List ℕ). length l) g.in_order in
+      none-inside (length g.passed + q) (omega (arith, all, many))
 
   -- where something is found at this step first
   pub some-at : (q step number : ℕ) → slice_get (by_falling_rank v.flow) q ≡ Some step → NoneTo q

@@ -1,5 +1,5 @@
 -- An open instance of a run that stands: its code, its seats and jobs, and its steps in turn.
-use Rattle.std.specs.Prelude.{◌≡◌, refl, ℕ, ◌<◌, true, List, [], ◌∷◌, None, Option, Some, length, map, option_map, slice_get}
+use Rattle.std.specs.Prelude.{◌≡◌, refl, ℕ, ◌+◌, ◌<◌, true, List, [], ◌∷◌, ◌++◌, None, Option, Some, length, map, option_map, slice_get}
 use Rattle.std.proofs.Common.{ap, get_or, subst, sym, ◌∙◌}
 use Rattle.std.proofs.lemmas.List.{length-map}
 use Rattle.std.proofs.lemmas.Option.{get_or_from_slice_get, none-some, same_Some, slice_get_within}
@@ -28,13 +28,14 @@ use Rattle.tv_turn.specs.FirstReady.{by_falling_rank}
 use Rattle.tv_turn.proofs.OfRanks.{at-in, has-number, number-of, numbers-step}
 use Rattle.tv_viewed.specs.InRun.{IsJobThere}
 use Rattle.tv_seated.specs.Seated.{Sit, spot_of}
-use Rattle.tv_seated.proofs.OfLists.{get-image, is-member, of-image, place-of}
+use Rattle.tv_seated.proofs.OfLists.{get-image, in-behind, is-member, of-image, place-of}
 use Rattle.tv_standing.specs.Seats.{IsJobOf}
 use Rattle.tv_standing.proofs.OfSeats.{seat-job}
 use Rattle.tv_standing.proofs.OfTold.{steps-rise}
 use Rattle.tv_forest.specs.Forest.{Instance, Instances, IsAt, IsJobAt, Stays}
 use Rattle.tv_entries.specs.Runs.{past_of}
-use Rattle.tv_open.specs.Standing.{IsOpen}
+use Rattle.tv_open.specs.Quiet.{AreGoing}
+use Rattle.tv_open.specs.Standing.{IsOpen, IsSome}
 use Rattle.tv_open.specs.declared.open.Open.{Open}
 use Rattle.tv_run.specs.Looks.{IsFlow}
 use Rattle.tv_run.specs.Standing.{IsKept, IsOpenOf, Stands, run_of}
@@ -167,19 +168,24 @@ module _ (gives : Giving) (r : OpenRun) (xs : Instances) (st : Stands gives r xs
         ∙ ap (λ (f : Flow). length f.steps) same-flow))
         low
 
-    pub order-is : (order : List ℕ)
-        → ((e : Document) (plan : FlowPlan) (pool : Nodes) (w : View) → IsOpen e plan pool p w → order ≡ by_falling_rank w.flow)
-        → order ≡ by_falling_rank v.flow
-    order-is order f = f d planned.0 r.pool v open-some
+    pub some-open : IsSome p
+    some-open = (d, planned.0, r.pool, v, open-some)
+
+    pub going-is : (going : List ℕ)
+        → ((e : Document) (plan : FlowPlan) (pool : Nodes) (w : View) → IsOpen e plan pool p w
+        → AreGoing w p.seats.seats going)
+        → AreGoing v x.seats going
+    going-is going f = subst (λ ss. AreGoing v ss going) seats-at (f d planned.0 r.pool v open-some)
 
   -- ---- its steps in turn
 
   rise : is_ascending (map (λ (s : Name × Step). s.0) v.flow.steps) ≡ true
   rise = steps-rise gives d past I (levels_in v.flow) v x.seats sit-there
 
-  pub turn-at : (order : List ℕ) → order ≡ by_falling_rank v.flow → (n : ℕ) → n < length order
-      → slice_get (by_falling_rank v.flow) n ≡ Some (get_or order n 0)
-  turn-at order same n low = ap (λ l. slice_get l n) (sym same) ∙ get-at order n low
+  pub turn-at : (passed going : List ℕ) → passed ++ going ≡ by_falling_rank v.flow → (n : ℕ) → n < length going
+      → slice_get (by_falling_rank v.flow) (length passed + n) ≡ Some (get_or going n 0)
+  turn-at passed going same n low =
+      ap (λ l. slice_get l (length passed + n)) (sym same) ∙ in-behind passed going n ∙ get-at going n low
 
   within : (n k : ℕ) → slice_get (by_falling_rank v.flow) n ≡ Some k → k < length v.flow.steps
   within n k e =

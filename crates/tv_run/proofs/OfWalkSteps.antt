@@ -118,7 +118,7 @@ module _ (gives : Giving) (r : OpenRun) (xs : Instances) (st : Stands gives r xs
   -- ---- at one job
 
   -- where its flow isn't open and it doesn't pass nothing is found
-  nothing-at : (n : ℕ) (s : Seat) (j : Job) → Is n s j → is_nested s.stage ≡ false → passes gives r k j ≡ false → Found j None
+  pub nothing-at : (n : ℕ) (s : Seat) (j : Job) → Is n s j → is_nested s.stage ≡ false → passes gives r k j ≡ false → Found j None
   nothing-at n s j it e h = record {
     within = λ q. absurd (true≠false (sym q ∙ opens-by gives r xs st i x v at told n s j it ∙ e));
     itself = λ q. sym (ap (λ b. if b then Some j else None) h);

@@ -3,6 +3,7 @@ use Rattle.std.specs.List.{sum_by}
 use Rattle.std.specs.Prelude.{List, Some, length, map, slice_get, ℕ, ◌<◌, ◌≡◌}
 use Rattle.tv_seats.specs.Seats.{HasBackRooms, back, out_count}
 use Rattle.tv_open.specs.Tries.{IsSameButRooms}
+use Rattle.tv_open.specs.Turns.{AreRestarted}
 use Rattle.tv_open.specs.declared.open.Open.{Open}
 use Rattle.tv_run.specs.Following.{HasSameAround, OthersAreSame}
 use Rattle.tv_run.specs.declared.instances.Instance as code
@@ -51,6 +52,7 @@ pub record IsBack (o p : Open) : Type 0 where
   pub frame : p.frame ≡ o.frame
   pub seats : p.seats.seats ≡ map back o.seats.seats
   pub levels : p.seats.levels ≡ o.seats.levels
+  pub turns : AreRestarted o.turns p.turns
 
 pub record IsCalledBack (c e : code.Instance) : Type 0 where
   pub flow : e.flow ≡ c.flow

@@ -35,7 +35,7 @@ fn is_sought(tries: &Plan, seeking: Seeking) -> bool
 
 impl OpenRun {
     /// The first job of the run that goes on, in job order. It enters the open instances that stand before it, in each of which it looks
-    /// at the steps. Takes no memory.
+    /// at the steps that aren't passed. Takes no memory.
     pub(crate) fn first_going(&self, seeking: Seeking) -> Option<u64>
         requires { (gives : Giving) × StandsOpen gives self.now }
         ensures { (gives : Giving) (xs : Instances) → Stands gives self.now xs → IsFound gives self.now xs seeking result }
@@ -55,7 +55,7 @@ impl OpenRun {
         if levels == 0 {
             return None;
         }
-        for step in self.opened(instance).order() {
+        for step in self.opened(instance).going() {
             if let Some(job) = self.first_at(instance, *step, seeking, levels) {
                 return Some(job);
             }

@@ -20,7 +20,9 @@ use tv_value::NoMemory;
 /// `Err` the answer to one more, which is still out, may be lost. Where the history so far is that of one worker it stays so: a
 /// try is handed out only where nothing can be settled and none is out, and none is taken back. So from a board that has only
 /// settled things it asks, and accepts, in the order of one worker: the whole of it, or after `Err` a beginning. The cost is that
-/// of the board's calls and of the asker's: of the former some for each job, list and passed fault, each with a look at the steps.
+/// of the board's calls and of the asker's: of the former some for each job, list and passed fault,
+/// each with a look at the steps of its instance, but for the first ones as long as no job of them
+/// waits, goes on or has its flow open, and at those once more where a job before them becomes known.
 pub fn run_alone<V: Services, A: Asker<Services = V>>(
     alloc: Global,
     board: &mut Board<V>,

@@ -60,4 +60,4 @@ returns-clause-told c d v s t m =
     (c.result.ensures.goes_on d.flows v t (ready-there d plan pool o v n s t vs x m.ready)
     (taken-there d plan pool o v n s t vs x m))
     c.settle.new.self c.settle.ensures.seats c.settle.ensures.levels c.settle.ensures.room c.seat_new.new.seats
-    c.seat_new.ensures
+    c.seat_new.ensures.all c.seat_new.new.turns c.seat_new.ensures.turns

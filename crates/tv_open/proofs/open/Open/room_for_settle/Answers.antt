@@ -6,26 +6,26 @@ use Rattle.tv_open.proofs.open.Open.room_for_settle.Goals as goal
 pub returns-in_err-more-clause-same : goal.returns-in_err-more-clause-same
 returns-in_err-more-clause-same c d v io =
     still-open d c.args.plan.now c.args.pool.now c.args.self.now v io c.room_for_settle.new.pool _
-    (c.room_for_settle.ensures.same d.flows v io.keeps) refl refl
+    (c.room_for_settle.ensures.same d.flows v io.keeps) refl refl refl
 
 pub returns-in_err-reserve-in-Some-clause-same : goal.returns-in_err-reserve-in-Some-clause-same
 returns-in_err-reserve-in-Some-clause-same c d v io =
     still-open d c.args.plan.now c.args.pool.now c.args.self.now v io c.room_for_settle.new.pool _
-    (c.room_for_settle.ensures.same d.flows v io.keeps) c.reserve.ensures.seats c.reserve.ensures.levels
+    (c.room_for_settle.ensures.same d.flows v io.keeps) c.reserve.ensures.seats c.reserve.ensures.levels refl
 
 pub returns-in_ok-reserve-in-Some-clause-same : goal.returns-in_ok-reserve-in-Some-clause-same
 returns-in_ok-reserve-in-Some-clause-same c d v io =
     still-open d c.args.plan.now c.args.pool.now c.args.self.now v io c.room_for_settle.new.pool _
-    (c.room_for_settle.ensures.same d.flows v io.keeps) c.reserve.ensures.seats c.reserve.ensures.levels
+    (c.room_for_settle.ensures.same d.flows v io.keeps) c.reserve.ensures.seats c.reserve.ensures.levels refl
 
 pub returns-in_ok-reserve-in-Some-clause-some : goal.returns-in_ok-reserve-in-Some-clause-some
 returns-in_ok-reserve-in-Some-clause-some c d v io =
     ready-settle d c.args.plan.now c.args.pool.now c.args.self.now v io c.room_for_settle.new.pool _
-    c.room_for_settle.ensures.same c.reserve.ensures.seats c.reserve.ensures.levels c.in-Some.more
+    c.room_for_settle.ensures.same c.reserve.ensures.seats c.reserve.ensures.levels refl c.in-Some.more
     c.in_ok-reserve-in-Some.ensures.ok
     (at-some _ c.in_ok-more.field-0 c.in-Some.more c.in-Some.is c.in_ok-more.ensures.some d.flows v io.keeps)
 
 pub returns-in-None-clause-same : goal.returns-in-None-clause-same
 returns-in-None-clause-same c d v io =
     still-open d c.args.plan.now c.args.pool.now c.args.self.now v io c.room_for_settle.new.pool _
-    (c.room_for_settle.ensures.same d.flows v io.keeps) refl refl
+    (c.room_for_settle.ensures.same d.flows v io.keeps) refl refl refl

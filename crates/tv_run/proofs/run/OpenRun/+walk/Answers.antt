@@ -1,8 +1,8 @@
-use Rattle.std.proofs.Common.{IfSome, arith, get_or, length, subst, sym, ◌*◌, ◌+◌, ◌-◌, ◌<◌, ◌≤◌, ◌∙◌}
+use Rattle.std.proofs.Common.{IfSome, arith, get_or, length, subst, sym, ◌*◌, ◌+◌, ◌-◌, ◌<◌, ◌≡◌, ◌∙◌}
 use Rattle.tv_run.specs.Walking.{IsFoundBefore, IsFoundInside, IsFoundOf}
-use Rattle.tv_run.proofs.OfWalkInside.{none-deeper, none-inside, none-of_first, one-more, some-at}
+use Rattle.tv_run.proofs.OfWalkInside.{NoneOfFirst, none-deeper, none-left, none-passed, one-more, some-at}
 use Rattle.tv_run.proofs.OfWalkNested.{behind-none, end-none, found-some, inner-at, nested-low, nested-stage, next-none}
-use Rattle.tv_run.proofs.OfWalkOpen.{leveled, order-is, seats-at, step-within, there, turn-at}
+use Rattle.tv_run.proofs.OfWalkOpen.{going-is, leveled, seats-at, some-open, step-within, there, turn-at}
 use Rattle.tv_run.proofs.OfWalkSteps.{none-yet, own-low, own-or_none}
 use Rattle.tv_run.proofs.run.OpenRun.+walk.Goals as goal
 
@@ -47,19 +47,28 @@ first_in-opened-requires t c =
     let h = there w.0 c.args.self.now w.1 w.4 c.args.instance w.2 w.3 w.5 w.6 in
     (h.itself, h.opened.itself, h.is_itself, h.opened.there)
 
+pub first_in-going-step-items-requires : goal.first_in-going-step-items-requires
+first_in-going-step-items-requires t c =
+    let w = c.requires in
+    some-open w.0 c.args.self.now w.1 w.4 c.args.instance w.2 w.3 w.5 w.6 c.opened.result.now c.opened.ensures
+
 pub first_in-loop-step-init : goal.first_in-loop-step-init
 first_in-loop-step-init t c gives xs x v st at told deep =
-    none-of_first gives c.args.self.now xs c.args.seeking c.args.instance x v
+    let r = c.args.self.now in
+    let i = c.args.instance in
+    let going = c.going-step-items.result.now in
+    let g = going-is gives r xs st i x v at told c.opened.result.now c.opened.ensures going c.going-step-items.ensures in
+    none-passed gives r xs st i x v at told c.args.seeking going g
 
 pub first_in-first_at-requires : goal.first_in-first_at-requires
 first_in-first_at-requires t c =
     let w = c.requires in
     let r = c.args.self.now in
     let i = c.args.instance in
-    let order = c.order-step-items.result.now in
-    let same = order-is w.0 r w.1 w.4 i w.2 w.3 w.5 w.6 c.opened.result.now c.opened.ensures order c.order-step-items.ensures in
+    let going = c.going-step-items.result.now in
+    let g = going-is w.0 r w.1 w.4 i w.2 w.3 w.5 w.6 c.opened.result.now c.opened.ensures going c.going-step-items.ensures in
     let q = c.loop-step.step-index in
-    let here = turn-at w.0 r w.1 w.4 i w.2 w.3 w.5 w.6 order same q c.loop-step-test.true in (
+    let here = turn-at w.0 r w.1 w.4 i w.2 w.3 w.5 w.6 g.passed going g.in_order q c.loop-step-test.true in (
       subst (λ n. 3 * c.args.levels + 1 < n) c.decreases (omega arith),
       (
         w.0,
@@ -70,7 +79,7 @@ first_in-first_at-requires t c =
         w.5,
         w.6,
         w.7,
-        step-within w.0 r w.1 w.4 i w.2 w.3 w.5 w.6 q (get_or order q 0) here,
+        step-within w.0 r w.1 w.4 i w.2 w.3 w.5 w.6 (length g.passed + q) (get_or going q 0) here,
         omega (arith, c.if-levels-eq0.false),
       ),
     )
@@ -79,39 +88,41 @@ pub first_in-returns-in-Some : goal.first_in-returns-in-Some
 first_in-returns-in-Some t c gives xs x v st at told deep =
     let r = c.args.self.now in
     let i = c.args.instance in
-    let order = c.order-step-items.result.now in
-    let same = order-is gives r xs st i x v at told c.opened.result.now c.opened.ensures order c.order-step-items.ensures in
+    let going = c.going-step-items.result.now in
+    let g = going-is gives r xs st i x v at told c.opened.result.now c.opened.ensures going c.going-step-items.ensures in
     let q = c.loop-step.step-index in
-    let here = turn-at gives r xs st i x v at told order same q c.loop-step-test.true in
-    let low = step-within gives r xs st i x v at told q (get_or order q 0) here in
-    some-at gives r xs st i x v at told c.args.seeking q (get_or order q 0) c.in-Some.job here
-    (c.loop-step.invariant gives xs x v st at told deep)
-    (subst (IsFoundOf gives r xs c.args.seeking i x (get_or order q 0)) c.in-Some.is
+    let step = get_or going q 0 in
+    let here = turn-at gives r xs st i x v at told g.passed going g.in_order q c.loop-step-test.true in
+    let low = step-within gives r xs st i x v at told (length g.passed + q) step here in
+    some-at gives r xs st i x v at told c.args.seeking (length g.passed + q) step c.in-Some.job here
+    (c.loop-step.invariant gives xs x v st at told deep g.passed g.in_order)
+    (subst (IsFoundOf gives r xs c.args.seeking i x step) c.in-Some.is
     (c.first_at.ensures gives xs x v st at told deep low))
 
 pub first_in-loop-step-preserved : goal.first_in-loop-step-preserved
-first_in-loop-step-preserved t c gives xs x v st at told deep =
+first_in-loop-step-preserved t c gives xs x v st at told deep passed same =
     let r = c.args.self.now in
     let i = c.args.instance in
-    let order = c.order-step-items.result.now in
-    let same = order-is gives r xs st i x v at told c.opened.result.now c.opened.ensures order c.order-step-items.ensures in
+    let going = c.going-step-items.result.now in
     let q = c.loop-step.step-index in
-    let here = turn-at gives r xs st i x v at told order same q c.loop-step-test.true in
-    let low = step-within gives r xs st i x v at told q (get_or order q 0) here in
-    one-more gives r xs st i x v at told c.args.seeking q (get_or order q 0) here
-    (c.loop-step.invariant gives xs x v st at told deep)
-    (subst (IsFoundOf gives r xs c.args.seeking i x (get_or order q 0)) c.in_default.is
-    (c.first_at.ensures gives xs x v st at told deep low))
+    let step = get_or going q 0 in
+    let here = turn-at gives r xs st i x v at told passed going same q c.loop-step-test.true in
+    let low = step-within gives r xs st i x v at told (length passed + q) step here in
+    let next : length passed + q + 1 ≡ length passed + (q + 1) = omega arith in
+    subst (NoneOfFirst gives r xs c.args.seeking i x v) next
+    (one-more gives r xs st i x v at told c.args.seeking (length passed + q) step here
+    (c.loop-step.invariant gives xs x v st at told deep passed same)
+    (subst (IsFoundOf gives r xs c.args.seeking i x step) c.in_default.is
+    (c.first_at.ensures gives xs x v st at told deep low)))
 
 pub first_in-returns : goal.first_in-returns
 first_in-returns t c gives xs x v st at told deep =
     let r = c.args.self.now in
     let i = c.args.instance in
-    let order = c.order-step-items.result.now in
-    let same = order-is gives r xs st i x v at told c.opened.result.now c.opened.ensures order c.order-step-items.ensures in
-    none-inside gives r xs st i x v at told c.args.seeking c.loop-step.step-index
-    (subst (λ l. length l ≤ c.loop-step.step-index) same c.loop-step-test.false)
-    (c.loop-step.invariant gives xs x v st at told deep)
+    let going = c.going-step-items.result.now in
+    let g = going-is gives r xs st i x v at told c.opened.result.now c.opened.ensures going c.going-step-items.ensures in
+    none-left gives r xs st i x v at told c.args.seeking going g c.loop-step.step-index c.loop-step-test.false
+    (c.loop-step.invariant gives xs x v st at told deep g.passed g.in_order)
 
 -- ---- inside the jobs of a step
 

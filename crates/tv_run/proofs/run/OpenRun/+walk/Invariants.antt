@@ -1,6 +1,7 @@
-use Rattle.std.specs.Prelude.{Some, length, ◌*◌, ◌+◌, ◌≡◌}
+use Rattle.std.specs.Prelude.{List, Some, length, ℕ, ◌*◌, ◌+◌, ◌++◌, ◌≡◌}
 use Rattle.tv_gate.specs.Outcomes.{Giving}
 use Rattle.tv_framing.specs.Views.{View}
+use Rattle.tv_turn.specs.FirstReady.{by_falling_rank}
 use Rattle.tv_forest.specs.Forest.{Instance, Instances, IsAt}
 use Rattle.tv_run.specs.Standing.{Stands}
 use Rattle.tv_run.specs.Walking.{IsOwn}
@@ -21,7 +22,8 @@ abbrev pub invariant-first_in-loop-step : goal.invariant-first_in-loop-step
 invariant-first_in-loop-step l =
     (gives : Giving) (xs : Instances) (x : Instance) (v : View) → Stands gives l.self xs → IsAt xs l.instance x
     → x.view ≡ Some v → length x.name + l.levels ≡ 8
-    → NoneOfFirst gives l.self xs l.seeking l.instance x v l.step-index
+    → (passed : List ℕ) → passed ++ l.step-items ≡ by_falling_rank v.flow
+    → NoneOfFirst gives l.self xs l.seeking l.instance x v (length passed + l.step-index)
 
 abbrev pub invariant-first_inside-loop-number : goal.invariant-first_inside-loop-number
 invariant-first_inside-loop-number l =
