@@ -83,7 +83,7 @@ fn feed_over(
         NumberedFeed::Link(link) => link_over(alloc, sources, over, link),
         NumberedFeed::Merge(links) => merged_over(alloc, sources, over, links.as_slice()),
         NumberedFeed::Constant => match constant {
-            Some(cell) => cell_piece(alloc, cell, &Place::top(alloc)),
+            Some(cell) => cell_piece(alloc, cell, &[]),
             None => unreachable!(),
         },
     }

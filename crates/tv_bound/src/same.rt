@@ -1,5 +1,5 @@
 //! Whether what a job binds is what is given, told without memory.
-ghost use Rattle.std.specs.Prelude.{◌≡◌, ◌↔◌, ◌+◌, ◌≤◌, ◌<◌, [], Some, drop, get_or, is_some, length, map, option_map, take, IsTrue, MatchOption};
+ghost use Rattle.std.specs.Prelude.{◌≡◌, ◌↔◌, ◌+◌, ◌<◌, [], Some, get_or, is_some, length, map, option_map, IsTrue, MatchOption};
 ghost use Rattle.tv_value.specs.Readings.{length_limit};
 ghost use Rattle.tv_value.specs.Values.{Value as AValue};
 ghost use Rattle.tv_value.specs.Views.{view};
@@ -12,7 +12,7 @@ ghost use Rattle.tv_bound.specs.Parts.{IsPartOf};
 ghost use Rattle.tv_bound.specs.Sourced.{known_by, Stand, IsCounted};
 
 use crate::constants::Constants;
-use crate::jobs::StepPorts;
+use crate::jobs::{StepPorts, part_of, wraps_of};
 use crate::sources::Sources;
 use tv_cell::{Cell, value_is_at};
 use tv_value::Value;
@@ -58,15 +58,6 @@ pub fn job_binds(
     true
 }
 
-/// So many indices of a place from there on.
-fn part_of(place: &[u32], start: usize, levels: usize) -> &[u32]
-    requires { start + levels ≤ length place.now }
-    ensures { result.now ≡ take levels (drop start place.now) }
-{
-    let rest = &place[start..];
-    &rest[..levels]
-}
-
 /// Whether the value is what a port binds, where that is its part of the job's place.
 fn port_is(
     sources: &Sources<'_>,
@@ -89,16 +80,6 @@ fn port_is(
         Some(inside) => feed_is(sources, &port.feed, constant, part, inside),
         None => false,
     }
-}
-
-/// How often the value of a port is wrapped.
-fn wraps_of(step: &StepPorts<'_>, number: usize) -> u32
-    requires inputs { number < length step.now.inputs.now }
-    requires delivered { number < length step.now.delivered.now }
-    ensures { result ≡ wraps step.now.inputs.now step.now.delivered.now number }
-{
-    let taken = step.inputs[number].1.depth;
-    taken.saturating_sub(step.delivered[number].1)
 }
 
 /// What stands inside so many one-item lists, where the value is so.

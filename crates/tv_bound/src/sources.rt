@@ -11,7 +11,7 @@ ghost use Rattle.tv_bound.specs.Sourced.{known_by, Stand, IsCounted};
 use std::alloc::Global;
 use tv_cell::{Cell, Piece, Row};
 use tv_outputs::{Nodes, Outputs};
-use tv_value::{Copied, NoMemory, Place};
+use tv_value::{NoMemory, Place};
 use tv_wires::{NumberedFeed, NumberedLink};
 
 /// Where the feeds of one instance's ports get their values.
@@ -35,7 +35,7 @@ pub fn feed_piece(
     sources: &Sources<'_>,
     feed: &NumberedFeed,
     constant: Option<&Cell>,
-    place: &Place,
+    place: &[u32],
 ) -> Result<Piece, NoMemory>
     requires stand { Stand sources.now }
     requires counted { IsCounted feed.now }
@@ -44,10 +44,8 @@ pub fn feed_piece(
     ensures sound { IfOk result IsSound }
 {
     match feed {
-        NumberedFeed::Link(link) => link_piece(alloc, sources, link, place.as_slice()),
-        NumberedFeed::Merge(links) => {
-            merge_piece(alloc, sources, links.as_slice(), place.as_slice())
-        }
+        NumberedFeed::Link(link) => link_piece(alloc, sources, link, place),
+        NumberedFeed::Merge(links) => merge_piece(alloc, sources, links.as_slice(), place),
         NumberedFeed::Constant => match constant {
             Some(cell) => cell_piece(alloc, cell, place),
             None => unreachable!(),
@@ -56,13 +54,13 @@ pub fn feed_piece(
 }
 
 /// The piece of what stands at a place of a cell's value.
-pub(crate) fn cell_piece(alloc: Global, cell: &Cell, place: &Place) -> Result<Piece, NoMemory>
+pub(crate) fn cell_piece(alloc: Global, cell: &Cell, place: &[u32]) -> Result<Piece, NoMemory>
     requires { IsTrue (is_some (at (view cell.now) place.now)) }
     ensures value { IfOk result (λ p. at (view cell.now) place.now ≡ Some (piece_value p)) }
     ensures sound { IfOk result IsSound }
 {
     let cell = cell.share()?;
-    Ok(Piece::Part(cell, place.copy(alloc)?))
+    Ok(Piece::Part(cell, Place::of(alloc, place)?))
 }
 
 /// The piece of what a link delivers at a place.
@@ -81,10 +79,7 @@ pub(crate) fn link_piece(
         NumberedLink::Input(number) => sources.inputs[*number as usize].part(alloc, place),
         NumberedLink::Output(step, output) => {
             let number = sources.firsts[*step as usize] + *output as usize;
-            let place = Place::of(alloc, place)?;
-            sources
-                .outputs
-                .piece_at(alloc, sources.pool, number, &place)
+            sources.outputs.piece_at(alloc, sources.pool, number, place)
         }
     }
 }

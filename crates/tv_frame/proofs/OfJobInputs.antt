@@ -18,7 +18,7 @@ use Rattle.tv_flow.specs.Forms.{is_name}
 use Rattle.tv_flow.specs.Views.{flow_view, step_input_view, step_view}
 use Rattle.tv_flow.specs.declared.document.Step.{Step as CodeStep}
 use Rattle.tv_flow.specs.declared.document.StepInput.{StepInput as CodeInput}
-use Rattle.tv_strategy.specs.Conditions.{Suits, number_of, place_of}
+use Rattle.tv_strategy.specs.Conditions.{number_of, place_of}
 use Rattle.tv_strategy.specs.Iterations.{Binding, Iteration, Iterations, job, passed}
 use Rattle.tv_strategy.specs.Levels.{AllHaveLevels, HasLevels}
 use Rattle.tv_strategy.specs.Measures.{DotsAgree, leaf_names, strategy_depth}
@@ -87,7 +87,7 @@ use Rattle.tv_frame.proofs.OfKeeping.{kept-ranked, kept-wired, levels-are}
 use Rattle.tv_frame.proofs.OfKnownFeeds.{IsKnownIn}
 use Rattle.tv_frame.proofs.OfFaultingKnown.{index-mapped}
 use Rattle.tv_frame.proofs.OfOuts.{IsSourcesOf, tree-known, tree-named}
-use Rattle.tv_frame.proofs.OfPlans.{dots-agree, step-suits}
+use Rattle.tv_frame.proofs.OfPlans.{dots-agree}
 use Rattle.tv_frame.proofs.OfTables.{step-of, wiring-is}
 
 -- ---- a job stands as deep as its iteration
@@ -180,10 +180,7 @@ module _ (flows : List (Name × Flow)) (plan : FlowPlan) (pool : Nodes) (f : Fra
       r.1.1 ∙ ap (λ (t : Name × Step). ports_of (flow_view plan.flow) t.1) (one-step r.0 r.1.0) ∙ ap (λ g. ports_of g s.1) (sym keeps.flow_is)
 
   -- THE STRATEGY
-  pub suits : Suits p.mismatch.now (strategy_view p.tree.now)
-  suits = subst (λ m. Suits m (strategy_view p.tree.now)) (sym mismatch-is) (subst (Suits (mismatches v.flow s.1)) (sym strategy-is) (step-suits v.flow of-document n s its-place))
-
-  pub agree : DotsAgree (number_of p.mismatch.now) (strategy_view p.tree.now)
+  agree : DotsAgree (number_of p.mismatch.now) (strategy_view p.tree.now)
   agree = subst (λ m. DotsAgree (number_of m) (strategy_view p.tree.now)) (sym mismatch-is) (subst (DotsAgree (number_of (mismatches v.flow s.1))) (sym strategy-is) (dots-agree flows v.flow wired keeps.of_depths.flow n s its-place))
 
   -- THE PORTS
@@ -294,7 +291,7 @@ module _ (flows : List (Name × Flow)) (plan : FlowPlan) (pool : Nodes) (f : Fra
 
   -- ---- for the call
 
-  pub deep : length q ≡ strategy_depth (number_of p.mismatch.now) (strategy_view p.tree.now)
+  deep : length q ≡ strategy_depth (number_of p.mismatch.now) (strategy_view p.tree.now)
   deep = let r = some-possible v [] keeps.frame.given in deep-here [] r.0 r.1 r.2
 
   -- the part of each port
@@ -385,15 +382,6 @@ call-of plan f number n q r p there faulty said same own = record {
 
 module _ (flows : List (Name × Flow)) (plan : FlowPlan) (pool : Nodes) (f : Frame) (v : View) (keeps : Keeps flows plan pool f v) (number n : ℕ) (q : Place) (p : StepPorts) (call : IsCallOf plan f number n q p) where
   module _ (a : Sources) (of : IsSourcesOf pool f a) where
-    pub call-suits : Suits p.mismatch.now (strategy_view p.tree.now)
-    call-suits = suits flows plan pool f v keeps a of number n q call.there call.faulty call.said p call.own
-
-    pub call-agrees : DotsAgree (number_of p.mismatch.now) (strategy_view p.tree.now)
-    call-agrees = agree flows plan pool f v keeps a of number n q call.there call.faulty call.said p call.own
-
-    pub call-deep : length q ≡ strategy_depth (number_of p.mismatch.now) (strategy_view p.tree.now)
-    call-deep = deep flows plan pool f v keeps a of number n q call.there call.faulty call.said p call.own
-
     pub call-inputs : length p.inputs.now ≡ length p.ports.now
     call-inputs = inputs-many flows plan pool f v keeps a of number n q call.there call.faulty call.said p call.own
 

@@ -34,7 +34,7 @@ use tv_cell::Pieces;
 use tv_check::FlowPlan;
 use tv_outputs::Nodes;
 use tv_turn::first_ready;
-use tv_value::{NoMemory, Place, Value};
+use tv_value::{NoMemory, Value};
 
 /// A known job of an instance.
 #[derive(Clone, Copy, Debug)]
@@ -213,8 +213,8 @@ impl Frame {
         }
     }
 
-    /// What a known job binds, port by port in byte order of their names. Linear in the ports, with a walk for each, and for each
-    /// part of a list that is bound; no value is copied.
+    /// What a known job binds, port by port in byte order of their names. Linear in the ports, with a walk to each one's part of
+    /// the place, and in the parts of the lists that are bound; no value is copied.
     pub fn inputs(
         &self,
         alloc: Global,
@@ -232,15 +232,11 @@ impl Frame {
             → AreInputs v j (piece_values ps)) }
     {
         let (step, place, _) = self.intakes.job(number as usize);
-        let place = Place::of(alloc, place)?;
         let ports = ports_at(plan, step as usize);
-        job_inputs(
-            alloc,
-            &self.sources(pool),
-            self.tables.constants(),
-            &ports,
-            &place,
-        )
+        let starts = self.tables.read().starts[step as usize].as_slice();
+        let sources = self.sources(pool);
+        let constants = self.tables.constants();
+        job_inputs(alloc, &sources, constants, &ports, starts, place)
     }
 
     /// Whether a known job binds these values, port by port in byte order of their names. Takes no memory. Linear in the ports,

@@ -399,12 +399,12 @@ impl Frame {
             × CanSettle v (fault_set s.0 place.now d)) }
     {
         let start = self.tables.read().starts[step][leaf as usize] as usize;
-        let inside = Place::of(self.alloc, rest_of(place.as_slice(), start))?;
+        let inside = rest_of(place.as_slice(), start);
         let ports = plan.wiring.ports.as_slice()[step].as_slice();
         let number = port_of(ports, leaf);
         let constant = self.tables.constants().of_port(step, number);
         let sources = self.sources(pool);
-        feed_piece(self.alloc, &sources, &ports[number].feed, constant, &inside)
+        feed_piece(self.alloc, &sources, &ports[number].feed, constant, inside)
     }
 
     /// Where the feeds of its ports get their values.

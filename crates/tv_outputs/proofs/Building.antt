@@ -24,11 +24,6 @@ right false b h = absurd (true≢false (sym h))
 never : {C : Type 0} → false ≡ true → C
 never h = absurd (true≢false (sym h))
 
--- a place inside a place
-pub known-inside : {A : Type 0} (q : Place) (i : ℕ) (r : Partial A) → known_at (q ++ i ∷ []) r ≡ part_at (known_at q r) i
-known-inside [] i r = refl
-known-inside (j ∷ q) i r = known-inside q i (part_at r j)
-
 -- ---- lists of values
 
 pub values-listed : (ps : Parts Value) → values_in ps ≡ trees_of (part_values ps)

@@ -28,7 +28,7 @@ use Rattle.tv_outputs.specs.FoundIn.{found_in}
 use Rattle.tv_outputs.specs.PartValues.{part_values, list_values, AreParts}
 use Rattle.tv_outputs.proofs.Mapping.{map-part_at}
 use Rattle.tv_outputs.proofs.Building.{Closes, closes-whole, value-there, values-count, values-listed}
-use Rattle.tv_outputs.proofs.OfPieces.{item-found, kind-closes, open-found, whole-kinds}
+use Rattle.tv_outputs.proofs.OfPieces.{inside-found, part-found, whole-kinds}
 
 -- ---- answers
 
@@ -81,13 +81,12 @@ module _ (r : Partial (Marked Piece)) where
 
   pub part-told : (p : Piece) → item_of r ≡ Some p → (q : Place) (i : ℕ) (o : Place) → q ≡ i ∷ o → (u : Value) (b : Bool) → b ≡ is_at (piece_value p) q u → IsTrue b ↔ (found_in q (shown r) ≡ Some u)
   part-told p h q i o e u b g =
-      told-of (at (piece_value p) q) (found_in q (shown r)) u b g
-      (ap (λ x. found_in x (shown r)) e ∙ item-found r p i o h ∙ ap (at (piece_value p)) (sym e))
+      told-of (at (piece_value p) q) (found_in q (shown r)) u b g (part-found r q i o e p h)
 
   -- inside, where no item stands
   module _ (none : item_of r ≡ None) (q : Place) (i : ℕ) (o : Place) (e : q ≡ i ∷ o) (u : Value) where
     inside : found_in q (shown r) ≡ found_in o (shown (part_at r i))
-    inside = ap (λ x. found_in x (shown r)) e ∙ open-found r i o none ∙ ap (found_in o) (map-part_at item_value r i)
+    inside = inside-found r q i o e none
 
     pub inner-told : (b : Bool) → IsTrue b ↔ (found_in o (shown (part_at r i)) ≡ Some u) → IsTrue b ↔ (found_in q (shown r) ≡ Some u)
     inner-told b h = subst (λ t. IsTrue b ↔ (t ≡ Some u)) (sym inside) h

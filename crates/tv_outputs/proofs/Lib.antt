@@ -11,3 +11,4 @@ pub mod Tried
 pub mod Building
 pub mod OfPieces
 pub mod Comparing
+pub mod Seeing

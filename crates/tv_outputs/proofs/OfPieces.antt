@@ -1,5 +1,5 @@
 -- What is known at a node of a tree of pieces, as the calls tell it.
-use Rattle.std.proofs.Common.{◌≡◌, ◌≤◌, ◌<◌, ℕ, zero, suc, ◌+◌, true, ◌&&◌, List, [], ◌∷◌, ◌++◌, length, max, ◌-◌, ◌^◌, append_assoc, length-append, Some, None, refl, sym, ap, ◌∙◌, subst, true≢false, arith}
+use Rattle.std.proofs.Common.{◌≡◌, ◌≤◌, ◌<◌, ℕ, zero, suc, ◌+◌, Bool, true, false, ◌&&◌, if◌then◌else◌, List, [], ◌∷◌, ◌++◌, length, ◌-◌, ◌^◌, append_assoc, length-append, is_some, Some, None, refl, sym, ap, ◌∙◌, subst, true≢false, arith}
 use Rattle.std.specs.List.{list_all, slice_range}
 use Rattle.std.proofs.lemmas.Bool.{lt-ltb}
 use Rattle.std.proofs.lemmas.List.Folds.{list_all-append}
@@ -7,7 +7,7 @@ use Rattle.std.proofs.lemmas.Option.{same_Some}
 use Rattle.tv_value.specs.Nested.{Place, at, trees_of}
 use Rattle.tv_value.specs.Values.{Value, list_value}
 use Rattle.tv_value.specs.Readings.{length_limit}
-use Rattle.tv_parts.specs.Partials.{Partial, wanting, item, growing, closed, Parts, no_parts, part, part_count, part_of, part_at, known_at, whole, map_parts}
+use Rattle.tv_parts.specs.Partials.{Partial, wanting, item, growing, closed, part, part_count, part_at, known_at, whole, map_parts}
 use Rattle.tv_parts.specs.Below.{value_in}
 use Rattle.tv_parts.specs.Changes.{arrive, close_here, is_place, MayClose}
 use Rattle.tv_stream.specs.declared.held.PartKind.{PartKind}
@@ -23,9 +23,9 @@ use Rattle.tv_outputs.specs.Known.{item_value, shown}
 use Rattle.tv_outputs.specs.Kept.{IsNoted, EachItem}
 use Rattle.tv_outputs.specs.FoundIn.{found_in}
 use Rattle.tv_outputs.specs.PartValues.{list_values}
-use Rattle.tv_outputs.proofs.Mapping.{map-count, map-known, each-known}
+use Rattle.tv_outputs.proofs.Mapping.{map-count, map-part_at}
 use Rattle.tv_outputs.proofs.Lists.{map-more, mapped-length, length-more}
-use Rattle.tv_outputs.proofs.Building.{Closes, known-inside, around, value-there, range-more, range-few, ended}
+use Rattle.tv_outputs.proofs.Building.{Around, Closes, around, value-there, range-none, range-more, range-few, ended}
 
 -- ---- an item
 
@@ -86,103 +86,62 @@ list-is-sound ps few all = list-sound ps ∙ ap (λ b. b && list_all is_sound ps
 pub more-sound : (ps : List Piece) (p : Piece) → AreSound ps → IsSound p → AreSound (ps ++ p ∷ [])
 more-sound ps p h k = list_all-append is_sound ps (p ∷ []) ∙ ap (λ b. b && list_all is_sound (p ∷ [])) h ∙ ap (λ b. b && true) k
 
--- ---- how deep lists go
+-- ---- at a place from a node
 
-abbrev mutual
-  pub height : Partial Value → ℕ
-  height wanting = 0
-  height (item v) = 0
-  height (growing ps) = suc (suc (suc (tallest ps)))
-  height (closed ps) = suc (suc (suc (tallest ps)))
+-- nothing is found where nothing is known
+pub nothing-found : (q : Place) → is_some (found_in q wanting) ≡ true → ⊥
+nothing-found [] h = true≢false (sym h)
+nothing-found (i ∷ q) h = true≢false (sym h)
 
-  pub tallest : Parts Value → ℕ
-  tallest no_parts = 0
-  tallest (part p ps) = max (height p) (tallest ps)
-
-below-tallest : (ps : Parts Value) (i : ℕ) → height (part_of ps i) ≤ tallest ps
-below-tallest no_parts i = omega arith
-below-tallest (part p ps) zero = omega arith
-below-tallest (part p ps) (suc i) = further (height (part_of ps i)) (tallest ps) (height p) (below-tallest ps i)
+-- what is found at a node is whole
+pub here-whole : (r : Partial Value) (q : Place) → [] ≡ q → is_some (found_in q r) ≡ true → whole r ≡ true
+here-whole r [] e h = by (whole r) h
   where
-    further : (a b c : ℕ) → a ≤ b → a ≤ max c b
-    further a b c h = omega arith
+    by : (b : Bool) → is_some (if b then Some (value_in r) else None) ≡ true → b ≡ true
+    by true h = refl
+    by false h = h
+here-whole r (i ∷ q) e h = absurd (cc)
 
-pub part-smaller : (r : Partial Value) (i : ℕ) → whole (part_at r i) ≡ true → suc (suc (height (part_at r i))) < height r
-part-smaller wanting i h = absurd (true≢false (sym h))
-part-smaller (item v) i h = absurd (true≢false (sym h))
-part-smaller (growing ps) i h = step (height (part_of ps i)) (tallest ps) (below-tallest ps i)
-  where
-    step : (a b : ℕ) → a ≤ b → suc (suc a) < suc (suc (suc b))
-    step a b h = omega arith
-part-smaller (closed ps) i h = step (height (part_of ps i)) (tallest ps) (below-tallest ps i)
-  where
-    step : (a b : ℕ) → a ≤ b → suc (suc a) < suc (suc (suc b))
-    step a b h = omega arith
+pub here-found : (r : Partial Value) (q : Place) (v : Value) → [] ≡ q → whole r ≡ true → v ≡ value_in r → found_in q r ≡ Some v
+here-found r q v e h is = ap (λ x. found_in x r) (sym e) ∙ ap (λ b. if b then Some (value_in r) else None) h ∙ ap Some (sym is)
 
--- ---- at a place of a tree
+module _ (r : Partial (Marked Piece)) (q : Place) (i : ℕ) (o : Place) (e : q ≡ i ∷ o) where
+  pub part-found : (p : Piece) → item_of r ≡ Some p → found_in q (shown r) ≡ at (piece_value p) q
+  part-found p h = ap (λ x. found_in x (shown r)) e ∙ item-found r p i o h ∙ ap (at (piece_value p)) (sym e)
+
+  pub inside-found : item_of r ≡ None → found_in q (shown r) ≡ found_in o (shown (part_at r i))
+  inside-found none = ap (λ x. found_in x (shown r)) e ∙ open-found r i o none ∙ ap (found_in o) (map-part_at item_value r i)
+
+  pub known-part : known_at q (shown r) ≡ known_at o (shown (part_at r i))
+  known-part = ap (λ x. known_at x (shown r)) e ∙ ap (known_at o) (map-part_at item_value r i)
+
+pub known-none : (q : Place) (k : Partial Value) → k ≡ wanting → known_at q k ≡ wanting
+known-none [] k e = e
+known-none (i ∷ q) k e = known-none q (part_at k i) (ap (λ t. part_at t i) e)
+
+-- where nothing is known all parts of a list are whole only if it has none
+pub no-values : (k : Partial Value) (n : ℕ) → k ≡ wanting → ((i : ℕ) → i < n → whole (part_at k i) ≡ true) → slice_range (list_values k) 0 n ≡ []
+no-values k zero e all = range-none (list_values k) 0
+no-values k (suc n) e all = absurd (true≢false (sym (all 0 (positive n)) ∙ ap (λ t. whole (part_at t 0)) e))
+  where
+    positive : (n : ℕ) → 0 < suc n
+    positive n = omega arith
+
+-- and a piece that arrives makes it whole only if it arrives right there
+pub none-arrives : (q : Place) (v : Value) → whole (arrive q v wanting) ≡ true → v ≡ value_in (arrive q v wanting)
+none-arrives [] v h = refl
+none-arrives (i ∷ q) v h = absurd (true≢false (sym h))
 
 -- where a change makes a list whole, it is closed
-whole-closes : (r : Partial (Marked Piece)) (i : ℕ) (q : Place) (v : Value) → is_place (i ∷ q) (shown r) ≡ true → whole (arrive (i ∷ q) v (shown r)) ≡ true → ((n : ℕ) → kind_of r ≡ Closed n → ⊥) → ⊥
+pub whole-closes : (r : Partial (Marked Piece)) (i : ℕ) (q : Place) (v : Value) → is_place (i ∷ q) (shown r) ≡ true → whole (arrive (i ∷ q) v (shown r)) ≡ true → ((n : ℕ) → kind_of r ≡ Closed n → ⊥) → ⊥
 whole-closes wanting i q v p h k = true≢false (sym h)
 whole-closes (item x) i q v p h k = true≢false (sym p)
 whole-closes (growing ps) i q v p h k = true≢false (sym h)
 whole-closes (closed ps) i q v p h k = k (part_count ps) refl
 
-module _ (t : Partial (Marked Piece)) (q : Place) where
-  same : known_at q (shown t) ≡ shown (known_at q t)
-  same = map-known item_value q t
-
-  pub there-closes : (n : ℕ) → kind_of (known_at q t) ≡ Closed n → Closes (known_at q (shown t)) n
-  there-closes n e = subst (λ r. Closes r n) (sym same) (kind-closes (known_at q t) n e)
-
-  pub there-is : (p : Piece) → item_of (known_at q t) ≡ Some p → piece_value p ≡ value_in (known_at q (shown t))
-  there-is p e = item-is (known_at q t) p e ∙ ap value_in (sym same)
-
-  pub there-sound : (p : Piece) → item_of (known_at q t) ≡ Some p → EachItem IsNoted t → IsSound p
-  there-sound p e n = item-sound (known_at q t) p e (each-known IsNoted q t n)
-
-  pub there-kinds : whole (known_at q (shown t)) ≡ true → item_of (known_at q t) ≡ None → ((n : ℕ) → kind_of (known_at q t) ≡ Closed n → ⊥) → ⊥
-  there-kinds h none k = whole-kinds (known_at q t) (ap whole (sym same) ∙ h) none k
-
-  pub found-at : (rest : Place) (i : ℕ) (o : Place) → rest ≡ i ∷ o → (p : Piece) → item_of (known_at q t) ≡ Some p → found_in rest (known_at q (shown t)) ≡ at (piece_value p) rest
-  found-at rest i o e p h =
-      ap (λ x. found_in x (known_at q (shown t))) e ∙ ap (found_in (i ∷ o)) same
-      ∙ item-found (known_at q t) p i o h ∙ ap (at (piece_value p)) (sym e)
-
-  pub found-inside : (rest : Place) (i : ℕ) (o : Place) → rest ≡ i ∷ o → (inner : Place) → inner ≡ q ++ i ∷ [] → item_of (known_at q t) ≡ None → found_in rest (known_at q (shown t)) ≡ found_in o (known_at inner (shown t))
-  found-inside rest i o e inner f h =
-      ap (λ x. found_in x (known_at q (shown t))) e ∙ ap (found_in (i ∷ o)) same
-      ∙ open-found (known_at q t) i o h
-      ∙ ap (λ r. found_in o (part_at r i)) (sym same)
-      ∙ ap (found_in o) (sym (ap (λ x. known_at x (shown t)) f ∙ known-inside q i (shown t)))
-
-  pub no-other : (rest : Place) (i : ℕ) (o : Place) (v : Value) → rest ≡ i ∷ o → is_place rest (known_at q (shown t)) ≡ true → whole (arrive rest v (known_at q (shown t))) ≡ true → ((n : ℕ) → kind_of (known_at q t) ≡ Closed n → ⊥) → ⊥
-  no-other rest i o v e p h k =
-      whole-closes (known_at q t) i o v
-      (ap (is_place (i ∷ o)) (sym same) ∙ ap (λ x. is_place x (known_at q (shown t))) (sym e) ∙ p)
-      (ap (λ r. whole (arrive (i ∷ o) v r)) (sym same) ∙ ap (λ x. whole (arrive x v (known_at q (shown t)))) (sym e) ∙ h)
-      k
-
 -- what arrives at a place arrives at the rest of it in the part, and then that part in the list
-pub record Inner (k : Partial Value) (q inner rest o : Place) (i : ℕ) (v : Value) : Type 0 where
-  pub inner_there : is_place o (known_at inner k) ≡ true
-  pub inner_whole : whole (arrive o v (known_at inner k)) ≡ true
-  pub list_there : is_place (i ∷ []) (known_at q k) ≡ true
-  pub list_whole : (w : Value) → w ≡ value_in (arrive o v (known_at inner k)) → whole (arrive (i ∷ []) w (known_at q k)) ≡ true
-  pub list_is : (w : Value) → w ≡ value_in (arrive o v (known_at inner k)) → value_in (arrive (i ∷ []) w (known_at q k)) ≡ value_in (arrive rest v (known_at q k))
-
-pub inner-of : (k : Partial Value) (q inner rest o : Place) (i : ℕ) (v : Value) → rest ≡ i ∷ o → inner ≡ q ++ i ∷ [] → is_place rest (known_at q k) ≡ true → whole (arrive rest v (known_at q k)) ≡ true → Inner k q inner rest o i v
-inner-of k q inner rest o i v e f p h =
-    let r = known_at q k in
-    let a = around i o v r (ap (λ x. is_place x r) (sym e) ∙ p) (ap (λ x. whole (arrive x v r)) (sym e) ∙ h) in
-    let same : known_at inner k ≡ part_at r i = ap (λ x. known_at x k) f ∙ known-inside q i k in
-    record {
-      inner_there = ap (is_place o) same ∙ a.inner_there;
-      inner_whole = ap (λ s. whole (arrive o v s)) same ∙ a.inner_whole;
-      list_there = a.list_there;
-      list_whole = λ w g. a.list_whole w (g ∙ ap (λ s. value_in (arrive o v s)) same);
-      list_is = λ w g. a.list_value w (g ∙ ap (λ s. value_in (arrive o v s)) same) ∙ ap (λ x. value_in (arrive x v r)) (sym e);
-    }
+pub around-at : (k : Partial Value) (q : Place) (i : ℕ) (o : Place) (v : Value) → q ≡ i ∷ o → is_place q k ≡ true → whole (arrive q v k) ≡ true → Around i o v k
+around-at k q i o v e p h = around i o v k (subst (λ x. is_place x k ≡ true) e p) (subst (λ x. whole (arrive x v k) ≡ true) e h)
 
 -- ---- lists of pieces
 
@@ -225,25 +184,25 @@ pieces-with-sound ps xs i n v e lt fits all =
 
 -- ---- from the top
 
-pub top-found : (q rest top : Place) (r k : Partial Value) → top ≡ [] → rest ≡ q → r ≡ k → found_in rest (known_at top k) ≡ found_in q r
-top-found q rest top r k e f same = ap (λ x. found_in x (known_at top k)) f ∙ ap (λ x. found_in q (known_at x k)) e ∙ ap (found_in q) (sym same)
+-- a piece that arrives at a place
+pub record FromTop (q rest : Place) (r k : Partial Value) (v w : Value) : Type 0 where
+  pub there : is_place rest k ≡ true
+  pub whole_then : whole (arrive rest w k) ≡ true
+  pub is : value_in (arrive rest w k) ≡ value_in (arrive q v r)
 
--- a piece that arrives at a place from the top
-pub record FromTop (q rest top : Place) (r k : Partial Value) (v w : Value) : Type 0 where
-  pub there : is_place rest (known_at top k) ≡ true
-  pub whole_then : whole (arrive rest w (known_at top k)) ≡ true
-  pub is : value_in (arrive rest w (known_at top k)) ≡ value_in (arrive q v r)
-
-pub from-top : (q rest top : Place) (r k : Partial Value) (v w : Value) → top ≡ [] → rest ≡ q → r ≡ k → w ≡ v → is_place q r ≡ true → whole (arrive q v r) ≡ true → FromTop q rest top r k v w
-from-top q rest top r k v w e f same g p h =
-    let all : arrive rest w (known_at top k) ≡ arrive q v r = ap (λ x. arrive x w (known_at top k)) f ∙ ap (λ x. arrive q w (known_at x k)) e ∙ ap (arrive q w) (sym same) ∙ ap (λ x. arrive q x r) g in
+pub from-top : (q rest : Place) (r k : Partial Value) (v w : Value) → rest ≡ q → r ≡ k → w ≡ v → is_place q r ≡ true → whole (arrive q v r) ≡ true → FromTop q rest r k v w
+from-top q rest r k v w f same g p h =
+    let all : arrive rest w k ≡ arrive q v r = ap (λ x. arrive x w k) f ∙ ap (arrive q w) (sym same) ∙ ap (λ x. arrive q x r) g in
     record {
-      there = ap (λ x. is_place x (known_at top k)) f ∙ ap (λ x. is_place q (known_at x k)) e ∙ ap (is_place q) (sym same) ∙ p;
+      there = ap (λ x. is_place x k) f ∙ ap (is_place q) (sym same) ∙ p;
       whole_then = ap whole all ∙ h;
       is = ap value_in all;
     }
 
 -- the list of the parts is what the closed list is
-pub list-then : (n : ℕ) (q : Place) (r k : Partial Value) (w : Value) → r ≡ k → MayClose n (known_at q r) → whole (close_here n (known_at q r)) ≡ true → w ≡ list_value (trees_of (slice_range (list_values (known_at q k)) 0 n)) → w ≡ value_in (close_here n (known_at q r))
-list-then n q r k w same may h e =
-    e ∙ ap (λ u. list_value (trees_of (slice_range (list_values (known_at q u)) 0 n))) (sym same) ∙ sym (ended n (known_at q r) may h).value
+pub list-then : (n : ℕ) (q rest : Place) (r k : Partial Value) (w : Value) → rest ≡ q → r ≡ k → MayClose n (known_at q r) → whole (close_here n (known_at q r)) ≡ true → w ≡ list_value (trees_of (slice_range (list_values (known_at rest k)) 0 n)) → w ≡ value_in (close_here n (known_at q r))
+list-then n q rest r k w f same may h e =
+    e
+    ∙ ap (λ x. list_value (trees_of (slice_range (list_values (known_at x k)) 0 n))) f
+    ∙ ap (λ u. list_value (trees_of (slice_range (list_values (known_at q u)) 0 n))) (sym same)
+    ∙ sym (ended n (known_at q r) may h).value

@@ -2,5 +2,6 @@ pub mod Known
 pub mod Kept
 pub mod Changes
 pub mod FoundIn
+pub mod Seen
 pub mod PartValues
 pub mod Tried

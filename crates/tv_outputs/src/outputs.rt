@@ -18,7 +18,7 @@ ghost use Rattle.tv_outputs.specs.FoundIn.{found_in};
 ghost use Rattle.tv_outputs.specs.Changes.{Arrive, Close, Turns, AllCanArrive, AllCanClose, least_or_past, HoldsFaults, Counted};
 
 use crate::one::{arrive_in, close_in};
-use crate::pieces::{found_piece, list_piece, piece_around};
+use crate::pieces::{found_piece, list_at, piece_around};
 use crate::same::found_is;
 use std::alloc::Global;
 use tv_cell::{Piece, Pieces};
@@ -291,14 +291,14 @@ impl Outputs {
     }
 
     /// The piece of what stands at a place in a tree, where all of it is known: at a node of the tree, or inside a piece that
-    /// came. Linear in the parts of the lists there, and as copies of the pieces that came; no value is copied. For each part,
-    /// and each index of the place, a walk from the root, which is logarithmic in the known parts of each list on the way.
+    /// came. Linear in the place and in the parts of the lists there, with a look-up for each index and for each part, which is
+    /// logarithmic in the known parts of the list, and as copies of the pieces that came; no value is copied.
     pub fn piece_at(
         &self,
         alloc: Global,
         pool: &Nodes,
         number: usize,
-        place: &Place,
+        place: &[u32],
     ) -> Result<Piece, NoMemory>
         requires stand { (region : InRegion) × Stand pool.now self.now region }
         requires there { number < length (known pool.now self.now) }
@@ -306,8 +306,10 @@ impl Outputs {
         ensures value { IfOk result (λ p. found_in place.now (tree_in (known pool.now self.now) number) ≡ Some (piece_value p)) }
         ensures sound { IfOk result IsSound }
     {
-        let top = Place::top(alloc);
-        found_piece(alloc, &self.trees[number], pool, &top, place.as_slice())
+        let tree = &self.trees[number];
+        let look = tree.look(pool);
+        let levels = tree.depth();
+        found_piece(alloc, &look, levels, place)
     }
 
     /// Whether the value is what stands at a place in a tree: not where some of that isn't known yet. Takes no memory. Linear in
@@ -338,16 +340,11 @@ impl Outputs {
         ensures value { IfOk result (λ p. piece_value p ≡ value_in (arrived place.now (piece_value piece.now) (tree_in (known pool.now self.now) number))) }
         ensures sound { IfOk result IsSound }
     {
-        let top = Place::top(alloc);
+        let tree = &self.trees[number];
+        let look = tree.look(pool);
+        let levels = tree.depth();
         let piece = piece.copy(alloc)?;
-        piece_around(
-            alloc,
-            &self.trees[number],
-            pool,
-            &top,
-            place.as_slice(),
-            piece,
-        )
+        piece_around(alloc, &look, levels, place.as_slice(), piece)
     }
 
     /// The piece of a whole tree as it will be once the list at the place is closed with this length. As `piece_at` of the
@@ -367,9 +364,11 @@ impl Outputs {
         ensures value { IfOk result (λ p. piece_value p ≡ value_in (close_at place.now length (tree_in (known pool.now self.now) number))) }
         ensures sound { IfOk result IsSound }
     {
-        let top = Place::top(alloc);
         let tree = &self.trees[number];
-        let list = list_piece(alloc, tree, pool, place, length)?;
-        piece_around(alloc, tree, pool, &top, place.as_slice(), list)
+        let look = tree.look(pool);
+        let levels = tree.depth();
+        let inside = place.as_slice();
+        let list = list_at(alloc, &look, levels, inside, length)?;
+        piece_around(alloc, &look, levels, inside, list)
     }
 }

@@ -169,8 +169,7 @@ fn second_item(
 ) -> Result<Value, NoMemory>
     requires { Tried pool.now outputs.now _region.now HasBoth IsSomething }
 {
-    let place = Place::of(alloc, &[1])?;
-    let piece = outputs.piece_at(alloc, pool, 0, &place)?;
+    let piece = outputs.piece_at(alloc, pool, 0, &[1])?;
     assemble(alloc, &piece)
 }
 

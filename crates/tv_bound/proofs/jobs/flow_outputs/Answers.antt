@@ -1,6 +1,4 @@
 use Rattle.std.proofs.Common.{[], is_some, sym, ap, ◌∙◌, subst}
-use Rattle.std.specs.Prelude.{option_map}
-use Rattle.tv_value.specs.Views.{view}
 use Rattle.tv_cell.specs.Soundness.{AreSound}
 use Rattle.tv_outputs.proofs.OfPieces.{more-sound}
 use Rattle.tv_bound.specs.Found.{feed_found}
@@ -15,8 +13,7 @@ feed_piece-requires-clause-found c =
     let k = known_by c.args.sources.now in
     let cs = constants_view c.args.constants.now in
     let x = c.index-feeds-number.result in
-    ap (λ q. is_some (feed_found k x (option_map (λ y. view y.now) c.of_output-constant.result) q)) c.top-top.ensures
-    ∙ ap (λ v. is_some (feed_found k x v [])) c.of_output-constant.ensures
+    ap (λ v. is_some (feed_found k x v [])) c.of_output-constant.ensures
     ∙ numbered-found (output_found k cs) c.args.feeds.now c.loop-number.number x c.requires.found c.loop-number-test.true c.index-feeds-number.is
 
 pub loop-number-preserved : goal.loop-number-preserved
@@ -27,7 +24,7 @@ loop-number-preserved c =
     let l = c.loop-number.invariant in
     let p = c.in_ok-feed_piece.field-0 in
     record {
-      values = numbered-more (output_found k cs) c.args.feeds.now c.loop-number.pieces.items c.push.new.self.items p c.loop-number.number x l.values c.in_ok-push.ensures.items c.loop-number-test.true c.index-feeds-number.is (sym (ap (λ q. feed_found k x (option_map (λ y. view y.now) c.of_output-constant.result) q) c.top-top.ensures ∙ ap (λ v. feed_found k x v []) c.of_output-constant.ensures) ∙ c.in_ok-feed_piece.ensures.value);
+      values = numbered-more (output_found k cs) c.args.feeds.now c.loop-number.pieces.items c.push.new.self.items p c.loop-number.number x l.values c.in_ok-push.ensures.items c.loop-number-test.true c.index-feeds-number.is (sym (ap (λ v. feed_found k x v []) c.of_output-constant.ensures) ∙ c.in_ok-feed_piece.ensures.value);
       sound = subst AreSound (sym c.in_ok-push.ensures.items) (more-sound c.loop-number.pieces.items p l.sound c.in_ok-feed_piece.ensures.sound);
     }
 

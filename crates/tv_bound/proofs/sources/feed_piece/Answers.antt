@@ -6,4 +6,4 @@ use Rattle.tv_bound.proofs.sources.feed_piece.Goals as goal
 
 pub merge_piece-requires-clause-few : goal.merge_piece-requires-clause-few
 merge_piece-requires-clause-few c =
-    subst (λ n. n < length_limit) (ap (λ f. length (links_of f)) c.in-Merge.is ∙ links-many c.in-Merge.links ∙ ap length (sym c.as_slice-in-Merge.ensures)) c.requires.counted
+    subst (λ n. n < length_limit) (ap (λ f. length (links_of f)) c.in-Merge.is ∙ links-many c.in-Merge.links ∙ ap length (sym c.as_slice.ensures)) c.requires.counted

@@ -1,5 +1,4 @@
-use Rattle.std.proofs.Common.{◌≡◌, ◌<◌, ◌≤◌, ◌+◌, ◌^◌, ℕ, is_some, length, sym, ap, ◌∙◌, subst, arith}
-use Rattle.std.specs.Prelude.{slice_index_or}
+use Rattle.std.proofs.Common.{◌≡◌, ◌<◌, ◌≤◌, ◌^◌, ℕ, is_some, length, sym, ap, ◌∙◌, subst, arith}
 use Rattle.std.proofs.Math.Facts.{Fits-of_lt}
 use Rattle.std.proofs.lemmas.Result.{IfOk-weaker}
 use Rattle.tv_cell.specs.declared.piece.Piece.{Piece}
@@ -7,8 +6,7 @@ use Rattle.tv_value.specs.Nested.{at}
 use Rattle.tv_cell.specs.PieceValues.{piece_value}
 use Rattle.tv_cell.specs.Soundness.{IsSound}
 use Rattle.tv_cell.proofs.OfPieces.{piece-sound}
-use Rattle.tv_outputs.specs.FoundIn.{found_in}
-use Rattle.tv_outputs.specs.Known.{known, known_of, tree_in}
+use Rattle.tv_outputs.specs.Known.{known, known_of}
 use Rattle.tv_outputs.proofs.Lists.{mapped-length}
 use Rattle.tv_bound.specs.Found.{link_found}
 use Rattle.tv_bound.specs.Sourced.{known_by}
@@ -45,7 +43,7 @@ piece_at-requires-clause-found c =
     let trees = known s.pool.now s.outputs.now in
     let h = sym (ap (λ l. is_some (link_found (known_by s) l q)) c.in-Output.is) ∙ c.requires.found in
     let r = output-there trees s.firsts.now c.in-Output.step c.in-Output.output q h in
-    ap (λ x. is_some (found_in x (tree_in trees (slice_index_or s.firsts.now c.in-Output.step 0 + c.in-Output.output)))) c.in_ok-place-in-Output.ensures.ok ∙ sym (ap is_some r.is) ∙ h
+    sym (ap is_some r.is) ∙ h
 
 pub returns-in-Input-clause-value : goal.returns-in-Input-clause-value
 returns-in-Input-clause-value c =
@@ -64,11 +62,11 @@ returns-in-Input-clause-sound c =
     let h = sym (ap (λ l. is_some (link_found (known_by s) l q)) c.in-Input.is) ∙ c.requires.found in
     c.part.ensures.sound (subst IsSound c.index-sources-number.is (piece-sound s.inputs.now n c.index-sources-number.result (input-within s.inputs.now n q h) c.index-sources-number.is c.requires.stand.sound))
 
-pub returns-in_ok-place-in-Output-clause-value : goal.returns-in_ok-place-in-Output-clause-value
-returns-in_ok-place-in-Output-clause-value c =
+pub returns-in-Output-clause-value : goal.returns-in-Output-clause-value
+returns-in-Output-clause-value c =
     let s = c.args.sources.now in
     let q = c.args.place.now in
     let trees = known s.pool.now s.outputs.now in
     let h = sym (ap (λ l. is_some (link_found (known_by s) l q)) c.in-Output.is) ∙ c.requires.found in
     let r = output-there trees s.firsts.now c.in-Output.step c.in-Output.output q h in
-    IfOk-weaker c.piece_at.result _ _ (λ (p : Piece) g. ap (λ l. link_found (known_by s) l q) c.in-Output.is ∙ r.is ∙ sym (ap (λ x. found_in x (tree_in trees (slice_index_or s.firsts.now c.in-Output.step 0 + c.in-Output.output))) c.in_ok-place-in-Output.ensures.ok) ∙ g) c.piece_at.ensures.value
+    IfOk-weaker c.piece_at.result _ _ (λ (p : Piece) g. ap (λ l. link_found (known_by s) l q) c.in-Output.is ∙ r.is ∙ g) c.piece_at.ensures.value

@@ -1,39 +1,71 @@
 use Rattle.std.proofs.Common.{ℕ, ◌<◌, suc, length, is_some, sym, ap, ◌∙◌, subst, arith}
 use Rattle.std.proofs.lemmas.Result.{IfOk-weaker}
-use Rattle.tv_stream.specs.Trees.{tree_of}
+use Rattle.tv_parts.specs.Partials.{part_at}
+use Rattle.tv_stream.proofs.Ways.{nil-of}
 use Rattle.tv_cell.specs.declared.piece.Piece.{Piece}
-use Rattle.tv_outputs.proofs.OfPieces.{there-sound, found-at, found-inside}
+use Rattle.tv_cell.specs.PieceValues.{piece_value}
+use Rattle.tv_outputs.specs.Known.{shown}
+use Rattle.tv_outputs.specs.FoundIn.{found_in}
+use Rattle.tv_outputs.proofs.OfPieces.{here-found, here-whole, inside-found, item-sound, nothing-found, part-found}
+use Rattle.tv_outputs.proofs.Seeing.{sees-part}
 use Rattle.tv_outputs.proofs.pieces.+found_piece.Goals as goal
+
+pub whole_piece-requires : goal.whole_piece-requires
+whole_piece-requires t c =
+    let n = c.requires in
+    (n.0, n.1, here-whole (shown n.0) c.args.place.now (nil-of c.args.place.now (c.in_default.ensures {u = tt}).cases) n.2)
 
 pub part-requires : goal.part-requires
 part-requires t c =
-    let tree = tree_of c.args.pool.now c.args.tree.now in
-    let s = c.in-Some.ensures.cases.0 in
-    sym (ap is_some (found-at tree c.args.start.now c.args.rest.now c.in-Some.first.now c.in-Some.others.now s c.in-Some-part_at.piece.now c.in-Some-part_at.ensures)) ∙ c.requires.found
+    let n = c.requires in
+    sym (ap is_some (part-found n.0 c.args.place.now c.in-Some.first.now c.in-Some.rest.now c.in-Some.ensures.cases.0 c.in-Some-item.piece.now (c.in-Some-item.ensures {u = tt} n.0 n.1.shows))) ∙ n.2
+
+pub unreachable-requires : goal.unreachable-requires
+unreachable-requires t c =
+    let n = c.requires in
+    let i = c.in-Some.first.now in
+    let o = c.in-Some.rest.now in
+    nothing-found o (
+    ap (λ r. is_some (found_in o (shown r))) (sym (c.in-None-part.ensures {u = tt} n.0 n.1.shows))
+    ∙ sym (ap is_some (inside-found n.0 c.args.place.now i o c.in-Some.ensures.cases.0 (c.in-None.ensures {u = tt} n.0 n.1.shows)))
+    ∙ n.2)
 
 pub found_piece-requires : goal.found_piece-requires
 found_piece-requires t c =
-    let tree = tree_of c.args.pool.now c.args.tree.now in
-    let s = c.in-Some.ensures.cases.0 in (
-      subst (λ n. length c.in-Some.others.now < n) (sym (ap length s) ∙ c.decreases) (below (length c.in-Some.others.now)),
-      (c.requires.stands, (c.requires.noted, sym (ap is_some (found-inside tree c.args.start.now c.args.rest.now c.in-Some.first.now c.in-Some.others.now s c.in_ok-part-in-None.part c.in_ok-part-in-None.ensures (c.in-None.ensures {u = tt}))) ∙ c.requires.found)),
+    let n = c.requires in
+    let s = c.in-Some.ensures.cases.0 in
+    let i = c.in-Some.first.now in
+    let o = c.in-Some.rest.now in (
+      subst (λ m. length o < m) (sym (ap length s) ∙ c.decreases) (below (length o)),
+      (
+        part_at n.0 i,
+        sees-part c.args.look.now c.in-Some-part.part c.args.levels n.0 i n.1 (c.in-Some-part.ensures {u = tt} n.0 n.1.shows),
+        sym (ap is_some (inside-found n.0 c.args.place.now i o s (c.in-None.ensures {u = tt} n.0 n.1.shows))) ∙ n.2,
+      ),
     )
   where
     below : (n : ℕ) → n < suc n
     below n = omega arith
 
-pub returns-in-Some-part_at-clause-value : goal.returns-in-Some-part_at-clause-value
-returns-in-Some-part_at-clause-value t c =
-    let tree = tree_of c.args.pool.now c.args.tree.now in
-    let s = c.in-Some.ensures.cases.0 in
-    IfOk-weaker c.part.result _ _ (λ (p : Piece) h. found-at tree c.args.start.now c.args.rest.now c.in-Some.first.now c.in-Some.others.now s c.in-Some-part_at.piece.now c.in-Some-part_at.ensures ∙ h) c.part.ensures.value
+pub returns-in_default-clause-value : goal.returns-in_default-clause-value
+returns-in_default-clause-value t c r sees found =
+    let nil = nil-of c.args.place.now (c.in_default.ensures {u = tt}).cases in
+    let w = here-whole (shown r) c.args.place.now nil found in
+    IfOk-weaker c.whole_piece.result _ _ (λ (p : Piece) h. here-found (shown r) c.args.place.now (piece_value p) nil w h) (c.whole_piece.ensures.value r sees w)
 
-pub returns-in-Some-part_at-clause-sound : goal.returns-in-Some-part_at-clause-sound
-returns-in-Some-part_at-clause-sound t c =
-    c.part.ensures.sound (there-sound (tree_of c.args.pool.now c.args.tree.now) c.args.start.now c.in-Some-part_at.piece.now c.in-Some-part_at.ensures c.requires.noted)
+pub returns-in-Some-item-clause-value : goal.returns-in-Some-item-clause-value
+returns-in-Some-item-clause-value t c r sees found =
+    IfOk-weaker c.part.result _ _ (λ (p : Piece) h. part-found r c.args.place.now c.in-Some.first.now c.in-Some.rest.now c.in-Some.ensures.cases.0 c.in-Some-item.piece.now (c.in-Some-item.ensures {u = tt} r sees.shows) ∙ h) c.part.ensures.value
 
-pub returns-in_ok-part-in-None-clause-value : goal.returns-in_ok-part-in-None-clause-value
-returns-in_ok-part-in-None-clause-value t c =
-    let tree = tree_of c.args.pool.now c.args.tree.now in
-    let s = c.in-Some.ensures.cases.0 in
-    IfOk-weaker c.found_piece.result _ _ (λ (p : Piece) h. found-inside tree c.args.start.now c.args.rest.now c.in-Some.first.now c.in-Some.others.now s c.in_ok-part-in-None.part c.in_ok-part-in-None.ensures (c.in-None.ensures {u = tt}) ∙ h) c.found_piece.ensures.value
+pub returns-in-Some-item-clause-sound : goal.returns-in-Some-item-clause-sound
+returns-in-Some-item-clause-sound t c =
+    let n = c.requires in
+    c.part.ensures.sound (item-sound n.0 c.in-Some-item.piece.now (c.in-Some-item.ensures {u = tt} n.0 n.1.shows) n.1.noted)
+
+pub returns-in-Some-part-clause-value : goal.returns-in-Some-part-clause-value
+returns-in-Some-part-clause-value t c r sees found =
+    let i = c.in-Some.first.now in
+    let o = c.in-Some.rest.now in
+    let inner = inside-found r c.args.place.now i o c.in-Some.ensures.cases.0 (c.in-None.ensures {u = tt} r sees.shows) in
+    IfOk-weaker c.found_piece.result _ _ (λ (p : Piece) h. inner ∙ h)
+    (c.found_piece.ensures.value (part_at r i) (sees-part c.args.look.now c.in-Some-part.part c.args.levels r i sees (c.in-Some-part.ensures {u = tt} r sees.shows)) (sym (ap is_some inner) ∙ found))

@@ -1,105 +1,115 @@
-use Rattle.std.proofs.Common.{◌≡◌, ℕ, ◌≤◌, ◌<◌, ◌++◌, suc, true, refl, sym, ap, ◌∙◌, subst, arith}
+use Rattle.std.proofs.Common.{ℕ, ◌≤◌, ◌<◌, ◌-◌, ◌*◌, ◌++◌, suc, true, refl, sym, ap, ◌∙◌, subst, arith, true≢false}
 use Rattle.std.specs.Prelude.{slice_range}
 use Rattle.std.proofs.lemmas.List.{append-nil}
 use Rattle.std.proofs.lemmas.Result.{IfOk-weaker}
-use Rattle.tv_parts.specs.Partials.{part_at, known_at, whole}
+use Rattle.tv_parts.specs.Partials.{part_at, whole}
 use Rattle.tv_parts.specs.Below.{value_in}
-use Rattle.tv_stream.specs.Trees.{tree_of}
 use Rattle.tv_cell.specs.declared.piece.Piece.{Piece}
 use Rattle.tv_cell.specs.PieceValues.{piece_value, piece_values}
 use Rattle.tv_cell.specs.Soundness.{IsSound, AreSound}
 use Rattle.tv_cell.proofs.OfPieces.{list-value}
 use Rattle.tv_value.specs.Nested.{trees_of}
 use Rattle.tv_value.specs.Values.{list_value}
-use Rattle.tv_outputs.specs.Known.{known_of}
+use Rattle.tv_outputs.specs.Known.{item_value, shown}
 use Rattle.tv_outputs.specs.PartValues.{list_values}
-use Rattle.tv_outputs.proofs.Building.{known-inside, range-none, closes-whole, closes-value}
-use Rattle.tv_outputs.proofs.OfPieces.{height, part-smaller, more-sound, pushed, pushed-all, pieces-sound, there-closes, there-is, there-sound, there-kinds}
+use Rattle.tv_outputs.proofs.Building.{range-none, closes-whole, closes-value}
+use Rattle.tv_outputs.proofs.Mapping.{map-part_at}
+use Rattle.tv_outputs.proofs.OfPieces.{more-sound, pushed, pushed-all, pieces-sound, item-is, item-sound, kind-closes, whole-kinds}
+use Rattle.tv_outputs.proofs.Seeing.{sees-whole, whole-part}
 use Rattle.tv_outputs.proofs.pieces.+whole_piece.Goals as goal
 
 below : (n : ℕ) → n < suc n
 below n = omega arith
 
+fewer : (n : ℕ) → 1 ≤ n → suc (suc (3 * (n - 1))) < 3 * n
+fewer n h = omega arith
+
 none-below : (n : ℕ) → 0 ≤ n
 none-below n = omega arith
 
+pub push_parts-unreachable-requires : goal.push_parts-unreachable-requires
+push_parts-unreachable-requires t c =
+    let n = c.requires.seen in
+    let i = c.loop-index.index in
+    let w = whole-part n.0 i (n.2 i c.loop-index.auto.index c.loop-index-test.true) in
+    true≢false (sym w ∙ ap (λ r. whole (shown r)) (c.in_default.ensures {u = tt} n.0 n.1.shows))
+
 pub push_parts-whole_piece-requires : goal.push_parts-whole_piece-requires
 push_parts-whole_piece-requires t c =
-    let k = known_of c.args.pool.now c.args.tree.now in
-    let q = c.args.place.now in
+    let n = c.requires.seen in
     let i = c.loop-index.index in
-    let p = c.in_ok-part.part in
-    let w : whole (part_at (known_at q k) i) ≡ true = c.requires.whole i c.loop-index.auto.index c.loop-index-test.true in
-    let there : known_at p k ≡ part_at (known_at q k) i = ap (λ x. known_at x k) c.in_ok-part.ensures ∙ known-inside q i k in (
-      subst (λ n. suc (suc (height (known_at p k))) < n) c.decreases (subst (λ r. suc (suc (height r)) < height (known_at q k)) (sym there) (part-smaller (known_at q k) i w)),
-      (c.requires.stands, (c.requires.noted, ap whole there ∙ w)),
+    let w = n.2 i c.loop-index.auto.index c.loop-index-test.true in
+    let s = sees-whole c.args.look.now c.in-Some.part c.args.levels n.0 i n.1 (c.in-Some.ensures {u = tt} n.0 n.1.shows) w in (
+      subst (λ m. suc (suc (3 * (c.args.levels - 1))) < m) c.decreases (fewer c.args.levels s.0),
+      (part_at n.0 i, s.1, whole-part n.0 i w),
     )
 
 pub push_parts-loop-index-init : goal.push_parts-loop-index-init
-push_parts-loop-index-init t c =
-    let r = known_at c.args.place.now (known_of c.args.pool.now c.args.tree.now) in
-    record {
-      values = sym (append-nil (piece_values c.args.parts.now.items)) ∙ ap (λ us. piece_values c.args.parts.now.items ++ us) (sym (range-none (list_values r) c.args.first));
-      sound = c.requires.sound;
-    }
+push_parts-loop-index-init t c = record {
+  values = λ r sees w. sym (append-nil (piece_values c.args.parts.now.items)) ∙ ap (λ us. piece_values c.args.parts.now.items ++ us) (sym (range-none (list_values (shown r)) c.args.first));
+  sound = c.requires.sound;
+}
 
 pub push_parts-loop-index-preserved : goal.push_parts-loop-index-preserved
 push_parts-loop-index-preserved t c =
-    let k = known_of c.args.pool.now c.args.tree.now in
-    let q = c.args.place.now in
     let i = c.loop-index.index in
-    let p = c.in_ok-part.part in
     let x = c.in_ok-whole_piece.field-0 in
     let l = c.loop-index.invariant in
-    let w : whole (part_at (known_at q k) i) ≡ true = c.requires.whole i c.loop-index.auto.index c.loop-index-test.true in
-    let there : known_at p k ≡ part_at (known_at q k) i = ap (λ y. known_at y k) c.in_ok-part.ensures ∙ known-inside q i k in
     record {
-      values = pushed (known_at q k) c.args.first i (piece_values c.args.parts.now.items) c.loop-index.parts.items c.push.new.self.items x c.loop-index.auto.index w (c.in_ok-whole_piece.ensures.value ∙ ap value_in there) l.values c.in_ok-push.ensures.items;
+      values = λ r sees all.
+          let w = all i c.loop-index.auto.index c.loop-index-test.true in
+          let s = sees-whole c.args.look.now c.in-Some.part c.args.levels r i sees (c.in-Some.ensures {u = tt} r sees.shows) w in
+          pushed (shown r) c.args.first i (piece_values c.args.parts.now.items) c.loop-index.parts.items c.push.new.self.items x c.loop-index.auto.index w
+          (c.in_ok-whole_piece.ensures.value (part_at r i) s.1 (whole-part r i w) ∙ ap value_in (sym (map-part_at item_value r i))) (l.values r sees all) c.in_ok-push.ensures.items;
       sound = subst AreSound (sym c.in_ok-push.ensures.items) (more-sound c.loop-index.parts.items x l.sound c.in_ok-whole_piece.ensures.sound);
     }
 
 pub list_piece-push_parts-requires : goal.list_piece-push_parts-requires
-list_piece-push_parts-requires t c = (
-  subst (λ n. height (known_at c.args.place.now (known_of c.args.pool.now c.args.tree.now)) < n) c.decreases (below _),
-  (c.requires.stands, (c.requires.noted, (none-below c.args.length, (λ i lo lt. c.requires.whole i lt, subst AreSound (sym c.in_ok-parts.ensures.items) refl)))),
-)
+list_piece-push_parts-requires t c =
+    let n = c.requires in (
+      subst (λ m. 3 * c.args.levels < m) c.decreases (below _),
+      (none-below c.args.length, ((n.0, n.1, λ i lo lt. n.2 i lt), subst AreSound (sym c.in_ok-parts.ensures.items) refl)),
+    )
 
 pub list_piece-returns-clause-value : goal.list_piece-returns-clause-value
-list_piece-returns-clause-value t c =
-    let vs = slice_range (list_values (known_at c.args.place.now (known_of c.args.pool.now c.args.tree.now))) 0 c.args.length in
-    list-value c.of.result ∙ ap (λ us. list_value (trees_of us)) (pushed-all c.of.result c.push_parts.new.parts.items c.in_ok-parts.parts.items vs c.of.ensures c.in_ok-parts.ensures.items c.in_ok-push_parts.ensures.values)
+list_piece-returns-clause-value t c r sees all =
+    let vs = slice_range (list_values (shown r)) 0 c.args.length in
+    list-value c.of.result ∙ ap (λ us. list_value (trees_of us)) (pushed-all c.of.result c.push_parts.new.parts.items c.in_ok-parts.parts.items vs c.of.ensures c.in_ok-parts.ensures.items (c.in_ok-push_parts.ensures.values r sees (λ i lo lt. all i lt)))
 
 pub list_piece-returns-clause-sound : goal.list_piece-returns-clause-sound
 list_piece-returns-clause-sound t c =
-    let xs = list_values (known_at c.args.place.now (known_of c.args.pool.now c.args.tree.now)) in
-    pieces-sound c.of.result xs c.args.length (pushed-all c.of.result c.push_parts.new.parts.items c.in_ok-parts.parts.items (slice_range xs 0 c.args.length) c.of.ensures c.in_ok-parts.ensures.items c.in_ok-push_parts.ensures.values) c.ranges.length.fits (subst AreSound (sym c.of.ensures) c.in_ok-push_parts.ensures.sound)
+    let n = c.requires in
+    let xs = list_values (shown n.0) in
+    pieces-sound c.of.result xs c.args.length (pushed-all c.of.result c.push_parts.new.parts.items c.in_ok-parts.parts.items (slice_range xs 0 c.args.length) c.of.ensures c.in_ok-parts.ensures.items (c.in_ok-push_parts.ensures.values n.0 n.1 (λ i lo lt. n.2 i lt))) c.ranges.length.fits (subst AreSound (sym c.of.ensures) c.in_ok-push_parts.ensures.sound)
 
 pub whole_piece-list_piece-requires : goal.whole_piece-list_piece-requires
 whole_piece-list_piece-requires t c =
-    let tree = tree_of c.args.pool.now c.args.tree.now in
-    let q = c.args.place.now in
-    let k = known_of c.args.pool.now c.args.tree.now in (
-      subst (λ n. suc (height (known_at q k)) < n) c.decreases (below _),
-      (c.requires.stands, (c.requires.noted, closes-whole (known_at q k) c.in-Closed.length (there-closes tree q c.in-Closed.length (sym c.kind_at.ensures ∙ c.in-Closed.is)) c.requires.whole)),
+    let n = c.requires in (
+      subst (λ m. suc (3 * c.args.levels) < m) c.decreases (below _),
+      (n.0, n.1, closes-whole (shown n.0) c.in-Closed.length (kind-closes n.0 c.in-Closed.length (sym (c.kind.ensures n.0 n.1.shows) ∙ c.in-Closed.is)) n.2),
     )
 
 pub whole_piece-unreachable-requires : goal.whole_piece-unreachable-requires
 whole_piece-unreachable-requires t c =
-    there-kinds (tree_of c.args.pool.now c.args.tree.now) c.args.place.now c.requires.whole (c.in-None.ensures {u = tt}) (λ n e. c.in_default.not-Closed n (c.kind_at.ensures ∙ e))
+    let n = c.requires in
+    whole-kinds n.0 n.2 (c.in_default.ensures {u = tt} n.0 n.1.shows) (λ m e. c.in_default-kind.not-Closed m (c.kind.ensures n.0 n.1.shows ∙ e))
 
-pub whole_piece-returns-in-Closed-clause-value : goal.whole_piece-returns-in-Closed-clause-value
-whole_piece-returns-in-Closed-clause-value t c =
-    let tree = tree_of c.args.pool.now c.args.tree.now in
-    let q = c.args.place.now in
-    let k = known_of c.args.pool.now c.args.tree.now in
-    IfOk-weaker c.list_piece.result _ _ (λ (p : Piece) h. h ∙ sym (closes-value (known_at q k) c.in-Closed.length (there-closes tree q c.in-Closed.length (sym c.kind_at.ensures ∙ c.in-Closed.is)))) c.list_piece.ensures.value
+pub whole_piece-returns-clause-value : goal.whole_piece-returns-clause-value
+whole_piece-returns-clause-value t c r sees w =
+    let closes = kind-closes r c.in-Closed.length (sym (c.kind.ensures r sees.shows) ∙ c.in-Closed.is) in
+    IfOk-weaker c.list_piece.result _ _ (λ (p : Piece) h. h ∙ sym (closes-value (shown r) c.in-Closed.length closes)) (c.list_piece.ensures.value r sees (closes-whole (shown r) c.in-Closed.length closes w))
 
 pub whole_piece-returns-in-Some : goal.whole_piece-returns-in-Some
 whole_piece-returns-in-Some t c =
-    let tree = tree_of c.args.pool.now c.args.tree.now in
-    let q = c.args.place.now in
     let x = c.in-Some.piece.now in
+    let n = c.requires in
     record {
-      value = IfOk-weaker c.copy.result _ _ (λ (p : Piece) h. ap piece_value h ∙ there-is tree q x c.in-Some.ensures) c.copy.ensures;
-      sound = IfOk-weaker c.copy.result _ _ (λ (p : Piece) h. subst IsSound (sym h) (there-sound tree q x c.in-Some.ensures c.requires.noted)) c.copy.ensures;
+      value = λ r sees w. IfOk-weaker c.copy.result _ _ (λ (p : Piece) h. ap piece_value h ∙ item-is r x (c.in-Some.ensures {u = tt} r sees.shows)) c.copy.ensures;
+      sound = IfOk-weaker c.copy.result _ _ (λ (p : Piece) h. subst IsSound (sym h) (item-sound n.0 x (c.in-Some.ensures {u = tt} n.0 n.1.shows) n.1.noted)) c.copy.ensures;
     }
+
+pub push_parts-overflow_sub-levels : goal.push_parts-overflow_sub-levels
+push_parts-overflow_sub-levels t c =
+    let n = c.requires.seen in
+    let i = c.loop-index.index in
+    (sees-whole c.args.look.now c.in-Some.part c.args.levels n.0 i n.1 (c.in-Some.ensures {u = tt} n.0 n.1.shows) (n.2 i c.loop-index.auto.index c.loop-index-test.true)).0

@@ -1,5 +1,4 @@
-use Rattle.std.proofs.Common.{◌<◌, ◌∙◌, sym, ap, subst, is_some, arith}
-use Rattle.tv_outputs.specs.FoundIn.{found_in}
+use Rattle.std.proofs.Common.{◌<◌, sym, subst, arith}
 use Rattle.tv_outputs.specs.Known.{known, tree_in}
 use Rattle.tv_outputs.proofs.Tried.{second-found}
 use Rattle.tv_outputs.proofs.tests.second_item.Goals as goal
@@ -11,5 +10,5 @@ piece_at-requires c =
     record {
       stand = (c.args._region.now, t.stand);
       there = subst (λ n. 0 < n) (sym t.three) (omega arith);
-      found = ap (λ q. is_some (found_in q u)) c.in_ok-place.ensures.ok ∙ second-found u t.at_0;
+      found = second-found u t.at_0;
     }

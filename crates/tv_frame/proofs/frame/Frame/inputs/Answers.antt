@@ -1,11 +1,12 @@
-use Rattle.std.specs.Prelude.{◌≡◌, IfOk, IsTrue, Some, is_some}
-use Rattle.std.proofs.Common.{subst, sym}
+use Rattle.std.specs.Prelude.{◌≡◌, ◌<◌, IfOk, IsTrue, Some, is_some, slice_index_or}
+use Rattle.std.proofs.Common.{◌∙◌, ap, refl, subst, sym}
 use Rattle.tv_cell.specs.PieceValues.{piece_values}
 use Rattle.tv_bound.specs.Constants.{constants_view}
 use Rattle.tv_bound.specs.declared.constants.Constants.{Constants}
 use Rattle.tv_bound.specs.Jobs.{job_found}
 use Rattle.tv_bound.specs.Sourced.{known_by as sourced_by}
-use Rattle.tv_frame.proofs.OfJobInputs.{call-agrees, call-counted, call-deep, call-delivered, call-found, call-inputs, call-of, call-suits, inputs-where_ok, step-within}
+use Rattle.tv_frame.specs.declared.tables.Tables.{Tables}
+use Rattle.tv_frame.proofs.OfJobInputs.{call-counted, call-delivered, call-found, call-inputs, call-of, call-parts, inputs-where_ok, starts-within, step-within}
 use Rattle.tv_frame.proofs.OfOuts.{sources-stand}
 use Rattle.tv_frame.proofs.frame.Frame.inputs.Goals as goal
 
@@ -14,64 +15,56 @@ ports_at-ports-requires c =
     let r = c.requires.keeps in
     step-within r.0 c.args.plan.now c.args.pool.now c.args.self.now r.1 r.2 c.args.number c.job-step.result.0 c.job-step.result.1.now c.job-step.ensures.job c.job-step.result.2 c.job-step.ensures.faulty
 
+pub index-requires : goal.index-requires
+index-requires c =
+    let r = c.requires.keeps in
+    subst (λ (t : Tables). c.job-step.result.0 < t.starts.len) (sym c.read.ensures) (subst (λ m. c.job-step.result.0 < m) (sym c.args.self.now.tables.starts.ok.0)
+    (starts-within r.0 c.args.plan.now c.args.pool.now c.args.self.now r.1 r.2 c.args.number c.job-step.result.0 c.job-step.result.1.now c.job-step.ensures.job c.job-step.result.2 c.job-step.ensures.faulty))
+
 pub job_inputs-requires-clause-stand : goal.job_inputs-requires-clause-stand
 job_inputs-requires-clause-stand c =
     let r = c.requires.keeps in
-    sources-stand r.0 c.args.plan.now c.args.pool.now c.args.self.now r.1 r.2 c.sources.result (record { inputs = c.sources.ensures.inputs; outputs = c.sources.ensures.outputs; nodes = c.sources.ensures.pool; firsts = c.sources.ensures.firsts })
-
-pub job_inputs-requires-clause-suits : goal.job_inputs-requires-clause-suits
-job_inputs-requires-clause-suits c =
-    let r = c.requires.keeps in
-    call-suits r.0 c.args.plan.now c.args.pool.now c.args.self.now r.1 r.2 c.args.number c.job-step.result.0 c.in_ok-place.place c.ports_at-ports.result
-    (call-of c.args.plan.now c.args.self.now c.args.number c.job-step.result.0 c.in_ok-place.place c.job-step.result.1.now c.ports_at-ports.result c.job-step.ensures.job c.job-step.result.2 c.job-step.ensures.faulty c.in_ok-place.ensures.ok c.ports_at-ports.ensures)
-    c.sources.result (record { inputs = c.sources.ensures.inputs; outputs = c.sources.ensures.outputs; nodes = c.sources.ensures.pool; firsts = c.sources.ensures.firsts })
-
-pub job_inputs-requires-clause-agree : goal.job_inputs-requires-clause-agree
-job_inputs-requires-clause-agree c =
-    let r = c.requires.keeps in
-    call-agrees r.0 c.args.plan.now c.args.pool.now c.args.self.now r.1 r.2 c.args.number c.job-step.result.0 c.in_ok-place.place c.ports_at-ports.result
-    (call-of c.args.plan.now c.args.self.now c.args.number c.job-step.result.0 c.in_ok-place.place c.job-step.result.1.now c.ports_at-ports.result c.job-step.ensures.job c.job-step.result.2 c.job-step.ensures.faulty c.in_ok-place.ensures.ok c.ports_at-ports.ensures)
-    c.sources.result (record { inputs = c.sources.ensures.inputs; outputs = c.sources.ensures.outputs; nodes = c.sources.ensures.pool; firsts = c.sources.ensures.firsts })
-
-pub job_inputs-requires-clause-deep : goal.job_inputs-requires-clause-deep
-job_inputs-requires-clause-deep c =
-    let r = c.requires.keeps in
-    call-deep r.0 c.args.plan.now c.args.pool.now c.args.self.now r.1 r.2 c.args.number c.job-step.result.0 c.in_ok-place.place c.ports_at-ports.result
-    (call-of c.args.plan.now c.args.self.now c.args.number c.job-step.result.0 c.in_ok-place.place c.job-step.result.1.now c.ports_at-ports.result c.job-step.ensures.job c.job-step.result.2 c.job-step.ensures.faulty c.in_ok-place.ensures.ok c.ports_at-ports.ensures)
-    c.sources.result (record { inputs = c.sources.ensures.inputs; outputs = c.sources.ensures.outputs; nodes = c.sources.ensures.pool; firsts = c.sources.ensures.firsts })
+    sources-stand r.0 c.args.plan.now c.args.pool.now c.args.self.now r.1 r.2 c.sources-sources.result (record { inputs = c.sources-sources.ensures.inputs; outputs = c.sources-sources.ensures.outputs; nodes = c.sources-sources.ensures.pool; firsts = c.sources-sources.ensures.firsts })
 
 pub job_inputs-requires-clause-inputs : goal.job_inputs-requires-clause-inputs
 job_inputs-requires-clause-inputs c =
     let r = c.requires.keeps in
-    call-inputs r.0 c.args.plan.now c.args.pool.now c.args.self.now r.1 r.2 c.args.number c.job-step.result.0 c.in_ok-place.place c.ports_at-ports.result
-    (call-of c.args.plan.now c.args.self.now c.args.number c.job-step.result.0 c.in_ok-place.place c.job-step.result.1.now c.ports_at-ports.result c.job-step.ensures.job c.job-step.result.2 c.job-step.ensures.faulty c.in_ok-place.ensures.ok c.ports_at-ports.ensures)
-    c.sources.result (record { inputs = c.sources.ensures.inputs; outputs = c.sources.ensures.outputs; nodes = c.sources.ensures.pool; firsts = c.sources.ensures.firsts })
+    call-inputs r.0 c.args.plan.now c.args.pool.now c.args.self.now r.1 r.2 c.args.number c.job-step.result.0 c.job-step.result.1.now c.ports_at-ports.result
+    (call-of c.args.plan.now c.args.self.now c.args.number c.job-step.result.0 c.job-step.result.1.now c.job-step.result.1.now c.ports_at-ports.result c.job-step.ensures.job c.job-step.result.2 c.job-step.ensures.faulty refl c.ports_at-ports.ensures)
+    c.sources-sources.result (record { inputs = c.sources-sources.ensures.inputs; outputs = c.sources-sources.ensures.outputs; nodes = c.sources-sources.ensures.pool; firsts = c.sources-sources.ensures.firsts })
+
+pub job_inputs-requires-clause-parts : goal.job_inputs-requires-clause-parts
+job_inputs-requires-clause-parts c =
+    let r = c.requires.keeps in
+    call-parts r.0 c.args.plan.now c.args.pool.now c.args.self.now r.1 r.2 c.args.number c.job-step.result.0 c.job-step.result.1.now c.ports_at-ports.result
+    (call-of c.args.plan.now c.args.self.now c.args.number c.job-step.result.0 c.job-step.result.1.now c.job-step.result.1.now c.ports_at-ports.result c.job-step.ensures.job c.job-step.result.2 c.job-step.ensures.faulty refl c.ports_at-ports.ensures)
+    c.sources-sources.result (record { inputs = c.sources-sources.ensures.inputs; outputs = c.sources-sources.ensures.outputs; nodes = c.sources-sources.ensures.pool; firsts = c.sources-sources.ensures.firsts }) c.index.result.now (c.index.ensures ∙ ap (λ (t : Tables). slice_index_or t.starts.items c.job-step.result.0 c.index.result.now) c.read.ensures) c.as_slice-starts.result.now c.as_slice-starts.ensures.value
 
 pub job_inputs-requires-clause-delivered : goal.job_inputs-requires-clause-delivered
 job_inputs-requires-clause-delivered c =
     let r = c.requires.keeps in
-    call-delivered r.0 c.args.plan.now c.args.pool.now c.args.self.now r.1 r.2 c.args.number c.job-step.result.0 c.in_ok-place.place c.ports_at-ports.result
-    (call-of c.args.plan.now c.args.self.now c.args.number c.job-step.result.0 c.in_ok-place.place c.job-step.result.1.now c.ports_at-ports.result c.job-step.ensures.job c.job-step.result.2 c.job-step.ensures.faulty c.in_ok-place.ensures.ok c.ports_at-ports.ensures)
-    c.sources.result (record { inputs = c.sources.ensures.inputs; outputs = c.sources.ensures.outputs; nodes = c.sources.ensures.pool; firsts = c.sources.ensures.firsts })
+    call-delivered r.0 c.args.plan.now c.args.pool.now c.args.self.now r.1 r.2 c.args.number c.job-step.result.0 c.job-step.result.1.now c.ports_at-ports.result
+    (call-of c.args.plan.now c.args.self.now c.args.number c.job-step.result.0 c.job-step.result.1.now c.job-step.result.1.now c.ports_at-ports.result c.job-step.ensures.job c.job-step.result.2 c.job-step.ensures.faulty refl c.ports_at-ports.ensures)
+    c.sources-sources.result (record { inputs = c.sources-sources.ensures.inputs; outputs = c.sources-sources.ensures.outputs; nodes = c.sources-sources.ensures.pool; firsts = c.sources-sources.ensures.firsts })
 
 pub job_inputs-requires-clause-counted : goal.job_inputs-requires-clause-counted
 job_inputs-requires-clause-counted c =
     let r = c.requires.keeps in
-    call-counted r.0 c.args.plan.now c.args.pool.now c.args.self.now r.1 r.2 c.args.number c.job-step.result.0 c.in_ok-place.place c.ports_at-ports.result
-    (call-of c.args.plan.now c.args.self.now c.args.number c.job-step.result.0 c.in_ok-place.place c.job-step.result.1.now c.ports_at-ports.result c.job-step.ensures.job c.job-step.result.2 c.job-step.ensures.faulty c.in_ok-place.ensures.ok c.ports_at-ports.ensures)
-    c.sources.result (record { inputs = c.sources.ensures.inputs; outputs = c.sources.ensures.outputs; nodes = c.sources.ensures.pool; firsts = c.sources.ensures.firsts })
+    call-counted r.0 c.args.plan.now c.args.pool.now c.args.self.now r.1 r.2 c.args.number c.job-step.result.0 c.job-step.result.1.now c.ports_at-ports.result
+    (call-of c.args.plan.now c.args.self.now c.args.number c.job-step.result.0 c.job-step.result.1.now c.job-step.result.1.now c.ports_at-ports.result c.job-step.ensures.job c.job-step.result.2 c.job-step.ensures.faulty refl c.ports_at-ports.ensures)
+    c.sources-sources.result (record { inputs = c.sources-sources.ensures.inputs; outputs = c.sources-sources.ensures.outputs; nodes = c.sources-sources.ensures.pool; firsts = c.sources-sources.ensures.firsts })
 
 pub job_inputs-requires-clause-found : goal.job_inputs-requires-clause-found
 job_inputs-requires-clause-found c =
     let r = c.requires.keeps in
-    subst (λ (k : Constants). IsTrue (is_some (job_found (sourced_by c.sources.result) (constants_view k) c.ports_at-ports.result c.in_ok-place.place))) (sym c.constants.ensures)
-    (call-found r.0 c.args.plan.now c.args.pool.now c.args.self.now r.1 r.2 c.args.number c.job-step.result.0 c.in_ok-place.place c.ports_at-ports.result
-    (call-of c.args.plan.now c.args.self.now c.args.number c.job-step.result.0 c.in_ok-place.place c.job-step.result.1.now c.ports_at-ports.result c.job-step.ensures.job c.job-step.result.2 c.job-step.ensures.faulty c.in_ok-place.ensures.ok c.ports_at-ports.ensures)
-    c.sources.result (record { inputs = c.sources.ensures.inputs; outputs = c.sources.ensures.outputs; nodes = c.sources.ensures.pool; firsts = c.sources.ensures.firsts }))
+    subst (λ (k : Constants). IsTrue (is_some (job_found (sourced_by c.sources-sources.result) (constants_view k) c.ports_at-ports.result c.job-step.result.1.now))) (sym c.constants-constants.ensures)
+    (call-found r.0 c.args.plan.now c.args.pool.now c.args.self.now r.1 r.2 c.args.number c.job-step.result.0 c.job-step.result.1.now c.ports_at-ports.result
+    (call-of c.args.plan.now c.args.self.now c.args.number c.job-step.result.0 c.job-step.result.1.now c.job-step.result.1.now c.ports_at-ports.result c.job-step.ensures.job c.job-step.result.2 c.job-step.ensures.faulty refl c.ports_at-ports.ensures)
+    c.sources-sources.result (record { inputs = c.sources-sources.ensures.inputs; outputs = c.sources-sources.ensures.outputs; nodes = c.sources-sources.ensures.pool; firsts = c.sources-sources.ensures.firsts }))
 
 pub returns-clause-values : goal.returns-clause-values
 returns-clause-values c =
-    inputs-where_ok c.args.plan.now c.args.pool.now c.args.self.now c.args.number c.job-step.result.0 c.in_ok-place.place c.ports_at-ports.result
-    (call-of c.args.plan.now c.args.self.now c.args.number c.job-step.result.0 c.in_ok-place.place c.job-step.result.1.now c.ports_at-ports.result c.job-step.ensures.job c.job-step.result.2 c.job-step.ensures.faulty c.in_ok-place.ensures.ok c.ports_at-ports.ensures)
-    c.sources.result (record { inputs = c.sources.ensures.inputs; outputs = c.sources.ensures.outputs; nodes = c.sources.ensures.pool; firsts = c.sources.ensures.firsts }) c.job_inputs.result
-    (subst (λ (k : Constants). IfOk c.job_inputs.result (λ ps. job_found (sourced_by c.sources.result) (constants_view k) c.ports_at-ports.result c.in_ok-place.place ≡ Some (piece_values ps))) c.constants.ensures c.job_inputs.ensures.values)
+    inputs-where_ok c.args.plan.now c.args.pool.now c.args.self.now c.args.number c.job-step.result.0 c.job-step.result.1.now c.ports_at-ports.result
+    (call-of c.args.plan.now c.args.self.now c.args.number c.job-step.result.0 c.job-step.result.1.now c.job-step.result.1.now c.ports_at-ports.result c.job-step.ensures.job c.job-step.result.2 c.job-step.ensures.faulty refl c.ports_at-ports.ensures)
+    c.sources-sources.result (record { inputs = c.sources-sources.ensures.inputs; outputs = c.sources-sources.ensures.outputs; nodes = c.sources-sources.ensures.pool; firsts = c.sources-sources.ensures.firsts }) c.job_inputs.result
+    (subst (λ (k : Constants). IfOk c.job_inputs.result (λ ps. job_found (sourced_by c.sources-sources.result) (constants_view k) c.ports_at-ports.result c.job-step.result.1.now ≡ Some (piece_values ps))) c.constants-constants.ensures c.job_inputs.ensures.values)

@@ -57,7 +57,7 @@ feed_piece-requires-clause-found c =
     c.index-2.result.now
     (start-is r.0 c.args.plan.now c.args.pool.now c.args.self.now r.1 c.args.step r.2 r.3 r.4 c.args.place.now c.args.leaf r.5 c.index.result.now c.index-2.result.now
     (c.index.ensures ∙ ap (λ (t : Tables). slice_index_or t.starts.items c.args.step c.index.result.now) c.read.ensures) c.index-2.ensures)
-    _ (c.in_ok-inside.ensures.ok ∙ c.rest_of.ensures ∙ ap (drop c.index-2.result.now) c.as_slice.ensures) in
+    _ (c.rest_of-inside.ensures ∙ ap (drop c.index-2.result.now) c.as_slice.ensures) in
     subst (λ o. IsTrue (is_some o)) (sym e.1) refl
 
 pub returns-clause-value : goal.returns-clause-value
@@ -75,6 +75,6 @@ returns-clause-value c =
     c.index-2.result.now
     (start-is flows c.args.plan.now c.args.pool.now c.args.self.now v c.args.step s keeps at c.args.place.now c.args.leaf waits c.index.result.now c.index-2.result.now
     (c.index.ensures ∙ ap (λ (t : Tables). slice_index_or t.starts.items c.args.step c.index.result.now) c.read.ensures) c.index-2.ensures)
-    _ (c.in_ok-inside.ensures.ok ∙ c.rest_of.ensures ∙ ap (drop c.index-2.result.now) c.as_slice.ensures) in
+    _ (c.rest_of-inside.ensures ∙ ap (drop c.index-2.result.now) c.as_slice.ensures) in
     (e.0, same_Some _ _ (sym found ∙ e.1), e.2))
     c.feed_piece.ensures.value
