@@ -11,6 +11,7 @@ ghost use Rattle.tv_bound.specs.Sourced.{known_by, Stand, IsCounted};
 use std::alloc::Global;
 use tv_cell::{Cell, Piece, Row};
 use tv_outputs::{Nodes, Outputs};
+use tv_path::Path;
 use tv_value::{NoMemory, Place};
 use tv_wires::{NumberedFeed, NumberedLink};
 
@@ -60,7 +61,7 @@ pub(crate) fn cell_piece(alloc: Global, cell: &Cell, place: &[u32]) -> Result<Pi
     ensures sound { IfOk result IsSound }
 {
     let cell = cell.share()?;
-    Ok(Piece::Part(cell, Place::of(alloc, place)?))
+    Ok(Piece::Part(cell, Path::of(alloc, place)?))
 }
 
 /// The piece of what a link delivers at a place.

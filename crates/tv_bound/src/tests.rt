@@ -4,7 +4,8 @@ use std::alloc::Global;
 use std::test::Fail;
 use tv_cell::{Cell, Piece, assemble, same_value};
 use tv_flow::{Feed, Flow};
-use tv_value::{Depths, Items, Name, NoMemory, Place, Sequence, Text, Value};
+use tv_path::Path;
+use tv_value::{Depths, Items, Name, NoMemory, Sequence, Text, Value};
 
 fn text(alloc: Global, letters: &str) -> Result<Value, NoMemory> {
     Ok(Value::Text(Text::from_str(alloc, letters)?))
@@ -20,7 +21,7 @@ fn alone(alloc: Global, value: Value) -> Result<Value, NoMemory> {
 fn wrapped_twice(rt: HostRuntime) -> Result<(), Fail> {
     let alloc = rt.alloc();
     let cell = Cell::put(alloc, text(alloc, "a")?)?;
-    let wrapped = wrap(alloc, Piece::Part(cell, Place::top(alloc)), 2)?;
+    let wrapped = wrap(alloc, Piece::Part(cell, Path::top(alloc)), 2)?;
     assert!(rt; wrapped.is_sound());
     let wanted = alone(alloc, alone(alloc, text(alloc, "a")?)?)?;
     assert!(rt; same_value(&assemble(alloc, &wrapped)?, &wanted));

@@ -1,12 +1,15 @@
 -- What stands inside a piece.
 use Rattle.std.specs.Prelude.{◌≡◌, ℕ, zero, suc, ◌-◌, ◌<◌, ◌≤◌, List, [], ◌∷◌, ◌++◌, length, take, drop, refl, true, Option, Some, None, is_some, option_and_then, ◌==◌, ◌&&◌, map, option_map, slice_get}
-use Rattle.std.proofs.Common.{arith, ap, sym, ◌∙◌, get_or, ne_eqb, true≢false}
+use Rattle.std.specs.Option.{option_copied}
+use Rattle.std.proofs.Common.{arith, ap, sym, ◌∙◌, get_or, ne_eqb, true≢false, Bor}
 use Rattle.std.proofs.lemmas.List.{take_all}
 use Rattle.tv_value.specs.Nested.{Place, at, children, item_at, leaf, trees_of}
 use Rattle.tv_value.specs.Values as spec
 use Rattle.tv_value.specs.Values.{ErrorDoc, Scalar, fault_value, list_value}
-use Rattle.tv_value.specs.Views.{view}
+use Rattle.tv_value.specs.Views.{items_view, view}
+use Rattle.tv_value.specs.declared.value.Items.{Items}
 use Rattle.tv_value.specs.declared.value.Value.{Value}
+use Rattle.tv_value.specs.declared.value.Value.TheViews as held
 use Rattle.tv_value.proofs.Looking.{item_at-each}
 use Rattle.tv_cell.specs.declared.piece.Piece.{Piece}
 use Rattle.tv_cell.specs.declared.piece.Piece.TheVariants as plain
@@ -15,7 +18,7 @@ use Rattle.tv_cell.specs.Found.{found_value, document_of, with_depth}
 use Rattle.tv_cell.specs.PieceValues.{piece_value, piece_values}
 use Rattle.tv_cell.specs.Sameness.{is_at, same_value}
 use Rattle.tv_cell.specs.Soundness.{IsSound, is_sound}
-use Rattle.tv_cell.proofs.OfPieces.{fault-value, list-value, part-sound, part-value, piece-sound, pieces-sound}
+use Rattle.tv_cell.proofs.OfPieces.{fault-value, list-value, list-view, part-sound, part-value, piece-sound, pieces-sound}
 
 -- something stands there
 abbrev pub Stands : spec.Value → Place → Type 0
@@ -76,22 +79,40 @@ found-stands (Some u) q s h = h
 found-stands None q s h = absurd (true≢false (sym s))
 
 -- where the place of a part leads, once another is joined to it
-joined-at : (c c' : Value) (s q r j : Place) → c' ≡ c → r ≡ q → j ≡ s ++ r → at (view c') j ≡ option_and_then (λ w. at w q) (at (view c) s)
-joined-at c c' s q r j e f g = (λ i. at (view (e i)) (g i)) ∙ ap (λ x. at (view c) (s ++ x)) f ∙ at-joined (view c) s q
+joined-at :
+    (c c' : Value) (s q j : Place)
+    → c' ≡ c
+    → j ≡ s ++ q
+    → at (view c') j ≡ option_and_then (λ w. at w q) (at (view c) s)
+joined-at c c' s q j e g = (λ i. at (view (e i)) (g i)) ∙ at-joined (view c) s q
 
-pub part-joined : (p : Piece) (c c' : Value) (s q r j : Place) → p ≡ plain.Part c s → c' ≡ c → r ≡ q → j ≡ s ++ r → Stands (piece_value p) q → at (piece_value p) q ≡ Some (piece_value (plain.Part c' j))
-part-joined p c c' s q r j d e f g h =
+pub part-joined :
+    (p : Piece) (c c' : Value) (s q j : Place)
+    → p ≡ plain.Part c s
+    → c' ≡ c
+    → j ≡ s ++ q
+    → Stands (piece_value p) q
+    → at (piece_value p) q ≡ Some (piece_value (plain.Part c' j))
+part-joined p c c' s q j d e g h =
     let whole = ap piece_value d ∙ part-value c s in
     ap (λ v. at v q) whole
     ∙ found-joined (at (view c) s) q (ap (λ v. is_some (at v q)) (sym whole) ∙ h)
-    ∙ ap (λ o. Some (found_value o)) (sym (joined-at c c' s q r j e f g))
+    ∙ ap (λ o. Some (found_value o)) (sym (joined-at c c' s q j e g))
     ∙ ap Some (sym (part-value c' j))
 
-pub part-joined-sound : (p : Piece) (c c' : Value) (s q r j : Place) → p ≡ plain.Part c s → c' ≡ c → r ≡ q → j ≡ s ++ r → Stands (piece_value p) q → IsSound p → IsSound (plain.Part c' j)
-part-joined-sound p c c' s q r j d e f g h k =
+pub part-joined-sound :
+    (p : Piece) (c c' : Value) (s q j : Place)
+    → p ≡ plain.Part c s
+    → c' ≡ c
+    → j ≡ s ++ q
+    → Stands (piece_value p) q
+    → IsSound p
+    → IsSound (plain.Part c' j)
+part-joined-sound p c c' s q j d e g h k =
     let whole = ap piece_value d ∙ part-value c s in
-    part-sound c' j ∙ ap is_some (joined-at c c' s q r j e f g)
-    ∙ found-stands (at (view c) s) q (sym (ap is_sound d ∙ part-sound c s) ∙ k) (ap (λ v. is_some (at v q)) (sym whole) ∙ h)
+    part-sound c' j ∙ ap is_some (joined-at c c' s q j e g)
+    ∙ found-stands (at (view c) s) q (sym (ap is_sound d ∙ part-sound c s) ∙ k)
+    (ap (λ v. is_some (at v q)) (sym whole) ∙ h)
 
 -- ---- inside a fault
 
@@ -115,6 +136,22 @@ got f (x ∷ xs) (suc i) = got f xs i
 inside : {X : Type 0} (f : X → spec.Value) (r : Place) (o : Option X) → option_and_then (λ u. at u r) (option_map f o) ≡ option_and_then (λ x. at (f x) r) o
 inside f r None = refl
 inside f r (Some x) = refl
+
+lent : (o : Option (Bor Value)) → option_map (λ b. view b.now) o ≡ option_map view (option_copied o)
+lent None = refl
+lent (Some b) = refl
+
+-- the item of a list that is lent by its index
+pub item-lent :
+    (v : Value) (vs : Items) (us : List Value) (i : ℕ) (o : Option (Bor Value))
+    → v ≡ held.List vs
+    → trees_of (map view us) ≡ items_view vs
+    → option_copied o ≡ slice_get us i
+    → option_map (λ b. view b.now) o ≡ item_at (children (view v)) i
+item-lent v vs us i o e f g =
+    lent o ∙ ap (option_map view) g ∙ sym (got view us i)
+    ∙ ap (λ ts. item_at ts i) f
+    ∙ sym (ap (λ t. item_at (children t) i) (ap view e ∙ list-view vs))
 
 -- what stands in a list stands in the item of the first index
 pub first-at : {X : Type 0} (f : X → spec.Value) (t : spec.Value) (xs : List X) (q : Place) (o : Option X) → t ≡ list_value (trees_of (map f xs)) → 1 ≤ length q → o ≡ slice_get xs (get_or q 0 0) → option_and_then (λ x. at (f x) (take (length q - 1) (drop 1 q))) o ≡ at t q

@@ -1,5 +1,5 @@
 -- What a piece of each kind stands for, and when it is sound.
-use Rattle.std.specs.Prelude.{◌≡◌, ℕ, zero, suc, ◌<◌, List, [], ◌∷◌, length, map, refl, ◌&&◌, ◌||◌, Option, Some, is_some, nat_lt, slice_get, true}
+use Rattle.std.specs.Prelude.{◌≡◌, ℕ, zero, suc, ◌<◌, List, [], ◌∷◌, length, map, refl, ◌&&◌, ◌||◌, Some, is_some, nat_lt, slice_get, true}
 use Rattle.std.specs.Option.{option_map_or}
 use Rattle.std.specs.List.{list_all, list_any}
 use Rattle.std.proofs.Common.{arith, ap, sym, ◌∙◌, get_or}

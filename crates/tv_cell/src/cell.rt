@@ -1,12 +1,14 @@
-ghost use Rattle.std.specs.Prelude.{◌≡◌, IfOk, IsTrue, is_some};
+ghost use Rattle.std.specs.Prelude.{◌≡◌, IfOk, IsTrue, is_some, option_map};
 ghost use Rattle.tv_value.specs.Nested.{at};
 ghost use Rattle.tv_value.specs.Views.{error_view, view};
 ghost use Rattle.tv_cell.specs.Found.{document_of, found_value, is_document};
 
+use crate::looking::value_at;
 use std::alloc::Global;
 use std::marker::Model;
 use std::sync::Arc;
-use tv_value::{ErrorDoc, NoMemory, Place, Value};
+use tv_path::Path;
+use tv_value::{ErrorDoc, NoMemory, Value};
 
 /// A value that never changes, with any number of owners in any threads. The last owner drops it.
 #[derive(Drop)]
@@ -51,23 +53,31 @@ impl Cell {
         Ok(Cell { inside })
     }
 
+    /// What stands at a place of the value, or `None` where nothing does. Linear in the place.
+    /// Takes no memory.
+    pub fn at(&self, place: &Path) -> Option<&Value>
+        ensures { option_map (λ v. view v.now) result ≡ at (view self.now) place.now }
+    {
+        value_at(self.read(), place.as_slice())
+    }
+
     /// What stands at a place of the value. Linear in the place.
-    pub(crate) fn value_at(&self, place: &Place) -> &Value
+    pub(crate) fn value_at(&self, place: &Path) -> &Value
         requires { IsTrue (is_some (at (view self.now) place.now)) }
         ensures { view result.now ≡ found_value (at (view self.now) place.now) }
     {
-        match self.read().at(place) {
+        match self.at(place) {
             Some(value) => value,
             None => unreachable!(),
         }
     }
 
     /// The error document that stands at a place of the value. Linear in the place.
-    pub(crate) fn document_at(&self, place: &Place) -> &ErrorDoc
+    pub(crate) fn document_at(&self, place: &Path) -> &ErrorDoc
         requires { IsTrue (is_document (at (view self.now) place.now)) }
         ensures { error_view result.now ≡ document_of (found_value (at (view self.now) place.now)) }
     {
-        match self.read().at(place) {
+        match self.at(place) {
             Some(Value::Fault(error)) => error,
             _ => unreachable!(),
         }

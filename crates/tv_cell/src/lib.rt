@@ -2,9 +2,9 @@
 //!
 //! An engine hands the same values to many jobs, in any threads, and takes them apart and together again. Here a value
 //! is put once into a `Cell`; what stands for it, for a part of it, or for a list of such parts is a `Piece`, which copies
-//! no value. A contract sees a cell as the very value that was put, and a piece as a tree of such values and of places
-//! in them. `specs/PieceValues.antt` says which value a piece stands for, and `specs/Soundness.antt` when it points at
-//! something throughout.
+//! no value, and keeps places small (`tv_path`). A contract sees a cell as the very value that was put, and a piece as a
+//! tree of such values and of places in them. `specs/PieceValues.antt` says which value a piece stands for, and
+//! `specs/Soundness.antt` when it points at something throughout.
 //!
 //! The crate promises that a cell reads as the value that was put, wherever it was shared; that a copy of a piece is equal
 //! to it; that the part of a piece stands for the part of its value; that `same` tells exactly whether two pieces stand
@@ -12,6 +12,7 @@
 //! `assemble` makes exactly the value that a piece stands for. Want of memory is the one refusal.
 //! Cells and pieces may be sent to other threads and shared by them (`threads`).
 //!
+//! - `looking`: what stands at a place of a value
 //! - `cell`: a value that never changes
 //! - `row`: lists that may hold the type that holds them (`specs/formers/row/Row.antt` says how they hold their things)
 //! - `piece`: a value as a tree of cells, its copies and parts
@@ -24,6 +25,7 @@
 mod assembly;
 mod cell;
 pub mod laws;
+mod looking;
 mod piece;
 mod row;
 mod same;

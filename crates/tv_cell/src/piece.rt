@@ -1,5 +1,4 @@
-ghost use Rattle.std.specs.Prelude.{◌≡◌, ◌&&◌, IfOk, IsTrue, Some, is_some, length, nat_lt, slice_get};
-ghost use Rattle.std.specs.Option.{option_copied};
+ghost use Rattle.std.specs.Prelude.{◌≡◌, ◌&&◌, IfOk, IsTrue, Some, is_some, length, nat_lt};
 ghost use Rattle.std.specs.List.{list_all, list_any};
 ghost use Rattle.tv_value.specs.Nested.{at};
 ghost use Rattle.tv_value.specs.Readings.{length_limit};
@@ -10,19 +9,21 @@ ghost use Rattle.tv_cell.specs.PieceValues.{list_length, piece_value};
 ghost use Rattle.tv_cell.specs.Soundness.{IsSound, is_sound};
 
 use crate::cell::Cell;
+use crate::looking::{thing_at, value_at};
 use crate::row::Row;
 use std::alloc::Global;
-use tv_value::{Copied, NoMemory, Place, Value};
+use tv_path::Path;
+use tv_value::{Copied, NoMemory, Value};
 
 /// A value as a tree of cells: what stands for a value, and shares it.
 #[derive(Drop)]
 pub enum Piece {
     /// What stands at that place of the cell's value.
-    Part(Cell, Place),
+    Part(Cell, Path),
     /// A list of these.
     List(Pieces),
     /// The error document that stands at that place of the cell's value, with this depth in place of its own.
-    Fault(Cell, Place, u32),
+    Fault(Cell, Path, u32),
 }
 
 /// A list of pieces.
@@ -57,13 +58,15 @@ impl Piece {
     {
         match self {
             Piece::Part(cell, start) => {
-                let rest = Place::of(alloc, place)?;
                 let cell = cell.share()?;
-                Ok(Piece::Part(cell, start.join(alloc, &rest)?))
+                Ok(Piece::Part(cell, start.joined(alloc, place)?))
             }
             Piece::List(pieces) => match place {
                 [] => self.copy(alloc),
-                [first, rest @ ..] => pieces.as_slice()[*first as usize].part(alloc, rest),
+                [first, rest @ ..] => {
+                    let pieces = pieces.as_slice();
+                    pieces[*first as usize].part(alloc, rest)
+                }
             },
             Piece::Fault(_, _, _) => self.copy(alloc),
         }
@@ -74,8 +77,8 @@ impl Piece {
         ensures { result ≡ is_some (at (piece_value self.now) place.now) }
     {
         match self {
-            Piece::Part(cell, start) => match cell.read().at(start) {
-                Some(value) => value_has(value, place),
+            Piece::Part(cell, start) => match cell.at(start) {
+                Some(value) => value_at(value, place).is_some(),
                 None => place.is_empty(),
             },
             Piece::List(pieces) => match place {
@@ -96,9 +99,9 @@ impl Piece {
         ensures { result ≡ is_sound self.now }
     {
         match self {
-            Piece::Part(cell, place) => cell.read().at(place).is_some(),
+            Piece::Part(cell, place) => cell.at(place).is_some(),
             Piece::List(pieces) => are_sound(pieces.as_slice()),
-            Piece::Fault(cell, place, _) => match cell.read().at(place) {
+            Piece::Fault(cell, place, _) => match cell.at(place) {
                 Some(value) => is_fault(value),
                 None => false,
             },
@@ -111,7 +114,7 @@ impl Piece {
         ensures { result ≡ holds_fault (piece_value self.now) }
     {
         match self {
-            Piece::Part(cell, place) => match cell.read().at(place) {
+            Piece::Part(cell, place) => match cell.at(place) {
                 Some(value) => value.holds_fault(),
                 None => false,
             },
@@ -126,7 +129,7 @@ impl Piece {
         ensures { result ≡ list_length (piece_value self.now) }
     {
         match self {
-            Piece::Part(cell, place) => match cell.read().at(place) {
+            Piece::Part(cell, place) => match cell.at(place) {
                 Some(value) => items_in(value),
                 None => None,
             },
@@ -175,22 +178,6 @@ fn items_in(value: &Value) -> Option<usize>
     }
 }
 
-/// Whether something stands at a place of a value.
-fn value_has(value: &Value, place: &[u32]) -> bool
-    ensures { result ≡ is_some (at (view value.now) place.now) }
-{
-    match place {
-        [] => true,
-        [first, rest @ ..] => match value {
-            Value::List(items) => match thing_at(items.as_slice(), *first) {
-                Some(item) => value_has(item, rest),
-                None => false,
-            },
-            _ => false,
-        },
-    }
-}
-
 #[cycle(is_sound)]
 fn are_sound(pieces: &[Piece]) -> bool
     ensures { result ≡ (nat_lt (length pieces.now) length_limit && list_all is_sound pieces.now) }
@@ -224,10 +211,4 @@ fn is_fault(value: &Value) -> bool
         Value::Fault(_) => true,
         _ => false,
     }
-}
-
-pub(crate) fn thing_at<T>(things: &[T], index: u32) -> Option<&T>
-    ensures { option_copied result ≡ slice_get things.now index }
-{
-    things.get(index as usize)
 }

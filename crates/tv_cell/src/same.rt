@@ -4,7 +4,8 @@ ghost use Rattle.tv_cell.specs.PieceValues.{piece_value, piece_values};
 ghost use Rattle.tv_cell.specs.Sameness.{is_at, same_document, same_trees, same_value, same_values};
 ghost use Rattle.tv_cell.specs.Soundness.{AreSound, IsSound};
 
-use crate::piece::{Piece, thing_at};
+use crate::looking::{thing_at, value_at};
+use crate::piece::Piece;
 use tv_value::{ErrorDoc, Items, Value};
 
 /// Whether two values are the same. Linear in what they have in common. Takes no memory.
@@ -140,15 +141,9 @@ impl Piece {
 pub fn value_is_at(first: &Value, place: &[u32], second: &Value) -> bool
     ensures { result ≡ is_at (view first.now) place.now (view second.now) }
 {
-    match place {
-        [] => same_value(first, second),
-        [index, rest @ ..] => match first {
-            Value::List(items) => match thing_at(items.as_slice(), *index) {
-                Some(item) => value_is_at(item, rest, second),
-                None => false,
-            },
-            _ => false,
-        },
+    match value_at(first, place) {
+        Some(value) => same_value(value, second),
+        None => false,
     }
 }
 

@@ -4,6 +4,7 @@ use crate::row::Row;
 use crate::{assemble, same_value};
 use std::alloc::Global;
 use std::test::Fail;
+use tv_path::Path;
 use tv_value::{Copied, ErrorDoc, Items, JobName, NoMemory, Place, Sequence, Text, Value};
 
 fn text(alloc: Global, letters: &str) -> Result<Value, NoMemory> {
@@ -34,7 +35,7 @@ fn fault(alloc: Global, depth: u32) -> Result<Value, NoMemory> {
 }
 
 fn part(alloc: Global, cell: &Cell, index: u32) -> Result<Piece, NoMemory> {
-    Ok(Piece::Part(cell.share()?, Place::of(alloc, &[index])?))
+    Ok(Piece::Part(cell.share()?, Path::of(alloc, &[index])?))
 }
 
 // The two items of a cell's list the other way round, through two owners.
@@ -83,9 +84,9 @@ fn items_of_a_cell_the_other_way_round(rt: HostRuntime) -> Result<(), Fail> {
 fn fault_of_another_depth(rt: HostRuntime) -> Result<(), Fail> {
     let alloc = rt.alloc();
     let cell = Cell::put(alloc, fault(alloc, 1)?)?;
-    let piece = Piece::Fault(cell.share()?, Place::top(alloc), 0);
+    let piece = Piece::Fault(cell.share()?, Path::top(alloc), 0);
     assert!(rt; is(alloc, &piece, &fault(alloc, 0)?)?);
-    assert!(rt; !are_same(&piece, &Piece::Part(cell, Place::top(alloc))));
+    assert!(rt; !are_same(&piece, &Piece::Part(cell, Path::top(alloc))));
     assert!(rt; piece.holds_fault());
     assert!(rt; piece.length() == None);
     Ok(())
@@ -103,7 +104,7 @@ fn rows_are_copied_whole(rt: HostRuntime) -> Result<(), Fail> {
     assert!(rt;
         same_value(
             cell.read(),
-            &assemble(alloc, &Piece::Part(cell.share()?, Place::top(alloc)))?
+            &assemble(alloc, &Piece::Part(cell.share()?, Path::top(alloc)))?
         )
     );
     Ok(())

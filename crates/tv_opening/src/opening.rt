@@ -16,6 +16,7 @@ ghost use Rattle.tv_opening.specs.Openings.{IsFedFrom, fixed_in, IsInput, is_num
 use std::alloc::Global;
 use tv_cell::{Cell, Piece};
 use tv_match::{Told, Tolds};
+use tv_path::Path;
 use tv_telling::tellings_of;
 use tv_value::{NoMemory, Place};
 use tv_wires::{NumberedFeed, NumberedLink, Port};
@@ -51,7 +52,7 @@ fn fixed_start(alloc: Global, leaf: u32, levels: u32, cell: &Cell) -> Result<Tol
     ensures { IfOk result (λ ts. AreTellings ts (λ s. value_told (leaf_name s leaf) levels [] (view cell.now))) }
 {
     let cell = cell.share()?;
-    let piece = Piece::Part(cell, Place::top(alloc));
+    let piece = Piece::Part(cell, Path::top(alloc));
     tellings_of(alloc, leaf, levels, None, &piece)
 }
 

@@ -6,7 +6,8 @@ use std::alloc::Global;
 use std::test::Fail;
 use tv_cell::{Cell, Piece};
 use tv_match::Told;
-use tv_value::{Items, NoMemory, Place, Sequence, Text, Value};
+use tv_path::Path;
+use tv_value::{Items, NoMemory, Sequence, Text, Value};
 use tv_wires::{NumberedFeed, NumberedLink, Port};
 
 /// A telling that is looked for: a value without a fault, or a list with its length.
@@ -64,7 +65,7 @@ fn port(feed: NumberedFeed, levels: u32) -> Port
 #[test]
 fn inputs_and_constants_are_told(rt: HostRuntime) -> Result<(), Fail> {
     let alloc = rt.alloc();
-    let inputs = [Piece::Part(pair(alloc)?, Place::top(alloc))];
+    let inputs = [Piece::Part(pair(alloc)?, Path::top(alloc))];
     let items: [(&[u32], Wanted); 3] = [
         (&[], Wanted::Close(2)),
         (&[0], Wanted::Arrival),
@@ -96,7 +97,7 @@ fn inputs_and_constants_are_told(rt: HostRuntime) -> Result<(), Fail> {
 #[test]
 fn a_merge_is_told_its_list_and_its_inputs(rt: HostRuntime) -> Result<(), Fail> {
     let alloc = rt.alloc();
-    let inputs = [Piece::Part(pair(alloc)?, Place::top(alloc))];
+    let inputs = [Piece::Part(pair(alloc)?, Path::top(alloc))];
     let links = vec![in alloc; NumberedLink::Output(3, 0), NumberedLink::Input(0)]?;
     let walked = port(NumberedFeed::Merge(Sequence::of(links)), 2);
     let told = port_start(alloc, &inputs, &walked, None)?;

@@ -8,6 +8,7 @@ use std::alloc::Global;
 use std::process::Abort;
 use std::test::Fail;
 use tv_cell::{Cell, Piece, Pieces, Row, assemble};
+use tv_path::Path;
 use tv_pool::{Pool, Region};
 use tv_value::{ErrorDoc, NoMemory, Place, Sequence, Text, Value};
 
@@ -15,7 +16,7 @@ fn whole(alloc: Global, value: Value) -> Result<Piece, NoMemory>
     ensures { IfOk result IsSound }
 {
     let cell = Cell::put(alloc, value)?;
-    Ok(Piece::Part(cell, Place::top(alloc)))
+    Ok(Piece::Part(cell, Path::top(alloc)))
 }
 
 fn text(alloc: Global, letters: &str) -> Result<Piece, NoMemory>

@@ -12,7 +12,8 @@ ghost use Rattle.tv_cell.specs.Soundness.{AreSound};
 use crate::values::values_of;
 use std::alloc::Global;
 use tv_cell::{Cell, Piece, Pieces, Row};
-use tv_value::{Depths, ErrorDoc, Items, JobName, JobNames, Name, NoMemory, Place, Text, Value};
+use tv_path::Path;
+use tv_value::{Depths, ErrorDoc, Items, JobName, JobNames, Name, NoMemory, Text, Value};
 
 /// The error document that a job makes, at each of its outputs with the declared depth. The outputs share one cell. Linear in
 /// the outputs.
@@ -38,7 +39,7 @@ fn fault_pieces(alloc: Global, cell: &Cell, outputs: &[(Name, u32)]) -> Result<P
 {
     let mut pieces = Vec::with_capacity(alloc, outputs.len())?;
     for output in outputs {
-        pieces.push(Piece::Fault(cell.share()?, Place::top(alloc), output.1))?;
+        pieces.push(Piece::Fault(cell.share()?, Path::top(alloc), output.1))?;
     }
     Ok(Row::of(pieces))
 }

@@ -6,7 +6,8 @@ ghost use Rattle.tv_cell.specs.Soundness.{AreSound, IsSound};
 
 use std::alloc::Global;
 use tv_cell::{Cell, Piece, Pieces, Row, assemble};
-use tv_value::{Copied, Items, NoMemory, Place, Value};
+use tv_path::Path;
+use tv_value::{Copied, Items, NoMemory, Value};
 
 /// A piece of its own for each of these values. Moves them into cells as they are: linear in their number.
 pub fn value_pieces(alloc: Global, values: Items) -> Result<Pieces, NoMemory>
@@ -33,7 +34,7 @@ fn own_piece(alloc: Global, value: Value) -> Result<Piece, NoMemory>
     ensures value { IfOk result (λ p. piece_value p ≡ view value) }
 {
     let cell = Cell::put(alloc, value)?;
-    Ok(Piece::Part(cell, Place::top(alloc)))
+    Ok(Piece::Part(cell, Path::top(alloc)))
 }
 
 /// A piece that stands for a copy of a value.

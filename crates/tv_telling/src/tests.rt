@@ -7,7 +7,8 @@ use std::alloc::Global;
 use std::test::Fail;
 use tv_cell::{Cell, Piece, Row};
 use tv_match::Told;
-use tv_value::{ErrorDoc, Items, NoMemory, Place, Sequence, Text, Value};
+use tv_path::Path;
+use tv_value::{ErrorDoc, Items, NoMemory, Sequence, Text, Value};
 
 /// A telling that is looked for: an arrival with whether it is a fault, a value that holds one, or a list with its length.
 #[derive(Clone, Copy, PartialEq, Eq)]
@@ -69,8 +70,8 @@ fn worked(alloc: Global) -> Result<Piece, NoMemory> {
     let inner = list(alloc, text(alloc, "a")?, text(alloc, "b")?)?;
     let cell = Cell::put(alloc, list(alloc, inner, fault(alloc, 7)?)?)?;
     let mut pieces = Vec::new(alloc);
-    pieces.push(Piece::Part(cell.share()?, Place::of(alloc, &[0])?))?;
-    pieces.push(Piece::Fault(cell, Place::of(alloc, &[1])?, 1))?;
+    pieces.push(Piece::Part(cell.share()?, Path::of(alloc, &[0])?))?;
+    pieces.push(Piece::Fault(cell, Path::of(alloc, &[1])?, 1))?;
     Ok(Piece::List(Row::of(pieces)))
 }
 

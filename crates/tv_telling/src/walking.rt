@@ -29,7 +29,7 @@ pub(crate) fn tell_piece(
         return tell_bound(alloc, leaf, place.as_slice(), piece.holds_fault(), tellings);
     }
     match piece {
-        Piece::Part(cell, start) => match cell.read().at(start) {
+        Piece::Part(cell, start) => match cell.at(start) {
             Some(value) => tell_value(alloc, leaf, levels, place, value, tellings),
             None => Ok(()),
         },

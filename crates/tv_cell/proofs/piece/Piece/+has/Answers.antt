@@ -10,7 +10,7 @@ use Rattle.tv_cell.proofs.piece.Piece.+has.Goals as goal
 
 pub returns-in-None : goal.returns-in-None
 returns-in-None t c =
-    let nothing = ap piece_value c.in-Part.is ∙ part-value c.in-Part.cell c.in-Part.start ∙ ap found_value (sym (c.in-None.ensures ∙ ap (λ v. at (view v) c.in-Part.start) c.read.ensures)) in
+    let nothing = ap piece_value c.in-Part.is ∙ part-value c.in-Part.cell c.in-Part.start ∙ ap found_value (sym c.in-None.ensures) in
     c.is_empty.ensures ∙ leaf-stands (piece_value c.args.self.now) (text []) c.args.place.now nothing
 
 pub returns-in-Some-thing_at : goal.returns-in-Some-thing_at
