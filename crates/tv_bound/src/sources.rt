@@ -12,7 +12,7 @@ use std::alloc::Global;
 use tv_cell::{Cell, Piece, Row};
 use tv_outputs::{Nodes, Outputs};
 use tv_path::Path;
-use tv_value::{NoMemory, Place};
+use tv_value::NoMemory;
 use tv_wires::{NumberedFeed, NumberedLink};
 
 /// Where the feeds of one instance's ports get their values.
