@@ -4,8 +4,10 @@
 //! - `telling`: how entries, tasks and states are said
 //! - `one_by_one`: what each call says, on worked boards
 //! - `orders`: outcomes accepted in any order, with the same line each time
+//! - `nested`: boards of nested flows
 //! - `elsewhere`: answers that were made for another board
 mod elsewhere;
+mod nested;
 mod one_by_one;
 mod orders;
 mod play;
