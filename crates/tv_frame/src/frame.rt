@@ -66,11 +66,12 @@ pub(crate) struct Ahead {
 }
 
 impl Frame {
-    /// The instance of a flow on its inputs, told nothing yet. Takes the flow's tables, which it shares. Known jobs are numbered
-    /// from 0 in the order in which they become known. An instance of a flow without steps has ended at once.
+    /// The instance of a flow on its inputs, told nothing yet. Takes the flow's tables, which it
+    /// shares. Known jobs are numbered from 0 in the order in which they become known. An instance of
+    /// a flow without steps has ended at once.
     ///
-    /// Its nodes stand in a region that is new in the pool. Linear in the flow, and in the inputs, which are looked through for
-    /// faults.
+    /// Its nodes stand in a region that is new in the pool. Linear in the flow, and in the inputs,
+    /// which are looked through for faults.
     pub fn start(
         alloc: Global,
         plan: &FlowPlan,

@@ -51,7 +51,8 @@ impl Model for FlowTables {
 }
 
 impl FlowTables {
-    /// The tables of a flow. Linear in the flow, in its strategies with a look-up for each leaf. The flow's constants are copied.
+    /// The tables of a flow. Linear in the flow, in its strategies with a look-up for each leaf.
+    /// The flow's constants are copied, each once.
     pub fn start(alloc: Global, plan: &FlowPlan) -> Result<FlowTables, NoMemory>
         ensures { IfOk result (λ t. AreTables (flow_view plan.now.flow) t) }
     {
@@ -60,8 +61,8 @@ impl FlowTables {
         Ok(FlowTables { inside })
     }
 
-    /// One more owner of the same tables. Takes no memory, and the cost is constant. It may be refused where the count of owners
-    /// is full.
+    /// One more owner of the same tables, which are not copied. Takes no memory, and the cost is
+    /// constant. It may be refused, where the count of owners is full.
     pub fn share(&self) -> Result<FlowTables, NoMemory>
         ensures { IfOk result (λ t. t ≡ self.now) }
     {

@@ -1,5 +1,5 @@
-//! What is looked up of the document: of each step of each flow the tries, and the flow that its jobs open; of each flow the tables
-//! that its instances share.
+//! What is looked up of the document: of each step of each flow the tries, and the flow that its
+//! jobs open; of each flow the tables that its instances share.
 ghost use Rattle.std.specs.Prelude.{◌≡◌, IfOk, Some, map};
 ghost use Rattle.tv_flow.specs.Flows.{Document};
 ghost use Rattle.tv_flow.specs.Views.{activity_view, flow_view, step_view};
@@ -111,8 +111,9 @@ fn look_of(alloc: Global, flows: &Flows, plan: &FlowPlan) -> Result<FlowLook, No
     })
 }
 
-/// What is looked up of each flow, in the order of the flows. Linear in the flows, with a look-up for each step that opens one, and
-/// one for each leaf of a strategy. The flows' constants are copied.
+/// What is looked up of each flow, in the order of the flows. Linear in the flows, with a look-up
+/// for each step that opens one, and one for each leaf of a strategy. The flows' constants are
+/// copied.
 pub(crate) fn looks_of(alloc: Global, run: &CheckedRun) -> Result<Vec<FlowLook>, NoMemory>
     ensures { IfOk result (λ ls. AreLooks (run_view run.now) ls.items) }
 {
