@@ -13,7 +13,7 @@ use Rattle.tv_entries.specs.Runs.{Run}
 use Rattle.tv_entries.specs.declared.ticket.Ticket.{Ticket}
 use Rattle.tv_entries.specs.declared.told.Accepted.{Accepted}
 use Rattle.tv_run.specs.Standing.{StandsOpen, StandsStill, run_of}
-use Rattle.tv_run.specs.Turns.{IsAsked, StaysAs}
+use Rattle.tv_run.specs.Turns.{IsAsked}
 use Rattle.tv_run.specs.declared.run.OpenRun.{OpenRun}
 use Rattle.tv_board.specs.Asked.{AsksAndAccepts, AsksOnceAtMost, IsSameOrCalled, call_for}
 use Rattle.tv_board.proofs.OfAnswers.{Accepts, Stays, stands-open}

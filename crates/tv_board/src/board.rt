@@ -68,7 +68,8 @@ fn told_or_back<V: Services>(
 }
 
 impl<V: Services> Board<V> {
-    /// A run of which nothing is done. Linear in the main flow, in the values given and in the jobs that are known then.
+    /// A run of which nothing is done. Linear in all flows with their constants, in the values given
+    /// and in the jobs that are known then.
     pub fn start(alloc: Global, run: CheckedRun) -> Result<Board<V>, NoMemory>
         ensures document { IfOk result (λ b. b.document ≡ run_view run) }
         ensures empty { IfOk result (λ b. b.entries ≡ []) }
@@ -110,9 +111,9 @@ impl<V: Services> Board<V> {
         self.run.is_lawful();
     }
 
-    /// Bounces a job that can be, or else closes a list or passes a fault that can be, or else ends an instance that can end, the
-    /// main one's end being the run's; or else opens the flow of the first job that goes on, where it has one next; `false` where
-    /// none of these can be.
+    /// Bounces a job that can be, or else closes a list or passes a fault that can be, or else ends
+    /// an instance that can end, the main one's end being the run's; or else opens the flow of the
+    /// first job that goes on, where it has one next; `false` where none of these can be.
     pub fn settle_one(&mut self) -> Result<bool, NoMemory>
         ensures settled { IfOk result (λ b. IsSettling V.gives self.old self.new b) }
         ensures refused { OnErr result (self.new ≡ self.old) }
@@ -223,7 +224,8 @@ impl<V: Services> Board<V> {
         self.run.outputs()
     }
 
-    /// How many nodes the pool keeps for the open instances: none once the run is done. Constant. Takes no memory.
+    /// How many nodes the pool keeps for the open instances: none once the run is done. Constant.
+    /// Takes no memory. Before the end only the run (`tv_run`) says how many.
     pub fn live(&self) -> u64
         ensures { is_done (past_of self.now) ≡ true → result ≡ 0 }
     {

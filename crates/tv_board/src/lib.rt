@@ -11,15 +11,17 @@
 //!
 //! - `history`, `is_done` are constant, `name_of` linear in the name, `outputs` linear in them
 //! - `task` is linear in what is asked; `ask` and `ask_alone` cost the one call that they make
-//! - `hand_out` and `settle_one` walk down to the first job that goes on, by the steps before it,
-//!   but for the first ones as long as no job of them waits, goes on or has its flow open: those are
-//!   looked at once more only where a job before them becomes known, comes back or opens its flow.
-//!   `settle_one` looks at the other steps of an instance in which something happened. Then they
-//!   cost what they change; a job that is bounced costs what it binds too, and an instance that is
-//!   opened a look at each step of its flow
-//! - `accept` compares the inputs, copies the outcome, and then costs what it changes: what its job gives, and what becomes known
-//!   with it
-//! - `ask_and_accept` costs the one call that it makes, what is asked and what changes: it compares nothing and copies no outcome
+//! - `hand_out` and `settle_one` walk down to the first job that goes on, by the steps before it;
+//!   `settle_one` looks at all steps of each instance in which something happened. Both leave out
+//!   the first steps of an instance that are passed, all jobs of which are out or settled: they are
+//!   so from when a job behind them is taken until one of theirs or before them becomes known,
+//!   comes back or opens its flow. Then the calls cost what they change; a job that is bounced
+//!   costs what it binds too, and an instance that is opened a look at each step of its flow, and
+//!   at its constants
+//! - `accept` compares the inputs, copies the outcome, and then costs what it changes: what its job
+//!   gives, and what becomes known with it
+//! - `ask_and_accept` costs the one call that it makes, what is asked and what changes: it compares
+//!   nothing and copies no outcome
 //! - `recall_all` is linear in the jobs that are known and in the steps, of the open instances; `totals` is linear in the history
 //!
 //! - `board`: the type and its calls

@@ -1,7 +1,7 @@
 -- One job after another sits down.
-use Rattle.std.specs.Prelude.{◌≡◌, refl, ℕ, ◌+◌, ◌-◌, ◌<◌, ◌≤◌, [], ◌∷◌, ◌++◌, Some, drop, length, map, slice_get}
+use Rattle.std.specs.Prelude.{◌≡◌, refl, ℕ, ◌+◌, ◌-◌, ◌<◌, [], ◌∷◌, ◌++◌, Some, drop, length, map, slice_get}
 use Rattle.std.proofs.Common.{sym, ap, subst, ◌∙◌, arith}
-use Rattle.std.proofs.lemmas.List.{append-nil, append_assoc, drop_all, length-append, map-append}
+use Rattle.std.proofs.lemmas.List.{append_assoc, length-append, map-append}
 use Rattle.std.proofs.lemmas.Option.{slice_get_within}
 use Rattle.tv_value.specs.Nested.{Place}
 use Rattle.tv_intake.specs.Intaken.{known_jobs}
@@ -10,7 +10,7 @@ use Rattle.tv_frame.specs.declared.frame.Frame.{Frame}
 use Rattle.tv_frame.proofs.OfIdling.{stands}
 use Rattle.tv_seats.specs.Seats.{IsFree, Seat, Seated, levels_of}
 use Rattle.tv_seated.proofs.OfLists.{get-image, in-front}
-use Rattle.tv_open.specs.Seating.{AllSit, CanSit, seat_for, unseated}
+use Rattle.tv_open.specs.Seating.{CanSit, seat_for, unseated}
 use Rattle.tv_open.specs.Standing.{job_of}
 
 -- so many sit, and with the others they are those that are to sit
@@ -88,16 +88,3 @@ next-sitting f x y z number s low seats levels room back =
       back_rooms = back ∙ s.back_rooms;
       seats = same-all f y s.can z j.0 there own levels room ∙ s.seats;
     }
-
--- at last all sit
-pub last-sitting : (f : Frame) (x y : Seated) (number : ℕ) → AreSitting f x y number → length (known_jobs f.intakes) ≤ number
-    → AllSit f x y
-last-sitting f x y number s past = record {
-  seats =
-      sym (append-nil y.seats)
-      ∙ ap (λ l. y.seats ++ map seat_for l) (sym (drop_all (length y.seats) (known_jobs f.intakes)
-      (subst (λ n. length (known_jobs f.intakes) ≤ n) s.many past)))
-      ∙ s.seats;
-  levels = s.levels;
-  back_rooms = s.back_rooms;
-}

@@ -1,5 +1,4 @@
 -- A job that waits, and is ready, is taken.
-use Rattle.std.specs.Option.{option_map_or}
 use Rattle.std.specs.Prelude.{◌≡◌, ◌<◌, ◌≤◌, ◌⊎◌, refl, ℕ, true, false, List, [], Some, length, map, slice_get}
 use Rattle.std.proofs.Common.{arith, sym, ap, subst, ◌∙◌}
 use Rattle.std.proofs.lemmas.Bool.{true≢false}
@@ -17,7 +16,7 @@ use Rattle.tv_framing.specs.Views.{View}
 use Rattle.tv_frame.specs.declared.frame.Frame.{Frame}
 use Rattle.tv_frame.specs.Kept.{Keeps}
 use Rattle.tv_frame.specs.Tables.{levels_in}
-use Rattle.tv_seats.specs.Seats.{Seat, Seated, stage_at, step_at, with_stage}
+use Rattle.tv_seats.specs.Seats.{Seat, Seated, step_at, with_stage}
 use Rattle.tv_seats.specs.Firsts.{MayGoOut, MayNest}
 use Rattle.tv_seats.specs.Stages.{is_waiting}
 use Rattle.tv_seats.proofs.Keeping.{stands-there}
@@ -31,7 +30,7 @@ use Rattle.tv_open.specs.Turns.{turn_of}
 use Rattle.tv_open.specs.declared.turns.Turns.{Turns}
 use Rattle.tv_open.specs.declared.open.Open.{Open}
 use Rattle.tv_open.proofs.OfQuiet.{begun-then, of-same, of-staged, still-quiet}
-use Rattle.tv_open.proofs.OfSeats.{staged-jobs, waits-as}
+use Rattle.tv_open.proofs.OfSeats.{staged-jobs}
 use Rattle.tv_open.proofs.OfSitting.{goes-on_alone, known-alone}
 
 module _ (d : Document) (plan : FlowPlan) (pool : Nodes) (o : Open) (v : View) (io : IsOpen d plan pool o v) (n : ℕ)
@@ -70,17 +69,6 @@ module _ (d : Document) (plan : FlowPlan) (pool : Nodes) (o : Open) (v : View) (
           (goes-on_alone d plan pool o v io pool f then (took spot.0 spot.1) 0 comes k o.seats refl refl);
       went_on = λ t e w. absurd (true≢false (sym (one-seat (λ u. is_waiting u.stage ≡ true) t e waits) ∙ w));
     }
-
--- ---- one that doesn't
-
-pub told-nothing : (d : Document) (plan : FlowPlan) (pool : Nodes) (o : Open) (v : View) → IsOpen d plan pool o v
-    → (n : ℕ) → option_map_or is_waiting (stage_at o.seats.seats n) false ≡ false → IsToldTaken d plan pool o o v n
-told-nothing d plan pool o v io n rests = record {
-  view = v;
-  is_open = io;
-  waited = λ t e w. absurd (true≢false (sym w ∙ sym (waits-as o.seats.seats n t e) ∙ rests));
-  went_on = λ t e w. refl;
-}
 
 -- ---- then its seat moves
 

@@ -24,13 +24,6 @@ pub record AreFilled (order ps : List ℕ) (steps from : ℕ) : Type 0 where
       (i k : ℕ) → from ≤ i → slice_get order i ≡ Some k
       → (slice_get order (turn_of ps k) ≡ Some k) × (turn_of ps k ≤ i)
 
-pub none-filled : (order ps : List ℕ) (steps from : ℕ) → length ps ≡ steps → length order ≤ from
-    → AreFilled order ps steps from
-none-filled order ps steps from long all = record {
-  long = long;
-  filled = λ i k l e. let w = slice_get_within order i k e in absurd (omega (arith, l, w, all));
-}
-
 module _ (order ps : List ℕ) (steps from at k : ℕ) (there : slice_get order at ≡ Some k) (low : k < steps)
     (f : AreFilled order ps steps from) (is : from ≡ at + 1) where
   here : turn_of (set ps k at) k ≡ at

@@ -38,7 +38,7 @@ pub record AreQuiet (v : View) (ss : List Seat) (ps : List ℕ) (from : ℕ) : T
       (n : ℕ) (s : Seat) → slice_get ss n ≡ Some s → turn_of ps s.step < from
       → IsQuietSeat v s
 
--- those are the steps by falling rank, without quiet ones in front
+-- those are the steps by falling rank, but for some quiet ones in front
 pub record AreGoing (v : View) (ss : List Seat) (ks : List ℕ) : Type 0 where
   pub passed : List ℕ
   pub in_order : passed ++ ks ≡ by_falling_rank v.flow

@@ -31,8 +31,8 @@ impl Seeking {
 }
 
 impl Open {
-    /// The first job that can be bounced, in job order. Linear in the steps before it that aren't
-    /// passed.
+    /// The first job that can be bounced, in job order. Linear in the steps that aren't passed, up
+    /// to its own.
     pub fn first_to_bounce(&self, plan: &FlowPlan, pool: &Nodes) -> Option<u64>
         requires { (d : Document) × (v : View) × IsOpen d plan.now pool.now self.now v }
         ensures { (d : Document) (v : View) → IsOpen d plan.now pool.now self.now v

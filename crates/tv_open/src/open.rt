@@ -132,8 +132,9 @@ fn seated(
 
 impl Open {
     /// The instance of a plan's flow on its inputs, told nothing, in a region that is new in the
-    /// pool. Takes the flow's tables, which it shares. Linear in the flow, and in the inputs, which
-    /// are looked through for faults. A refusal leaves the pool's regions as they were.
+    /// pool. Takes the flow's tables, which it shares. Linear in the flow with its constants, and
+    /// in the inputs: both are looked through for faults. A refusal leaves the pool's regions as
+    /// they were.
     pub fn start(
         alloc: Global,
         plan: &FlowPlan,

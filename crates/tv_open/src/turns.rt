@@ -16,9 +16,9 @@ use tv_value::NoMemory;
 /// passed: those are quiet.
 ///
 /// A step is quiet as long as each of its jobs is out or has its result: none goes on, and none can
-/// be bounced. A step that is taken in isn't passed any more, nor are those behind it, which are
-/// passed anew with a look at each. In a chain of which the jobs are taken in order that is one step
-/// for each job.
+/// be bounced. A step that is taken in isn't passed any more, nor are those behind it, until a job
+/// behind them is taken. In a chain whose jobs are taken in order one step is passed anew for each
+/// job at the most.
 #[derive(Drop)]
 pub(crate) struct Turns {
     // For each step its position in the order.
@@ -70,8 +70,8 @@ impl Turns {
 }
 
 impl Open {
-    /// The steps of its flow by number, that of the greatest rank first, without quiet ones in front.
-    /// Constant.
+    /// The steps of its flow by number, that of the greatest rank first, without those that are
+    /// passed. Constant.
     pub fn going(&self) -> &[u32]
         requires { IsSome self.now }
         ensures { (d : Document) (plan : ThePlan) (pool : TheNodes) (v : View)
@@ -81,7 +81,7 @@ impl Open {
         going
     }
 
-    /// Passes the steps in front that are quiet, as far as this one. Linear in those that it passes.
+    /// Passes the steps in front that are quiet, up to this one. Linear in those that it passes.
     pub(crate) fn pass_quiet(&mut self, step: u32)
         requires { IsSome self.old }
         ensures open { (d : Document) (plan : ThePlan) (pool : TheNodes) (v : View)

@@ -14,7 +14,7 @@ use Rattle.tv_frame.proofs.OfHoldAround.{within-get}
 use Rattle.tv_beside.proofs.OfTheirs as beside
 use Rattle.tv_seats.specs.Stages.{is_nested}
 use Rattle.tv_seats.specs.declared.stage.Stage.TheVariants as stage
-use Rattle.tv_forest.specs.Forest.{Instance, Instances, IsAt, IsOpened, Stand, Stays}
+use Rattle.tv_forest.specs.Forest.{Instance, Instances, IsAt, IsOpened, Stays}
 use Rattle.tv_open.specs.declared.open.Open.{Open}
 use Rattle.tv_entries.specs.Runs.{past_of}
 use Rattle.tv_run.specs.Standing.{IsLife, Stands, StandsStill, frame_at, run_of}

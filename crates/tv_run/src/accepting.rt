@@ -142,8 +142,8 @@ impl OpenRun {
         self.accept_own(ticket, own)
     }
 
-    /// Accepts an outcome of a try that is out, by the judgment of it. The values that it gives are moved
-    /// and not copied. After `Err` they are gone.
+    /// Accepts an outcome of a try that is out, by the judgment of it. Its values are moved, not
+    /// copied. After `Err` the outcome is gone.
     pub fn accept_own(&mut self, ticket: Ticket, outcome: Outcome) -> Result<Accepted, NoMemory>
         requires { (gives : Giving) × (q : Question) × StandsOpen gives self.old
             × IsAsked gives self.old ticket q (outcome_view outcome) }

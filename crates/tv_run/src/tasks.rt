@@ -56,7 +56,7 @@ impl OpenRun {
         })
     }
 
-    /// The service that a ticket's try asks, which is out. Takes no memory.
+    /// The service that the try of a ticket asks, where that is out. Takes no memory.
     pub fn asked_service(&self, ticket: Ticket) -> &Name
         requires { (gives : Giving) × StandsStill gives self.now
             × (is_some (try_if_out gives (run_of self.now) ticket) ≡ true) }
@@ -67,7 +67,7 @@ impl OpenRun {
         service_of(&step.activities.as_slice()[ticket.activity as usize])
     }
 
-    /// The values that a ticket's try asks it for, which is out. Linear in them.
+    /// The values that the try of a ticket gives to its service, where that is out. Linear in them.
     pub fn asked_inputs(&self, ticket: Ticket) -> Result<Items, NoMemory>
         requires { (gives : Giving) × StandsStill gives self.now
             × (is_some (try_if_out gives (run_of self.now) ticket) ≡ true) }

@@ -14,6 +14,7 @@ use Rattle.tv_entries.specs.declared.ticket.Ticket.{Ticket}
 use Rattle.tv_history.specs.Alone.{IsFirstPart}
 
 -- a call with its answer, which is None where it was refused or found no memory, and where nothing was handed out
+-- ask_and_accept is the acceptance of what it asked, with what the service gives
 pub data Call : Type 0 where
   settle_one : Option Bool → Call
   hand_out : Option Ticket → Call

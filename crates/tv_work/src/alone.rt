@@ -21,8 +21,8 @@ use tv_value::NoMemory;
 /// try is handed out only where nothing can be settled and none is out, and none is taken back. So from a board that has only
 /// settled things it asks, and accepts, in the order of one worker: the whole of it, or after `Err` a beginning. The cost is that
 /// of the board's calls and of the asker's: of the former some for each job, list and passed fault,
-/// each with a look at the steps of its instance, but for the first ones as long as no job of them
-/// waits, goes on or has its flow open, and at those once more where a job before them becomes known.
+/// each with a look at the steps of its instance and of those around it, less the first ones that
+/// are passed (`tv_board`).
 pub fn run_alone<V: Services, A: Asker<Services = V>>(
     alloc: Global,
     board: &mut Board<V>,
@@ -93,7 +93,8 @@ fn settle<V: Services>(board: &mut Board<V>) -> Result<bool, NoMemory>
     board.settle_one()
 }
 
-/// Asks for a try that was just handed out, and has the outcome accepted: the board never refuses it.
+/// Asks for a try that was just handed out, and has the outcome accepted. Want of memory is the one
+/// refusal.
 fn ask_for<V: Services, A: Asker<Services = V>>(
     alloc: Global,
     board: &mut Board<V>,
