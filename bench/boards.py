@@ -20,14 +20,12 @@ which says what that wants.
 """
 import argparse
 import collections
-import concurrent.futures
 import glob
 import json
 import os
 import random
 import subprocess
 import sys
-import tempfile
 
 HERE = os.path.dirname(os.path.abspath(__file__))
 PARTS = os.path.join(HERE, "boards")
@@ -35,6 +33,7 @@ sys.path[:0] = [PARTS, os.path.join(HERE, "frames")]
 
 import building  # noqa: E402
 import nests  # noqa: E402
+import trials  # noqa: E402
 from replay import replayed  # noqa: E402
 
 TOGETHER = 20
@@ -101,25 +100,12 @@ def refused(program, case):
     return counts, differences
 
 
-def work(does, program, pieces, workers):
-    """Does this with each piece, and prints what was counted and what differs."""
-    counts, differences = collections.Counter(), []
-    with concurrent.futures.ProcessPoolExecutor(workers) as pool:
-        for more, others in pool.map(does, [program] * len(pieces), pieces):
-            counts += more
-            differences += others
-    for case, why in differences[:5]:
-        print(f"{why}\n{json.dumps(case)}")
-    print(", ".join(f"{count} {name}" for name, count in counts.items()) + f", {len(differences)} differences", flush=True)
-    return not differences
-
-
 def command(words, program):
     draws = random.Random(words.seed)
     if words.command == "trial":
         cases = nests.cases(draws, words.orders, words.count)
-        return work(tried, program, [cases[at : at + TOGETHER] for at in range(0, len(cases), TOGETHER)], words.workers)
-    return work(refused, program, nests.cases(draws, 1, 4), words.workers)
+        return trials.work(tried, program, [cases[at : at + TOGETHER] for at in range(0, len(cases), TOGETHER)], words.workers)
+    return trials.work(refused, program, nests.cases(draws, 1, 4), words.workers)
 
 
 def main():
@@ -128,14 +114,9 @@ def main():
     reader.add_argument("--orders", type=int, default=100)
     reader.add_argument("--count", type=int, default=500)
     reader.add_argument("--seed", type=int, default=1)
-    reader.add_argument("--workers", type=int, default=2)
-    reader.add_argument("--keep")
-    words = reader.parse_args()
-    with tempfile.TemporaryDirectory() as folder:
-        if words.keep:
-            folder = words.keep
-            os.makedirs(folder, exist_ok=True)
-        sys.exit(0 if command(words, building.built(os.path.abspath(folder), NAME, makes)) else 1)
+    words = trials.words(reader)
+    with trials.folder(words.keep) as folder:
+        sys.exit(0 if command(words, building.built(folder, NAME, makes)) else 1)
 
 
 if __name__ == "__main__":

@@ -16,13 +16,13 @@ import concurrent.futures
 import os
 import runpy
 import sys
-import tempfile
 
 HERE = os.path.dirname(os.path.abspath(__file__))
 TOP = os.path.dirname(HERE)
 sys.path.insert(0, HERE)
 
 import building  # noqa: E402
+import trials  # noqa: E402
 
 NAME = "tv_main"
 ROWS = [
@@ -66,14 +66,9 @@ def refused(program, row):
 def main():
     reader = argparse.ArgumentParser(description=__doc__, formatter_class=argparse.RawDescriptionHelpFormatter)
     reader.add_argument("rows", nargs="*", metavar="ROW")
-    reader.add_argument("--workers", type=int, default=2)
-    reader.add_argument("--keep")
-    words = reader.parse_args()
-    with tempfile.TemporaryDirectory() as folder:
-        if words.keep:
-            folder = words.keep
-            os.makedirs(folder, exist_ok=True)
-        program = building.built(os.path.abspath(folder), NAME, building.crates)
+    words = trials.words(reader)
+    with trials.folder(words.keep) as folder:
+        program = building.built(folder, NAME, building.crates)
         found = list(rows(words.rows))
         failed = 0
         with concurrent.futures.ThreadPoolExecutor(words.workers) as pool:

@@ -1,6 +1,6 @@
 """Documents with nested flows: worked ones, one for each feature, and random ones."""
 from flows import TEXTS, Maker
-from model import least_depth, tree_depth
+from model import least_depth
 
 X = {"input": "x"}
 Y = {"input": "y"}
@@ -141,14 +141,7 @@ class Nesting(Maker):
         step = {"inputs": inputs, "outputs": depths, "activities": tried, "jobs": self.random.choice([1, 2, 2, 3])}
         if self.random.random() < 0.3:
             step["retries"] = self.random.randint(1, 2)
-        if inputs and self.random.random() < 0.5:
-            step["strategy"] = self.tree(self.random.sample(sorted(inputs), len(inputs)), mismatch)
-        earlier = sorted(self.flow["steps"])
-        if earlier and self.random.random() < 0.35:
-            step["after"] = self.random.sample(earlier, self.random.randint(1, min(2, len(earlier))))
-        self.flow["steps"][name] = step
-        levels = tree_depth(step["strategy"], mismatch) if "strategy" in step else sum(mismatch.values())
-        self.sources += [({"step": name, "port": port}, more + levels) for port, more in depths.items()]
+        self.put(name, step, mismatch, 0.5)
 
     def full(self, depth):
         """A value of just this depth."""

@@ -109,8 +109,13 @@ class Maker:
             step["activities"].append({"service": self.random.choice(["echo", "upper", "count", "fail_if"])})
         if self.random.random() < 0.3:
             step["retries"] = self.random.randint(1, 3)
-        if inputs and self.random.random() < 0.6:
-            step["strategy"] = self.tree(self.random.sample(sorted(inputs), len(inputs)), mismatch)
+        self.put(name, step, mismatch, 0.6)
+
+    def put(self, name, step, mismatch, often):
+        """The step, with a strategy so often where it has ports, and at times after others."""
+        inputs = sorted(step["inputs"])
+        if inputs and self.random.random() < often:
+            step["strategy"] = self.tree(self.random.sample(inputs, len(inputs)), mismatch)
         earlier = sorted(self.flow["steps"])
         if earlier and self.random.random() < 0.35:
             step["after"] = self.random.sample(earlier, self.random.randint(1, min(2, len(earlier))))
