@@ -31,7 +31,7 @@ class Compared:
         flow = case["document"]["flows"]["m"]
         self.names = sorted(flow["steps"])
         self.jobs, self.bound = [], []
-        self.events = self.closed = self.passed = self.comparisons = 0
+        self.events = self.closed = self.passed = self.ahead = self.comparisons = 0
         values = case.get("given") or [case["document"]["inputs"][name] for name in sorted(flow["inputs"])]
         inputs = dict(zip(sorted(flow["inputs"]), map(given, values)))
         self.told = Told(Instance(flow, inputs, self.results()))
@@ -42,8 +42,8 @@ class Compared:
         for line in self.lines:
             if "known" in line:
                 jobs = line["known"]
-            elif "gave" in line:
-                step, place = jobs[line["gave"]][:2]
+            elif "gave" in line or "bounced" in line:
+                step, place = jobs[line["gave" if "gave" in line else "bounced"]][:2]
                 results[self.names[step], tuple(place)] = line["values"]
         return results
 
@@ -79,6 +79,14 @@ class Compared:
             same("a running job ends", job in told.taken and ("job", *job) not in told.happened, True)
             if told.holds_error(job) and not self.case.get("made") and not self.is_scripted(job):
                 self.bounced(job, line["values"])
+            told.happened.add(("job", *job))
+        elif "bounced" in line:
+            job = self.jobs[line["bounced"]]
+            same("a ready job is bounced", job in told.ready() and told.holds_error(job), True)
+            if not self.case.get("made"):
+                self.bounced(job, line["values"])
+            self.ahead += 1
+            told.taken.add(job)
             told.happened.add(("job", *job))
         else:
             kind = "closed" if "closed" in line else "passed"

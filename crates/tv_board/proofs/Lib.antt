@@ -2,3 +2,4 @@ mod OfGiven
 mod OfCalls
 mod OfAnswers
 mod OfAsking
+mod OfTraced

@@ -34,8 +34,8 @@ use tv_value::{JobName, Name, NoMemory, Sequence, Value};
 /// A run: a document with the history of what was done for it.
 #[derive(Drop)]
 pub struct Board<V: Services> {
-    run: OpenRun,
-    services: PhantomData<V>,
+    pub(crate) run: OpenRun,
+    pub(crate) services: PhantomData<V>,
 }
 
 impl<V: Services> Model for Board<V> {

@@ -26,13 +26,16 @@
 //!
 //! - `board`: the type and its calls
 //! - `answer`, `refused`: what is asked for a task, and answers that are given back
+//! - `traced`: what the jobs of a run that is done used
 #![tactic(auto)]
 
 mod answer;
 mod board;
 mod refused;
+mod traced;
 
 pub use answer::{Answer, ask, ask_alone};
 pub use board::Board;
 pub use refused::Refused;
+pub use traced::Traced;
 pub use tv_entries::{Accepted, Entry, JobState, Task, TaskFault, Ticket};

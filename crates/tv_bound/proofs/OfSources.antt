@@ -94,19 +94,22 @@ pub found-all : (os : List (Option Value)) (vs : List Value) → map Some vs ≡
 found-all os vs e = ap all_found (sym e) ∙ all-of vs
 
 -- one more
-pub found-more : (os : List (Option Value)) (ps more : List Piece) (p : Piece) (i : ℕ) → map Some (piece_values ps) ≡ take i os → more ≡ ps ++ p ∷ [] → i < length os → slice_index_or os i None ≡ Some (piece_value p) → map Some (piece_values more) ≡ take (i + 1) os
-found-more os ps more p i h m lt e =
-    ap (λ xs. map Some (piece_values xs)) m
-    ∙ twice ps
-    ∙ ap (λ us. us ++ Some (piece_value p) ∷ []) h
-    ∙ sym (take-more os i (Some (piece_value p)) lt e)
+pub one-more : {X : Type 0} (g : X → Value) (os : List (Option Value)) (xs more : List X) (x : X) (i : ℕ) → map Some (map g xs) ≡ take i os → more ≡ xs ++ x ∷ [] → i < length os → slice_index_or os i None ≡ Some (g x) → map Some (map g more) ≡ take (i + 1) os
+one-more g os xs more x i h m lt e =
+    ap (λ ys. map Some (map g ys)) m
+    ∙ twice xs
+    ∙ ap (λ us. us ++ Some (g x) ∷ []) h
+    ∙ sym (take-more os i (Some (g x)) lt e)
   where
-    twice : (ps : List Piece) → map Some (piece_values (ps ++ p ∷ [])) ≡ map Some (piece_values ps) ++ Some (piece_value p) ∷ []
+    twice : (ys : List _) → map Some (map g (ys ++ x ∷ [])) ≡ map Some (map g ys) ++ Some (g x) ∷ []
     twice [] = refl
-    twice (r ∷ ps) = ap (λ us. Some (piece_value r) ∷ us) (twice ps)
+    twice (y ∷ ys) = ap (λ us. Some (g y) ∷ us) (twice ys)
 
     take-more : (os : List (Option Value)) (i : ℕ) (o : Option Value) → i < length os → slice_index_or os i None ≡ o → take (i + 1) os ≡ take i os ++ o ∷ []
     take-more os i o lt e = take_more os i None lt ∙ ap (λ x. take i os ++ x ∷ []) e
+
+pub found-more : (os : List (Option Value)) (ps more : List Piece) (p : Piece) (i : ℕ) → map Some (piece_values ps) ≡ take i os → more ≡ ps ++ p ∷ [] → i < length os → slice_index_or os i None ≡ Some (piece_value p) → map Some (piece_values more) ≡ take (i + 1) os
+found-more = one-more piece_value
 
 -- ---- lists by index
 
@@ -139,6 +142,12 @@ module _ {A : Type 0} (f : ℕ × A → Option Value) (xs : List A) where
 
   pub numbered-found : (i : ℕ) (x : A) → is_some (all_found (map f (numbered 0 xs))) ≡ true → i < length xs → x ≡ get_or xs i x → is_some (f (i, x)) ≡ true
   numbered-found i x h lt e = sym (ap is_some (at-number i x lt e)) ∙ each-found (map f (numbered 0 xs)) i h (subst (λ n. i < n) (sym many) lt)
+
+  pub values-more : {X : Type 0} (g : X → Value) (ys more : List X) (y : X) (i : ℕ) (x : A) → map Some (map g ys) ≡ take i (map f (numbered 0 xs)) → more ≡ ys ++ y ∷ [] → i < length xs → x ≡ get_or xs i x → f (i, x) ≡ Some (g y) → map Some (map g more) ≡ take (i + 1) (map f (numbered 0 xs))
+  values-more g ys more y i x h m lt e v = one-more g (map f (numbered 0 xs)) ys more y i h m (subst (λ n. i < n) (sym many) lt) (at-number i x lt e ∙ v)
+
+  pub values-all : (vs : List Value) (i : ℕ) → map Some vs ≡ take i (map f (numbered 0 xs)) → length xs ≤ i → all_found (map f (numbered 0 xs)) ≡ Some vs
+  values-all vs i h le = found-all (map f (numbered 0 xs)) vs (h ∙ take_all i (map f (numbered 0 xs)) (subst (λ n. n ≤ i) (sym many) le))
 
   pub numbered-more : (ps more : List Piece) (p : Piece) (i : ℕ) (x : A) → map Some (piece_values ps) ≡ take i (map f (numbered 0 xs)) → more ≡ ps ++ p ∷ [] → i < length xs → x ≡ get_or xs i x → f (i, x) ≡ Some (piece_value p) → map Some (piece_values more) ≡ take (i + 1) (map f (numbered 0 xs))
   numbered-more ps more p i x h m lt e v = found-more (map f (numbered 0 xs)) ps more p i h m (subst (λ n. i < n) (sym many) lt) (at-number i x lt e ∙ v)

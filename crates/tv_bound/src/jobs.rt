@@ -76,7 +76,7 @@ pub(crate) fn part_of(place: &[u32], start: usize, levels: usize) -> &[u32]
 }
 
 /// The piece that a port binds, where that is its part of the job's place.
-fn port_piece(
+pub(crate) fn port_piece(
     alloc: Global,
     sources: &Sources<'_>,
     constants: &Constants,

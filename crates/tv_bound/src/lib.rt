@@ -20,6 +20,7 @@
 //! - `jobs`: what jobs bind, and the outputs of a flow
 //! - `over`: the outputs of a flow with its last event
 //! - `same`: whether what a job binds is what is given
+//! - `values`: what jobs bind, as values
 //! - `wrapping`: one-item lists
 //! - `laws`: what is found is what is delivered
 #![tactic(auto)]
@@ -32,6 +33,7 @@ mod same;
 mod sources;
 #[cfg(test)]
 mod tests;
+mod values;
 mod wrapping;
 
 pub use constants::Constants;
@@ -39,4 +41,5 @@ pub use jobs::{StepPorts, flow_outputs, job_inputs};
 pub use over::{Brought, Over, flow_outputs_over};
 pub use same::job_binds;
 pub use sources::{Sources, feed_piece};
+pub use values::job_values;
 pub use wrapping::wrap;

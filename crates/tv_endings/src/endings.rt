@@ -21,23 +21,63 @@ pub struct Endings {
     fresh: Vec<u32>,
 }
 
+/// So many marks, of which none is set, in the memory of others.
+fn unmarked(mut marks: Vec<bool>, count: usize) -> Result<Vec<bool>, NoMemory>
+    ensures { IfOk result (λ v. v.items ≡ replicate count false) }
+{
+    marks.clear();
+    marks.resize(count, false)?;
+    Ok(marks)
+}
+
 impl Endings {
+    /// Of no step. Takes no memory.
+    pub fn new(alloc: Global) -> Endings {
+        Endings {
+            left: Vec::new(alloc),
+            whole: Vec::new(alloc),
+            ended: Vec::new(alloc),
+            growing: 0,
+            fresh: Vec::new(alloc),
+        }
+    }
+
     /// No step is whole, so none has ended. Takes for each step the steps that it runs after. Linear in the steps.
     pub fn start(alloc: Global, after: &[Numbers]) -> Result<Endings, NoMemory>
         ensures sound { IfOk result (λ e. IsSound after.now e) }
         ensures whole { IfOk result (λ e. e.whole.items ≡ replicate (length after.now) false) }
     {
+        Endings::new(alloc).started(after)
+    }
+
+    /// The same in the memory of others, which are no more.
+    pub fn started(self, after: &[Numbers]) -> Result<Endings, NoMemory>
+        ensures sound { IfOk result (λ e. IsSound after.now e) }
+        ensures whole { IfOk result (λ e. e.whole.items ≡ replicate (length after.now) false) }
+    {
+        let Endings {
+            mut left,
+            whole,
+            ended,
+            mut fresh,
+            ..
+        } = self;
         let count = after.len();
-        let mut left = Vec::with_capacity(alloc, count)?;
+        left.clear();
+        left.reserve(count)?;
         for numbers in after {
             left.push(numbers.as_slice().len())?;
         }
+        let whole = unmarked(whole, count)?;
+        let ended = unmarked(ended, count)?;
+        fresh.clear();
+        fresh.reserve(count)?;
         Ok(Endings {
             left,
-            whole: vec![in alloc; false; count]?,
-            ended: vec![in alloc; false; count]?,
+            whole,
+            ended,
             growing: count,
-            fresh: Vec::with_capacity(alloc, count)?,
+            fresh,
         })
     }
 

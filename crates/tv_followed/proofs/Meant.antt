@@ -1,5 +1,5 @@
 -- The lineage of every meaning, by the records of its jobs.
-use Rattle.std.specs.Prelude.{◌≡◌, refl, ℕ, zero, suc, List, [], ◌∷◌, ◌++◌, map, flat_map, filter, filter_map, Bool, true, false, cond, Option, Some, None, option_and_then, if◌then◌else◌}
+use Rattle.std.specs.Prelude.{◌↔◌, ◌≡◌, refl, ℕ, zero, suc, List, [], ◌∷◌, ◌++◌, map, flat_map, filter, filter_map, Bool, true, false, cond, Option, Some, None, option_and_then, if◌then◌else◌}
 use Rattle.std.specs.List.{list_any, cons_option}
 use Rattle.std.specs.Option.{option_map_or}
 use Rattle.std.proofs.Common.{sym, ap, subst, ◌∙◌, inl, inr}
@@ -10,7 +10,8 @@ use Rattle.tv_flow.specs.Flows.{Flow, Feed}
 use Rattle.tv_gate.specs.Outcomes.{Giving}
 use Rattle.tv_lineage.specs.Members.{In, HaveSame}
 use Rattle.tv_lineage.specs.Touching.{touches, Label}
-use Rattle.tv_lineage.specs.Lineages.{Record, Leaf, backward, forward, leaf_label}
+use Rattle.tv_lineage.specs.Lineages.{IsReached, Record, Leaf, backward, forward, leaf_label}
+use Rattle.tv_lineage.proofs.OfLaws.{backward-closure}
 use Rattle.tv_strategy.specs.Origins.{Mark, given, made, Origin, Traced}
 use Rattle.tv_strategy.specs.Sources.{Each, AtNodes, AtAllNodes}
 use Rattle.tv_strategy.proofs.OfSources.{each-append}
@@ -18,7 +19,7 @@ use Rattle.tv_depths.specs.Ranks.{ranked}
 use Rattle.tv_model.specs.Jobs.{Job}
 use Rattle.tv_model.specs.Lineages as model
 use Rattle.tv_model.specs.Made.{Meaning, Opened, Made, feed_value}
-use Rattle.tv_model.specs.Meanings.{jobs_with_inside, instance_meaning, no_meaning, flow_meaning, nesting_limit}
+use Rattle.tv_model.specs.Meanings.{meaning, jobs_with_inside, instance_meaning, no_meaning, flow_meaning, nesting_limit}
 use Rattle.tv_model.specs.Earlier.{job_list}
 use Rattle.tv_model.specs.Instances.{given_of}
 use Rattle.tv_model.proofs.Fed.{either, named_map_or, each-all, feed-has}
@@ -29,7 +30,7 @@ use Rattle.tv_model.proofs.Order.{in-right, in-map, of-map}
 use Rattle.tv_model.proofs.Kept.{InsideIs}
 use Rattle.tv_model.proofs.Whole.{IsWhole, flow-whole, one-whole, AnyNumber}
 use Rattle.tv_followed.specs.Recorded.{leaf_of, leaves, marks_of, output_at, record_of, records}
-use Rattle.tv_followed.specs.Stated.{AreRecords, BackwardIsLineage, ForwardIsForward}
+use Rattle.tv_followed.specs.Stated.{AreRecords, BackwardIsLineage, ForwardIsForward, LineageIsReached}
 use Rattle.tv_followed.proofs.Marked.{HasMark, IsSoFar, UseEarlier, AreMarked, used-have, steps-marked, given-marked}
 use Rattle.tv_followed.proofs.Followed.{AreOnly, IsOf, UseLater, only-of, recorded, backward-labels}
 
@@ -264,3 +265,14 @@ meaning-backward gives d rs f = (flow-followed gives d.flows nesting_limit d.mai
 
 pub meaning-forward : ForwardIsForward
 meaning-forward gives d rs f = (flow-followed gives d.flows nesting_limit d.main d.inputs rs f).1
+
+-- the lineage is the closure, since `backward` is
+pub meaning-reached : LineageIsReached
+meaning-reached gives d p q v there l =
+    subst (λ ls. In l ls ↔ IsReached rs (marks_of v) l) found ((backward-closure rs (marks_of v)).0 l)
+  where
+    rs : List Record
+    rs = records (meaning gives d)
+
+    found : backward rs (marks_of v) ≡ model.lineage (meaning gives d) v
+    found = meaning-backward gives d rs (inl (λ r. (λ h. h, λ h. h))) p q v there

@@ -55,6 +55,7 @@ pub mod OfFaultingSteps
 pub mod OfFaultingFeeds
 pub mod OfFaulting
 pub mod OfFaultingKnown
+pub mod OfLastLevels
 pub mod OfFaultingPieces
 pub mod OfFaultingRead
 pub mod OfReady

@@ -115,11 +115,14 @@ module _ (flows : List (Name × Flow)) (plan : FlowPlan) (pool : Nodes) (f : Fra
   follows = of-filter (is_waiting v.events s.0) (fault_at q l) os waits
 
   -- in an instance
-  known-at : (instance : JobName) (results : Results) → AreOfDepth v instance results → Extends results v.events → (g : InstanceStep) → In g (steps_with v instance results) → g.step.step ≡ s.0 → IsKnownAt v.flow s g (known_by instance v.events) q l
-  known-at instance results depth x g i e =
+  pub made-at : (instance : JobName) (results : Results) → AreOfDepth v instance results → (g : InstanceStep) → In g (steps_with v instance results) → g.step.step ≡ s.0 → IsMadeOf v.flow s g
+  made-at instance results depth g i e =
       let ranked = kept-ranked flows plan pool f v keeps in
-      let made : IsMadeOf v.flow s g = made-step v.flow (steps_with v instance results) v.flow.steps (rising flows levels v ranked) (steps-paired flows levels v ranked instance results depth) s (at-in v.flow.steps n s stands) g i e in
-      fault-known v.flow s g made instance v.events ts (told.told instance results depth x g i e)
+      made-step v.flow (steps_with v instance results) v.flow.steps (rising flows levels v ranked) (steps-paired flows levels v ranked instance results depth) s (at-in v.flow.steps n s stands) g i e
+
+  pub known-at : (instance : JobName) (results : Results) → AreOfDepth v instance results → Extends results v.events → (g : InstanceStep) → In g (steps_with v instance results) → g.step.step ≡ s.0 → IsKnownAt v.flow s g (known_by instance v.events) q l
+  known-at instance results depth x g i e =
+      fault-known v.flow s g (made-at instance results depth g i e) instance v.events ts (told.told instance results depth x g i e)
       (fit-by v s (matcher_at f.intakes n) (keeps.matchers_are n s stands) (keeps.intaken.sound n))
       once dots os told.outcomes q l follows.0
 

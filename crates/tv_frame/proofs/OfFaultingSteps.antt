@@ -1,6 +1,6 @@
 -- A fault that a step passes is known in the value of its port, and stands there from where the port's leaf begins.
 use Rattle.std.specs.List.{list_all}
-use Rattle.std.specs.Prelude.{◌≡◌, refl, ℕ, zero, suc, ◌+◌, ◌<◌, Bool, true, false, get_or, if◌then◌else◌, List, [], ◌∷◌, ◌++◌, drop, map, Option, Some, option_map, slice_get, IsPermutation}
+use Rattle.std.specs.Prelude.{◌≡◌, refl, ℕ, zero, suc, ◌+◌, ◌<◌, Bool, true, false, get_or, if◌then◌else◌, List, [], ◌∷◌, ◌++◌, drop, length, map, Option, Some, option_map, slice_get, IsPermutation}
 use Rattle.std.proofs.Common.{arith, sym, ap, ap₂, subst, ◌∙◌, inl, inr}
 use Rattle.std.proofs.Math.Path.{fun_ext}
 use Rattle.std.proofs.lemmas.Bool.{and_parts, true≢false}
@@ -27,7 +27,7 @@ use Rattle.tv_matching.specs.Items.{Bound, Item, Kind, Stopped, closes, ends, it
 use Rattle.tv_matching.specs.Matched.{matched}
 use Rattle.tv_matching.specs.Matchers.{Outcome, fault_at, kind_out, leaf_number, out}
 use Rattle.tv_matching.specs.Members.{In}
-use Rattle.tv_matching.specs.Told.{IsFit, Spot, Told, arrival, close, faulty, matched_after, seen, stop_there, telling, told_leaf, told_to}
+use Rattle.tv_matching.specs.Told.{IsFit, Spot, Told, arrival, bound_there, close, faulty, map_kind, matched_after, seen, stop_of, stop_there, telling, told_leaf, told_to}
 use Rattle.tv_matching.proofs.Heard.{walk-comes}
 use Rattle.tv_matching.proofs.OfMatchers.{PassesHave, matched-have}
 use Rattle.tv_matching.proofs.OfMembers.{each-from, each-in, in-map, in-permutes, of-map}
@@ -41,7 +41,7 @@ use Rattle.tv_starts.specs.Starts.{cross_starts, dot_starts, starts}
 use Rattle.tv_starts.proofs.OfFaults.{faults-stand}
 use Rattle.tv_drawn.specs.Items.{IsFaultOf, part_at}
 use Rattle.tv_drawn.proofs.OfLeaves.{among-in, at_leaves, in-among, leaf-in, leaves-permute, number-names, of-told, part-is, told-parted, PassesAt}
-use Rattle.tv_drawn.proofs.OfMatched.{at-plain, leaf-leveled}
+use Rattle.tv_drawn.proofs.OfMatched.{at-plain, leaf-leveled, matched-known}
 use Rattle.tv_drawn.proofs.OfSteps.{IsMadeOf, value_in}
 use Rattle.tv_frame.specs.Tables.{step_starts}
 
@@ -62,14 +62,14 @@ pub record IsKnownFault (known : Origin → Bool) (o : Option Traced) : Type 0 w
   pub is : o ≡ Some (leaf origin (fault document))
   pub knows : known origin ≡ true
 
--- a fault that is passed of a walk is a known fault of the value, and a level is walked
-walked-fault : (known : Origin → Bool) (p : Name) (k : ℕ) (v : Traced) (x : Item Bound Stopped) (z : Stopped) → x.kind ≡ passes z → In x (known_items known (walk p k v)) → IsKnownFault known (at v x.place) × (0 < k)
+-- a fault that is passed of a walk is a known fault of the value, above all that the port binds
+walked-fault : (known : Origin → Bool) (p : Name) (k : ℕ) (v : Traced) (x : Item Bound Stopped) (z : Stopped) → x.kind ≡ passes z → In x (known_items known (walk p k v)) → IsKnownFault known (at v x.place) × (length x.place < k)
 walked-fault known p k v x z e i =
     let r = known-stands known (walk p k v) x i in
     let w = walk-comes p x.place k v r.0 r.1 in
     by w.left w.value r.0 w.is (sym e ∙ r.2) r.3 (at v x.place) w.there (λ m f. omega (arith, w.levels, f))
   where
-    by : (left : ℕ) (u : Traced) (t : Iteration) → t ≡ walk p left u → passes z ≡ kind_of t → list_all known (note t) ≡ true → (o : Option Traced) → o ≡ Some u → ((m : ℕ) → left ≡ suc m → 0 < k) → IsKnownFault known o × (0 < k)
+    by : (left : ℕ) (u : Traced) (t : Iteration) → t ≡ walk p left u → passes z ≡ kind_of t → list_all known (note t) ≡ true → (o : Option Traced) → o ≡ Some u → ((m : ℕ) → left ≡ suc m → length x.place < k) → IsKnownFault known o × (length x.place < k)
     by zero u t f g n o h some = let c : passes z ≡ kind_of (walk p 0 u) = g ∙ ap kind_of f in absurd (cc)
     by (suc m) (leaf a (text y)) t f g n o h some = let c : passes z ≡ kind_of (walk p (suc m) (leaf a (text y))) = g ∙ ap kind_of f in absurd (cc)
     by (suc m) (leaf a (fault d)) t f g n o h some = (record { origin = a; document = d; is = h; knows = (and_parts (known a) true (sym (ap (λ (y : Iteration). list_all known (note y)) f) ∙ n)).0 }, some m refl)
@@ -78,7 +78,7 @@ walked-fault known p k v x z e i =
 -- ---- where leaves begin
 
 mutual
-  starts-names : (ports : Name → ℕ) (b : ℕ) (s : Strategy) → map (λ (x : Name × ℕ). x.0) (starts ports b s) ≡ leaf_names s
+  pub starts-names : (ports : Name → ℕ) (b : ℕ) (s : Strategy) → map (λ (x : Name × ℕ). x.0) (starts ports b s) ≡ leaf_names s
   starts-names ports b (port p) = refl
   starts-names ports b (cross cs) = cross-names ports b cs
   starts-names ports b (dot cs) = dot-names ports b cs
@@ -150,6 +150,9 @@ pub record IsKnownAt (flow : Flow) (s : Name × Step) (f : InstanceStep) (known 
   pub start_is : slice_get (map (λ (x : Name × ℕ). x.1) (step_starts flow s)) l ≡ Some start
   pub fault : IsKnownFault known (at port.value (drop start q))
   pub is_of : IsFaultOf flow s.1 f q l fault.document
+  pub above : length (drop start q) < port.mismatch
+  -- it is what stands there in the step's iteration
+  pub passed : In (item q (passes (fault.origin.mark, fault.document))) (known_items known f.step.iteration)
 
 module _ (flow : Flow) (s : Name × Step) (f : InstanceStep) (made : IsMadeOf flow s f) (instance : JobName) (es : Events) (ts : List Told) (told : Each (PortIsTold instance es ts) f.step.inputs) (fit : Each (IsFit (number_of (mismatches flow s.1))) ts) where
   abbrev known : Origin → Bool
@@ -165,7 +168,7 @@ module _ (flow : Flow) (s : Name × Step) (f : InstanceStep) (made : IsMadeOf fl
   record Holds (r : Spot) : Type 0 where
     port : Ported
     input : named r.0 f.step.inputs ≡ Some port
-    walks : 0 < port.mismatch
+    above : length r.1 < port.mismatch
     fault : IsKnownFault known (at port.value r.1)
 
   leaf-walks : (p : Name) (a : Ported) → named p f.step.inputs ≡ Some a → IsPermutation (map (seen values) (told_to ts p)) (known_items known (walk p a.mismatch a.value))
@@ -184,7 +187,7 @@ module _ (flow : Flow) (s : Name × Step) (f : InstanceStep) (made : IsMadeOf fl
           let r = walked-fault known p a.mismatch a.value (item q (passes (stop_there values (n, q)))) (stop_there values (n, q)) refl
           (in-permutes (item q (passes (stop_there values (n, q)))) (known_items known (walk p a.mismatch a.value)) (map (seen values) (told_to ts p)) (IsPermutation-sym _ _ (leaf-walks p a g))
           (in-map (seen values) (telling (arrival n q true)).item (told_to ts p) k)) in
-          subst (λ m. Holds (m, q)) e (record { port = a; input = g; walks = r.1; fault = r.0 })
+          subst (λ m. Holds (m, q)) e (record { port = a; input = g; above = r.1; fault = r.0 })
       by (faulty n q) e k a g = tt
       by (close n q m) e k a g = tt
 
@@ -201,6 +204,17 @@ module _ (flow : Flow) (s : Name × Step) (f : InstanceStep) (made : IsMadeOf fl
       of-leaf : (p : Name) (y : Item Spot Spot) (b : Bool) → is_among leaves p ≡ b → In y (if b then told_to ts p else []) → PassesHave Holds y.kind
       of-leaf p y true e j = told-holds p (among-in p leaves e) y j
       of-leaf p y false e j = absurd j
+
+  -- and is known of the step's iteration, with its mark
+  seen-among : (x : Item Spot Spot) → In x (matched_after (strategy_of s.1) ts) → In (seen values x) (known_items known f.step.iteration)
+  seen-among x i =
+      in-permutes (seen values x) (known_items known f.step.iteration) (map (seen values) (matched_after (strategy_of s.1) ts)) (IsPermutation-sym _ _ (matched-known flow s f made instance es ts told))
+      (in-map (seen values) x (matched_after (strategy_of s.1) ts) i)
+
+  seen-as : (x : Item Spot Spot) (r : Spot) → x.kind ≡ passes r → (h : Holds r) → seen values x ≡ item x.place (passes (h.fault.origin.mark, h.fault.document))
+  seen-as x r e h =
+      ap (λ k. item x.place (map_kind (bound_there values) (stop_there values) k)) e
+      ∙ ap (λ (w : Stopped). item x.place (passes w)) (ap (λ (w : Option Ported). stop_of (at (value_in w) r.1)) h.input ∙ ap stop_of h.fault.is)
 
   module _ (once : EachOnce leaves leaves) (dots : DotsAgree (number_of (mismatches flow s.1)) (strategy_of s.1)) (os : List Outcome) (outcomes : IsPermutation os (map (out (strategy_of s.1)) (matched_after (strategy_of s.1) ts))) (q : Place) (l : ℕ) (i : In (fault_at q l) os) where
     spot-fault : (x : Item Spot Spot) → In x (matched_after (strategy_of s.1) ts) → (k : Kind Spot Spot) → x.kind ≡ k → fault_at q l ≡ kind_out (strategy_of s.1) x.place k → IsKnownAt flow s f known q l
@@ -220,6 +234,7 @@ module _ (flow : Flow) (s : Name × Step) (f : InstanceStep) (made : IsMadeOf fl
         ∙ part-is (port_mismatch f.step.inputs) (strategy_of s.1) once x.place r parts
         in
         let from = faults-stand (number_of (mismatches flow s.1)) (strategy_of s.1) dots ts fit x j r e in
+        let rest : r.1 ≡ drop from.0 q = from.2 ∙ ap (drop from.0) (sym place) in
         let names : map (λ (y : Name × ℕ). y.0) (step_starts flow s) ≡ leaves = starts-names (number_of (mismatches flow s.1)) 0 (strategy_of s.1) in
         record {
           name = r.0;
@@ -227,7 +242,7 @@ module _ (flow : Flow) (s : Name × Step) (f : InstanceStep) (made : IsMadeOf fl
           leaf_is = leaf_is;
           port = h.port;
           input = h.input;
-          walks = h.walks;
+          walks = let a = h.above in omega (arith, a);
           start = from.0;
           start_is =
               ap (slice_get (map (λ (y : Name × ℕ). y.1) (step_starts flow s))) (number ∙ ap (λ ns. leaf_number ns r.0) (sym names))
@@ -235,7 +250,7 @@ module _ (flow : Flow) (s : Name × Step) (f : InstanceStep) (made : IsMadeOf fl
           fault = record {
             origin = h.fault.origin;
             document = h.fault.document;
-            is = ap (at h.port.value) (sym (from.2 ∙ ap (drop from.0) (sym place))) ∙ h.fault.is;
+            is = ap (at h.port.value) (sym rest) ∙ h.fault.is;
             knows = h.fault.knows;
           };
           is_of = record {
@@ -243,6 +258,8 @@ module _ (flow : Flow) (s : Name × Step) (f : InstanceStep) (made : IsMadeOf fl
             input = ap (λ n. named n f.step.inputs) leaf_is ∙ h.input;
             there = ap (at (plain h.port.value)) part ∙ at-plain r.1 h.port.value ∙ ap (option_map plain) h.fault.is;
           };
+          above = subst (λ p. length p < h.port.mismatch) rest h.above;
+          passed = subst (λ y. In y (known_items known f.step.iteration)) (seen-as x r e h ∙ ap (λ p. item p (passes (h.fault.origin.mark, h.fault.document))) (sym place)) (seen-among x j);
         }
 
     pub fault-known : IsKnownAt flow s f known q l

@@ -400,12 +400,18 @@ module _ (flows : List (Name × Flow)) (plan : FlowPlan) (pool : Nodes) (f : Fra
     pub call-found : IsTrue (is_some (job_found (sourced_by a) (constants_view f.tables.constants) p q))
     call-found = found flows plan pool f v keeps a of number n q call.there call.faulty call.said p call.own (constants_view f.tables.constants) refl
 
+pub values-where_ok : {A E : Type 0} (plan : FlowPlan) (pool : Nodes) (f : Frame) (number n : ℕ) (q : Place) (p : StepPorts) (call : IsCallOf plan f number n q p) (a : Sources) (of : IsSourcesOf pool f a)
+    → (values_in : A → List Value)
+    → (r : Result A E) → IfOk r (λ x. job_found (sourced_by a) (constants_view f.tables.constants) p q ≡ Some (values_in x))
+    → IfOk r (λ x. (flows : List (Name × Flow)) (v : View) (j : Name × Place) → Keeps flows plan pool f v → numbered_job v number ≡ Some j → AreInputs v j (values_in x))
+values-where_ok plan pool f number n q p call a of values_in (Err x) h = tt
+values-where_ok plan pool f number n q p call a of values_in (Ok x) h = λ flows v j keeps e.
+    are-inputs flows plan pool f v keeps a of number n q call.there call.faulty call.said p call.own (constants_view f.tables.constants) refl j e (values_in x) h
+
 pub inputs-where_ok : {E : Type 0} (plan : FlowPlan) (pool : Nodes) (f : Frame) (number n : ℕ) (q : Place) (p : StepPorts) (call : IsCallOf plan f number n q p) (a : Sources) (of : IsSourcesOf pool f a)
     → (r : Result (List Piece) E) → IfOk r (λ ps. job_found (sourced_by a) (constants_view f.tables.constants) p q ≡ Some (piece_values ps))
     → IfOk r (λ ps. (flows : List (Name × Flow)) (v : View) (j : Name × Place) → Keeps flows plan pool f v → numbered_job v number ≡ Some j → AreInputs v j (piece_values ps))
-inputs-where_ok plan pool f number n q p call a of (Err x) h = tt
-inputs-where_ok plan pool f number n q p call a of (Ok ps) h = λ flows v j keeps e.
-    are-inputs flows plan pool f v keeps a of number n q call.there call.faulty call.said p call.own (constants_view f.tables.constants) refl j e (piece_values ps) h
+inputs-where_ok plan pool f number n q p call a of = values-where_ok plan pool f number n q p call a of piece_values
 
 -- ---- whether the job binds values
 

@@ -1,5 +1,5 @@
 -- The first ready job of a step, of those that bind no fault or of those that bind one.
-use Rattle.std.specs.Prelude.{◌≡◌, refl, ℕ, not, Bool, true, false, List, [], ◌∷◌, Option}
+use Rattle.std.specs.Prelude.{◌≡◌, refl, ℕ, not, Bool, true, false, List, [], ◌∷◌, Option, None}
 use Rattle.std.specs.Cmp.Lexicographic.{slice_cmp}
 use Rattle.std.specs.List.{list_all}
 use Rattle.std.specs.Ordering.{is_lt, nat_cmp}
@@ -112,3 +112,7 @@ module _ (flows : List (Name × Flow)) (plan : FlowPlan) (pool : Nodes) (f : Fra
           → IsFirstOfStep (levels_in v.flow) v says s.0 b (first_number js)
       by [] o to from = λ m q r. from m q r
       by (j ∷ js) o to from = record { place = j.1; is = to j (inl refl); first = λ m q r. place-is q j.1 ∙ head-first j js (m, q) o (from m q r) }
+
+  -- where none of either kind is idle, none is ready
+  pub none-so : (b : Bool) → queue b (of_step f.idle.steps n) ≡ [] → IsFirstOfStep (levels_in v.flow) v says s.0 b None
+  none-so b e m q r = subst (In (m, q)) e (in-ready b m q r)

@@ -8,3 +8,4 @@ pub mod Calls
 pub mod Shown
 pub mod Ready
 pub mod StepPorts
+pub mod LastLevels

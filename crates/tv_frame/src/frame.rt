@@ -53,6 +53,29 @@ pub struct Frame {
     pub(crate) outs: Option<Pieces>,
 }
 
+/// What an instance that has ended leaves: memory, in which another is started.
+#[derive(Drop)]
+pub struct Husk {
+    faulty_inputs: Vec<bool>,
+    intakes: Intakes,
+    idle: Idle,
+    endings: Endings,
+    spread: Spread,
+}
+
+impl Husk {
+    /// That of no instance. Takes no memory.
+    pub fn new(alloc: Global) -> Husk {
+        Husk {
+            faulty_inputs: Vec::new(alloc),
+            intakes: Intakes::new(alloc),
+            idle: Idle::new(alloc),
+            endings: Endings::new(alloc),
+            spread: Spread::new(alloc),
+        }
+    }
+}
+
 /// What the last room call found, for the call that follows it.
 #[derive(Drop)]
 pub(crate) struct Ahead {
@@ -67,7 +90,7 @@ pub(crate) struct Ahead {
 
 impl Frame {
     /// The instance of a flow on its inputs, told nothing yet. Takes the flow's tables, which it
-    /// shares. Known jobs are numbered from 0 in the order in which they become known. An instance of
+    /// shares, and the memory of a husk. Known jobs are numbered from 0 in the order in which they become known. An instance of
     /// a flow without steps has ended at once.
     ///
     /// Its nodes stand in a region that is new in the pool. Linear in the flow, and in the inputs,
@@ -78,6 +101,7 @@ impl Frame {
         tables: &FlowTables,
         inputs: Pieces,
         pool: &mut Nodes,
+        husk: Husk,
     ) -> Result<Frame, NoMemory>
         requires can { (flows : List (Name × Flow))
             × CanStart flows plan.now (piece_values inputs) }
@@ -90,7 +114,7 @@ impl Frame {
         ensures kept { IfOk result (λ f. KeepsRegions pool.old pool.new (number_of f.region)) }
         ensures refused { OnErr result (SameRegions pool.old pool.new) }
     {
-        let parts = parts_of(alloc, plan, tables, inputs.as_slice())?;
+        let parts = parts_of(alloc, plan, tables, inputs.as_slice(), husk)?;
         let region = match pool.begin() {
             Ok(region) => region,
             Err(_full) => return Err(NoMemory),
@@ -149,7 +173,7 @@ impl Frame {
                 intakes: parts.intakes,
                 idle: parts.idle,
                 endings: parts.endings,
-                spread: Spread::new(alloc),
+                spread: parts.spread,
                 ahead: Ahead {
                     whole: false,
                     outs: None,
@@ -190,19 +214,35 @@ impl Frame {
         self.outs.as_ref()
     }
 
-    /// Gives the outputs of an instance that has ended, and releases its region. Takes no memory.
-    pub fn finish(self, pool: &mut Nodes) -> Pieces
+    /// Gives the outputs of an instance that has ended, and what it leaves, and releases its region. Takes no memory.
+    pub fn finish(self, pool: &mut Nodes) -> (Pieces, Husk)
         requires ended { (flows : List (Name × Flow)) × (plan : ThePlan) × (v : View)
             × Keeps flows plan pool.old self v × (has_ended_now (levels_in v.flow) v ≡ true) }
         ensures outputs { (flows : List (Name × Flow)) (plan : ThePlan) (v : View)
             → Keeps flows plan pool.old self v
-            → AreSound result × AreOutputs v (piece_values result) }
+            → AreSound result.0 × AreOutputs v (piece_values result.0) }
         ensures gone { pool.new.regions ≡ regions_with pool.old (number_of self.region) None }
     {
-        let Frame { region, outs, .. } = self;
+        let Frame {
+            region,
+            faulty_inputs,
+            intakes,
+            idle,
+            endings,
+            spread,
+            outs,
+            ..
+        } = self;
         pool.release(region);
+        let husk = Husk {
+            faulty_inputs,
+            intakes,
+            idle,
+            endings,
+            spread,
+        };
         match outs {
-            Some(outs) => outs,
+            Some(outs) => (outs, husk),
             None => unreachable!(),
         }
     }
@@ -224,6 +264,7 @@ struct Parts {
     intakes: Intakes,
     idle: Idle,
     endings: Endings,
+    spread: Spread,
 }
 
 fn parts_of(
@@ -231,6 +272,7 @@ fn parts_of(
     plan: &FlowPlan,
     tables: &FlowTables,
     inputs: &[Piece],
+    husk: Husk,
 ) -> Result<Parts, NoMemory>
     requires can { (flows : List (Name × Flow))
         × CanStart flows plan.now (piece_values inputs.now) }
@@ -238,24 +280,27 @@ fn parts_of(
     ensures { IfOk result (λ p. AreParts plan.now inputs.now p) }
 {
     let tables = tables.share()?;
-    let faulty_inputs = faults_of(alloc, inputs)?;
-    let mut intakes = Intakes::new(alloc);
-    let mut idle = Idle::new(alloc);
+    let faulty_inputs = faults_of(inputs, husk.faulty_inputs)?;
+    let mut intakes = husk.intakes.emptied();
+    let mut idle = husk.idle.emptied();
     start_steps(alloc, plan, tables.read(), inputs, &mut intakes, &mut idle)?;
-    let endings = Endings::start(alloc, plan.wiring.after.as_slice())?;
+    let endings = husk.endings.started(plan.wiring.after.as_slice())?;
     Ok(Parts {
         tables,
         faulty_inputs,
         intakes,
         idle,
         endings,
+        spread: husk.spread,
     })
 }
 
-fn faults_of(alloc: Global, inputs: &[Piece]) -> Result<Vec<bool>, NoMemory>
+/// Of each input whether it holds a fault, in the memory of another list.
+fn faults_of(inputs: &[Piece], mut faults: Vec<bool>) -> Result<Vec<bool>, NoMemory>
     ensures { IfOk result (λ bs. bs.items ≡ map holds_fault (piece_values inputs.now)) }
 {
-    let mut faults = Vec::with_capacity(alloc, inputs.len())?;
+    faults.clear();
+    faults.reserve(inputs.len())?;
     for piece in inputs {
         faults.push(piece.holds_fault())?;
     }

@@ -1,7 +1,7 @@
 //! Known jobs: which are ready, and what they bind.
-ghost use Rattle.std.specs.Prelude.{◌≡◌, false, true, ◌<◌, ◌≤◌, ◌^◌, ℕ, List, [], Some, IfOk, IfSome, IsNone, IsTrue, length, map, option_map, slice_get};
+ghost use Rattle.std.specs.Prelude.{◌≡◌, false, true, ◌<◌, ◌≤◌, ◌^◌, ℕ, List, [], None, Some, IfOk, IfSome, IsNone, IsTrue, length, map, option_map, slice_get};
 ghost use Rattle.tv_value.specs.Values.{Name, Value as AValue};
-ghost use Rattle.tv_value.specs.Views.{view};
+ghost use Rattle.tv_value.specs.Views.{values_view, view};
 ghost use Rattle.tv_flow.specs.Flows.{Flow, Step};
 ghost use Rattle.tv_depths.specs.Ranks.{ranked};
 ghost use Rattle.tv_cell.specs.PieceValues.{piece_values};
@@ -29,12 +29,12 @@ ghost use Rattle.tv_frame.specs.Tables.{levels_in};
 
 use crate::frame::Frame;
 use std::alloc::Global;
-use tv_bound::{StepPorts, job_binds, job_inputs};
+use tv_bound::{StepPorts, job_binds, job_inputs, job_values};
 use tv_cell::Pieces;
 use tv_check::FlowPlan;
 use tv_outputs::Nodes;
 use tv_turn::first_ready;
-use tv_value::{NoMemory, Value};
+use tv_value::{Items, NoMemory, Value};
 
 /// A known job of an instance.
 #[derive(Clone, Copy, Debug)]
@@ -169,6 +169,17 @@ impl Frame {
         self.idle.has_idle(step)
     }
 
+    /// Whether some step has an idle job that binds a fault: where none has, no step has a ready one. Constant.
+    pub fn has_faulty(&self) -> bool
+        ensures { result ≡ false → (flows : List (Name × Flow)) (plan : FlowPlan) (pool : Nodes)
+            (v : View) (n : ℕ) (s : Name × Step)
+            → Keeps flows plan pool self.now v → IsStepAt v n s
+            → IsFirstOfStep (levels_in v.flow) v (λ q. is_faulty_now self.now.intakes (n, q)) s.0
+            true None }
+    {
+        self.idle.has_faulty()
+    }
+
     /// The first ready job of a step, in order of place, of those that bind no fault.
     pub fn first_good(&self, plan: &FlowPlan, pool: &Nodes, step: u32) -> Option<u64>
         requires { (flows : List (Name × Flow)) × (v : View)
@@ -237,6 +248,31 @@ impl Frame {
         let sources = self.sources(pool);
         let constants = self.tables.constants();
         job_inputs(alloc, &sources, constants, &ports, starts, place)
+    }
+
+    /// The values of what a known job binds, port by port in byte order of their names. Linear in them
+    /// and in the ports, with a walk to each one's part of the place.
+    pub fn values(
+        &self,
+        alloc: Global,
+        plan: &FlowPlan,
+        pool: &Nodes,
+        number: u64,
+    ) -> Result<Items, NoMemory>
+        requires keeps { (flows : List (Name × Flow)) × (v : View)
+            × Keeps flows plan.now pool.now self.now v }
+        requires known { number < length (known_jobs self.now.intakes) }
+        ensures { IfOk result (λ vs. (flows : List (Name × Flow)) (v : View)
+            (j : Name × Place)
+            → Keeps flows plan.now pool.now self.now v → numbered v number ≡ Some j
+            → AreInputs v j (values_view vs)) }
+    {
+        let (step, place, _) = self.intakes.job(number as usize);
+        let ports = ports_at(plan, step as usize);
+        let starts = self.tables.read().starts[step as usize].as_slice();
+        let sources = self.sources(pool);
+        let constants = self.tables.constants();
+        job_values(alloc, &sources, constants, &ports, starts, place)
     }
 
     /// Whether a known job binds these values, port by port in byte order of their names. Takes no memory. Linear in the ports,

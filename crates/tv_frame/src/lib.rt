@@ -7,23 +7,27 @@
 //! An event comes in two halves. `room_for_result` and `room_for_settle` take all memory that it needs, and tell how many
 //! jobs it will make known; they may be refused, and then nothing has changed but rooms. `result` and `settle` take no memory.
 //!
+//! A frame that has ended leaves a husk: its lists, of which the next one takes the memory, whatever flow it is of.
+//!
 //! - `tables`: what the frames of a flow look up of it, made once and shared
 //! - `frame`: the frame, its start and its end
 //! - `starting`: what the steps are told at the start
 //! - `rooms`, `events`: both halves of an event
 //! - `outs`: the flow's outputs as they will be once an event has happened
+//! - `levels`: the list or passed fault that is settled next, as it is kept
 //! - `jobs`: known jobs, which are ready, and what they bind
 #![tactic(auto)]
 
 mod events;
 mod frame;
 mod jobs;
+mod levels;
 mod outs;
 mod rooms;
 mod starting;
 mod tables;
 
 pub use events::Settled;
-pub use frame::Frame;
+pub use frame::{Frame, Husk};
 pub use jobs::FrameJob;
 pub use tables::FlowTables;

@@ -37,7 +37,7 @@ use tv_bound::{Sources, feed_piece};
 use tv_cell::{Piece, Pieces, Row};
 use tv_check::FlowPlan;
 use tv_match::Kind;
-use tv_outputs::Nodes;
+use tv_outputs::{Faults, Nodes};
 use tv_spread::Around;
 use tv_telling::{Event, Happened};
 use tv_value::{Copied, Name as OutputName, NoMemory, Place};
@@ -75,7 +75,7 @@ impl Frame {
         let first = self.tables.first_tree(step);
         let trees = trees_of(plan, step as usize);
         self.outputs.reserve(pool, first, trees)?;
-        let mut faults = Vec::new(self.alloc);
+        let mut faults = Faults::new(self.alloc);
         self.outputs
             .faults_by_arrival(pool, first, place, outputs.as_slice(), &mut faults)?;
         let event = Event {
@@ -165,7 +165,7 @@ impl Frame {
         let first = self.tables.first_tree(step);
         let trees = trees_of(plan, step as usize);
         self.outputs.reserve(pool, first, trees)?;
-        let mut faults = Vec::new(self.alloc);
+        let mut faults = Faults::new(self.alloc);
         let outputs = outputs_of(plan, step as usize);
         self.outputs
             .faults_by_close(pool, first, outputs, place, &mut faults)?;
@@ -250,7 +250,7 @@ impl Frame {
             ≡ new_count self.new.intakes self.new.spread.touched.items) }
     {
         let first = self.tables.first_tree(step);
-        let mut faults = Vec::new(self.alloc);
+        let mut faults = Faults::new(self.alloc);
         self.outputs
             .faults_by_arrival(pool, first, place, pieces, &mut faults)?;
         // A step without outputs has a tree, but no output.

@@ -1,7 +1,7 @@
 -- How the idle jobs are kept: for each step two queues, in which jobs that have gone lie on until they come to the front.
 use Rattle.std.specs.Prelude.{◌≡◌, ℕ, ◌+◌, ◌^◌, ◌<◌, ◌≤◌, ◌-◌, ◌&&◌, ◌||◌, not, nat_lt, Bool, true, false, if◌then◌else◌, List, [], ◌∷◌, filter, map, length, slice_index_or}
 use Rattle.std.specs.Cmp.Lexicographic.{slice_cmp}
-use Rattle.std.specs.List.{list_all}
+use Rattle.std.specs.List.{list_all, sum_by}
 use Rattle.std.specs.Ordering.{is_lt, nat_cmp}
 use Rattle.tv_ready.specs.Listed.{Listed, with_job}
 use Rattle.tv_idle.specs.declared.queues.Queues.{Queues}
@@ -98,8 +98,17 @@ pub record AreAllKept (gone : ℕ → Bool) (known : ℕ) (qs : List Queues) : T
   pub apart : (n k l : ℕ) → stands_at n (queues_of qs k) ≡ true → stands_at n (queues_of qs l) ≡ true → k ≡ l
   pub idle : (n : ℕ) → n < known → gone n ≡ false → is_idle (map (shown gone) qs) n ≡ true
 
--- and so many more jobs can be known
-pub record IsLaid (qs : List Queues) (gone : List Bool) (capacity room : ℕ) : Type 0 where
+-- how many stand in the queue of those that bind a fault, of one step and of all
+abbrev pub faulty_of : Queues → ℕ
+faulty_of q = length q.faulty.jobs
+
+abbrev pub faulty_in : List Queues → ℕ
+faulty_in qs = sum_by faulty_of qs
+
+-- and so many more jobs can be known, where so many stand that bind a fault
+pub record IsLaid (qs : List Queues) (gone : List Bool) (capacity room faulty : ℕ) : Type 0 where
   pub all : AreAllKept (is_gone gone) (length gone) qs
   pub marks : length gone + room ≤ capacity
   pub numbers : length gone + room < 2 ^ 32
+  pub counted : faulty ≡ faulty_in qs
+  pub few : faulty ≤ length gone

@@ -1,5 +1,6 @@
 //! The idle jobs of an instance.
-ghost use Rattle.std.specs.Prelude.{◌≡◌, ◌^◌, ◌+◌, ◌-◌, ◌<◌, ◌++◌, ◌∷◌, [], length, true, slice_set, OnErr, OnOk};
+ghost use Rattle.std.specs.Prelude.{◌≡◌, ◌^◌, ◌+◌, ◌-◌, ◌<◌, ◌++◌, ◌∷◌, [], cond, false, length, true, slice_set, ℕ, OnErr, OnOk};
+ghost use Rattle.tv_idle.specs.Kept.{IsEmpty};
 ghost use Rattle.tv_idle.specs.Idles.{first_after, first_number, first_of, has_some, is_idle, is_idle_at, none_idle, of_step, room_for, with_idle, with_rooms_of, without};
 
 use crate::queues::Queues;
@@ -19,6 +20,10 @@ pub struct Idle {
     gone: Vec<bool>,
     // How many more numbers can be given out.
     room: usize,
+    // How many jobs that bind a fault stand in the queues.
+    faulty: usize,
+    // Queues whose memory steps that are added take.
+    spare: Vec<Queues>,
 }
 
 impl Model for Idle {
@@ -31,7 +36,18 @@ impl Model for Idle {
 
     ghost view = { λ i. record { steps = map (shown (is_gone i.gone.items)) i.queues.items; known = length i.gone.items; room = i.room } };
 
-    ghost invariant = { λ i. IsLaid i.queues.items i.gone.items (vec_capacity i.gone) i.room };
+    ghost invariant = { λ i. IsLaid i.queues.items i.gone.items (vec_capacity i.gone) i.room i.faulty };
+}
+
+/// Queues with no jobs, in the memory of others where there are some. Takes no memory.
+fn empty_queues(alloc: Global, spare: Option<Queues>, levels: usize) -> Queues
+    ensures good { IsEmpty levels result.good }
+    ensures faulty { IsEmpty levels result.faulty }
+{
+    match spare {
+        Some(queues) => queues.emptied(levels),
+        None => Queues::new(alloc, levels),
+    }
 }
 
 impl Idle {
@@ -45,6 +61,31 @@ impl Idle {
             queues: Vec::new(alloc),
             gone: Vec::new(alloc),
             room: 0,
+            faulty: 0,
+            spare: Vec::new(alloc),
+        }
+    }
+
+    /// Of no step, with no job, in the same memory: the steps that are added take that of those before. Takes no memory.
+    pub fn emptied(self) -> Idle
+        ensures steps { result.steps ≡ [] }
+        ensures known { result.known ≡ 0 }
+        ensures room { result.room ≡ 0 }
+    {
+        let Idle {
+            queues,
+            mut gone,
+            mut spare,
+            ..
+        } = self;
+        gone.clear();
+        spare.clear();
+        Idle {
+            queues: spare,
+            gone,
+            room: 0,
+            faulty: 0,
+            spare: queues,
         }
     }
 
@@ -55,7 +96,8 @@ impl Idle {
         ensures known { self.new.known ≡ self.old.known }
         ensures room { self.new.room ≡ self.old.room }
     {
-        self.queues.push(Queues::new(alloc, levels))?;
+        let queues = empty_queues(alloc, self.spare.pop(), levels);
+        self.queues.push(queues)?;
         Ok(())
     }
 
@@ -117,6 +159,7 @@ impl Idle {
         self.queues[step as usize].put(number, place, faulty);
         self.gone.push_reserved(false);
         self.room -= 1;
+        self.faulty += one_if(faulty);
         number
     }
 
@@ -131,7 +174,8 @@ impl Idle {
         ensures room { self.new.room ≡ self.old.room }
     {
         self.gone[number as usize] = true;
-        self.queues[step as usize].trim(self.gone.as_slice());
+        let dropped = self.queues[step as usize].trim(self.gone.as_slice());
+        self.faulty -= dropped;
     }
 
     /// Whether a known job is idle.
@@ -148,6 +192,13 @@ impl Idle {
         ensures { result ≡ has_some (of_step self.now.steps step) }
     {
         self.queues[step as usize].has_some()
+    }
+
+    /// Whether any step has an idle job that binds a fault. Constant.
+    pub fn has_faulty(&self) -> bool
+        ensures none { result ≡ false → (step : ℕ) → (of_step self.now.steps step).faulty ≡ [] }
+    {
+        self.faulty != 0
     }
 
     /// The number of a step's first idle job in order of place, whether or not it binds a fault; of two at one place, that of the
@@ -186,4 +237,10 @@ impl Idle {
     {
         self.queues[step as usize].first_faulty()
     }
+}
+
+fn one_if(so: bool) -> usize
+    ensures { result ≡ cond so 1 0 }
+{
+    if so { 1 } else { 0 }
 }

@@ -1,5 +1,5 @@
 //! The queues of one step.
-ghost use Rattle.std.specs.Prelude.{◌≡◌, ◌<◌, ◌==◌, ◌||◌, not, length, true, OnOk};
+ghost use Rattle.std.specs.Prelude.{◌≡◌, ◌+◌, ◌<◌, ◌==◌, ◌||◌, not, length, true, OnOk};
 ghost use Rattle.tv_idle.specs.Idles.{first_number, first_of, is_before};
 ghost use Rattle.tv_idle.specs.Kept.{IsEmpty, IsGrown, IsSame, IsTrimmed, are_below, is_gone, starts_gone};
 ghost use Rattle.tv_ready.specs.Sought.{sought};
@@ -30,6 +30,18 @@ impl Queues {
         }
     }
 
+    /// The same memory without jobs, with places of so many indices. Takes no memory.
+    pub(crate) fn emptied(self, levels: usize) -> Queues
+        ensures good { IsEmpty levels result.good }
+        ensures faulty { IsEmpty levels result.faulty }
+    {
+        let Queues { good, faulty } = self;
+        Queues {
+            good: good.emptied(levels),
+            faulty: faulty.emptied(levels),
+        }
+    }
+
     /// Takes the room for so many more of each.
     pub(crate) fn reserve(&mut self, good: usize, faulty: usize) -> Result<(), NoMemory>
         ensures same_good { IsSame self.old.good self.new.good }
@@ -55,15 +67,19 @@ impl Queues {
         }
     }
 
-    /// Drops the jobs at both fronts that have gone. Takes no memory. Logarithmic for each that is dropped.
-    pub(crate) fn trim(&mut self, gone: &[bool])
+    /// Drops the jobs at both fronts that have gone, and tells how many of them bind a fault. Takes no memory. Logarithmic for each
+    /// that is dropped.
+    pub(crate) fn trim(&mut self, gone: &[bool]) -> usize
         requires good { are_below (length gone.now) self.old.good.jobs ≡ true }
         requires faulty { are_below (length gone.now) self.old.faulty.jobs ≡ true }
         ensures good { IsTrimmed (is_gone gone.now) self.old.good self.new.good }
         ensures faulty { IsTrimmed (is_gone gone.now) self.old.faulty self.new.faulty }
+        ensures dropped { result + length self.new.faulty.jobs ≡ length self.old.faulty.jobs }
     {
+        let before = self.faulty.len();
         trim(&mut self.good, gone);
         trim(&mut self.faulty, gone);
+        before - self.faulty.len()
     }
 
     /// Whether there is one.

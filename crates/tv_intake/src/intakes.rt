@@ -17,6 +17,8 @@ pub struct Intakes {
     jobs: Vec<Found>,
     // Lists and passed faults that aren't settled.
     waiting: Vec<Found>,
+    // Matchers whose memory steps that are added take.
+    spare: Vec<Matcher>,
 }
 
 impl Intakes {
@@ -39,6 +41,33 @@ impl Intakes {
             matchers: Vec::new(alloc),
             jobs: Vec::new(alloc),
             waiting: Vec::new(alloc),
+            spare: Vec::new(alloc),
+        }
+    }
+
+    /// Of no step, in the same memory: the steps that are added take that of those before. Takes no memory.
+    pub fn emptied(self) -> Intakes
+        ensures steps { result.matchers.items ≡ [] }
+        ensures jobs { result.jobs.items ≡ [] }
+        ensures waiting { result.waiting.items ≡ [] }
+        ensures sound { AreIntaken result }
+    {
+        let Intakes {
+            mut matchers,
+            mut jobs,
+            mut waiting,
+            mut spare,
+        } = self;
+        jobs.clear();
+        waiting.clear();
+        spare.clear();
+        // The first step takes the last of them: its own, where the flow is the same.
+        matchers.as_mut_slice().reverse();
+        Intakes {
+            matchers: spare,
+            jobs,
+            waiting,
+            spare: matchers,
         }
     }
 
@@ -55,7 +84,8 @@ impl Intakes {
         ensures waiting { OnOk result (waiting_things self.new ≡ waiting_things self.old ++ map (λ o. (length self.old.matchers.items, o)) (others_among (followed_at self.new (length self.old.matchers.items)))) }
         ensures sound { AreIntaken self.new }
     {
-        let matcher = Matcher::start(alloc, tree, mismatch)?;
+        let spare = self.spare.pop();
+        let matcher = Matcher::start_in(alloc, tree, mismatch, spare)?;
         self.take_in(matcher)
     }
 

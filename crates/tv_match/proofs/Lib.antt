@@ -21,3 +21,4 @@ pub mod FaultsAhead
 pub mod Cancelled
 pub mod OfLaws
 pub mod Scripts
+mod Shells

@@ -7,6 +7,7 @@ ghost use Rattle.tv_match.specs.Entries.{entry};
 ghost use Rattle.tv_match.specs.Seen.{matched_view, outcome_kind};
 
 mod ahead;
+mod shells;
 
 use crate::bags::Bag;
 use crate::building::build;
@@ -17,6 +18,7 @@ use crate::steps::{take_back, work};
 use crate::stores::{News, Store};
 use crate::told::{Matched, Tolds};
 pub use ahead::what_is_ahead;
+use shells::{own_depths, own_tree, shell_of};
 use std::alloc::Global;
 use tv_value::{Copied, Depths, NoMemory, Place, Tree};
 
@@ -55,9 +57,25 @@ impl Matcher {
         ensures ok { IfOk result (λ m. Starts (strategy_view tree.now) mismatch.now (matching m)) }
         ensures sound { IfOk result (λ m. IsSound m) }
     {
+        Matcher::start_in(alloc, tree, mismatch, None)
+    }
+
+    /// The same, in the memory of another one. Where that is of an equal strategy with equal numbers, it keeps its copies of them.
+    pub fn start_in(
+        alloc: Global,
+        tree: &Tree,
+        mismatch: &Depths,
+        spare: Option<Matcher>,
+    ) -> Result<Matcher, NoMemory>
+        requires suits { Suits mismatch.now (strategy_view tree.now) }
+        requires agree { DotsAgree (number_of mismatch.now) (strategy_view tree.now) }
+        ensures ok { IfOk result (λ m. Starts (strategy_view tree.now) mismatch.now (matching m)) }
+        ensures sound { IfOk result (λ m. IsSound m) }
+    {
         let built = build(alloc, tree, 0)?;
         let mut root = built.store;
-        let mut out = Bag::new(alloc);
+        let shell = shell_of(alloc, spare);
+        let mut out = shell.out;
         let news = News {
             leaf: None,
             place: &[],
@@ -69,10 +87,10 @@ impl Matcher {
         places.make(&out, 0)?;
         Ok(Matcher {
             alloc,
-            tree: tree.copy(alloc)?,
-            mismatch: mismatch.copy(alloc)?,
+            tree: own_tree(alloc, shell.tree, tree)?,
+            mismatch: own_depths(alloc, shell.mismatch, mismatch)?,
             root,
-            log: Bag::new(alloc),
+            log: shell.log,
             out,
             told: 0,
             given: 0,

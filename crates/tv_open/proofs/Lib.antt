@@ -6,6 +6,7 @@ pub mod OfKnownJobs
 pub mod OfSeating
 pub mod OfSeats
 pub mod OfSitting
+pub mod OfLevels
 pub mod OfOpen
 pub mod OfTelling
 pub mod OfTaking

@@ -127,6 +127,18 @@ module _ (d : Document) (plan : FlowPlan) (pool : Nodes) (o : Open) (v : View) (
       by t at (Some n) f =
           let w = seat-ready d plan pool o v io k t at n f.place true f.is in (w.seat, w.there, w.ready, w.binds)
 
+  -- where no step has a ready job that binds a fault, none can be bounced
+  pub none-faulty :
+      ((k : ℕ) (t : Name × Step) → IsStepAt v k t
+      → IsFirstOfStep (levels_in v.flow) v (λ q. is_faulty_now o.frame.intakes (k, q)) t.0 true None)
+      → IsFirstFaulty v o.seats.seats None
+  none-faulty none n s there ready =
+      let t = its-step-at d plan pool o v io n s there in
+      on_test (is_faulty_now o.frame.intakes (s.step, s.place))
+      (λ b.
+      absurd (none s.step t.0 t.1 n s.place (ready-seat d plan pool o v io s.step t.0 t.1 n s true there refl ready b)))
+      (λ b. subst (BindsFault v s) b (binds-said d plan pool o v io n s there))
+
   module _ (going : List ℕ) (g : AreGoing v o.seats.seats going) (n : ℕ) where
     abbrev k : ℕ
     k = get_or going n 0

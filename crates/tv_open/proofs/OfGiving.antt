@@ -25,6 +25,7 @@ use Rattle.tv_open.specs.Turns.{TakeIn}
 use Rattle.tv_open.specs.declared.turns.Turns.{Turns}
 use Rattle.tv_open.specs.declared.events.Spot.{Spot}
 use Rattle.tv_open.specs.declared.open.Open.{Open}
+use Rattle.tv_open.proofs.OfLevels.{still-kept}
 use Rattle.tv_open.proofs.OfOpen.{found-at, numbered-step, still-open}
 use Rattle.tv_open.proofs.OfQuiet.{of-staged}
 use Rattle.tv_open.proofs.OfSeats.{staged-jobs}
@@ -61,12 +62,13 @@ module _ (d : Document) (plan : FlowPlan) (pool : Nodes) (o : Open) (v : View) (
   module _ (after : Nodes) (p : Open)
       (same : (flows : List (Name × Flow)) (u : View) → Keeps flows plan pool o.frame u → Keeps flows plan after p.frame u)
       (seats : p.seats.seats ≡ o.seats.seats) (levels : p.seats.levels ≡ o.seats.levels) (turns : p.turns ≡ o.turns)
+      (kept : p.levels.settled ≡ o.levels.settled)
       (x : Spot) (step : x.step ≡ k)
       (place : x.place ≡ q) (room : p.seats.room ≡ x.more) (prepares : Prepares plan pool o.frame after p.frame k q vs)
       (counts : Counts plan pool o.frame k q vs x.more) where
     pub ready-to_give : IsReadyToGive d plan after p v s t vs x
     ready-to_give = record {
-      is_open = still-open d plan pool o v io after p (same d.flows v io.keeps) seats levels turns;
+      is_open = still-open d plan pool o v io after p (same d.flows v io.keeps) seats levels turns kept;
       step = step ∙ sym same-step;
       place = place ∙ sym same-place;
       ready =
@@ -107,11 +109,12 @@ module _ (d : Document) (plan : FlowPlan) (pool : Nodes) (o : Open) (v : View) (
         (room ∙ r.room)
 
     pub given-told : (z : Seated) → AllSit g y z → (u : Turns) → TakeIn o.turns u (length y.seats) z.seats
-        → IsTold d plan after (record { frame = g; seats = z; turns = u }) v (gave t.0 s.place vs) x.more
+        → IsTold d plan after (record { frame = g; seats = z; turns = u; levels = o.levels }) v (gave t.0 s.place vs) x.more
         (with_stage n stage.Settled o.seats.seats)
     given-told z all u take =
         then-told d plan pool o v r.is_open (gave t.0 s.place vs) x.more r.brings after g on-there y jobs levels
-        (room ∙ r.room) z all u take
+        (room ∙ r.room) z all u take o.levels
+        (still-kept v o.levels.settled r.is_open.kept (gave t.0 s.place vs) on-there.0 on-there.1 on-there.2 refl)
         (of-staged o.seats.seats y.seats o.turns.positions.items u.from n stage.Settled seats (inl refl))
         (with_stage n stage.Settled o.seats.seats) seats
 

@@ -23,6 +23,7 @@ use Rattle.tv_frame.proofs.OfKeeping.{kept-ranked}
 use Rattle.tv_seats.specs.Seats.{Seat}
 use Rattle.tv_seated.specs.Seated.{spot_of}
 use Rattle.tv_seated.proofs.OfLists.{get-image, is-member, of-image}
+use Rattle.tv_open.specs.Levels.{AreKept}
 use Rattle.tv_open.specs.Standing.{IsOpen, job_of}
 use Rattle.tv_open.specs.declared.open.Open.{Open}
 use Rattle.tv_open.proofs.OfKnownJobs.{by-names, its-step, numbered-so}
@@ -48,8 +49,8 @@ module _ (d : Document) (plan : FlowPlan) (pool : Nodes) (o : Open) (v : View) (
 
   -- the same instance with another frame that keeps the view, and other rooms
   pub still-open : (after : Nodes) (p : Open) → Keeps d.flows plan after p.frame v → p.seats.seats ≡ ss
-      → p.seats.levels ≡ o.seats.levels → p.turns ≡ o.turns → IsOpen d plan after p v
-  still-open after p k seats levels turns = record {
+      → p.seats.levels ≡ o.seats.levels → p.turns ≡ o.turns → p.levels.settled ≡ o.levels.settled → IsOpen d plan after p v
+  still-open after p k seats levels turns kept = record {
     keeps = k;
     known =
         ap (map job_of) seats
@@ -58,6 +59,7 @@ module _ (d : Document) (plan : FlowPlan) (pool : Nodes) (o : Open) (v : View) (
         ∙ by-names d.flows plan after p.frame v k;
     levels = levels ∙ io.levels;
     quiet = quiet-as v ss p.seats.seats o.turns p.turns seats turns io.quiet;
+    kept = subst (AreKept v) (sym kept) io.kept;
   }
 
   -- ---- a job by its number

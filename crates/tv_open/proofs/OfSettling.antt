@@ -1,6 +1,6 @@
 -- A list is closed, or a fault passed.
-use Rattle.std.specs.Prelude.{◌≡◌, refl, ℕ, List, Option, Some, IfSome, length}
-use Rattle.std.proofs.Common.{subst}
+use Rattle.std.specs.Prelude.{◌≡◌, ◌++◌, ◌∷◌, [], refl, ℕ, List, Option, Some, IfSome, length}
+use Rattle.std.proofs.Common.{subst, sym}
 use Rattle.tv_value.specs.Values.{Name}
 use Rattle.tv_flow.specs.Flows.{Document, Flow, Step}
 use Rattle.tv_check.specs.declared.plans.FlowPlan.{FlowPlan}
@@ -8,17 +8,23 @@ use Rattle.tv_outputs.specs.Known.{Nodes}
 use Rattle.tv_instance.specs.Events.{Event}
 use Rattle.tv_framing.specs.Answers.{CanSettle}
 use Rattle.tv_framing.specs.Views.{View}
+use Rattle.tv_drawn.specs.Steps.{IsStepAt}
+use Rattle.tv_naming.specs.Numbers.{position}
 use Rattle.tv_frame.specs.Calls.{Brings, GoesOn, IsReadyToSettle, Tells}
 use Rattle.tv_frame.specs.declared.events.Settled.{Settled}
 use Rattle.tv_frame.specs.declared.frame.Frame.{Frame}
 use Rattle.tv_frame.specs.Kept.{Keeps}
+use Rattle.tv_frame.specs.LastLevels.{IsLevelOf}
+use Rattle.tv_levels.specs.Levels.{Level}
 use Rattle.tv_seats.specs.Seats.{Seated}
 use Rattle.tv_open.specs.Events.{IsReadyToSettleAt, IsTold, TellsAt}
+use Rattle.tv_open.specs.Levels.{AreKept, Kept}
 use Rattle.tv_open.specs.Seating.{AllSit, CanSit, IsKept}
 use Rattle.tv_open.specs.Standing.{IsOpen}
 use Rattle.tv_open.specs.Turns.{TakeIn}
 use Rattle.tv_open.specs.declared.turns.Turns.{Turns}
 use Rattle.tv_open.specs.declared.open.Open.{Open}
+use Rattle.tv_open.proofs.OfLevels.{kept-more, own-number}
 use Rattle.tv_open.proofs.OfOpen.{still-open}
 use Rattle.tv_open.proofs.OfQuiet.{of-same}
 use Rattle.tv_open.proofs.OfTelling.{then-can, then-kept, then-told}
@@ -31,20 +37,26 @@ pub ready-settle :
     (d : Document) (plan : FlowPlan) (pool : Nodes) (o : Open) (v : View) → IsOpen d plan pool o v
     → (after : Nodes) (p : Open)
     → ((flows : List (Name × Flow)) (u : View) → Keeps flows plan pool o.frame u → Keeps flows plan after p.frame u)
-    → p.seats.seats ≡ o.seats.seats → p.seats.levels ≡ o.seats.levels → p.turns ≡ o.turns → (more : ℕ) → p.seats.room ≡ more
+    → p.seats.seats ≡ o.seats.seats → p.seats.levels ≡ o.seats.levels → p.turns ≡ o.turns → p.levels.settled ≡ o.levels.settled
+    → (more : ℕ) → p.seats.room ≡ more
     → ((n : ℕ) × (s : Name × Step) × (e : Event)
     × IsReadyToSettle d.flows plan after p.frame v n s e × CanSettle v e × Brings v e more)
+    → (l : Level) → p.levels.next ≡ Some l
+    → ((n : ℕ) (s : Name × Step) (e : Event) → IsReadyToSettle d.flows plan after p.frame v n s e → IsLevelOf v n s e l)
     → (e : Event) × IsReadyToSettleAt d plan after p v e more
-ready-settle d plan pool o v io after p same seats levels turns more room x = (
+ready-settle d plan pool o v io after p same seats levels turns kept more room x l next is = (
   x.2,
   record {
-    is_open = still-open d plan pool o v io after p (same d.flows v io.keeps) seats levels turns;
+    is_open = still-open d plan pool o v io after p (same d.flows v io.keeps) seats levels turns kept;
     number = x.0;
     step = x.1;
     ready = x.3;
     can = x.4;
     brings = x.5;
     room = room;
+    level = l;
+    next = next;
+    is_level = is x.0 x.1 x.2 x.3;
   },
 )
 
@@ -53,6 +65,9 @@ ready-settle d plan pool o v io after p same seats levels turns more room x = (
 module _ (d : Document) (plan : FlowPlan) (pool : Nodes) (o : Open) (v : View) (e : Event) (more : ℕ)
     (r : IsReadyToSettleAt d plan pool o v e more) (after : Nodes) (g : Frame) (x : Settled)
     (on : GoesOn d.flows plan after g v e × Tells x r.number e) where
+  numbered : (m : ℕ) (t : Name × Step) → IsStepAt v m t → position t.0 v.flow.steps ≡ m
+  numbered = own-number d.flows plan pool o.frame v r.is_open.keeps
+
   pub settled-kept : IsKept g
   settled-kept = then-kept d plan pool o v r.is_open e more r.brings after g on.0 o.seats refl refl r.room
 
@@ -60,10 +75,14 @@ module _ (d : Document) (plan : FlowPlan) (pool : Nodes) (o : Open) (v : View) (
   settled-can = then-can d plan pool o v r.is_open e more r.brings after g on.0 o.seats refl refl r.room
 
   pub settled-told : (z : Seated) → AllSit g o.seats z → (u : Turns) → TakeIn o.turns u (length o.seats.seats) z.seats
-      → IsTold d plan after (record { frame = g; seats = z; turns = u }) v e more o.seats.seats
+      → (ls : Kept) → ((l : Level) → o.levels.next ≡ Some l → ls.settled ≡ o.levels.settled ++ l ∷ [])
+      → IsTold d plan after (record { frame = g; seats = z; turns = u; levels = ls }) v e more o.seats.seats
       × TellsAt v.flow.steps x e
-  settled-told z all u take = (
-    then-told d plan pool o v r.is_open e more r.brings after g on.0 o.seats refl refl r.room z all u take
+  settled-told z all u take ls more_kept = (
+    then-told d plan pool o v r.is_open e more r.brings after g on.0 o.seats refl refl r.room z all u take ls
+        (subst (AreKept on.0.0) (sym (more_kept r.level r.next))
+        (kept-more v o.levels.settled r.is_open.kept e r.number r.step r.level r.is_level r.ready.ready.at r.ready.ready.named
+        (numbered r.number r.step r.ready.ready.at) numbered on.0.0 on.0.1 on.0.2))
         (of-same o.seats.seats o.seats.seats o.turns.positions.items u.from refl) o.seats.seats refl,
     (r.number, r.step, r.ready.ready.at, r.ready.ready.named, on.1),
   )

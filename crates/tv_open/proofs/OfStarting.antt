@@ -15,10 +15,12 @@ use Rattle.tv_frame.specs.Kept.{Keeps}
 use Rattle.tv_frame.specs.Tables.{levels_in}
 use Rattle.tv_seats.specs.Seats.{Seated}
 use Rattle.tv_seated.specs.GoingOn.{AreNewSeats}
+use Rattle.tv_open.specs.Levels.{AreKept, Kept}
 use Rattle.tv_open.specs.Seating.{AllSit, CanSit, IsKept, seat_for, unseated}
 use Rattle.tv_open.specs.Standing.{StartsOpen, job_of}
 use Rattle.tv_open.specs.Turns.{AreTurns, TakeIn}
 use Rattle.tv_open.specs.declared.turns.Turns.{Turns}
+use Rattle.tv_open.proofs.OfLevels.{none-kept}
 use Rattle.tv_open.proofs.OfSeats.{all-known}
 use Rattle.tv_open.proofs.OfSitting.{may-sit, new-seats}
 
@@ -46,8 +48,9 @@ module _ (d : Document) (plan : FlowPlan) (values : List Value) (pool : Nodes) (
 
     pub starts-open : (y : Seated) → AllSit f x y → (t u : Turns)
         → AreTurns (by_falling_rank (flow_view plan.flow)) t.positions.items → t.from ≡ 0
-        → TakeIn t u (length x.seats) y.seats → StartsOpen d plan values pool (record { frame = f; seats = y; turns = u })
-    starts-open y all t u turns from take = record {
+        → TakeIn t u (length x.seats) y.seats → (ls : Kept) → ls.settled ≡ []
+        → StartsOpen d plan values pool (record { frame = f; seats = y; turns = u; levels = ls })
+    starts-open y all t u turns from take ls none-settled = record {
       view = v;
       untold = st.1;
       inputs = st.2;
@@ -62,6 +65,7 @@ module _ (d : Document) (plan : FlowPlan) (values : List Value) (pool : Nodes) (
           inside = let a = take.fewer in omega (arith, a, from);
           quiet = λ n s e low. let a = take.fewer in absurd (omega (arith, low, a, from));
         };
+        kept = subst (AreKept v) (sym none-settled) (none-kept v st.1);
       };
       new =
           subst (AreNewSeats v.flow.steps)

@@ -29,6 +29,7 @@ use Rattle.tv_open.specs.Standing.{IsOpen, job_of}
 use Rattle.tv_open.specs.Turns.{turn_of}
 use Rattle.tv_open.specs.declared.turns.Turns.{Turns}
 use Rattle.tv_open.specs.declared.open.Open.{Open}
+use Rattle.tv_open.proofs.OfLevels.{still-kept}
 use Rattle.tv_open.proofs.OfQuiet.{begun-then, of-same, of-staged, still-quiet}
 use Rattle.tv_open.proofs.OfSeats.{staged-jobs}
 use Rattle.tv_open.proofs.OfSitting.{goes-on_alone, known-alone}
@@ -63,6 +64,7 @@ module _ (d : Document) (plan : FlowPlan) (pool : Nodes) (o : Open) (v : View) (
         quiet =
             still-quiet v then refl (begun-then v then (took spot.0 spot.1) refl) o.seats.seats o.seats.seats o.turns o.turns
             io.quiet refl (omega arith) (of-same o.seats.seats o.seats.seats o.turns.positions.items o.turns.from refl);
+        kept = still-kept v o.levels.settled io.kept (took spot.0 spot.1) then 0 comes refl;
       };
       waited = λ t e w.
           one-seat (λ u. GoesOn d (levels_in v.flow) v then (took (spot_of v.flow.steps u).0 u.place) []) t e
@@ -77,7 +79,7 @@ pub taken : (d : Document) (plan : FlowPlan) (pool : Nodes) (o m : Open) (v : Vi
     → (y : Seated) → y.seats ≡ with_stage n x m.seats.seats → y.levels ≡ m.seats.levels
     → (u : Turns) → u.positions.items ≡ m.turns.positions.items → u.from ≤ m.turns.from
     → (is_calm x ≡ true) ⊎ (u.from ≤ turn_of m.turns.positions.items (step_at m.seats.seats n))
-    → IsTaken d plan pool o (record { frame = m.frame; seats = y; turns = u }) v n x
+    → IsTaken d plan pool o (record { frame = m.frame; seats = y; turns = u; levels = m.levels }) v n x
 taken d plan pool o m v n x t same y seats levels u positions fewer either = record {
   view = t.view;
   is_open = record {
@@ -87,6 +89,7 @@ taken d plan pool o m v n x t same y seats levels u positions fewer either = rec
     quiet =
         still-quiet t.view t.view refl (λ j h. h) m.seats.seats y.seats m.turns u t.is_open.quiet positions fewer
         (of-staged m.seats.seats y.seats m.turns.positions.items u.from n x seats either);
+    kept = t.is_open.kept;
   };
   waited = t.waited;
   went_on = t.went_on;

@@ -14,6 +14,7 @@ use Rattle.tv_frame.specs.declared.frame.Frame.{Frame}
 use Rattle.tv_frame.specs.Tables.{levels_in}
 use Rattle.tv_seats.specs.Seats.{Seat, Seated}
 use Rattle.tv_open.specs.Events.{IsTold}
+use Rattle.tv_open.specs.Levels.{AreKept, Kept}
 use Rattle.tv_open.specs.Seating.{AllSit, CanSit, IsKept, seat_for, unseated}
 use Rattle.tv_open.specs.Standing.{IsOpen, job_of}
 use Rattle.tv_open.specs.Turns.{TakeIn}
@@ -53,9 +54,10 @@ module _ (d : Document) (plan : FlowPlan) (pool : Nodes) (o : Open) (v : View) (
       (let n = same-number in omega (arith, n, room))
 
   pub then-told : (z : Seated) → AllSit g y z → (u : Turns) → TakeIn o.turns u (length y.seats) z.seats
+      → (ls : Kept) → AreKept w ls.settled
       → AreOf o.seats.seats y.seats o.turns.positions.items u.from → (ss : List Seat) → y.seats ≡ ss
-      → IsTold d plan after (record { frame = g; seats = z; turns = u }) v e more ss
-  then-told z all u take of ss is = record {
+      → IsTold d plan after (record { frame = g; seats = z; turns = u; levels = ls }) v e more ss
+  then-told z all u take ls kept of ss is = record {
     view = w;
     new = map seat_for (unseated g y.seats);
     is_open = record {
@@ -68,6 +70,7 @@ module _ (d : Document) (plan : FlowPlan) (pool : Nodes) (o : Open) (v : View) (
           take.fewer
           (of-more o.seats.seats y.seats z.seats (map seat_for (unseated g y.seats)) o.turns.positions.items u.from all.seats
           of take.ahead);
+      kept = kept;
     };
     goes_on = goes-on d plan pool o v io after g w e on.1 on.2 on.4 y jobs;
     many = many-sit d plan pool o v io after g w e on.1 on.2 on.4 y jobs ∙ same-number;

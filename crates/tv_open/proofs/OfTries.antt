@@ -1,9 +1,10 @@
 -- The steps that are passed stay quiet while the frame is told nothing.
-use Rattle.std.specs.Prelude.{refl, ℕ, List}
-use Rattle.std.proofs.Common.{arith, inr}
+use Rattle.std.specs.Prelude.{◌≡◌, refl, ℕ, List}
+use Rattle.std.proofs.Common.{arith, inr, subst, sym}
 use Rattle.tv_framing.specs.Views.{View}
 use Rattle.tv_seats.specs.Seats.{Seat}
 use Rattle.tv_seats.specs.declared.stage.Stage.{Stage}
+use Rattle.tv_open.specs.Levels.{AreKept, Kept}
 use Rattle.tv_open.specs.Quiet.{AreQuiet}
 use Rattle.tv_open.specs.Tries.{HasStage, IsSameButRooms}
 use Rattle.tv_open.specs.Turns.{AreRestarted}
@@ -18,6 +19,10 @@ HasQuiet v o = AreQuiet v o.seats.seats o.turns.positions.items o.turns.from
 -- with other rooms
 pub quiet-roomy : (v : View) (o p : Open) → IsSameButRooms o p → HasQuiet v o → HasQuiet v p
 quiet-roomy v o p same = quiet-as v o.seats.seats p.seats.seats o.turns p.turns same.seats same.turns
+
+-- what is kept is the same with the same levels
+pub kept-with : (v : View) (o p : Open) → p.levels ≡ o.levels → AreKept v o.levels.settled → AreKept v p.levels.settled
+kept-with v o p same k = subst (λ (l : Kept). AreKept v l.settled) (sym same) k
 
 -- with a job at another stage, whose step isn't passed
 pub quiet-staged : (v : View) (o p : Open) (n : ℕ) (x : Stage) → HasStage o p n x → HasQuiet v o → HasQuiet v p

@@ -8,12 +8,14 @@ use Rattle.tv_instance.specs.Events.{Event, event_step, gave, is_taken, took}
 use Rattle.tv_framing.specs.Answers.{CanSettle, IsReadyJob}
 use Rattle.tv_framing.specs.Views.{View}
 use Rattle.tv_frame.specs.Calls.{Brings, IsReadyToSettle, Tells}
+use Rattle.tv_frame.specs.LastLevels.{IsLevelOf}
 use Rattle.tv_frame.specs.Prepared.{IsReadyFor}
 use Rattle.tv_frame.specs.Tables.{levels_in}
 use Rattle.tv_frame.specs.declared.events.Settled.{Settled}
 use Rattle.tv_seats.specs.Seats.{Seat, with_stage}
 use Rattle.tv_seats.specs.Stages.{is_waiting, may_settle}
 use Rattle.tv_seats.specs.declared.stage.Stage.{Stage}
+use Rattle.tv_levels.specs.Levels.{Level}
 use Rattle.tv_seated.specs.GoingOn.{GoesOn}
 use Rattle.tv_seated.specs.Seated.{spot_of}
 use Rattle.tv_open.specs.Firsts.{IsReadySeat}
@@ -99,6 +101,10 @@ pub record IsReadyToSettleAt (d : Document) (plan : FlowPlan) (pool : Nodes) (o 
   pub can : CanSettle v e
   pub brings : Brings v e more
   pub room : o.seats.room ≡ more
+  -- as it is kept
+  pub level : Level
+  pub next : o.levels.next ≡ Some level
+  pub is_level : IsLevelOf v number step e level
 
 -- it tells what was settled, by the number of the event's step
 abbrev pub TellsAt : List (Name × Step) → Settled → Event → Type 0

@@ -1,3 +1,4 @@
+pub mod Levels
 pub mod Turns
 pub mod Quiet
 pub mod Standing

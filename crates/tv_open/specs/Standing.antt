@@ -11,6 +11,7 @@ use Rattle.tv_frame.specs.Kept.{Keeps}
 use Rattle.tv_frame.specs.Tables.{levels_in}
 use Rattle.tv_seats.specs.Seats.{Seat}
 use Rattle.tv_seated.specs.GoingOn.{AreNewSeats}
+use Rattle.tv_open.specs.Levels.{AreKept}
 use Rattle.tv_open.specs.Quiet.{AreQuiet}
 use Rattle.tv_open.specs.declared.open.Open.{Open}
 
@@ -25,6 +26,7 @@ pub record IsOpen (d : Document) (plan : FlowPlan) (pool : Nodes) (o : Open) (v 
   pub levels : o.seats.levels ≡ map (λ s. levels_in v.flow s.0) v.flow.steps
   -- the steps that are passed are quiet
   pub quiet : AreQuiet v o.seats.seats o.turns.positions.items o.turns.from
+  pub kept : AreKept v o.levels.settled
 
 -- of some flow
 abbrev pub IsSome : Open → Type 0

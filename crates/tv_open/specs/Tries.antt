@@ -11,6 +11,7 @@ pub record IsSameButRooms (o p : Open) : Type 0 where
   pub seats : p.seats.seats ≡ o.seats.seats
   pub levels : p.seats.levels ≡ o.seats.levels
   pub turns : p.turns ≡ o.turns
+  pub kept : p.levels ≡ o.levels
 
 -- the job is at this stage from now on
 pub record HasStage (o p : Open) (n : ℕ) (x : Stage) : Type 0 where
@@ -19,3 +20,4 @@ pub record HasStage (o p : Open) (n : ℕ) (x : Stage) : Type 0 where
   pub levels : p.seats.levels ≡ o.seats.levels
   -- its step isn't passed
   pub turns : TakesIn o.turns p.turns (step_at o.seats.seats n)
+  pub kept : p.levels ≡ o.levels

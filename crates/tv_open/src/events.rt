@@ -220,6 +220,8 @@ impl Open {
     {
         match self.frame.room_for_settle(plan, pool)? {
             Some(more) => {
+                let level = self.frame.last_level()?;
+                self.levels.set_next(level)?;
                 self.seats.reserve(more as usize)?;
                 Ok(Some(more))
             }
@@ -239,6 +241,7 @@ impl Open {
         ensures region { self.new.frame.region ≡ self.old.frame.region }
     {
         let settled = self.frame.settle(plan, pool);
+        self.levels.settle();
         seat_new(&self.frame, &mut self.seats, &mut self.turns);
         settled
     }

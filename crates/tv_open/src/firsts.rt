@@ -31,13 +31,16 @@ impl Seeking {
 }
 
 impl Open {
-    /// The first job that can be bounced, in job order. Linear in the steps that aren't passed, up
-    /// to its own.
+    /// The first job that can be bounced, in job order. Constant where no idle job binds a fault, else
+    /// linear in the steps that aren't passed, up to its own.
     pub fn first_to_bounce(&self, plan: &FlowPlan, pool: &Nodes) -> Option<u64>
         requires { (d : Document) × (v : View) × IsOpen d plan.now pool.now self.now v }
         ensures { (d : Document) (v : View) → IsOpen d plan.now pool.now self.now v
             → IsFirstFaulty v self.now.seats.seats result }
     {
+        if !self.frame.has_faulty() {
+            return None;
+        }
         for step in self.going() {
             if let Some(job) = self.frame.first_faulty(plan, pool, *step) {
                 return Some(job);

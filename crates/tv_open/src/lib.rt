@@ -11,12 +11,14 @@
 //! - `looks`: what is asked of its jobs
 //! - `firsts`: its first job that goes on, or that can be bounced
 //! - `events`: a job taken, opened, given its result or bounced, a list closed or a fault passed
+//! - `levels`: the lists that were closed and the faults that were passed, as they are kept
 //! - `tries`: jobs that are idle again, or have a flow next
 //! - `turns`: which steps are looked at, that of the greatest rank first
 #![tactic(auto)]
 
 mod events;
 mod firsts;
+mod levels;
 mod looks;
 mod open;
 mod tries;
@@ -24,4 +26,4 @@ mod turns;
 
 pub use events::Spot;
 pub use firsts::Seeking;
-pub use open::Open;
+pub use open::{Husk, Open};

@@ -1,7 +1,7 @@
 //! What is asked of the jobs of an open instance.
 ghost use Rattle.std.specs.Prelude.{◌≡◌, ◌<◌, [], false, IfOk, IsTrue, Some, length, map, slice_get, List};
 ghost use Rattle.tv_value.specs.Values.{Name, Value as AValue};
-ghost use Rattle.tv_value.specs.Views.{view};
+ghost use Rattle.tv_value.specs.Views.{values_view, view};
 ghost use Rattle.tv_flow.specs.Flows.{Document, Step};
 ghost use Rattle.tv_cell.specs.PieceValues.{piece_values};
 ghost use Rattle.tv_cell.specs.Soundness.{AreSound};
@@ -22,7 +22,7 @@ use tv_cell::Pieces;
 use tv_check::FlowPlan;
 use tv_outputs::Nodes;
 use tv_seats::Stage;
-use tv_value::{NoMemory, Value};
+use tv_value::{Items, NoMemory, Value};
 
 impl Open {
     /// How many jobs it knows.
@@ -91,6 +91,24 @@ impl Open {
             → AreInputs v (spot_of v.flow.steps s) (piece_values ps)) }
     {
         self.frame.inputs(alloc, plan, pool, number)
+    }
+
+    /// The values that a known job binds, in byte order of the ports. Linear in them, in the ports and in
+    /// the indices of its place.
+    pub fn values(
+        &self,
+        alloc: Global,
+        plan: &FlowPlan,
+        pool: &Nodes,
+        number: u64,
+    ) -> Result<Items, NoMemory>
+        requires open { (d : Document) × (v : View) × IsOpen d plan.now pool.now self.now v }
+        requires known { number < length self.now.seats.seats }
+        ensures { IfOk result (λ vs. (d : Document) (v : View) (s : Seat)
+            → IsOpen d plan.now pool.now self.now v → slice_get self.now.seats.seats number ≡ Some s
+            → AreInputs v (spot_of v.flow.steps s) (values_view vs)) }
+    {
+        self.frame.values(alloc, plan, pool, number)
     }
 
     /// Whether a known job binds these values. Takes no memory.

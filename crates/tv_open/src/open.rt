@@ -16,15 +16,19 @@ ghost use Rattle.tv_turn.specs.FirstReady.{by_falling_rank};
 ghost use Rattle.tv_frame.specs.Calls.{CanStart, SameRegions, Starts};
 ghost use Rattle.tv_frame.specs.Kept.{AreOuts};
 ghost use Rattle.tv_frame.specs.Tables.{AreTables, levels_in};
+ghost use Rattle.tv_levels.specs.Views.{level_view};
+ghost use Rattle.tv_open.specs.Levels.{AreItsLevels};
 ghost use Rattle.tv_open.specs.Seating.{AllSit, CanSit, IsKept, seat_for};
 ghost use Rattle.tv_open.specs.Turns.{AreTurns, TakeIn, TakesIn};
 ghost use Rattle.tv_open.specs.Standing.{IsOpen, StartsOpen};
 
+use crate::levels::Levels;
 use crate::turns::Turns;
 use std::alloc::Global;
 use tv_cell::Pieces;
 use tv_check::FlowPlan;
 use tv_frame::{FlowTables, Frame};
+use tv_levels::Level;
 use tv_outputs::Nodes;
 use tv_seats::Seats;
 use tv_value::NoMemory;
@@ -35,6 +39,24 @@ pub struct Open {
     pub(crate) frame: Frame,
     pub(crate) seats: Seats,
     pub(crate) turns: Turns,
+    pub(crate) levels: Levels,
+}
+
+/// What an instance that has ended leaves: memory, in which another is started.
+#[derive(Drop)]
+pub struct Husk {
+    frame: tv_frame::Husk,
+    turns: Turns,
+}
+
+impl Husk {
+    /// That of no instance. Takes no memory.
+    fn new(alloc: Global) -> Husk {
+        Husk {
+            frame: tv_frame::Husk::new(alloc),
+            turns: Turns::new(alloc),
+        }
+    }
 }
 
 /// The jobs that a frame knows and that have no seat sit down, and their steps aren't passed any
@@ -75,10 +97,10 @@ fn seat_job(frame: &Frame, seats: &mut Seats, turns: &mut Turns, number: u64)
 /// Takes the room for the jobs that a frame knows from its start to sit down. Answers the turns of
 /// its steps, of which none is passed.
 fn room_to_sit(
-    alloc: Global,
     frame: &Frame,
     seats: &mut Seats,
     plan: &FlowPlan,
+    spare: Turns,
 ) -> Result<Turns, NoMemory>
     requires { (d : Document) × (values : _) × (pool : TheNodes)
         × Starts d.flows plan.now values pool frame.now }
@@ -89,7 +111,7 @@ fn room_to_sit(
     ensures seats { seats.new.seats ≡ seats.old.seats }
     ensures levels { seats.new.levels ≡ seats.old.levels }
 {
-    let turns = Turns::start(alloc, plan.steps.as_slice().len(), frame.order())?;
+    let turns = spare.started(plan.steps.as_slice().len(), frame.order())?;
     seats.reserve(frame.known() as usize)?;
     Ok(turns)
 }
@@ -99,6 +121,7 @@ fn seated(
     alloc: Global,
     frame: Frame,
     mut seats: Seats,
+    spare: Turns,
     plan: &FlowPlan,
     pool: &mut Nodes,
 ) -> Result<Open, NoMemory>
@@ -114,13 +137,14 @@ fn seated(
     ensures refused { OnErr result (pool.new.regions
         ≡ regions_with pool.old (number_of frame.region) None) }
 {
-    match room_to_sit(alloc, &frame, &mut seats, plan) {
+    match room_to_sit(&frame, &mut seats, plan, spare) {
         Ok(mut turns) => {
             seat_new(&frame, &mut seats, &mut turns);
             Ok(Open {
                 frame,
                 seats,
                 turns,
+                levels: Levels::new(alloc),
             })
         }
         Err(error) => {
@@ -130,17 +154,33 @@ fn seated(
     }
 }
 
+/// The last of the husks, and that of no instance where there is none. Takes no memory.
+fn last_of(alloc: Global, husks: &mut Vec<Husk>) -> Husk {
+    match husks.pop() {
+        Some(husk) => husk,
+        None => Husk::new(alloc),
+    }
+}
+
+/// Keeps a husk as long as that takes no memory.
+fn keep(husks: &mut Vec<Husk>, husk: Husk) {
+    if husks.len() < husks.capacity() {
+        husks.push_reserved(husk);
+    }
+}
+
 impl Open {
     /// The instance of a plan's flow on its inputs, told nothing, in a region that is new in the
-    /// pool. Takes the flow's tables, which it shares. Linear in the flow with its constants, and
-    /// in the inputs: both are looked through for faults. A refusal leaves the pool's regions as
-    /// they were.
+    /// pool. Takes the flow's tables, which it shares, and the memory of the last of the husks.
+    /// Linear in the flow with its constants, and in the inputs: both are looked through for
+    /// faults. A refusal leaves the pool's regions as they were.
     pub fn start(
         alloc: Global,
         plan: &FlowPlan,
         tables: &FlowTables,
         inputs: Pieces,
         pool: &mut Nodes,
+        husks: &mut Vec<Husk>,
     ) -> Result<Open, NoMemory>
         requires can { (d : Document) × CanStart d.flows plan.now (piece_values inputs) }
         requires sound { AreSound inputs }
@@ -153,8 +193,9 @@ impl Open {
         ensures refused { OnErr result (SameRegions pool.old pool.new) }
     {
         let seats = Seats::start(alloc, tables.levels())?;
-        let frame = Frame::start(alloc, plan, tables, inputs, pool)?;
-        seated(alloc, frame, seats, plan, pool)
+        let husk = last_of(alloc, husks);
+        let frame = Frame::start(alloc, plan, tables, inputs, pool, husk.frame)?;
+        seated(alloc, frame, seats, husk.turns, plan, pool)
     }
 
     /// Whether the instance has ended.
@@ -174,19 +215,28 @@ impl Open {
         self.frame.outputs()
     }
 
-    /// Gives the outputs of an instance that has ended with its jobs' seats, and releases its region. Takes no memory.
-    pub fn finish(self, pool: &mut Nodes) -> (Pieces, Seats)
+    /// Gives the outputs of an instance that has ended with its jobs' seats and its levels, and releases its region. What else it
+    /// leaves stands with the husks, where they have room for it. Takes no memory.
+    pub fn finish(self, pool: &mut Nodes, husks: &mut Vec<Husk>) -> (Pieces, Seats, Vec<Level>)
         requires ended { (d : Document) × (plan : ThePlan) × (v : View)
             × IsOpen d plan pool.old self v × (has_ended_now (levels_in v.flow) v ≡ true) }
         ensures outputs { (d : Document) (plan : ThePlan) (v : View) → IsOpen d plan pool.old self v
             → AreSound result.0 × AreOutputs v (piece_values result.0) }
         ensures seats { result.1.seats ≡ self.seats.seats }
+        ensures levels { (d : Document) (plan : ThePlan) (v : View) → IsOpen d plan pool.old self v
+            → AreItsLevels v (map level_view result.2.items) }
         ensures gone { pool.new.regions
             ≡ regions_with pool.old (number_of self.frame.region) None }
     {
-        let Open { frame, seats, .. } = self;
-        let outs = frame.finish(pool);
-        (outs, seats)
+        let Open {
+            frame,
+            seats,
+            turns,
+            levels,
+        } = self;
+        let (outs, frame) = frame.finish(pool);
+        keep(husks, Husk { frame, turns });
+        (outs, seats, levels.finish())
     }
 
     /// Releases the region of an instance whose opening is refused. Takes no memory.

@@ -72,6 +72,7 @@ impl Open {
         ensures frame { self.new.frame ≡ self.old.frame }
         ensures seats { self.new.seats.seats ≡ map back self.old.seats.seats }
         ensures levels { self.new.seats.levels ≡ self.old.seats.levels }
+        ensures kept { self.new.levels ≡ self.old.levels }
         ensures turns { AreRestarted self.old.turns self.new.turns }
     {
         self.turns.restart();

@@ -27,13 +27,23 @@ pub(crate) struct Turns {
 }
 
 impl Turns {
-    /// None is passed. Linear in the steps.
-    pub(crate) fn start(alloc: Global, steps: usize, order: &[u32]) -> Result<Turns, NoMemory>
+    /// Of no step. Takes no memory.
+    pub(crate) fn new(alloc: Global) -> Turns {
+        Turns {
+            positions: Vec::new(alloc),
+            from: 0,
+        }
+    }
+
+    /// None is passed, in the memory of others. Linear in the steps.
+    pub(crate) fn started(self, steps: usize, order: &[u32]) -> Result<Turns, NoMemory>
         requires { (i k : ℕ) → slice_get order.now i ≡ Some k → k < steps }
         ensures turns { IfOk result (λ t. AreTurns order.now t.positions.items) }
         ensures none { IfOk result (λ t. t.from ≡ 0) }
     {
-        let mut positions = vec![in alloc; 0; steps]?;
+        let mut positions = self.positions;
+        positions.clear();
+        positions.resize(steps, 0)?;
         for done in 0..order.len() {
             let at = order.len() - 1 - done;
             positions[order[at] as usize] = at;

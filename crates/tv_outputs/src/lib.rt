@@ -17,6 +17,7 @@
 //! - `outputs`: the trees and their calls
 //! - `one`: a change of one tree
 //! - `pieces`: pieces of one tree
+//! - `values`: values of one tree
 //! - `same`: whether what is found in one tree is a value
 #![tactic(auto)]
 
@@ -26,5 +27,6 @@ mod pieces;
 mod same;
 #[cfg(test)]
 mod tests;
+mod values;
 
-pub use outputs::{Nodes, Outputs};
+pub use outputs::{Faults, Nodes, Outputs};

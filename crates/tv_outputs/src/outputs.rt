@@ -20,6 +20,8 @@ ghost use Rattle.tv_outputs.specs.Changes.{Arrive, Close, Turns, AllCanArrive, A
 use crate::one::{arrive_in, close_in};
 use crate::pieces::{found_piece, list_at, piece_around};
 use crate::same::found_is;
+use crate::values::found_value;
+use smallvec::SmallVec;
 use std::alloc::Global;
 use tv_cell::{Piece, Pieces};
 use tv_pool::{Pool, Region};
@@ -28,6 +30,10 @@ use tv_value::{NoMemory, Place, Value};
 
 /// The pool in which the trees stand.
 pub type Nodes = Pool<Slot<Piece>>;
+
+/// For each output of a step at how many prefixes of a place it holds a fault. Of up to four outputs
+/// with no allocation.
+pub type Faults = SmallVec<usize, 4>;
 
 /// What is known so far of the outputs of an instance's steps: a partial tree of pieces for each, by their numbers. The trees
 /// stand in one region of a pool, and go with it.
@@ -225,7 +231,7 @@ impl Outputs {
         first: usize,
         place: &Place,
         pieces: &[Piece],
-        faults: &mut Vec<usize>,
+        faults: &mut Faults,
     ) -> Result<(), NoMemory>
         requires stand { (region : InRegion) × Stand pool.now self.now region }
         requires can { AllCanArrive first (length pieces.now) place.now (depths_of self.now) (known pool.now self.now) }
@@ -260,7 +266,7 @@ impl Outputs {
         first: usize,
         count: usize,
         place: &Place,
-        faults: &mut Vec<usize>,
+        faults: &mut Faults,
     ) -> Result<(), NoMemory>
         requires stand { (region : InRegion) × Stand pool.now self.now region }
         requires there { first + count ≤ length (known pool.now self.now) }
@@ -310,6 +316,29 @@ impl Outputs {
         let look = tree.look(pool);
         let levels = tree.depth();
         found_piece(alloc, &look, levels, place)
+    }
+
+    /// The value that stands at a place in a tree, where all of it is known. A step for each index of
+    /// the place, with a look-up, which is logarithmic in the known parts of the list, and linear in
+    /// the value, which is copied.
+    pub fn value_at(
+        &self,
+        alloc: Global,
+        pool: &Nodes,
+        number: usize,
+        place: &[u32],
+    ) -> Result<Value, NoMemory>
+        requires stand { (region : InRegion) × Stand pool.now self.now region }
+        requires there { number < length (known pool.now self.now) }
+        requires found { IsTrue (is_some (found_in place.now
+            (tree_in (known pool.now self.now) number))) }
+        ensures { IfOk result (λ x. found_in place.now (tree_in (known pool.now self.now) number)
+            ≡ Some (view x)) }
+    {
+        let tree = &self.trees[number];
+        let look = tree.look(pool);
+        let levels = tree.depth();
+        found_value(alloc, &look, levels, place)
     }
 
     /// Whether the value is what stands at a place in a tree: not where some of that isn't known yet. Takes no memory. Linear in

@@ -50,7 +50,11 @@ pub(crate) fn found_piece(
 /// The piece of what stands at a node, where all of it is known, with so many levels of lists at the most. Linear in the parts
 /// there, and as copies of the pieces that came; for each part a look-up, logarithmic in the known parts of its list.
 #[cycle(whole_piece)]
-fn whole_piece(alloc: Global, look: &Look<'_, Piece>, levels: u32) -> Result<Piece, NoMemory>
+pub(crate) fn whole_piece(
+    alloc: Global,
+    look: &Look<'_, Piece>,
+    levels: u32,
+) -> Result<Piece, NoMemory>
     requires { (r : Tree (Marked APiece)) × Sees look.now levels r × (whole (shown r) ≡ true) }
     ensures value { (r : Tree (Marked APiece)) → Sees look.now levels r → whole (shown r) ≡ true
         → IfOk result (λ p. piece_value p ≡ value_in (shown r)) }

@@ -3,7 +3,7 @@ ghost use Rattle.tv_pool.specs.Pool.{IsLive};
 ghost use Rattle.tv_cell.specs.Soundness.{IsSound, AreSound};
 ghost use Rattle.tv_outputs.specs.Tried.{Tried, IsNothing, IsSomething, HasSecond, HasBoth};
 
-use crate::outputs::{Nodes, Outputs};
+use crate::outputs::{Faults, Nodes, Outputs};
 use std::alloc::Global;
 use std::process::Abort;
 use std::test::Fail;
@@ -128,13 +128,13 @@ fn first_items(
     outputs: &mut Outputs,
     pool: &mut Nodes,
     region: &Region,
-) -> Result<Vec<usize>, NoMemory>
+) -> Result<Faults, NoMemory>
     requires { Tried pool.old outputs.old region.now HasSecond IsSomething }
     ensures { IfOk result (λ faults. Tried pool.new outputs.new region.now HasBoth IsSomething) }
 {
     let place = Place::of(alloc, &[0])?;
     let pieces = two(alloc, text(alloc, "a")?, fault(alloc)?)?;
-    let mut faults = Vec::new(alloc);
+    let mut faults = Faults::new(alloc);
     outputs.faults_by_arrival(pool, 0, &place, pieces.as_slice(), &mut faults)?;
     outputs.reserve(pool, 0, 2)?;
     outputs.arrive(pool, region, 0, &place, pieces);
@@ -147,12 +147,12 @@ fn closed(
     outputs: &mut Outputs,
     pool: &mut Nodes,
     region: &Region,
-) -> Result<(usize, usize, Vec<usize>), NoMemory>
+) -> Result<(usize, usize, Faults), NoMemory>
     requires { Tried pool.old outputs.old region.now HasBoth IsSomething }
     ensures { IfOk result (λ told. Tried pool.new outputs.new region.now IsSomething IsSomething) }
 {
     let place = Place::top(alloc);
-    let mut faults = Vec::new(alloc);
+    let mut faults = Faults::new(alloc);
     outputs.faults_by_close(pool, 0, 2, &place, &mut faults)?;
     outputs.reserve(pool, 0, 2)?;
     let least = outputs.whole_by_close(pool, 0, &place, 2);

@@ -54,6 +54,26 @@ impl Ready {
         }
     }
 
+    /// The same memory without jobs, with places of so many indices. Takes no memory.
+    pub fn emptied(self, levels: usize) -> Ready
+        ensures jobs { result.jobs ≡ [] }
+        ensures levels { result.levels ≡ levels }
+        ensures room { result.room ≡ 0 }
+    {
+        let Ready {
+            table,
+            mut queue,
+            mut late,
+        } = self;
+        queue.clear();
+        late.clear();
+        Ready {
+            table: table.emptied(levels),
+            queue,
+            late,
+        }
+    }
+
     /// How many jobs are ready.
     pub fn len(&self) -> usize
         ensures { result ≡ length self.now.jobs }

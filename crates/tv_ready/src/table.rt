@@ -54,6 +54,27 @@ impl Table {
         }
     }
 
+    /// The same memory without jobs, with places of so many levels. Takes no memory.
+    pub fn emptied(self, levels: usize) -> Table
+        ensures jobs { result.jobs ≡ [] }
+        ensures levels { result.levels ≡ levels }
+        ensures room { result.room ≡ 0 }
+    {
+        let Table {
+            mut slots,
+            mut indices,
+            ..
+        } = self;
+        slots.clear();
+        indices.clear();
+        Table {
+            levels,
+            slots,
+            indices,
+            room: 0,
+        }
+    }
+
     /// How many jobs were put.
     pub fn len(&self) -> usize
         ensures { result ≡ length self.now.jobs }

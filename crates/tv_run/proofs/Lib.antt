@@ -13,6 +13,7 @@ pub mod OfCalledBack
 pub mod OfCountedJobs
 pub mod OfEndOrNot
 pub mod OfEnding
+pub mod OfMainLevels
 pub mod OfEndingMain
 pub mod OfEndingNested
 pub mod OfEntering
@@ -78,6 +79,7 @@ pub mod OfTaking
 pub mod OfTasks
 pub mod OfTellings
 pub mod OfTotals
+pub mod OfTracing
 pub mod OfTriesOut
 pub mod OfWalkFound
 pub mod OfWalkGoing

@@ -10,6 +10,7 @@ use Rattle.tv_frame.specs.Tables.{AreTables}
 use Rattle.tv_pool.specs.Pool.{number_of, regions_with}
 use Rattle.tv_nodes.specs.Calls.{KeepsRegions}
 use Rattle.tv_open.proofs.OfRegions.{given-up}
+use Rattle.tv_open.specs.declared.open.Husk.{Husk}
 use Rattle.tv_open.specs.declared.open.Open.{Open}
 use Rattle.tv_outputs.specs.Known.{Nodes}
 use Rattle.tv_run.specs.Following.{IsEntering}
@@ -56,8 +57,8 @@ module _ (r : OpenRun) (instances : Vec code.Instance Global) (same : instances.
   abbrev with_room : OpenRun
   with_room = record r { instances = instances }
 
-  room-taken : IsSameButRooms r with_room
-  room-taken = record {
+  taken-with : (husks : Vec Husk Global) → IsSameButRooms r (record with_room { husks = husks })
+  taken-with husks = record {
     alloc = refl;
     run = refl;
     looks = refl;
@@ -74,13 +75,16 @@ module _ (r : OpenRun) (instances : Vec code.Instance Global) (same : instances.
     outs = refl;
   }
 
-  -- and in another pool with the same regions
-  pub before-room : (pool : Nodes) → SameRegions r.pool pool → IsAsBefore r (record with_room { pool = pool })
-  before-room pool regions =
-      before-but_pool r (record with_room { pool = pool }) (record { rooms = room-taken; regions = regions })
+  -- and in another pool with the same regions, with other husks
+  pub before-room : (husks : Vec Husk Global) (pool : Nodes) → SameRegions r.pool pool
+      → IsAsBefore r (record with_room { pool = pool; husks = husks })
+  before-room husks pool regions =
+      before-but_pool r (record with_room { pool = pool; husks = husks })
+      (record { rooms = taken-with husks; regions = regions })
 
   -- the room for the rest was refused, and the region that was started is given up
-  module _ (mid after : Nodes) (t : OpenRun) (o : Open) (rooms : IsSameButRooms (record with_room { pool = mid }) t)
+  module _ (husks : Vec Husk Global) (mid after : Nodes) (t : OpenRun) (o : Open)
+      (rooms : IsSameButRooms (record with_room { pool = mid; husks = husks }) t)
       (own : number_of o.frame.region ≡ length r.pool.regions)
       (keeps : KeepsRegions r.pool mid (number_of o.frame.region))
       (gone : after.regions ≡ regions_with t.pool (number_of o.frame.region) None) where
@@ -111,11 +115,12 @@ module _ (r : OpenRun) (instances : Vec code.Instance Global) (same : instances.
         before-but_pool r (record t { pool = after }) (record { rooms = rooms-then; regions = regions-same })
 
   -- the room is there for it to enter
-  pub is-entering : (mid : Nodes) (t : OpenRun) (o : Open) (jobs : Vec ℕ Global) (slot : Vec Open Global)
-      → IsSameButRooms (record with_room { pool = mid }) t → slot.items ≡ [] → 0 < vec_capacity slot → jobs.items ≡ []
+  pub is-entering : (husks : Vec Husk Global) (mid : Nodes) (t : OpenRun) (o : Open) (jobs : Vec ℕ Global)
+      (slot : Vec Open Global)
+      → IsSameButRooms (record with_room { pool = mid; husks = husks }) t → slot.items ≡ [] → 0 < vec_capacity slot → jobs.items ≡ []
       → HasRoomBeside t (length o.seats.seats) → length jobs.items + length o.seats.seats ≤ vec_capacity jobs
       → length t.instances.items < vec_capacity t.instances → IsEntering t jobs slot o
-  is-entering mid t o jobs slot rooms empty place none beside numbers instances = record {
+  is-entering husks mid t o jobs slot rooms empty place none beside numbers instances = record {
     instances = instances;
     empty = empty;
     place = place;

@@ -1,7 +1,7 @@
 -- One open instance after another has all of it called back.
 use Rattle.std.specs.Prelude.{◌≡◌, refl, ℕ, ◌+◌, ◌<◌, ◌≤◌, Some, length, slice_get}
 use Rattle.std.proofs.Common.{ap, arith, subst, sym, ◌∙◌}
-use Rattle.std.proofs.lemmas.Option.{slice_get_within}
+use Rattle.std.proofs.lemmas.Option.{same_Some, slice_get_within}
 use Rattle.tv_forest.proofs.OfLists.{same-number}
 use Rattle.tv_run.specs.Following.{HasSameAround}
 use Rattle.tv_run.specs.Recalling.{AllCalledBack, HasRoomForAll, HasRoomsIn, IsCalledBack, IsCalledBackIn}
@@ -39,6 +39,39 @@ none-back r = record {
   due = refl;
   below = λ i c e low f g. absurd (omega (arith, low));
   above = λ i h. refl;
+}
+
+-- where nothing is open all stays as it was
+pub none-open : (r : OpenRun) (i : ℕ) (g : code.Instance) → slice_get r.instances.items i ≡ Some g
+    → length g.open.items ≡ 0 → IsCalledBackIn r r i
+none-open r i g there none = record {
+  around = record {
+    alloc = refl;
+    run = refl;
+    looks = refl;
+    pool = refl;
+    entries = refl;
+    failed = refl;
+    outs = refl;
+  };
+  others = record { as_many = refl; others = λ k n. refl };
+  busy = refl;
+  jobs = refl;
+  due = refl;
+  itself = λ c e f h.
+      subst (IsCalledBack c) (same_Some c e (sym f ∙ h))
+      (record {
+        flow = refl;
+        opener = refl;
+        jobs = refl;
+        is_busy = refl;
+        as_many = refl;
+        opens = λ o p a b.
+            let w = slice_get_within c.open.items 0 o a in
+            let n = ap (λ (x : code.Instance). length x.open.items) (same_Some c g (sym f ∙ there)) ∙ none in
+            absurd (omega (arith, w, n));
+        seats = refl;
+      });
 }
 
 pub one-back : (r s t : OpenRun) (n : ℕ) → AreBackBelow r s n → IsCalledBackIn s t n → AreBackBelow r t (n + 1)

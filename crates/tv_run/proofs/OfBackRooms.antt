@@ -19,7 +19,7 @@ use Rattle.tv_forest.specs.Forest.{Instance, Instances}
 use Rattle.tv_forest.proofs.OfLists.{same-number}
 use Rattle.tv_open.specs.Standing.{IsOpen, job_of}
 use Rattle.tv_open.specs.Tries.{IsSameButRooms}
-use Rattle.tv_open.proofs.OfTries.{quiet-roomy}
+use Rattle.tv_open.proofs.OfTries.{kept-with, quiet-roomy}
 use Rattle.tv_open.specs.declared.open.Open.{Open}
 use Rattle.tv_run.specs.Following.{HasSameAround}
 use Rattle.tv_run.specs.Recalling.{HasRoomsIn, HasSameOpens, OtherRoomsIn}
@@ -112,6 +112,7 @@ opens-itself c = record {
       seats = ap (λ (q : Open). q.seats.seats) e;
       levels = ap (λ (q : Open). q.seats.levels) e;
       turns = ap (λ (q : Open). q.turns) e;
+      kept = ap (λ (q : Open). q.levels) e;
     }
 
 pub opens-then : (c d e : code.Instance) → HasSameOpens c d → HasSameOpens d e → HasSameOpens c e
@@ -130,6 +131,7 @@ opens-then c d e a b = record {
         seats = y.seats ∙ x.seats;
         levels = y.levels ∙ x.levels;
         turns = y.turns ∙ x.turns;
+        kept = y.kept ∙ x.kept;
       };
   seats = b.seats ∙ a.seats;
 }
@@ -256,6 +258,7 @@ module _ (r s : OpenRun) (a : AreOtherRooms r s) where
                 ap (map job_of) is.seats ∙ was.known ∙ ap (λ (f : Frame). known_jobs f.intakes) (sym is.frame);
             levels = is.levels ∙ was.levels;
             quiet = quiet-roomy v o p is was.quiet;
+            kept = kept-with v o p is.kept was.kept;
           }))
 
   abbrev frame_of : Option code.Instance → Option Frame

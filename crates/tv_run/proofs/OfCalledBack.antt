@@ -37,7 +37,7 @@ use Rattle.tv_firsts.specs.Told.{KeepsSpots}
 use Rattle.tv_firsts.proofs.OfNames.{names-stay}
 use Rattle.tv_open.specs.Standing.{IsOpen, job_of}
 use Rattle.tv_open.specs.declared.open.Open.{Open}
-use Rattle.tv_open.proofs.OfTries.{quiet-none}
+use Rattle.tv_open.proofs.OfTries.{kept-with, quiet-none}
 use Rattle.tv_run.specs.Looks.{AreLooks}
 use Rattle.tv_run.specs.Recalling.{IsBack, IsCalledBack, out_in}
 use Rattle.tv_run.specs.Standing.{Fits, IsKept, IsLife, due_in, frame_at, is_due, name_behind, names_from, names_of, numbered_as, numbers_of, opener_name, seats_of, steps_of}
@@ -414,6 +414,7 @@ module _ (r s : OpenRun) (n : ℕ) (all : IsAllBack r s n) (xs : Instances) (fit
                 ∙ ap (λ (f : Frame). known_jobs f.intakes) (sym is.frame);
             levels = is.levels ∙ was.levels;
             quiet = quiet-none v o.seats.seats p.seats.seats o.turns p.turns is.turns was.quiet;
+            kept = kept-with v o p is.kept was.kept;
           }))
 
   seats-then : (i : ℕ) (c e : code.Instance) (x : Instance) → IsAt xs i x → IsKept r i c x → IsCalledBack c e

@@ -1,11 +1,10 @@
 -- The run goes on once the main instance has ended, its outputs are kept, and the entry was noted: it is done.
-use Rattle.std.specs.Prelude.{◌≡◌, refl, ◌+◌, ◌≤◌, true, List, [], ◌∷◌, ◌++◌, None, Option, Some, is_none, length, map, vec_capacity}
+use Rattle.std.specs.Prelude.{◌≡◌, refl, ◌+◌, ◌≤◌, true, [], ◌∷◌, ◌++◌, None, Option, Some, is_none, length, map, vec_capacity}
 use Rattle.std.proofs.Common.{ap, append-nil, arith, subst, sym, ◌∙◌}
 use Rattle.std.proofs.lemmas.List.{length-append}
 use Rattle.tv_gate.specs.Outcomes.{Giving}
 use Rattle.tv_strategy.specs.Origins.{plain}
 use Rattle.tv_check.specs.RunViews.{run_view}
-use Rattle.tv_cell.specs.declared.piece.Piece.{Piece}
 use Rattle.tv_cell.specs.PieceValues.{piece_values}
 use Rattle.tv_cell.specs.Soundness.{AreSound}
 use Rattle.tv_model.specs.Instances.{given_of}
@@ -24,22 +23,27 @@ use Rattle.tv_entries.specs.Runs.{Appends, Run, meant, past_of}
 use Rattle.tv_entries.specs.declared.entry.Entry.{Entry}
 use Rattle.tv_entries.specs.declared.entry.Entry.TheVariants as entry
 use Rattle.tv_entries.proofs.OfTold.{tells-ended}
+use Rattle.tv_levels.specs.Views.{level_view}
+use Rattle.tv_open.specs.Levels.{AreItsLevels}
 use Rattle.tv_run.specs.Changes.{ChangesTo}
+use Rattle.tv_run.specs.Ended.{AreMainLevels}
 use Rattle.tv_run.specs.Rooms.{IsAsBefore, IsNoted}
 use Rattle.tv_run.specs.Settlements.{EndsIn, IsOpenIn, OfOpen, SettlesIn}
 use Rattle.tv_run.specs.Standing.{Fits, IsLife, OutsAre, Stands, names_of, run_of, seats_of}
+use Rattle.tv_run.specs.declared.ended.Ended.{Ended}
 use Rattle.tv_run.specs.declared.instances.Instance as code
 use Rattle.tv_run.specs.declared.run.OpenRun.{OpenRun}
 use Rattle.tv_run.proofs.OfAlike.{AreAlike, fits-alike, names-alike}
 use Rattle.tv_run.proofs.OfEnding as ending
 use Rattle.tv_run.proofs.OfFailing.{ended-fails_none}
 use Rattle.tv_run.proofs.OfLevels.{instance-named}
+use Rattle.tv_run.proofs.OfMainLevels.{levels-are_meant}
 use Rattle.tv_run.proofs.OfNext.{IsNext, fits-as_noted, names-kept, names-noted, stands-next}
 use Rattle.tv_run.proofs.OfRooms.{stands-before}
 
 -- ---- a run with other outputs
 
-module _ (t : OpenRun) (outs : Option (List Piece)) where
+module _ (t : OpenRun) (outs : Option Ended) where
   abbrev with_outs : OpenRun
   with_outs = record t { outs = outs }
 
@@ -86,8 +90,9 @@ module _ (t : OpenRun) (outs : Option (List Piece)) where
 module _ (gives : Giving) (r : OpenRun) (h : IsOpenIn gives r 0) (ends : OfOpen r 0 EndsIn) (roomy : OpenRun)
     (b : IsAsBefore r roomy) (room : length roomy.entries.items + roomy.due + 0 + 1 ≤ vec_capacity roomy.entries)
     (closed : OpenRun) (changes : ChangesTo roomy closed (with_instance h.instances 0 (shut h.instance)))
-    (names : names_of closed ≡ names_of roomy) (due : closed.due ≡ roomy.due) (outs : List Piece) (sound : AreSound outs)
-    (are : AreOutputs h.view (piece_values outs)) (s : OpenRun)
+    (names : names_of closed ≡ names_of roomy) (due : closed.due ≡ roomy.due) (outs : Ended) (sound : AreSound outs.outs)
+    (are : AreOutputs h.view (piece_values outs.outs)) (kept : AreItsLevels h.view (map level_view outs.levels.items))
+    (s : OpenRun)
     (noted : IsNoted (record closed { outs = Some outs }) s (entry.Ended 0)) where
   abbrev xs : Instances
   xs = h.instances
@@ -111,12 +116,19 @@ module _ (gives : Giving) (r : OpenRun) (h : IsOpenIn gives r 0) (ends : OfOpen 
       ap (can_end (meaning gives (run_view r.run)) (past_of (run_of r))) (sym main.unnamed)
       ∙ ending.can gives r 0 h ends
 
-  outputs : piece_values outs ≡ map (λ o. plain o.1) (meaning gives (run_view r.run)).outputs
+  outputs : piece_values outs.outs ≡ map (λ o. plain o.1) (meaning gives (run_view r.run)).outputs
   outputs =
       outputs-are_meant gives (run_view r.run) (past_of (run_of r)) x.name (levels_in x.flow) h.view
       (ending.sit gives r 0 h ends).in_run main.unnamed
       (main.is_flow ∙ ap Some (sym (ending.flow-same r 0 xs x h.view (ending.here gives r 0 h ends))))
-      (ap (given_of h.view.flow) (main.inputs h.view h.is_open)) (piece_values outs) are
+      (ap (given_of h.view.flow) (main.inputs h.view h.is_open)) (piece_values outs.outs) are
+
+  levels : AreMainLevels gives (run_view r.run) (map level_view outs.levels.items)
+  levels =
+      levels-are_meant gives (run_view r.run) (past_of (run_of r)) x.name (levels_in x.flow) h.view
+      (ending.sit gives r 0 h ends).in_run main.unnamed
+      (main.is_flow ∙ ap Some (sym (ending.flow-same r 0 xs x h.view (ending.here gives r 0 h ends))))
+      (map level_view outs.levels.items) kept
 
   now : Stands gives roomy xs
   now = stands-before gives r roomy b xs h.stands
@@ -136,14 +148,16 @@ module _ (gives : Giving) (r : OpenRun) (h : IsOpenIn gives r 0) (ends : OfOpen 
     entries = noted.entries ∙ ap (λ v. v.items ++ e ∷ []) changes.rest.entries;
   }
 
+  document : run_view s.run ≡ run_view r.run
+  document = ap run_view (noted.rest.run ∙ changes.rest.run) ∙ ap (λ (q : Run). q.document) b.same
+
   outs-are : (y : Instance) → IsAt ys 0 y → OutsAre gives (run_view s.run) s.outs (is_none y.view)
   outs-are y at =
       subst (λ o. OutsAre gives (run_view s.run) o (is_none y.view)) (sym noted.rest.outs) (
         ap (λ (a : Instance). is_none a.view) (one-at ys 0 y (shut x) at (at-set xs 0 x (shut x) h.there)),
         sound,
-        outputs
-            ∙ ap (λ a. map (λ o. plain o.1) (meaning gives a).outputs)
-            (sym (ap run_view (noted.rest.run ∙ changes.rest.run) ∙ ap (λ (q : Run). q.document) b.same)),
+        outputs ∙ ap (λ a. map (λ o. plain o.1) (meaning gives a).outputs) (sym document),
+        subst (λ a. AreMainLevels gives a (map level_view outs.levels.items)) (sym document) levels,
       )
 
   room-left : length s.entries.items + s.due ≤ vec_capacity s.entries

@@ -40,6 +40,7 @@ pub record HasLast (r m : OpenRun) (e : code.Instance) : Type 0 where
         due = r.due;
         failed = r.failed;
         outs = r.outs;
+        husks = r.husks;
       }
   pub instances : m.instances.items ≡ r.instances.items ++ e ∷ []
 

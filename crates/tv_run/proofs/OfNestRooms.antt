@@ -19,7 +19,7 @@ use Rattle.tv_forest.specs.Forest.{Instance, Instances}
 use Rattle.tv_forest.proofs.OfLists.{one-at}
 use Rattle.tv_open.specs.Standing.{IsOpen, job_of}
 use Rattle.tv_open.specs.Tries.{IsSameButRooms}
-use Rattle.tv_open.proofs.OfTries.{quiet-roomy}
+use Rattle.tv_open.proofs.OfTries.{kept-with, quiet-roomy}
 use Rattle.tv_open.specs.declared.open.Open.{Open}
 use Rattle.tv_run.specs.Changes.{AddsTo, HasNestRoom, IsOpenHere}
 use Rattle.tv_run.specs.Rooms.{IsAsBefore}
@@ -39,6 +39,7 @@ roomy-open d plan pool a b v same k = record {
       ap (map job_of) same.seats ∙ k.known ∙ ap (λ f. known_jobs f.intakes) (sym same.frame);
   levels = same.levels ∙ k.levels;
   quiet = quiet-roomy v a b same k.quiet;
+  kept = kept-with v a b same.kept k.kept;
 }
 
 -- the run with this Open there

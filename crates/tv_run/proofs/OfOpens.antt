@@ -52,6 +52,7 @@ open-any d plan other pool o v h k = record {
   known = k.known;
   levels = k.levels;
   quiet = k.quiet;
+  kept = k.kept;
 }
 
 -- where its region is what it was
@@ -62,6 +63,7 @@ open-beside d plan pool after o v same k = record {
   known = k.known;
   levels = k.levels;
   quiet = k.quiet;
+  kept = k.kept;
 }
 
 -- ---- in a run

@@ -30,7 +30,10 @@ use Rattle.tv_history.specs.Histories.{is_done}
 use Rattle.tv_order.specs.Parts.{made_of}
 use Rattle.tv_seated.proofs.OfLists.{of-image}
 use Rattle.tv_entries.specs.Runs.{meant, past_of}
+use Rattle.tv_levels.specs.Views.{level_view}
+use Rattle.tv_run.specs.Ended.{AreMainLevels}
 use Rattle.tv_run.specs.Standing.{OutsAre, StandsStill, run_of}
+use Rattle.tv_run.specs.declared.ended.Ended.{Ended}
 use Rattle.tv_run.specs.declared.run.OpenRun.{OpenRun}
 use Rattle.tv_run.proofs.OfOver.{done-is}
 
@@ -86,8 +89,11 @@ module _ (gives : Giving) (r : OpenRun) (st : StandsStill gives r) where
   pub none-missing : is_done (past_of (run_of r)) ≡ true → r.outs ≡ None → ⊥
   none-missing done none = true≢false (sym done ∙ sym (done-is gives r st) ∙ ap is_some none)
 
-  module _ (ps : List Piece) (are : r.outs ≡ Some ps) where
-    its : OutsAre gives (run_view r.run) (Some ps) (is_none st.1.stand.main.0.view)
+  module _ (ended : Ended) (are : r.outs ≡ Some ended) where
+    abbrev ps : List Piece
+    ps = ended.outs
+
+    its : OutsAre gives (run_view r.run) (Some ended) (is_none st.1.stand.main.0.view)
     its =
         let x = st.1.stand.main in
         subst (λ o. OutsAre gives (run_view r.run) o (is_none x.0.view)) are (st.1.outs_are x.0 x.1)
@@ -97,6 +103,9 @@ module _ (gives : Giving) (r : OpenRun) (st : StandsStill gives r) where
 
     output-values : piece_values ps ≡ map (λ o. plain o.1) outs
     output-values = its.2
+
+    pub levels-meant : AreMainLevels gives (run_view r.run) (map level_view ended.levels.items)
+    levels-meant = its.3
 
     module _ (n : ℕ) (plan : FlowPlan) (main : n ≡ position (run_view r.run).main (run_view r.run).flows)
         (there : slice_get (flow_plans (run_view r.run)) n ≡ Some (flow_plan_view plan))

@@ -7,7 +7,6 @@ use Rattle.std.specs.Option.{option_map_or}
 use Rattle.std.specs.Prelude.{Bool, List, None, Option, Some, [], cond, false, find, if◌then◌else◌, is_none, is_some, nat_lt, not, option_and_then, refl, slice_get, suc, true, zero, ℕ, ◌&&◌, ◌==◌, ◌||◌, ◌∷◌, ◌≡◌}
 use Rattle.tv_value.specs.Orders.{same_job}
 use Rattle.tv_value.specs.Values.{JobName}
-use Rattle.tv_cell.specs.declared.piece.Piece.{Piece}
 use Rattle.tv_check.specs.RunViews.{run_view}
 use Rattle.tv_dispatch.specs.Jobs.{Ask}
 use Rattle.tv_entries.specs.Calls.{idle_state, job_at, out_state, state_after, try_if_out, try_out}
@@ -37,6 +36,7 @@ use Rattle.tv_model.specs.Members.{In}
 use Rattle.tv_offered.proofs.OfOffers.{handing-legal}
 use Rattle.tv_run.specs.Standing.{OutsAre, Stands, StandsOpen, StandsStill, names_of, run_of}
 use Rattle.tv_run.specs.Turns.{IsOver}
+use Rattle.tv_run.specs.declared.ended.Ended.{Ended}
 use Rattle.tv_run.specs.declared.run.OpenRun.{OpenRun}
 
 -- ---- lists
@@ -174,7 +174,7 @@ shut-main gives r xs st some =
     let x = st.stand.main in
     (x.0, x.1, none-there x.0.view (ended r.outs some (is_none x.0.view) (st.outs_are x.0 x.1)))
   where
-    ended : (o : Option (List Piece)) → is_some o ≡ true → (b : Bool) → OutsAre gives (run_view r.run) o b → b ≡ true
+    ended : (o : Option Ended) → is_some o ≡ true → (b : Bool) → OutsAre gives (run_view r.run) o b → b ≡ true
     ended None h b k = absurd (true≠false (sym h))
     ended (Some ps) h b k = k.0
 
@@ -234,7 +234,7 @@ done-is gives r st = by r.outs x.view (st.1.outs_are x at) (stays x.view refl)
         flips false h = refl
         flips true h = absurd (true≠false (sym h))
 
-    by : (o : Option (List Piece)) (w : Option View) → OutsAre gives (run_view r.run) o (is_none w) → is_none w ≡ is_done past'
+    by : (o : Option Ended) (w : Option View) → OutsAre gives (run_view r.run) o (is_none w) → is_none w ≡ is_done past'
         → is_some o ≡ is_done past'
     by None w h k = sym h ∙ k
     by (Some ps) w h k = sym h.0 ∙ k

@@ -65,4 +65,7 @@ settle-by_plan d plan other pool o v e more h k = record {
   can = k.can;
   brings = k.brings;
   room = k.room;
+  level = k.level;
+  next = k.next;
+  is_level = k.is_level;
 }

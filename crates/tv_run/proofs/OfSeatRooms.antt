@@ -20,7 +20,7 @@ use Rattle.tv_seats.specs.Stages.{is_out}
 use Rattle.tv_forest.specs.Forest.{Instance, Instances}
 use Rattle.tv_open.specs.Standing.{IsOpen, job_of}
 use Rattle.tv_open.specs.Tries.{IsSameButRooms}
-use Rattle.tv_open.proofs.OfTries.{quiet-roomy}
+use Rattle.tv_open.proofs.OfTries.{kept-with, quiet-roomy}
 use Rattle.tv_open.specs.declared.open.Open.{Open}
 use Rattle.tv_run.specs.Accepting.{HasAsideRoom, HasBackRoom}
 use Rattle.tv_run.specs.Changes.{IsOpenHere}
@@ -107,6 +107,7 @@ module _ (r : OpenRun) (i : ℕ) (xs : Instances) (x : Instance) (v : View) (her
               ap (map job_of) same.seats ∙ k.known ∙ ap (λ (f : Frame). known_jobs f.intakes) (sym same.frame);
           levels = same.levels ∙ k.levels;
           quiet = quiet-roomy w o p same k.quiet;
+          kept = kept-with w o p same.kept k.kept;
         }))
         (λ f h. plan.1 ∙ same_Some x.flow f (sym its.kept.flow ∙ h))
       where

@@ -20,6 +20,7 @@ use Rattle.tv_seats.proofs.Staging.{set-other}
 use Rattle.tv_forest.specs.Entries.{shut, with_instance}
 use Rattle.tv_forest.specs.Forest.{Instance, Instances, IsAt}
 use Rattle.tv_forest.proofs.OfLists.{at-set, of-set, one-at, same-number, to-set}
+use Rattle.tv_open.specs.declared.open.Husk.{Husk}
 use Rattle.tv_open.specs.declared.open.Open.{Open}
 use Rattle.tv_run.specs.Changes.{ChangesTo, IsOpenHere}
 use Rattle.tv_run.specs.Following.{OthersAreSame}
@@ -305,10 +306,11 @@ pub record IsClosed (r s : OpenRun) (i : ℕ) (c : code.Instance) (p : Open) : T
   pub gone : s.pool.regions ≡ regions_with r.pool (number_of p.frame.region) None
 
 -- the run with this instance closed
-abbrev pub with_closed : OpenRun → ℕ → code.Instance → Vec Open Global → Seated → Nodes → OpenRun
-with_closed r i c none left pool =
+abbrev pub with_closed : OpenRun → ℕ → code.Instance → Vec Open Global → Seated → Nodes → Vec Husk Global → OpenRun
+with_closed r i c none left pool husks =
     record r {
       pool = pool;
+      husks = husks;
       instances =
           with_item r.instances i
           (record {
@@ -323,9 +325,9 @@ with_closed r i c none left pool =
 
 pub closes : (r : OpenRun) (i : ℕ) (c : code.Instance) (p : Open) (none : Vec Open Global) → none.items ≡ []
     → (left : Seated) → left.seats ≡ p.seats.seats → (pool : Nodes)
-    → pool.regions ≡ regions_with r.pool (number_of p.frame.region) None
-    → IsClosed r (with_closed r i c none left pool) i c p
-closes r i c p none empty left seats pool gone = record {
+    → pool.regions ≡ regions_with r.pool (number_of p.frame.region) None → (husks : Vec Husk Global)
+    → IsClosed r (with_closed r i c none left pool husks) i c p
+closes r i c p none empty left seats pool gone husks = record {
   run = refl;
   looks = refl;
   busy = refl;

@@ -24,7 +24,7 @@ use Rattle.tv_forest.proofs.OfLists.{at-set, of-set, one-at, same-number}
 use Rattle.tv_firsts.specs.Opening.{IsStill}
 use Rattle.tv_open.specs.Standing.{IsOpen, job_of}
 use Rattle.tv_open.specs.Tries.{HasStage}
-use Rattle.tv_open.proofs.OfTries.{quiet-staged}
+use Rattle.tv_open.proofs.OfTries.{kept-with, quiet-staged}
 use Rattle.tv_open.specs.declared.open.Open.{Open}
 use Rattle.tv_run.specs.Accepting.{IsOutHere, MovesTo}
 use Rattle.tv_run.specs.Standing.{IsLife, IsOpenOf, frame_at, is_due, names_of, seats_of}
@@ -177,6 +177,7 @@ module _ (r s : OpenRun) (i n : ℕ) (y : Stage) (before : code.Instance) (old n
               ∙ ap (λ (f : Frame). known_jobs f.intakes) (sym w.has_stage.frame);
           levels = w.has_stage.levels ∙ k.levels;
           quiet = quiet-staged v old new n y w.has_stage k.quiet;
+          kept = kept-with v old new w.has_stage.kept k.kept;
         }))
 
     life : IsLife s after z z.view

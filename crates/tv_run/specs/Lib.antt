@@ -1,4 +1,5 @@
 pub mod Looks
+pub mod Ended
 pub mod Standing
 pub mod Jobs
 pub mod Rooms
@@ -9,3 +10,4 @@ pub mod Turns
 pub mod Walking
 pub mod Settlements
 pub mod Accepting
+pub mod Tracing

@@ -53,6 +53,7 @@ pub record IsBack (o p : Open) : Type 0 where
   pub seats : p.seats.seats ≡ map back o.seats.seats
   pub levels : p.seats.levels ≡ o.seats.levels
   pub turns : AreRestarted o.turns p.turns
+  pub kept : p.levels ≡ o.levels
 
 pub record IsCalledBack (c e : code.Instance) : Type 0 where
   pub flow : e.flow ≡ c.flow

@@ -10,7 +10,6 @@ use Rattle.tv_flow.specs.Flows.{Document, Flow, Step}
 use Rattle.tv_flow.specs.Views.{flow_view}
 use Rattle.tv_check.specs.RunViews.{run_view}
 use Rattle.tv_check.specs.declared.plans.FlowPlan.{FlowPlan}
-use Rattle.tv_cell.specs.declared.piece.Piece.{Piece}
 use Rattle.tv_cell.specs.PieceValues.{piece_values}
 use Rattle.tv_cell.specs.Soundness.{AreSound}
 use Rattle.tv_model.specs.Jobs.{Job}
@@ -31,7 +30,10 @@ use Rattle.tv_firsts.specs.Opening.{IsStill}
 use Rattle.tv_entries.specs.Runs.{IsLegalRun, Run, instances_of, meant, past_of}
 use Rattle.tv_open.specs.Standing.{IsOpen}
 use Rattle.tv_open.specs.declared.open.Open.{Open}
+use Rattle.tv_levels.specs.Views.{level_view}
+use Rattle.tv_run.specs.Ended.{AreMainLevels}
 use Rattle.tv_run.specs.Looks.{AreLooks, IsFlow}
+use Rattle.tv_run.specs.declared.ended.Ended.{Ended}
 use Rattle.tv_run.specs.declared.instances.Instance as code
 use Rattle.tv_run.specs.declared.instances.Numbered.{Numbered}
 use Rattle.tv_run.specs.declared.run.OpenRun.{OpenRun}
@@ -148,11 +150,12 @@ abbrev pub failed_count : Giving → Run → ℕ
 failed_count gives r =
     count_by (λ (j : Job). has_failed (past_of r) j.name) (filter (is_settled (past_of r)) (meant gives r).jobs)
 
--- the outputs of the main flow, from its end on
-abbrev pub OutsAre : Giving → Document → Option (List Piece) → Bool → Type 0
+-- what the main flow gives, from its end on
+abbrev pub OutsAre : Giving → Document → Option Ended → Bool → Type 0
 OutsAre gives d None ended = ended ≡ false
-OutsAre gives d (Some ps) ended =
-    (ended ≡ true) × AreSound ps × (piece_values ps ≡ map (λ o. plain o.1) (meaning gives d).outputs)
+OutsAre gives d (Some e) ended =
+    (ended ≡ true) × AreSound e.outs × (piece_values e.outs ≡ map (λ o. plain o.1) (meaning gives d).outputs)
+    × AreMainLevels gives d (map level_view e.levels.items)
 
 -- by the services' meaning of its document the run stands so, and these are its instances
 pub record Stands (gives : Giving) (r : OpenRun) (xs : Instances) : Type 0 where

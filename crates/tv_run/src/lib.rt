@@ -19,11 +19,14 @@
 //! - `settling`: a job bounced, a list closed or a fault passed
 //! - `nesting`: an instance opened or ended
 //! - `accepting`: an outcome accepted
+//! - `ended`: what is left of the main instance once it has ended
 //! - `outputs`: what a run gives once it is done, and its totals so far
+//! - `tracing`: what was made of what in a run that is done
 //! - `over`: what holds of every run, and of one that is done
 #![tactic(auto)]
 
 mod accepting;
+mod ended;
 mod handing;
 mod instances;
 mod jobs;
@@ -35,6 +38,7 @@ mod results;
 mod run;
 mod settling;
 mod tasks;
+mod tracing;
 mod walk;
 
 pub use run::OpenRun;

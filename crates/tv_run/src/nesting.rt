@@ -1,5 +1,5 @@
 //! Instances opened and ended.
-ghost use Rattle.std.specs.Prelude.{◌≡◌, ◌<◌, ◌+◌, IfOk, OnErr, OnOk, Some, length, slice_get, true};
+ghost use Rattle.std.specs.Prelude.{◌≡◌, ◌<◌, ◌+◌, IfOk, OnErr, OnOk, Some, length, map, slice_get, true};
 ghost use Rattle.tv_value.specs.Values.{Name};
 ghost use Rattle.tv_gate.specs.Outcomes.{Giving};
 ghost use Rattle.tv_flow.specs.Flows.{Step};
@@ -10,7 +10,9 @@ ghost use Rattle.tv_framing.specs.Answers.{AreOutputs};
 ghost use Rattle.tv_framing.specs.Views.{View};
 ghost use Rattle.tv_seats.specs.Firsts.{MayNest};
 ghost use Rattle.tv_seats.specs.declared.stage.Stage.TheVariants.{Nested as ANested};
+ghost use Rattle.tv_levels.specs.Views.{level_view};
 ghost use Rattle.tv_open.specs.Events.{WaitsReady};
+ghost use Rattle.tv_open.specs.Levels.{AreItsLevels};
 ghost use Rattle.tv_forest.specs.Entries.{shut, with_instance};
 ghost use Rattle.tv_forest.specs.Forest.{Instance, Instances, IsAt};
 ghost use Rattle.tv_run.specs.Changes.{ChangesTo, HasNestRoom, IsOpenHere, TakesIn};
@@ -19,6 +21,7 @@ ghost use Rattle.tv_run.specs.Settlements.{EndsIn, EndsOrNot, GoesOnFirst, IsOpe
 ghost use Rattle.tv_run.specs.Standing.{Fits, StandsOpen, names_of};
 ghost use Rattle.tv_run.specs.Turns.{SettlesTo, StaysAs};
 
+use crate::ended::Ended;
 use crate::instances::Numbered;
 use crate::run::OpenRun;
 use tv_cell::Pieces;
@@ -152,8 +155,8 @@ impl OpenRun {
         ensures refused { OnErr result ((gives : Giving) → StandsOpen gives self.old → StaysAs gives self.old self.new) }
     {
         self.reserve_entries(0)?;
-        let outs = self.close(0);
-        self.outs = Some(outs);
+        let ended = self.close(0);
+        self.outs = Some(ended);
         self.note(Entry::Ended { instance: 0 });
         Ok(())
     }
@@ -170,7 +173,7 @@ impl OpenRun {
         let pieces = self.outs_of(instance)?;
         let spot = self.room_for_result(outer.instance, outer.number, &pieces)?;
         self.give(outer.instance, outer.number, spot, pieces);
-        let _outs = self.close(instance);
+        let _ended = self.close(instance);
         self.note(Entry::Ended { instance });
         Ok(())
     }
@@ -189,10 +192,12 @@ impl OpenRun {
     }
 
     /// An instance that has ended is open no more, and gives back its region. Takes no memory.
-    fn close(&mut self, instance: u64) -> Pieces
+    fn close(&mut self, instance: u64) -> Ended
         requires { (xs : Instances) × (x : Instance) × (v : View) × IsOpenHere self.old xs instance x v × EndsIn x v }
         ensures outputs { (xs : Instances) (x : Instance) (v : View) → IsOpenHere self.old xs instance x v → EndsIn x v
-            → AreSound result × AreOutputs v (piece_values result) }
+            → AreSound result.outs × AreOutputs v (piece_values result.outs) }
+        ensures levels { (xs : Instances) (x : Instance) (v : View) → IsOpenHere self.old xs instance x v → EndsIn x v
+            → AreItsLevels v (map level_view result.levels.items) }
         ensures shut { (xs : Instances) (x : Instance) (v : View) → IsOpenHere self.old xs instance x v → EndsIn x v
             → ChangesTo self.old self.new (with_instance xs instance (shut x)) }
         ensures names { names_of self.new ≡ names_of self.old }
@@ -201,10 +206,10 @@ impl OpenRun {
         let ended = &mut self.instances[instance as usize];
         match ended.open.pop() {
             Some(itself) => {
-                let (outs, seats) = itself.finish(&mut self.pool);
+                let (outs, seats, levels) = itself.finish(&mut self.pool, &mut self.husks);
                 ended.open = Vec::new(self.alloc);
                 ended.seats = Some(seats);
-                outs
+                Ended { outs, levels }
             }
             None => unreachable!(),
         }

@@ -94,10 +94,10 @@ impl OpenRun {
     {
         let plan = self.run.flow(self.run.main());
         match &self.outs {
-            Some(pieces) => named_values(
+            Some(ended) => named_values(
                 self.alloc,
                 plan.flow.outputs.as_slice(),
-                pieces.as_slice(),
+                ended.outs.as_slice(),
             ),
             None => unreachable!(),
         }

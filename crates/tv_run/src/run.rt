@@ -14,13 +14,14 @@ ghost use Rattle.tv_run.specs.Following.{AddsNumber, CanFollow, CanNumber, Enter
 ghost use Rattle.tv_run.specs.Rooms.{HasRoomBeside, HasRoomIn, IsAsBefore, IsNoted, IsSameButEntries, IsSameButRooms};
 ghost use Rattle.tv_run.specs.Standing.{Fits, StandsOpen};
 
+use crate::ended::Ended;
 use crate::instances::{Instance, Numbered};
 use crate::plans::{FlowLook, looks_of};
 use std::alloc::Global;
 use tv_cell::{Pieces, Row};
 use tv_check::{CheckedRun, FlowPlan};
 use tv_entries::Entry;
-use tv_open::Open;
+use tv_open::{Husk, Open};
 use tv_outputs::Nodes;
 use tv_pool::Pool;
 use tv_results::value_piece;
@@ -45,9 +46,14 @@ pub struct OpenRun {
     pub(crate) due: usize,
     // How many jobs have failed.
     pub(crate) failed: u64,
-    // The outputs of the main flow, once the main instance has ended.
-    pub(crate) outs: Option<Pieces>,
+    // What the main instance gives, once it has ended.
+    pub(crate) outs: Option<Ended>,
+    // What instances that ended have left, for those that are opened.
+    pub(crate) husks: Vec<Husk>,
 }
+
+/// So many husks are kept.
+const HUSKS: usize = 16;
 
 /// The values given, as pieces, in the order of the names.
 fn input_pieces(alloc: Global, inputs: &[(Name, Value)]) -> Result<Pieces, NoMemory>
@@ -81,6 +87,7 @@ fn without_instances(alloc: Global, run: CheckedRun) -> Result<OpenRun, NoMemory
         due: 0,
         failed: 0,
         outs: None,
+        husks: Vec::with_capacity(alloc, HUSKS)?,
     })
 }
 
@@ -136,7 +143,8 @@ impl OpenRun {
         let slot = Vec::with_capacity(self.alloc, 1)?;
         let plan = self.run.flow(flow);
         let tables = &self.looks[flow as usize].tables;
-        let open = Open::start(self.alloc, plan, tables, inputs, &mut self.pool)?;
+        let (pool, husks) = (&mut self.pool, &mut self.husks);
+        let open = Open::start(self.alloc, plan, tables, inputs, pool, husks)?;
         let mut jobs = Vec::new(self.alloc);
         match self.reserve(&mut jobs, open.known()) {
             Ok(()) => {

@@ -24,7 +24,6 @@ use crate::run::OpenRun;
 use tv_cell::Pieces;
 use tv_entries::{Task, Ticket};
 use tv_flow::Activity;
-use tv_results::values_of;
 use tv_value::{Copied, Items, Name, NoMemory};
 
 /// The name of the service of an activity that is one.
@@ -74,8 +73,22 @@ impl OpenRun {
         ensures { IfOk result (λ vs. (gives : Giving) (a : Ask) → StandsStill gives self.now
             → try_if_out gives (run_of self.now) ticket ≡ Some a → values_view vs ≡ a.inputs) }
     {
-        let pieces = self.inputs_of(ticket.job)?;
-        values_of(self.alloc, pieces.as_slice())
+        self.values_bound(ticket.job)
+    }
+
+    /// The values that a job of an open instance binds. Linear in them.
+    fn values_bound(&self, job: u64) -> Result<Items, NoMemory>
+        requires { (xs : Instances) × Fits self.now xs × IsOfOpen self.now job }
+        ensures { IfOk result (λ vs. (xs : Instances) (n : TheNumbered) (x : AnInstance) (v : View)
+            (s : Seat)
+            → Fits self.now xs → slice_get self.now.jobs.items job ≡ Some n
+            → IsAt xs n.instance x → x.view ≡ Some v → slice_get x.seats n.number ≡ Some s
+            → AreInputs v (spot_of x.flow.steps s) (values_view vs)) }
+    {
+        let Numbered { instance, number } = self.known(job);
+        let plan = self.plan_of(instance);
+        self.opened(instance)
+            .values(self.alloc, plan, &self.pool, number)
     }
 
     /// What a job of an open instance binds.

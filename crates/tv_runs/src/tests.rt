@@ -3,7 +3,9 @@
 //! - `documents`: documents over the local services
 //! - `services`: services whose outcomes aren't all right
 //! - `scripted`: chains over these
+//! - `kept`: what boards keep
 mod documents;
+mod kept;
 mod scripted;
 mod services;
 

@@ -6,12 +6,14 @@
 //! - `orders`: outcomes accepted in any order, with the same line each time
 //! - `nested`: boards of nested flows
 //! - `elsewhere`: answers that were made for another board
+//! - `traced`: what boards that are done tell of lineage
 mod elsewhere;
 mod nested;
 mod one_by_one;
 mod orders;
 mod play;
 mod telling;
+mod traced;
 
 use crate::tests::play::Play;
 use std::alloc::Global;

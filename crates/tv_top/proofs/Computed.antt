@@ -3,7 +3,7 @@ use Rattle.std.specs.Prelude.{refl}
 use Rattle.std.specs.Fmt.{digits}
 use Rattle.json.specs.Print.{escape_byte}
 use Rattle.tv_words.proofs.OnLiterals.{words_on_literals}
-use Rattle.tv_top.specs.Worked.{RunsOneText, RunsChain, RunsFailure, RunsCross, ChecksCross, ChecksChain, RefusesCircle, RefusesNoDocument, RefusesDepth, TakesCommands, TakesNothingElse, AsksChain, AsksFailure, AsksAttempts, AsksNoCheck, AsksGenerated, RunsNestedFlow, RunsGenerated, TracesAttempts, TracesChain, TracesFailure}
+use Rattle.tv_top.specs.Worked.{RunsOneText, RunsChain, RunsFailure, RunsCross, ChecksCross, ChecksChain, RefusesCircle, RefusesNoDocument, RefusesDepth, TakesCommands, TakesNothingElse, AsksChain, AsksFailure, AsksAttempts, AsksNoCheck, AsksGenerated, AsksForward, AsksLineage, LineageOfCross, LineageOfFailure, ForwardOfCross, RefusesElements, RunsNestedFlow, RunsGenerated, TracesAttempts, TracesChain, TracesFailure}
 
 pub runs_one_text : RunsOneText
 unfolding digits escape_byte
@@ -43,7 +43,7 @@ refuses_depth = (refl, refl)
 
 pub takes_commands : TakesCommands
 unfolding words_on_literals
-takes_commands = (refl, refl, refl, refl, refl)
+takes_commands = (refl, refl, refl, refl, refl, refl, refl)
 
 pub takes_nothing_else : TakesNothingElse
 unfolding words_on_literals
@@ -88,3 +88,27 @@ runs_generated = refl
 pub asks_generated : AsksGenerated
 unfolding digits escape_byte
 asks_generated = refl
+
+pub lineage_of_cross : LineageOfCross
+unfolding digits escape_byte
+lineage_of_cross = refl
+
+pub lineage_of_failure : LineageOfFailure
+unfolding digits escape_byte
+lineage_of_failure = refl
+
+pub forward_of_cross : ForwardOfCross
+unfolding digits escape_byte
+forward_of_cross = refl
+
+pub refuses_elements : RefusesElements
+unfolding digits escape_byte
+refuses_elements = (refl, refl, refl, refl)
+
+pub asks_lineage : AsksLineage
+unfolding digits escape_byte
+asks_lineage = (refl, refl)
+
+pub asks_forward : AsksForward
+unfolding digits escape_byte
+asks_forward = (refl, refl)

@@ -3,6 +3,7 @@ use Rattle.std.specs.Prelude.{◌≡◌, ◌≢◌, ℕ, ◌<◌, List, [], leng
 use Rattle.std.proofs.Common.{ap, sym, subst, ◌∙◌, inl, inr}
 use Rattle.std.proofs.lemmas.Bool.{lt-ltb}
 use Rattle.serde_json.specs.Data.{Data}
+use Rattle.tv_value.specs.Nested.{Place}
 use Rattle.tv_value.specs.Values.{Text, Name}
 use Rattle.tv_gate.specs.Outcomes.{Giving}
 use Rattle.tv_flow.specs.Complaints as form
@@ -14,16 +15,16 @@ use Rattle.tv_check.specs.RunViews.{run_view}
 use Rattle.tv_check.specs.declared.run.CheckedRun.{CheckedRun}
 use Rattle.tv_io.specs.ReadOf.{IsReadWhole}
 use Rattle.tv_model.specs.RowsOfSize.{generated}
-use Rattle.tv_top.specs.Words.{Command, run, check, trace, gen}
-use Rattle.tv_top.specs.Answers.{Answer, StatusLine, always, answer_of, answer_to, answer_to_reading, byte_limit, generated_reading, json_of, reading_for, reading_of, reading_of_json, unless_complaint, unless_misformed}
+use Rattle.tv_top.specs.Words.{Command, run, check, trace, lineage, forward, gen}
+use Rattle.tv_top.specs.Answers.{Answer, Reading, StatusLine, always, answer_of, answer_to, answer_to_reading, byte_limit, forward_text, generated_reading, json_of, lineage_text, reading_for, reading_of, reading_of_json, unless_absent, unless_complaint, unless_misformed}
 use Rattle.tv_top.specs.Asked.{GivesAnswer, GivesRun, ended, line_of, refusal_line, refusal_status}
 use Rattle.tv_top.specs.Headline.{IsAnswered, IsAnswersLine, IsLine, IsRead, IsReadRefusal, IsRefusal, IsRefused, IsRefusedSo, Leaving, OfDocument, RefusalCause, Source, read_whole, unread}
 use Rattle.tv_top.specs.declared.status.Status.{Status}
-use Rattle.tv_top.specs.declared.status.Status.TheVariants.{Done, Usage, ReadFault, TooLong, NotJson, Form, Check, WriteFault, NoMemory}
+use Rattle.tv_top.specs.declared.status.Status.TheVariants.{Done, Usage, ReadFault, TooLong, NotJson, Form, Check, NoSuchElement, WriteFault, NoMemory}
 use Rattle.tv_top.specs.declared.refusal.Refusal.{Refusal}
 use Rattle.tv_top.specs.declared.refusal.Refusal.TheVariants as why
 
--- the statuses of refusals that the bytes decide
+-- the statuses of refusals that the bytes and the command decide
 abbrev Possible : Status → Type 0
 Possible Done = ⊥
 Possible Usage = ⊥
@@ -32,6 +33,7 @@ Possible TooLong = Unit {0}
 Possible NotJson = Unit {0}
 Possible Form = Unit {0}
 Possible Check = Unit {0}
+Possible NoSuchElement = Unit {0}
 Possible WriteFault = ⊥
 Possible NoMemory = ⊥
 
@@ -57,6 +59,22 @@ not-usage d o (Ok run') h = λ e. cc e
 not-usage d o (Err r) (inl h) = λ e. subst Possible e (subst IsPossible h (unless-complaint d o))
 not-usage d o (Err r) (inr m) = λ e. cc (sym (ap refusal_status m) ∙ e)
 
+-- nor for an element
+abbrev IsNoElement : Reading → Type 0
+IsNoElement (Ok d) = Unit {0}
+IsNoElement (Err r) = r.0 ≢ NoSuchElement
+
+no-element : (d : Document) (o : Option checking.Complaint) → IsNoElement (unless_complaint d o)
+no-element d None = tt
+no-element d (Some c) = λ e. cc e
+
+pub not-element :
+    (d : Document) (o : Option checking.Complaint) (r : Result CheckedRun Refusal) → GivesRun r (unless_complaint d o)
+    → ended r ≢ NoSuchElement
+not-element d o (Ok run') h = λ e. cc e
+not-element d o (Err r) (inl h) = λ e. subst IsNoElement h (no-element d o) e
+not-element d o (Err r) (inr m) = λ e. cc (sym (ap refusal_status m) ∙ e)
+
 module _ (knows : Name → Bool) where
   unless-misformed : (r : Result Document form.Complaint) → IsPossible (unless_misformed knows r)
   unless-misformed (Ok d) = unless-complaint d (checked knows d)
@@ -73,10 +91,16 @@ module _ (knows : Name → Bool) where
   pub too-long : (bytes : List ℕ) → byte_limit < length bytes → reading_of knows bytes ≡ Err (always TooLong)
   too-long bytes h = ap (λ b. if b then Err (always TooLong) else reading_of_json knows (json_of bytes)) (lt-ltb byte_limit (length bytes) h)
 
+unless-absent : (p : Name) (q : Place) (o : Option Text) → IsPossible (unless_absent p q o)
+unless-absent p q None = tt
+unless-absent p q (Some text) = tt
+
 of-document : (gives : Giving) (command : Command) (d : Document) → IsPossible (answer_to gives command d)
 of-document gives run d = tt
 of-document gives check d = tt
 of-document gives trace d = tt
+of-document gives (lineage p q) d = unless-absent p q (lineage_text gives d p q)
+of-document gives (forward p q) d = unless-absent p q (forward_text gives d p q)
 of-document gives (gen n) d = tt
 
 -- ---- a refusal that the bytes decide
@@ -100,6 +124,7 @@ module _ {A : Type 0} (left : Leaving) (f : List ℕ → Result A StatusLine) (s
   cause NotJson line p h = when-read NotJson line h
   cause Form line p h = when-read Form line h
   cause Check line p h = when-read Check line h
+  cause NoSuchElement line p h = when-read NoSuchElement line h
   cause WriteFault line p h = p
   cause NoMemory line p h = tt
 
@@ -114,10 +139,12 @@ module _ {A : Type 0} (left : Leaving) (f : List ℕ → Result A StatusLine) (s
   line-is (why.Plain NotJson) p h = refl
   line-is (why.Plain Form) p h = told Form [] h
   line-is (why.Plain Check) p h = told Check [] h
+  line-is (why.Plain NoSuchElement) p h = told NoSuchElement [] h
   line-is (why.Plain WriteFault) p h = refl
   line-is (why.Plain NoMemory) p h = refl
   line-is (why.Form line) p h = told Form line h
   line-is (why.Check line) p h = told Check line h
+  line-is (why.NoSuchElement line) p h = told NoSuchElement line h
 
   decided : (r : Refusal) → Possible (refusal_status r) → IsDecided left f s (line_of r) → IsRefusedSo left f s r
   decided r p h = (cause (refusal_status r) (refusal_line r) p h, line-is r p h)
@@ -195,6 +222,7 @@ module _ (gives : Giving) (knows : Name → Bool) (command : Command) (left : Le
       cause-so NotJson k = λ bytes e. (refusal-so NotJson bytes (k bytes e).0, (k bytes e).1)
       cause-so Form k = λ bytes e. (refusal-so Form bytes (k bytes e).0, (k bytes e).1)
       cause-so Check k = λ bytes e. (refusal-so Check bytes (k bytes e).0, (k bytes e).1)
+      cause-so NoSuchElement k = λ bytes e. (refusal-so NoSuchElement bytes (k bytes e).0, (k bytes e).1)
       cause-so WriteFault k = k
       cause-so NoMemory k = k
 
@@ -209,5 +237,6 @@ module _ (gives : Giving) (knows : Name → Bool) (command : Command) (left : Le
       line-so NotJson line k = k
       line-so Form line k = both-so Form line k
       line-so Check line k = both-so Check line k
+      line-so NoSuchElement line k = both-so NoSuchElement line k
       line-so WriteFault line k = k
       line-so NoMemory line k = k

@@ -11,13 +11,15 @@ use Rattle.tv_top.specs.Headline.{IsAnswered, IsRead, Source, left_by, read_whol
 use Rattle.tv_top.specs.Words.{Command, IsGen, gen}
 use Rattle.tv_top.specs.declared.refusal.Refusal.{Refusal}
 use Rattle.tv_top.specs.declared.words.Reading.{Reading}
-use Rattle.tv_top.specs.declared.words.Reading.TheVariants.{Check, Run, Trace}
+use Rattle.tv_top.specs.declared.words.Reading.TheVariants.{Check, Forward, Lineage, Run, Trace}
 
 -- one that reads a document reads it to its end, and is not for a generated one
 isnt-gen : (r : Reading) → IsGen (Some (reading_view r)) → ⊥
 isnt-gen Run h = h
 isnt-gen Check h = h
 isnt-gen Trace h = h
+isnt-gen (Lineage p q) h = h
+isnt-gen (Forward p q) h = h
 
 pub not-gen : (r : Reading) (o : Option Command) → Some (reading_view r) ≡ o → IsGen o → ⊥
 not-gen r o e h = isnt-gen r (subst IsGen (sym e) h)
@@ -28,6 +30,8 @@ module _ (answer : Option Command → List ℕ → Answer) (o : Option Command) 
   answered-read Run e h = subst (λ p. IsAnswered (left_by p) (answer p) s x) e h
   answered-read Check e h = subst (λ p. IsAnswered (left_by p) (answer p) s x) e h
   answered-read Trace e h = subst (λ p. IsAnswered (left_by p) (answer p) s x) e h
+  answered-read (Lineage p q) e h = subst (λ p. IsAnswered (left_by p) (answer p) s x) e h
+  answered-read (Forward p q) e h = subst (λ p. IsAnswered (left_by p) (answer p) s x) e h
 
   pub answered-gen : (n : ℕ) → Some (gen n) ≡ o → IsAnswered unread (answer (Some (gen n))) s x
       → IsAnswered (left_by o) (answer o) s x
@@ -40,6 +44,8 @@ pub read-for :
 read-for knows s Run x h = h
 read-for knows s Check x h = h
 read-for knows s Trace x h = h
+read-for knows s (Lineage p q) x h = h
+read-for knows s (Forward p q) x h = h
 
 pub asked-by :
     (asks : Option Command → List ℕ → List Call) (p o : Option Command) (s : Source) (before after : ToldCalls)

@@ -8,3 +8,4 @@ pub mod Traced
 mod OfNumbers
 mod Leaving
 mod Completed
+mod OfElements

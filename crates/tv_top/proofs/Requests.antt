@@ -1,36 +1,51 @@
 -- Only a run that is answered asks for something.
-use Rattle.std.specs.Prelude.{◌≡◌, ◌≢◌, ℕ, List, [], ◌∷◌, ◌++◌, Bool, true, false, Option, Some, None, Ok, Err, refl}
+use Rattle.std.specs.Option.{option_map_or}
+use Rattle.std.specs.Prelude.{◌≡◌, ℕ, List, [], ◌∷◌, ◌++◌, Bool, true, false, Option, Some, None, option_map, Ok, Err, refl}
 use Rattle.std.proofs.Common.{ap, sym, subst, ◌∙◌, true≢false, inl, inr}
 use Rattle.std.proofs.lemmas.List.{append-nil}
-use Rattle.tv_value.specs.Values.{Name, Text}
+use Rattle.tv_value.specs.Nested.{Place}
+use Rattle.tv_value.specs.Values.{Name, Text, Value}
 use Rattle.tv_gate.specs.Calls.{Call, IsSameCalls}
 use Rattle.tv_gate.specs.Outcomes.{Giving}
 use Rattle.tv_flow.specs.Flows.{Document}
-use Rattle.tv_top.specs.Words.{Command, run, check, trace, gen}
-use Rattle.tv_top.specs.Answers.{Answer, Reading, StatusLine, answer_of, answer_to, answer_to_reading, reading_for, reading_of}
-use Rattle.tv_top.specs.Asking.{AsksThese, BeginsThese, BeginsForDocument, IsAsked, OthersAreNotAsked, OthersAskNothing, RefusalsAskNothing, ToldCalls, asks_of, asks_to, asks_to_reading, is_run}
+use Rattle.tv_elements.specs.Lines.{element_lines}
+use Rattle.tv_model.specs.Lineages as model
+use Rattle.tv_model.specs.Meanings.{meaning}
+use Rattle.tv_top.specs.Words.{Command, run, check, trace, lineage, forward, gen}
+use Rattle.tv_top.specs.Answers.{Answer, Reading, answer_of, answer_to, answer_to_reading, given_at, lineage_text, reading_for, reading_of, unless_absent}
+use Rattle.tv_top.specs.Asking.{AsksThese, BeginsThese, BeginsForDocument, IsAsked, OthersAreNotAsked, OthersAskNothing, RefusalsAskNothing, ToldCalls, asks_of, asks_of_run, asks_to, asks_to_reading, is_lineage, is_run}
 use Rattle.tv_top.specs.Headline.{Source}
 use Rattle.tv_top.specs.declared.status.Status.{Status}
-use Rattle.tv_top.specs.declared.status.Status.TheVariants.{Done, Usage, ReadFault, TooLong, NotJson, Form, Check, WriteFault, NoMemory}
+use Rattle.tv_top.specs.declared.status.Status.TheVariants.{Done, Usage, ReadFault, TooLong, NotJson, Form, Check, NoSuchElement, WriteFault, NoMemory}
 
--- a refusal has no calls
-abbrev Fits : Answer → List Call → Type 0
-Fits (Ok text) cs = Unit {0}
-Fits (Err r) cs = cs ≡ []
+-- a refusal has no calls, unless it is that of an element whose lineage is asked for
+abbrev Fits : Bool → Answer → List Call → Type 0
+Fits l (Ok text) cs = Unit {0}
+Fits l (Err r) cs = (l ≡ true → r.0 ≡ NoSuchElement → ⊥) → cs ≡ []
+
+of-lineage : (p : Name) (q : Place) (o : Option Text) (cs : List Call) → Fits true (unless_absent p q o) cs
+of-lineage p q None cs = λ h. absurd (h refl refl)
+of-lineage p q (Some text) cs = tt
+
+of-given : (p : Name) (q : Place) (o : Option Value) (f : Value → Text) (cs : List Call) → Fits false (unless_absent p q (option_map f o)) (option_map_or (λ v. cs) o [])
+of-given p q None f cs = λ h. refl
+of-given p q (Some v) f cs = tt
 
 module _ (gives : Giving) where
-  fits-accepted : (command : Command) (d : Document) → Fits (answer_to gives command d) (asks_to gives command d)
+  fits-accepted : (command : Command) (d : Document) → Fits (is_lineage (Some command)) (answer_to gives command d) (asks_to gives command d)
   fits-accepted run d = tt
   fits-accepted check d = tt
   fits-accepted trace d = tt
+  fits-accepted (lineage p q) d = of-lineage p q (lineage_text gives d p q) (asks_of_run gives d)
+  fits-accepted (forward p q) d = of-given p q (given_at d p q) (λ v. element_lines (model.forward (meaning gives d) p q)) (asks_of_run gives d)
   fits-accepted (gen n) d = tt
 
-  fits-reading : (command : Command) (reading : Reading) → Fits (answer_to_reading gives command reading) (asks_to_reading gives command reading)
+  fits-reading : (command : Command) (reading : Reading) → Fits (is_lineage (Some command)) (answer_to_reading gives command reading) (asks_to_reading gives command reading)
   fits-reading command (Ok d) = fits-accepted command d
-  fits-reading command (Err r) = refl
+  fits-reading command (Err r) = λ h. refl
 
-  fits-words : (knows : Name → Bool) (words : Option Command) (bytes : List ℕ) → Fits (answer_of gives knows words bytes) (asks_of gives knows words bytes)
-  fits-words knows None bytes = refl
+  fits-words : (knows : Name → Bool) (words : Option Command) (bytes : List ℕ) → Fits (is_lineage words) (answer_of gives knows words bytes) (asks_of gives knows words bytes)
+  fits-words knows None bytes = λ h. refl
   fits-words knows (Some command) bytes = fits-reading command (reading_for knows command bytes)
 
   check-asks : (reading : Reading) → asks_to_reading gives check reading ≡ []
@@ -42,10 +57,12 @@ others-ask-nothing gives knows None bytes e = refl
 others-ask-nothing gives knows (Some run) bytes e = absurd (true≢false e)
 others-ask-nothing gives knows (Some check) bytes e = check-asks gives (reading_of knows bytes)
 others-ask-nothing gives knows (Some trace) bytes e = absurd (true≢false e)
+others-ask-nothing gives knows (Some (lineage p q)) bytes e = absurd (true≢false e)
+others-ask-nothing gives knows (Some (forward p q)) bytes e = absurd (true≢false e)
 others-ask-nothing gives knows (Some (gen n)) bytes e = absurd (true≢false e)
 
 pub refusals-ask-nothing : RefusalsAskNothing
-refusals-ask-nothing gives knows words bytes r h = subst (λ a. Fits a (asks_of gives knows words bytes)) h (fits-words gives knows words bytes)
+refusals-ask-nothing gives knows words bytes r there h = subst (λ a. Fits (is_lineage words) a (asks_of gives knows words bytes)) h (fits-words gives knows words bytes) there
 
 -- ---- calls
 
@@ -84,6 +101,7 @@ module _ (gives : Giving) (knows : Name → Bool) (words : Option Command) (s : 
   not-asked NotJson h = h
   not-asked Form h = h
   not-asked Check h = h
+  not-asked NoSuchElement h = none-more before after (asks h.0.0) (none h.0.0) h.0.1
   not-asked WriteFault h = none-more before after (asks h.0.0) (none h.0.0) h.0.1
   not-asked NoMemory h = none-for h
 

@@ -1,15 +1,19 @@
 -- What a command answers to the bytes that it reads: a text to print, or a refusal with its line.
-use Rattle.std.specs.Prelude.{ℕ, ◌^◌, List, length, map, Bool, nat_lt, if◌then◌else◌, Option, Some, None, Result, Ok, Err}
+use Rattle.std.specs.Prelude.{ℕ, ◌^◌, List, length, map, Bool, nat_lt, if◌then◌else◌, Option, Some, None, option_and_then, option_map, Result, Ok, Err}
 use Rattle.std.specs.Str.{is_utf8}
 use Rattle.serde_json.specs.Data.{Data}
 use Rattle.serde_json.specs.Read.{read as read_text}
-use Rattle.tv_value.specs.Values.{Text, Name}
+use Rattle.tv_value.specs.Nested.{Place, at}
+use Rattle.tv_value.specs.Orders.{named}
+use Rattle.tv_value.specs.Values.{Text, Name, Value}
 use Rattle.tv_gate.specs.Outcomes.{Giving}
 use Rattle.tv_flow.specs.Complaints as form
 use Rattle.tv_flow.specs.Flows.{Document}
 use Rattle.tv_flow.specs.Forms.{form_of}
 use Rattle.tv_check.specs.Faulty as checking
 use Rattle.tv_check.specs.Passes.{checked}
+use Rattle.tv_elements.specs.Lines.{element_lines}
+use Rattle.tv_model.specs.Lineages as model
 use Rattle.tv_model.specs.Meanings.{meaning}
 use Rattle.tv_model.specs.Results.{result_line}
 use Rattle.tv_model.specs.RowsOfSize.{generated}
@@ -20,10 +24,10 @@ use Rattle.tv_report.specs.CheckLines.{check_text}
 use Rattle.tv_report.specs.DepthLines.{depth_text}
 use Rattle.tv_report.specs.TraceLines.{trace_text}
 use Rattle.tv_generated.specs.Summaries.{summary_text}
-use Rattle.tv_top.specs.Words.{Command, run, check, trace, gen}
-use Rattle.tv_top.specs.Lines.{fault_line}
+use Rattle.tv_top.specs.Words.{Command, run, check, trace, lineage, forward, gen}
+use Rattle.tv_top.specs.Lines.{absent_line, fault_line}
 use Rattle.tv_top.specs.declared.status.Status.{Status}
-use Rattle.tv_top.specs.declared.status.Status.TheVariants.{Usage, TooLong, NotJson, Form, Check}
+use Rattle.tv_top.specs.declared.status.Status.TheVariants.{Usage, TooLong, NotJson, Form, Check, NoSuchElement}
 
 -- a status with its line
 abbrev pub StatusLine : Type 0
@@ -74,6 +78,8 @@ module _ (knows : Name → Bool) where
   reading_for run bytes = reading_of bytes
   reading_for check bytes = reading_of bytes
   reading_for trace bytes = reading_of bytes
+  reading_for (lineage p q) bytes = reading_of bytes
+  reading_for (forward p q) bytes = reading_of bytes
   reading_for (gen n) bytes = generated_reading n
 
 -- ---- answers
@@ -82,6 +88,15 @@ module _ (knows : Name → Bool) where
 abbrev pub Answer : Type 0
 Answer = Result Text StatusLine
 
+-- what stands at a place of the value that is given to an input
+abbrev pub given_at : Document → Name → Place → Option Value
+given_at d p q = option_and_then (λ v. at v q) (named p d.inputs)
+
+-- the text of an element that is there
+abbrev pub unless_absent : Name → Place → Option Text → Answer
+unless_absent p q (Some text) = Ok text
+unless_absent p q None = Err (NoSuchElement, absent_line p q)
+
 -- For all services, and for no worker or order of work.
 module _ (gives : Giving) where
   -- the summary of the run of the document of a number
@@ -89,11 +104,22 @@ module _ (gives : Giving) where
   summary_of n d =
       summary_text n (totals (meaning gives d).jobs) (length (result_line (meaning gives d)))
 
+  -- the lines of the elements of inputs that made an element of an output, where there is one
+  abbrev pub lineage_text : Document → Name → Place → Option Text
+  lineage_text d p q = option_map element_lines (model.lineage_of (meaning gives d) p q)
+
+  -- the lines of the leaves of outputs that an element of an input made, where there is one
+  abbrev pub forward_text : Document → Name → Place → Option Text
+  forward_text d p q =
+      option_map (λ v. element_lines (model.forward (meaning gives d) p q)) (given_at d p q)
+
   -- what a command answers to an accepted document
   abbrev pub answer_to : Command → Document → Answer
   answer_to run d = Ok (result_line (meaning gives d))
   answer_to check d = Ok (depth_text d)
   answer_to trace d = Ok (trace_text (map (λ p. p.0) (ask_order (meaning gives d))))
+  answer_to (lineage p q) d = unless_absent p q (lineage_text d p q)
+  answer_to (forward p q) d = unless_absent p q (forward_text d p q)
   answer_to (gen n) d = Ok (summary_of n d)
 
   abbrev pub answer_to_reading : Command → Reading → Answer

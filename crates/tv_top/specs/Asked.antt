@@ -9,7 +9,7 @@ use Rattle.tv_check.specs.declared.run.CheckedRun.{CheckedRun}
 use Rattle.tv_top.specs.Answers.{Answer, Reading, json_of}
 use Rattle.tv_top.specs.Lines.{fault_line}
 use Rattle.tv_top.specs.declared.status.Status.{Status}
-use Rattle.tv_top.specs.declared.status.Status.TheVariants.{Done, NotJson, Form, Check, NoMemory}
+use Rattle.tv_top.specs.declared.status.Status.TheVariants.{Done, NotJson, Form, Check, NoSuchElement, NoMemory}
 use Rattle.tv_top.specs.declared.refusal.Refusal.{Refusal}
 use Rattle.tv_top.specs.declared.refusal.Refusal.TheVariants as why
 
@@ -22,11 +22,13 @@ abbrev pub refusal_status : Refusal → Status
 refusal_status (why.Plain status) = status
 refusal_status (why.Form line) = Form
 refusal_status (why.Check line) = Check
+refusal_status (why.NoSuchElement line) = NoSuchElement
 
 abbrev pub refusal_line : Refusal → Text
 refusal_line (why.Plain status) = fault_line status
 refusal_line (why.Form line) = line
 refusal_line (why.Check line) = line
+refusal_line (why.NoSuchElement line) = line
 
 -- the status of a call that ended so
 abbrev pub ended : {A : Type 0} → Result A Refusal → Status

@@ -4,13 +4,15 @@ use Rattle.tv_top.specs.Words as spec
 use Rattle.tv_top.specs.declared.words.Command.{Command}
 use Rattle.tv_top.specs.declared.words.Command.TheVariants.{Gen, Of}
 use Rattle.tv_top.specs.declared.words.Reading.{Reading}
-use Rattle.tv_top.specs.declared.words.Reading.TheVariants.{Check, Run, Trace}
+use Rattle.tv_top.specs.declared.words.Reading.TheVariants.{Check, Forward, Lineage, Run, Trace}
 
 -- one that reads a document
 abbrev pub reading_view : Reading → spec.Command
 reading_view Run = spec.run
 reading_view Check = spec.check
 reading_view Trace = spec.trace
+reading_view (Lineage port place) = spec.lineage port place
+reading_view (Forward port place) = spec.forward port place
 
 abbrev pub command_view : Command → spec.Command
 command_view (Of reading) = reading_view reading

@@ -1,6 +1,7 @@
--- The command that the words give, of those that are carried out.
-use Rattle.std.specs.Prelude.{List, Option, Some, None, option_and_then, ℕ}
-use Rattle.tv_value.specs.Values.{Text}
+-- The command that the words give.
+use Rattle.std.specs.Prelude.{List, Option, Some, None, option_map, ℕ}
+use Rattle.tv_value.specs.Nested.{Place}
+use Rattle.tv_value.specs.Values.{Name, Text}
 use Rattle.tv_words.specs.Commands as line
 
 pub data Command : Type 0 where
@@ -10,21 +11,25 @@ pub data Command : Type 0 where
   check : Command
   -- read a document, run it, and write which jobs asked how often
   trace : Command
+  -- read a document, run it, and write which elements of the inputs made this element of an output
+  lineage : Name → Place → Command
+  -- read a document, run it, and write which leaves of the outputs used this element of an input
+  forward : Name → Place → Command
   -- run the generated document of a number, and write the summary; nothing is read
   gen : ℕ → Command
 
--- The workers of a run change nothing yet; lineage and forward use are still to come.
-abbrev pub carried_out : line.Command → Option Command
-carried_out (line.run workers) = Some run
-carried_out line.check = Some check
-carried_out line.trace = Some trace
-carried_out (line.lineage port place) = None
-carried_out (line.forward port place) = None
-carried_out (line.gen number workers) = Some (gen number)
+-- The workers of a run change nothing yet.
+abbrev pub carried_out : line.Command → Command
+carried_out (line.run workers) = run
+carried_out line.check = check
+carried_out line.trace = trace
+carried_out (line.lineage port place) = lineage port place
+carried_out (line.forward port place) = forward port place
+carried_out (line.gen number workers) = gen number
 
 -- the words are those after the program's name
 abbrev pub command_of : List Text → Option Command
-command_of words = option_and_then carried_out (line.command_of words)
+command_of words = option_map carried_out (line.command_of words)
 
 -- the words ask for a generated document
 abbrev pub IsGen : Option Command → Type 0
@@ -32,4 +37,6 @@ IsGen None = ⊥
 IsGen (Some run) = ⊥
 IsGen (Some check) = ⊥
 IsGen (Some trace) = ⊥
+IsGen (Some (lineage p q)) = ⊥
+IsGen (Some (forward p q)) = ⊥
 IsGen (Some (gen n)) = Unit {0}

@@ -8,11 +8,11 @@ use Rattle.tv_json.specs.Documents.{document_json}
 use Rattle.tv_local.specs.LocalGives.{local_gives, local_knows}
 use Rattle.tv_model.specs.Writing.{a, asks, b, constant_text, document, from_input, from_step, line, out, takes, words, x, y}
 use Rattle.tv_model.specs.RowsOfFlows.{opening as nested_flow}
-use Rattle.tv_top.specs.Words.{Command, command_of, run, check, trace, gen}
+use Rattle.tv_top.specs.Words.{Command, command_of, run, check, trace, lineage, forward, gen}
 use Rattle.tv_top.specs.Answers.{Answer, Reading, always, answer_of, answer_to_reading, reading_of_json}
 use Rattle.tv_top.specs.Asking.{asks_of, asks_to_reading}
 use Rattle.tv_top.specs.Lines.{fault_line, code_of}
-use Rattle.tv_top.specs.declared.status.Status.TheVariants.{Done, Usage, ReadFault, TooLong, NotJson, Form, Check, WriteFault, NoMemory}
+use Rattle.tv_top.specs.declared.status.Status.TheVariants.{Done, Usage, ReadFault, TooLong, NotJson, Form, Check, NoSuchElement, WriteFault, NoMemory}
 
 -- ---- documents
 
@@ -104,6 +104,18 @@ TracesFailure = answer trace one_failure ≡ Ok (codes "f[0] 1\nu[0] 1\nf[1] 1\n
 abbrev pub RunsNestedFlow : Type 0
 RunsNestedFlow = answer run nested_flow ≡ Ok (line nested_flow)
 
+-- an element of a cross was made from one of each list
+abbrev pub LineageOfCross : Type 0
+LineageOfCross = answer (lineage (codes "out") (1 ∷ 0 ∷ [])) two_ports ≡ Ok (codes "x[1]\ny[0]\n")
+
+-- a bounced element was made from what failed
+abbrev pub LineageOfFailure : Type 0
+LineageOfFailure = answer (lineage (codes "out") (1 ∷ [])) one_failure ≡ Ok (codes "x[1]\n")
+
+-- each text with each: one of them made a row
+abbrev pub ForwardOfCross : Type 0
+ForwardOfCross = answer (forward x (1 ∷ [])) two_ports ≡ Ok (codes "out[1,0]\nout[1,1]\n")
+
 -- a generated document is run, and its summary written, whatever there is to be read
 abbrev pub RunsGenerated : Type 0
 RunsGenerated =
@@ -134,6 +146,14 @@ RefusesNoJson = answer_to_reading local_gives run (reading_of_json local_knows N
 abbrev pub RefusesNoCommand : Type 0
 RefusesNoCommand = answer_of local_gives local_knows None [] ≡ Err (always Usage)
 
+-- no such place in an output, no such output, no such place in an input, and no such input
+abbrev pub RefusesElements : Type 0
+RefusesElements =
+    (answer (lineage (codes "out") (2 ∷ [])) two_ports ≡ Err (NoSuchElement, codes "taverna: no element at out[2]\n"))
+    × (answer (lineage x []) two_ports ≡ Err (NoSuchElement, codes "taverna: no element at x[]\n"))
+    × (answer (forward x (0 ∷ 0 ∷ [])) two_ports ≡ Err (NoSuchElement, codes "taverna: no element at x[0,0]\n"))
+    × (answer (forward (codes "out") []) two_ports ≡ Err (NoSuchElement, codes "taverna: no element at out[]\n"))
+
 -- ---- asks
 
 abbrev pub asks_for : Command → Document → List Call
@@ -157,6 +177,18 @@ abbrev pub AsksAttempts : Type 0
 AsksAttempts =
     map (λ c. c.attempt) (asks_for trace third_attempt) ≡ 0 ∷ 1 ∷ 2 ∷ []
 
+-- lineage asks what `run` asks, also where the element isn't there
+abbrev pub AsksLineage : Type 0
+AsksLineage =
+    (asks_for (lineage (codes "out") (0 ∷ [])) two_steps ≡ asks_for run two_steps)
+    × (asks_for (lineage (codes "out") (2 ∷ [])) two_steps ≡ asks_for run two_steps)
+
+-- forward use asks so too, and nothing where the element isn't there
+abbrev pub AsksForward : Type 0
+AsksForward =
+    (asks_for (forward x (0 ∷ [])) two_steps ≡ asks_for run two_steps)
+    × (asks_for (forward x (2 ∷ [])) two_steps ≡ [])
+
 -- a generated document asks as any other does, whatever there is to be read
 abbrev pub AsksGenerated : Type 0
 AsksGenerated = map (λ c. c.attempt) (asks_of local_gives local_knows (Some (gen 1)) []) ≡ 0 ∷ 0 ∷ 1 ∷ 0 ∷ []
@@ -172,6 +204,8 @@ TakesCommands =
     × (command_of (codes "run" ∷ codes "--workers" ∷ codes "4" ∷ []) ≡ Some run)
     × (command_of (codes "check" ∷ []) ≡ Some check)
     × (command_of (codes "trace" ∷ []) ≡ Some trace)
+    × (command_of (codes "lineage" ∷ codes "--of" ∷ codes "out[1,0]" ∷ []) ≡ Some (lineage (codes "out") (1 ∷ 0 ∷ [])))
+    × (command_of (codes "forward" ∷ codes "--of" ∷ codes "x[]" ∷ []) ≡ Some (forward x []))
     × (command_of (codes "gen" ∷ codes "7" ∷ []) ≡ Some (gen 7))
 
 abbrev pub TakesNothingElse : Type 0
@@ -181,12 +215,12 @@ TakesNothingElse =
     × (command_of (codes "run" ∷ codes "check" ∷ []) ≡ None)
     × (command_of (codes "run" ∷ codes "--workers" ∷ codes "0" ∷ []) ≡ None)
     × (command_of (codes "run" ∷ codes "--of" ∷ codes "out[]" ∷ []) ≡ None)
-    × (command_of (codes "lineage" ∷ codes "--of" ∷ codes "out[]" ∷ []) ≡ None)
+    × (command_of (codes "lineage" ∷ codes "--of" ∷ codes "out" ∷ []) ≡ None)
     × (command_of (codes "gen" ∷ codes "201" ∷ []) ≡ None)
 
 abbrev pub TellsCodes : Type 0
 TellsCodes =
-    map code_of (Done ∷ Usage ∷ ReadFault ∷ TooLong ∷ NotJson ∷ Form ∷ Check ∷ WriteFault ∷ NoMemory ∷ []) ≡ 0 ∷ 2 ∷ 3 ∷ 4 ∷ 5 ∷ 6 ∷ 7 ∷ 9 ∷ 10 ∷ []
+    map code_of (Done ∷ Usage ∷ ReadFault ∷ TooLong ∷ NotJson ∷ Form ∷ Check ∷ NoSuchElement ∷ WriteFault ∷ NoMemory ∷ []) ≡ 0 ∷ 2 ∷ 3 ∷ 4 ∷ 5 ∷ 6 ∷ 7 ∷ 8 ∷ 9 ∷ 10 ∷ []
 
 abbrev pub TellsLines : Type 0
 TellsLines =

@@ -12,6 +12,7 @@ ghost use Rattle.tv_top.specs.Asking.{AsksThese, BeginsThese, GivesAsks, asks_to
 ghost use Rattle.tv_top.specs.CommandViews.{reading_view};
 ghost use Rattle.tv_top.specs.Words.{gen};
 
+use crate::following::{forward, lineage};
 use crate::refusal::Refusal;
 use crate::words::Reading;
 use std::alloc::Global;
@@ -22,7 +23,8 @@ use tv_report::{depth_lines, result_line, trace_lines};
 use tv_value::{NoMemory, Text};
 use tv_work::{run_board, run_whole};
 
-/// The answer of a command to an accepted document. `check` is linear in the document; the others cost a run.
+/// The answer of a command to an accepted document. `check` is linear in the document; the others cost a run, and `lineage` and
+/// `forward` besides what their records cost (`tv_board`).
 pub(crate) fn answer<A: Asker>(
     alloc: Global,
     command: Reading,
@@ -36,6 +38,8 @@ pub(crate) fn answer<A: Asker>(
         Reading::Check => Ok(depth_lines(alloc, &run)?),
         Reading::Run => Ok(result_of_run(alloc, run, asker)?),
         Reading::Trace => Ok(trace_of_run(alloc, run, asker)?),
+        Reading::Lineage { port, place } => lineage(alloc, &port, &place, run, asker),
+        Reading::Forward { port, place } => forward(alloc, &port, &place, run, asker),
     }
 }
 

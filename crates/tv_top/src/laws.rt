@@ -1,8 +1,8 @@
 //! Laws of the definitions, and the definitions computed on worked examples: each is the clause of a function that does nothing,
 //! so a definition that comes to something else is refused.
-ghost use Rattle.tv_top.specs.Worked.{RunsOneText, RunsChain, RunsFailure, RunsCross, RunsNestedFlow, RunsGenerated, ChecksCross, ChecksChain, TracesAttempts, TracesChain, TracesFailure};
-ghost use Rattle.tv_top.specs.Worked.{RefusesDepth, RefusesCircle, RefusesNoDocument, RefusesNoJson, RefusesNoCommand};
-ghost use Rattle.tv_top.specs.Worked.{AsksChain, AsksFailure, AsksAttempts, AsksGenerated, AsksNoCheck};
+ghost use Rattle.tv_top.specs.Worked.{RunsOneText, RunsChain, RunsFailure, RunsCross, RunsNestedFlow, RunsGenerated, ChecksCross, ChecksChain, LineageOfCross, LineageOfFailure, ForwardOfCross, TracesAttempts, TracesChain, TracesFailure};
+ghost use Rattle.tv_top.specs.Worked.{RefusesDepth, RefusesCircle, RefusesNoDocument, RefusesNoJson, RefusesNoCommand, RefusesElements};
+ghost use Rattle.tv_top.specs.Worked.{AsksChain, AsksFailure, AsksAttempts, AsksForward, AsksGenerated, AsksLineage, AsksNoCheck};
 ghost use Rattle.tv_top.specs.Worked.{TakesCommands, TakesNothingElse, TellsCodes, TellsLines};
 ghost use Rattle.tv_top.specs.Asking.{OthersAreNotAsked, OthersAskNothing, RefusalsAskNothing};
 
@@ -17,6 +17,9 @@ pub fn worked_texts()
     ensures attempts { TracesAttempts }
     ensures chain_trace { TracesChain }
     ensures failure_trace { TracesFailure }
+    ensures lineage { LineageOfCross }
+    ensures failure_lineage { LineageOfFailure }
+    ensures forward { ForwardOfCross }
     ensures depths { ChecksCross }
     ensures chain_depths { ChecksChain }
 {}
@@ -28,6 +31,7 @@ pub fn worked_refusals()
     ensures no_document { RefusesNoDocument }
     ensures no_json { RefusesNoJson }
     ensures no_command { RefusesNoCommand }
+    ensures elements { RefusesElements }
 {}
 
 /// What is asked of the services, call by call.
@@ -37,6 +41,8 @@ pub fn worked_asks()
     ensures attempts { AsksAttempts }
     ensures generated { AsksGenerated }
     ensures checked { AsksNoCheck }
+    ensures lineage { AsksLineage }
+    ensures forward { AsksForward }
 {}
 
 /// Only a run that is answered asks for something.

@@ -10,6 +10,7 @@
 //! - `words`, `status`, `refusal`: what goes in and comes out besides bytes
 //! - `reading`: from bytes to a JSON tree
 //! - `answering`: from there to the text to print, or the refusal
+//! - `following`: the lineage of an element of an output, and the forward use of an element of an input
 //! - `top`: the top calls
 //! - `laws`: laws of the definitions, and the definitions computed on worked examples
 //!
@@ -17,6 +18,7 @@
 #![tactic(auto)]
 
 mod answering;
+mod following;
 pub mod laws;
 mod reading;
 mod refusal;

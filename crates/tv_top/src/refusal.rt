@@ -14,6 +14,8 @@ pub(crate) enum Refusal {
     Form(Text),
     /// The first fault of the check, by its line.
     Check(Text),
+    /// An element that isn't there, by its line.
+    NoSuchElement(Text),
 }
 
 impl From<tv_value::NoMemory> for Refusal {
@@ -36,6 +38,7 @@ impl Refusal {
             Refusal::Plain(status) => *status,
             Refusal::Form(_) => Status::Form,
             Refusal::Check(_) => Status::Check,
+            Refusal::NoSuchElement(_) => Status::NoSuchElement,
         }
     }
 
@@ -47,6 +50,7 @@ impl Refusal {
             Refusal::Plain(status) => status.line(),
             Refusal::Form(line) => line.as_str(),
             Refusal::Check(line) => line.as_str(),
+            Refusal::NoSuchElement(line) => line.as_str(),
         }
     }
 }

@@ -18,6 +18,8 @@ pub enum Status {
     Form,
     /// The check complains of the document.
     Check,
+    /// The port that is asked of has no element at that place, or there is no such port.
+    NoSuchElement,
     /// A write of the output failed.
     WriteFault,
     /// Memory was wanting.
@@ -25,7 +27,7 @@ pub enum Status {
 }
 
 impl Status {
-    /// The exit code: 0, 2, 3, 4, 5, 6, 7, 9 and 10 in the order above.
+    /// The exit code: 0, 2, 3, 4, 5, 6, 7, 8, 9 and 10 in the order above.
     pub fn code(self) -> u8
         ensures { result ≡ code_of self }
     {
@@ -37,13 +39,14 @@ impl Status {
             Status::NotJson => 5,
             Status::Form => 6,
             Status::Check => 7,
+            Status::NoSuchElement => 8,
             Status::WriteFault => 9,
             Status::NoMemory => 10,
         }
     }
 
-    /// The line on standard error, with its line feed, where it is always the same: empty at `Done`, and at `Form` and `Check`,
-    /// whose lines tell the fault.
+    /// The line on standard error, with its line feed, where it is always the same: empty at `Done`, and at `Form`, `Check`
+    /// and `NoSuchElement`, whose lines tell the fault or the element.
     pub fn line(self) -> &'static str
         ensures { result.now ≡ fault_line self }
     {
@@ -56,6 +59,7 @@ impl Status {
             Status::NotJson => "taverna: not JSON\n",
             Status::Form => "",
             Status::Check => "",
+            Status::NoSuchElement => "",
             Status::WriteFault => "taverna: write fault\n",
             Status::NoMemory => "taverna: want of memory\n",
         }

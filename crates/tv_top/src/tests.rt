@@ -1,11 +1,13 @@
 //! Whole runs over memory, and what they share: streams that may fail, and runs of the two top calls.
 //!
 //! - `documents`: worked documents, what they print, and what they ask
+//! - `elements`: lineage and forward use of elements, and elements that aren't there
 //! - `refusals`: words and documents that are refused, and want of memory
 //! - `failing`: reads and writes that fail
 ghost use Rattle.std.specs.Prelude.{◌<◌};
 
 mod documents;
+mod elements;
 mod failing;
 mod refusals;
 

@@ -31,7 +31,8 @@ const BYTE_LIMIT: usize = 1 << 24;
 /// The answer is a function of the words and the bytes, for the services of the asker's type. Nothing is written to
 /// `out` before all of it is made. `check` takes near linear time in the document. A run goes over a board (`tv_board`):
 /// beside what the services take, its time grows in proportion to its jobs and to the size of the values, with a look at each
-/// step of the main flow for each try and each thing that is settled.
+/// step of the main flow for each try and each thing that is settled. `lineage` and `forward` work out after the run what each of
+/// its jobs used, in near linear time.
 pub fn taverna_alone<S: Source, K: Sink, E: Sink, A: Asker>(
     alloc: Global,
     words: &[String],
@@ -59,7 +60,8 @@ pub fn taverna_alone<S: Source, K: Sink, E: Sink, A: Asker>(
         (source_told ⟦<S as Source>⟧ source.old source.new)
         (sink_told ⟦<E as Sink>⟧ err.old err.new) result }
     // What the services were asked, where the asker tells its calls: all that the answer takes, in the order of one worker, and
-    // no more, whether or not it was written; nothing for a refusal; a beginning of it where memory was wanting.
+    // no more, whether or not it was written, or an element of an output wasn't there; nothing for another refusal; a beginning of it
+    // where memory was wanting.
     ensures asked { IsAsked (asks_of A.Services.gives A.Services.knows (asked_for (texts_of words.now)))
         (source_told ⟦<S as Source>⟧ source.old source.new)
         (A.calls asker.old) (A.calls asker.new) result }
@@ -178,6 +180,7 @@ fn run_generated<V: Services>(alloc: Global, number: u32) -> Result<CheckedRun, 
     requires most { number ≤ 200 }
     ensures run { GivesRun result (generated_reading V.knows number) }
     ensures command { ended result ≢ Status.Usage }
+    ensures element { ended result ≢ Status.NoSuchElement }
 {
     let document = generated(alloc, number)?;
     run_of_document::<V>(alloc, document)
@@ -188,6 +191,7 @@ fn run_read<S: Source, V: Services>(alloc: Global, source: &mut S) -> Result<Che
     ensures read { IsRead read_whole (reading_of V.knows) (source_told ⟦<S as Source>⟧ source.old source.new) result }
     ensures taken { TakesAtMost (byte_limit + 1) (S.left source.old) (S.left source.new) }
     ensures command { ended result ≢ Status.Usage }
+    ensures element { ended result ≢ Status.NoSuchElement }
 {
     match read_all(alloc, source, BYTE_LIMIT) {
         Ok(bytes) => checked_run::<V>(alloc, bytes),

@@ -6,11 +6,11 @@ ghost use Rattle.tv_top.specs.Asked.{texts_of};
 ghost use Rattle.tv_top.specs.CommandViews.{IsBounded, command_view};
 
 use std::alloc::Global;
-use tv_value::NoMemory;
+use tv_value::{Name, NoMemory, Place};
 use tv_words::{Command as Told, read_words};
 
 /// What the words ask for.
-#[derive(Clone, Copy)]
+#[derive(Drop)]
 pub(crate) enum Command {
     /// Something of a document that is read.
     Of(Reading),
@@ -19,7 +19,7 @@ pub(crate) enum Command {
 }
 
 /// What is asked for of a document that is read.
-#[derive(Clone, Copy)]
+#[derive(Drop)]
 pub(crate) enum Reading {
     /// Read a document, run it, and write the result line.
     Run,
@@ -27,27 +27,32 @@ pub(crate) enum Reading {
     Check,
     /// Read a document, run it, and write which jobs asked how often.
     Trace,
+    /// Read a document, run it, and write which elements of the inputs made this element of an output.
+    Lineage { port: Name, place: Place },
+    /// Read a document, run it, and write which leaves of the outputs used this element of an input.
+    Forward { port: Name, place: Place },
 }
 
-/// The command that the words give, or `None` where they give none that is carried out.
+/// The command that the words give, or `None` where they give none.
 pub(crate) fn command_of(alloc: Global, words: &[String]) -> Result<Option<Command>, NoMemory>
     ensures command { IfOk result (λ command. option_map command_view command ≡ command_of (texts_of words.now)) }
     ensures bounded { IfOk result (λ command. IfSome command IsBounded) }
 {
     match read_words(alloc, words)? {
-        Some(told) => Ok(carried_out(&told)),
+        Some(told) => Ok(Some(carried_out(told))),
         None => Ok(None),
     }
 }
 
-fn carried_out(told: &Told) -> Option<Command>
-    ensures { option_map command_view result ≡ carried_out (told_view told.now) }
+fn carried_out(told: Told) -> Command
+    ensures { command_view result ≡ carried_out (told_view told) }
 {
     match told {
-        Told::Run { .. } => Some(Command::Of(Reading::Run)),
-        Told::Check => Some(Command::Of(Reading::Check)),
-        Told::Trace => Some(Command::Of(Reading::Trace)),
-        Told::Gen { number, .. } => Some(Command::Gen { number: *number }),
-        Told::Lineage { .. } | Told::Forward { .. } => None,
+        Told::Run { .. } => Command::Of(Reading::Run),
+        Told::Check => Command::Of(Reading::Check),
+        Told::Trace => Command::Of(Reading::Trace),
+        Told::Lineage { port, place } => Command::Of(Reading::Lineage { port, place }),
+        Told::Forward { port, place } => Command::Of(Reading::Forward { port, place }),
+        Told::Gen { number, .. } => Command::Gen { number },
     }
 }

@@ -266,6 +266,12 @@ impl Play {
         }
     }
 
+    /// The board as it stands.
+    pub(crate) fn into_board(self) -> Board<LocalServices> {
+        let Play { board, .. } = self;
+        board
+    }
+
     /// Takes back what is out, and works the board off: the result line.
     pub(crate) fn line(&mut self) -> Result<Text, NoMemory> {
         let _recalled = self.board.recall_all()?;

@@ -24,7 +24,7 @@ fn other_words_are_told_the_usage(rt: HostRuntime) -> Result<(), Fail> {
         &["--help"],
         &["check", ""],
         &["trace", ""],
-        &["lineage", "--of", "out[]"],
+        &["lineage", "--of", "out"],
     ];
     for words in table {
         let ran = alone(rt.alloc(), words, ONE_TEXT.as_bytes(), SOUND)?;
@@ -334,6 +334,7 @@ fn each_status_has_its_code(rt: HostRuntime) {
         (Status::NotJson, 5),
         (Status::Form, 6),
         (Status::Check, 7),
+        (Status::NoSuchElement, 8),
         (Status::WriteFault, 9),
         (Status::NoMemory, 10),
     ];

@@ -20,7 +20,7 @@ returns-in-Ok-clause-ok c d values st =
     starts-open d c.args.plan.now values c.args.pool.now c.args.frame st c.room_to_sit.new.seats
     (c.room_to_sit.ensures.seats ∙ c.requires.empty) (c.room_to_sit.ensures.levels ∙ c.requires.levels)
     (let a = c.in-Ok.ensures.room in omega (arith, a)) c.seat_new.new.seats c.seat_new.ensures.all c.in-Ok.turns
-    c.seat_new.new.turns c.in-Ok.ensures.turns.0 c.in-Ok.ensures.turns.1 c.seat_new.ensures.turns
+    c.seat_new.new.turns c.in-Ok.ensures.turns.0 c.in-Ok.ensures.turns.1 c.seat_new.ensures.turns c.new.result c.new.ensures.settled
 
 pub abandon-requires : goal.abandon-requires
 abandon-requires c = c.requires.starts.2.3.live

@@ -1,4 +1,4 @@
-use Rattle.tv_top.proofs.Computed.{asks_chain, asks_failure, asks_attempts, asks_no_check, asks_generated}
+use Rattle.tv_top.proofs.Computed.{asks_chain, asks_failure, asks_attempts, asks_no_check, asks_generated, asks_lineage, asks_forward}
 use Rattle.tv_top.proofs.laws.worked_asks.Goals as goal
 
 pub returns-clause-chain : goal.returns-clause-chain
@@ -15,3 +15,9 @@ returns-clause-checked c = asks_no_check
 
 pub returns-clause-generated : goal.returns-clause-generated
 returns-clause-generated c = asks_generated
+
+pub returns-clause-lineage : goal.returns-clause-lineage
+returns-clause-lineage c = asks_lineage
+
+pub returns-clause-forward : goal.returns-clause-forward
+returns-clause-forward c = asks_forward

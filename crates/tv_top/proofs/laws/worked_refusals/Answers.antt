@@ -1,4 +1,4 @@
-use Rattle.tv_top.proofs.Computed.{refuses_depth, refuses_circle, refuses_no_document}
+use Rattle.tv_top.proofs.Computed.{refuses_depth, refuses_circle, refuses_no_document, refuses_elements}
 use Rattle.tv_top.proofs.laws.worked_refusals.Goals as goal
 
 pub returns-clause-depth : goal.returns-clause-depth
@@ -9,3 +9,6 @@ returns-clause-circle c = refuses_circle
 
 pub returns-clause-no_document : goal.returns-clause-no_document
 returns-clause-no_document c = refuses_no_document
+
+pub returns-clause-elements : goal.returns-clause-elements
+returns-clause-elements c = refuses_elements

@@ -97,7 +97,7 @@ hold-requires c =
           (record { place = c.closed_at-event.ensures.place ∙ c.as_slice.ensures; happened = subst (Happens e) (sym c.closed_at-event.ensures.happened) refl })
           (c.closed_at-event.ensures.whole_from ∙ c.whole_by_close-whole_from.ensures)
           (λ i. subst (λ h. HasPiece h i) (sym c.closed_at-event.ensures.happened) tt)
-          (counted-closings c.outputs_of-outputs.result (length r.2.1.outputs) outs c.new-faults.result.items c.faults_by_close.new.faults.items c.closed_at-event.result.faults.now c.new-faults.ensures.items (c.closed_at-event.ensures.faults ∙ c.as_slice-2.ensures.value) q (λ i. close_at q size (tree_in (known pool f.outputs) (x + i)))
+          (counted-closings c.outputs_of-outputs.result (length r.2.1.outputs) outs c.new-faults.result.items c.faults_by_close.new.faults.items c.closed_at-event.result.faults.now c.new-faults.ensures.items (c.closed_at-event.ensures.faults ∙ c.as_slice-2.ensures) q (λ i. close_at q size (tree_in (known pool f.outputs) (x + i)))
           (c.in_ok-faults_by_close.ensures size (subst (λ m. AllCanClose x m q size (depths f.outputs) (known pool f.outputs)) (sym outs) all))),
     )
 
@@ -166,7 +166,7 @@ returns-clause-ready c = λ flows v s k at can.
           (record { place = c.closed_at-event.ensures.place ∙ c.as_slice.ensures; happened = subst (Happens e) (sym c.closed_at-event.ensures.happened) refl })
           (c.closed_at-event.ensures.whole_from ∙ c.whole_by_close-whole_from.ensures)
           (λ i. subst (λ h. HasPiece h i) (sym c.closed_at-event.ensures.happened) tt)
-          (counted-closings c.outputs_of-outputs.result (length s.1.outputs) outs c.new-faults.result.items c.faults_by_close.new.faults.items c.closed_at-event.result.faults.now c.new-faults.ensures.items (c.closed_at-event.ensures.faults ∙ c.as_slice-2.ensures.value) q (λ i. close_at q size (tree_in (known pool f.outputs) (x + i)))
+          (counted-closings c.outputs_of-outputs.result (length s.1.outputs) outs c.new-faults.result.items c.faults_by_close.new.faults.items c.closed_at-event.result.faults.now c.new-faults.ensures.items (c.closed_at-event.ensures.faults ∙ c.as_slice-2.ensures) q (λ i. close_at q size (tree_in (known pool f.outputs) (x + i)))
           (c.in_ok-faults_by_close.ensures size (subst (λ m. AllCanClose x m q size (depths f.outputs) (known pool f.outputs)) (sym outs) all))));
       whole = c.hold.ensures.whole ∙ ap (λ m. m == 0) c.closed_at-event.ensures.whole_from;
       later = c.find_outs.ensures.parts;

@@ -86,7 +86,7 @@ hold-requires c =
           (record { place = c.as_slice-2.ensures; happened = ap piece_values c.as_slice-4.ensures })
           c.whole_by_arrival.ensures
           (λ i lt. subst (λ l. i < length l) (sym c.as_slice-4.ensures) lt)
-          (counted-arrivals ps c.as_slice.result.now c.as_slice.ensures c.new-faults.result.items c.faults_by_arrival.new.faults.items c.as_slice-3.result.now c.new-faults.ensures.items c.as_slice-3.ensures.value q x (known pool f.outputs) c.in_ok-faults_by_arrival.ensures),
+          (counted-arrivals ps c.as_slice.result.now c.as_slice.ensures c.new-faults.result.items c.faults_by_arrival.new.faults.items c.as_slice-3.result.now c.new-faults.ensures.items c.as_slice-3.ensures q x (known pool f.outputs) c.in_ok-faults_by_arrival.ensures),
     )
 
 pub find_outs-requires : goal.find_outs-requires
@@ -145,7 +145,7 @@ returns-clause-ready c = λ flows v s k at may.
           (record { place = c.as_slice-2.ensures; happened = ap piece_values c.as_slice-4.ensures })
           c.whole_by_arrival.ensures
           (λ i lt. subst (λ l. i < length l) (sym c.as_slice-4.ensures) lt)
-          (counted-arrivals ps c.as_slice.result.now c.as_slice.ensures c.new-faults.result.items c.faults_by_arrival.new.faults.items c.as_slice-3.result.now c.new-faults.ensures.items c.as_slice-3.ensures.value q x (known pool f.outputs) c.in_ok-faults_by_arrival.ensures));
+          (counted-arrivals ps c.as_slice.result.now c.as_slice.ensures c.new-faults.result.items c.faults_by_arrival.new.faults.items c.as_slice-3.result.now c.new-faults.ensures.items c.as_slice-3.ensures q x (known pool f.outputs) c.in_ok-faults_by_arrival.ensures));
       whole = c.hold.ensures.whole;
       later = c.find_outs.ensures.parts;
       same = c.find_outs.ensures.held;

@@ -86,7 +86,7 @@ hold-requires c =
           (λ y. c.whole_by_arrival-whole_from.ensures y ∙ ap Some (sym c.passed_at-event.ensures.whole_from))
           (λ i. subst (λ h. HasPiece h i) (sym c.passed_at-event.ensures.happened) tt)
           c.faults_by_arrival.new.faults.items
-          (c.passed_at-event.ensures.faults ∙ c.as_slice-2.ensures.value ∙ c.truncate.ensures.items ∙ ap (λ m. take m c.faults_by_arrival.new.faults.items) outs)
+          (c.passed_at-event.ensures.faults ∙ c.as_slice-2.ensures ∙ c.truncate.ensures.items ∙ ap (λ m. take m c.faults_by_arrival.new.faults.items) outs)
           (counted-arrivals c.args.pieces.now c.args.pieces.now refl c.new-faults.result.items c.faults_by_arrival.new.faults.items c.faults_by_arrival.new.faults.items c.new-faults.ensures.items refl c.args.place.now x (known pool f.outputs) c.in_ok-faults_by_arrival.ensures)),
     )
 
@@ -144,7 +144,7 @@ returns-clause-ready c = λ flows v s d k at can passed room.
           (λ y. c.whole_by_arrival-whole_from.ensures y ∙ ap Some (sym c.passed_at-event.ensures.whole_from))
           (λ i. subst (λ h. HasPiece h i) (sym c.passed_at-event.ensures.happened) tt)
           c.faults_by_arrival.new.faults.items
-          (c.passed_at-event.ensures.faults ∙ c.as_slice-2.ensures.value ∙ c.truncate.ensures.items ∙ ap (λ m. take m c.faults_by_arrival.new.faults.items) outs)
+          (c.passed_at-event.ensures.faults ∙ c.as_slice-2.ensures ∙ c.truncate.ensures.items ∙ ap (λ m. take m c.faults_by_arrival.new.faults.items) outs)
           (counted-arrivals c.args.pieces.now c.args.pieces.now refl c.new-faults.result.items c.faults_by_arrival.new.faults.items c.faults_by_arrival.new.faults.items c.new-faults.ensures.items refl c.args.place.now x (known pool f.outputs) c.in_ok-faults_by_arrival.ensures));
       whole = c.hold.ensures.whole ∙ ap (λ m. m == 0) c.passed_at-event.ensures.whole_from;
       later = c.find_outs.ensures.parts;

@@ -1,6 +1,7 @@
-use Rattle.std.proofs.Common.{sym, subst, length}
-use Rattle.tv_idle.specs.Kept.{AreAllKept, is_gone}
+use Rattle.std.proofs.Common.{ap, sym, subst, ◌∙◌, length}
+use Rattle.tv_idle.specs.Kept.{AreAllKept, faulty_in, is_gone}
 use Rattle.tv_idle.proofs.AllSteps.{added-kept}
+use Rattle.tv_idle.proofs.OfFaulty.{more-faulty}
 use Rattle.tv_idle.proofs.idle.Idle.add_step.Goals as goal
 
 pub invariant_of-self-2 : goal.invariant_of-self-2
@@ -11,7 +12,12 @@ invariant_of-self-2 c =
     record {
       all =
           subst (AreAllKept (is_gone gs) (length gs)) (sym c.in_ok-push.ensures.items)
-          (added-kept (is_gone gs) c.args.levels c.new.result c.new.ensures.good c.new.ensures.faulty (length gs) r.queues.items i.all);
+          (added-kept (is_gone gs) c.args.levels c.empty_queues-queues.result c.empty_queues-queues.ensures.good c.empty_queues-queues.ensures.faulty (length gs) r.queues.items i.all);
       marks = i.marks;
       numbers = i.numbers;
+      counted =
+          i.counted ∙ more-faulty r.queues.items c.empty_queues-queues.result
+          c.empty_queues-queues.ensures.faulty.jobs
+          ∙ ap faulty_in (sym c.in_ok-push.ensures.items);
+      few = i.few;
     }

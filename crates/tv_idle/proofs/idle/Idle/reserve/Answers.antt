@@ -4,6 +4,7 @@ use Rattle.tv_idle.specs.declared.queues.Queues.{Queues}
 use Rattle.tv_idle.specs.Idles.{Idles, StepIdle, of_step, with_rooms_of}
 use Rattle.tv_idle.specs.Kept.{is_gone, shown}
 use Rattle.tv_idle.proofs.AllSteps.{map-longer, same-kept, same-step, same-steps, there-same}
+use Rattle.tv_idle.proofs.OfFaulty.{same-faulty}
 use Rattle.tv_idle.proofs.idle.Idle.reserve.Goals as goal
 
 pub invariant_of-self : goal.invariant_of-self
@@ -22,6 +23,8 @@ invariant_of-self c =
       all = same-kept (is_gone gs) (length gs) qs s to i.all inside good faulty;
       marks = i.marks;
       numbers = i.numbers;
+      counted = i.counted ∙ same-faulty qs s from to inside c.index_mut.ensures.value c.reserve.ensures.same_faulty;
+      few = i.few;
     }
 
 pub returns-clause-good : goal.returns-clause-good

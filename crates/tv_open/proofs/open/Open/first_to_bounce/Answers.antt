@@ -1,4 +1,4 @@
-use Rattle.tv_open.proofs.OfFaulty.{faulty-first, faulty-none, none-first, none-left, turn-within}
+use Rattle.tv_open.proofs.OfFaulty.{faulty-first, faulty-none, none-faulty, none-first, none-left, turn-within}
 use Rattle.tv_open.proofs.open.Open.first_to_bounce.Goals as goal
 
 pub going-step-items-requires : goal.going-step-items-requires
@@ -37,3 +37,9 @@ returns c d v io =
     none-left d c.args.plan.now c.args.pool.now c.args.self.now v io c.going-step-items.result.now
     (c.going-step-items.ensures d c.args.plan.now c.args.pool.now v io) c.loop-step.step-index c.loop-step-test.false
     c.loop-step.invariant
+
+pub returns-then-not-has_faulty : goal.returns-then-not-has_faulty
+returns-then-not-has_faulty c d v io =
+    none-faulty d c.args.plan.now c.args.pool.now c.args.self.now v io
+    (λ k t at.
+    c.has_faulty.ensures c.if-not-has_faulty.true d.flows c.args.plan.now c.args.pool.now v k t io.keeps at)

@@ -22,4 +22,4 @@ pub returns-clause-told : goal.returns-clause-told
 returns-clause-told c d v e more r =
     settled-told d c.args.plan.now c.args.pool.now c.args.self.now v e more r c.settle-settled.new.pool
     c.settle-settled.new.self c.settle-settled.result (c.settle-settled.ensures.goes_on d.flows v r.number r.step e r.ready)
-    c.seat_new.new.seats c.seat_new.ensures.all c.seat_new.new.turns c.seat_new.ensures.turns
+    c.seat_new.new.seats c.seat_new.ensures.all c.seat_new.new.turns c.seat_new.ensures.turns c.settle.new.self c.settle.ensures

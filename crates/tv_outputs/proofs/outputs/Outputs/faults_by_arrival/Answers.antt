@@ -19,7 +19,7 @@ loop-piece-preserved c =
     let value : piece_value c.piece-item.result ≡ slice_index_or (piece_values ps) i no_value = ap piece_value c.piece-item.is ∙ sym (get_or-map piece_value ps i c.piece-item.result no_value c.loop-piece-test.true) in
     record {
       number = next c.loop-piece.number first i l.number;
-      counted = counted-more i q c.args.faults.now.items c.loop-piece.faults.items c.push.new.self.items tree c.faults_with.result l.counted c.in_ok-push.ensures.items
+      counted = counted-more i q c.args.faults.now.items c.loop-piece.faults.items c.push.new.self.items tree c.faults_with.result l.counted c.in_ok-push.ensures.ok
           (subst (λ v. HoldsFaults q (arrive q v (tree_in trees (first + i))) c.faults_with.result) value
           (subst (λ n. HoldsFaults q (arrive q (piece_value c.piece-item.result) (tree_in trees n)) c.faults_with.result) l.number c.faults_with.ensures));
     }

@@ -37,7 +37,7 @@ loop-number-preserved c size can =
     let low = c.loop-number.auto.number in
     let before = subst (λ n. HoldsFaults q (tree_in (known_in pool ts) n) c.marked_levels.result) (sym (back first k low)) (levels-there pool c.requires.stand.0 ts c.requires.stand.1 k t there q c.marked_levels.result c.marked_levels.ensures.levels) in
     let after = levels-closed q size (tree_in (known_in pool ts) (first + i)) c.marked_levels.result (can.can i (within-range first k c.args.count low c.loop-number-test.true)) before in
-    subst (λ n. Counted n q c.args.faults.now.items c.push.new.self.items tree) (next-number first k low) (counted-more i q c.args.faults.now.items c.loop-number.faults.items c.push.new.self.items tree c.marked_levels.result (c.loop-number.invariant size can) c.in_ok-push.ensures.items after)
+    subst (λ n. Counted n q c.args.faults.now.items c.push.new.self.items tree) (next-number first k low) (counted-more i q c.args.faults.now.items c.loop-number.faults.items c.push.new.self.items tree c.marked_levels.result (c.loop-number.invariant size can) c.in_ok-push.ensures.ok after)
 
 self : (n m : ℕ) → n ≤ n + m
 self n m = omega arith

@@ -14,12 +14,14 @@ use Rattle.tv_run.proofs.run.OpenRun.add_instance.Goals as goal
 pub returns-in_err-reserve-clause-refused : goal.returns-in_err-reserve-clause-refused
 returns-in_err-reserve-clause-refused c =
     on-err c.from_residual.result
-    (before-room c.args.self.now c.reserve.new.self c.reserve.ensures.items c.args.self.now.pool (λ n. refl))
+    (before-room c.args.self.now c.reserve.new.self c.reserve.ensures.items c.args.self.now.husks c.args.self.now.pool
+    (λ n. refl))
 
 pub returns-in_err-slot-clause-refused : goal.returns-in_err-slot-clause-refused
 returns-in_err-slot-clause-refused c =
     on-err c.from_residual-in_err-slot.result
-    (before-room c.args.self.now c.reserve.new.self c.reserve.ensures.items c.args.self.now.pool (λ n. refl))
+    (before-room c.args.self.now c.reserve.new.self c.reserve.ensures.items c.args.self.now.husks c.args.self.now.pool
+    (λ n. refl))
 
 pub flow-plan-requires : goal.flow-plan-requires
 flow-plan-requires c =
@@ -51,7 +53,7 @@ start-requires-clause-tables c =
 pub returns-in_err-open-clause-refused : goal.returns-in_err-open-clause-refused
 returns-in_err-open-clause-refused c =
     on-err c.from_residual-in_err-open.result
-    (before-room c.args.self.now c.reserve.new.self c.reserve.ensures.items c.start.new.pool
+    (before-room c.args.self.now c.reserve.new.self c.reserve.ensures.items c.start.new.husks c.start.new.pool
     c.in_err-open.ensures.refused)
 
 pub enter-requires : goal.enter-requires
@@ -64,8 +66,8 @@ enter-requires c =
     let wide = ap vec_capacity same in
     let items = ap length c.reserve.ensures.items in
     let numbers = c.in-Ok.ensures.rooms.1 in
-    is-entering c.args.self.now c.reserve.new.self c.reserve.ensures.items c.start.new.pool c.reserve-2.new.self
-    c.in_ok-open.open c.reserve-2.new.jobs c.in_ok-slot.slot c.reserve-2.ensures.same c.in_ok-slot.ensures.items
+    is-entering c.args.self.now c.reserve.new.self c.reserve.ensures.items c.start.new.husks c.start.new.pool
+    c.reserve-2.new.self c.in_ok-open.open c.reserve-2.new.jobs c.in_ok-slot.slot c.reserve-2.ensures.same c.in_ok-slot.ensures.items
     (omega (arith, slot)) (c.reserve-2.ensures.jobs ∙ c.new-jobs.ensures.items)
     (subst (HasRoomBeside c.reserve-2.new.self) more c.in-Ok.ensures.rooms.0)
     (subst (λ n. length c.reserve-2.new.jobs.items + n ≤ vec_capacity c.reserve-2.new.jobs) more numbers)
@@ -84,7 +86,11 @@ pub returns-in-Ok-clause-added : goal.returns-in-Ok-clause-added
 returns-in-Ok-clause-added c xs f name can =
     let r = c.args.self.now in
     let d = run_view r.run in
-    let m : OpenRun = record r { instances = c.reserve.new.self; pool = c.start.new.pool } in
+    let m : OpenRun = record r {
+      instances = c.reserve.new.self;
+      pool = c.start.new.pool;
+      husks = c.start.new.husks;
+    } in
     let o = c.in_ok-open.open in
     let plan = c.flow-plan.result.now in
     let of_flow = plan-flow d c.args.flow f plan can.is_flow c.flow-plan.ensures in
@@ -116,6 +122,6 @@ returns-in-Ok-clause-added c xs f name can =
 
 pub returns-in-Err-clause-refused : goal.returns-in-Err-clause-refused
 returns-in-Err-clause-refused c =
-    before-given_up c.args.self.now c.reserve.new.self c.reserve.ensures.items c.start.new.pool c.abandon.new.pool
-    c.reserve-2.new.self c.in_ok-open.open c.reserve-2.ensures.same c.in_ok-open.ensures.own c.in_ok-open.ensures.kept
+    before-given_up c.args.self.now c.reserve.new.self c.reserve.ensures.items c.start.new.husks c.start.new.pool
+    c.abandon.new.pool c.reserve-2.new.self c.in_ok-open.open c.reserve-2.ensures.same c.in_ok-open.ensures.own c.in_ok-open.ensures.kept
     c.abandon.ensures

@@ -42,6 +42,16 @@ returns-clause-outputs c = λ xs x v here ends.
     let w = open-some r i xs x v here c.in-Some.itself same in
     c.finish-outs.ensures.outputs (run_view r.run) w.0 v w.1
 
+pub returns-clause-levels : goal.returns-clause-levels
+returns-clause-levels c = λ xs x v here ends.
+    let r = c.args.self.now in
+    let i = c.args.instance in
+    let same =
+    popped-is r i xs x v here c.index_mut-ended.result.now c.index_mut-ended.ensures.value c.pop.new.self.items
+    c.in-Some.itself c.in-Some.ensures.items in
+    let w = open-some r i xs x v here c.in-Some.itself same in
+    c.finish-outs.ensures.levels (run_view r.run) w.0 v w.1
+
 pub returns-clause-shut : goal.returns-clause-shut
 returns-clause-shut c = λ xs x v here ends.
     let r = c.args.self.now in
@@ -52,7 +62,7 @@ returns-clause-shut c = λ xs x v here ends.
     popped-is r i xs x v here g c.index_mut-ended.ensures.value c.pop.new.self.items p c.in-Some.ensures.items in
     changes-closed r i xs x v here _ g c.index_mut-ended.ensures.value p same
     (closes r i g p c.new.result c.new.ensures.items c.finish-outs.result.1 c.finish-outs.ensures.seats
-    c.finish-outs.new.pool c.finish-outs.ensures.gone)
+    c.finish-outs.new.pool c.finish-outs.ensures.gone c.finish-outs.new.husks)
 
 pub returns-clause-names : goal.returns-clause-names
 returns-clause-names c =
@@ -64,7 +74,7 @@ returns-clause-names c =
     let same =
     popped-is r i q.0 q.1 q.2 q.3 g c.index_mut-ended.ensures.value c.pop.new.self.items p c.in-Some.ensures.items in
     names-closed r i q.0 q.1 q.2 q.3
-    (with_closed r i g c.new.result c.finish-outs.result.1 c.finish-outs.new.pool)
+    (with_closed r i g c.new.result c.finish-outs.result.1 c.finish-outs.new.pool c.finish-outs.new.husks)
     g c.index_mut-ended.ensures.value p same
     (closes r i g p c.new.result c.new.ensures.items c.finish-outs.result.1 c.finish-outs.ensures.seats
-    c.finish-outs.new.pool c.finish-outs.ensures.gone)
+    c.finish-outs.new.pool c.finish-outs.ensures.gone c.finish-outs.new.husks)

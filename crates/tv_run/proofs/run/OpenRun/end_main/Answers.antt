@@ -18,8 +18,8 @@ returns-in_err-reserve_entries-clause-refused c =
     c.reserve_entries.ensures.capacity)
     so)
 
-pub close-outs-requires : goal.close-outs-requires
-close-outs-requires c =
+pub close-ended-requires : goal.close-ended-requires
+close-ended-requires c =
     let h = c.requires.1 in
     let r = c.args.self.now in
     let m = c.reserve_entries.new.self in
@@ -45,7 +45,7 @@ note-requires c =
     c.reserve_entries.ensures.capacity in
     let here = open-here q.0 r 0 h in
     let shut =
-    c.close-outs.ensures.shut h.instances h.instance h.view
+    c.close-ended.ensures.shut h.instances h.instance h.view
     (record { fits = b.fits h.instances here.fits; there = here.there; is_open = here.is_open })
     (ends-now q.0 r 0 h q.2) in
     let many = ap (λ v. length v.items) shut.rest.entries in
@@ -64,7 +64,8 @@ returns-clause-ended c = λ gives h ends.
     let then : IsOpenHere m h.instances 0 h.instance h.view =
     record { fits = b.fits h.instances here.fits; there = here.there; is_open = here.is_open } in
     let now = ends-now gives r 0 h ends in
-    let outs = c.close-outs.ensures.outputs h.instances h.instance h.view then now in
-    ends-main gives r h ends m b c.in_ok-reserve_entries.ensures.room c.close-outs.new.self
-    (c.close-outs.ensures.shut h.instances h.instance h.view then now) c.close-outs.ensures.names
-    c.close-outs.ensures.due c.close-outs.result outs.0 outs.1 c.note.new.self c.note.ensures
+    let outs = c.close-ended.ensures.outputs h.instances h.instance h.view then now in
+    ends-main gives r h ends m b c.in_ok-reserve_entries.ensures.room c.close-ended.new.self
+    (c.close-ended.ensures.shut h.instances h.instance h.view then now) c.close-ended.ensures.names
+    c.close-ended.ensures.due c.close-ended.result outs.0 outs.1
+    (c.close-ended.ensures.levels h.instances h.instance h.view then now) c.note.new.self c.note.ensures

@@ -81,8 +81,8 @@ give-requires-clause-may c =
 pub give-requires-clause-sound : goal.give-requires-clause-sound
 give-requires-clause-sound c = c.in_ok-pieces.ensures.sound
 
-pub close-outs-requires : goal.close-outs-requires
-close-outs-requires c =
+pub close-ended-requires : goal.close-ended-requires
+close-ended-requires c =
     let q = c.requires in
     let r = c.args.self.now in
     let i = c.args.instance in
@@ -127,7 +127,7 @@ note-requires c =
     let tells = c.give.ensures q.1.instances its.around v its.seat its.step given in
     let here = nested.here-given q.0 r i q.1 q.2 k m its taken b vs outs c.give.new.self spot.more tells in
     let zs = nested.zs q.0 r i q.1 q.2 k m its taken b vs outs c.give.new.self spot.more tells in
-    let changes = c.close-outs.ensures.shut zs q.1.instance q.1.view here ends in
+    let changes = c.close-ended.ensures.shut zs q.1.instance q.1.view here ends in
     let many = ap (λ l. length l.items) (changes.rest.entries ∙ tells.changes.rest.entries) in
     let wide = ap vec_capacity (changes.rest.entries ∙ tells.changes.rest.entries) in
     let room = ready.room.beside.entries in
@@ -154,6 +154,6 @@ returns-clause-ended c = λ gives h ends-in opener.
     let tells = c.give.ensures h.instances its.around v its.seat its.step given in
     let here = nested.here-given gives r i h ends-in k m its taken b vs outs c.give.new.self spot.more tells in
     let zs = nested.zs gives r i h ends-in k m its taken b vs outs c.give.new.self spot.more tells in
-    nested.ends-nested gives r i h ends-in k m its taken b vs outs c.give.new.self spot.more tells c.close-outs.new.self
-    (c.close-outs.ensures.shut zs h.instance h.view here ends) c.close-outs.ensures.due c.note.new.self c.note.ensures
+    nested.ends-nested gives r i h ends-in k m its taken b vs outs c.give.new.self spot.more tells c.close-ended.new.self
+    (c.close-ended.ensures.shut zs h.instance h.view here ends) c.close-ended.ensures.due c.note.new.self c.note.ensures
     ready.room.beside.entries (b.outs ∙ h.going)

@@ -10,12 +10,12 @@ use Rattle.tv_run.proofs.run.OpenRun.outputs.Goals as goal
 pub named_values-requires-clause-sound : goal.named_values-requires-clause-sound
 named_values-requires-clause-sound c =
     subst AreSound (sym c.as_slice-in-Some.ensures)
-    (sound-outputs c.requires.0 c.args.self.now c.requires.1 c.in-Some.pieces c.in-Some.is)
+    (sound-outputs c.requires.0 c.args.self.now c.requires.1 c.in-Some.ended c.in-Some.is)
 
 pub named_values-requires-clause-many : goal.named_values-requires-clause-many
 named_values-requires-clause-many c =
     ap length c.as_slice-in-Some.ensures
-    ∙ as-many-outputs c.requires.0 c.args.self.now c.requires.1 c.in-Some.pieces c.in-Some.is
+    ∙ as-many-outputs c.requires.0 c.args.self.now c.requires.1 c.in-Some.ended c.in-Some.is
     c.main.result c.flow-plan.result.now c.main.ensures.position c.flow-plan.ensures c.as_slice.result.now
     c.as_slice.ensures
 
@@ -28,6 +28,6 @@ returns c =
     (λ os h gives st done.
     h
     ∙ ap (λ ps. zip (map (λ n. n.0) c.as_slice.result.now) (piece_values ps)) c.as_slice-in-Some.ensures
-    ∙ outputs-meant gives c.args.self.now st c.in-Some.pieces c.in-Some.is c.main.result c.flow-plan.result.now
+    ∙ outputs-meant gives c.args.self.now st c.in-Some.ended c.in-Some.is c.main.result c.flow-plan.result.now
     c.main.ensures.position c.flow-plan.ensures c.as_slice.result.now c.as_slice.ensures)
     c.named_values.ensures

@@ -1,0 +1,7 @@
+use Rattle.std.proofs.Common.{true}
+use Rattle.tv_frame.proofs.OfReadyFirst.{none-so}
+use Rattle.tv_frame.proofs.frame.Frame.has_faulty.Goals as goal
+
+pub returns : goal.returns
+returns c = λ no flows plan pool v n s k at.
+    none-so flows plan pool c.args.self.now v k n s at true (c.has_faulty.ensures.none no n)

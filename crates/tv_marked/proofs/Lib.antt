@@ -1,0 +1,11 @@
+pub mod OfShapes
+pub mod OfFeeds
+pub mod OfBound
+pub mod OfTables
+pub mod OfStages
+pub mod OfRecords
+pub mod OfGroups
+pub mod OfOutputs
+pub mod OfBuilding
+pub mod OfAdding
+pub mod OfLaws

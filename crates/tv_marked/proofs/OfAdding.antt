@@ -1,0 +1,165 @@
+-- One step after another: with what is worked out of the next one more is done, and in the end all is.
+use Rattle.std.specs.Prelude.{◌≡◌, refl, ◌⊎◌, ◌+◌, ℕ, zero, suc, List, [], ◌∷◌, ◌++◌, find, length, map, Option, Some, None, option_and_then, slice_get, slice_index_or, take}
+use Rattle.std.proofs.Common.{arith, sym, ap, ap₂, subst, ◌∙◌, inl, inr, append_assoc}
+use Rattle.std.proofs.lemmas.Option.{none-some, same_Some}
+use Rattle.tv_value.specs.Nested.{Place, at, item_at, leaf, list, no_trees, nodes, nodes_below, nodes_from, tree}
+use Rattle.tv_value.specs.Values.{Name}
+use Rattle.tv_gate.specs.Outcomes.{Giving}
+use Rattle.tv_flow.specs.Flows.{Document, Flow, Step}
+use Rattle.tv_lineage.specs.Kept.{Kept, records_of}
+use Rattle.tv_lineage.specs.Lineages.{Record}
+use Rattle.tv_lineage.specs.Members.{HaveSame, In}
+use Rattle.tv_strategy.specs.Conditions.{number_of}
+use Rattle.tv_strategy.specs.Iterations.{Binding, Iteration, Iterations, job, passed}
+use Rattle.tv_strategy.specs.Measures.{strategy_depth}
+use Rattle.tv_strategy.specs.Origins.{Origin}
+use Rattle.tv_naming.specs.Numbers.{position}
+use Rattle.tv_depths.specs.Ranks.{ranked}
+use Rattle.tv_depths.specs.Steps.{bound_values, endings_of, strategy_of}
+use Rattle.tv_wires.specs.Ports.{mismatches, ports_of}
+use Rattle.tv_instance.specs.ByResults.{InstanceStep, PlacedJob, jobs_at_node, step_of}
+use Rattle.tv_model.specs.Meanings.{meaning}
+use Rattle.tv_model.specs.Members as model
+use Rattle.tv_model.proofs.Members.{each_in, in-flat, of-flat}
+use Rattle.tv_model.proofs.Sound.{StandsAt, all-stand as nodes-all-stand, nodes-stand}
+use Rattle.tv_levels.specs.Levels.{AreLevels, Level, What}
+use Rattle.tv_followed.specs.Recorded.{main_records}
+use Rattle.tv_followed.specs.Stated.{AreRecords}
+use Rattle.tv_marked.specs.Building.{IsBuilt, Telling, Tells}
+use Rattle.tv_marked.specs.Feeds.{job_at}
+use Rattle.tv_marked.specs.MainSteps.{main_steps}
+use Rattle.tv_marked.specs.Shapes.{Shape, Shows, no_shape}
+use Rattle.tv_marked.specs.Staged.{HaveRecords, IsMainFlow, IsNoted, IsRecordOf, IsStage, steps_until}
+use Rattle.tv_marked.specs.Standing.{AreShapesOf}
+use Rattle.tv_marked.specs.Tables.{IsTableOf}
+use Rattle.tv_marked.specs.Walking.{begins_of}
+use Rattle.tv_marked.proofs.OfRecords.{have-same, main-placed, placed-main, placed_record, step-main}
+use Rattle.tv_marked.proofs.OfStages.{at-rank, many, more-shown, new, new-in, new-levels, new-told, until-next}
+
+-- ---- what stands at a place is a node
+
+model-left : {A : Type 0} (x : A) (xs ys : List A) → model.In x xs → model.In x (xs ++ ys)
+model-left x [] ys i = absurd i
+model-left x (y ∷ xs) ys (inl e) = inl e
+model-left x (y ∷ xs) ys (inr i) = inr (model-left x xs ys i)
+
+model-right : {A : Type 0} (x : A) (xs ys : List A) → model.In x ys → model.In x (xs ++ ys)
+model-right x [] ys i = i
+model-right x (y ∷ xs) ys i = inr (model-right x xs ys i)
+
+none-after : (q : Place) → q ++ [] ≡ q
+none-after [] = refl
+none-after (i ∷ q) = ap (λ l. i ∷ l) (none-after q)
+
+after : (q : Place) (i : ℕ) (r : Place) → (q ++ i ∷ []) ++ r ≡ q ++ (i ∷ r)
+after [] i r = refl
+after (k ∷ q) i r = ap (λ l. k ∷ l) (after q i r)
+
+mutual
+  at-node : (t : Iteration) (p q : Place) (u : Iteration) → at t q ≡ Some u → model.In (p ++ q, u) (nodes_below p t)
+  at-node (leaf s e) p [] u h = inl (ap₂ (λ a b. (a, b)) (none-after p) (sym (same_Some (leaf s e) u h)))
+  at-node (leaf s e) p (i ∷ q) u h = absurd (none-some u h)
+  at-node (list s ts) p [] u h = inl (ap₂ (λ a b. (a, b)) (none-after p) (sym (same_Some (list s ts) u h)))
+  at-node (list s ts) p (i ∷ q) u h = inr (subst (λ k. model.In (p ++ (k ∷ q), u) (nodes_from p 0 ts)) (from-none i) (at-item ts p 0 i q u h))
+    where
+      from-none : (i : ℕ) → 0 + i ≡ i
+      from-none i = omega arith
+
+  at-item : (ts : Iterations) (p : Place) (j i : ℕ) (q : Place) (u : Iteration) → option_and_then (λ t. at t q) (item_at ts i) ≡ Some u → model.In (p ++ ((j + i) ∷ q), u) (nodes_from p j ts)
+  at-item no_trees p j i q u h = absurd (none-some u h)
+  at-item (tree t ts) p j zero q u h =
+      model-left _ (nodes_below (p ++ j ∷ []) t) (nodes_from p (suc j) ts)
+      (subst (λ l. model.In (l, u) (nodes_below (p ++ j ∷ []) t)) (after p j q ∙ ap (λ k. p ++ (k ∷ q)) (sym (more-none j))) (at-node t (p ++ j ∷ []) q u h))
+    where
+      more-none : (j : ℕ) → j + 0 ≡ j
+      more-none j = omega arith
+  at-item (tree t ts) p j (suc i) q u h =
+      model-right _ (nodes_below (p ++ j ∷ []) t) (nodes_from p (suc j) ts)
+      (subst (λ k. model.In (p ++ (k ∷ q), u) (nodes_from p (suc j) ts)) (later j i) (at-item ts p (suc j) i q u h))
+    where
+      later : (j i : ℕ) → suc j + i ≡ j + suc i
+      later j i = omega arith
+
+module _ (gives : Giving) (d : Document) (flow : Flow) (is : IsMainFlow d flow) where
+  -- before any step is done
+  pub stage-start : (k : Kept) (us : List Shape) → records_of k ≡ [] → ((n : ℕ) → slice_index_or us n no_shape ≡ no_shape) → IsStage gives d flow 0 k us
+  stage-start k us e f = record {
+    shapes = λ t. f (position t flow.steps);
+    own = λ x i. absurd (subst (In x) e i);
+    all = λ g i. absurd i;
+  }
+
+  module _ (ls : List Level) (levels : AreLevels flow (main_steps (meaning gives d)) ls) (what : ℕ → Place → Option What) (table : IsTableOf ls what)
+      (n r : ℕ) (s : Name × Step) (here : slice_get flow.steps n ≡ Some s) (of_rank : position s.0 (ranked flow.steps) ≡ r)
+      (old now : Kept) (us more : List Shape) (stage : IsStage gives d flow r old us) where
+    abbrev telling : Telling
+    telling = record { flow = flow; shapes = us; ports = ports_of flow s.1; begins = begins_of flow s.1; what = what n; name = s.0 }
+
+    abbrev g : InstanceStep
+    g = new gives d flow is n r s here of_rank
+
+    abbrev it : Iteration
+    it = g.step.iteration
+
+    abbrev before : List Origin
+    before = endings_of step_of (steps_until gives d flow r) s.1.after
+
+    tells : Tells telling s it
+    tells = record {
+      name = refl;
+      told = new-told gives d flow is n r s here of_rank us stage.shapes (main_steps (meaning gives d)) ls levels (step-main gives d flow is g (new-in gives d flow is n r s here of_rank)) what table;
+    }
+
+    -- a job at a place
+    placed : (q : Place) (src : List Origin) (b : Binding) → at it q ≡ Some (leaf src (job b)) → model.In (record { step = s.0; place = q; inputs = bound_values s.1 b; waits = src ++ before }) g.jobs
+    placed q src b e = in-flat (jobs_at_node s.0 s.1 before) (q, leaf src (job b)) _ (nodes it) (at-node it [] q (leaf src (job b)) e) (inl refl)
+
+    -- and a job of the step stands at one
+    pub record IsAt (k : PlacedJob) : Type 0 where
+      pub sources : List Origin
+      pub binding : Binding
+      pub stands : at it k.place ≡ Some (leaf sources (job binding))
+      pub step : k.step ≡ s.0
+
+    node-job : (k : PlacedJob) (x : Place × Iteration) → at it x.0 ≡ Some x.1 → model.In k (jobs_at_node s.0 s.1 before x) → IsAt k
+    node-job k (q, leaf src (job b)) e (inl h) = subst IsAt (sym h) (record { sources = src; binding = b; stands = e; step = refl })
+    node-job k (q, leaf src (job b)) e (inr h) = absurd h
+    node-job k (q, leaf src (passed m x)) e h = absurd h
+    node-job k (q, list src ts) e h = absurd h
+
+    job-at : (k : PlacedJob) → model.In k g.jobs → IsAt k
+    job-at k i =
+        let x = of-flat (jobs_at_node s.0 s.1 before) k (nodes it) i in
+        node-job k x.0 (each_in (λ (y : Place × Iteration). StandsAt it y.0 y.1) (nodes it) (nodes-stand (StandsAt it) it [] (nodes-all-stand it it [] refl)) x.0 x.1) x.2
+
+    -- with its shape and records one more is done
+    pub stage-next : (levels_of : ℕ) → levels_of ≡ strategy_depth (number_of (mismatches flow s.1)) (strategy_of s.1) → (u : Shape) → IsBuilt telling levels_of [] old now u → slice_index_or more n no_shape ≡ u → ((k : ℕ) → (k ≡ n → ⊥) → slice_index_or more k no_shape ≡ slice_index_or us k no_shape) → IsStage gives d flow (suc r) now more
+    stage-next m e u built at_n others = record {
+      shapes = more-shown gives d flow is n r s here of_rank us stage.shapes (main_steps (meaning gives d)) ls levels (step-main gives d flow is g (new-in gives d flow is n r s here of_rank)) what table more (subst (λ v. Shows v it) (sym at_n) told.0) others;
+      own = λ x i. by x (told.1.only x i);
+      all = λ f i k j. each f (subst (model.In f) (until-next gives d flow is r s (at-rank gives d flow is n r s here of_rank)) i) k j;
+    }
+      where
+        told : Shows u it × IsNoted s it (records_of old) (records_of now) × HaveRecords s.0 [] it (records_of now)
+        told = built.told s it tells it refl (subst (Rattle.tv_strategy.specs.Levels.HasLevels it) (sym e) (new-levels gives d flow is n r s here of_rank))
+
+        by : (x : Record) → In x (records_of old) ⊎ IsRecordOf s it x → In x (main_records (meaning gives d))
+        by x (inl i) = stage.own x i
+        by x (inr h) =
+            subst (λ z. In z (main_records (meaning gives d))) (sym h.is)
+            (placed-main gives d flow is g (new-in gives d flow is n r s here of_rank) (record { step = s.0; place = h.place; inputs = bound_values s.1 h.binding; waits = h.sources ++ before }) (placed h.place h.sources h.binding h.stands))
+
+        each : (f : InstanceStep) → model.In f (g ∷ steps_until gives d flow r) → (k : PlacedJob) → model.In k f.jobs → (x : Record) × In x (records_of now) × (x.job ≡ job_at k.step k.place)
+        each f (inl p) k j =
+            let h = job-at k (subst (λ (z : InstanceStep). model.In k z.jobs) p j) in
+            let x = told.2 k.place h.sources h.binding h.stands in
+            (x.0, x.1, x.2 ∙ ap (λ z. job_at z k.place) (sym h.step))
+        each f (inr i) k j = let x = stage.all f i k j in (x.0, told.1.kept x.0 x.1, x.2)
+
+  -- in the end the records are those of the main jobs
+  pub stage-end : (k : Kept) (us : List Shape) → IsStage gives d flow (length flow.steps) k us → AreRecords (meaning gives d) (records_of k)
+  stage-end k us h =
+      inr (have-same gives d flow is (records_of k) h.own (λ r i.
+      let p = main-placed gives d flow is r i in
+      let x = h.all p.step (subst (λ ss. model.In p.step (Rattle.tv_instance.specs.ByResults.steps_by [] (Rattle.tv_marked.specs.Staged.main_results gives d flow) (Rattle.tv_model.specs.Instances.given_of flow d.inputs) [] ss)) (sym (many gives d flow is)) p.there) p.placed p.among in
+      (x.0, x.1, x.2 ∙ ap (λ (z : Record). z.job) (sym p.same))))

@@ -1,0 +1,11 @@
+pub mod Shapes
+pub mod Feeds
+pub mod Walking
+pub mod Tables
+pub mod Standing
+pub mod MainSteps
+pub mod Staged
+pub mod Leaves
+pub mod Grouped
+pub mod Building
+pub mod Stated

@@ -1,0 +1,20 @@
+//! Which marks what stands in the main instance of a document used, told by the shape of its iterations alone: definitions and
+//! laws; the program runs nothing of them.
+//!
+//! The values of an instance come and go, but the marks of what stands in them need no values: an element of an input has its
+//! own, all that a job made has the job's, a passed fault that of the node where it was met, and constants and the lists of
+//! merges and of iterations have none. So lists with their lengths, and passed faults with the leaf that each came from, tell
+//! the marks of every node. The laws say so of every accepted document, step after step by rank: with the shapes of the steps
+//! before, what a step's jobs and passed faults used is told (`proofs/OfStages.antt`); with what is worked out of it the next step
+//! is done (`proofs/OfAdding.antt`); and in the end the records are those of the main flow's jobs, and what stands in the outputs used
+//! what is told of it (`proofs/OfOutputs.antt`).
+//!
+//! - `specs/Shapes.antt`: shapes of iterations, and the marks that they tell
+//! - `specs/Feeds.antt`, `specs/Walking.antt`: what feeds deliver, and what jobs and faults used, by these
+//! - `specs/Tables.antt`, `specs/Standing.antt`, `specs/Staged.antt`, `specs/MainSteps.antt`: which levels, shapes and records are those of a document's main instance
+//! - `specs/Grouped.antt`, `specs/Building.antt`: parts that stand for lists, and what is worked out of a node
+//! - `specs/Leaves.antt`: the places of leaves
+//! - `laws`, `specs/Stated.antt`: the laws
+#![tactic(auto)]
+
+pub mod laws;

@@ -1,0 +1,71 @@
+use Rattle.std.proofs.Common.{ℕ, ◌<◌, suc, length, Some, is_some, sym, ap, ◌∙◌, subst, arith}
+use Rattle.std.proofs.lemmas.Result.{IfOk-weaker}
+use Rattle.tv_parts.specs.Partials.{part_at}
+use Rattle.tv_stream.proofs.Ways.{nil-of}
+use Rattle.tv_value.specs.declared.value.Value.{Value}
+use Rattle.tv_value.specs.Views.{view}
+use Rattle.tv_outputs.specs.Known.{shown}
+use Rattle.tv_outputs.specs.FoundIn.{found_in}
+use Rattle.tv_outputs.proofs.OfPieces.{here-found, here-whole, inside-found, item-sound, nothing-found, part-found}
+use Rattle.tv_outputs.proofs.Seeing.{sees-part}
+use Rattle.tv_outputs.proofs.values.+found_value.Goals as goal
+
+pub whole_value-requires : goal.whole_value-requires
+whole_value-requires t c =
+    let n = c.requires in
+    (n.0, n.1, here-whole (shown n.0) c.args.place.now (nil-of c.args.place.now (c.in_default.ensures {u = tt}).cases) n.2)
+
+pub part-requires : goal.part-requires
+part-requires t c =
+    let n = c.requires in
+    sym (ap is_some (part-found n.0 c.args.place.now c.in-Some.first.now c.in-Some.rest.now c.in-Some.ensures.cases.0 c.in-Some-item.piece.now (c.in-Some-item.ensures {u = tt} n.0 n.1.shows))) ∙ n.2
+
+pub assemble-requires : goal.assemble-requires
+assemble-requires t c =
+    let n = c.requires in
+    c.in_ok-part-in-Some-item.ensures.sound (item-sound n.0 c.in-Some-item.piece.now (c.in-Some-item.ensures {u = tt} n.0 n.1.shows) n.1.noted)
+
+pub unreachable-requires : goal.unreachable-requires
+unreachable-requires t c =
+    let n = c.requires in
+    let i = c.in-Some.first.now in
+    let o = c.in-Some.rest.now in
+    nothing-found o (
+    ap (λ r. is_some (found_in o (shown r))) (sym (c.in-None-part.ensures {u = tt} n.0 n.1.shows))
+    ∙ sym (ap is_some (inside-found n.0 c.args.place.now i o c.in-Some.ensures.cases.0 (c.in-None.ensures {u = tt} n.0 n.1.shows)))
+    ∙ n.2)
+
+pub found_value-requires : goal.found_value-requires
+found_value-requires t c =
+    let n = c.requires in
+    let s = c.in-Some.ensures.cases.0 in
+    let i = c.in-Some.first.now in
+    let o = c.in-Some.rest.now in (
+      subst (λ m. length o < m) (sym (ap length s) ∙ c.decreases) (below (length o)),
+      (
+        part_at n.0 i,
+        sees-part c.args.look.now c.in-Some-part.part c.args.levels n.0 i n.1 (c.in-Some-part.ensures {u = tt} n.0 n.1.shows),
+        sym (ap is_some (inside-found n.0 c.args.place.now i o s (c.in-None.ensures {u = tt} n.0 n.1.shows))) ∙ n.2,
+      ),
+    )
+  where
+    below : (n : ℕ) → n < suc n
+    below n = omega arith
+
+pub returns-in_default : goal.returns-in_default
+returns-in_default t c r sees found =
+    let nil = nil-of c.args.place.now (c.in_default.ensures {u = tt}).cases in
+    let w = here-whole (shown r) c.args.place.now nil found in
+    IfOk-weaker c.whole_value.result _ _ (λ (x : Value) h. here-found (shown r) c.args.place.now (view x) nil w h) (c.whole_value.ensures r sees w)
+
+pub returns-in_ok-part-in-Some-item : goal.returns-in_ok-part-in-Some-item
+returns-in_ok-part-in-Some-item t c r sees found =
+    IfOk-weaker c.assemble.result _ _ (λ (x : Value) h. part-found r c.args.place.now c.in-Some.first.now c.in-Some.rest.now c.in-Some.ensures.cases.0 c.in-Some-item.piece.now (c.in-Some-item.ensures {u = tt} r sees.shows) ∙ c.in_ok-part-in-Some-item.ensures.value ∙ ap Some (sym h)) c.assemble.ensures
+
+pub returns-in-Some-part : goal.returns-in-Some-part
+returns-in-Some-part t c r sees found =
+    let i = c.in-Some.first.now in
+    let o = c.in-Some.rest.now in
+    let inner = inside-found r c.args.place.now i o c.in-Some.ensures.cases.0 (c.in-None.ensures {u = tt} r sees.shows) in
+    IfOk-weaker c.found_value.result _ _ (λ (x : Value) h. inner ∙ h)
+    (c.found_value.ensures (part_at r i) (sees-part c.args.look.now c.in-Some-part.part c.args.levels r i sees (c.in-Some-part.ensures {u = tt} r sees.shows)) (sym (ap is_some inner) ∙ found))

@@ -1,0 +1,16 @@
+use Rattle.std.proofs.lemmas.Result.{IfOk-weaker}
+use Rattle.tv_check.specs.RunViews.{run_view}
+use Rattle.tv_flow.specs.Views.{flow_view}
+use Rattle.tv_run.proofs.OfOutputs.{none-missing}
+use Rattle.tv_run.proofs.OfTracing.{levels-traced}
+use Rattle.tv_run.proofs.run.OpenRun.traces.Goals as goal
+
+pub unreachable-requires : goal.unreachable-requires
+unreachable-requires c = none-missing c.requires.0 c.args.self.now c.requires.1 c.requires.2 c.in-None.is
+
+pub returns : goal.returns
+returns c = λ gives st done.
+    IfOk-weaker c.start.result _ _ (λ t h. (flow_view c.flow-plan.result.now.flow, h))
+    (c.start.ensures gives (run_view c.args.self.now.run)
+    (levels-traced gives c.args.self.now st c.main.result c.flow-plan.result.now c.main.ensures.position c.flow-plan.ensures
+    c.in-Some.ended c.in-Some.is c.as_slice.result.now c.as_slice.ensures.value))

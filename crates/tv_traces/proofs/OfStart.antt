@@ -1,0 +1,172 @@
+-- The loop over the steps by rank.
+use Rattle.std.specs.Prelude.{◌≡◌, refl, ◌⊎◌, ℕ, zero, suc, ◌+◌, ◌≤◌, ◌<◌, List, [], ◌∷◌, length, map, replicate, Option, Some, None, slice_get, slice_index_or}
+use Rattle.std.proofs.Common.{arith, sym, ap, ap₂, subst, ◌∙◌, get_or, set, inl, inr}
+use Rattle.std.proofs.lemmas.List.{length-map}
+use Rattle.std.proofs.lemmas.Option.{none-some, same_Some}
+use Rattle.tv_value.specs.Nested.{Place}
+use Rattle.tv_value.specs.Values.{Name}
+use Rattle.tv_gate.specs.Outcomes.{Giving}
+use Rattle.tv_flow.specs.Flows as spec
+use Rattle.tv_flow.specs.Flows.{Document}
+use Rattle.tv_flow.specs.Views.{flow_view}
+use Rattle.tv_lineage.specs.Kept.{Groups, Kept, records_of}
+use Rattle.tv_strategy.specs.Conditions.{number_of}
+use Rattle.tv_strategy.specs.Measures.{strategy_depth}
+use Rattle.tv_naming.specs.Numbers.{position}
+use Rattle.tv_depths.specs.Ranks.{ranked}
+use Rattle.tv_depths.proofs.OfRanked.{same-or-not}
+use Rattle.tv_depths.specs.Steps.{strategy_of}
+use Rattle.tv_wires.specs.Ports.{mismatches}
+use Rattle.tv_check.specs.Plans as plan
+use Rattle.tv_check.specs.PlanViews.{step_plan_view}
+use Rattle.tv_check.specs.declared.plans.FlowPlan.{FlowPlan}
+use Rattle.tv_check.specs.declared.plans.StepPlan.{StepPlan}
+use Rattle.tv_levels.specs.Levels.{Level, What}
+use Rattle.tv_model.specs.Meanings.{meaning}
+use Rattle.std.proofs.lemmas.List.Sorted.{IsPermutation-sym}
+use Rattle.tv_naming.proofs.OfForms.{steps-named}
+use Rattle.tv_matching.specs.Members as matching
+use Rattle.tv_matching.proofs.OfMembers.{in-permutes}
+use Rattle.tv_model.specs.Members as model
+use Rattle.tv_drawn.proofs.OfRanks.{in-at, ranked-permutes}
+use Rattle.tv_frame.proofs.OfOrder.{rank-is}
+use Rattle.tv_frame.proofs.OfTables.{as-many-steps, plan-wired, step-of}
+use Rattle.tv_marked.specs.Building.{IsBuilt}
+use Rattle.tv_marked.specs.Feeds.{job_at}
+use Rattle.tv_marked.specs.Grouped.{AllAreGrouped, Grows, IsGrouped}
+use Rattle.tv_marked.specs.Shapes.{Shape, no_shape}
+use Rattle.tv_marked.specs.Staged.{IsStage}
+use Rattle.tv_marked.specs.Tables.{IsTableOf}
+use Rattle.tv_marked.proofs.OfAdding.{stage-end, stage-next, stage-start}
+use Rattle.tv_marked.proofs.OfGroups.{all-grow}
+use Rattle.tv_traces.specs.Stepping.{telling_of}
+use Rattle.tv_traces.specs.Traced.{AreTraces, IsTraced}
+use Rattle.tv_traces.specs.Views.{node_view, shapes_view}
+use Rattle.tv_traces.specs.declared.node.Node.{Node}
+use Rattle.tv_traces.specs.declared.traces.Traces.{Traces}
+use Rattle.tv_traces.proofs.Telling.{some-out}
+
+-- ---- no shapes
+
+none-at : (us : List Shape) (count n : ℕ) → us ≡ replicate count no_shape → slice_index_or us n no_shape ≡ no_shape
+none-at us count n e = ap (λ l. slice_index_or l n no_shape) e ∙ by count n
+  where
+    by : (count n : ℕ) → slice_index_or (replicate count no_shape) n no_shape ≡ no_shape
+    by zero n = refl
+    by (suc count) zero = refl
+    by (suc count) (suc n) = by count n
+
+pub none-grouped : (flow : spec.Flow) (gs : Groups) (us : List Shape) (count : ℕ) → us ≡ replicate count no_shape → AllAreGrouped flow gs us
+none-grouped flow gs us count e n s h = subst (IsGrouped (job_at s.0) gs []) (sym (none-at us count n e)) tt
+
+pub none-staged : (gives : Giving) (d : Document) (flow : spec.Flow) (ls : List Level) → IsTraced gives d flow ls → (k : Kept) (us : List Shape) (count : ℕ) → records_of k ≡ [] → us ≡ replicate count no_shape → IsStage gives d flow 0 k us
+none-staged gives d flow ls w k us count e f = stage-start gives d flow w.flow_is k us e (λ n. none-at us count n f)
+
+-- ---- one more
+
+set-here : (us : List Node) (n : ℕ) (u : Node) → n < length us → slice_index_or (shapes_view (set us n u)) n no_shape ≡ node_view u
+set-here [] n u h = absurd (none n h)
+  where
+    none : (n : ℕ) → n < 0 → ⊥
+    none n h = omega arith
+set-here (v ∷ us) zero u h = refl
+set-here (v ∷ us) (suc n) u h = set-here us n u (less n (length us) h)
+  where
+    less : (a b : ℕ) → suc a < suc b → a < b
+    less a b h = omega arith
+
+pub set-long : (us : List Node) (n : ℕ) (u : Node) → length (set us n u) ≡ length us
+set-long [] n u = refl
+set-long (v ∷ us) zero u = refl
+set-long (v ∷ us) (suc n) u = ap suc (set-long us n u)
+
+set-there : (us : List Node) (n k : ℕ) (u : Node) → (k ≡ n → ⊥) → slice_index_or (shapes_view (set us n u)) k no_shape ≡ slice_index_or (shapes_view us) k no_shape
+set-there [] n k u h = refl
+set-there (v ∷ us) zero zero u h = absurd (h refl)
+set-there (v ∷ us) zero (suc k) u h = refl
+set-there (v ∷ us) (suc n) zero u h = refl
+set-there (v ∷ us) (suc n) (suc k) u h = set-there us n k u (λ e. h (ap suc e))
+
+module _ (p : FlowPlan) (n r : ℕ) (lt : n < length p.steps) (rank : (q : StepPlan) → slice_get p.steps n ≡ Some q → q.rank ≡ r) (what : ℕ → Place → Option What) (old now : Kept) (us vs : List Node) (u : Node) (long : length us ≡ length p.steps) (is : vs ≡ set us n u)
+    (built : (s : Name × spec.Step) → slice_get (flow_view p.flow).steps n ≡ Some s → IsBuilt (telling_of (flow_view p.flow) (shapes_view us) (what n) s) (strategy_depth (number_of (mismatches (flow_view p.flow) s.1)) (strategy_of s.1)) [] old now (node_view u)) where
+  abbrev flow : spec.Flow
+  flow = flow_view p.flow
+
+  here : (s : Name × spec.Step) × (slice_get flow.steps n ≡ Some s)
+  here = some-out flow.steps n (subst (λ m. n < m) (as-many-steps p) lt)
+
+  of-rank : position here.0.0 (ranked flow.steps) ≡ r
+  of-rank =
+      let q = some-out p.steps n lt in
+      let w = step-of p n q.0 q.1 in
+      let same : w.0 ≡ here.0 = same_Some w.0 here.0 (sym w.1.0 ∙ here.1) in
+      ap (λ (s : Name × spec.Step). position s.0 (ranked flow.steps)) (sym same) ∙ sym (ap (λ (z : plan.StepPlan). z.rank) w.1.1) ∙ rank q.0 q.1
+
+  at-n : slice_index_or (shapes_view vs) n no_shape ≡ node_view u
+  at-n = ap (λ l. slice_index_or (shapes_view l) n no_shape) is ∙ set-here us n u (subst (λ m. n < m) (sym long) lt)
+
+  others : (k : ℕ) → (k ≡ n → ⊥) → slice_index_or (shapes_view vs) k no_shape ≡ slice_index_or (shapes_view us) k no_shape
+  others k h = ap (λ l. slice_index_or (shapes_view l) k no_shape) is ∙ set-there us n k u h
+
+  pub more-staged : (gives : Giving) (d : Document) (ls : List Level) → IsTraced gives d flow ls → IsTableOf ls what → IsStage gives d flow r old (shapes_view us) → IsStage gives d flow (suc r) now (shapes_view vs)
+  more-staged gives d ls w table stage =
+      stage-next gives d flow w.flow_is ls w.levels_are what table n r here.0 here.1 of-rank old now (shapes_view us) (shapes_view vs) stage
+      (strategy_depth (number_of (mismatches flow here.0.1)) (strategy_of here.0.1)) refl (node_view u) (built here.0 here.1) at-n others
+
+  pub more-grouped : AllAreGrouped flow old.groups (shapes_view us) → AllAreGrouped flow now.groups (shapes_view vs)
+  more-grouped all k s h = by (same-or-not k n)
+    where
+      grown : Grows old.groups now.groups
+      grown = (built here.0 here.1).grows
+
+      by : (k ≡ n) ⊎ (k ≡ n → ⊥) → IsGrouped (job_at s.0) now.groups [] (slice_index_or (shapes_view vs) k no_shape)
+      by (inl e) =
+          let same : here.0 ≡ s = same_Some here.0 s (sym here.1 ∙ ap (slice_get flow.steps) (sym e) ∙ h) in
+          subst (λ (z : Name × spec.Step). IsGrouped (job_at z.0) now.groups [] (slice_index_or (shapes_view vs) k no_shape)) same
+          (subst (IsGrouped (job_at here.0.0) now.groups []) (sym (ap (λ i. slice_index_or (shapes_view vs) i no_shape) e ∙ at-n)) (built here.0 here.1).grouped)
+      by (inr f) = subst (IsGrouped (job_at s.0) now.groups []) (sym (others k f)) (all-grow flow old.groups now.groups (shapes_view us) grown all k s h)
+
+-- ---- each rank is that of a step
+
+pub rank-there : (p : FlowPlan) (r : ℕ) → r < length p.steps → ((n : ℕ) (q : StepPlan) → slice_get p.steps n ≡ Some q → q.rank ≡ r → ⊥) → ⊥
+rank-there p r lt none =
+    let flow = flow_view p.flow in
+    let wired = plan-wired p in
+    let s = some-out (ranked flow.steps) r (subst (λ m. r < m) (as-many-steps p ∙ sym wired.ranked) lt) in
+    let i = in-permutes s.0 flow.steps (ranked flow.steps) (IsPermutation-sym _ _ (ranked-permutes flow.steps (steps-named flow wired.formed).rise wired.ranked)) (over (ranked flow.steps) r s.0 s.1) in
+    let n = in-at s.0 flow.steps (under s.0 flow.steps i) in
+    let q = some-out p.steps n.0 (inside p n.0 s.0 n.1) in
+    let w = step-of p n.0 q.0 q.1 in
+    let same : w.0 ≡ s.0 = same_Some w.0 s.0 (sym w.1.0 ∙ n.1) in
+    none n.0 q.0 q.1 (ap (λ (z : plan.StepPlan). z.rank) w.1.1 ∙ ap (λ (x : Name × spec.Step). position x.0 (ranked flow.steps)) same ∙ rank-is flow wired r s.0 s.1)
+  where
+    over : {A : Type 0} (xs : List A) (k : ℕ) (x : A) → slice_get xs k ≡ Some x → matching.In x xs
+    over [] k x e = absurd (none-some x e)
+    over (y ∷ xs) zero x e = inl (sym (same_Some y x e))
+    over (y ∷ xs) (suc k) x e = inr (over xs k x e)
+
+    under : {A : Type 0} (x : A) (xs : List A) → matching.In x xs → model.In x xs
+    under x [] i = i
+    under x (y ∷ xs) (inl e) = inl e
+    under x (y ∷ xs) (inr i) = inr (under x xs i)
+
+    inside : (p : FlowPlan) (k : ℕ) (s : Name × spec.Step) → slice_get (flow_view p.flow).steps k ≡ Some s → k < length p.steps
+    inside p k s e = subst (λ m. k < m) (sym (as-many-steps p)) (got-below (flow_view p.flow).steps k s e)
+      where
+        got-below : {A : Type 0} (xs : List A) (k : ℕ) (x : A) → slice_get xs k ≡ Some x → k < length xs
+        got-below [] k x e = absurd (none-some x e)
+        got-below (y ∷ xs) zero x e = more (length xs)
+          where
+            more : (a : ℕ) → 0 < suc a
+            more a = omega arith
+        got-below (y ∷ xs) (suc k) x e = more k (length xs) (got-below xs k x e)
+          where
+            more : (a b : ℕ) → a < b → suc a < suc b
+            more a b h = omega arith
+
+-- ---- in the end
+
+pub all-staged : (gives : Giving) (d : Document) (p : FlowPlan) (ls : List Level) (r : ℕ) (t : Traces) → IsTraced gives d (flow_view p.flow) ls → r ≡ length p.steps → IsStage gives d (flow_view p.flow) r t.records (shapes_view t.shapes.items) → AreTraces gives d (flow_view p.flow) t
+all-staged gives d p ls r t w e h =
+    let stage = subst (λ n. IsStage gives d (flow_view p.flow) n t.records (shapes_view t.shapes.items)) (e ∙ as-many-steps p) h in
+    record { flow_is = w.flow_is; records = stage-end gives d (flow_view p.flow) w.flow_is t.records (shapes_view t.shapes.items) stage; shapes = stage.shapes }

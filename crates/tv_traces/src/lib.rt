@@ -1,0 +1,35 @@
+//! What was made of what in a run that is done.
+//!
+//! After a run nothing is left of the values that went through it, but of the main instance the lists and passed faults of its
+//! steps' iterations are kept (`tv_levels`): the length of each list, and of each fault the leaf of the strategy that it came
+//! from. With the plan of the flow these tell the shape of every iteration, so which jobs there were and what each of them bound.
+//! From that `Traces` works out the records of all jobs of the main flow, and answers for what stands in the outputs which
+//! marks it used. No value is looked at but those of the outputs, for what stands there.
+//!
+//! **What it promises** (`specs/Traced.antt`, for every document and whatever its services gave). Where these are the main flow
+//! of an accepted document and the levels of its main instance, the records are those of the main flow's jobs; what stands at a
+//! place of an output used exactly the marks that the meaning says, and nothing is answered exactly where nothing stands there;
+//! and the leaves are those of the meaning's outputs, in order.
+//!
+//! A list is one part for all that bind it, however many do: each list is shared once, when its items are done.
+//!
+//! - `traces`: the calls
+//! - `stepping`: the steps, one after another by rank
+//! - `building`: the shape of a step's iteration, and the records of its jobs
+//! - `table`: levels by step and place
+//! - `feeds`, `used`: what feeds deliver at a place, as parts and as marks
+//! - `places`: the places of a value's leaves
+//! - `node`, `copies`: nodes of shapes; copies of marks and parts
+#![tactic(auto)]
+
+mod building;
+mod copies;
+mod feeds;
+mod node;
+mod places;
+mod stepping;
+mod table;
+mod traces;
+mod used;
+
+pub use traces::Traces;
