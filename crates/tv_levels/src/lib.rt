@@ -4,7 +4,7 @@
 //! instance was made of, once the values themselves are gone.
 //!
 //! - `level`: a list or a passed fault
-//! - `specs/Levels.antt`: when such a list tells of an instance
+//! - `specs/Levels.antt`: when such a list tells of an instance; `specs/MainSteps.antt`: the steps of the main one
 //! - `specs/Views.antt`: what a contract sees
 #![tactic(auto)]
 

@@ -23,11 +23,11 @@ use Rattle.tv_model.specs.Members as model
 use Rattle.tv_model.proofs.Members.{each_in, in-flat, of-flat}
 use Rattle.tv_model.proofs.Sound.{StandsAt, all-stand as nodes-all-stand, nodes-stand}
 use Rattle.tv_levels.specs.Levels.{AreLevels, Level, What}
+use Rattle.tv_levels.specs.MainSteps.{main_steps}
 use Rattle.tv_followed.specs.Recorded.{main_records}
 use Rattle.tv_followed.specs.Stated.{AreRecords}
 use Rattle.tv_marked.specs.Building.{IsBuilt, Telling, Tells}
 use Rattle.tv_marked.specs.Feeds.{job_at}
-use Rattle.tv_marked.specs.MainSteps.{main_steps}
 use Rattle.tv_marked.specs.Shapes.{Shape, Shows, no_shape}
 use Rattle.tv_marked.specs.Staged.{HaveRecords, IsMainFlow, IsNoted, IsRecordOf, IsStage, steps_until}
 use Rattle.tv_marked.specs.Standing.{AreShapesOf}

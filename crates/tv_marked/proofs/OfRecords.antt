@@ -27,6 +27,7 @@ use Rattle.tv_model.specs.Members as model
 use Rattle.tv_model.proofs.Fed.{each-all}
 use Rattle.tv_model.proofs.Members.{Apart, of-flat, once-of_apart}
 use Rattle.tv_model.proofs.Whole.{AnyNumber, IsWhole, StepsHave, meaning-whole}
+use Rattle.tv_levels.specs.MainSteps.{main_steps}
 use Rattle.tv_order.specs.Parts.{IsInstance}
 use Rattle.tv_order.proofs.OfParts.{main-instance}
 use Rattle.tv_followed.specs.Recorded.{main_records, mark_of, record_of}
@@ -187,9 +188,9 @@ module _ (gives : Giving) (d : Document) (flow : Flow) (is : IsMainFlow d flow) 
   own-instance f i = by-each [] (main_results gives d flow) (given_of flow d.inputs) (λ g. g.step.instance ≡ []) [] (ranked flow.steps) (λ gs x j. refl) (λ g j. absurd j) f i
 
   -- a step of the instance is one of the main steps
-  pub step-main : (f : InstanceStep) → model.In f all → model.In f.step (Rattle.tv_marked.specs.MainSteps.main_steps m)
+  pub step-main : (f : InstanceStep) → model.In f all → model.In f.step (main_steps m)
   step-main f i =
       let x = steps-alike made all alike f i in
       let here = part.all_steps x.0.step (Rattle.tv_model.proofs.Order.in-map (λ (y : Made). y.step) x.0 made x.1) in
-      subst (λ z. model.In z (Rattle.tv_marked.specs.MainSteps.main_steps m)) x.3
+      subst (λ z. model.In z (main_steps m)) x.3
       (to-model x.0.step (filter (λ (s : StepMeaning). is_outermost s.instance) m.steps) (in-filter (λ (s : StepMeaning). is_outermost s.instance) x.0.step m.steps here (ap is_outermost (ap (λ (s : StepMeaning). s.instance) x.3 ∙ own-instance f i))))

@@ -3,7 +3,6 @@ pub mod Feeds
 pub mod Walking
 pub mod Tables
 pub mod Standing
-pub mod MainSteps
 pub mod Staged
 pub mod Leaves
 pub mod Grouped

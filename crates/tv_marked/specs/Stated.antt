@@ -14,8 +14,8 @@ use Rattle.tv_wires.specs.Ports.{mismatches, ports_of}
 use Rattle.tv_model.specs.Meanings.{meaning}
 use Rattle.tv_followed.specs.Stated.{AreRecords}
 use Rattle.tv_levels.specs.Levels.{AreLevels, Level, What}
+use Rattle.tv_levels.specs.MainSteps.{main_steps}
 use Rattle.tv_marked.specs.Building.{IsBuilt}
-use Rattle.tv_marked.specs.MainSteps.{main_steps}
 use Rattle.tv_marked.specs.Shapes.{Shape, no_shape}
 use Rattle.tv_marked.specs.Staged.{IsMainFlow, IsStage}
 use Rattle.tv_marked.specs.Tables.{IsTableOf}

@@ -11,7 +11,7 @@
 //!
 //! - `specs/Shapes.antt`: shapes of iterations, and the marks that they tell
 //! - `specs/Feeds.antt`, `specs/Walking.antt`: what feeds deliver, and what jobs and faults used, by these
-//! - `specs/Tables.antt`, `specs/Standing.antt`, `specs/Staged.antt`, `specs/MainSteps.antt`: which levels, shapes and records are those of a document's main instance
+//! - `specs/Tables.antt`, `specs/Standing.antt`, `specs/Staged.antt`: which levels, shapes and records are those of a document's main instance
 //! - `specs/Grouped.antt`, `specs/Building.antt`: parts that stand for lists, and what is worked out of a node
 //! - `specs/Leaves.antt`: the places of leaves
 //! - `laws`, `specs/Stated.antt`: the laws

@@ -20,8 +20,9 @@ use Rattle.tv_viewed.specs.InRun.{IsInRun}
 use Rattle.tv_viewed.proofs.OfEndings.{listed-step}
 use Rattle.tv_viewed.proofs.OfRuns.{Runs, in-all, runs, steps_here}
 use Rattle.tv_levels.specs.Levels.{AreLevels, Level}
+use Rattle.tv_levels.specs.MainSteps.{main_steps}
 use Rattle.tv_open.specs.Levels.{AreItsLevels}
-use Rattle.tv_run.specs.Ended.{AreMainLevels, main_steps}
+use Rattle.tv_run.specs.Ended.{AreMainLevels}
 
 outermost : (n : JobName) → is_outermost n ≡ true → n ≡ []
 outermost [] h = refl

@@ -15,12 +15,12 @@ use Rattle.tv_check.specs.declared.plans.FlowPlan.{FlowPlan}
 use Rattle.tv_cell.specs.PieceValues.{piece_values}
 use Rattle.tv_cell.specs.declared.piece.Piece.{Piece}
 use Rattle.tv_levels.specs.Levels.{AreLevels}
+use Rattle.tv_levels.specs.MainSteps.{main_steps}
 use Rattle.tv_levels.specs.Views.{level_view}
 use Rattle.tv_levels.specs.declared.level.Level.{Level}
 use Rattle.tv_model.specs.Meanings.{meaning}
 use Rattle.tv_traces.specs.Traced.{AreTraces, IsTraced}
 use Rattle.tv_traces.specs.declared.traces.Traces.{Traces}
-use Rattle.tv_run.specs.Ended.{main_steps}
 use Rattle.tv_run.specs.Standing.{OutsAre, StandsStill}
 use Rattle.tv_run.specs.Tracing.{IsTracedBy}
 use Rattle.tv_run.specs.declared.ended.Ended.{Ended}

@@ -6,7 +6,7 @@ use Rattle.tv_lineage.specs.Kept.{records_of}
 use Rattle.tv_model.specs.Meanings.{meaning}
 use Rattle.tv_followed.specs.Stated.{AreRecords}
 use Rattle.tv_levels.specs.Levels.{AreLevels, Level}
-use Rattle.tv_marked.specs.MainSteps.{main_steps}
+use Rattle.tv_levels.specs.MainSteps.{main_steps}
 use Rattle.tv_marked.specs.Staged.{IsMainFlow, steps_until}
 use Rattle.tv_marked.specs.Standing.{AreShapesOf}
 use Rattle.tv_traces.specs.Views.{shapes_view}
