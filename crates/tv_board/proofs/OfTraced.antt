@@ -3,7 +3,8 @@ use Rattle.std.specs.Prelude.{◌≡◌, IfOk, Result, true}
 use Rattle.std.proofs.Common.{subst}
 use Rattle.tv_gate.specs.Outcomes.{Giving}
 use Rattle.tv_lineage.specs.Kept.{records_of}
-use Rattle.tv_followed.specs.Stated.{AreRecords}
+use Rattle.tv_lineage.specs.Members.{HaveSame}
+use Rattle.tv_followed.specs.Recorded.{main_records}
 use Rattle.tv_history.specs.Histories.{is_done}
 use Rattle.tv_entries.specs.Runs.{Run, meant, past_of}
 use Rattle.tv_traces.specs.declared.traces.Traces.{Traces}
@@ -15,8 +16,8 @@ module _ (gives : Giving) (r : OpenRun) (x : Run) (e : run_of r ≡ x) (t : Trac
   pub is-over : is_done (past_of x) ≡ true
   is-over = subst (λ y. is_done (past_of y) ≡ true) e h.1
 
-  pub records-are : AreRecords (meant gives x) (records_of t.records)
-  records-are = subst (λ y. AreRecords (meant gives y) (records_of t.records)) e h.2.1.records
+  pub records-are : HaveSame (records_of t.records) (main_records (meant gives x))
+  records-are = subst (λ y. HaveSame (records_of t.records) (main_records (meant gives y))) e h.2.1.records
 
   -- a fact of the meaning that is told of the run
   pub told : {A E : Type 0} (P : Giving → Run → A → Type 0) (o : Result A E)

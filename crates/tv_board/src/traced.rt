@@ -1,10 +1,10 @@
 //! What the jobs of a run that is done used.
 ghost use Rattle.std.specs.Prelude.{◌≡◌, IfOk, map, option_map, true};
-ghost use Rattle.tv_followed.specs.Recorded.{leaves, marks_of, output_at};
-ghost use Rattle.tv_followed.specs.Stated.{AreRecords};
+ghost use Rattle.tv_followed.specs.Recorded.{leaves, main_records, marks_of, output_at};
 ghost use Rattle.tv_history.specs.Histories.{is_done};
 ghost use Rattle.tv_entries.specs.Runs.{meant, past_of};
 ghost use Rattle.tv_lineage.specs.Kept.{records_of};
+ghost use Rattle.tv_lineage.specs.Members.{HaveSame};
 ghost use Rattle.tv_lineage.specs.Views.{leaf_view, mark_view};
 
 use crate::board::Board;
@@ -61,7 +61,7 @@ impl<V: Services> Board<V> {
 impl<V: Services> Traced<V> {
     /// What each job of the main flow used. Constant.
     pub fn records(&self) -> &Records
-        ensures { AreRecords (meant V.gives self.now) (records_of result.now) }
+        ensures { HaveSame (records_of result.now) (main_records (meant V.gives self.now)) }
     {
         self.traces.records()
     }

@@ -11,7 +11,9 @@ use Rattle.tv_model.specs.Writing.{meant, x}
 use Rattle.tv_followed.specs.Recorded.{leaves, marks_of, output_at, records}
 
 abbrev pub made_from : Document → Name → Place → Option (List Text)
-made_from d p q = option_map (λ v. map element_text (backward (records (meant d)) (marks_of v))) (output_at (meant d) p q)
+made_from d p q =
+    let found = λ v. map element_text (backward (records (meant d)) (marks_of v)) in
+    option_map found (output_at (meant d) p q)
 
 abbrev pub used_in : Document → Name → Place → List Text
 used_in d p q = map element_text (forward (records (meant d)) (leaves (meant d)) p q)
@@ -24,7 +26,8 @@ CrossByRecords =
     (made_from two_lists (codes "out") (1 ∷ 0 ∷ []) ≡ Some (codes "x[1]" ∷ codes "y[0]" ∷ []))
     × (made_from two_lists (codes "out") (2 ∷ []) ≡ None)
     × (used_in two_lists x (1 ∷ []) ≡ codes "out[1,0]" ∷ codes "out[1,1]" ∷ [])
-    × (jobs_of two_lists (codes "c") ≡ codes "c[0,0]" ∷ codes "c[0,1]" ∷ codes "c[1,0]" ∷ codes "c[1,1]" ∷ [])
+    × (jobs_of two_lists (codes "c")
+    ≡ codes "c[0,0]" ∷ codes "c[0,1]" ∷ codes "c[1,0]" ∷ codes "c[1,1]" ∷ [])
 
 abbrev pub FlowByRecords : Type 0
 FlowByRecords =

@@ -25,7 +25,6 @@ use Rattle.tv_model.proofs.Sound.{StandsAt, all-stand as nodes-all-stand, nodes-
 use Rattle.tv_levels.specs.Levels.{AreLevels, Level, What}
 use Rattle.tv_levels.specs.MainSteps.{main_steps}
 use Rattle.tv_followed.specs.Recorded.{main_records}
-use Rattle.tv_followed.specs.Stated.{AreRecords}
 use Rattle.tv_marked.specs.Building.{IsBuilt, Telling, Tells}
 use Rattle.tv_marked.specs.Feeds.{job_at}
 use Rattle.tv_marked.specs.Shapes.{Shape, Shows, no_shape}
@@ -157,9 +156,9 @@ module _ (gives : Giving) (d : Document) (flow : Flow) (is : IsMainFlow d flow) 
         each f (inr i) k j = let x = stage.all f i k j in (x.0, told.1.kept x.0 x.1, x.2)
 
   -- in the end the records are those of the main jobs
-  pub stage-end : (k : Kept) (us : List Shape) → IsStage gives d flow (length flow.steps) k us → AreRecords (meaning gives d) (records_of k)
+  pub stage-end : (k : Kept) (us : List Shape) → IsStage gives d flow (length flow.steps) k us → HaveSame (records_of k) (main_records (meaning gives d))
   stage-end k us h =
-      inr (have-same gives d flow is (records_of k) h.own (λ r i.
+      have-same gives d flow is (records_of k) h.own (λ r i.
       let p = main-placed gives d flow is r i in
       let x = h.all p.step (subst (λ ss. model.In p.step (Rattle.tv_instance.specs.ByResults.steps_by [] (Rattle.tv_marked.specs.Staged.main_results gives d flow) (Rattle.tv_model.specs.Instances.given_of flow d.inputs) [] ss)) (sym (many gives d flow is)) p.there) p.placed p.among in
-      (x.0, x.1, x.2 ∙ ap (λ (z : Record). z.job) (sym p.same))))
+      (x.0, x.1, x.2 ∙ ap (λ (z : Record). z.job) (sym p.same)))

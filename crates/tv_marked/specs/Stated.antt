@@ -5,6 +5,7 @@ use Rattle.tv_value.specs.Values.{Name}
 use Rattle.tv_gate.specs.Outcomes.{Giving}
 use Rattle.tv_flow.specs.Flows.{Document, Flow, Step}
 use Rattle.tv_lineage.specs.Kept.{Kept, records_of}
+use Rattle.tv_lineage.specs.Members.{HaveSame}
 use Rattle.tv_strategy.specs.Conditions.{number_of}
 use Rattle.tv_strategy.specs.Measures.{strategy_depth}
 use Rattle.tv_naming.specs.Numbers.{position}
@@ -12,7 +13,7 @@ use Rattle.tv_depths.specs.Ranks.{ranked}
 use Rattle.tv_depths.specs.Steps.{strategy_of}
 use Rattle.tv_wires.specs.Ports.{mismatches, ports_of}
 use Rattle.tv_model.specs.Meanings.{meaning}
-use Rattle.tv_followed.specs.Stated.{AreRecords}
+use Rattle.tv_followed.specs.Recorded.{main_records}
 use Rattle.tv_levels.specs.Levels.{AreLevels, Level, What}
 use Rattle.tv_levels.specs.MainSteps.{main_steps}
 use Rattle.tv_marked.specs.Building.{IsBuilt}
@@ -41,4 +42,4 @@ abbrev pub RecordsAreOfMainJobs : Type 0
 RecordsAreOfMainJobs =
     (gives : Giving) (d : Document) (flow : Flow) → IsMainFlow d flow
     → (k : Kept) (us : List Shape) → IsStage gives d flow (length flow.steps) k us
-    → AreRecords (meaning gives d) (records_of k)
+    → HaveSame (records_of k) (main_records (meaning gives d))

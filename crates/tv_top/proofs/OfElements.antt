@@ -1,19 +1,19 @@
 -- Elements that are given, and elements that were made, by what the board tells.
 use Rattle.std.specs.Prelude.{Bool, List, None, Option, Some, [], false, if◌then◌else◌, is_some, map, option_and_then, option_map, true, ◌≡◌, ◌∷◌, refl}
 use Rattle.std.specs.Option.{option_map_or}
-use Rattle.std.proofs.Common.{ap, sym, ◌∙◌}
+use Rattle.std.proofs.Common.{ap, inr, sym, ◌∙◌}
 use Rattle.tv_value.specs.Nested.{Place, at}
 use Rattle.tv_value.specs.Orders.{named, same_name}
 use Rattle.tv_value.specs.Values.{Name, Value}
 use Rattle.tv_flow.specs.Flows.{Document}
 use Rattle.tv_gate.specs.Outcomes.{Giving}
 use Rattle.tv_lineage.specs.Lineages.{Leaf, Record, backward, forward}
+use Rattle.tv_lineage.specs.Members.{HaveSame}
 use Rattle.tv_lineage.specs.Touching.{Mark}
 use Rattle.tv_strategy.specs.Origins.{Traced}
 use Rattle.tv_model.specs.Lineages as model
 use Rattle.tv_model.specs.Meanings.{meaning}
-use Rattle.tv_followed.specs.Recorded.{leaves, marks_of, output_at}
-use Rattle.tv_followed.specs.Stated.{AreRecords}
+use Rattle.tv_followed.specs.Recorded.{leaves, main_records, marks_of, output_at}
 use Rattle.tv_followed.proofs.Meant.{meaning-backward, meaning-forward}
 
 -- ---- what is given
@@ -58,12 +58,12 @@ where-there (Some a) b n h = refl
 
 -- ---- what was made
 
-module _ (gives : Giving) (d : Document) (rs : List Record) (are : AreRecords (meaning gives d) rs) (p : Name) (q : Place) where
+module _ (gives : Giving) (d : Document) (rs : List Record) (are : HaveSame rs (main_records (meaning gives d))) (p : Name) (q : Place) where
   lead : (o : Option Traced) → output_at (meaning gives d) p q ≡ o → (u : List Mark) → Some u ≡ option_map marks_of o
       → Some (backward rs u) ≡ option_map (model.lineage (meaning gives d)) o
   lead None e u h = absurd (cc h)
   lead (Some v) e u h =
-      ap Some (ap (λ ms. backward rs (option_map_or (λ m. m) ms u)) h ∙ meaning-backward gives d rs are p q v e)
+      ap Some (ap (λ ms. backward rs (option_map_or (λ m. m) ms u)) h ∙ meaning-backward gives d rs (inr are) p q v e)
 
   -- what an element used leads to its lineage
   pub lineage-so : (u : List Mark) → Some u ≡ option_map marks_of (output_at (meaning gives d) p q)
@@ -72,7 +72,7 @@ module _ (gives : Giving) (d : Document) (rs : List Record) (are : AreRecords (m
 
   -- the leaves that were made from an element are its forward use
   pub forward-so : (fs : List Leaf) → fs ≡ leaves (meaning gives d) → forward rs fs p q ≡ model.forward (meaning gives d) p q
-  forward-so fs h = ap (λ ls. forward rs ls p q) h ∙ meaning-forward gives d rs are p q
+  forward-so fs h = ap (λ ls. forward rs ls p q) h ∙ meaning-forward gives d rs (inr are) p q
 
 -- where nothing stands there is no lineage
 module _ (gives : Giving) (d : Document) (p : Name) (q : Place) where
