@@ -1,5 +1,5 @@
 //! What the jobs of a run that is done used.
-ghost use Rattle.std.specs.Prelude.{◌≡◌, IfOk, map, option_map, true};
+ghost use Rattle.std.specs.Prelude.{◌≡◌, IfErr, IfOk, map, option_map, true};
 ghost use Rattle.tv_followed.specs.Recorded.{leaves, main_records, marks_of, output_at};
 ghost use Rattle.tv_history.specs.Histories.{is_done};
 ghost use Rattle.tv_entries.specs.Runs.{meant, past_of};
@@ -8,6 +8,7 @@ ghost use Rattle.tv_lineage.specs.Members.{HaveSame};
 ghost use Rattle.tv_lineage.specs.Views.{leaf_view, mark_view};
 
 use crate::board::Board;
+use std::alloc::AllocFailed;
 use std::marker::{Model, PhantomData};
 use tv_gate::Services;
 use tv_lineage::{Leaves, Marks, Records};
@@ -41,20 +42,26 @@ impl<V: Services> Model for Traced<V> {
 }
 
 impl<V: Services> Board<V> {
-    /// A run that is done, with what each job of its main flow used: that is worked out here, from the lists and passed faults that
-    /// the run kept, and from the plans. Near linear in the jobs of the main flow, in what their steps bind, and in
-    /// the lists and passed faults of their iterations. After `Err` the board is gone.
-    pub fn traced(self) -> Result<Traced<V>, NoMemory>
+    /// A run that is done, with what each job of its main flow used: that is worked out here, from
+    /// the lists and passed faults that the run kept, and from the plans. Near linear in the jobs of
+    /// the main flow, in what their steps bind, and in the lists and passed faults of their
+    /// iterations. For want of memory the board is given back as it was: it may be traced again.
+    pub fn traced(self) -> Result<Traced<V>, AllocFailed<Board<V>>>
         requires { is_done (past_of self) ≡ true }
-        ensures { IfOk result (λ t. t ≡ self) }
+        ensures traced { IfOk result (λ t. t ≡ self) }
+        ensures back { IfErr result (λ failed. failed.value ≡ self) }
     {
-        let traces = self.run.traces()?;
-        let Board { run, services } = self;
-        Ok(Traced {
-            run,
-            traces,
-            services,
-        })
+        match self.run.traces() {
+            Ok(traces) => {
+                let Board { run, services } = self;
+                Ok(Traced {
+                    run,
+                    traces,
+                    services,
+                })
+            }
+            Err(NoMemory) => Err(AllocFailed { value: self }),
+        }
     }
 }
 

@@ -95,7 +95,7 @@ fn boards_that_are_done_are_traced(rt: HostRuntime) -> Result<(), Fail> {
         let _line = play.line()?;
         let board = play.into_board();
         assert!(rt; board.is_done(), "{script}");
-        let traced = board.traced()?;
+        let traced = board.traced().map_err(NoMemory::from)?;
         tells(&rt, alloc, &traced)?;
     }
     Ok(())

@@ -19,7 +19,7 @@ traced-requires g c = c.in_ok-board.ensures.board.worked_off.done
 pub returns-clause-leaves : goal.returns-clause-leaves
 returns-clause-leaves g c =
     let gives = g.A.Services.Services.gives in
-    let same = ap (λ (r : Run). r.document) c.in_ok-traced.ensures ∙ c.in_ok-board.ensures.board.document in
+    let same = ap (λ (r : Run). r.document) c.in_ok-traced.ensures.traced ∙ c.in_ok-board.ensures.board.document in
     c.in_ok-used_by.ensures
     ∙ forward-so gives c.in_ok-traced.traced.document (records_of c.records.result.now) c.records.ensures c.args.port.now
     c.args.place.now (map leaf_view c.in_ok-leaves.leaves) c.in_ok-leaves.ensures

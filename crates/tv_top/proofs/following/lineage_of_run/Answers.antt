@@ -19,7 +19,7 @@ traced-requires g c = c.in_ok-board.ensures.board.worked_off.done
 pub returns-in-Some-clause-labels : goal.returns-in-Some-clause-labels
 returns-in-Some-clause-labels g c =
     let gives = g.A.Services.Services.gives in
-    let same = ap (λ (r : Run). r.document) c.in_ok-traced.ensures ∙ c.in_ok-board.ensures.board.document in
+    let same = ap (λ (r : Run). r.document) c.in_ok-traced.ensures.traced ∙ c.in_ok-board.ensures.board.document in
     ap Some c.in_ok-labels-in-Some.ensures
     ∙ lineage-so gives c.in_ok-traced.traced.document (records_of c.records.result.now) c.records.ensures c.args.port.now
     c.args.place.now (map mark_view c.in-Some.used)
@@ -29,7 +29,7 @@ returns-in-Some-clause-labels g c =
 pub returns-clause-labels : goal.returns-clause-labels
 returns-clause-labels g c =
     let gives = g.A.Services.Services.gives in
-    let same = ap (λ (r : Run). r.document) c.in_ok-traced.ensures ∙ c.in_ok-board.ensures.board.document in
+    let same = ap (λ (r : Run). r.document) c.in_ok-traced.ensures.traced ∙ c.in_ok-board.ensures.board.document in
     none-so gives c.in_ok-traced.traced.document c.args.port.now c.args.place.now
     (sym (ap (option_map (map mark_view)) c.in-None.is) ∙ c.in_ok-found.ensures)
     ∙ ap (λ d. lineage_of (meaning gives d) c.args.port.now c.args.place.now) same
