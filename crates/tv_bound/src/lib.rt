@@ -31,8 +31,6 @@ pub mod laws;
 mod over;
 mod same;
 mod sources;
-#[cfg(test)]
-mod tests;
 mod values;
 mod wrapping;
 

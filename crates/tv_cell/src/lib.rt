@@ -29,8 +29,6 @@ mod looking;
 mod piece;
 mod row;
 mod same;
-#[cfg(test)]
-mod tests;
 mod threads;
 
 pub use assembly::assemble;

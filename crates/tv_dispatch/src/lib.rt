@@ -17,8 +17,6 @@
 mod judgment;
 mod laws;
 mod plan;
-#[cfg(test)]
-mod tests;
 
 pub use judgment::{Verdict, judge};
 pub use laws::{asks_are_few, asks_in_turn, right_values_are_given, steps_are_the_fold};

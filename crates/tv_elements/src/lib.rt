@@ -8,8 +8,6 @@
 pub mod laws;
 mod lines;
 mod reading;
-#[cfg(test)]
-mod tests;
 
 pub use lines::label_lines;
 pub use reading::read_element;

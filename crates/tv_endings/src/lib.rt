@@ -9,7 +9,5 @@
 
 mod endings;
 pub mod laws;
-#[cfg(test)]
-mod tests;
 
 pub use endings::Endings;

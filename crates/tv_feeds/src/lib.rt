@@ -10,7 +10,5 @@
 
 pub mod laws;
 mod ports;
-#[cfg(test)]
-mod tests;
 
 pub use ports::{has_whole, is_whole_with};

@@ -16,8 +16,6 @@ mod logged;
 mod outcome;
 mod script;
 mod services;
-#[cfg(test)]
-mod tests;
 
 pub use askers::GateAsker;
 pub use logged::{Call, LoggedGate};

@@ -16,8 +16,6 @@ mod feeds;
 pub mod laws;
 mod steps;
 mod summary;
-#[cfg(test)]
-mod tests;
 mod texts;
 
 pub use document::generated;

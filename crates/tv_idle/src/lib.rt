@@ -15,7 +15,5 @@
 
 mod idle;
 mod queues;
-#[cfg(test)]
-mod tests;
 
 pub use idle::Idle;

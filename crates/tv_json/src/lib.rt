@@ -12,8 +12,6 @@
 mod documents;
 mod names;
 mod printed;
-#[cfg(test)]
-mod tests;
 mod values;
 
 pub use documents::json_of_document;

@@ -23,8 +23,6 @@ pub mod laws;
 mod list;
 mod number;
 mod row;
-#[cfg(test)]
-mod tests;
 mod text;
 
 pub use gate::{LocalGate, LocalServices};

@@ -34,8 +34,6 @@ mod matchers;
 mod places;
 mod steps;
 mod stores;
-#[cfg(test)]
-mod tests;
 mod told;
 
 pub use kinds::Kind;

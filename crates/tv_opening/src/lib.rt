@@ -7,7 +7,5 @@
 #![tactic(auto)]
 
 mod opening;
-#[cfg(test)]
-mod tests;
 
 pub use opening::port_start;

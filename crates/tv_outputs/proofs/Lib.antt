@@ -7,7 +7,6 @@ pub mod Turning
 pub mod Ones
 pub mod Looks
 pub mod Counts
-pub mod Tried
 pub mod Building
 pub mod OfPieces
 pub mod Comparing

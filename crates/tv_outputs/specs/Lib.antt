@@ -4,4 +4,3 @@ pub mod Changes
 pub mod FoundIn
 pub mod Seen
 pub mod PartValues
-pub mod Tried

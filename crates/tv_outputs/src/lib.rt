@@ -25,8 +25,6 @@ mod one;
 mod outputs;
 mod pieces;
 mod same;
-#[cfg(test)]
-mod tests;
 mod values;
 
 pub use outputs::{Faults, Nodes, Outputs};

@@ -10,7 +10,5 @@
 #![tactic(auto)]
 
 mod path;
-#[cfg(test)]
-mod tests;
 
 pub use path::Path;

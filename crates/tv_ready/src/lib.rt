@@ -17,7 +17,5 @@ mod heap;
 mod ready;
 mod search;
 mod table;
-#[cfg(test)]
-mod tests;
 
 pub use ready::Ready;

@@ -12,8 +12,6 @@ mod checks;
 mod depths;
 mod forms;
 mod results;
-#[cfg(test)]
-mod tests;
 mod traces;
 
 pub use checks::check_line;

@@ -8,8 +8,6 @@
 #![tactic(auto)]
 
 mod errors;
-#[cfg(test)]
-mod tests;
 mod values;
 
 pub use errors::{bounced_pieces, error_pieces};

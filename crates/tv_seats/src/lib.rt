@@ -19,8 +19,6 @@ mod seats;
 mod stage;
 mod steps;
 mod table;
-#[cfg(test)]
-mod tests;
 
 pub use seats::Seats;
 pub use stage::Stage;

@@ -4,4 +4,3 @@ pub mod Wholes
 pub mod Arounds
 pub mod Spreads
 pub mod Stated
-pub mod Tried

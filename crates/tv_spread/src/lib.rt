@@ -20,8 +20,6 @@ mod adding;
 mod around;
 pub mod laws;
 mod spread;
-#[cfg(test)]
-mod tests;
 mod wires;
 
 pub use adding::add_known;

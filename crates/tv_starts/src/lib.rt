@@ -11,7 +11,5 @@
 
 pub mod laws;
 mod starts;
-#[cfg(test)]
-mod tests;
 
 pub use starts::leaf_starts;

@@ -41,8 +41,6 @@ mod levels;
 mod look;
 mod partial;
 mod refusals;
-#[cfg(test)]
-mod tests;
 
 pub use held::{Held, PartKind};
 pub use look::Look;

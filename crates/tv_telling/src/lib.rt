@@ -14,8 +14,6 @@
 
 mod events;
 mod telling;
-#[cfg(test)]
-mod tests;
 mod walking;
 mod ways;
 

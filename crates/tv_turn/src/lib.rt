@@ -11,8 +11,6 @@
 #![tactic(auto)]
 
 pub mod laws;
-#[cfg(test)]
-mod tests;
 mod turn;
 
 pub use turn::first_ready;

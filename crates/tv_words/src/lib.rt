@@ -16,8 +16,6 @@ mod command;
 pub mod laws;
 mod number;
 mod reading;
-#[cfg(test)]
-mod tests;
 mod words;
 
 pub use command::Command;

@@ -1,5 +1,0 @@
-use Rattle.tv_match.specs.Seen.{IsSound}
-use Rattle.tv_match.proofs.tests.taken.Given as goal
-
-abbrev pub invariant-loop : goal.invariant-loop
-invariant-loop l = IsSound l.matcher

@@ -1,0 +1,15 @@
+//! Tests of what trees of values are kept in: pools, partial trees, shared values and pieces of them. Each module has those of the crate of its name.
+#![tactic(auto)]
+
+#[cfg(test)]
+mod bound;
+#[cfg(test)]
+mod cell;
+#[cfg(test)]
+mod outputs;
+#[cfg(test)]
+mod path;
+#[cfg(test)]
+mod results;
+#[cfg(test)]
+mod stream;
