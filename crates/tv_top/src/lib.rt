@@ -23,8 +23,6 @@ pub mod laws;
 mod reading;
 mod refusal;
 mod status;
-#[cfg(test)]
-mod tests;
 mod top;
 mod words;
 

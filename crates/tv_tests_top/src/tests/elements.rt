@@ -1,10 +1,9 @@
 //! Lineage and forward use of elements, and elements that aren't there.
-use crate::status::Status;
 use crate::tests::{SOUND, alone, by_gate, sink_of, source_of, words_of};
-use crate::top::taverna_alone;
 use std::test::Fail;
 use tv_gate::LoggedGate;
 use tv_local::LocalGate;
+use tv_top::{Status, taverna_alone};
 use tv_worked::document;
 use tv_worked::steps::{CHAIN, CROSS, DOT, FAILURES, MERGE, NO_RANGE, WRAPPED};
 

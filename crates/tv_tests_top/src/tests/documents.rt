@@ -1,11 +1,10 @@
 //! Worked documents: what they print, and what they ask.
-use crate::status::Status;
 use crate::tests::{SOUND, TWO_TEXTS, alone, by_gate, changed, sink_of, source_of, words_of};
-use crate::top::{taverna, taverna_alone};
 use std::alloc::Global;
 use std::test::Fail;
 use tv_gate::LoggedGate;
 use tv_local::LocalGate;
+use tv_top::{Status, taverna, taverna_alone};
 use tv_value::{Items, Value};
 use tv_worked::document;
 use tv_worked::steps::{CHAIN, FAILURES};

@@ -11,8 +11,6 @@ mod elements;
 mod failing;
 mod refusals;
 
-use crate::status::Status;
-use crate::top::{taverna, taverna_alone};
 use std::alloc::Global;
 use std::sync::Wait;
 use std::test::Fail;
@@ -20,6 +18,7 @@ use std::thread::Threads;
 use tv_gate::GateAsker;
 use tv_io::{MemorySink, MemorySource};
 use tv_local::LocalGate;
+use tv_top::{Status, taverna, taverna_alone};
 
 /// The document of one text.
 pub(crate) const ONE_TEXT: &str =

@@ -1,13 +1,12 @@
 //! Words and documents that are refused, want of memory, and the codes.
-use crate::status::Status;
 use crate::tests::{
     ONE_TEXT, Ran, SOUND, USAGE, alone, by_gate, changed, sink_of, source_of, words_of,
 };
-use crate::top::taverna_alone;
 use std::alloc::Global;
 use std::test::Fail;
 use tv_gate::{Asker, Outcome};
 use tv_local::LocalServices;
+use tv_top::{Status, taverna_alone};
 use tv_value::{Items, NoMemory};
 
 #[test]

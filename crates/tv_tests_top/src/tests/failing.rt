@@ -1,9 +1,9 @@
 //! Reads and writes that fail.
 ghost use Rattle.std.specs.Prelude.{◌<◌};
 
-use crate::status::Status;
 use crate::tests::{ONE_TEXT, ONE_TEXT_LINE, Streams, USAGE, by_gate};
 use std::test::Fail;
+use tv_top::Status;
 
 /// How many calls it takes to serve so many bytes.
 fn calls_of(bytes: usize, piece: usize) -> u64
