@@ -3,17 +3,17 @@ use Rattle.std.specs.Prelude.{◌≡◌, ◌<◌, ◌≤◌, ◌⊎◌, ℕ, Boo
 use Rattle.std.specs.List.{cons_option, list_all, list_any}
 use Rattle.std.specs.declared.cmp.Ordering.{Ordering}
 use Rattle.std.specs.Cmp.{nat_cmp_is}
-use Rattle.std.specs.Ordering.{cond_some, is_lt, nat_cmp, ordering_then}
+use Rattle.std.specs.Ordering.{is_lt, nat_cmp, ordering_then}
 use Rattle.std.proofs.Common.{Equal, Greater, Less, ap, append-nil, append_assoc, arith, inl, inr, subst, sym, true≢false, ◌∙◌}
 use Rattle.std.proofs.lemmas.Bool.{and_parts}
 use Rattle.std.proofs.lemmas.Cmp.{nat_cmp_total, nat_list_cmp_total, tied_itself}
-use Rattle.std.proofs.lemmas.Option.{none-some}
+use Rattle.std.proofs.lemmas.Option.{cond_some, none-some}
 use Rattle.tv_value.specs.Nested.{Place, Tree, Trees, leaf, list, no_trees, nodes, nodes_below, nodes_from, tree}
 use Rattle.tv_value.specs.Orders.{name_cmp, place_cmp}
 use Rattle.tv_value.specs.Values.{JobName, Name, Value}
 use Rattle.tv_gate.specs.Outcomes.{Giving}
-use Rattle.tv_flow.specs.Flows.{Feed, Flow}
-use Rattle.tv_flow.specs.Formed.{are_named, is_ascending, is_feed, is_flow}
+use Rattle.tv_flow.specs.Flows.{Document, Feed, Flow}
+use Rattle.tv_flow.specs.Formed.{are_entries, are_named, is_ascending, is_between, is_depth, is_feed, is_flow, is_formed, is_step, is_value}
 use Rattle.tv_flow.specs.Forms.{is_name}
 use Rattle.tv_lineage.specs.Members.{Each, In, Rises}
 use Rattle.tv_lineage.proofs.OfMembers.{each_in, in-append, in_each, of-flat, of-options}
@@ -77,41 +77,38 @@ place-less (k ∷ q) i j r s h = same-first k (place_cmp (q ++ i ∷ r) (q ++ j 
 
 -- ---- the nodes of a tree
 
+abbrev node_cmp : {N A : Type 0} → Place × Tree N A → Place × Tree N A → Ordering
+node_cmp x y = place_cmp x.0 y.0
+
+abbrev IsBelow : Place → Place → Type 0
+IsBelow q p = (r : Place) × (p ≡ q ++ r)
+
+abbrev IsFrom : Place → ℕ → Place → Type 0
+IsFrom q i p = (j : ℕ) × (r : Place) × (i ≤ j) × (p ≡ q ++ j ∷ r)
+
+across : (q : Place) (i : ℕ) (x y : Place) → IsBelow (q ++ i ∷ []) x → IsFrom q (suc i) y → IsLess place_cmp x y
+across q i x y a b =
+    subst (λ p. IsLess place_cmp p y) (sym (a.1 ∙ append_assoc q (i ∷ []) a.0))
+    (subst (λ p. IsLess place_cmp (q ++ i ∷ a.0) p) (sym b.3) (place-less q i b.0 a.0 b.1 b.2))
+
 module _ {N A : Type 0} where
-  abbrev Node : Type 0
-  Node = Place × Tree N A
-
-  abbrev node_cmp : Node → Node → Ordering
-  node_cmp x y = place_cmp x.0 y.0
-
-  abbrev IsBelow : Place → Node → Type 0
-  IsBelow q x = (r : Place) × (x.0 ≡ q ++ r)
-
-  abbrev IsFrom : Place → ℕ → Node → Type 0
-  IsFrom q i x = (j : ℕ) × (r : Place) × (i ≤ j) × (x.0 ≡ q ++ j ∷ r)
-
   mutual
-    below : (t : Tree N A) (q : Place) (x : Node) → In x (nodes_below q t) → IsBelow q x
+    below : (t : Tree N A) (q : Place) (x : Place × Tree N A) → In x (nodes_below q t) → IsBelow q x.0
     below (leaf n a) q x (inl p) = ([], ap (λ y. y.0) p ∙ sym (append-nil q))
     below (leaf n a) q x (inr i) = absurd i
     below (list n ts) q x (inl p) = ([], ap (λ y. y.0) p ∙ sym (append-nil q))
     below (list n ts) q x (inr i) = let r = from ts q 0 x i in (r.0 ∷ r.1, r.3)
 
-    from : (ts : Trees N A) (q : Place) (i : ℕ) (x : Node) → In x (nodes_from q i ts) → IsFrom q i x
+    from : (ts : Trees N A) (q : Place) (i : ℕ) (x : Place × Tree N A) → In x (nodes_from q i ts) → IsFrom q i x.0
     from no_trees q i x h = absurd h
     from (tree t ts) q i x h =
         either (in-append x (nodes_below (q ++ i ∷ []) t) (nodes_from q (suc i) ts) h) (λ k. below t (q ++ i ∷ []) x k) (λ k. from ts q (suc i) x k)
       where
         either : In x (nodes_below (q ++ i ∷ []) t) ⊎ In x (nodes_from q (suc i) ts)
-            → (In x (nodes_below (q ++ i ∷ []) t) → IsBelow (q ++ i ∷ []) x)
-            → (In x (nodes_from q (suc i) ts) → IsFrom q (suc i) x) → IsFrom q i x
+            → (In x (nodes_below (q ++ i ∷ []) t) → IsBelow (q ++ i ∷ []) x.0)
+            → (In x (nodes_from q (suc i) ts) → IsFrom q (suc i) x.0) → IsFrom q i x.0
         either (inl k) f g = let r = f k in (i, r.0, (omega arith), r.1 ∙ append_assoc q (i ∷ []) r.0)
         either (inr k) f g = let r = g k in (r.0, r.1, (omega (arith, r.2)), r.3)
-
-  across : (q : Place) (i : ℕ) (x y : Node) → IsBelow (q ++ i ∷ []) x → IsFrom q (suc i) y → IsLess node_cmp x y
-  across q i x y a b =
-      subst (λ p. IsLess place_cmp p y.0) (sym (a.1 ∙ append_assoc q (i ∷ []) a.0))
-      (subst (λ p. IsLess place_cmp (q ++ i ∷ a.0) p) (sym b.3) (place-less q i b.0 a.0 b.1 b.2))
 
   mutual
     below-rise : (t : Tree N A) (q : Place) → Rises node_cmp (nodes_below q t)
@@ -125,7 +122,7 @@ module _ {N A : Type 0} where
     from-rise no_trees q i = tt
     from-rise (tree t ts) q i =
         rises-append node_cmp (nodes_below (q ++ i ∷ []) t) (nodes_from q (suc i) ts) (below-rise t (q ++ i ∷ [])) (from-rise ts q (suc i))
-        (λ x y h k. across q i x y (below t (q ++ i ∷ []) x h) (from ts q (suc i) y k))
+        (λ x y h k. across q i x.0 y.0 (below t (q ++ i ∷ []) x h) (from ts q (suc i) y k))
 
 -- ---- the leaves of outputs
 
@@ -195,11 +192,21 @@ each-flow : (gs : List (Name × Flow)) → list_all (λ e. is_name e.0 && is_flo
 each-flow [] h = tt
 each-flow (g ∷ gs) h = let r = and_parts _ _ h in ((and_parts (is_name g.0) (is_flow g.1) r.0).1, each-flow gs r.1)
 
+outputs-formed : (flow : Flow) → is_flow flow ≡ true → are_named is_feed 0 16 flow.outputs ≡ true
+outputs-formed flow h =
+    (and_parts (are_named is_depth 0 16 flow.inputs && are_named is_step 0 1000 flow.steps) (are_named is_feed 0 16 flow.outputs) h).1
+
+flows-formed : (d : Document) → is_formed d ≡ true → are_named is_flow 1 256 d.flows ≡ true
+flows-formed d h =
+    let first = is_between 1 1 d.format && is_name d.main in
+    let flows = are_named is_flow 1 256 d.flows in
+    (and_parts first flows (and_parts (first && flows) (are_entries is_value d.inputs) h).0).1
+
 flow-rises : (gives : Giving) (inside : Name → JobName → List (Name × Value) → Meaning) (flow : Flow) (vs : List (Name × Value))
     → is_flow flow ≡ true → Rises output_cmp (instance_meaning gives inside [] flow vs).outputs
 flow-rises gives inside flow vs h =
     outputs-rise (λ f. (feed_value (given_of flow vs) (steps_of gives inside [] flow vs) f).value) flow.outputs
-    (entries-ascend is_feed 0 16 flow.outputs (and_parts _ _ (and_parts _ _ h).1).1).0
+    (entries-ascend is_feed 0 16 flow.outputs (outputs-formed flow h)).0
 
 meaning-rises : (gives : Giving) (gs : List (Name × Flow)) (depth : ℕ) (f : Name) (vs : List (Name × Value))
     → list_all (λ e. is_name e.0 && is_flow e.1) gs ≡ true → Rises output_cmp (flow_meaning gives gs depth f [] vs).outputs
@@ -210,7 +217,5 @@ meaning-rises gives gs (suc depth) f vs h =
 
 pub forward-rises : ForwardRises
 forward-rises gives d h x q =
-    all-rise (meaning gives d) x q (meaning-rises gives d.flows nesting_limit d.main d.inputs (entries-ascend is_flow 1 256 d.flows flows).1)
-  where
-    flows : are_named is_flow 1 256 d.flows ≡ true
-    flows = (and_parts _ _ (and_parts _ _ (and_parts _ _ h).1).1).0
+    all-rise (meaning gives d) x q
+    (meaning-rises gives d.flows nesting_limit d.main d.inputs (entries-ascend is_flow 1 256 d.flows (flows-formed d h)).1)

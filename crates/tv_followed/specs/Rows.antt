@@ -12,8 +12,8 @@ use Rattle.tv_followed.specs.Recorded.{leaves, marks_of, output_at, records}
 
 abbrev pub made_from : Document → Name → Place → Option (List Text)
 made_from d p q =
-    let found = λ v. map element_text (backward (records (meant d)) (marks_of v)) in
-    option_map found (output_at (meant d) p q)
+    option_map (λ v. map element_text (backward (records (meant d)) (marks_of v)))
+    (output_at (meant d) p q)
 
 abbrev pub used_in : Document → Name → Place → List Text
 used_in d p q = map element_text (forward (records (meant d)) (leaves (meant d)) p q)
