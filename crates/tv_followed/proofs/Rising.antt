@@ -18,7 +18,7 @@ use Rattle.tv_flow.specs.Forms.{is_name}
 use Rattle.tv_lineage.specs.Members.{Each, In, Rises}
 use Rattle.tv_lineage.proofs.OfMembers.{each_in, in-append, in_each, of-flat, of-options}
 use Rattle.tv_strategy.specs.Origins.{Traced}
-use Rattle.tv_strategy.specs.Sources as of_entries
+use Rattle.tv_strategy.specs.Sources as sources
 use Rattle.tv_model.specs.Instances.{given_of}
 use Rattle.tv_model.specs.Lineages.{Label, forward, label_cmp, leaf_label, lineage, touches}
 use Rattle.tv_model.specs.Made.{Meaning, feed_value}
@@ -188,7 +188,7 @@ entries-ascend : {A : Type 0} (test : A → Bool) (least most : ℕ) (es : List 
     → (is_ascending (map (λ e. e.0) es) ≡ true) × (list_all (λ e. is_name e.0 && test e.1) es ≡ true)
 entries-ascend test least most es h = and_parts _ _ (and_parts _ _ h).1
 
-each-flow : (gs : List (Name × Flow)) → list_all (λ e. is_name e.0 && is_flow e.1) gs ≡ true → of_entries.Each (λ g. is_flow g.1 ≡ true) gs
+each-flow : (gs : List (Name × Flow)) → list_all (λ e. is_name e.0 && is_flow e.1) gs ≡ true → sources.Each (λ g. is_flow g.1 ≡ true) gs
 each-flow [] h = tt
 each-flow (g ∷ gs) h = let r = and_parts _ _ h in ((and_parts (is_name g.0) (is_flow g.1) r.0).1, each-flow gs r.1)
 

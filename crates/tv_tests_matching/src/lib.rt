@@ -1,4 +1,5 @@
-//! Tests of matchers and of what ports are told. Each module has those of the crate of its name.
+//! Tests of matchers and of what ports are told. Each module has those of the crate of its name, and `matching`
+//! those of `tv_match`.
 #![tactic(auto)]
 
 #[cfg(test)]

@@ -1,4 +1,5 @@
-//! Tests of services, of words, and of the texts that are read and printed. Each module has those of the crate of its name.
+//! Tests of services, of words, and of the texts that are read and printed. Each module has those of the crate of its name, and
+//! `writing` those of `tv_json`.
 #![tactic(auto)]
 
 #[cfg(test)]
@@ -10,10 +11,10 @@ mod gate;
 #[cfg(test)]
 mod generated;
 #[cfg(test)]
-mod json;
-#[cfg(test)]
 mod local;
 #[cfg(test)]
 mod report;
 #[cfg(test)]
 mod words;
+#[cfg(test)]
+mod writing;
