@@ -9,7 +9,8 @@ use Rattle.tv_model.specs.Made.{Meaning}
 -- the main instance is of the main flow, each other of the flow that its job opens
 abbrev pub instance_flow : Document → Meaning → JobName → Option Name
 instance_flow d m [] = Some d.main
-instance_flow d m (k ∷ I) = option_and_then (λ (j : Job). j.opens) (find (λ j. same_job (k ∷ I) j.name) m.jobs)
+instance_flow d m (k ∷ I) = option_and_then (λ (j : Job). j.opens)
+    (find (λ j. same_job (k ∷ I) j.name) m.jobs)
 
 -- the step of this name in the flow of this instance
 pub record StandsIn (d : Document) (m : Meaning) (I : JobName) (n : Name) : Type 0 where

@@ -63,4 +63,5 @@ pub record JobIsPlanned (d : Document) (m : Meaning) (j : Job) : Type 0 where
 pub record IsAsPlanned (d : Document) (m : Meaning) : Type 0 where
   pub steps : Each (StepIsPlanned d m) m.steps
   pub jobs : Each (JobIsPlanned d m) m.jobs
-  pub outputs : (flow : Flow) → named d.main d.flows ≡ Some flow → NamedHave (flow_plan flow).outputs m.outputs
+  pub outputs : (flow : Flow) → named d.main d.flows ≡ Some flow
+      → NamedHave (flow_plan flow).outputs m.outputs

@@ -16,4 +16,5 @@ AcceptedDocumentsAgree = (d : Document) → is_formed d ≡ true → IsAccepted 
 -- this step of this flow, whatever the services give
 abbrev pub MeaningsAreAsPlanned : Type 0
 MeaningsAreAsPlanned =
-    (gives : Giving) (d : Document) → is_formed d ≡ true → IsAccepted d → IsAsPlanned d (meaning gives d)
+    (gives : Giving) (d : Document) → is_formed d ≡ true → IsAccepted d
+    → IsAsPlanned d (meaning gives d)

@@ -38,13 +38,15 @@ StartCanBeTold =
     → (n : ℕ) (s : Name × Step) → slice_get v.flow.steps n ≡ Some s
     → (m : Matching) → m.mismatch ≡ mismatches v.flow s.1
     → (ts rest : List Told)
-    → IsPermutation (tellings (m.told ++ (ts ++ rest))) (tellings (step_start v.flow v.inputs s.1)) → CanTellAll m ts
+    → IsPermutation (tellings (m.told ++ (ts ++ rest))) (tellings (step_start v.flow v.inputs s.1))
+    → CanTellAll m ts
 
 -- a view of which nothing was told, with the jobs that are known then, is a frame
 abbrev pub StartIsFrame : Type 0
 StartIsFrame =
     (v : View) → v.events ≡ []
-    → InAll v (λ instance results fs. IsPermutation v.jobs (known_jobs (known_by instance []) fs)) → IsFrame v
+    → InAll v (λ instance results fs. IsPermutation v.jobs (known_jobs (known_by instance []) fs))
+    → IsFrame v
 
 -- ---- by numbers
 
@@ -55,7 +57,8 @@ NumbersStartAlike =
     → (k : ℕ) (i : Name × StepInput) → slice_get s.1.inputs k ≡ Some i
     → (given : List (Name × Value)) (values : List Value) → AreInputValues f given values
     → (c : Value) → IsFixedValue i.1.from c
-    → numbered_port_start values c (strategy_of s.1) (port_among f (leaf_names (strategy_of s.1)) i) ≡ port_start f given i
+    → numbered_port_start values c (strategy_of s.1) (port_among f (leaf_names (strategy_of s.1)) i)
+    ≡ port_start f given i
 
 -- values that are given in the order of the flow's inputs are those of the inputs
 abbrev pub InputsAreInOrder : Type 0

@@ -21,7 +21,8 @@ use Rattle.tv_frame.specs.declared.frame.Frame.{Frame}
 -- the tree of output o of step t
 abbrev pub tree_of : Nodes → Frame → Flow → Name → Name → Partial Value
 tree_of pool f flow t o =
-    tree_in (known pool f.outputs) (first_tree flow.steps (position t flow.steps) + position o (outputs_of flow t))
+    tree_in (known pool f.outputs)
+    (first_tree flow.steps (position t flow.steps) + position o (outputs_of flow t))
 
 -- it is below what the output delivers in each instance that has what was told
 abbrev pub OutputsAreBelow : Type 0

@@ -26,7 +26,8 @@ KeepsBeside =
 -- and is ready for what it was ready for, where there is room as before
 abbrev pub ReadyBeside : Type 0
 ReadyBeside =
-    (flows : List (Name × Flow)) (plan : FlowPlan) (pool after : Nodes) (f : Frame) (v : View) (n : ℕ) (s : Name × Step)
+    (flows : List (Name × Flow)) (plan : FlowPlan) (pool after : Nodes) (f : Frame) (v : View)
+    (n : ℕ) (s : Name × Step)
     (e : Event)
     → IsReadyFor flows plan pool f v n s e → SameRegion pool after f → pool.spare ≤ after.spare
     → IsReadyFor flows plan after f v n s e
@@ -45,7 +46,8 @@ RoomsKeep = (pool after : Nodes) → after.regions ≡ pool.regions → SameRegi
 
 -- those that change no region keep others, whatever the number
 abbrev pub SameKeeps : Type 0
-SameKeeps = (pool after : Nodes) (number : ℕ) → SameRegions pool after → KeepsRegions pool after number
+SameKeeps = (pool after : Nodes) (number : ℕ) → SameRegions pool after
+    → KeepsRegions pool after number
 
 -- a start, whose region has the next number
 abbrev pub StartsKeep : Type 0
@@ -61,11 +63,13 @@ RefusalsKeep = (pool after : Nodes) (f : Frame) → SameRegions pool after → S
 abbrev pub GivenUpKeeps : Type 0
 GivenUpKeeps =
     (pool mid after : Nodes)
-    → KeepsRegions pool mid (length pool.regions) → after.regions ≡ regions_with mid (length pool.regions) None
+    → KeepsRegions pool mid (length pool.regions)
+    → after.regions ≡ regions_with mid (length pool.regions) None
     → SameRegions pool after
 
 -- the release of another's region
 abbrev pub ReleasesKeep : Type 0
 ReleasesKeep =
     (pool after : Nodes) (f : Frame) (number : ℕ)
-    → number_of f.region ≢ number → after.regions ≡ regions_with pool number None → SameRegion pool after f
+    → number_of f.region ≢ number → after.regions ≡ regions_with pool number None
+    → SameRegion pool after f

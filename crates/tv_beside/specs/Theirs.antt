@@ -16,9 +16,11 @@ Frames = ℕ → Option Frame
 pub record AreTheirs (pool : Nodes) (fs : Frames) : Type 0 where
   pub live : (i : ℕ) (f : Frame) → fs i ≡ Some f → IsLive pool f.region
   pub apart :
-      (i k : ℕ) (f g : Frame) → fs i ≡ Some f → fs k ≡ Some g → number_of f.region ≡ number_of g.region → i ≡ k
+      (i k : ℕ) (f g : Frame) → fs i ≡ Some f → fs k ≡ Some g
+      → number_of f.region ≡ number_of g.region → i ≡ k
   pub no_other :
-      (n : ℕ) → region_at pool n ≢ None → (i : ℕ) × (f : Frame) × (fs i ≡ Some f) × (number_of f.region ≡ n)
+      (n : ℕ) → region_at pool n ≢ None → (i : ℕ) × (f : Frame) × (fs i ≡ Some f)
+      × (number_of f.region ≡ n)
 
 -- all but this one are what they were
 abbrev pub OthersStay : ℕ → Frames → Frames → Type 0
@@ -27,7 +29,8 @@ OthersStay i fs gs = (k : ℕ) → k ≢ i → gs k ≡ fs k
 -- ---- at first
 
 abbrev pub FirstTheirs : Type 0
-FirstTheirs = (pool : Nodes) (fs : Frames) → pool.regions ≡ [] → ((i : ℕ) → fs i ≡ None) → AreTheirs pool fs
+FirstTheirs = (pool : Nodes) (fs : Frames) → pool.regions ≡ [] → ((i : ℕ) → fs i ≡ None)
+    → AreTheirs pool fs
 
 -- ---- after each call
 
@@ -51,14 +54,16 @@ TheirsAfterStart =
 -- one that changes no region: a start that is refused, or a call that takes room
 abbrev pub TheirsAfterRefusal : Type 0
 TheirsAfterRefusal =
-    (pool after : Nodes) (fs : Frames) → AreTheirs pool fs → SameRegions pool after → AreTheirs after fs
+    (pool after : Nodes) (fs : Frames) → AreTheirs pool fs → SameRegions pool after
+    → AreTheirs after fs
 
 -- a start that is given up
 abbrev pub TheirsAfterGivingUp : Type 0
 TheirsAfterGivingUp =
     (pool mid after : Nodes) (fs : Frames)
     → AreTheirs pool fs
-    → KeepsRegions pool mid (length pool.regions) → after.regions ≡ regions_with mid (length pool.regions) None
+    → KeepsRegions pool mid (length pool.regions)
+    → after.regions ≡ regions_with mid (length pool.regions) None
     → AreTheirs after fs
 
 -- the release of one of them
@@ -82,4 +87,5 @@ TheirsAreOnly =
 -- where none is left nothing is live
 abbrev pub NoneLive : Type 0
 NoneLive =
-    (pool : Nodes) (fs : Frames) → AreTheirs pool fs → ((i : ℕ) → fs i ≡ None) → live_count pool.regions ≡ 0
+    (pool : Nodes) (fs : Frames) → AreTheirs pool fs → ((i : ℕ) → fs i ≡ None)
+    → live_count pool.regions ≡ 0

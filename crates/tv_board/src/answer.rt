@@ -32,7 +32,8 @@ pub fn ask<V: Services, G: Gate<Services = V>>(
     task: Task,
     gate: &G,
 ) -> Result<Answer<V>, NoMemory>
-    ensures { IfOk result (λ a. question a.ticket a.service a.inputs a.outputs ≡ question task.ticket task.service task.inputs task.outputs) }
+    ensures { IfOk result (λ a. question a.ticket a.service a.inputs a.outputs
+        ≡ question task.ticket task.service task.inputs task.outputs) }
 {
     let Task {
         ticket,
@@ -57,7 +58,8 @@ pub fn ask_alone<V: Services, A: Asker<Services = V>>(
     task: Task,
     asker: &mut A,
 ) -> Result<Answer<V>, NoMemory>
-    ensures answer { IfOk result (λ a. question a.ticket a.service a.inputs a.outputs ≡ question task.ticket task.service task.inputs task.outputs) }
+    ensures answer { IfOk result (λ a. question a.ticket a.service a.inputs a.outputs
+        ≡ question task.ticket task.service task.inputs task.outputs) }
     ensures told { OnOk result (IsCalled (A.calls asker.old) (A.calls asker.new) (record { service = task.service; inputs = values_view task.inputs; attempt = task.ticket.attempt })) }
     ensures refused { OnErr result (IsSameOrCalled (A.calls asker.old) (A.calls asker.new) (record { service = task.service; inputs = values_view task.inputs; attempt = task.ticket.attempt })) }
 {

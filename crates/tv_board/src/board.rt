@@ -172,8 +172,10 @@ impl<V: Services> Board<V> {
     /// Accepts an answer where its try is out and it is what the try asks: the outcome is judged, and the job goes on or is
     /// settled.
     pub fn accept(&mut self, answer: Answer<V>) -> Result<Accepted, Refused<V>>
-        ensures accepted { IfOk result (λ a. IsAccepting V.gives self.old self.new (answered answer) (outcome_view answer.outcome) a) }
-        ensures refused { IfErr result (λ r. IsRefused V.gives self.old (answered answer) (outcome_view answer.outcome) r) }
+        ensures accepted { IfOk result (λ a. IsAccepting V.gives self.old self.new (answered answer)
+            (outcome_view answer.outcome) a) }
+        ensures refused { IfErr result (λ r. IsRefused V.gives self.old (answered answer)
+            (outcome_view answer.outcome) r) }
         ensures unchanged { OnErr result (self.new ≡ self.old) }
         ensures legal { IsLegalRun V.gives self.new }
     {
@@ -219,7 +221,8 @@ impl<V: Services> Board<V> {
     /// Linear in them.
     pub fn outputs(&self) -> Result<Sequence<(Name, Value)>, NoMemory>
         requires { is_done (past_of self.now) ≡ true }
-        ensures { IfOk result (λ os. each view os ≡ map (λ o. (o.0, plain o.1)) (meant V.gives self.now).outputs) }
+        ensures { IfOk result (λ os. each view os
+            ≡ map (λ o. (o.0, plain o.1)) (meant V.gives self.now).outputs) }
     {
         self.run.outputs()
     }
@@ -236,7 +239,8 @@ impl<V: Services> Board<V> {
     /// and how many of them have failed. Linear in the history and in the jobs that are known. Takes no memory.
     pub fn totals(&self) -> Totals
         ensures so_far { totals_view result ≡ totals_so_far V.gives self.now }
-        ensures done { is_done (past_of self.now) ≡ true → totals_view result ≡ model.totals (meant V.gives self.now).jobs }
+        ensures done { is_done (past_of self.now) ≡ true
+            → totals_view result ≡ model.totals (meant V.gives self.now).jobs }
     {
         self.run.totals()
     }

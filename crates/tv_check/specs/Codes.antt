@@ -42,7 +42,8 @@ module _ {N A : Type 0} where
   abbrev pub read_trees : List ((N × A) ⊎ (N × ℕ)) → Trees N A
   read_trees [] = no_trees
   read_trees (inl (n, a) ∷ rest) = tree (leaf n a) (read_trees rest)
-  read_trees (inr (n, k) ∷ rest) = tree (list n (front k (read_trees rest))) (back k (read_trees rest))
+  read_trees (inr (n, k) ∷ rest) = tree (list n (front k (read_trees rest)))
+      (back k (read_trees rest))
 
   front-joined : (ts us : Trees N A) → front (count ts) (joined ts us) ≡ ts
   front-joined no_trees us = refl
@@ -57,22 +58,29 @@ module _ {N A : Type 0} where
   joined-none (tree t ts) = ap (tree t) (joined-none ts)
 
   mutual
-    read-spelled : (t : Tree N A) (rest : List ((N × A) ⊎ (N × ℕ))) → read_trees (spelled t rest) ≡ tree t (read_trees rest)
+    read-spelled : (t : Tree N A) (rest : List ((N × A) ⊎ (N × ℕ)))
+        → read_trees (spelled t rest) ≡ tree t (read_trees rest)
     read-spelled (leaf n a) rest = refl
     read-spelled (list n ts) rest =
-        ap (λ us. tree (list n (front (count ts) us)) (back (count ts) us)) (read-all_spelled ts rest)
-        ∙ ap (λ us. tree (list n us) (back (count ts) (joined ts (read_trees rest)))) (front-joined ts (read_trees rest))
+        ap (λ us. tree (list n (front (count ts) us)) (back (count ts) us))
+        (read-all_spelled ts rest)
+        ∙ ap (λ us. tree (list n us) (back (count ts) (joined ts (read_trees rest))))
+        (front-joined ts (read_trees rest))
         ∙ ap (λ us. tree (list n ts) us) (back-joined ts (read_trees rest))
 
-    read-all_spelled : (ts : Trees N A) (rest : List ((N × A) ⊎ (N × ℕ))) → read_trees (all_spelled ts rest) ≡ joined ts (read_trees rest)
+    read-all_spelled : (ts : Trees N A) (rest : List ((N × A) ⊎ (N × ℕ)))
+        → read_trees (all_spelled ts rest) ≡ joined ts (read_trees rest)
     read-all_spelled no_trees rest = refl
-    read-all_spelled (tree t ts) rest = read-spelled t (all_spelled ts rest) ∙ ap (tree t) (read-all_spelled ts rest)
+    read-all_spelled (tree t ts) rest = read-spelled t (all_spelled ts rest) ∙ ap (tree t)
+        (read-all_spelled ts rest)
 
   pub read-back : (ts : Trees N A) → read_trees (all_spelled ts []) ≡ ts
   read-back ts = read-all_spelled ts [] ∙ joined-none ts
 
   abbrev pub coded_trees : Coded N → Coded A → Coded (Trees N A)
-  coded_trees n a = code_by (List ((N × A) ⊎ (N × ℕ))) (coded_list (coded⊎ (coded× n a) (coded× n coded_ℕ))) (λ ts. all_spelled ts []) read_trees read-back
+  coded_trees n a = code_by (List ((N × A) ⊎ (N × ℕ)))
+      (coded_list (coded⊎ (coded× n a) (coded× n coded_ℕ)))
+      (λ ts. all_spelled ts []) read_trees read-back
 
   abbrev pub of_tree : Tree N A → (N × A) ⊎ (N × Trees N A)
   of_tree (leaf n a) = inl (n, a)
@@ -87,7 +95,8 @@ module _ {N A : Type 0} where
   to-of_tree (list n ts) = refl
 
   abbrev pub coded_tree : Coded N → Coded A → Coded (Tree N A)
-  coded_tree n a = code_by ((N × A) ⊎ (N × Trees N A)) (coded⊎ (coded× n a) (coded× n (coded_trees n a))) of_tree to_tree to-of_tree
+  coded_tree n a = code_by ((N × A) ⊎ (N × Trees N A))
+      (coded⊎ (coded× n a) (coded× n (coded_trees n a))) of_tree to_tree to-of_tree
 
 -- ---- values
 
@@ -100,7 +109,11 @@ coded_named a = coded_list (coded× coded_name a)
 
 abbrev pub coded_error : Coded ErrorDoc
 coded_error =
-    code_by (JobName × (ℕ × (Text × List JobName))) (coded× (coded_named coded_name) (coded× coded_ℕ (coded× coded_name (coded_list (coded_named coded_name))))) (λ e. (e.at, (e.depth, (e.why, e.from)))) (λ p. record { at = p.0; depth = p.1.0; why = p.1.1.0; from = p.1.1.1 }) (λ _. refl)
+    code_by (JobName × (ℕ × (Text × List JobName)))
+    (coded× (coded_named coded_name)
+    (coded× coded_ℕ (coded× coded_name (coded_list (coded_named coded_name)))))
+    (λ e. (e.at, (e.depth, (e.why, e.from))))
+    (λ p. record { at = p.0; depth = p.1.0; why = p.1.1.0; from = p.1.1.1 }) (λ _. refl)
 
 abbrev pub of_scalar : Scalar → Text ⊎ ErrorDoc
 of_scalar (text t) = inl t
@@ -115,7 +128,8 @@ to-of_scalar (text t) = refl
 to-of_scalar (fault e) = refl
 
 abbrev pub coded_value : Coded Value
-coded_value = coded_tree coded_unit (code_by (Text ⊎ ErrorDoc) (coded⊎ coded_name coded_error) of_scalar to_scalar to-of_scalar)
+coded_value = coded_tree coded_unit (code_by (Text ⊎ ErrorDoc)
+    (coded⊎ coded_name coded_error) of_scalar to_scalar to-of_scalar)
 
 -- ---- strategies, as trees whose lists are crosses or dots
 
@@ -147,10 +161,12 @@ mutual
 
   pub to-of_strategies : (ss : Strategies) → to_strategies (of_strategies ss) ≡ ss
   to-of_strategies no_strategies = refl
-  to-of_strategies (strategy s ss) = ap (λ t. strategy t (to_strategies (of_strategies ss))) (to-of_strategy s) ∙ ap (strategy s) (to-of_strategies ss)
+  to-of_strategies (strategy s ss) = ap (λ t. strategy t (to_strategies (of_strategies ss)))
+      (to-of_strategy s) ∙ ap (strategy s) (to-of_strategies ss)
 
 abbrev pub coded_strategy : Coded Strategy
-coded_strategy = code_by (Tree Bool Name) (coded_tree coded_bool coded_name) of_strategy to_strategy to-of_strategy
+coded_strategy = code_by (Tree Bool Name)
+    (coded_tree coded_bool coded_name) of_strategy to_strategy to-of_strategy
 
 -- ---- documents
 
@@ -167,7 +183,8 @@ to-of_link (input n) = refl
 to-of_link (output s p) = refl
 
 abbrev pub coded_link : Coded Link
-coded_link = code_by (Name ⊎ (Name × Name)) (coded⊎ coded_name (coded× coded_name coded_name)) of_link to_link to-of_link
+coded_link = code_by (Name ⊎ (Name × Name))
+    (coded⊎ coded_name (coded× coded_name coded_name)) of_link to_link to-of_link
 
 abbrev pub of_feed : Feed → Link ⊎ (List Link ⊎ Value)
 of_feed (link l) = inl l
@@ -185,10 +202,12 @@ to-of_feed (merge ls) = refl
 to-of_feed (constant v) = refl
 
 abbrev pub coded_feed : Coded Feed
-coded_feed = code_by (Link ⊎ (List Link ⊎ Value)) (coded⊎ coded_link (coded⊎ (coded_list coded_link) coded_value)) of_feed to_feed to-of_feed
+coded_feed = code_by (Link ⊎ (List Link ⊎ Value))
+    (coded⊎ coded_link (coded⊎ (coded_list coded_link) coded_value)) of_feed to_feed to-of_feed
 
 abbrev pub coded_step_input : Coded StepInput
-coded_step_input = code_by (ℕ × Feed) (coded× coded_ℕ coded_feed) (λ i. (i.depth, i.from)) (λ p. record { depth = p.0; from = p.1 }) (λ _. refl)
+coded_step_input = code_by (ℕ × Feed) (coded× coded_ℕ coded_feed) (λ i. (i.depth, i.from))
+    (λ p. record { depth = p.0; from = p.1 }) (λ _. refl)
 
 abbrev pub of_activity : Activity → Name ⊎ Name
 of_activity (service n) = inl n
@@ -203,19 +222,28 @@ to-of_activity (service n) = refl
 to-of_activity (nested n) = refl
 
 abbrev pub coded_activity : Coded Activity
-coded_activity = code_by (Name ⊎ Name) (coded⊎ coded_name coded_name) of_activity to_activity to-of_activity
+coded_activity = code_by (Name ⊎ Name)
+    (coded⊎ coded_name coded_name) of_activity to_activity to-of_activity
 
 abbrev pub coded_step : Coded Step
 coded_step =
-    code_by (List (Name × StepInput) × (List (Name × ℕ) × (Option Strategy × (List Activity × (ℕ × (ℕ × List Name))))))
-    (coded× (coded_named coded_step_input) (coded× (coded_named coded_ℕ) (coded× (coded_option coded_strategy) (coded× (coded_list coded_activity) (coded× coded_ℕ (coded× coded_ℕ (coded_list coded_name)))))))
+    code_by (List (Name × StepInput)
+    × (List (Name × ℕ) × (Option Strategy × (List Activity × (ℕ × (ℕ × List Name))))))
+    (coded× (coded_named coded_step_input)
+    (coded× (coded_named coded_ℕ)
+    (coded× (coded_option coded_strategy)
+    (coded× (coded_list coded_activity)
+    (coded× coded_ℕ (coded× coded_ℕ (coded_list coded_name)))))))
     (λ s. (s.inputs, (s.outputs, (s.strategy, (s.activities, (s.retries, (s.jobs, s.after)))))))
     (λ p. record { inputs = p.0; outputs = p.1.0; strategy = p.1.1.0; activities = p.1.1.1.0; retries = p.1.1.1.1.0; jobs = p.1.1.1.1.1.0; after = p.1.1.1.1.1.1 })
     (λ _. refl)
 
 abbrev pub coded_flow : Coded Flow
 coded_flow =
-    code_by (List (Name × ℕ) × (List (Name × Step) × List (Name × Feed))) (coded× (coded_named coded_ℕ) (coded× (coded_named coded_step) (coded_named coded_feed))) (λ f. (f.inputs, (f.steps, f.outputs))) (λ p. record { inputs = p.0; steps = p.1.0; outputs = p.1.1 }) (λ _. refl)
+    code_by (List (Name × ℕ) × (List (Name × Step) × List (Name × Feed)))
+    (coded× (coded_named coded_ℕ) (coded× (coded_named coded_step) (coded_named coded_feed)))
+    (λ f. (f.inputs, (f.steps, f.outputs)))
+    (λ p. record { inputs = p.0; steps = p.1.0; outputs = p.1.1 }) (λ _. refl)
 
 -- ---- plans
 
@@ -228,7 +256,9 @@ coded_step_plan =
 
 abbrev pub coded_flow_plan : Coded plan.FlowPlan
 coded_flow_plan =
-    code_by (Flow × (List plan.StepPlan × (List (Name × ℕ) × Wiring))) (coded× coded_flow (coded× (coded_list coded_step_plan) (coded× (coded_named coded_ℕ) coded_wiring)))
+    code_by (Flow × (List plan.StepPlan × (List (Name × ℕ) × Wiring)))
+    (coded× coded_flow (coded× (coded_list coded_step_plan)
+    (coded× (coded_named coded_ℕ) coded_wiring)))
     (λ f. (f.flow, (f.steps, (f.outputs, f.wiring))))
     (λ p. record { flow = p.0; steps = p.1.0; outputs = p.1.1.0; wiring = p.1.1.1 })
     (λ _. refl)

@@ -14,7 +14,10 @@ flow_plan_view p = record { flow = flow_view p.flow; steps = map step_plan_view 
 
 -- the document is accepted, and these are its main flow's number and the plans of its flows
 abbrev pub IsChecked : Document → ℕ → List plan.FlowPlan → Type 0
-IsChecked d main plans = plan.IsAccepted d × ((plans ≡ plan.flow_plans d) × ((main ≡ position d.main d.flows) × (main < length d.flows)))
+IsChecked d main plans = plan.IsAccepted d
+    × ((plans ≡ plan.flow_plans d) × ((main ≡ position d.main d.flows) × (main < length d.flows)))
 
-pub IsChecked-prop : (d : Document) (main : ℕ) (plans : List plan.FlowPlan) → IsProp (IsChecked d main plans)
-IsChecked-prop d main plans = ×_prop (Coded-set coded_bool _ _) (×_prop (Coded-set (coded_list coded_flow_plan) _ _) (×_prop (Coded-set coded_ℕ _ _) le_prop))
+pub IsChecked-prop : (d : Document) (main : ℕ) (plans : List plan.FlowPlan)
+    → IsProp (IsChecked d main plans)
+IsChecked-prop d main plans = ×_prop (Coded-set coded_bool _ _)
+    (×_prop (Coded-set (coded_list coded_flow_plan) _ _) (×_prop (Coded-set coded_ℕ _ _) le_prop))

@@ -10,7 +10,8 @@ use Rattle.tv_naming.specs.Inputs.{given_complaints}
 
 -- Names, nesting, links, depths, inputs. What a pass says counts only where those before it say nothing, as the first complaint does.
 abbrev pub complaints : (Name → Bool) → Document → List Complaint
-complaints knows d = naming_complaints knows d ++ cycle_complaints d ++ nesting_complaints d ++ link_cycle_complaints d ++ depth_complaints d ++ given_complaints d
+complaints knows d = naming_complaints knows d ++ cycle_complaints d ++ nesting_complaints d
+    ++ link_cycle_complaints d ++ depth_complaints d ++ given_complaints d
 
 -- none where the document is accepted
 abbrev pub checked : (Name → Bool) → Document → Option Complaint

@@ -16,7 +16,8 @@ step_plan_view p = record { rank = p.rank; tree = strategy_view p.tree; depth = 
 
 -- an accepted document has this flow
 abbrev pub IsOfDocument : Flow → Type 0
-IsOfDocument f = ∥ ((d : Document) × ((n : Name) × (is_formed d ≡ true) × plan.IsAccepted d × (named n d.flows ≡ Some f))) ∥₁
+IsOfDocument f = ∥ ((d : Document)
+    × ((n : Name) × (is_formed d ≡ true) × plan.IsAccepted d × (named n d.flows ≡ Some f))) ∥₁
 
 -- it is the plan of its flow, which stands in an accepted document
 abbrev pub IsFlowPlan : plan.FlowPlan → Type 0

@@ -30,7 +30,8 @@ pub record IsToPlan (f : Flow) (order : List ℕ) (w : Option Measured) : Type 0
   pub measured : is_some w ≡ true
   pub accepted : IsOfDocument f
 
-pub record IsPlannable (d : Document) (orders : List (Vec ℕ Global)) (ws : List (Option Measured)) : Type 0 where
+pub record IsPlannable (d : Document) (orders : List (Vec ℕ Global))
+    (ws : List (Option Measured)) : Type 0 where
   pub formed : is_formed d ≡ true
   pub accepted : IsAccepted d
   pub main_there : has_name d.flows d.main ≡ true

@@ -16,7 +16,9 @@ planned f ls rank depth s =
     record { rank = rank; tree = strategy_of s; depth = depth; delivered = map (λ i. (i.0, table_depth f ls i.1.from)) s.inputs; mismatch = map (λ i. (i.0, table_mismatch f ls i.1)) s.inputs }
 
 -- a flow that was measured, with the ranks of its steps: the table has the depth of each step's strategy
-pub record IsPlanned (f : Flow) (ls : List (Option ℕ)) (outputs : List (Name × ℕ)) (ranks : List ℕ) : Type 0 where
+pub record IsPlanned (f : Flow) (ls : List (Option ℕ)) (outputs : List (Name × ℕ))
+    (ranks : List ℕ) : Type 0 where
   pub measured : IsMeasured f ls outputs
-  pub levels_are : ls ≡ map (λ s. Some (strategy_depth (port_depth f.inputs (flow_depths f) s.1) (strategy_of s.1))) f.steps
+  pub levels_are : ls ≡ map (λ s. Some (strategy_depth (port_depth f.inputs (flow_depths f) s.1)
+      (strategy_of s.1))) f.steps
   pub ranks_are : ranks ≡ map (λ s. position s.0 (ranked f.steps)) f.steps

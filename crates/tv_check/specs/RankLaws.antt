@@ -14,11 +14,14 @@ abbrev pub is_acyclic : Flow → Bool
 is_acyclic f = list_all (λ s. not (reaches (steps_before f) (length f.steps) s.0 s.0)) f.steps
 
 abbrev pub AllAreRanked : Type 0
-AllAreRanked = (f : Flow) → is_flow f ≡ true → links_inside f ≡ true → is_acyclic f ≡ true → length (ranked f.steps) ≡ length f.steps
+AllAreRanked = (f : Flow) → is_flow f ≡ true → links_inside f ≡ true → is_acyclic f ≡ true
+    → length (ranked f.steps) ≡ length f.steps
 
 abbrev pub NoneIsRankedOnCycles : Type 0
-NoneIsRankedOnCycles = (f : Flow) → is_flow f ≡ true → links_inside f ≡ true → length (ranked f.steps) ≡ length f.steps → is_acyclic f ≡ true
+NoneIsRankedOnCycles = (f : Flow) → is_flow f ≡ true → links_inside f ≡ true
+    → length (ranked f.steps) ≡ length f.steps → is_acyclic f ≡ true
 
 -- where no name is complained of, what comes before a step and what a flow opens is there
 abbrev pub NamesAreInside : Type 0
-NamesAreInside = (knows : Name → Bool) (d : Document) → naming_complaints knows d ≡ [] → names_inside d ≡ true
+NamesAreInside = (knows : Name → Bool) (d : Document) → naming_complaints knows d ≡ []
+    → names_inside d ≡ true

@@ -39,8 +39,10 @@ pub(crate) fn checked_run(
 }
 
 fn main_number(document: &Document) -> u32
-    requires { has_name (document_view document.now).flows (document_view document.now).main ≡ true }
-    ensures position { result ≡ position (document_view document.now).main (document_view document.now).flows }
+    requires { has_name (document_view document.now).flows (document_view document.now).main
+        ≡ true }
+    ensures position { result
+        ≡ position (document_view document.now).main (document_view document.now).flows }
     ensures below { result < length (document_view document.now).flows }
 {
     match number_of(&document.flows, &document.main) {

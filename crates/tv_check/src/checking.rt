@@ -49,7 +49,10 @@ fn names_and_links<V: Services>(
     alloc: Global,
     document: &Document,
 ) -> Result<Vec<u32>, CheckRefused>
-    ensures told { IsToldOf (naming_complaints V.knows (document_view document.now) ++ cycle_complaints (document_view document.now) ++ nesting_complaints (document_view document.now) ++ link_cycle_complaints (document_view document.now)) result }
+    ensures told { IsToldOf (naming_complaints V.knows (document_view document.now)
+        ++ cycle_complaints (document_view document.now)
+        ++ nesting_complaints (document_view document.now)
+        ++ link_cycle_complaints (document_view document.now)) result }
     ensures levels { IfOk result (λ ns. ns.items ≡ nestings (document_view document.now)) }
 {
     told(naming_fault::<V>(alloc, document)?)?;
@@ -62,7 +65,8 @@ fn names_and_links<V: Services>(
 
 /// The refusal for a pass that found a fault.
 fn told(fault: Option<CheckFault>) -> Result<(), CheckRefused>
-    ensures { (cs : List Complaint) → option_map fault_view fault ≡ first_of cs → IsToldOf cs result }
+    ensures { (cs : List Complaint) → option_map fault_view fault ≡ first_of cs
+        → IsToldOf cs result }
 {
     match fault {
         Some(fault) => Err(CheckRefused::Check(fault)),

@@ -24,7 +24,8 @@ pub(crate) fn flow_cycle_fault(
     alloc: Global,
     document: &Document,
 ) -> Result<Option<CheckFault>, NoMemory>
-    ensures { IfOk result (λ f. option_map fault_view f ≡ first_of (cycle_complaints (document_view document.now))) }
+    ensures { IfOk result (λ f. option_map fault_view f
+        ≡ first_of (cycle_complaints (document_view document.now))) }
 {
     let flows = &document.flows;
     let graph = flow_graph(alloc, flows)?;
@@ -59,7 +60,8 @@ pub(crate) fn link_cycle_fault(
     alloc: Global,
     document: &Document,
 ) -> Result<Option<CheckFault>, NoMemory>
-    ensures { IfOk result (λ f. option_map fault_view f ≡ first_of (link_cycle_complaints (document_view document.now))) }
+    ensures { IfOk result (λ f. option_map fault_view f
+        ≡ first_of (link_cycle_complaints (document_view document.now))) }
 {
     for flow in document.flows.as_slice() {
         if let Some(fault) = flow_link_cycle(alloc, &flow.0, &flow.1)? {
@@ -71,7 +73,8 @@ pub(crate) fn link_cycle_fault(
 
 fn flow_link_cycle(alloc: Global, name: &Name, flow: &Flow) -> Result<Option<CheckFault>, NoMemory>
     requires { is_flow (flow_view flow.now) ≡ true }
-    ensures { IfOk result (λ f. option_map fault_view f ≡ first_of (flow_link_cycles name.now (flow_view flow.now))) }
+    ensures { IfOk result (λ f. option_map fault_view f
+        ≡ first_of (flow_link_cycles name.now (flow_view flow.now))) }
 {
     let steps = &flow.steps;
     let graph = step_graph(alloc, steps)?;
@@ -100,7 +103,8 @@ pub fn steps_by_rank(alloc: Global, flow: &Flow) -> Result<Vec<u32>, NoMemory>
     requires formed { is_flow (flow_view flow.now) ≡ true }
     requires inside { links_inside (flow_view flow.now) ≡ true }
     ensures order { IfOk result (λ vs. vs.items ≡ numbers_by_rank (flow_view flow.now).steps) }
-    ensures below { IfOk result (λ vs. list_all (λ v. nat_lt v (length flow.now.steps)) vs.items ≡ true) }
+    ensures below { IfOk result (λ vs. list_all (λ v. nat_lt v (length flow.now.steps)) vs.items
+        ≡ true) }
 {
     let graph = step_graph(alloc, &flow.steps)?;
     let numbers = by_least(alloc, &graph)?;
@@ -154,7 +158,8 @@ pub(crate) fn nesting_fault(
     levels: &[u32],
 ) -> Result<Option<CheckFault>, NoMemory>
     requires { levels.now ≡ nestings (document_view document.now) }
-    ensures { IfOk result (λ f. option_map fault_view f ≡ first_of (nesting_complaints (document_view document.now))) }
+    ensures { IfOk result (λ f. option_map fault_view f
+        ≡ first_of (nesting_complaints (document_view document.now))) }
 {
     match first_too_deep(levels) {
         Some(flow) => {
@@ -175,7 +180,8 @@ fn first_too_deep(levels: &[u32]) -> Option<usize>
 const NESTING_LIMIT: u32 = 8;
 
 fn too_deep(alloc: Global, flow: &Name, nesting: u32) -> Result<CheckFault, NoMemory>
-    ensures { IfOk result (λ f. fault_view f ≡ with_numbers too_deep (at_flow flow.now) nesting nesting_limit) }
+    ensures { IfOk result (λ f. fault_view f
+        ≡ with_numbers too_deep (at_flow flow.now) nesting nesting_limit) }
 {
     let flow = flow.copy(alloc)?;
     Ok(CheckFault {

@@ -44,7 +44,8 @@ pub(crate) fn flow_graph(alloc: Global, flows: &Flows) -> Result<Graph, NoMemory
 fn earlier_numbers(alloc: Global, steps: &Steps, step: &Step) -> Result<Vec<u32>, NoMemory>
     requires in_order { is_ascending (map (λ e. e.0) steps.now) ≡ true }
     requires few { length steps.now < 2 ^ 32 }
-    ensures { IfOk result (λ ns. ns.items ≡ numbers_of steps.now (earlier_steps (step_view step.now))) }
+    ensures { IfOk result (λ ns. ns.items
+        ≡ numbers_of steps.now (earlier_steps (step_view step.now))) }
 {
     let mut numbers = Vec::new(alloc);
     push_inputs(&mut numbers, steps, &step.inputs)?;
@@ -55,7 +56,8 @@ fn earlier_numbers(alloc: Global, steps: &Steps, step: &Step) -> Result<Vec<u32>
 fn opened_numbers(alloc: Global, flows: &Flows, flow: &Flow) -> Result<Vec<u32>, NoMemory>
     requires in_order { is_ascending (map (λ e. e.0) flows.now) ≡ true }
     requires few { length flows.now < 2 ^ 32 }
-    ensures { IfOk result (λ ns. ns.items ≡ numbers_of flows.now (opened_flows (flow_view flow.now))) }
+    ensures { IfOk result (λ ns. ns.items
+        ≡ numbers_of flows.now (opened_flows (flow_view flow.now))) }
 {
     let mut numbers = Vec::new(alloc);
     for step in flow.steps.as_slice() {
@@ -67,7 +69,9 @@ fn opened_numbers(alloc: Global, flows: &Flows, flow: &Flow) -> Result<Vec<u32>,
 fn push_inputs(numbers: &mut Vec<u32>, steps: &Steps, inputs: &StepInputs) -> Result<(), NoMemory>
     requires in_order { is_ascending (map (λ e. e.0) steps.now) ≡ true }
     requires few { length steps.now < 2 ^ 32 }
-    ensures { OnOk result (numbers.new.items ≡ numbers.old.items ++ numbers_of steps.now (flat_map (λ i. feed_steps i.1.from) (each step_input_view inputs.now))) }
+    ensures { OnOk result (numbers.new.items ≡ numbers.old.items
+        ++ numbers_of steps.now (flat_map (λ i. feed_steps i.1.from)
+        (each step_input_view inputs.now))) }
 {
     for input in inputs.as_slice() {
         push_feed(numbers, steps, &input.1.from)?;
@@ -78,7 +82,8 @@ fn push_inputs(numbers: &mut Vec<u32>, steps: &Steps, inputs: &StepInputs) -> Re
 fn push_feed(numbers: &mut Vec<u32>, steps: &Steps, feed: &Feed) -> Result<(), NoMemory>
     requires in_order { is_ascending (map (λ e. e.0) steps.now) ≡ true }
     requires few { length steps.now < 2 ^ 32 }
-    ensures { OnOk result (numbers.new.items ≡ numbers.old.items ++ numbers_of steps.now (feed_steps (feed_view feed.now))) }
+    ensures { OnOk result (numbers.new.items ≡ numbers.old.items
+        ++ numbers_of steps.now (feed_steps (feed_view feed.now))) }
 {
     match feed {
         Feed::Output(step, _) => push_number(numbers, steps, step),
@@ -91,7 +96,8 @@ fn push_feed(numbers: &mut Vec<u32>, steps: &Steps, feed: &Feed) -> Result<(), N
 fn push_links(numbers: &mut Vec<u32>, steps: &Steps, links: &Links) -> Result<(), NoMemory>
     requires in_order { is_ascending (map (λ e. e.0) steps.now) ≡ true }
     requires few { length steps.now < 2 ^ 32 }
-    ensures { OnOk result (numbers.new.items ≡ numbers.old.items ++ numbers_of steps.now (flat_map link_step (map link_view links.now))) }
+    ensures { OnOk result (numbers.new.items ≡ numbers.old.items
+        ++ numbers_of steps.now (flat_map link_step (map link_view links.now))) }
 {
     for link in links.as_slice() {
         push_link(numbers, steps, link)?;
@@ -102,7 +108,8 @@ fn push_links(numbers: &mut Vec<u32>, steps: &Steps, links: &Links) -> Result<()
 fn push_link(numbers: &mut Vec<u32>, steps: &Steps, link: &Link) -> Result<(), NoMemory>
     requires in_order { is_ascending (map (λ e. e.0) steps.now) ≡ true }
     requires few { length steps.now < 2 ^ 32 }
-    ensures { OnOk result (numbers.new.items ≡ numbers.old.items ++ numbers_of steps.now (link_step (link_view link.now))) }
+    ensures { OnOk result (numbers.new.items ≡ numbers.old.items
+        ++ numbers_of steps.now (link_step (link_view link.now))) }
 {
     match link {
         Link::Output(step, _) => push_number(numbers, steps, step),
@@ -117,7 +124,8 @@ fn push_names<T>(
 ) -> Result<(), NoMemory>
     requires in_order { is_ascending (map (λ e. e.0) entries.now) ≡ true }
     requires few { length entries.now < 2 ^ 32 }
-    ensures { OnOk result (numbers.new.items ≡ numbers.old.items ++ numbers_of entries.now names.now) }
+    ensures { OnOk result (numbers.new.items ≡ numbers.old.items
+        ++ numbers_of entries.now names.now) }
 {
     for name in names.as_slice() {
         push_number(numbers, entries, name)?;
@@ -132,7 +140,8 @@ fn push_activities(
 ) -> Result<(), NoMemory>
     requires in_order { is_ascending (map (λ e. e.0) flows.now) ≡ true }
     requires few { length flows.now < 2 ^ 32 }
-    ensures { OnOk result (numbers.new.items ≡ numbers.old.items ++ numbers_of flows.now (filter_map opened_flow (map activity_view activities.now))) }
+    ensures { OnOk result (numbers.new.items ≡ numbers.old.items
+        ++ numbers_of flows.now (filter_map opened_flow (map activity_view activities.now))) }
 {
     for activity in activities.as_slice() {
         push_activity(numbers, flows, activity)?;
@@ -143,7 +152,8 @@ fn push_activities(
 fn push_activity(numbers: &mut Vec<u32>, flows: &Flows, activity: &Activity) -> Result<(), NoMemory>
     requires in_order { is_ascending (map (λ e. e.0) flows.now) ≡ true }
     requires few { length flows.now < 2 ^ 32 }
-    ensures { OnOk result (numbers.new.items ≡ numbers.old.items ++ numbers_of flows.now (filter_map opened_flow (activity_view activity.now ∷ []))) }
+    ensures { OnOk result (numbers.new.items ≡ numbers.old.items
+        ++ numbers_of flows.now (filter_map opened_flow (activity_view activity.now ∷ []))) }
 {
     match activity {
         Activity::Nested(flow) => push_number(numbers, flows, flow),
@@ -159,7 +169,8 @@ fn push_number<T>(
 ) -> Result<(), NoMemory>
     requires in_order { is_ascending (map (λ e. e.0) entries.now) ≡ true }
     requires few { length entries.now < 2 ^ 32 }
-    ensures { OnOk result (numbers.new.items ≡ numbers.old.items ++ numbers_of entries.now (name.now ∷ [])) }
+    ensures { OnOk result (numbers.new.items ≡ numbers.old.items
+        ++ numbers_of entries.now (name.now ∷ [])) }
 {
     if let Some(number) = number_of(entries, name) {
         numbers.push(number as u32)?;

@@ -48,8 +48,10 @@ pub(crate) fn flow_plan(
 fn ports_by_steps(alloc: Global, flow: &Flow, plans: &[StepPlan]) -> Result<PortsBySteps, NoMemory>
     requires formed { is_flow (flow_view flow.now) ≡ true }
     requires accepted { IsOfDocument (flow_view flow.now) }
-    requires plans { map step_plan_view plans.now ≡ map (step_plan (flow_view flow.now)) (flow_view flow.now).steps }
-    ensures { IfOk result (λ ps. ps ≡ map (λ s. wired_ports (flow_view flow.now) s.1) (flow_view flow.now).steps) }
+    requires plans { map step_plan_view plans.now
+        ≡ map (step_plan (flow_view flow.now)) (flow_view flow.now).steps }
+    ensures { IfOk result (λ ps. ps
+        ≡ map (λ s. wired_ports (flow_view flow.now) s.1) (flow_view flow.now).steps) }
 {
     let steps = flow.steps.as_slice();
     let mut ports = Vec::with_capacity(alloc, steps.len())?;
@@ -67,7 +69,8 @@ fn step_plans(
     measured: &Measured,
 ) -> Result<StepPlans, NoMemory>
     requires { IsPlanned (flow_view flow.now) measured.now.levels.items measured.now.outputs ranks.now }
-    ensures { IfOk result (λ ps. map step_plan_view ps ≡ map (step_plan (flow_view flow.now)) (flow_view flow.now).steps) }
+    ensures { IfOk result (λ ps. map step_plan_view ps
+        ≡ map (step_plan (flow_view flow.now)) (flow_view flow.now).steps) }
 {
     let steps = flow.steps.as_slice();
     let levels = measured.levels.as_slice();
@@ -118,7 +121,9 @@ fn delivered(
     inputs: &StepInputs,
 ) -> Result<Depths, NoMemory>
     requires { IsTable (flow_view flow.now) levels.now }
-    ensures { IfOk result (λ d. d ≡ map (λ i. (i.0, table_depth (flow_view flow.now) levels.now i.1.from)) (each step_input_view inputs.now)) }
+    ensures { IfOk result (λ d. d
+        ≡ map (λ i. (i.0, table_depth (flow_view flow.now) levels.now i.1.from))
+        (each step_input_view inputs.now)) }
 {
     let inputs = inputs.as_slice();
     let mut depths = Vec::with_capacity(alloc, inputs.len())?;
@@ -139,7 +144,8 @@ fn step_plan(
     depth: u32,
 ) -> Result<StepPlan, NoMemory>
     requires { IsTable (flow_view flow.now) levels.now }
-    ensures { IfOk result (λ p. step_plan_view p ≡ planned (flow_view flow.now) levels.now rank depth (step_view step.now)) }
+    ensures { IfOk result (λ p. step_plan_view p
+        ≡ planned (flow_view flow.now) levels.now rank depth (step_view step.now)) }
 {
     let tree = tree_of(alloc, step)?;
     let delivered = delivered(alloc, flow, levels, &step.inputs)?;

@@ -37,7 +37,8 @@ impl CheckedRun {
     /// The plan of the flow of a number, in the order of the document. Takes no memory.
     pub fn flow(&self, number: u32) -> &FlowPlan
         requires { number < length (run_view self.now).flows }
-        ensures { slice_get (flow_plans (run_view self.now)) number ≡ Some (flow_plan_view result.now) }
+        ensures { slice_get (flow_plans (run_view self.now)) number
+            ≡ Some (flow_plan_view result.now) }
     {
         &self.plans.as_slice()[number as usize]
     }

@@ -50,7 +50,8 @@ Settles r s = (e : Entry) × Appends r s e × (settles e ≡ true)
 -- no entry is legal next that settles something
 abbrev pub NothingSettles : Giving → Run → Type 0
 NothingSettles gives r =
-    (e : history.Entry) → is_settlement e ≡ true → is_legal_after gives (meant gives r) (past_of r) e ≡ false
+    (e : history.Entry) → is_settlement e ≡ true
+    → is_legal_after gives (meant gives r) (past_of r) e ≡ false
 
 -- ---- handing out
 
@@ -58,13 +59,15 @@ abbrev pub hands_out : Ticket → Entry
 hands_out t = entry.HandedOut t.job t.activity t.attempt
 
 abbrev pub IsNothingOffered : Giving → Run → Type 0
-IsNothingOffered gives r = list_any (is_offered (meant gives r) (past_of r)) (meant gives r).jobs ≡ false
+IsNothingOffered gives r = list_any (is_offered (meant gives r) (past_of r)) (meant gives r).jobs
+    ≡ false
 
 -- ---- one job
 
 -- the job of a number
 abbrev pub job_at : Meaning → List JobName → ℕ → Option Job
-job_at m names k = option_and_then (λ n. find (λ (j : Job). same_job n j.name) m.jobs) (slice_get names k)
+job_at m names k = option_and_then (λ n. find (λ (j : Job). same_job n j.name) m.jobs)
+    (slice_get names k)
 
 abbrev pub job_of : Giving → Run → ℕ → Option Job
 job_of gives r k = job_at (meant gives r) r.names k
@@ -82,7 +85,8 @@ module _ (m : Meaning) (past : History) where
   -- one that runs, of which nothing is out
   abbrev pub idle_state : Job → JobState
   idle_state j =
-      option_map_or (λ a. state.Idle a.activity a.attempt) (next_ask past j) (state.Idle (last_activity j.asks) 0)
+      option_map_or (λ a. state.Idle a.activity a.attempt) (next_ask past j)
+      (state.Idle (last_activity j.asks) 0)
 
   -- where the job stands
   abbrev pub state_after : Job → JobState
@@ -96,10 +100,12 @@ module _ (m : Meaning) (past : History) where
 -- the try of a ticket, where it is out
 abbrev pub try_if_out : Giving → Run → Ticket → Option Ask
 try_if_out gives r t =
-    option_and_then (try_out (meant gives r) (past_of r) t.activity t.attempt) (job_of gives r t.job)
+    option_and_then (try_out (meant gives r) (past_of r) t.activity t.attempt)
+    (job_of gives r t.job)
 
 abbrev pub state_of : Giving → Run → ℕ → JobState
-state_of gives r k = option_map_or (state_after (meant gives r) (past_of r)) (job_of gives r k) state.Unknown
+state_of gives r k = option_map_or (state_after (meant gives r) (past_of r))
+    (job_of gives r k) state.Unknown
 
 -- what the task of a ticket asks
 pub record IsTask (gives : Giving) (r : Run) (q : Question) : Type 0 where
@@ -114,7 +120,8 @@ pub record IsOther (gives : Giving) (r : Run) (q : Question) : Type 0 where
   pub asked : Ask
   pub out : try_if_out gives r q.ticket ≡ Some asked
   pub other :
-      (q.service ≡ asked.service) × (q.inputs ≡ asked.inputs) × (map (λ o. o.1) q.outputs ≡ asked.outputs)
+      (q.service ≡ asked.service) × (q.inputs ≡ asked.inputs)
+      × (map (λ o. o.1) q.outputs ≡ asked.outputs)
       → ⊥
 
 -- ---- what is told
@@ -123,11 +130,13 @@ abbrev pub out_count : Giving → Run → ℕ
 out_count gives r = histories.out_count (meant gives r) (past_of r)
 
 abbrev pub totals_so_far : Giving → Run → model.Totals
-totals_so_far gives r = read_totals (past_of r) (filter (is_settled (past_of r)) (meant gives r).jobs)
+totals_so_far gives r = read_totals (past_of r)
+    (filter (is_settled (past_of r)) (meant gives r).jobs)
 
 -- ---- tasks
 
 -- why there is no task: the try isn't out, told before want of memory
 abbrev pub IsTaskFault : Giving → Run → Ticket → TaskFault → Type 0
-IsTaskFault gives r t (task_fault.NotOut s) = (try_if_out gives r t ≡ None) × (s ≡ state_of gives r t.job)
+IsTaskFault gives r t (task_fault.NotOut s) = (try_if_out gives r t ≡ None)
+    × (s ≡ state_of gives r t.job)
 IsTaskFault gives r t task_fault.NoMemory = is_some (try_if_out gives r t) ≡ true

@@ -11,7 +11,8 @@ use Rattle.tv_entries.specs.Runs.{Run, flow_of}
 -- the outputs of the step of that name, with their depths, in the flow of that instance
 abbrev pub declared_outputs : Document → JobName → Name → Option (List (Name × ℕ))
 declared_outputs d instance step =
-    option_map (λ (s : Step). s.outputs) (option_and_then (λ (f : Flow). named step f.steps) (flow_of d.flows d.main instance))
+    option_map (λ (s : Step). s.outputs)
+    (option_and_then (λ (f : Flow). named step f.steps) (flow_of d.flows d.main instance))
 
 -- those of the step of the job of a number
 abbrev pub declared_for : Giving → Run → ℕ → Option (List (Name × ℕ))

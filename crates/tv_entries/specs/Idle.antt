@@ -7,4 +7,5 @@ use Rattle.tv_entries.specs.declared.ticket.JobState.TheVariants as state
 
 -- every job that was out is idle, with the same try next
 abbrev pub AreIdle : Giving → Run → Run → Type 0
-AreIdle gives r s = (k a t : ℕ) → state_of gives r k ≡ state.Out a t → state_of gives s k ≡ state.Idle a t
+AreIdle gives r s = (k a t : ℕ) → state_of gives r k ≡ state.Out a t
+    → state_of gives s k ≡ state.Idle a t

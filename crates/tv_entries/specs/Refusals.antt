@@ -36,7 +36,8 @@ abbrev pub accepts : Ticket → Bool → Entry
 accepts t right = entry.Accepted t.job t.activity t.attempt right
 
 -- the outcome of a task was accepted, and was right or not
-pub record WasAccepted (gives : Giving) (old new : Run) (q : Question) (o : Outcome) (good : Bool) : Type 0 where
+pub record WasAccepted (gives : Giving) (old new : Run) (q : Question) (o : Outcome)
+    (good : Bool) : Type 0 where
   pub task : IsTask gives old q
   pub right : good ≡ is_right q o
   pub appends : Appends old new (accepts q.ticket good)

@@ -9,8 +9,14 @@ use Rattle.tv_entries.specs.declared.entry.Entry.{Entry}
 
 abbrev pub coded_document : Coded Document
 coded_document =
-    code_by (ℕ × (Name × (List (Name × Flow) × List (Name × Value)))) (coded× coded_ℕ (coded× coded_name (coded× (coded_named coded_flow) (coded_named coded_value)))) (λ d. (d.format, (d.main, (d.flows, d.inputs)))) (λ p. record { format = p.0; main = p.1.0; flows = p.1.1.0; inputs = p.1.1.1 }) (λ _. refl)
+    code_by (ℕ × (Name × (List (Name × Flow) × List (Name × Value))))
+    (coded× coded_ℕ (coded× coded_name (coded× (coded_named coded_flow) (coded_named coded_value))))
+    (λ d. (d.format, (d.main, (d.flows, d.inputs))))
+    (λ p. record { format = p.0; main = p.1.0; flows = p.1.1.0; inputs = p.1.1.1 }) (λ _. refl)
 
 abbrev pub coded_run : Coded Entry → Coded Run
 coded_run entries =
-    code_by (Document × (List JobName × List Entry)) (coded× coded_document (coded× (coded_list (coded_named coded_name)) (coded_list entries))) (λ r. (r.document, (r.names, r.entries))) (λ p. record { document = p.0; names = p.1.0; entries = p.1.1 }) (λ _. refl)
+    code_by (Document × (List JobName × List Entry))
+    (coded× coded_document (coded× (coded_list (coded_named coded_name)) (coded_list entries)))
+    (λ r. (r.document, (r.names, r.entries)))
+    (λ p. record { document = p.0; names = p.1.0; entries = p.1.1 }) (λ _. refl)

@@ -42,11 +42,13 @@ first_flow (nested f ∷ as') = Some f
 abbrev pub flow_of : List (Name × Flow) → Name → JobName → Option Flow
 flow_of flows f [] = named f flows
 flow_of flows f (k ∷ n) =
-    option_and_then (λ flow. option_and_then (λ s. option_and_then (λ g. flow_of flows g n) (first_flow s.activities)) (named k.0 flow.steps)) (named f flows)
+    option_and_then (λ flow. option_and_then (λ s. option_and_then (λ g. flow_of flows g n)
+    (first_flow s.activities)) (named k.0 flow.steps)) (named f flows)
 
 abbrev pub step_name : Document → JobName → ℕ → Name
 step_name d n k =
-    unwrap_or (option_and_then (λ (f : Flow). option_map (λ s. s.0) (slice_get f.steps k)) (flow_of d.flows d.main n)) []
+    unwrap_or (option_and_then (λ (f : Flow). option_map (λ s. s.0) (slice_get f.steps k))
+    (flow_of d.flows d.main n)) []
 
 abbrev pub opened_by : List JobName → Entry → Option JobName
 opened_by names (entry.Opened k i) = Some (name_at names k)
@@ -113,7 +115,8 @@ pub record IsLegalRun (gives : Giving) (r : Run) : Type 0 where
   pub legal : is_legal gives (meant gives r) (past_of r) ≡ true
   -- the names are distinct names of jobs
   pub distinct : all_distinct r.names ≡ true
-  pub jobs : list_all (λ n. list_any (λ (j : Job). same_job n j.name) (meant gives r).jobs) r.names ≡ true
+  pub jobs : list_all (λ n. list_any (λ (j : Job). same_job n j.name) (meant gives r).jobs) r.names
+      ≡ true
   -- every ready job has a number
   pub numbered : list_all (is_among r.names) (ready (meant gives r) (past_of r)) ≡ true
   -- instances are numbered from 1 in the order in which they were opened

@@ -29,4 +29,5 @@ module _ (gives : Giving) (r : Run) where
   -- no instance can end, and none can be opened
   abbrev pub NothingEnds : Type 0
   NothingEnds =
-      ((n : JobName) → is_next (history.ended n) ≡ false) × ((n : JobName) → is_next (history.opened n) ≡ false)
+      ((n : JobName) → is_next (history.ended n) ≡ false)
+      × ((n : JobName) → is_next (history.opened n) ≡ false)

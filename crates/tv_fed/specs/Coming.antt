@@ -27,14 +27,17 @@ pub record IsFrameOf (flows : List (Name × Flow)) (levels : Name → ℕ) (v : 
 
 abbrev pub NextMakesFrame : Type 0
 NextMakesFrame =
-    (flows : List (Name × Flow)) (levels : Name → ℕ) (v : View) (e : Event) → IsNextEvent flows levels v e
+    (flows : List (Name × Flow)) (levels : Name → ℕ) (v : View) (e : Event)
+    → IsNextEvent flows levels v e
     → (new : List (Name × Place)) → AreNewWith v e new → IsFrameOf flows levels (with_event v e new)
 
 -- so it is with a known job that is taken, once and before its result
 abbrev pub TakingMakesFrame : Type 0
 TakingMakesFrame =
-    (flows : List (Name × Flow)) (levels : Name → ℕ) (v : View) → IsFrame v → IsOfDepths flows levels v
-    → (s : Name) (q : Place) → In (s, q) v.jobs → has_result v.events s q ≡ false → is_taken v.events s q ≡ false
+    (flows : List (Name × Flow)) (levels : Name → ℕ) (v : View) → IsFrame v
+    → IsOfDepths flows levels v
+    → (s : Name) (q : Place) → In (s, q) v.jobs → has_result v.events s q ≡ false
+    → is_taken v.events s q ≡ false
     → IsFrameOf flows levels (with_event v (took s q) [])
 
 -- ---- the trees of outputs
@@ -42,9 +45,11 @@ TakingMakesFrame =
 -- the tree of any output of a step is whole where the step is
 abbrev pub TreesAreWholeWithSteps : Type 0
 TreesAreWholeWithSteps =
-    (flows : List (Name × Flow)) (levels : Name → ℕ) (v : View) → IsFrame v → IsOfDepths flows levels v → IsWired v.flow
+    (flows : List (Name × Flow)) (levels : Name → ℕ) (v : View) → IsFrame v
+    → IsOfDepths flows levels v → IsWired v.flow
     → (n : ℕ) (s : Name × Step) → slice_get v.flow.steps n ≡ Some s
-    → (k declared : ℕ) → whole (part_so_far s.0 k (levels s.0) declared v.events) ≡ is_whole_step levels v n
+    → (k declared : ℕ) → whole (part_so_far s.0 k (levels s.0) declared v.events)
+    ≡ is_whole_step levels v n
 
 -- the event can be put into the tree of any output of its step, and the tree with it tells from which length on prefixes of its
 -- place turn whole
@@ -53,12 +58,14 @@ pub record IsPutInto (levels : Name → ℕ) (v : View) (e : Event) (k declared 
   pub put : CanPut e (part_so_far (event_step e) k (levels (event_step e)) declared v.events)
   pub turns :
       IsFrom (newly levels v e) (event_place e)
-      (whole_from (event_place e) (part_so_far (event_step e) k (levels (event_step e)) declared (e ∷ v.events)))
+      (whole_from (event_place e)
+      (part_so_far (event_step e) k (levels (event_step e)) declared (e ∷ v.events)))
 
 abbrev pub EventsAreInTrees : Type 0
 EventsAreInTrees =
     (flows : List (Name × Flow)) (levels : Name → ℕ) (v : View) (e : Event)
-    → IsNextEvent flows levels v e → IsWired v.flow → (k declared : ℕ) → IsPutInto levels v e k declared
+    → IsNextEvent flows levels v e → IsWired v.flow → (k declared : ℕ)
+    → IsPutInto levels v e k declared
 
 -- what the event puts into the tree of the k-th output of its step, whose iteration has so many levels above the declared depth
 abbrev pub put_here : ℕ → ℕ → ℕ → Event → Partial Value → Partial Value
@@ -68,14 +75,16 @@ put_here k levels declared (fault_set s q d) p = arrive q (fault_value (record d
 put_here k levels declared (took s q) p = p
 
 -- it changes the trees of its step alone
-pub record ChangesOwnTrees (levels : Name → ℕ) (v : View) (e : Event) (n : ℕ) (s : Name) (k declared : ℕ) : Type 0 where
+pub record ChangesOwnTrees (levels : Name → ℕ) (v : View) (e : Event) (n : ℕ) (s : Name)
+    (k declared : ℕ) : Type 0 where
   pub own :
       (n == event_number v e) ≡ true
       → part_so_far s k (levels s) declared (e ∷ v.events)
       ≡ put_here k (levels s) declared e (part_so_far s k (levels s) declared v.events)
   pub other :
       (n == event_number v e) ≡ false
-      → part_so_far s k (levels s) declared (e ∷ v.events) ≡ part_so_far s k (levels s) declared v.events
+      → part_so_far s k (levels s) declared (e ∷ v.events)
+      ≡ part_so_far s k (levels s) declared v.events
 
 abbrev pub TreesGoOn : Type 0
 TreesGoOn =

@@ -24,7 +24,8 @@ use Rattle.tv_kept.specs.NextEvents.{IsNextEvent, is_whole_step}
 
 -- what the event's job gave at the output of that name of its step; an empty list where the event isn't a result
 abbrev pub given_at : Flow → Event → Name → Value
-given_at f (gave s q vs) o = unwrap_or (slice_get vs (position o (outputs_of f s))) (list tt no_trees)
+given_at f (gave s q vs) o = unwrap_or (slice_get vs (position o (outputs_of f s)))
+    (list tt no_trees)
 given_at f (events.closed s q n) o = list tt no_trees
 given_at f (fault_set s q e) o = list tt no_trees
 given_at f (took s q) o = list tt no_trees
@@ -39,7 +40,8 @@ event_number v e = position (event_step e) v.flow.steps
 
 -- whether a port of this step takes its feed at once, and has all of it with the event
 abbrev pub has_all_now : (Name → ℕ) → View → Event → Step → Name × StepInput → Bool
-has_all_now levels v e s i = newly levels v e [] && takes_whole_with v.flow (is_whole_step levels v) (event_number v e) s i
+has_all_now levels v e s i = newly levels v e []
+    && takes_whole_with v.flow (is_whole_step levels v) (event_number v e) s i
 
 -- a port as it takes what its feed delivers, where these are the steps of the instance
 abbrev pub port_of : View → List InstanceStep → Name × StepInput → Name × Ported
@@ -65,5 +67,6 @@ PortsAreFed =
     (flows : List (Name × Flow)) (levels : Name → ℕ) (v : View) (e : Event)
     → IsNextEvent flows levels v e → IsWired v.flow
     → (n : ℕ) (s : Name × Step) → slice_get v.flow.steps n ≡ Some s
-    → InAll (with_event v e []) (λ instance results fs. (f : InstanceStep) → In f fs → f.step.step ≡ s.0
+    → InAll (with_event v e []) (λ instance results fs. (f : InstanceStep) → In f fs
+    → f.step.step ≡ s.0
     → IsStepFed levels v e instance results fs s.1 f)

@@ -33,4 +33,5 @@ pub record IsCodeOf (e : Event) (c : code.Event) : Type 0 where
 abbrev pub EventsAreSeen : Type 0
 EventsAreSeen =
     (f : Flow) (e : Event) (c : code.Event) → IsCodeOf e c
-    → IsSeenAs f (given_at f e) (λ o. get_or c.faults.now (position o (outputs_of f (event_step e))) 0) c.whole_from e c
+    → IsSeenAs f (given_at f e)
+    (λ o. get_or c.faults.now (position o (outputs_of f (event_step e))) 0) c.whole_from e c

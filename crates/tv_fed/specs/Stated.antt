@@ -37,12 +37,15 @@ ToldGoesOn =
     → IsNextEvent flows levels v e → IsWired v.flow
     → (n : ℕ) (s : Name × Step) → slice_get v.flow.steps n ≡ Some s
     → (ts : List Told) → StepIsTold v s.0 ts
-    → (faults : Name → ℕ) (from : ℕ) (c : code.Event) → IsSeenAs v.flow (given_at v.flow e) faults from e c
+    → (faults : Name → ℕ) (from : ℕ) (c : code.Event)
+    → IsSeenAs v.flow (given_at v.flow e) faults from e c
     → IsFrom (newly levels v e) (event_place e) from
     → (ws : List Whole)
-    → AreWholeWith (from == 0) (is_whole_step levels v) (event_number v e) (ports_of_step (wiring v.flow) n) ws
+    → AreWholeWith (from == 0) (is_whole_step levels v) (event_number v e)
+    (ports_of_step (wiring v.flow) n) ws
     → (after : List Told)
-    → IsPermutation after (ts ++ (told_along v.flow n s.1 (event_step e) c ++ map (whole_telling (strategy_of s.1)) ws))
+    → IsPermutation after (ts
+    ++ (told_along v.flow n s.1 (event_step e) c ++ map (whole_telling (strategy_of s.1)) ws))
     → (new : List (Name × Place)) → StepIsTold (with_event v e new) s.0 after
 
 -- a step to which no wire leads from the event's step needs to be told nothing
@@ -63,7 +66,8 @@ pub record WholeGoesOn (levels : Name → ℕ) (v : View) (e : Event) (from : �
   pub after :
       (n : ℕ) (s : Name × Step) → slice_get v.flow.steps n ≡ Some s
       → whole_by (e ∷ v.events) s.0 (levels s.0) []
-      ≡ (if from == 0 then with_step (is_whole_step levels v) (event_number v e) n else is_whole_step levels v n)
+      ≡ (if from == 0 then with_step (is_whole_step levels v)
+      (event_number v e) n else is_whole_step levels v n)
 
 abbrev pub WholeStepsGoOn : Type 0
 WholeStepsGoOn =
@@ -75,7 +79,8 @@ WholeStepsGoOn =
 
 -- the event's step is a step of the flow, and it isn't marked whole yet where it turns whole; with the counters in which it is marked
 -- then, and no other step is more, the flow has its counters after the event
-pub record MarksGoOn (levels : Name → ℕ) (v : View) (e : Event) (from : ℕ) (x : Endings) : Type 0 where
+pub record MarksGoOn (levels : Name → ℕ) (v : View) (e : Event) (from : ℕ)
+    (x : Endings) : Type 0 where
   pub within : event_number v e < length v.flow.steps
   pub before : (from == 0) ≡ true → is_whole x (event_number v e) ≡ false
   pub after :

@@ -40,11 +40,13 @@ abbrev pub Passing : Giving → Document → History → (Job → Bool) → Type
 Passing gives d past passes = (passes ≡ has_offer gives d past) ⊎ (passes ≡ goes_on gives d past)
 
 -- what is found at the first seat, by rank and place, at which something is, is the first within the instance
-pub record IsFirstOfSeats (gives : Giving) (d : Document) (passes : Job → Bool) (I : JobName) (v : View) (ss : List Seat)
+pub record IsFirstOfSeats (gives : Giving) (d : Document) (passes : Job → Bool) (I : JobName)
+    (v : View) (ss : List Seat)
     (found : ℕ → Option Job) : Type 0 where
   pub first :
       (n : ℕ) (s : Seat) (j : Job) → slice_get ss n ≡ Some s → found n ≡ Some j
-      → ((m : ℕ) (t : Seat) → slice_get ss m ≡ Some t → is_some (found m) ≡ true → ComesNotBefore v t s)
+      → ((m : ℕ) (t : Seat) → slice_get ss m ≡ Some t → is_some (found m) ≡ true
+      → ComesNotBefore v t s)
       → IsFirst gives d passes I j
   pub none :
       ((n : ℕ) (s : Seat) → slice_get ss n ≡ Some s → found n ≡ None)
@@ -56,7 +58,8 @@ FirstBySeats =
     (i : ℕ) (x : Instance) (v : View) → IsAt xs i x → x.view ≡ Some v
     → (passes : Job → Bool) → Passing gives d past passes
     → (found : ℕ → Option Job)
-    → ((n : ℕ) (s : Seat) (j : Job) → IsJobAt gives d xs i n x s j → IsFoundAt gives d passes past j (found n))
+    → ((n : ℕ) (s : Seat) (j : Job) → IsJobAt gives d xs i n x s j
+    → IsFoundAt gives d passes past j (found n))
     → IsFirstOfSeats gives d passes x.name v x.seats found)
 
 -- the first within the main instance is the first of all
@@ -68,7 +71,8 @@ FirstOfAll =
 
 -- the two tests: who may go on and has a next ask is offered, who has none can open its flow
 pub record GoesOnBy (gives : Giving) (d : Document) (past : History) (j : Job) : Type 0 where
-  pub offered : is_some (next_ask past j) ≡ true → has_offer gives d past j ≡ may_go_on (meaning gives d) past j
+  pub offered : is_some (next_ask past j) ≡ true
+      → has_offer gives d past j ≡ may_go_on (meaning gives d) past j
   pub not_offered : is_some (next_ask past j) ≡ false → has_offer gives d past j ≡ false
   pub goes_on_is : goes_on gives d past j ≡ may_go_on (meaning gives d) past j
 

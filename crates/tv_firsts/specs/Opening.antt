@@ -29,7 +29,8 @@ BindsFault v x b =
 
 -- a waiting job of the instance is ready, by its frame
 abbrev pub IsReadySeat : (Flow → Name → ℕ) → Instance → View → Seat → Type 0
-IsReadySeat levels x v s = (is_waiting s.stage ≡ true) × IsReadyJob (levels x.flow) v (spot_of x.flow.steps s)
+IsReadySeat levels x v s = (is_waiting s.stage ≡ true)
+    × IsReadyJob (levels x.flow) v (spot_of x.flow.steps s)
 
 -- of an open instance nothing can be settled, by its frame and seats: no ready job binds a fault, no list is closed, no fault
 -- passed, and it doesn't end
@@ -61,8 +62,10 @@ OpeningIsLegal =
 -- no entry but of a try or a recall is legal
 pub record SettlesNothing (gives : Giving) (d : Document) (past : History) : Type 0 where
   pub none_bounces : (n : JobName) → is_legal_after gives (meaning gives d) past (bounced n) ≡ false
-  pub none_closes : (n : JobName) (k : ℕ) → is_legal_after gives (meaning gives d) past (closed n k) ≡ false
-  pub none_passes : (n : JobName) → is_legal_after gives (meaning gives d) past (fault_passed n) ≡ false
+  pub none_closes : (n : JobName) (k : ℕ)
+      → is_legal_after gives (meaning gives d) past (closed n k) ≡ false
+  pub none_passes : (n : JobName)
+      → is_legal_after gives (meaning gives d) past (fault_passed n) ≡ false
   pub none_ends : (n : JobName) → is_legal_after gives (meaning gives d) past (ended n) ≡ false
   pub none_opens : (n : JobName) → is_legal_after gives (meaning gives d) past (opened n) ≡ false
 
@@ -72,7 +75,8 @@ NothingLeft =
     (gives : Giving) (d : Document) (past : History)
     → IsLegal gives d past
     → IsQuiet gives d past
-    → ((j : Job) → find (goes_on gives d past) (all_jobs gives d) ≡ Some j → is_some (next_ask past j) ≡ true)
+    → ((j : Job) → find (goes_on gives d past) (all_jobs gives d) ≡ Some j
+    → is_some (next_ask past j) ≡ true)
     → SettlesNothing gives d past
 
 -- ---- the end

@@ -30,10 +30,12 @@ pub record HasSeat (gives : Giving) (d : Document) (xs : Instances) (j : Job) : 
 abbrev pub JobsHaveSeats : Type 0
 JobsHaveSeats =
     InEveryForest (λ gives d levels past xs.
-    (j : Job) → In j (meaning gives d).jobs → stands_anywhere (meaning gives d) past j ≡ true → HasSeat gives d xs j)
+    (j : Job) → In j (meaning gives d).jobs → stands_anywhere (meaning gives d) past j ≡ true
+    → HasSeat gives d xs j)
 
 -- the seat has a job, of which it is the only one
-pub record IsOnlySeat (gives : Giving) (d : Document) (xs : Instances) (i n : ℕ) (x : Instance) (s : Seat) : Type 0 where
+pub record IsOnlySeat (gives : Giving) (d : Document) (xs : Instances) (i n : ℕ) (x : Instance)
+    (s : Seat) : Type 0 where
   pub job : Job
   pub is_its : IsJobAt gives d xs i n x s job
   pub only :
@@ -42,25 +44,31 @@ pub record IsOnlySeat (gives : Giving) (d : Document) (xs : Instances) (i n : �
 abbrev pub SeatsHaveJobs : Type 0
 SeatsHaveJobs =
     InEveryForest (λ gives d levels past xs.
-    (i n : ℕ) (x : Instance) (s : Seat) → IsAt xs i x → slice_get x.seats n ≡ Some s → IsOnlySeat gives d xs i n x s)
+    (i n : ℕ) (x : Instance) (s : Seat) → IsAt xs i x → slice_get x.seats n ≡ Some s
+    → IsOnlySeat gives d xs i n x s)
 
 -- ---- how many
 
 -- each job that counts has a seat, and counts where its seat does
-pub record IsToldBySeats (gives : Giving) (d : Document) (xs : Instances) (counts : Job → Bool) (seat_counts : Seat → Bool)
+pub record IsToldBySeats (gives : Giving) (d : Document) (xs : Instances) (counts : Job → Bool)
+    (seat_counts : Seat → Bool)
     : Type 0 where
   pub seated : (j : Job) → In j (meaning gives d).jobs → counts j ≡ true → HasSeat gives d xs j
   pub alike :
-      (i n : ℕ) (x : Instance) (s : Seat) (j : Job) → IsJobAt gives d xs i n x s j → counts j ≡ seat_counts s
+      (i n : ℕ) (x : Instance) (s : Seat) (j : Job) → IsJobAt gives d xs i n x s j
+      → counts j ≡ seat_counts s
 
 abbrev pub CountsBySeats : Type 0
 CountsBySeats =
     InEveryForest (λ gives d levels past xs.
     (counts : Job → Bool) (seat_counts : Seat → Bool) → IsToldBySeats gives d xs counts seat_counts
-    → count_by counts (meaning gives d).jobs ≡ sum_by (λ (x : Instance). count_by seat_counts x.seats) xs)
+    → count_by counts (meaning gives d).jobs
+    ≡ sum_by (λ (x : Instance). count_by seat_counts x.seats) xs)
 
-pub record IsCounted (gives : Giving) (d : Document) (past : History) (xs : Instances) : Type 0 where
-  pub out : histories.out_count (meaning gives d) past ≡ sum_by (λ (x : Instance). out_count x.seats) xs
+pub record IsCounted (gives : Giving) (d : Document) (past : History)
+    (xs : Instances) : Type 0 where
+  pub out : histories.out_count (meaning gives d) past
+      ≡ sum_by (λ (x : Instance). out_count x.seats) xs
   pub settled :
       length (filter (is_settled past) (meaning gives d).jobs)
       ≡ sum_by (λ (x : Instance). count_by (λ s. is_over s.stage) x.seats) xs
@@ -79,7 +87,8 @@ abbrev pub JobsByNumbers : Type 0
 JobsByNumbers =
     InEveryForest (λ gives d levels past xs.
     (ks : List (ℕ × ℕ)) → AreNumbered xs ks
-    → (k i n : ℕ) (x : Instance) (s : Seat) (j : Job) → slice_get ks k ≡ Some (i, n) → IsJobAt gives d xs i n x s j
+    → (k i n : ℕ) (x : Instance) (s : Seat) (j : Job) → slice_get ks k ≡ Some (i, n)
+    → IsJobAt gives d xs i n x s j
     → IsJobOfNumber gives d (names_by xs ks) k j)
 
 -- each instance of xs is there under its number, of the same name and flow, with the same jobs in its seats
@@ -93,7 +102,8 @@ KeepsSpots xs ys =
 -- then the names of numbers stay: with every entry
 abbrev pub NamesStay : Type 0
 NamesStay =
-    (xs ys : Instances) (ks : List (ℕ × ℕ)) → AreNumbered xs ks → KeepsSpots xs ys → names_by ys ks ≡ names_by xs ks
+    (xs ys : Instances) (ks : List (ℕ × ℕ)) → AreNumbered xs ks → KeepsSpots xs ys
+    → names_by ys ks ≡ names_by xs ks
 
 -- the flow of an instance is the one that its name leads to: so the steps of entries have their names
 abbrev pub FlowsByNames : Type 0

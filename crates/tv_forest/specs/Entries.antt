@@ -58,14 +58,16 @@ Starting =
 -- ---- in every run
 
 -- P holds in every run
-abbrev pub InEveryForest : (Giving → Document → (Flow → Name → ℕ) → History → Instances → Type 0) → Type 0
+abbrev pub InEveryForest : (Giving → Document → (Flow → Name → ℕ) → History → Instances → Type 0)
+    → Type 0
 InEveryForest P =
     (gives : Giving) (d : Document) (levels : Flow → Name → ℕ) (past : History) (xs : Instances)
     → Stand gives d levels past xs → P gives d levels past xs
 
 -- of each job with a seat in an open instance, which was told so much
 abbrev pub AtEachJob :
-    (Giving → Document → (Flow → Name → ℕ) → History → Instances → ℕ → ℕ → Instance → Seat → Job → View → Type 0) → Type 0
+    (Giving → Document → (Flow → Name → ℕ) → History → Instances → ℕ → ℕ → Instance → Seat → Job
+    → View → Type 0) → Type 0
 AtEachJob P =
     InEveryForest (λ gives d levels past xs.
     (i n : ℕ) (x : Instance) (s : Seat) (j : Job) (v : View)
@@ -80,7 +82,8 @@ pub record GoesOnAs (x y : Instance) : Type 0 where
   pub name : y.name ≡ x.name
   pub flow : y.flow ≡ x.flow
   pub as_open : is_some y.view ≡ is_some x.view
-  pub inputs : option_map (λ (v : View). v.inputs) y.view ≡ option_map (λ (v : View). v.inputs) x.view
+  pub inputs : option_map (λ (v : View). v.inputs) y.view
+      ≡ option_map (λ (v : View). v.inputs) x.view
   pub seats :
       (n : ℕ) (s : Seat) → slice_get x.seats n ≡ Some s
       → (t : Seat) × (slice_get y.seats n ≡ Some t) × (t.step ≡ s.step) × (t.place ≡ s.place)
@@ -160,7 +163,8 @@ LevelSettling =
     InEveryForest (λ gives d levels past xs.
     (i : ℕ) (x : Instance) (v w : View) (e : Event) (ns : List Seat)
     → IsAt xs i x → x.view ≡ Some v → CanSettle v e → GoesOn d (levels x.flow) v w e ns
-    → Stand gives d levels (entry_of x.name e ∷ past) (with_instance xs i (told x w (x.seats ++ ns))))
+    → Stand gives d levels (entry_of x.name e ∷ past)
+    (with_instance xs i (told x w (x.seats ++ ns))))
 
 -- all that is out, of whatever instance, is recalled
 abbrev pub Recalling : Type 0
@@ -172,7 +176,8 @@ Recalling =
 -- ---- openings
 
 -- a new instance, of the flow that the job opens, on what the job binds
-pub record IsFresh (d : Document) (levels : Flow → Name → ℕ) (j : Job) (y : Instance) (w : View) : Type 0 where
+pub record IsFresh (d : Document) (levels : Flow → Name → ℕ) (j : Job) (y : Instance)
+    (w : View) : Type 0 where
   pub name : y.name ≡ j.name
   pub view : y.view ≡ Some w
   pub flow : w.flow ≡ y.flow
@@ -180,7 +185,8 @@ pub record IsFresh (d : Document) (levels : Flow → Name → ℕ) (j : Job) (y 
   pub new : IsNew d (levels y.flow) w y.seats
 
 -- the job that opens is a waiting one, of which its frame is told, or one that was tried before
-abbrev pub IsTakenFor : Document → (Flow → Name → ℕ) → Instance → Seat → View → View → Stage → Type 0
+abbrev pub IsTakenFor : Document → (Flow → Name → ℕ) → Instance → Seat → View → View → Stage
+    → Type 0
 IsTakenFor d levels x s v w stage.Waiting = GoesOn d (levels x.flow) v w (took (spot_of x.flow.steps s).0 s.place) []
 IsTakenFor d levels x s v w (stage.Aside a) = w ≡ v
 IsTakenFor d levels x s v w (stage.Out a t) = ⊥

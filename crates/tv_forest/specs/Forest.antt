@@ -112,7 +112,8 @@ module _ (gives : Giving) (d : Document) where
 -- job k of the run is a job of an instance: number n of instance i
 abbrev pub name_of : Instances → ℕ × ℕ → JobName
 name_of xs k =
-    option_map_or (λ (x : Instance). option_map_or (λ s. x.name ++ spot_of x.flow.steps s ∷ []) (slice_get x.seats k.1) [])
+    option_map_or (λ (x : Instance). option_map_or (λ s. x.name ++ spot_of x.flow.steps s ∷ [])
+    (slice_get x.seats k.1) [])
     (slice_get xs k.0) []
 
 -- each seat has one number

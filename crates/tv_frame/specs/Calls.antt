@@ -33,7 +33,8 @@ use Rattle.tv_frame.specs.Tables.{levels_in, trees_of}
 -- ---- the start
 
 -- the flow of a plan agrees in its depths, and its inputs get values of the depths that they declare
-pub record CanStart (flows : List (Name × Flow)) (plan : FlowPlan) (values : List Value) : Type 0 where
+pub record CanStart (flows : List (Name × Flow)) (plan : FlowPlan)
+    (values : List Value) : Type 0 where
   pub agrees : FlowAgrees flows (flow_view plan.flow)
   pub right : HaveTheseDepths (map (λ x. x.1) (flow_view plan.flow).inputs) values
 
@@ -56,10 +57,12 @@ Brings v e n =
 
 -- the frame has one event more
 abbrev pub GoesOn : List (Name × Flow) → FlowPlan → Nodes → Frame → View → Event → Type 0
-GoesOn flows plan pool f v e = (w : View) × (n : ℕ) × Comes v w e n × Brings v e n × Keeps flows plan pool f w
+GoesOn flows plan pool f v e = (w : View) × (n : ℕ) × Comes v w e n × Brings v e n
+    × Keeps flows plan pool f w
 
 -- the frame is ready for these as the result of the ready job of that number, at place q of step n, which is s: it is bounced
-pub record IsReadyToBounce (flows : List (Name × Flow)) (plan : FlowPlan) (pool : Nodes) (f : Frame) (v : View)
+pub record IsReadyToBounce (flows : List (Name × Flow)) (plan : FlowPlan) (pool : Nodes) (f : Frame)
+    (v : View)
     (number n : ℕ) (s : Name × Step) (q : Place) (vs : List Value) : Type 0 where
   pub ready : IsReadyFor flows plan pool f v n s (gave s.0 q vs)
   pub job : numbered v number ≡ Some (s.0, q)
@@ -78,10 +81,12 @@ Settles s e (list_at q m) = e ≡ events.closed s.0 q m
 Settles s e (fault_at q l) = (d : ErrorDoc) × (e ≡ fault_set s.0 q d)
 
 -- the pieces of a passed fault, one for each tree of its step: the same document with the depth that the output has there
-pub record ArePassed (v : View) (s : Name × Step) (q : Place) (d : ErrorDoc) (ps : List Piece) : Type 0 where
+pub record ArePassed (v : View) (s : Name × Step) (q : Place) (d : ErrorDoc)
+    (ps : List Piece) : Type 0 where
   pub sound : AreSound ps
   pub many : length ps ≡ trees_of s
-  pub each : (k : ℕ) → k < trees_of s → slice_get (piece_values ps) k ≡ Some (event_value v s (fault_set s.0 q d) k)
+  pub each : (k : ℕ) → k < trees_of s
+      → slice_get (piece_values ps) k ≡ Some (event_value v s (fault_set s.0 q d) k)
 
 -- what a room call has put aside for `settle`: the place, and of a fault the pieces
 abbrev pub HasPieces : View → Name × Step → Event → Option (List Piece) → Type 0
@@ -92,7 +97,8 @@ HasPieces v s (fault_set t q d) (Some ps) = ArePassed v s q d ps
 HasPieces v s (took t q) ps = Unit {0}
 
 -- the frame is ready to settle the thing that waits last, of step n, which is s, by event e
-pub record IsReadyToSettle (flows : List (Name × Flow)) (plan : FlowPlan) (pool : Nodes) (f : Frame) (v : View) (n : ℕ)
+pub record IsReadyToSettle (flows : List (Name × Flow)) (plan : FlowPlan) (pool : Nodes) (f : Frame)
+    (v : View) (n : ℕ)
     (s : Name × Step) (e : Event) : Type 0 where
   pub ready : IsReadyFor flows plan pool f v n s e
   pub outcome : Outcome

@@ -20,4 +20,5 @@ fixed_value c = unwrap_or c (list tt no_trees)
 -- what the ports are told with these values of the inputs, the last port first
 abbrev pub ports_start : List Value → (ℕ → Option Value) → Strategy → List Port → List Told
 ports_start values constants s ps =
-    flat_map (λ (x : ℕ × Port). numbered_port_start values (fixed_value (constants x.0)) s x.1) (reverse (numbered 0 ps))
+    flat_map (λ (x : ℕ × Port). numbered_port_start values (fixed_value (constants x.0)) s x.1)
+    (reverse (numbered 0 ps))

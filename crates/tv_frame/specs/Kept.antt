@@ -56,7 +56,8 @@ declared_at s k = slice_index_or (map (λ o. o.1) s.1.outputs) k 0
 abbrev pub AreTrees : View → List (Partial Value) → Type 0
 AreTrees v trees =
     (n : ℕ) (s : Name × Step) → IsStepAt v n s → (k : ℕ) → k < trees_of s
-    → tree_in trees (first_tree v.flow.steps n + k) ≡ part_so_far s.0 k (levels_in v.flow s.0) (declared_at s k) v.events
+    → tree_in trees (first_tree v.flow.steps n + k)
+    ≡ part_so_far s.0 k (levels_in v.flow s.0) (declared_at s k) v.events
 
 -- ---- matchers
 
@@ -106,9 +107,12 @@ pub record AreIdle (v : View) (intakes : Intakes) (idle : Idles) : Type 0 where
   pub known : idle.known ≡ length (known_jobs intakes)
   pub as_many : length idle.steps ≡ length v.flow.steps
   pub levels :
-      (n : ℕ) (s : Name × Step) → IsStepAt v n s → (of_step idle.steps n).levels ≡ levels_in v.flow s.0
-  pub good : (n : ℕ) (j : ℕ × Place) → In j (of_step idle.steps n).good → is_faulty_now intakes (n, j.1) ≡ false
-  pub faulty : (n : ℕ) (j : ℕ × Place) → In j (of_step idle.steps n).faulty → is_faulty_now intakes (n, j.1) ≡ true
+      (n : ℕ) (s : Name × Step) → IsStepAt v n s
+      → (of_step idle.steps n).levels ≡ levels_in v.flow s.0
+  pub good : (n : ℕ) (j : ℕ × Place) → In j (of_step idle.steps n).good
+      → is_faulty_now intakes (n, j.1) ≡ false
+  pub faulty : (n : ℕ) (j : ℕ × Place) → In j (of_step idle.steps n).faulty
+      → is_faulty_now intakes (n, j.1) ≡ true
 
 -- ---- the flow's outputs
 
@@ -120,7 +124,8 @@ AreOuts v ended (Some ps) = (ended ≡ true) × AreSound ps × AreOutputs v (pie
 -- ---- all of it
 
 -- the frame f of a plan, whose nodes stand in the pool, keeps of its instance what the view says
-pub record Keeps (flows : List (Name × Flow)) (plan : FlowPlan) (pool : Nodes) (f : Frame) (v : View) : Type 0 where
+pub record Keeps (flows : List (Name × Flow)) (plan : FlowPlan) (pool : Nodes) (f : Frame)
+    (v : View) : Type 0 where
   pub flow_is : v.flow ≡ flow_view plan.flow
   pub frame : IsFrame v
   pub of_depths : IsOfDepths flows (levels_in v.flow) v

@@ -13,7 +13,8 @@ use Rattle.tv_frame.specs.Tables.{levels_in}
 
 -- all steps are whole, by what was told
 abbrev pub AllAreWhole : View → Type 0
-AllAreWhole w = (n : ℕ) (s : Name × Step) → IsStepAt w n s → whole_by w.events s.0 (levels_in w.flow s.0) [] ≡ true
+AllAreWhole w = (n : ℕ) (s : Name × Step) → IsStepAt w n s
+    → whole_by w.events s.0 (levels_in w.flow s.0) [] ≡ true
 
 -- where pieces arrive there are so many
 abbrev pub HasAsMany : Change → ℕ → Type 0

@@ -57,7 +57,8 @@ IsToldWith v e s true (Some m) = IsToldThat v e s ((matching m).told ++ (matchin
 IsToldWith v e s false (Some m) = IsToldThat v e s (matching m).told
 
 -- event e of step n, which is s, may come next, and showing it needs nothing more
-pub record IsReadyFor (flows : List (Name × Flow)) (plan : FlowPlan) (pool : Nodes) (f : Frame) (v : View) (n : ℕ)
+pub record IsReadyFor (flows : List (Name × Flow)) (plan : FlowPlan) (pool : Nodes) (f : Frame)
+    (v : View) (n : ℕ)
     (s : Name × Step) (e : Event) : Type 0 where
   pub keeps : Keeps flows plan pool f v
   pub next : IsNextEvent flows (levels_in v.flow) v e
@@ -71,7 +72,8 @@ pub record IsReadyFor (flows : List (Name × Flow)) (plan : FlowPlan) (pool : No
       (c : ℕ) (t : Name × Step) → IsStepAt v c t
       → IsToldWith v e t (is_one_of f.spread.touched.items c) (matcher_at f.intakes c)
   pub show : CanShowAll f.spread.touched.items f.intakes f.idle
-  pub outs : AreOuts (with_event v e []) (has_ended_now (levels_in v.flow) (with_event v e [])) f.ahead.outs
+  pub outs : AreOuts (with_event v e [])
+      (has_ended_now (levels_in v.flow) (with_event v e [])) f.ahead.outs
 
 -- the job at a place of a step may give these: it is known, gave nothing yet, and they have the declared depths
 pub record MayGive (v : View) (s : Name × Step) (q : Place) (vs : List Value) : Type 0 where
@@ -82,7 +84,8 @@ pub record MayGive (v : View) (s : Name × Step) (q : Place) (vs : List Value) :
 -- ---- an event as the code has it
 
 -- the code has event e, which may come next, as c: it happened at step n, which is s
-pub record IsComing (flows : List (Name × Flow)) (v : View) (n : ℕ) (s : Name × Step) (e : Event) (c : code.Event)
+pub record IsComing (flows : List (Name × Flow)) (v : View) (n : ℕ) (s : Name × Step) (e : Event)
+    (c : code.Event)
     : Type 0 where
   pub next : IsNextEvent flows (levels_in v.flow) v e
   pub at : IsStepAt v n s
@@ -92,7 +95,8 @@ pub record IsComing (flows : List (Name × Flow)) (v : View) (n : ℕ) (s : Name
   pub turns : IsFrom (newly (levels_in v.flow) v e) (event_place e) c.whole_from
   pub hold :
       (o : Name) → has_name (outputs_of v.flow (event_step e)) o ≡ true
-      → HoldsFaults (event_place e) (tree_of v.flow (levels_in v.flow) v.inputs (e ∷ v.events) (event_step e) o) (faults o)
+      → HoldsFaults (event_place e)
+      (tree_of v.flow (levels_in v.flow) v.inputs (e ∷ v.events) (event_step e) o) (faults o)
   pub outputs : length c.faults.now ≡ length s.1.outputs
   pub pieces : (k : ℕ) → k < length s.1.outputs → HasPiece c.happened k
 
@@ -129,11 +133,13 @@ IsChangeOf v s (gave t q vs) (Arrive ps) = AreSound ps.now × (vs ≡ piece_valu
 IsChangeOf v s (events.closed t q m) (Close n) = m ≡ n
 IsChangeOf v s (fault_set t q d) (Arrive ps) =
     AreSound ps.now
-    × ((k : ℕ) → k < length s.1.outputs → slice_get (piece_values ps.now) k ≡ Some (event_value v s (fault_set t q d) k))
+    × ((k : ℕ) → k < length s.1.outputs
+    → slice_get (piece_values ps.now) k ≡ Some (event_value v s (fault_set t q d) k))
 IsChangeOf v s e c = ⊥
 
 -- event e, which may come next, is laid over the trees of its step s, and prefixes of its place turn whole from that length on
-pub record IsLaidOver (flows : List (Name × Flow)) (v : View) (s : Name × Step) (e : Event) (over : Over) (from : ℕ)
+pub record IsLaidOver (flows : List (Name × Flow)) (v : View) (s : Name × Step) (e : Event)
+    (over : Over) (from : ℕ)
     : Type 0 where
   pub next : IsNextEvent flows (levels_in v.flow) v e
   pub at : IsStepAt v over.step s

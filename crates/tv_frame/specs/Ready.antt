@@ -19,14 +19,16 @@ HasIdle v s true = (n : ℕ) × (q : Place) × IsIdleThere v s n q
 HasIdle v s false = (n : ℕ) (q : Place) → IsIdleThere v s n q → ⊥
 
 -- the job of that number is a ready one at this place of the step, and so is said of what it binds
-pub record IsReadyWith (levels : Name → ℕ) (v : View) (says : Place → Bool) (s : Name) (b : Bool) (n : ℕ) (q : Place)
+pub record IsReadyWith (levels : Name → ℕ) (v : View) (says : Place → Bool) (s : Name) (b : Bool)
+    (n : ℕ) (q : Place)
     : Type 0 where
   pub job : numbered v n ≡ Some (s, q)
   pub ready : IsReadyJob levels v (s, q)
   pub said : says q ≡ b
 
 -- the job of that number is one of these, and none stands before it
-pub record IsFirstWith (levels : Name → ℕ) (v : View) (says : Place → Bool) (s : Name) (b : Bool) (n : ℕ)
+pub record IsFirstWith (levels : Name → ℕ) (v : View) (says : Place → Bool) (s : Name) (b : Bool)
+    (n : ℕ)
     : Type 0 where
   pub place : Place
   pub is : IsReadyWith levels v says s b n place

@@ -101,9 +101,12 @@ pub record IsShown (w : Wiring) (n : ℕ) (f g : Frame) : Type 0 where
   pub faulty_inputs : g.faulty_inputs.items ≡ f.faulty_inputs.items
   pub outputs : g.outputs ≡ f.outputs
   pub made : MakeAll f.spread.touched.items f.intakes g.intakes
-  pub jobs : known_jobs g.intakes ≡ known_jobs f.intakes ++ new_jobs f.intakes f.spread.touched.items
-  pub waiting : waiting_things g.intakes ≡ waiting_things f.intakes ++ new_things f.intakes f.spread.touched.items
-  pub idle : g.idle ≡ with_all_new (binds_fault f.intakes) (new_jobs f.intakes f.spread.touched.items) f.idle
+  pub jobs : known_jobs g.intakes ≡ known_jobs f.intakes
+      ++ new_jobs f.intakes f.spread.touched.items
+  pub waiting : waiting_things g.intakes ≡ waiting_things f.intakes
+      ++ new_things f.intakes f.spread.touched.items
+  pub idle : g.idle ≡ with_all_new (binds_fault f.intakes)
+      (new_jobs f.intakes f.spread.touched.items) f.idle
   pub intaken : AreIntaken g.intakes
   pub marked : IsMarked f.ahead.whole w n f.endings g.endings
   pub outs : g.outs ≡ outs_after f.ahead.outs f.outs

@@ -57,10 +57,14 @@ pub record AllAreIdle (intakes : Intakes) (idle : Idles) : Type 0 where
   pub known : idle.known ≡ length (known_jobs intakes)
   pub good_kept : (c : ℕ) → IsKept (λ n. false) idle.known (of_step idle.steps c).good
   pub faulty_kept : (c : ℕ) → IsKept (λ n. false) idle.known (of_step idle.steps c).faulty
-  pub all : (n : ℕ) (x : ℕ × Place) → slice_get (known_jobs intakes) n ≡ Some x → IsIdle idle.steps x.0 (n, x.1)
-  pub none_else : (k : ℕ) (j : ℕ × Place) → IsIdle idle.steps k j → slice_get (known_jobs intakes) j.0 ≡ Some (k, j.1)
-  pub good : (n : ℕ) (j : ℕ × Place) → In j (of_step idle.steps n).good → is_faulty_now intakes (n, j.1) ≡ false
-  pub faulty : (n : ℕ) (j : ℕ × Place) → In j (of_step idle.steps n).faulty → is_faulty_now intakes (n, j.1) ≡ true
+  pub all : (n : ℕ) (x : ℕ × Place) → slice_get (known_jobs intakes) n ≡ Some x
+      → IsIdle idle.steps x.0 (n, x.1)
+  pub none_else : (k : ℕ) (j : ℕ × Place) → IsIdle idle.steps k j
+      → slice_get (known_jobs intakes) j.0 ≡ Some (k, j.1)
+  pub good : (n : ℕ) (j : ℕ × Place) → In j (of_step idle.steps n).good
+      → is_faulty_now intakes (n, j.1) ≡ false
+  pub faulty : (n : ℕ) (j : ℕ × Place) → In j (of_step idle.steps n).faulty
+      → is_faulty_now intakes (n, j.1) ≡ true
 
 -- what each step is told at the start
 abbrev pub at_start : Flow → List (Name × Value) → ℕ → Step → List Told
@@ -71,20 +75,25 @@ abbrev pub but_at : ℕ → (ℕ → Step → List Told) → ℕ → Step → Li
 but_at k tells n s = if n == k then [] else tells n s
 
 -- so many of the flow's steps were told that: all lists and faults that follow wait, and all jobs are idle
-pub record HaveBegun (f : Flow) (tells : ℕ → Step → List Told) (count : ℕ) (intakes : Intakes) (idle : Idles) : Type 0 where
+pub record HaveBegun (f : Flow) (tells : ℕ → Step → List Told) (count : ℕ) (intakes : Intakes)
+    (idle : Idles) : Type 0 where
   pub intaken : AreIntaken intakes
   pub as_many : length intakes.matchers.items ≡ count
   pub matchers :
-      (n : ℕ) (s : Name × Step) → n < count → slice_get f.steps n ≡ Some s → HasBegun f s.1 (tells n s.1) (matcher_at intakes n)
+      (n : ℕ) (s : Name × Step) → n < count → slice_get f.steps n ≡ Some s
+      → HasBegun f s.1 (tells n s.1) (matcher_at intakes n)
   pub jobs_are :
       known_jobs intakes
-      ≡ flat_map (λ n. map (λ q. (n, q)) (job_places (followed_at intakes n))) (range_with_len 0 count)
+      ≡ flat_map (λ n. map (λ q. (n, q)) (job_places (followed_at intakes n)))
+      (range_with_len 0 count)
   pub waiting_are :
       waiting_things intakes
-      ≡ flat_map (λ n. map (λ o. (n, o)) (others_among (followed_at intakes n))) (range_with_len 0 count)
+      ≡ flat_map (λ n. map (λ o. (n, o)) (others_among (followed_at intakes n)))
+      (range_with_len 0 count)
   pub steps : length idle.steps ≡ count
   pub levels :
-      (n : ℕ) (s : Name × Step) → n < count → slice_get f.steps n ≡ Some s → (of_step idle.steps n).levels ≡ levels_at f s.1
+      (n : ℕ) (s : Name × Step) → n < count → slice_get f.steps n ≡ Some s
+      → (of_step idle.steps n).levels ≡ levels_at f s.1
   pub idle_are : AllAreIdle intakes idle
 
 -- ---- all of it
@@ -92,10 +101,12 @@ pub record HaveBegun (f : Flow) (tells : ℕ → Step → List Told) (count : �
 pub record AreParts (plan : FlowPlan) (inputs : List Piece) (p : Parts) : Type 0 where
   pub tables_are : AreTables (flow_view plan.flow) p.tables
   pub marked : p.faulty_inputs.items ≡ map holds_fault (piece_values inputs)
-  pub endings_are : AreEndingsOf (flow_view plan.flow) (levels_in (flow_view plan.flow)) [] p.endings
+  pub endings_are : AreEndingsOf (flow_view plan.flow)
+      (levels_in (flow_view plan.flow)) [] p.endings
   pub none_whole : p.endings.whole.items ≡ replicate (length (flow_view plan.flow).steps) false
   pub begun :
-      HaveBegun (flow_view plan.flow) (at_start (flow_view plan.flow) (given_values plan inputs)) (length (flow_view plan.flow).steps) p.intakes p.idle
+      HaveBegun (flow_view plan.flow) (at_start (flow_view plan.flow) (given_values plan inputs))
+      (length (flow_view plan.flow).steps) p.intakes p.idle
 
 -- the flow's outputs are there where it has no steps: an instance on these values has ended with them, told nothing
 abbrev pub AreFirstOuts : FlowPlan → List Value → Option (List Piece) → Type 0

@@ -52,7 +52,8 @@ step_starts f s = starts (number_of (mismatches f s.1)) 0 (strategy_of s.1)
 -- each tree, and constants
 pub record AreTables (f : Flow) (t : Tables) : Type 0 where
   pub firsts_are : t.firsts.items ≡ map (first_tree f.steps) (range_with_len 0 (length f.steps))
-  pub starts_are : map (λ is. is.items) t.starts.items ≡ map (λ s. map (λ x. x.1) (step_starts f s)) f.steps
+  pub starts_are : map (λ is. is.items) t.starts.items
+      ≡ map (λ s. map (λ x. x.1) (step_starts f s)) f.steps
   pub order_is : t.order.items ≡ by_falling_rank f
   pub levels_are : t.levels.items ≡ map (λ s. levels_in f s.0) f.steps
   pub depths_are : t.depths.items ≡ tree_depths f

@@ -190,7 +190,8 @@ impl Frame {
             false result }
         ensures binds { (flows : List (Name × Flow)) (v : View) (s : Name × Step)
             → Keeps flows plan.now pool.now self.now v → IsStepAt v step s
-            → IfSome result (λ n. (j : Name × Place) → numbered v n ≡ Some j → HoldsError v j false) }
+            → IfSome result (λ n. (j : Name × Place) → numbered v n ≡ Some j
+            → HoldsError v j false) }
         ensures few { IfSome result (λ n. n < 2 ^ 32) }
     {
         if !self.may_settle(plan, pool, step) {
@@ -212,7 +213,8 @@ impl Frame {
             true result }
         ensures binds { (flows : List (Name × Flow)) (v : View) (s : Name × Step)
             → Keeps flows plan.now pool.now self.now v → IsStepAt v step s
-            → IfSome result (λ n. (j : Name × Place) → numbered v n ≡ Some j → HoldsError v j true) }
+            → IfSome result (λ n. (j : Name × Place) → numbered v n ≡ Some j
+            → HoldsError v j true) }
         ensures few { IfSome result (λ n. n < 2 ^ 32) }
     {
         if !self.may_settle(plan, pool, step) {
@@ -278,10 +280,15 @@ impl Frame {
     /// Whether a known job binds these values, port by port in byte order of their names. Takes no memory. Linear in the ports,
     /// with a walk for each, and in what the values have in common.
     pub fn binds(&self, plan: &FlowPlan, pool: &Nodes, number: u64, values: &[Value]) -> bool
-        requires keeps { (flows : List (Name × Flow)) × (v : View) × Keeps flows plan.now pool.now self.now v }
+        requires keeps { (flows : List (Name × Flow)) × (v : View)
+            × Keeps flows plan.now pool.now self.now v }
         requires known { number < length (known_jobs self.now.intakes) }
-        ensures same { IsTrue result → (flows : List (Name × Flow)) (v : View) (j : Name × Place) → Keeps flows plan.now pool.now self.now v → numbered v number ≡ Some j → AreInputs v j (map view values.now) }
-        ensures other { result ≡ false → (flows : List (Name × Flow)) (v : View) (j : Name × Place) → Keeps flows plan.now pool.now self.now v → numbered v number ≡ Some j → (vs : List AValue) → AreInputs v j vs → map view values.now ≡ vs → ⊥ }
+        ensures same { IsTrue result → (flows : List (Name × Flow)) (v : View) (j : Name × Place)
+            → Keeps flows plan.now pool.now self.now v → numbered v number ≡ Some j
+            → AreInputs v j (map view values.now) }
+        ensures other { result ≡ false → (flows : List (Name × Flow)) (v : View) (j : Name × Place)
+            → Keeps flows plan.now pool.now self.now v → numbered v number ≡ Some j
+            → (vs : List AValue) → AreInputs v j vs → map view values.now ≡ vs → ⊥ }
     {
         let (step, place, _) = self.intakes.job(number as usize);
         let ports = ports_at(plan, step as usize);

@@ -38,11 +38,13 @@ is_settlement (fault_set s q e) = true
 is_settlement (took s q) = false
 
 abbrev pub CanSettle : View → Event → Type 0
-CanSettle v e = (is_settlement e ≡ true) × InAll v (λ instance results fs. IsLegalNext instance fs v.events e)
+CanSettle v e = (is_settlement e ≡ true)
+    × InAll v (λ instance results fs. IsLegalNext instance fs v.events e)
 
 abbrev pub NothingSettles : View → Type 0
 NothingSettles v =
-    (e : Event) → is_settlement e ≡ true → InAll v (λ instance results fs. IsLegalNext instance fs v.events e → ⊥)
+    (e : Event) → is_settlement e ≡ true
+    → InAll v (λ instance results fs. IsLegalNext instance fs v.events e → ⊥)
 
 -- ---- values
 
@@ -67,9 +69,11 @@ AreOutputs v vs =
 pub record IsReadyJob (levels : Name → ℕ) (v : View) (j : Name × Place) : Type 0 where
   pub idle : is_taken v.events j.0 j.1 ≡ false
   pub without_result : has_result v.events j.0 j.1 ≡ false
-  pub after : have_ended_by v.events levels (last_first (ranked v.flow.steps) []) (after_of v j.0) ≡ true
+  pub after : have_ended_by v.events levels (last_first (ranked v.flow.steps) []) (after_of v j.0)
+      ≡ true
 
 -- whether every step has ended, by the events alone
 abbrev pub has_ended_now : (Name → ℕ) → View → Bool
 has_ended_now levels v =
-    have_ended_by v.events levels (last_first (ranked v.flow.steps) []) (map (λ s. s.0) (ranked v.flow.steps))
+    have_ended_by v.events levels (last_first (ranked v.flow.steps) [])
+    (map (λ s. s.0) (ranked v.flow.steps))

@@ -89,7 +89,8 @@ module _ (instance : JobName) (results : Results) (fs : List InstanceStep) (e : 
   -- the port takes v whole, and `whole_now` says whether all of it becomes known
   pub record IsTakenWhole (whole_now : Bool) (v : Traced) : Type 0 where
     pub stands : at (values p) [] ≡ Some v
-    pub now : whole_now ≡ is_new (all_known (known_by instance es) (notes v)) (all_known (known_by instance (e ∷ es)) (notes v))
+    pub now : whole_now ≡ is_new (all_known (known_by instance es) (notes v))
+        (all_known (known_by instance (e ∷ es)) (notes v))
 
   -- a port that walks so many levels is fed with v by this feed
   abbrev pub IsPortFed : Bool → ℕ → Traced → Feed → Type 0

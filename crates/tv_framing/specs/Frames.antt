@@ -26,12 +26,14 @@ job_places s x = by_kind x.kind
 -- the jobs whose sources are known
 abbrev pub known_jobs : (Origin → Bool) → List InstanceStep → List (Name × Place)
 known_jobs known fs =
-    flat_map (λ (f : InstanceStep). flat_map (job_places f.step.step) (known_items known f.step.iteration)) fs
+    flat_map (λ (f : InstanceStep). flat_map (job_places f.step.step)
+    (known_items known f.step.iteration)) fs
 
 -- those that become known
 abbrev pub new_jobs : (Origin → Bool) → (Origin → Bool) → List InstanceStep → List (Name × Place)
 new_jobs known after fs =
-    flat_map (λ (f : InstanceStep). flat_map (job_places f.step.step) (gained_items known after f.step.iteration)) fs
+    flat_map (λ (f : InstanceStep). flat_map (job_places f.step.step)
+    (gained_items known after f.step.iteration)) fs
 
 -- ---- the invariant that callers see
 

@@ -74,4 +74,5 @@ module _ (instance : JobName) (known : Origin → Bool) (fs : List InstanceStep)
 abbrev pub IsOutputOf : JobName → Results → InstanceStep → Delivered → Type 0
 IsOutputOf instance results f d =
     (k : ℕ) × (declared : ℕ) × (levels : ℕ)
-    × (d.value ≡ output_below (spot instance f.step.step) (result_at results f.step.step k) declared [] levels f.step.iteration)
+    × (d.value ≡ output_below (spot instance f.step.step)
+    (result_at results f.step.step k) declared [] levels f.step.iteration)

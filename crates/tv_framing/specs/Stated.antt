@@ -43,12 +43,14 @@ use Rattle.tv_framing.specs.Views.{AreGiven, AreOfDepth, InAll, View}
 abbrev pub KnownIsBeforeAndGained : Type 0
 KnownIsBeforeAndGained =
     (known after : Origin → Bool) → ((o : Origin) → known o ≡ true → after o ≡ true)
-    → (t : Iteration) → IsPermutation (known_items after t) (known_items known t ++ gained_items known after t)
+    → (t : Iteration) → IsPermutation (known_items after t)
+    (known_items known t ++ gained_items known after t)
 
 -- what a port gains of an output of the event's step stands on the way to the event's node, which wasn't known
 abbrev pub PortsGainOnWay : Type 0
 PortsGainOnWay =
-    (named : Place → JobName) (known after : Origin → Bool) (p : Place) → (c : Rises named known after p)
+    (named : Place → JobName) (known after : Origin → Bool) (p : Place)
+    → (c : Rises named known after p)
     → (gives : Place → Value) (declared : ℕ) (port : Name) (node : Iteration)
     → c.hits (origin_at named p node) ≡ true → known (origin_at named p node) ≡ false
     → (t : Iteration) (k d : ℕ) → at t p ≡ Some node
@@ -62,7 +64,8 @@ abbrev pub KnownValuesAreToldWhole : Type 0
 KnownValuesAreToldWhole =
     (known : Origin → Bool) (values : Name → Traced) (p : Name) (k declared : ℕ) (v : Traced)
     → AtNodes (λ o. known o ≡ true) v → at (values p) [] ≡ Some v → HasDepth v (k + declared)
-    → map (placed []) (known_items known (walk p k v)) ≡ map (seen_told values) (value_told p k [] v)
+    → map (placed []) (known_items known (walk p k v))
+    ≡ map (seen_told values) (value_told p k [] v)
 
 -- and nothing of a value of which nothing is known, as of every output
 abbrev pub UnknownValuesAreNotTold : Type 0
@@ -78,7 +81,8 @@ PortsAreToldWhatTheyGain =
     → (values : Name → Traced) (p : Name) (newly : Place → Bool) (given_at : Name → Value)
     → (whole_now : Bool) (k : ℕ) (v : Traced) (f : Feed)
     → IsPortFed instance results fs e es values p newly given_at whole_now k v f
-    → map (placed []) (gained_items (known_by instance es) (known_by instance (e ∷ es)) (walk p k v))
+    → map (placed []) (gained_items (known_by instance es) (known_by instance (e ∷ es))
+    (walk p k v))
     ≡ map (seen_told values) (port_told newly e given_at p whole_now k f)
 
 -- what a feed delivers is all known where the steps that it comes from are whole
@@ -101,7 +105,8 @@ WrappingIsKnown =
 -- where each port was told what is known of its walk, what is matched is what is known of the step's iteration
 abbrev pub MatchedIsKnown : Type 0
 MatchedIsKnown =
-    (known : Origin → Bool) (instance : JobName) (results : Results) (given : List (Name × Delivered)) (fs : List InstanceStep)
+    (known : Origin → Bool) (instance : JobName) (results : Results)
+    (given : List (Name × Delivered)) (fs : List InstanceStep)
     (n : Name) (s : Step)
     → let f = step_by instance results given fs (n, s) in
     ((p : Name) → HasLevels (port_iteration f.step.inputs p) (port_mismatch f.step.inputs p))
@@ -115,14 +120,16 @@ MatchedIsKnown =
 -- what was told of an output is below its value, for all results that have what was told
 abbrev pub PartsAreBelow : Type 0
 PartsAreBelow =
-    (instance : JobName) (results : Results) (f : InstanceStep) (d : Delivered) (out : IsOutputOf instance results f d)
+    (instance : JobName) (results : Results) (f : InstanceStep) (d : Delivered)
+    (out : IsOutputOf instance results f d)
     (es : Events) → Extends results es → FitStep f es
     → Below (part_so_far f.step.step out.0 out.2 out.1 es) (plain d.value)
 
 -- ---- legal events
 
 -- an event may come next in its step exactly where a known item of its kind stands at its place, and nothing was told of it
-pub record IsKnownItem (instance : JobName) (f : InstanceStep) (es : Events) (e : Event) (x : Item Bound Stopped) : Type 0 where
+pub record IsKnownItem (instance : JobName) (f : InstanceStep) (es : Events) (e : Event)
+    (x : Item Bound Stopped) : Type 0 where
   pub item : In x (known_items (known_by instance es) f.step.iteration)
   pub place : x.place ≡ event_place e
   pub kind : FitsKind e x.kind
@@ -131,7 +138,8 @@ abbrev pub KnownItemsAreLegal : Type 0
 KnownItemsAreLegal =
     (instance : JobName) (fs : List InstanceStep) (f : InstanceStep) → Finds fs f
     → (es : Events) (e : Event) → same_name f.step.step (event_step e) ≡ true
-    → (x : Item Bound Stopped) → IsKnownItem instance f es e x → IsFresh es e → IsLegalNext instance fs es e
+    → (x : Item Bound Stopped) → IsKnownItem instance f es e x → IsFresh es e
+    → IsLegalNext instance fs es e
 
 abbrev pub LegalIsKnownItem : Type 0
 LegalIsKnownItem =
@@ -152,7 +160,8 @@ FramesGoOn =
 -- the result of a known job that has none is legal, whatever isn't told
 abbrev pub ResultsAreLegal : Type 0
 ResultsAreLegal =
-    (v : View) → IsFrame v → (s : Name) (q : Place) (vs : List Value) → In (s, q) v.jobs → has_result v.events s q ≡ false
+    (v : View) → IsFrame v → (s : Name) (q : Place) (vs : List Value) → In (s, q) v.jobs
+    → has_result v.events s q ≡ false
     → InAll v (λ instance results fs. IsLegalNext instance fs v.events (gave s q vs))
 
 -- no job becomes known where one is taken
@@ -184,13 +193,15 @@ IsWholeByEvents levels v instance f =
 -- which steps are whole
 abbrev pub WholeIsTold : Type 0
 WholeIsTold =
-    (flows : List (Name × Flow)) (levels : Name → ℕ) (v : View) → IsFrame v → IsOfDepths flows levels v
+    (flows : List (Name × Flow)) (levels : Name → ℕ) (v : View) → IsFrame v
+    → IsOfDepths flows levels v
     → InAll v (λ instance results fs. Each (IsWholeByEvents levels v instance) fs)
 
 -- whether the steps that are named have ended
 abbrev pub EndedIsTold : Type 0
 EndedIsTold =
-    (flows : List (Name × Flow)) (levels : Name → ℕ) (v : View) → IsFrame v → IsOfDepths flows levels v → (ns : List Name)
+    (flows : List (Name × Flow)) (levels : Name → ℕ) (v : View) → IsFrame v
+    → IsOfDepths flows levels v → (ns : List Name)
     → InAll v (λ instance results fs.
     have_ended (known_by instance v.events) fs ns
     ≡ have_ended_by v.events levels (last_first (ranked v.flow.steps) []) ns)
@@ -198,5 +209,7 @@ EndedIsTold =
 -- and whether all have
 abbrev pub EndingIsTold : Type 0
 EndingIsTold =
-    (flows : List (Name × Flow)) (levels : Name → ℕ) (v : View) → IsFrame v → IsOfDepths flows levels v
-    → InAll v (λ instance results fs. list_all (has_ended (known_by instance v.events)) fs ≡ has_ended_now levels v)
+    (flows : List (Name × Flow)) (levels : Name → ℕ) (v : View) → IsFrame v
+    → IsOfDepths flows levels v
+    → InAll v (λ instance results fs. list_all (has_ended (known_by instance v.events)) fs
+    ≡ has_ended_now levels v)

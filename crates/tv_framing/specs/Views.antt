@@ -34,7 +34,8 @@ AreOfDepth v instance results = AllJobsGive instance results (given_of v.flow v.
 -- was told
 abbrev pub InAll : View → (JobName → Results → List InstanceStep → Type 0) → Type 0
 InAll v P =
-    (instance : JobName) (results : Results) → AreOfDepth v instance results → Extends results v.events
+    (instance : JobName) (results : Results) → AreOfDepth v instance results
+    → Extends results v.events
     → P instance results (steps_with v instance results)
 
 -- each job gave once, and values of the depths that its step declares

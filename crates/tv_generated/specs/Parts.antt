@@ -19,10 +19,13 @@ abbrev pub first_values : (ℕ → Text) → ℕ → List Value
 first_values f n = map text_value (map f (range_with_len 0 n))
 
 abbrev pub concat_step : Step
-concat_step = record (asks (codes "concat") (takes a (from_input x) ∷ takes b (from_input y) ∷ [])) { jobs = 8 }
+concat_step = record (asks (codes "concat")
+    (takes a (from_input x) ∷ takes b (from_input y) ∷ [])) { jobs = 8 }
 
 abbrev pub flaky_step : Step
-flaky_step = record (asks (codes "flaky") (takes a (from_step (codes "c")) ∷ takes (codes "n") (constant_text (codes "1")) ∷ [])) { retries = 1; jobs = 8 }
+flaky_step = record (asks (codes "flaky")
+    (takes a (from_step (codes "c")) ∷ takes (codes "n")
+    (constant_text (codes "1")) ∷ [])) { retries = 1; jobs = 8 }
 
 abbrev pub fail_step : Step
 fail_step = record (asks (codes "fail_if") (takes a (from_step (codes "f")) ∷ [])) { jobs = 8 }

@@ -34,7 +34,8 @@ pub fn generated(alloc: Global, number: u32) -> Result<Document, NoMemory>
 
 /// The values that are given.
 fn both_lists(alloc: Global, number: u32) -> Result<Inputs, NoMemory>
-    ensures { IfOk result (λ is. each view is ≡ (x, texts_to number outer_text) ∷ (y, texts_to number inner_text) ∷ []) }
+    ensures { IfOk result (λ is. each view is
+        ≡ (x, texts_to number outer_text) ∷ (y, texts_to number inner_text) ∷ []) }
 {
     let outer = texts(alloc, Side::Outer, number)?;
     let inner = texts(alloc, Side::Inner, number)?;

@@ -37,7 +37,8 @@ fn first_texts(alloc: Global, side: Side, number: u32) -> Result<Vec<Value>, NoM
 }
 
 fn push_text(values: &mut Vec<Value>, text: Text) -> Result<(), NoMemory>
-    ensures { OnOk result (map view values.new.items ≡ map view values.old.items ++ text_value text ∷ []) }
+    ensures { OnOk result (map view values.new.items ≡ map view values.old.items
+        ++ text_value text ∷ []) }
 {
     values.push(Value::Text(text))?;
     Ok(())

@@ -22,4 +22,5 @@ pub record IsElsewhere (e : Entry) (I : JobName) : Type 0 where
   pub settles : (s : Name) (q : Place) → SettlesNot e (spot I s q)
   pub rest : IsOfNoLevel e I
   pub leaves_open : is_ended_entry I e ≡ false
-  pub out : (past : History) (s : Name) (q : Place) → is_out (e ∷ past) (spot I s q) ≡ is_out past (spot I s q)
+  pub out : (past : History) (s : Name) (q : Place)
+      → is_out (e ∷ past) (spot I s q) ≡ is_out past (spot I s q)

@@ -18,7 +18,8 @@ module _ (m : Meaning) where
   abbrev pub is_by_one_after : History → Entry → Bool
   is_by_one_after past (handed_out n a t) =
       not (can_settle_more m past)
-      && option_map_or (λ j. is_at j n) (find (λ j. is_offered m past j || can_open m past j) m.jobs) false
+      && option_map_or (λ j. is_at j n)
+      (find (λ j. is_offered m past j || can_open m past j) m.jobs) false
       && nobody_out past
   is_by_one_after past (opened n) = nobody_out past
   is_by_one_after past (recalled k) = false
@@ -33,4 +34,5 @@ IsFirstPart {A = A} xs ys = (zs : List A) × (ys ≡ xs ++ zs)
 
 -- who isn't bounced has something to do
 abbrev pub HaveTries : List Job → Type 0
-HaveTries js = (j : Job) → In j js → is_bounced j.ending ≡ false → j.asks ≡ [] → is_some j.opens ≡ true
+HaveTries js = (j : Job) → In j js → is_bounced j.ending ≡ false → j.asks ≡ []
+    → is_some j.opens ≡ true

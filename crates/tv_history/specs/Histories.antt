@@ -37,7 +37,8 @@ has_entry past n = list_any (is_level_entry n) past
 -- an instance is open from its opening to its end, the main one from the start
 abbrev pub is_open : History → JobName → Bool
 is_open past [] = not (list_any (is_ended_entry []) past)
-is_open past (k ∷ n) = list_any (is_opened_entry (k ∷ n)) past && not (list_any (is_ended_entry (k ∷ n)) past)
+is_open past (k ∷ n) = list_any (is_opened_entry (k ∷ n)) past
+    && not (list_any (is_ended_entry (k ∷ n)) past)
 
 -- the main instance is named by no job
 abbrev pub has_open_instance : History → Job → Bool
@@ -55,7 +56,8 @@ is_done past = list_any (is_ended_entry []) past
 -- the state after a history of the run with this meaning
 module _ (m : Meaning) where
   abbrev pub is_settled_name : History → JobName → Bool
-  is_settled_name past n = option_map_or (is_settled past) (find (λ j. same_job n j.name) m.jobs) false
+  is_settled_name past n = option_map_or (is_settled past)
+      (find (λ j. same_job n j.name) m.jobs) false
 
   abbrev pub is_known : History → Known → Bool
   is_known past at_start = true
@@ -67,7 +69,8 @@ module _ (m : Meaning) where
 
   abbrev pub is_ready : History → Job → Bool
   is_ready past j =
-      is_open past j.instance && not (is_running past j) && not (is_settled past j) && all_known past j.waits
+      is_open past j.instance && not (is_running past j) && not (is_settled past j)
+      && all_known past j.waits
 
   -- how many tries are out
   abbrev pub out_count : History → ℕ
@@ -76,10 +79,12 @@ module _ (m : Meaning) where
   -- fewer jobs of its step run in its instance than may
   abbrev pub has_place : History → Job → Bool
   has_place past j =
-      nat_lt (count_by (λ k. same_job k.instance j.instance && same_name k.step j.step && is_running past k) m.jobs) j.limit
+      nat_lt (count_by (λ k. same_job k.instance j.instance && same_name k.step j.step
+      && is_running past k) m.jobs) j.limit
 
   abbrev pub may_go_on : History → Job → Bool
-  may_go_on past j = is_idle past j || (is_ready past j && not (is_bounced j.ending) && has_place past j)
+  may_go_on past j = is_idle past j
+      || (is_ready past j && not (is_bounced j.ending) && has_place past j)
 
   abbrev pub is_offered : History → Job → Bool
   is_offered past j = is_some (next_ask past j) && may_go_on past j
@@ -91,7 +96,8 @@ module _ (m : Meaning) where
   can_bounce past j = is_ready past j && is_bounced j.ending
 
   abbrev pub can_settle : History → Level → Bool
-  can_settle past l = is_open past l.instance && not (has_entry past l.name) && all_known past l.sources
+  can_settle past l = is_open past l.instance && not (has_entry past l.name)
+      && all_known past l.sources
 
   -- an instance can end once all its steps have ended
   abbrev pub can_end : History → JobName → Bool
@@ -139,19 +145,24 @@ same_bool false b = not b
 module _ (gives : Giving) (m : Meaning) where
   abbrev pub is_legal_after : History → Entry → Bool
   is_legal_after past (handed_out n a t) =
-      option_map_or (λ j. is_at j n && option_map_or (is_ask a t) (next_ask past j) false) (find (is_offered m past) m.jobs) false
+      option_map_or (λ j. is_at j n && option_map_or (is_ask a t) (next_ask past j) false)
+      (find (is_offered m past) m.jobs) false
   is_legal_after past (accepted n a t r) =
       is_out past n
-      && list_any (λ j. is_at j n && option_map_or (λ k. is_ask a t k && same_bool r (is_right gives k)) (next_ask past j) false) m.jobs
+      && list_any (λ j. is_at j n
+      && option_map_or (λ k. is_ask a t k && same_bool r (is_right gives k))
+      (next_ask past j) false) m.jobs
   is_legal_after past (bounced n) = list_any (λ j. is_at j n && can_bounce m past j) m.jobs
   is_legal_after past (closed n k) =
-      list_any (λ l. same_job n l.name && can_settle m past l && option_map_or (λ c. c == k) l.length false) (levels m.steps)
+      list_any (λ l. same_job n l.name && can_settle m past l
+      && option_map_or (λ c. c == k) l.length false) (levels m.steps)
   is_legal_after past (fault_passed n) =
       list_any (λ l. same_job n l.name && can_settle m past l && is_none l.length) (levels m.steps)
   is_legal_after past (ended n) = can_end m past n
   is_legal_after past (opened n) =
       not (can_settle_more m past)
-      && option_map_or (λ j. is_at j n && can_open m past j) (find (λ j. is_offered m past j || can_open m past j) m.jobs) false
+      && option_map_or (λ j. is_at j n && can_open m past j)
+      (find (λ j. is_offered m past j || can_open m past j) m.jobs) false
   is_legal_after past (recalled k) = nat_lt 0 k && k == out_count m past
 
   abbrev pub is_legal : History → Bool

@@ -91,7 +91,8 @@ pub record FollowsTheOrder (gives : Giving) (m : Meaning) (past : History) : Typ
 -- law speaks of a flow at any number of levels
 abbrev pub OneWorkerIsInOrder : Type 0
 OneWorkerIsInOrder =
-    (gives : Giving) (flows : List (Name × Flow)) (depth : ℕ) (f : Name) (vs : List (Name × Value)) (past : History)
+    (gives : Giving) (flows : List (Name × Flow)) (depth : ℕ) (f : Name) (vs : List (Name × Value))
+    (past : History)
     → Each (λ g. Each (λ s. 1 ≤ s.1.jobs) g.1.steps) flows
     → HaveTries (flow_meaning gives flows depth f [] vs).jobs
     → IsOneWorkers gives (flow_meaning gives flows depth f [] vs) past

@@ -49,7 +49,8 @@ module _ (m : Meaning) where
       offers_agree past
       && (
       can_settle_more m (e ∷ past)
-      || list_all (λ j. same_bool (is_offered m (e ∷ past) j) (is_offered_by_meaning m (e ∷ past) j)) m.jobs
+      || list_all (λ j. same_bool (is_offered m (e ∷ past) j)
+      (is_offered_by_meaning m (e ∷ past) j)) m.jobs
       )
 
 module _ (gives : Giving) where
@@ -58,7 +59,8 @@ module _ (gives : Giving) where
   try_entries n k = accepted n k.activity k.attempt (is_right gives k) ∷ handed_out n k.activity k.attempt ∷ []
 
   abbrev pub job_entries : History → Job → List Entry
-  job_entries past j = option_map_or (λ k. try_entries j.name k) (next_ask past j) (opened j.name ∷ [])
+  job_entries past j = option_map_or (λ k. try_entries j.name k) (next_ask past j)
+      (opened j.name ∷ [])
 
   module _ (m : Meaning) where
     -- with the first job that is offered or can open its flow

@@ -55,17 +55,26 @@ levels_on delivers s = strategy_depth (port_mismatch (ports_on delivers s.inputs
 
 -- its jobs wait for their sources and for the endings `before`
 abbrev pub jobs_on : (Feed → Delivered) → List Origin → Name × Step → List PlacedJob
-jobs_on delivers before (n, s) = flat_map (jobs_at_node n s before) (nodes (iteration_on delivers s))
+jobs_on delivers before (n, s) = flat_map (jobs_at_node n s before)
+    (nodes (iteration_on delivers s))
 
 module _ (instance : JobName) where
   -- the outputs of a step from the k-th on, each with its delivered depth; `gives` has the k-th output of the job at a place
-  abbrev pub outputs_by : Name → (ℕ → Place → Value) → ℕ → Iteration → ℕ → List (Name × ℕ) → List (Name × Delivered)
+  abbrev pub outputs_by : Name → (ℕ → Place → Value) → ℕ → Iteration → ℕ → List (Name × ℕ)
+      → List (Name × Delivered)
   outputs_by s gives levels it k [] = []
-  outputs_by s gives levels it k (p ∷ ps) =
-      (p.0, record { depth = levels + p.1; value = output_below (spot instance s) (gives k) p.1 [] levels it })
+  outputs_by s gives levels it k (p ∷ ps) = (
+    p.0,
+    record {
+      depth = levels + p.1;
+      value = output_below (spot instance s)
+          (gives k) p.1 [] levels it;
+    },
+  )
       ∷ outputs_by s gives levels it (suc k) ps
 
-  abbrev pub step_on : (ℕ → Place → Value) → (Feed → Delivered) → List Origin → Name × Step → StepMeaning
+  abbrev pub step_on : (ℕ → Place → Value) → (Feed → Delivered) → List Origin → Name × Step
+      → StepMeaning
   step_on gives delivers before (n, s) =
       let it = iteration_on delivers s in
       record {

@@ -17,12 +17,14 @@ count_whole w q i (suc n) = one_if (w (q ++ i ∷ [])) + count_whole w q (suc i)
 abbrev pub whole_by : Events → Name → ℕ → Place → Bool
 whole_by es s zero q = has_result es s q
 whole_by es s (suc d) q =
-    has_fault es s q || option_map_or (λ n. count_whole (whole_by es s d) q 0 n == n) (closed_with es s q) false
+    has_fault es s q || option_map_or (λ n. count_whole (whole_by es s d) q 0 n == n)
+    (closed_with es s q) false
 
 -- whether of these steps, the last by rank first, those that are named have ended: each is whole, and those that it runs after have
 -- ended; `levels` says how many levels each iteration has
 abbrev pub have_ended_by : Events → (Name → ℕ) → List (Name × Step) → List Name → Bool
 have_ended_by es levels [] ns = true
 have_ended_by es levels (s ∷ ss) ns =
-    (if is_among ns s.0 then whole_by es s.0 (levels s.0) [] && have_ended_by es levels ss s.1.after else true)
+    (if is_among ns s.0 then whole_by es s.0 (levels s.0) []
+    && have_ended_by es levels ss s.1.after else true)
     && have_ended_by es levels ss ns

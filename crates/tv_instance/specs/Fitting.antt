@@ -25,4 +25,5 @@ FitsNode (took s q) (Some (list r ts)) = ⊥
 abbrev pub FitStep : InstanceStep → Events → Type 0
 FitStep f [] = Unit {0}
 FitStep f (e ∷ es) =
-    (same_name f.step.step (event_step e) ≡ true → FitsNode e (at f.step.iteration (event_place e))) × FitStep f es
+    (same_name f.step.step (event_step e) ≡ true → FitsNode e (at f.step.iteration (event_place e)))
+    × FitStep f es

@@ -28,7 +28,8 @@ IsFresh es (closed s q n) = has_level es s q ≡ false
 IsFresh es (fault_set s q e) = has_level es s q ≡ false
 IsFresh es (took s q) = (has_result es s q ≡ false) × (is_taken es s q ≡ false)
 
-pub record IsLegalNext (instance : JobName) (fs : List InstanceStep) (es : Events) (e : Event) : Type 0 where
+pub record IsLegalNext (instance : JobName) (fs : List InstanceStep) (es : Events)
+    (e : Event) : Type 0 where
   pub fits : FitsNode e (node_of fs e)
   pub sources : HasSources (known_by instance es) (node_of fs e)
   pub fresh : IsFresh es e

@@ -13,5 +13,6 @@ pub record Rises (named : Place → JobName) (known after : Origin → Bool) (p 
   pub at_place : (q : Place) (u : Iteration) → hits (origin_at named q u) ≡ true → q ≡ p
 
 -- whether what stands at q becomes whole
-abbrev pub turns_whole : (Place → JobName) → (Origin → Bool) → (Origin → Bool) → Place → Iteration → Bool
+abbrev pub turns_whole : (Place → JobName) → (Origin → Bool) → (Origin → Bool) → Place → Iteration
+    → Bool
 turns_whole named known after q t = is_new (is_whole named known q t) (is_whole named after q t)

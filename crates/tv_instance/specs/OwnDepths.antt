@@ -13,10 +13,12 @@ use Rattle.tv_instance.specs.ByResults.{InstanceStep, Results, result_at, step_b
 abbrev pub JobsGive : Results → InstanceStep → ℕ → List (Name × ℕ) → Type 0
 JobsGive results f k [] = Unit {0}
 JobsGive results f k (p ∷ ps) =
-    JobsStand (λ q. HasDepth (result_at results f.step.step k q) p.1) [] f.step.iteration × JobsGive results f (suc k) ps
+    JobsStand (λ q. HasDepth (result_at results f.step.step k q) p.1) [] f.step.iteration
+    × JobsGive results f (suc k) ps
 
 -- and so do the jobs of all steps that come after these
-abbrev pub AllJobsGive : JobName → Results → List (Name × Delivered) → List InstanceStep → List (Name × Step) → Type 0
+abbrev pub AllJobsGive : JobName → Results → List (Name × Delivered) → List InstanceStep
+    → List (Name × Step) → Type 0
 AllJobsGive instance results given fs [] = Unit {0}
 AllJobsGive instance results given fs (s ∷ ss) =
     let f = step_by instance results given fs s in

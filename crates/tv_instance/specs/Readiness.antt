@@ -16,7 +16,8 @@ module _ (instance : JobName) (es : Events) where
   -- have ended
   abbrev pub ready_by : List InstanceStep → List Name → Name → Place → List Origin → Bool
   ready_by fs after s q sources =
-      not (is_taken es s q) && not (has_result es s q) && (are_known sources && have_ended (known_by instance es) fs after)
+      not (is_taken es s q) && not (has_result es s q)
+      && (are_known sources && have_ended (known_by instance es) fs after)
 
   -- the list or passed fault there
   abbrev pub settles_by : Name → Place → List Origin → Bool

@@ -20,9 +20,11 @@ use Rattle.tv_history.specs.Histories.{has_entry, is_settled, is_settled_name}
 
 -- of the nodes of this instance, the events say what the history says
 pub record IsPartOf (m : Meaning) (past : History) (instance : JobName) (es : Events) : Type 0 where
-  pub results : (s : Name) (q : Place) → is_settled_name m past (spot instance s q) ≡ has_result es s q
+  pub results : (s : Name) (q : Place)
+      → is_settled_name m past (spot instance s q) ≡ has_result es s q
   pub levels : (s : Name) (q : Place) → has_entry past (spot instance s q) ≡ has_level es s q
-  pub taken : (s : Name) (q : Place) → list_any (is_begun_entry (spot instance s q)) past ≡ is_taken es s q
+  pub taken : (s : Name) (q : Place)
+      → list_any (is_begun_entry (spot instance s q)) past ≡ is_taken es s q
 
 -- ---- entries that tell nothing of an instance
 
@@ -42,15 +44,18 @@ pub record IsOfNoLevel (e : Entry) (instance : JobName) : Type 0 where
   pub begins : (s : Name) (q : Place) → is_begun_entry (spot instance s q) e ≡ false
 
 -- and none is settled with it
-pub record TellsNothing (m : Meaning) (past : History) (e : Entry) (instance : JobName) : Type 0 where
+pub record TellsNothing (m : Meaning) (past : History) (e : Entry)
+    (instance : JobName) : Type 0 where
   pub jobs : (s : Name) (q : Place) → StaysSettled m past e (spot instance s q)
   pub rest : IsOfNoLevel e instance
 
 -- with this entry the job at place q of step s is settled, and it tells nothing else of the instance
-pub record Settles (m : Meaning) (past : History) (e : Entry) (instance : JobName) (s : Name) (q : Place)
+pub record Settles (m : Meaning) (past : History) (e : Entry) (instance : JobName) (s : Name)
+    (q : Place)
     : Type 0 where
   pub now : is_settled_name m (e ∷ past) (spot instance s q) ≡ true
-  pub others : (t : Name) (r : Place) → is_spot t r s q ≡ false → StaysSettled m past e (spot instance t r)
+  pub others : (t : Name) (r : Place) → is_spot t r s q ≡ false
+      → StaysSettled m past e (spot instance t r)
   pub rest : IsOfNoLevel e instance
 
 -- ---- jobs, lists and faults of a meaning, as one of its instances has them
@@ -86,7 +91,8 @@ abbrev pub Finds : List InstanceStep → InstanceStep → Type 0
 Finds fs f = find (λ (g : InstanceStep). same_name f.step.step g.step.step) fs ≡ Some f
 
 -- the meaning has it as a step of this instance, whose sources are the instance's own
-pub record IsStepHere (m : Meaning) (instance : JobName) (fs : List InstanceStep) (f : InstanceStep) : Type 0 where
+pub record IsStepHere (m : Meaning) (instance : JobName) (fs : List InstanceStep)
+    (f : InstanceStep) : Type 0 where
   pub first : Finds fs f
   pub listed : In f.step m.steps
   pub here : f.step.instance ≡ instance

@@ -40,7 +40,8 @@ given_by os n = option_map_or (λ o. o.job.result) (find (λ o. same_job n o.job
 -- what the jobs of these steps gave
 abbrev pub results_of : JobName → List Made → Results
 results_of instance ms s q =
-    option_map_or (λ m. given_by m.jobs (spot instance s q)) (find (λ m. same_name s m.step.step) ms) []
+    option_map_or (λ m. given_by m.jobs (spot instance s q))
+    (find (λ m. same_name s m.step.step) ms) []
 
 -- each job of a step gives values of the depths that the step declares, and so do those of the steps that are made after it
 module _ (gives : Giving) (inside : Name → JobName → List (Name × Value) → Meaning) (instance : JobName)
@@ -49,4 +50,5 @@ module _ (gives : Giving) (inside : Name → JobName → List (Name × Value) �
   AllMadeGive ms [] = Unit {0}
   AllMadeGive ms (s ∷ ss) =
       let m = step_made gives inside instance given ms s in
-      Each (λ (o : Opened). HaveTheseDepths (declared_depths s.1) o.job.result) m.jobs × AllMadeGive (m ∷ ms) ss
+      Each (λ (o : Opened). HaveTheseDepths (declared_depths s.1) o.job.result) m.jobs
+      × AllMadeGive (m ∷ ms) ss

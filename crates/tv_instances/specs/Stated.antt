@@ -41,25 +41,30 @@ use Rattle.tv_instances.specs.OwnResults.{AllMadeGive, outside_by_results, outsi
 -- an instance of a meaning has the steps and jobs that the results of its own jobs give, whatever the services are
 abbrev pub StepsAreByOwnResults : Type 0
 StepsAreByOwnResults =
-    (gives : Giving) (inside : Name → JobName → List (Name × Value) → Meaning) (instance : JobName) (flow : Flow)
+    (gives : Giving) (inside : Name → JobName → List (Name × Value) → Meaning) (instance : JobName)
+    (flow : Flow)
     (vs : List (Name × Value))
     → let made = steps_made gives inside instance (given_of flow vs) [] (ranked flow.steps) in
     let results = results_of instance made in
     map outside_of_made made
-    ≡ map (outside_by_results instance) (steps_by instance results (given_of flow vs) [] (ranked flow.steps))
+    ≡ map (outside_by_results instance)
+    (steps_by instance results (given_of flow vs) [] (ranked flow.steps))
 
 -- these results are of the declared depths, where the jobs as they are made give values of these
 abbrev pub OwnResultsAreOfDepth : Type 0
 OwnResultsAreOfDepth =
-    (gives : Giving) (inside : Name → JobName → List (Name × Value) → Meaning) (instance : JobName) (flow : Flow)
-    (vs : List (Name × Value)) → AllMadeGive gives inside instance (given_of flow vs) [] (ranked flow.steps)
+    (gives : Giving) (inside : Name → JobName → List (Name × Value) → Meaning) (instance : JobName)
+    (flow : Flow)
+    (vs : List (Name × Value))
+    → AllMadeGive gives inside instance (given_of flow vs) [] (ranked flow.steps)
     → let made = steps_made gives inside instance (given_of flow vs) [] (ranked flow.steps) in
     AllJobsGive instance (results_of instance made) (given_of flow vs) [] (ranked flow.steps)
 
 -- every node that its steps have or wait for is the instance's own, or known from the start, where those that it is given are
 abbrev pub NodesAreOwn : Type 0
 NodesAreOwn =
-    (instance : JobName) (results : Results) (given : List (Name × Delivered)) (ss : List (Name × Step))
+    (instance : JobName) (results : Results) (given : List (Name × Delivered))
+    (ss : List (Name × Step))
     → Each (λ d. AtNodes (λ o. IsOwn instance o.known) d.1.value) given
     → Each (NodesHave (λ o. IsOwn instance o.known)) (steps_by instance results given [] ss)
 
@@ -74,9 +79,11 @@ abbrev pub StepsHaveTheirLevels : Type 0
 StepsHaveTheirLevels =
     (flows : List (Name × Flow)) (flow : Flow) → FlowAgrees flows flow
     → (vs : List (Name × Value)) → InputsHave flow.inputs vs
-    → (instance : JobName) (results : Results) → AllJobsGive instance results (given_of flow vs) [] (ranked flow.steps)
+    → (instance : JobName) (results : Results)
+    → AllJobsGive instance results (given_of flow vs) [] (ranked flow.steps)
     → (levels : Name → ℕ) → AreLevels levels flow.inputs [] (ranked flow.steps)
-    → Each (HasItsLevels levels) (steps_by instance results (given_of flow vs) [] (ranked flow.steps))
+    → Each (HasItsLevels levels)
+    (steps_by instance results (given_of flow vs) [] (ranked flow.steps))
 
 -- ---- events alone
 
@@ -94,17 +101,20 @@ pub record IsCounted (es : Events) (levels : Name → ℕ) (f : InstanceStep) : 
 -- then it is whole where it is by counting events
 abbrev pub WholeIsByEvents : Type 0
 WholeIsByEvents =
-    (instance : JobName) (es : Events) (levels : Name → ℕ) (f : InstanceStep) → IsCounted es levels f
+    (instance : JobName) (es : Events) (levels : Name → ℕ) (f : InstanceStep)
+    → IsCounted es levels f
     → is_whole (spot instance f.step.step) (known_by instance es) [] f.step.iteration
     ≡ whole_by es f.step.step (levels f.step.step) []
 
 -- and the steps that are named have ended where they have by counting events
 abbrev pub EndedIsByEvents : Type 0
 EndedIsByEvents =
-    (instance : JobName) (results : Results) (given : List (Name × Delivered)) (es : Events) (levels : Name → ℕ)
+    (instance : JobName) (results : Results) (given : List (Name × Delivered)) (es : Events)
+    (levels : Name → ℕ)
     (ss : List (Name × Step)) (ns : List Name)
     → let fs = steps_from_last instance results given ss in
-    Each (IsCounted es levels) fs → have_ended (known_by instance es) fs ns ≡ have_ended_by es levels ss ns
+    Each (IsCounted es levels) fs
+    → have_ended (known_by instance es) fs ns ≡ have_ended_by es levels ss ns
 
 -- events that are legal one after another fit their steps
 abbrev pub LegalEventsFit : Type 0
@@ -115,15 +125,18 @@ LegalEventsFit =
 -- ---- what a history says of one of its open instances
 
 -- by the instance's events it is told which of its jobs are ready, which lists and faults can be settled, and whether it can end
-pub record IsToldByEvents (m : Meaning) (past : History) (instance : JobName) (es : Events) : Type 0 where
+pub record IsToldByEvents (m : Meaning) (past : History) (instance : JobName)
+    (es : Events) : Type 0 where
   pub ready :
-      (fs : List InstanceStep) (j : Job) (s : Name) (q : Place) (sources : List Origin) (after : List Name)
+      (fs : List InstanceStep) (j : Job) (s : Name) (q : Place) (sources : List Origin)
+      (after : List Name)
       → IsJobAt past instance es fs j s q sources after
       → is_ready m past j ≡ ready_by instance es fs after s q sources
   pub settles :
       (l : Level) (s : Name) (q : Place) → IsLevelAt instance l s q
       → can_settle m past l ≡ settles_by instance es s q l.sources
-  pub ends : (fs : List InstanceStep) → AreStepsOf m instance fs → can_end m past instance ≡ ends_by instance es fs
+  pub ends : (fs : List InstanceStep) → AreStepsOf m instance fs
+      → can_end m past instance ≡ ends_by instance es fs
 
 abbrev pub OpenInstancesAreToldByEvents : Type 0
 OpenInstancesAreToldByEvents =
@@ -133,7 +146,8 @@ OpenInstancesAreToldByEvents =
 
 -- a list of the step that may be closed by the instance's events may be closed in the history, and so may a fault be passed; and what
 -- the history lets settle at a node of the step has known sources, and nothing was told of it
-pub record SettlesLegally (gives : Giving) (m : Meaning) (past : History) (instance : JobName) (es : Events)
+pub record SettlesLegally (gives : Giving) (m : Meaning) (past : History) (instance : JobName)
+    (es : Events)
     (fs : List InstanceStep) (f : InstanceStep) : Type 0 where
   pub closing :
       (q : Place) (n : ℕ) → IsLegalNext instance fs es (events.closed f.step.step q n)
@@ -143,7 +157,8 @@ pub record SettlesLegally (gives : Giving) (m : Meaning) (past : History) (insta
       → is_legal_after gives m past (fault_passed (spot instance f.step.step q)) ≡ true
   pub new :
       (q : Place) (u : Iteration) (l : Level)
-      → at f.step.iteration q ≡ Some u → level_at f.step (q, u) ≡ Some l → can_settle m past l ≡ true
+      → at f.step.iteration q ≡ Some u → level_at f.step (q, u) ≡ Some l
+      → can_settle m past l ≡ true
       → (list_all (known_by instance es) (note u) ≡ true) × (has_level es f.step.step q ≡ false)
 
 abbrev pub SettlementsAreLegal : Type 0
@@ -156,7 +171,8 @@ SettlementsAreLegal =
 -- ---- an entry more
 
 -- the events that are the instance's part of a history after one entry more
-pub record PartGoesOn (m : Meaning) (past : History) (instance : JobName) (es : Events) : Type 0 where
+pub record PartGoesOn (m : Meaning) (past : History) (instance : JobName)
+    (es : Events) : Type 0 where
   -- those before, where the entry tells nothing of the instance
   pub stays : (e : Entry) → TellsNothing m past e instance → IsPartOf m (e ∷ past) instance es
   pub closed :
@@ -169,7 +185,8 @@ pub record PartGoesOn (m : Meaning) (past : History) (instance : JobName) (es : 
   pub handed_out :
       (s : Name) (q : Place) (a t : ℕ)
       → IsPartOf m (handed_out (spot instance s q) a t ∷ past) instance (took s q ∷ es)
-  pub opened : (s : Name) (q : Place) → IsPartOf m (opened (spot instance s q) ∷ past) instance (took s q ∷ es)
+  pub opened : (s : Name) (q : Place)
+      → IsPartOf m (opened (spot instance s q) ∷ past) instance (took s q ∷ es)
   -- an entry with which a job is settled is the event that it gave, with whatever values
   pub settled :
       (e : Entry) (s : Name) (q : Place) (vs : List Value) → Settles m past e instance s q

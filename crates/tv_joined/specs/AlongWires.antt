@@ -59,13 +59,15 @@ of_leaf p ts = filter (λ t. same_name p (told_leaf t)) ts
 
 -- the code has the event like this. Its job gave these values at the outputs of its step, which hold faults at so many prefixes of the
 -- event's place; and these turn whole from that length on
-pub record IsSeenAs (f : Flow) (given_at : Name → Value) (faults : Name → ℕ) (from : ℕ) (e : Event) (c : code.Event)
+pub record IsSeenAs (f : Flow) (given_at : Name → Value) (faults : Name → ℕ) (from : ℕ) (e : Event)
+    (c : code.Event)
     : Type 0 where
   pub place : c.place.now ≡ event_place e
   pub whole_from : c.whole_from ≡ from
   pub happened :
       (o : Name) → has_name (outputs_of f (event_step e)) o ≡ true
-      → happening c.happened (position o (outputs_of f (event_step e))) ≡ happening_of e (given_at o)
+      → happening c.happened (position o (outputs_of f (event_step e)))
+      ≡ happening_of e (given_at o)
   pub faults_are :
       (o : Name) → has_name (outputs_of f (event_step e)) o ≡ true
       → get_or c.faults.now (position o (outputs_of f (event_step e))) 0 ≡ faults o
@@ -77,7 +79,8 @@ pub record IsPortOf (f : Flow) (n : ℕ) (s : Name × Step) (i : Name × StepInp
   pub port : slice_get s.1.inputs number ≡ Some i
 
 -- an event of one of the steps of a wired flow, as the code has it, and a port that may be told of it
-pub record IsTold (f : Flow) (n : ℕ) (s : Name × Step) (i : Name × StepInput) (given_at : Name → Value) (faults : Name → ℕ)
+pub record IsTold (f : Flow) (n : ℕ) (s : Name × Step) (i : Name × StepInput)
+    (given_at : Name → Value) (faults : Name → ℕ)
     (from : ℕ) (e : Event) (c : code.Event) : Type 0 where
   pub wired : IsWired f
   pub port : IsPortOf f n s i
@@ -86,12 +89,14 @@ pub record IsTold (f : Flow) (n : ℕ) (s : Name × Step) (i : Name × StepInput
 
 -- what is told with the event along the ways from its step to step n
 abbrev pub told_along : Flow → ℕ → Step → Name → code.Event → List Told
-told_along f n s t c = flat_map (way_tellings (strategy_of s) c) (ways_into n (wires_from (wiring f) (position t f.steps)))
+told_along f n s t c = flat_map (way_tellings (strategy_of s) c)
+    (ways_into n (wires_from (wiring f) (position t f.steps)))
 
 -- it tells the port what `tv_told` has for the port's feed, and nothing where the port walks no levels and takes its feed at once
 abbrev pub WiresTellPorts : Type 0
 WiresTellPorts =
-    (f : Flow) (n : ℕ) (s : Name × Step) (i : Name × StepInput) (given_at : Name → Value) (faults : Name → ℕ) (from : ℕ)
+    (f : Flow) (n : ℕ) (s : Name × Step) (i : Name × StepInput) (given_at : Name → Value)
+    (faults : Name → ℕ) (from : ℕ)
     (e : Event) (c : code.Event) → IsTold f n s i given_at faults from e c → (faulty : Bool)
     → of_leaf i.0 (told_along f n s.1 (event_step e) c)
     ≡ port_by_ways e given_at faults i.0 from false faulty (levels_of f i.1) i.1.from
@@ -116,24 +121,30 @@ takes_whole_with f whole t s i = has_whole_with whole t (port_among f (leaf_name
 -- become whole
 abbrev pub EventsTellAsInTheory : Type 0
 EventsTellAsInTheory =
-    (f : Flow) (n : ℕ) (s : Name × Step) (i : Name × StepInput) (given_at : Name → Value) (faults : Name → ℕ) (from : ℕ)
+    (f : Flow) (n : ℕ) (s : Name × Step) (i : Name × StepInput) (given_at : Name → Value)
+    (faults : Name → ℕ) (from : ℕ)
     (e : Event) (c : code.Event) → IsTold f n s i given_at faults from e c
     → is_telling e ≡ true → (newly : Place → Bool) → IsFrom newly (event_place e) from
     → let t = position (event_step e) f.steps in
-    (turned : Bool) (whole : ℕ → Bool) (ws : List Whole) → AreWholeWith turned whole t (ports_of_step (wiring f) n) ws
+    (turned : Bool) (whole : ℕ → Bool) (ws : List Whole)
+    → AreWholeWith turned whole t (ports_of_step (wiring f) n) ws
     → (values : Name → Traced)
-    → map (seen values) (told_to (told_along f n s.1 (event_step e) c ++ map (whole_telling (strategy_of s.1)) ws) i.0)
+    → map (seen values) (told_to (told_along f n s.1 (event_step e) c
+    ++ map (whole_telling (strategy_of s.1)) ws) i.0)
     ≡ map (seen_told values)
-    (port_told newly e given_at i.0 (turned && takes_whole_with f whole t s.1 i) (levels_of f i.1) i.1.from)
+    (port_told newly e given_at i.0 (turned && takes_whole_with f whole t s.1 i)
+    (levels_of f i.1) i.1.from)
 
 -- ---- feeds by names and by numbers
 
 -- the first step of that name among those of an instance has the flow's outputs, and is marked whole where it is so
-pub record IsMarked (f : Flow) (instance : JobName) (known : Origin → Bool) (fs : List InstanceStep) (whole : ℕ → Bool)
+pub record IsMarked (f : Flow) (instance : JobName) (known : Origin → Bool) (fs : List InstanceStep)
+    (whole : ℕ → Bool)
     (t : Name) : Type 0 where
   pub step : InstanceStep
   pub found : find (λ (g : InstanceStep). same_name t g.step.step) fs ≡ Some step
-  pub outputs : (o : Name) → has_name (outputs_of f t) o ≡ true → has_name step.step.outputs o ≡ true
+  pub outputs : (o : Name) → has_name (outputs_of f t) o ≡ true
+      → has_name step.step.outputs o ≡ true
   pub marked : whole (position t f.steps) ≡ step_whole instance known fs step
 
 -- where each step is marked so, all that feeds a port is known exactly where `tv_feeds` says so
@@ -142,4 +153,5 @@ FeedsAreWholeByNumbers =
     (f : Flow) → IsWired f → (n : ℕ) (s : Name × Step) (i : Name × StepInput) → IsPortOf f n s i
     → (instance : JobName) (known : Origin → Bool) (fs : List InstanceStep) (whole : ℕ → Bool)
     → ((t : Name) → has_name f.steps t ≡ true → IsMarked f instance known fs whole t)
-    → framing.feed_whole instance known fs i.1.from ≡ feeds.feed_whole whole (feed_numbered f i.1.from)
+    → framing.feed_whole instance known fs i.1.from
+    ≡ feeds.feed_whole whole (feed_numbered f i.1.from)

@@ -18,18 +18,22 @@ use Rattle.tv_joined.specs.WiredFlows.{IsWired}
 pub record AreEndingsOf (f : Flow) (levels : Name → ℕ) (es : Events) (e : Endings) : Type 0 where
   pub sound : IsSound (all_after f) e
   pub marked :
-      (n : ℕ) (s : Name × Step) → slice_get f.steps n ≡ Some s → is_whole e n ≡ whole_by es s.0 (levels s.0) []
+      (n : ℕ) (s : Name × Step) → slice_get f.steps n ≡ Some s
+      → is_whole e n ≡ whole_by es s.0 (levels s.0) []
 
 -- of the steps that are named, all have ended by the counters where they have by counting events
 abbrev pub EndingsAreByCounting : Type 0
 EndingsAreByCounting =
-    (f : Flow) → IsWired f → (levels : Name → ℕ) (es : Events) (e : Endings) → AreEndingsOf f levels es e
+    (f : Flow) → IsWired f → (levels : Name → ℕ) (es : Events) (e : Endings)
+    → AreEndingsOf f levels es e
     → (ns : List Name) → list_all (has_name f.steps) ns ≡ true
-    → have_ended e (map (λ n. position n f.steps) ns) ≡ have_ended_by es levels (last_first (ranked f.steps) []) ns
+    → have_ended e (map (λ n. position n f.steps) ns)
+    ≡ have_ended_by es levels (last_first (ranked f.steps) []) ns
 
 -- all steps have ended where all are marked whole
 abbrev pub AllHaveEndedWhereWhole : Type 0
 AllHaveEndedWhereWhole =
-    (f : Flow) → IsWired f → (levels : Name → ℕ) (es : Events) (e : Endings) → AreEndingsOf f levels es e
+    (f : Flow) → IsWired f → (levels : Name → ℕ) (es : Events) (e : Endings)
+    → AreEndingsOf f levels es e
     → list_all (λ b. b) e.whole.items
     ≡ have_ended_by es levels (last_first (ranked f.steps) []) (map (λ s. s.0) (ranked f.steps))

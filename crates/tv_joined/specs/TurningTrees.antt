@@ -24,14 +24,17 @@ use Rattle.tv_told.specs.Stated.{IsFrom}
 -- where something stands in a step's iteration, its outputs' trees are whole as counting events says
 abbrev pub TreesAreWholeByCounting : Type 0
 TreesAreWholeByCounting =
-    (f : InstanceStep) (levels : ℕ) → HasLevels f.step.iteration levels → (es : Events) → FitStep f es
+    (f : InstanceStep) (levels : ℕ) → HasLevels f.step.iteration levels → (es : Events)
+    → FitStep f es
     → (k declared : ℕ) (x : Place) (u : Iteration) → at f.step.iteration x ≡ Some u
-    → whole (known_at x (part_so_far f.step.step k levels declared es)) ≡ whole_by es f.step.step (levels_below levels x) x
+    → whole (known_at x (part_so_far f.step.step k levels declared es))
+    ≡ whole_by es f.step.step (levels_below levels x) x
 
 -- ---- one event more
 
 -- a legal event of step f that tells something, after these; they fit the step, whose iteration has so many levels
-pub record IsNextOf (instance : JobName) (fs : List InstanceStep) (f : InstanceStep) (levels : ℕ) (es : Events) (e : Event)
+pub record IsNextOf (instance : JobName) (fs : List InstanceStep) (f : InstanceStep) (levels : ℕ)
+    (es : Events) (e : Event)
     : Type 0 where
   pub first : Finds fs f
   pub fit : FitStep f es
@@ -47,7 +50,8 @@ whole_from q p = unwrap_or (least_whole q p) (suc (length q))
 -- the tree of any output tells which prefixes of the event's place turn whole: those from that length on
 abbrev pub TreesTurnWhole : Type 0
 TreesTurnWhole =
-    (instance : JobName) (fs : List InstanceStep) (f : InstanceStep) (levels : ℕ) (es : Events) (e : Event)
+    (instance : JobName) (fs : List InstanceStep) (f : InstanceStep) (levels : ℕ) (es : Events)
+    (e : Event)
     → IsNextOf instance fs f levels es e → (k declared : ℕ)
     → IsFrom (newly_by es e f.step.step levels) (event_place e)
     (whole_from (event_place e) (part_so_far f.step.step k levels declared (e ∷ es)))
@@ -68,6 +72,7 @@ HasRightLength levels (took s q) = length q ≡ levels
 
 abbrev pub EventsCanBePut : Type 0
 EventsCanBePut =
-    (instance : JobName) (fs : List InstanceStep) (f : InstanceStep) (levels : ℕ) (es : Events) (e : Event)
+    (instance : JobName) (fs : List InstanceStep) (f : InstanceStep) (levels : ℕ) (es : Events)
+    (e : Event)
     → IsNextOf instance fs f levels es e → (k declared : ℕ)
     → CanPut e (part_so_far f.step.step k levels declared es) × HasRightLength levels e

@@ -13,7 +13,8 @@ use Rattle.tv_framing.specs.Views.{AreGiven, InAll, View}
 
 -- a frame of a flow whose depths agree is told a result, the length of a list or a passed fault that is legal in all instances that
 -- have what was told
-pub record IsNextEvent (flows : List (Name × Flow)) (levels : Name → ℕ) (v : View) (e : Event) : Type 0 where
+pub record IsNextEvent (flows : List (Name × Flow)) (levels : Name → ℕ) (v : View)
+    (e : Event) : Type 0 where
   pub frame : IsFrame v
   pub depths : IsOfDepths flows levels v
   pub tells : is_telling e ≡ true
@@ -22,4 +23,5 @@ pub record IsNextEvent (flows : List (Name × Flow)) (levels : Name → ℕ) (v 
 
 -- whether the step of that number is whole, by what was told
 abbrev pub is_whole_step : (Name → ℕ) → View → ℕ → Bool
-is_whole_step levels v n = option_map_or (λ s. whole_by v.events s.0 (levels s.0) []) (slice_get v.flow.steps n) false
+is_whole_step levels v n = option_map_or (λ s. whole_by v.events s.0 (levels s.0) [])
+    (slice_get v.flow.steps n) false

@@ -17,14 +17,17 @@ use Rattle.tv_kept.specs.Told.{StepIsTold}
 -- the result of a known job that has none, where its values are of the declared depths
 abbrev pub ResultsMayCome : Type 0
 ResultsMayCome =
-    (flows : List (Name × Flow)) (levels : Name → ℕ) (v : View) → IsFrame v → IsOfDepths flows levels v
+    (flows : List (Name × Flow)) (levels : Name → ℕ) (v : View) → IsFrame v
+    → IsOfDepths flows levels v
     → (s : Name) (q : Place) (vs : List Value) → In (s, q) v.jobs → has_result v.events s q ≡ false
-    → AreGiven (ranked v.flow.steps) (gave s q vs ∷ v.events) → IsNextEvent flows levels v (gave s q vs)
+    → AreGiven (ranked v.flow.steps) (gave s q vs ∷ v.events)
+    → IsNextEvent flows levels v (gave s q vs)
 
 -- a list or a fault that can settle
 abbrev pub SettlementsMayCome : Type 0
 SettlementsMayCome =
-    (flows : List (Name × Flow)) (levels : Name → ℕ) (v : View) → IsFrame v → IsOfDepths flows levels v
+    (flows : List (Name × Flow)) (levels : Name → ℕ) (v : View) → IsFrame v
+    → IsOfDepths flows levels v
     → (e : Event) → CanSettle v e → IsNextEvent flows levels v e
 
 -- a job that is taken tells no step anything

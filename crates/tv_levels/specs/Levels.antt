@@ -23,7 +23,8 @@ pub record Level : Type 0 where
 
 -- in the value at the port of leaf k a fault with this mark stands at what is left of the place where the leaf begins, above all
 -- that the port binds
-pub record CameFrom (s : Step) (f : StepMeaning) (q : Place) (k : ℕ) (m : Option Mark) : Type 0 where
+pub record CameFrom (s : Step) (f : StepMeaning) (q : Place) (k : ℕ)
+    (m : Option Mark) : Type 0 where
   pub port : Name
   pub start : ℕ
   pub begins : slice_get (starts (port_mismatch f.inputs) 0 (strategy_of s)) k ≡ Some (port, start)
@@ -53,7 +54,8 @@ IsNoJob (list r ts) = Unit {0}
 pub record Fit (flow : Flow) (fs : List StepMeaning) (ls : List Level) : Type 0 where
   pub of_step : (l : Level) → In l ls → l.step < length flow.steps
   pub there :
-      (l : Level) (s : Name × Step) (f : StepMeaning) → In l ls → slice_get flow.steps l.step ≡ Some s → In f fs
+      (l : Level) (s : Name × Step) (f : StepMeaning) → In l ls
+      → slice_get flow.steps l.step ≡ Some s → In f fs
       → f.step ≡ s.0 → FitsThere s.1 f l.place l.what (at f.iteration l.place)
 
 -- that one is there
@@ -67,5 +69,6 @@ pub record IsAmong (ls : List Level) (n : ℕ) (q : Place) : Type 0 where
 pub record AreLevels (flow : Flow) (fs : List StepMeaning) (ls : List Level) : Type 0 where
   pub fit : Fit flow fs ls
   pub all :
-      (n : ℕ) (s : Name × Step) (f : StepMeaning) (q : Place) (t : Iteration) → slice_get flow.steps n ≡ Some s
+      (n : ℕ) (s : Name × Step) (f : StepMeaning) (q : Place) (t : Iteration)
+      → slice_get flow.steps n ≡ Some s
       → In f fs → f.step ≡ s.0 → at f.iteration q ≡ Some t → IsNoJob t → IsAmong ls n q

@@ -36,7 +36,8 @@ module _ (t : Telling) where
   pub record IsJobNoted (q : Place) (old new : Kept) : Type 0 where
     pub grows : Grows old.groups new.groups
     pub told :
-        (s : Name × Step) (it : Iteration) → Tells s it → (r : List Origin) (b : Binding) → at it q ≡ Some (leaf r (job b))
+        (s : Name × Step) (it : Iteration) → Tells s it → (r : List Origin) (b : Binding)
+        → at it q ≡ Some (leaf r (job b))
         → IsNoted s it (records_of old) (records_of new)
         × ((x : Record) × In x (records_of new) × (x.job ≡ job_at s.0 q))
 
@@ -45,8 +46,10 @@ module _ (t : Telling) where
     pub grows : Grows old.groups new.groups
     pub grouped : IsGrouped (job_at t.name) new.groups q u
     pub told :
-        (s : Name × Step) (it : Iteration) → Tells s it → (n : Iteration) → at it q ≡ Some n → HasLevels n levels
-        → Shows u n × IsNoted s it (records_of old) (records_of new) × HaveRecords s.0 q n (records_of new)
+        (s : Name × Step) (it : Iteration) → Tells s it → (n : Iteration) → at it q ≡ Some n
+        → HasLevels n levels
+        → Shows u n × IsNoted s it (records_of old) (records_of new)
+        × HaveRecords s.0 q n (records_of new)
 
   -- the shapes of the first items
   abbrev pub ShowFirst : List Shape → Iterations → Type 0
@@ -55,13 +58,16 @@ module _ (t : Telling) where
   ShowFirst (u ∷ us) (tree n ns) = Shows u n × ShowFirst us ns
 
   -- so it is of the first items of the list at q, with the parts that stand for them
-  pub record AreBuilt (levels : ℕ) (q : Place) (old new : Kept) (us : List Shape) (ps : List Part) : Type 0 where
+  pub record AreBuilt (levels : ℕ) (q : Place) (old new : Kept) (us : List Shape)
+      (ps : List Part) : Type 0 where
     pub grows : Grows old.groups new.groups
     pub grouped : ItemsAreGrouped (job_at t.name) new.groups q 0 (trees_of us)
     pub parts : StandFor new.groups ps (shapes_used (job_at t.name) q 0 (trees_of us))
     pub told :
-        (s : Name × Step) (it : Iteration) → Tells s it → (r : List Origin) (ns : Iterations) → at it q ≡ Some (list r ns)
+        (s : Name × Step) (it : Iteration) → Tells s it → (r : List Origin) (ns : Iterations)
+        → at it q ≡ Some (list r ns)
         → AllHaveLevels ns levels → length us ≤ count ns
         → ShowFirst us ns × IsNoted s it (records_of old) (records_of new)
-        × ((i : ℕ) (p : Place) (src : List Origin) (b : Binding) → i < length us → at (list r ns) (i ∷ p) ≡ Some (leaf src (job b))
+        × ((i : ℕ) (p : Place) (src : List Origin) (b : Binding) → i < length us
+        → at (list r ns) (i ∷ p) ≡ Some (leaf src (job b))
         → (x : Record) × In x (records_of new) × (x.job ≡ job_at s.0 (q ++ (i ∷ p))))

@@ -50,7 +50,8 @@ module _ {A : Type 0} (of_element : Name → Place → List A) (of_node : Name �
   output_told n o q =
       option_map_or
       (λ s. option_map_or
-      (λ p. option_map_or (λ x. of_node s.0 x.0 x.1) (reached [] (slice_index_or shapes n no_shape) q) [])
+      (λ p. option_map_or (λ x. of_node s.0 x.0 x.1)
+      (reached [] (slice_index_or shapes n no_shape) q) [])
       (slice_get s.1.outputs o) [])
       (slice_get flow.steps n) []
 

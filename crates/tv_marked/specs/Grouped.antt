@@ -19,7 +19,8 @@ module _ (name : Place → JobName) (gs : Groups) where
   abbrev mutual
     pub IsGrouped : Place → Shape → Type 0
     IsGrouped q (leaf g k) = Unit {0}
-    IsGrouped q (list g us) = IsBefore (length gs) g × (marks_of gs g ≡ shapes_used name q 0 us) × ItemsAreGrouped q 0 us
+    IsGrouped q (list g us) = IsBefore (length gs) g × (marks_of gs g ≡ shapes_used name q 0 us)
+        × ItemsAreGrouped q 0 us
 
     pub ItemsAreGrouped : Place → ℕ → Shapes → Type 0
     ItemsAreGrouped q i no_trees = Unit {0}
@@ -28,7 +29,8 @@ module _ (name : Place → JobName) (gs : Groups) where
 -- so it is of each step of the flow
 abbrev pub AllAreGrouped : Flow → Groups → List Shape → Type 0
 AllAreGrouped flow gs us =
-    (n : ℕ) (s : Name × Step) → slice_get flow.steps n ≡ Some s → IsGrouped (job_at s.0) gs [] (slice_index_or us n no_shape)
+    (n : ℕ) (s : Name × Step) → slice_get flow.steps n ≡ Some s
+    → IsGrouped (job_at s.0) gs [] (slice_index_or us n no_shape)
 
 -- these parts were made, and stand for these marks
 pub record StandFor (gs : Groups) (ps : List Part) (ms : List Mark) : Type 0 where

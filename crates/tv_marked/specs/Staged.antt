@@ -67,9 +67,11 @@ HaveRecords s q t rs =
     → (r : Record) × In r rs × (r.job ≡ job_at s (q ++ p))
 
 -- so many steps by rank are done: these are their shapes, and the records are of main jobs, with one for each job of theirs
-pub record IsStage (gives : Giving) (d : Document) (flow : Flow) (r : ℕ) (k : Kept) (us : List Shape) : Type 0 where
+pub record IsStage (gives : Giving) (d : Document) (flow : Flow) (r : ℕ) (k : Kept)
+    (us : List Shape) : Type 0 where
   pub shapes : AreShapesOf flow (steps_until gives d flow r) us
   pub own : (x : Record) → In x (records_of k) → In x (main_records (meaning gives d))
   pub all :
-      (f : InstanceStep) → model.In f (steps_until gives d flow r) → (j : PlacedJob) → model.In j f.jobs
+      (f : InstanceStep) → model.In f (steps_until gives d flow r) → (j : PlacedJob)
+      → model.In j f.jobs
       → (x : Record) × In x (records_of k) × (x.job ≡ job_at j.step j.place)

@@ -14,7 +14,8 @@ pub record IsStepOf (flow : Flow) (g : InstanceStep) : Type 0 where
   pub here : slice_get flow.steps (position g.step.step flow.steps) ≡ Some (g.step.step, step)
   pub gives : ℕ → Place → Value
   pub levels : ℕ
-  pub outputs : g.step.outputs ≡ outputs_by [] g.step.step gives levels g.step.iteration 0 step.outputs
+  pub outputs : g.step.outputs
+      ≡ outputs_by [] g.step.step gives levels g.step.iteration 0 step.outputs
 
 -- the shape of a step that was made, and none of one that was not
 abbrev pub ShapeOf : Option InstanceStep → Shape → Type 0
@@ -24,4 +25,5 @@ ShapeOf (Some g) u = Shows u g.step.iteration
 -- these are the shapes of the steps that were made, by number
 abbrev pub AreShapesOf : Flow → List InstanceStep → List Shape → Type 0
 AreShapesOf flow fs us =
-    (t : Name) → ShapeOf (find (λ (g : InstanceStep). same_name t g.step.step) fs) (slice_index_or us (position t flow.steps) no_shape)
+    (t : Name) → ShapeOf (find (λ (g : InstanceStep). same_name t g.step.step) fs)
+    (slice_index_or us (position t flow.steps) no_shape)

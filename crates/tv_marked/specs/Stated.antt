@@ -28,7 +28,8 @@ StagesGoOn =
     (gives : Giving) (d : Document) (flow : Flow) → IsMainFlow d flow
     → (ls : List Level) → AreLevels flow (main_steps (meaning gives d)) ls
     → (what : ℕ → Place → Option What) → IsTableOf ls what
-    → (n r : ℕ) (s : Name × Step) → slice_get flow.steps n ≡ Some s → position s.0 (ranked flow.steps) ≡ r
+    → (n r : ℕ) (s : Name × Step) → slice_get flow.steps n ≡ Some s
+    → position s.0 (ranked flow.steps) ≡ r
     → (old now : Kept) (us more : List Shape) → IsStage gives d flow r old us
     → (u : Shape)
     → IsBuilt (record { flow = flow; shapes = us; ports = ports_of flow s.1; begins = begins_of flow s.1; what = what n; name = s.0 })

@@ -49,12 +49,16 @@ abbrev pub fault_marks : Flow → List Shape → List Port → List ℕ → ℕ 
 fault_marks = fault_told element_marks node_marks
 
 -- of the iteration of step s: its jobs used what is told of them, and its lists and passed faults are those of the table
-pub record IsToldOf (flow : Flow) (shapes : List Shape) (ports : List Port) (begins : List ℕ) (what : Place → Option What) (s : Step) (it : Iteration)
+pub record IsToldOf (flow : Flow) (shapes : List Shape) (ports : List Port) (begins : List ℕ)
+    (what : Place → Option What) (s : Step) (it : Iteration)
     : Type 0 where
   pub jobs :
       (q : Place) (r : List Origin) (b : Binding) → at it q ≡ Some (leaf r (job b))
       → bound_marks flow shapes ports begins q ≡ map mark_of (flat_map used (bound_values s b))
-  pub lists : (q : Place) (r : List Origin) (ts : Iterations) → at it q ≡ Some (list r ts) → what q ≡ Some (closed (count ts))
+  pub lists : (q : Place) (r : List Origin) (ts : Iterations) → at it q ≡ Some (list r ts)
+      → what q ≡ Some (closed (count ts))
   pub faults :
-      (q : Place) (r : List Origin) (m : Option Mark) (e : ErrorDoc) → at it q ≡ Some (leaf r (passed m e))
-      → (k : ℕ) × (what q ≡ Some (came k)) × (fault_marks flow shapes ports begins k q ≡ map mark_of (mark_or m []))
+      (q : Place) (r : List Origin) (m : Option Mark) (e : ErrorDoc)
+      → at it q ≡ Some (leaf r (passed m e))
+      → (k : ℕ) × (what q ≡ Some (came k))
+      × (fault_marks flow shapes ports begins k q ≡ map mark_of (mark_or m []))

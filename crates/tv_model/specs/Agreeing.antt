@@ -57,7 +57,8 @@ abbrev pub ActivitiesAgree : List (Name × Flow) → Step → List Activity → 
 ActivitiesAgree flows s [] = Unit {0}
 ActivitiesAgree flows s (a ∷ as') = ActivityAgrees flows s a × ActivitiesAgree flows s as'
 
-pub record StepAgrees (flows : List (Name × Flow)) (given : List (Name × ℕ)) (so_far : List StepDepths) (s : Step)
+pub record StepAgrees (flows : List (Name × Flow)) (given : List (Name × ℕ))
+    (so_far : List StepDepths) (s : Step)
     : Type 0 where
   pub feeds : InputsAgree given so_far s.inputs
   pub dots : DotsAgree (port_depth given so_far s) (strategy_of s)
@@ -67,10 +68,12 @@ pub record StepAgrees (flows : List (Name × Flow)) (given : List (Name × ℕ))
   pub ports : list_all (λ p. is_some (named p s.inputs)) (leaf_names (strategy_of s)) ≡ true
   pub activities : ActivitiesAgree flows s s.activities
 
-abbrev pub StepsAgree : List (Name × Flow) → List (Name × ℕ) → List StepDepths → List (Name × Step) → Type 0
+abbrev pub StepsAgree : List (Name × Flow) → List (Name × ℕ) → List StepDepths → List (Name × Step)
+    → Type 0
 StepsAgree flows given so_far [] = Unit {0}
 StepsAgree flows given so_far (s ∷ ss) =
-    StepAgrees flows given so_far s.1 × StepsAgree flows given (step_depths given so_far s ∷ so_far) ss
+    StepAgrees flows given so_far s.1
+    × StepsAgree flows given (step_depths given so_far s ∷ so_far) ss
 
 pub record FlowAgrees (flows : List (Name × Flow)) (flow : Flow) : Type 0 where
   pub steps : StepsAgree flows flow.inputs [] (ranked flow.steps)
@@ -95,7 +98,8 @@ NestsWithin flows (suc k) f =
 
 abbrev pub InputsHave : List (Name × ℕ) → List (Name × Value) → Type 0
 InputsHave [] vs = Unit {0}
-InputsHave (x ∷ xs) vs = HasDepth (unwrap_or (named x.0 vs) (list tt no_trees)) x.1 × InputsHave xs vs
+InputsHave (x ∷ xs) vs = HasDepth (unwrap_or (named x.0 vs) (list tt no_trees)) x.1
+    × InputsHave xs vs
 
 pub record Agrees (d : Document) : Type 0 where
   pub flows : (f : Name) (flow : Flow) → named f d.flows ≡ Some flow → FlowAgrees d.flows flow

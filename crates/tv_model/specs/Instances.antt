@@ -56,7 +56,8 @@ module _ (gives : Giving) (inside : Name → JobName → List (Name × Value) �
         asks = [];
         opens = None;
         ending = bounced_end;
-        result = error_results name (codes "bounced") (fault_makers (map plain inputs)) (declared_depths s);
+        result = error_results name (codes "bounced") (fault_makers (map plain inputs))
+            (declared_depths s);
       }
 
   -- the same job by its tries

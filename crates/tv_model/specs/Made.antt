@@ -54,5 +54,6 @@ result_of os k n =
     (λ o. unwrap_or (slice_get o.job.result k) (list tt no_trees))
     (find (λ o. same_job n o.job.name) os) (list tt no_trees)
 
-abbrev pub delivered_outputs : JobName → Name → List Opened → ℕ → Iteration → ℕ → List (Name × ℕ) → List (Name × Delivered)
+abbrev pub delivered_outputs : JobName → Name → List Opened → ℕ → Iteration → ℕ → List (Name × ℕ)
+    → List (Name × Delivered)
 delivered_outputs instance s os levels it k ps = outputs_delivered instance s (result_of os) levels it k ps

@@ -22,7 +22,8 @@ abbrev pub instances_inside : Opened → List Instance
 instances_inside o = option_map_or (λ m. m.instances) o.inside []
 
 -- a flow with this instance's name on these inputs
-abbrev pub instance_meaning : Giving → (Name → JobName → List (Name × Value) → Meaning) → JobName → Flow → List (Name × Value) → Meaning
+abbrev pub instance_meaning : Giving → (Name → JobName → List (Name × Value) → Meaning) → JobName
+    → Flow → List (Name × Value) → Meaning
 instance_meaning gives inside instance flow vs =
     let given = given_of flow vs in
     let made = steps_made gives inside instance given [] (ranked flow.steps) in
@@ -40,7 +41,8 @@ abbrev pub no_meaning : Meaning
 no_meaning = record { outputs = []; instances = []; steps = []; jobs = [] }
 
 -- a flow of at most so many levels of nesting
-abbrev pub flow_meaning : Giving → List (Name × Flow) → ℕ → Name → JobName → List (Name × Value) → Meaning
+abbrev pub flow_meaning : Giving → List (Name × Flow) → ℕ → Name → JobName → List (Name × Value)
+    → Meaning
 flow_meaning gives flows zero f name vs = no_meaning
 flow_meaning gives flows (suc levels) f name vs =
     option_map_or

@@ -22,4 +22,5 @@ abbrev pub result_line : Meaning → Text
 result_line m =
     let outputs = object (members (map (λ o. (o.0, json o.1)) m.outputs)) in
     let totals = totals_json (totals m.jobs) in
-    compact_text (object (members ((codes "outputs", outputs) ∷ (codes "totals", totals) ∷ []))) ++ 10 ∷ []
+    compact_text (object (members ((codes "outputs", outputs) ∷ (codes "totals", totals) ∷ [])))
+    ++ 10 ∷ []

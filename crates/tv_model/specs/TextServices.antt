@@ -76,4 +76,5 @@ services =
     ∷ []
 
 abbrev pub text_services : Giving
-text_services s vs n = option_map_or (λ f. f vs n) (named s services) (bad (codes "no such service"))
+text_services s vs n = option_map_or (λ f. f vs n) (named s services)
+    (bad (codes "no such service"))

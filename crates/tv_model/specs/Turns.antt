@@ -68,7 +68,8 @@ module _ (js : List Job) where
   order_in zero I = []
   order_in (suc levels) I =
       let own = jobs_in I in
-      asks_by_turns (length own) [] (map (λ j. job_turn j (order_in levels j.name)) (bounced_first (λ j. j) own))
+      asks_by_turns (length own) [] (map (λ j. job_turn j (order_in levels j.name))
+      (bounced_first (λ j. j) own))
 
 -- the order of a meaning is that of its own instance; no level is without an instance
 abbrev pub ask_order : Meaning → List (JobName × Ask)

@@ -78,7 +78,8 @@ abbrev pub of_flows : List (Name × Flow) → List (Name × Value) → Document
 of_flows flows values = record { format = 1; main = codes "m"; flows = flows; inputs = values }
 
 -- of one flow, on these values
-abbrev pub document : List (Name × ℕ) → List (Name × Step) → List (Name × Feed) → List (Name × Value) → Document
+abbrev pub document : List (Name × ℕ) → List (Name × Step) → List (Name × Feed)
+    → List (Name × Value) → Document
 document inputs steps outputs values =
     of_flows ((codes "m", record { inputs = inputs; steps = steps; outputs = outputs }) ∷ []) values
 

@@ -50,7 +50,8 @@ HandingOut = (a t : ℕ) → ChangesJob (λ j. handed_out j.name a t) (IsHandedO
 -- ---- accepted
 
 -- the job was out; it runs on with the try after that or with its flow, or is settled
-pub record IsAccepted (a t : ℕ) (r : Bool) (gives : Giving) (d : Document) (past : History) (j : Job)
+pub record IsAccepted (a t : ℕ) (r : Bool) (gives : Giving) (d : Document) (past : History)
+    (j : Job)
     : Type 0 where
   pub was_out : is_out past j.name ≡ true
   pub asked : option_map_or (is_ask a t) (next_ask past j) false ≡ true

@@ -20,7 +20,8 @@ pub record Stands (past : History) (j : Job) : Type 0 where
       → is_settled past j ≡ list_any (is_ended_entry j.name) past
   -- idle is what runs, isn't out and has no open flow
   pub idle :
-      is_idle past j ≡ (is_running past j && not (is_out past j.name) && not (has_open_instance past j))
+      is_idle past j ≡ (is_running past j && not (is_out past j.name)
+      && not (has_open_instance past j))
   -- what is out runs, and has a next try and no open flow
   pub out : is_out past j.name ≡ true → is_running past j ≡ true
   pub out_next : is_out past j.name ≡ true → is_some (next_ask past j) ≡ true

@@ -27,32 +27,38 @@ use Rattle.tv_open.specs.declared.open.Open.{Open}
 
 -- where the job of that number waits it is ready
 abbrev pub WaitsReady : View → List Seat → ℕ → Type 0
-WaitsReady v ss n = (s : Seat) → slice_get ss n ≡ Some s → is_waiting s.stage ≡ true → IsReadySeat v s
+WaitsReady v ss n = (s : Seat) → slice_get ss n ≡ Some s → is_waiting s.stage ≡ true
+    → IsReadySeat v s
 
 -- the job is at this stage from now on: of one that waited the frame was told that it is taken, of others nothing
-pub record IsTaken (d : Document) (plan : FlowPlan) (pool : Nodes) (o p : Open) (v : View) (n : ℕ) (x : Stage) : Type 0
+pub record IsTaken (d : Document) (plan : FlowPlan) (pool : Nodes) (o p : Open) (v : View) (n : ℕ)
+    (x : Stage) : Type 0
   where
     pub view : View
     pub is_open : IsOpen d plan pool p view
     pub waited :
         (s : Seat) → slice_get o.seats.seats n ≡ Some s → is_waiting s.stage ≡ true
         → GoesOn d (levels_in v.flow) v view (took (spot_of v.flow.steps s).0 s.place) []
-    pub went_on : (s : Seat) → slice_get o.seats.seats n ≡ Some s → is_waiting s.stage ≡ false → view ≡ v
+    pub went_on : (s : Seat) → slice_get o.seats.seats n ≡ Some s → is_waiting s.stage ≡ false
+        → view ≡ v
     pub seats : p.seats.seats ≡ with_stage n x o.seats.seats
 
 -- the same before the seat moves
-pub record IsToldTaken (d : Document) (plan : FlowPlan) (pool : Nodes) (o p : Open) (v : View) (n : ℕ) : Type 0 where
+pub record IsToldTaken (d : Document) (plan : FlowPlan) (pool : Nodes) (o p : Open) (v : View)
+    (n : ℕ) : Type 0 where
   pub view : View
   pub is_open : IsOpen d plan pool p view
   pub waited :
       (s : Seat) → slice_get o.seats.seats n ≡ Some s → is_waiting s.stage ≡ true
       → GoesOn d (levels_in v.flow) v view (took (spot_of v.flow.steps s).0 s.place) []
-  pub went_on : (s : Seat) → slice_get o.seats.seats n ≡ Some s → is_waiting s.stage ≡ false → view ≡ v
+  pub went_on : (s : Seat) → slice_get o.seats.seats n ≡ Some s → is_waiting s.stage ≡ false
+      → view ≡ v
 
 -- ---- events
 
 -- the frame was told e, and with it so many jobs became known, which sit behind these
-pub record IsTold (d : Document) (plan : FlowPlan) (pool : Nodes) (p : Open) (v : View) (e : Event) (more : ℕ)
+pub record IsTold (d : Document) (plan : FlowPlan) (pool : Nodes) (p : Open) (v : View) (e : Event)
+    (more : ℕ)
     (ss : List Seat) : Type 0 where
   pub view : View
   pub new : List Seat
@@ -64,7 +70,8 @@ pub record IsTold (d : Document) (plan : FlowPlan) (pool : Nodes) (p : Open) (v 
 -- ---- results
 
 -- all room is taken for these as the result of the job of seat s, of step t
-pub record IsReadyToGive (d : Document) (plan : FlowPlan) (pool : Nodes) (o : Open) (v : View) (s : Seat)
+pub record IsReadyToGive (d : Document) (plan : FlowPlan) (pool : Nodes) (o : Open) (v : View)
+    (s : Seat)
     (t : Name × Step) (vs : List Value) (x : Spot) : Type 0 where
   pub is_open : IsOpen d plan pool o v
   pub step : x.step ≡ s.step
@@ -74,7 +81,8 @@ pub record IsReadyToGive (d : Document) (plan : FlowPlan) (pool : Nodes) (o : Op
   pub room : o.seats.room ≡ x.more
 
 -- and it runs, by what the frame was told
-pub record MayBeGiven (d : Document) (plan : FlowPlan) (pool : Nodes) (o : Open) (v : View) (n : ℕ) (s : Seat)
+pub record MayBeGiven (d : Document) (plan : FlowPlan) (pool : Nodes) (o : Open) (v : View) (n : ℕ)
+    (s : Seat)
     (t : Name × Step) (vs : List Value) (x : Spot) : Type 0 where
   pub ready : IsReadyToGive d plan pool o v s t vs x
   pub there : slice_get o.seats.seats n ≡ Some s
@@ -82,7 +90,8 @@ pub record MayBeGiven (d : Document) (plan : FlowPlan) (pool : Nodes) (o : Open)
   pub taken : is_taken v.events t.0 s.place ≡ true
 
 -- or it waits, and is ready
-pub record MayBeBounced (d : Document) (plan : FlowPlan) (pool : Nodes) (o : Open) (v : View) (n : ℕ) (s : Seat)
+pub record MayBeBounced (d : Document) (plan : FlowPlan) (pool : Nodes) (o : Open) (v : View)
+    (n : ℕ) (s : Seat)
     (t : Name × Step) (vs : List Value) (x : Spot) : Type 0 where
   pub ready : IsReadyToGive d plan pool o v s t vs x
   pub there : slice_get o.seats.seats n ≡ Some s
@@ -92,7 +101,8 @@ pub record MayBeBounced (d : Document) (plan : FlowPlan) (pool : Nodes) (o : Ope
 -- ---- lists and faults
 
 -- all room is taken to settle one by this event, with which so many jobs become known
-pub record IsReadyToSettleAt (d : Document) (plan : FlowPlan) (pool : Nodes) (o : Open) (v : View) (e : Event) (more : ℕ)
+pub record IsReadyToSettleAt (d : Document) (plan : FlowPlan) (pool : Nodes) (o : Open) (v : View)
+    (e : Event) (more : ℕ)
     : Type 0 where
   pub is_open : IsOpen d plan pool o v
   pub number : ℕ

@@ -27,8 +27,10 @@ BindsFault v s b = HoldsError v (spot_of v.flow.steps s) b
 
 -- a ready one that binds a fault, or all ready ones bind none
 abbrev pub IsFirstFaulty : View → List Seat → Option ℕ → Type 0
-IsFirstFaulty v ss None = (n : ℕ) (s : Seat) → slice_get ss n ≡ Some s → IsReadySeat v s → BindsFault v s false
-IsFirstFaulty v ss (Some n) = (s : Seat) × (slice_get ss n ≡ Some s) × IsReadySeat v s × BindsFault v s true
+IsFirstFaulty v ss None = (n : ℕ) (s : Seat) → slice_get ss n ≡ Some s → IsReadySeat v s
+    → BindsFault v s false
+IsFirstFaulty v ss (Some n) = (s : Seat) × (slice_get ss n ≡ Some s) × IsReadySeat v s
+    × BindsFault v s true
 
 -- ---- what goes on
 

@@ -17,7 +17,8 @@ pub record Kept : Type 0 where
 pub record AreKept (v : View) (ls : List Level) : Type 0 where
   pub fit : InAll v (λ instance results fs. Fit v.flow (map step_of fs) ls)
   pub all :
-      (n : ℕ) (s : Name × Step) (q : Place) → slice_get v.flow.steps n ≡ Some s → has_level v.events s.0 q ≡ true
+      (n : ℕ) (s : Name × Step) (q : Place) → slice_get v.flow.steps n ≡ Some s
+      → has_level v.events s.0 q ≡ true
       → IsAmong ls n q
 
 -- and of all that the instance has

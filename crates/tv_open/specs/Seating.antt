@@ -20,7 +20,8 @@ seat_for j = new_seat j.0 j.1
 
 -- these may sit down one after another
 pub record CanSit (f : Frame) (x : Seated) : Type 0 where
-  pub steps : (n : ℕ) (j : ℕ × Place) → slice_get (known_jobs f.intakes) n ≡ Some j → length x.seats ≤ n
+  pub steps : (n : ℕ) (j : ℕ × Place) → slice_get (known_jobs f.intakes) n ≡ Some j
+      → length x.seats ≤ n
       → (j.0 < length x.levels) × (length j.1 ≡ levels_of x.levels j.0)
   pub apart : (n m : ℕ) (j k : ℕ × Place) → slice_get (known_jobs f.intakes) n ≡ Some j
       → slice_get (known_jobs f.intakes) m ≡ Some k → j ≡ k → n ≡ m
@@ -35,4 +36,5 @@ pub record AllSit (f : Frame) (x y : Seated) : Type 0 where
 
 -- the frame keeps some view
 abbrev pub IsKept : Frame → Type 0
-IsKept f = (plan : FlowPlan) × (pool : Nodes) × (flows : List (Name × Flow)) × (v : View) × Keeps flows plan pool f v
+IsKept f = (plan : FlowPlan) × (pool : Nodes) × (flows : List (Name × Flow)) × (v : View)
+    × Keeps flows plan pool f v

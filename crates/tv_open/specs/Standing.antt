@@ -20,7 +20,8 @@ abbrev pub job_of : Seat → ℕ × Place
 job_of s = (s.step, s.place)
 
 -- an instance of the plan's flow, told what the view says
-pub record IsOpen (d : Document) (plan : FlowPlan) (pool : Nodes) (o : Open) (v : View) : Type 0 where
+pub record IsOpen (d : Document) (plan : FlowPlan) (pool : Nodes) (o : Open)
+    (v : View) : Type 0 where
   pub keeps : Keeps d.flows plan pool o.frame v
   pub known : map job_of o.seats.seats ≡ known_jobs o.frame.intakes
   pub levels : o.seats.levels ≡ map (λ s. levels_in v.flow s.0) v.flow.steps
@@ -33,7 +34,8 @@ abbrev pub IsSome : Open → Type 0
 IsSome o = (d : Document) × (plan : FlowPlan) × (pool : Nodes) × (v : View) × IsOpen d plan pool o v
 
 -- told nothing, on these inputs: all jobs wait
-pub record StartsOpen (d : Document) (plan : FlowPlan) (values : List Value) (pool : Nodes) (o : Open) : Type 0 where
+pub record StartsOpen (d : Document) (plan : FlowPlan) (values : List Value) (pool : Nodes)
+    (o : Open) : Type 0 where
   pub view : View
   pub untold : view.events ≡ []
   pub inputs : map (λ x. x.1) view.inputs ≡ values

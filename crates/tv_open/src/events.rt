@@ -121,7 +121,8 @@ impl Open {
         pieces: &Pieces,
     ) -> Result<Spot, NoMemory>
         requires may { (d : Document) × (v : View) × (s : Seat) × (t : Name × Step)
-            × IsOpen d plan.now pool.old self.old v × (slice_get self.old.seats.seats number ≡ Some s)
+            × IsOpen d plan.now pool.old self.old v
+            × (slice_get self.old.seats.seats number ≡ Some s)
             × (slice_get v.flow.steps s.step ≡ Some t)
             × MayGive v t s.place (piece_values pieces.now) }
         requires sound { AreSound pieces.now }

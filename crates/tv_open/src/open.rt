@@ -125,7 +125,8 @@ fn seated(
     plan: &FlowPlan,
     pool: &mut Nodes,
 ) -> Result<Open, NoMemory>
-    requires starts { (d : Document) × (values : _) × Starts d.flows plan.now values pool.old frame }
+    requires starts { (d : Document) × (values : _)
+        × Starts d.flows plan.now values pool.old frame }
     requires empty { seats.seats ≡ [] }
     requires levels { seats.levels
         ≡ map (λ s. levels_in (flow_view plan.now.flow) s.0) (flow_view plan.now.flow).steps }

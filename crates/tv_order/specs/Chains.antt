@@ -10,7 +10,8 @@ use Rattle.tv_order.specs.JobOrder.{same_spot}
 -- what stands before `base` was appended by one worker, the newest first
 abbrev pub is_by_one_from : Giving → Meaning → History → History → Bool
 is_by_one_from gives m base [] = true
-is_by_one_from gives m base (e ∷ es) = is_by_one_from gives m base es && is_by_one_after m (es ++ base) e
+is_by_one_from gives m base (e ∷ es) = is_by_one_from gives m base es
+    && is_by_one_after m (es ++ base) e
 
 -- one of two names begins the other
 abbrev pub AreNested : JobName → JobName → Type 0

@@ -21,14 +21,16 @@ module _ (held : JobName → List Job) (walks_into passes : Job → Bool) where
   abbrev pub first_among : (JobName → Option Job) → List Job → Option Job
   first_among inside [] = None
   first_among inside (j ∷ js) =
-      option_or (if walks_into j then inside j.name else (if passes j then Some j else None)) (first_among inside js)
+      option_or (if walks_into j then inside j.name else (if passes j then Some j else None))
+      (first_among inside js)
 
   abbrev pub first_in : ℕ → JobName → Option Job
   first_in zero instance = None
   first_in (suc levels) instance = first_among (first_in levels) (held instance)
 
   -- the instances that this walk enters
-  abbrev pub entered_among : (JobName → Option Job) → (JobName → List JobName) → List Job → List JobName
+  abbrev pub entered_among : (JobName → Option Job) → (JobName → List JobName) → List Job
+      → List JobName
   entered_among inside entered [] = []
   entered_among inside entered (j ∷ js) =
       if walks_into j
@@ -37,11 +39,13 @@ module _ (held : JobName → List Job) (walks_into passes : Job → Bool) where
 
   abbrev pub entered_in : ℕ → JobName → List JobName
   entered_in zero instance = []
-  entered_in (suc levels) instance = instance ∷ entered_among (first_in levels) (entered_in levels) (held instance)
+  entered_in (suc levels) instance = instance ∷ entered_among (first_in levels) (entered_in levels)
+      (held instance)
 
 -- of each open instance the list has jobs of it alone, in the order of the meaning, and among them each that passes
 -- or has an open instance
-pub record IsHeld (m : Meaning) (past : History) (passes : Job → Bool) (I : JobName) (js : List Job) : Type 0 where
+pub record IsHeld (m : Meaning) (past : History) (passes : Job → Bool) (I : JobName)
+    (js : List Job) : Type 0 where
   pub of_instance : (j : Job) → In j js → In j m.jobs × (j.instance ≡ I)
   pub in_order : AllPairs (λ j k. StandsBefore j k m.jobs) js
   pub all_there :

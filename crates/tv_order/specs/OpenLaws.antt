@@ -48,7 +48,8 @@ GoingIsInside =
 -- of the jobs beside j at most its limit run, and as many at most have an open instance
 pub record Limits (gives : Giving) (d : Document) (past : History) (j : Job) : Type 0 where
   pub running : count_by (λ k. is_beside j k && runs gives d past k) (all_jobs gives d) ≤ j.limit
-  pub open_within : count_by (λ k. is_beside j k && has_open gives d past k) (all_jobs gives d) ≤ j.limit
+  pub open_within : count_by (λ k. is_beside j k && has_open gives d past k) (all_jobs gives d)
+      ≤ j.limit
 
 abbrev pub StepsKeepLimits : Type 0
 StepsKeepLimits =
@@ -132,7 +133,8 @@ OpenIsBusy =
 pub record IsStill (gives : Giving) (d : Document) (past : History) (J : JobName) : Type 0 where
   pub is_open : IsOpen gives d past J
   pub is_instance : In J (instances (meaning gives d))
-  pub still : (k : Job) → IsJob gives d k → is_inside J k.name ≡ true → goes_on gives d past k ≡ false
+  pub still : (k : Job) → IsJob gives d k → is_inside J k.name ≡ true
+      → goes_on gives d past k ≡ false
 
 -- where nothing can be settled, they are at most eight for each try that is out
 abbrev pub FewAreStill : Type 0

@@ -14,7 +14,8 @@ use Rattle.tv_order.specs.Moments.{IsJob, StandsAt, all_jobs}
 abbrev pub JobsAreInOrder : Type 0
 JobsAreInOrder =
     (gives : Giving) (d : Document)
-    → AllPairs (λ j k. job_before d.flows nesting_limit d.main j.name k.name ≡ true) (all_jobs gives d)
+    → AllPairs (λ j k. job_before d.flows nesting_limit d.main j.name k.name ≡ true)
+    (all_jobs gives d)
 
 -- no two names stand before each other
 abbrev pub OrderIsStrict : Type 0

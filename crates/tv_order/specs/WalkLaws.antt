@@ -22,11 +22,13 @@ Finds gives d past passes =
 
 -- the first offered ask
 abbrev pub FirstOfferedIsFound : Type 0
-FirstOfferedIsFound = (gives : Giving) (d : Document) (past : History) → Finds gives d past (has_offer gives d past)
+FirstOfferedIsFound = (gives : Giving) (d : Document) (past : History)
+    → Finds gives d past (has_offer gives d past)
 
 -- the first job that is offered or can open its flow
 abbrev pub FirstGoingIsFound : Type 0
-FirstGoingIsFound = (gives : Giving) (d : Document) (past : History) → Finds gives d past (goes_on gives d past)
+FirstGoingIsFound = (gives : Giving) (d : Document) (past : History)
+    → Finds gives d past (goes_on gives d past)
 
 -- who is offered or can open its flow is idle, or ready, unbounced and with a free place
 abbrev pub GoingIsPlain : Type 0
@@ -43,7 +45,8 @@ FirstGoingIsOffered =
     (gives : Giving) (d : Document) (past : History)
     → IsQuiet gives d past
     → ((n : JobName) → is_legal_after gives (meaning gives d) past (opened n) ≡ false)
-    → find (has_offer gives d past) (all_jobs gives d) ≡ find (goes_on gives d past) (all_jobs gives d)
+    → find (has_offer gives d past) (all_jobs gives d)
+    ≡ find (goes_on gives d past) (all_jobs gives d)
 
 -- where the main instance isn't open, nothing goes on
 abbrev pub NothingGoesOnAtEnd : Type 0

@@ -72,5 +72,6 @@ numbers_text k a b = if has_numbers k then codes ": " ++ decimal a ++ codes " an
 
 abbrev pub check_text : Complaint → Text
 check_text c =
-    codes "taverna: check fault " ++ decimal (check_number c.kind) ++ codes " " ++ check_words c.kind ++ codes " at " ++ spot_text c.spot
+    codes "taverna: check fault " ++ decimal (check_number c.kind) ++ codes " "
+    ++ check_words c.kind ++ codes " at " ++ spot_text c.spot
     ++ numbers_text c.kind c.first c.second ++ 10 ∷ []

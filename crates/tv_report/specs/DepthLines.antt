@@ -9,10 +9,12 @@ use Rattle.tv_check.specs.CheckedDepths.{feed_depth, port_depth, flow_depths}
 -- words with a blank between each two, and a line feed
 abbrev pub port_line : Text → Name → Name → Name → ℕ → ℕ → Text
 port_line word f s p declared delivered =
-    word ++ codes " " ++ f ++ codes " " ++ s ++ codes " " ++ p ++ codes " " ++ decimal declared ++ codes " " ++ decimal delivered ++ 10 ∷ []
+    word ++ codes " " ++ f ++ codes " " ++ s ++ codes " " ++ p ++ codes " " ++ decimal declared
+    ++ codes " " ++ decimal delivered ++ 10 ∷ []
 
 abbrev pub end_line : Name → Name → ℕ → Text
-end_line f p delivered = codes "flow " ++ f ++ codes " " ++ p ++ codes " " ++ decimal delivered ++ 10 ∷ []
+end_line f p delivered = codes "flow " ++ f ++ codes " " ++ p ++ codes " " ++ decimal delivered
+    ++ 10 ∷ []
 
 -- what feeds a port of a flow delivers, before any wrapping
 abbrev pub fed_depth : Flow → Feed → ℕ
@@ -30,7 +32,8 @@ step_lines n f s =
 
 -- a flow: its steps, then its outputs
 abbrev pub flow_lines : Name × Flow → Text
-flow_lines f = flat_map (step_lines f.0 f.1) f.1.steps ++ flat_map (λ o. end_line f.0 o.0 (fed_depth f.1 o.1)) f.1.outputs
+flow_lines f = flat_map (step_lines f.0 f.1) f.1.steps
+    ++ flat_map (λ o. end_line f.0 o.0 (fed_depth f.1 o.1)) f.1.outputs
 
 -- all flows, in the order of the document, which is the byte order of their names, as it is of steps and ports
 abbrev pub depth_text : Document → Text

@@ -40,7 +40,8 @@ abbrev pub path_json : List Part → Data
 path_json ps = array (items_of (map part_json ps))
 
 abbrev pub form_text : FormKind → List Part → Text
-form_text k p = codes "taverna: form fault " ++ decimal (kind_number k) ++ codes " " ++ kind_words k ++ codes " at " ++ compact_text (path_json p) ++ 10 ∷ []
+form_text k p = codes "taverna: form fault " ++ decimal (kind_number k) ++ codes " " ++ kind_words k
+    ++ codes " at " ++ compact_text (path_json p) ++ 10 ∷ []
 
 -- whether there is a fault of form
 abbrev pub is_form : FormFault → Bool

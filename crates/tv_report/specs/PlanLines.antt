@@ -15,11 +15,13 @@ planned_output f s levels o = port_line (codes "out") f s o.0 o.1 (o.1 + levels)
 
 -- a step beside its plan
 abbrev pub planned_step : Name → (Name × Step) × StepPlan → Text
-planned_step f (s, p) = flat_map (planned_input f s.0) (zip s.1.inputs p.delivered) ++ flat_map (planned_output f s.0 p.depth) s.1.outputs
+planned_step f (s, p) = flat_map (planned_input f s.0) (zip s.1.inputs p.delivered)
+    ++ flat_map (planned_output f s.0 p.depth) s.1.outputs
 
 abbrev pub planned_end : Name → Name × ℕ → Text
 planned_end f o = end_line f o.0 o.1
 
 -- a flow by its name and its plan
 abbrev pub planned_flow : Name → FlowPlan → Text
-planned_flow f p = flat_map (planned_step f) (zip p.flow.steps p.steps) ++ flat_map (planned_end f) p.outputs
+planned_flow f p = flat_map (planned_step f) (zip p.flow.steps p.steps)
+    ++ flat_map (planned_end f) p.outputs

@@ -9,7 +9,8 @@ use Rattle.tv_entries.specs.Runs.{Run, past_of}
 -- each once, in the order in which they first come, with how often it comes
 abbrev pub tallied : {A : Type 0} → (A → A → Bool) → List A → List (A × ℕ)
 tallied same [] = []
-tallied same (x ∷ xs) = (x, suc (count_by (same x) xs)) ∷ filter (λ e. not (same x e.0)) (tallied same xs)
+tallied same (x ∷ xs) = (x, suc (count_by (same x) xs)) ∷ filter (λ e. not (same x e.0))
+    (tallied same xs)
 
 -- a job with the number of its asks
 abbrev pub trace_line : JobName → ℕ → Text

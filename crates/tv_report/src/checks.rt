@@ -27,7 +27,8 @@ pub fn check_line(alloc: Global, fault: &CheckFault) -> Result<Text, NoMemory>
 }
 
 fn push_numbers(text: &mut String, kind: CheckKind, first: u32, second: u32) -> Result<(), NoMemory>
-    ensures { OnOk result (string_bytes text.new ≡ string_bytes text.old ++ numbers_text (kind_view kind) first second) }
+    ensures { OnOk result (string_bytes text.new ≡ string_bytes text.old
+        ++ numbers_text (kind_view kind) first second) }
 {
     if !has_numbers(kind) {
         return Ok(());
@@ -40,7 +41,8 @@ fn push_numbers(text: &mut String, kind: CheckKind, first: u32, second: u32) -> 
 }
 
 fn push_spot(text: &mut String, spot: &Spot) -> Result<(), NoMemory>
-    ensures { OnOk result (string_bytes text.new ≡ string_bytes text.old ++ spot_text (spot_view spot.now)) }
+    ensures { OnOk result (string_bytes text.new ≡ string_bytes text.old
+        ++ spot_text (spot_view spot.now)) }
 {
     match spot {
         Spot::Main => push_main(text),
@@ -79,7 +81,8 @@ fn push_flow(text: &mut String, flow: &Name) -> Result<(), NoMemory>
 }
 
 fn push_step(text: &mut String, flow: &Name, step: &Name) -> Result<(), NoMemory>
-    ensures { OnOk result (string_bytes text.new ≡ string_bytes text.old ++ step_text flow.now step.now) }
+    ensures { OnOk result (string_bytes text.new ≡ string_bytes text.old
+        ++ step_text flow.now step.now) }
 {
     push_flow(text, flow)?;
     text.push_str(" step ")?;
@@ -95,7 +98,8 @@ fn push_of_step(
     word: &str,
     port: &Name,
 ) -> Result<(), NoMemory>
-    ensures { OnOk result (string_bytes text.new ≡ string_bytes text.old ++ (step_text flow.now step.now ++ word.now ++ port.now)) }
+    ensures { OnOk result (string_bytes text.new ≡ string_bytes text.old
+        ++ (step_text flow.now step.now ++ word.now ++ port.now)) }
 {
     push_step(text, flow, step)?;
     text.push_str(word)?;
@@ -111,7 +115,8 @@ fn push_position(
     word: &str,
     position: u32,
 ) -> Result<(), NoMemory>
-    ensures { OnOk result (string_bytes text.new ≡ string_bytes text.old ++ (step_text flow.now step.now ++ word.now ++ decimal position)) }
+    ensures { OnOk result (string_bytes text.new ≡ string_bytes text.old
+        ++ (step_text flow.now step.now ++ word.now ++ decimal position)) }
 {
     push_step(text, flow, step)?;
     text.push_str(word)?;
@@ -119,7 +124,8 @@ fn push_position(
 }
 
 fn push_flow_output(text: &mut String, flow: &Name, port: &Name) -> Result<(), NoMemory>
-    ensures { OnOk result (string_bytes text.new ≡ string_bytes text.old ++ (flow_text flow.now ++ codes " output " ++ port.now)) }
+    ensures { OnOk result (string_bytes text.new ≡ string_bytes text.old
+        ++ (flow_text flow.now ++ codes " output " ++ port.now)) }
 {
     push_flow(text, flow)?;
     text.push_str(" output ")?;
@@ -128,7 +134,8 @@ fn push_flow_output(text: &mut String, flow: &Name, port: &Name) -> Result<(), N
 }
 
 fn push_given(text: &mut String, port: &Name) -> Result<(), NoMemory>
-    ensures { OnOk result (string_bytes text.new ≡ string_bytes text.old ++ (codes "input " ++ port.now)) }
+    ensures { OnOk result (string_bytes text.new ≡ string_bytes text.old
+        ++ (codes "input " ++ port.now)) }
 {
     text.push_str("input ")?;
     text.push_str(port.as_str())?;

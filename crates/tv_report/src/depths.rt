@@ -35,7 +35,8 @@ fn shorter(a: usize, b: usize) -> usize
 }
 
 fn push_flow(text: &mut String, flow: &(Name, Flow), plan: &FlowPlan) -> Result<(), NoMemory>
-    ensures { OnOk result (string_bytes text.new ≡ string_bytes text.old ++ planned_flow flow.now.0 (flow_plan_view plan.now)) }
+    ensures { OnOk result (string_bytes text.new ≡ string_bytes text.old
+        ++ planned_flow flow.now.0 (flow_plan_view plan.now)) }
 {
     push_steps(
         text,
@@ -52,7 +53,9 @@ fn push_steps(
     steps: &[(Name, Step)],
     plans: &[StepPlan],
 ) -> Result<(), NoMemory>
-    ensures { OnOk result (string_bytes text.new ≡ string_bytes text.old ++ flat_map (planned_step flow.now) (zip (each step_view steps.now) (map step_plan_view plans.now))) }
+    ensures { OnOk result (string_bytes text.new ≡ string_bytes text.old
+        ++ flat_map (planned_step flow.now)
+        (zip (each step_view steps.now) (map step_plan_view plans.now))) }
 {
     let both = shorter(steps.len(), plans.len());
     for index in 0..both {
@@ -67,7 +70,8 @@ fn push_step(
     step: &(Name, Step),
     plan: &StepPlan,
 ) -> Result<(), NoMemory>
-    ensures { OnOk result (string_bytes text.new ≡ string_bytes text.old ++ planned_step flow.now ((step.now.0, step_view step.now.1), step_plan_view plan.now)) }
+    ensures { OnOk result (string_bytes text.new ≡ string_bytes text.old
+        ++ planned_step flow.now ((step.now.0, step_view step.now.1), step_plan_view plan.now)) }
 {
     push_inputs(
         text,
@@ -86,7 +90,9 @@ fn push_inputs(
     inputs: &[(Name, StepInput)],
     delivered: &[(Name, u32)],
 ) -> Result<(), NoMemory>
-    ensures { OnOk result (string_bytes text.new ≡ string_bytes text.old ++ flat_map (planned_input flow.now step.now) (zip (each step_input_view inputs.now) delivered.now)) }
+    ensures { OnOk result (string_bytes text.new ≡ string_bytes text.old
+        ++ flat_map (planned_input flow.now step.now)
+        (zip (each step_input_view inputs.now) delivered.now)) }
 {
     let both = shorter(inputs.len(), delivered.len());
     for index in 0..both {
@@ -115,7 +121,8 @@ fn push_outputs(
     outputs: &[(Name, u32)],
     levels: u32,
 ) -> Result<(), NoMemory>
-    ensures { OnOk result (string_bytes text.new ≡ string_bytes text.old ++ flat_map (planned_output flow.now step.now levels) outputs.now) }
+    ensures { OnOk result (string_bytes text.new ≡ string_bytes text.old
+        ++ flat_map (planned_output flow.now step.now levels) outputs.now) }
 {
     for output in outputs {
         push_output(text, flow, step, output, levels)?;
@@ -130,14 +137,16 @@ fn push_output(
     output: &(Name, u32),
     levels: u32,
 ) -> Result<(), NoMemory>
-    ensures { OnOk result (string_bytes text.new ≡ string_bytes text.old ++ planned_output flow.now step.now levels output.now) }
+    ensures { OnOk result (string_bytes text.new ≡ string_bytes text.old
+        ++ planned_output flow.now step.now levels output.now) }
 {
     push_port(text, "out", flow, step, &output.0)?;
     push_depths(text, output.1, u64::from(output.1) + u64::from(levels))
 }
 
 fn push_ends(text: &mut String, flow: &Name, outputs: &[(Name, u32)]) -> Result<(), NoMemory>
-    ensures { OnOk result (string_bytes text.new ≡ string_bytes text.old ++ flat_map (planned_end flow.now) outputs.now) }
+    ensures { OnOk result (string_bytes text.new ≡ string_bytes text.old
+        ++ flat_map (planned_end flow.now) outputs.now) }
 {
     for output in outputs {
         push_end(text, flow, output)?;
@@ -146,7 +155,8 @@ fn push_ends(text: &mut String, flow: &Name, outputs: &[(Name, u32)]) -> Result<
 }
 
 fn push_end(text: &mut String, flow: &Name, output: &(Name, u32)) -> Result<(), NoMemory>
-    ensures { OnOk result (string_bytes text.new ≡ string_bytes text.old ++ planned_end flow.now output.now) }
+    ensures { OnOk result (string_bytes text.new ≡ string_bytes text.old
+        ++ planned_end flow.now output.now) }
 {
     write!(
         text,
@@ -166,7 +176,9 @@ fn push_port(
     step: &Name,
     port: &Name,
 ) -> Result<(), NoMemory>
-    ensures { OnOk result (string_bytes text.new ≡ string_bytes text.old ++ (word.now ++ codes " " ++ flow.now ++ codes " " ++ step.now ++ codes " " ++ port.now ++ codes " ")) }
+    ensures { OnOk result (string_bytes text.new ≡ string_bytes text.old
+        ++ (word.now ++ codes " " ++ flow.now ++ codes " " ++ step.now ++ codes " " ++ port.now
+        ++ codes " ")) }
 {
     write!(
         text,
@@ -180,7 +192,8 @@ fn push_port(
 
 /// The two depths of a port, and the line feed.
 fn push_depths(text: &mut String, declared: u32, delivered: u64) -> Result<(), NoMemory>
-    ensures { OnOk result (string_bytes text.new ≡ string_bytes text.old ++ (decimal declared ++ codes " " ++ decimal delivered ++ 10 ∷ [])) }
+    ensures { OnOk result (string_bytes text.new ≡ string_bytes text.old
+        ++ (decimal declared ++ codes " " ++ decimal delivered ++ 10 ∷ [])) }
 {
     write!(text, "{declared} {delivered}\n")?;
     Ok(())

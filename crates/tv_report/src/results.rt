@@ -24,7 +24,8 @@ pub type NamedValues = Sequence<(Name, Value)>;
 
 /// The line of a run's outputs and totals: a compact JSON object, and a line feed. Linear in the values.
 pub fn result_line(alloc: Global, outputs: &NamedValues, totals: &Totals) -> Result<Text, NoMemory>
-    ensures { IfOk result (λ t. t ≡ line_of_result (each view outputs.now) (totals_view totals.now)) }
+    ensures { IfOk result (λ t. t
+        ≡ line_of_result (each view outputs.now) (totals_view totals.now)) }
 {
     let mut out = Writer::new(Vec::new(alloc));
     put_result(alloc, &mut out, outputs, totals)?;
@@ -189,7 +190,8 @@ fn put_error(alloc: Global, out: &mut Writer, error: &ErrorDoc) -> Result<(), No
 }
 
 fn put_error_fields(alloc: Global, out: &mut Writer, error: &ErrorDoc) -> Result<(), NoMemory>
-    ensures { OnOk result (Adds out.old out.new (text_member (codes "at") (job_text error.now.at) ++ number_member (codes "depth") error.now.depth
+    ensures { OnOk result (Adds out.old out.new (text_member (codes "at") (job_text error.now.at)
+        ++ number_member (codes "depth") error.now.depth
         ++ Spec.key (codes "from") ∷ tokens_of (array (strings (map job_text error.now.from))) ++ text_member (codes "why") error.now.why)) }
 {
     let at = job_text(alloc, &error.at)?;

@@ -25,7 +25,8 @@ pub fn trace_lines<V: Services>(alloc: Global, board: &Board<V>) -> Result<Text,
 
 /// How many outcomes of each job were accepted, in the order of the first ones. Near linear.
 fn counts_of(alloc: Global, entries: &[Entry]) -> Result<IndexMap<u64, u64>, NoMemory>
-    ensures { IfOk result (λ counts. counts.entries ≡ tallied nat_eq (filter_map accepted_number entries.now)) }
+    ensures { IfOk result (λ counts. counts.entries
+        ≡ tallied nat_eq (filter_map accepted_number entries.now)) }
 {
     let mut counts = IndexMap::new(alloc);
     for entry in entries {
@@ -36,7 +37,8 @@ fn counts_of(alloc: Global, entries: &[Entry]) -> Result<IndexMap<u64, u64>, NoM
 
 fn count_entry(counts: &mut IndexMap<u64, u64>, entry: &Entry) -> Result<(), NoMemory>
     requires { (k : ℕ) → suc (count_at counts.old.entries k) < 2 ^ 64 }
-    ensures { OnOk result (counts.new.entries ≡ counted counts.old.entries (accepted_number entry.now)) }
+    ensures { OnOk result (counts.new.entries
+        ≡ counted counts.old.entries (accepted_number entry.now)) }
 {
     match entry {
         Entry::Accepted { job, .. } => count_one(counts, *job),
@@ -69,7 +71,8 @@ fn push_lines<V: Services>(
     board: &Board<V>,
     counts: &IndexMap<u64, u64>,
 ) -> Result<(), NoMemory>
-    ensures { OnOk result (string_bytes text.new ≡ string_bytes text.old ++ flat_map (numbered_line board.now.names) counts.now.entries) }
+    ensures { OnOk result (string_bytes text.new ≡ string_bytes text.old
+        ++ flat_map (numbered_line board.now.names) counts.now.entries) }
 {
     for (job, count) in counts.iter() {
         push_line(alloc, text, board, *job, *count)?;
@@ -85,7 +88,8 @@ fn push_line<V: Services>(
     job: u64,
     count: u64,
 ) -> Result<(), NoMemory>
-    ensures { OnOk result (string_bytes text.new ≡ string_bytes text.old ++ numbered_line board.now.names (job, count)) }
+    ensures { OnOk result (string_bytes text.new ≡ string_bytes text.old
+        ++ numbered_line board.now.names (job, count)) }
 {
     match board.name_of(job)? {
         Some(name) => push_named(alloc, text, &name, count),
@@ -94,7 +98,8 @@ fn push_line<V: Services>(
 }
 
 fn push_named(alloc: Global, text: &mut String, name: &JobName, count: u64) -> Result<(), NoMemory>
-    ensures { OnOk result (string_bytes text.new ≡ string_bytes text.old ++ trace_line name.now count) }
+    ensures { OnOk result (string_bytes text.new ≡ string_bytes text.old
+        ++ trace_line name.now count) }
 {
     let job = job_text(alloc, name)?;
     write!(text, "{} {count}\n", job.as_str())?;

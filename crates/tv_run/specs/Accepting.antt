@@ -40,7 +40,8 @@ IsWrongFor q o why = judged (map (λ p. p.1) q.outputs) o ≡ Err why
 
 -- what the plan of the job's step says after this try came out wrong
 abbrev pub is_next_after : OpenRun → Ticket → Next → Type 0
-is_next_after r t x = option_map (λ s. next_after (tries_of s) t.activity t.attempt false) (step_of r t.job) ≡ Some x
+is_next_after r t x = option_map (λ s. next_after (tries_of s) t.activity t.attempt false)
+    (step_of r t.job) ≡ Some x
 
 -- then it goes on with this try
 abbrev pub GoesOnWith : OpenRun → Ticket → ℕ → ℕ → Type 0
@@ -55,7 +56,8 @@ abbrev pub FailsThen : OpenRun → Ticket → Type 0
 FailsThen r t = is_next_after r t next.Failed
 
 -- the try of the ticket is out, and with its outcome, which is right or not, its job is settled and gives these
-pub record SettlesWith (gives : Giving) (r : OpenRun) (t : Ticket) (right : Bool) (vs : List Value) : Type 0 where
+pub record SettlesWith (gives : Giving) (r : OpenRun) (t : Ticket) (right : Bool)
+    (vs : List Value) : Type 0 where
   pub instances : Instances
   pub stands : Stands gives r instances
   pub outer : ℕ
@@ -66,8 +68,10 @@ pub record SettlesWith (gives : Giving) (r : OpenRun) (t : Ticket) (right : Bool
   pub is_number : IsNumber gives r instances t.job outer number instance seat job
   pub out : seat.stage ≡ stage.Out t.activity t.attempt
   pub legal :
-      is_legal_after gives (meant gives (run_of r)) (past_of (run_of r)) (accepted job.name t.activity t.attempt right) ≡ true
-  pub settled : is_settled (accepted job.name t.activity t.attempt right ∷ past_of (run_of r)) job ≡ true
+      is_legal_after gives (meant gives (run_of r)) (past_of (run_of r))
+      (accepted job.name t.activity t.attempt right) ≡ true
+  pub settled : is_settled (accepted job.name t.activity t.attempt right ∷ past_of (run_of r)) job
+      ≡ true
   pub result : vs ≡ job.result
 
 -- the run with another number of failed jobs
@@ -77,7 +81,8 @@ with_failed n r = record r { failed = n }
 -- one entry more, with which its job is settled: it stands so with one failed job more, where the outcome wasn't right
 abbrev pub GoesToBut : Giving → OpenRun → OpenRun → Entry → Bool → Type 0
 GoesToBut gives r s e true = GoesTo gives r s e × (s.failed ≡ r.failed)
-GoesToBut gives r s e false = GoesTo gives r (with_failed (suc r.failed) s) e × (s.failed ≡ r.failed)
+GoesToBut gives r s e false = GoesTo gives r (with_failed (suc r.failed) s) e
+    × (s.failed ≡ r.failed)
 
 -- ---- seats that move while nothing is told
 
@@ -87,7 +92,8 @@ pub record MovesTo (r s : OpenRun) (ys : Instances) : Type 0 where
   pub names : names_of s ≡ names_of r
 
 -- seat n of the open instance is s, and a try of it is out
-pub record IsOutHere (r : OpenRun) (xs : Instances) (i : ℕ) (x : Instance) (v : View) (n : ℕ) (s : Seat) : Type 0 where
+pub record IsOutHere (r : OpenRun) (xs : Instances) (i : ℕ) (x : Instance) (v : View) (n : ℕ)
+    (s : Seat) : Type 0 where
   pub here : IsOpenHere r xs i x v
   pub seat : slice_get x.seats n ≡ Some s
   pub out : is_out s.stage ≡ true
@@ -95,13 +101,15 @@ pub record IsOutHere (r : OpenRun) (xs : Instances) (i : ℕ) (x : Instance) (v 
 -- there is room for one more idle job of the step
 pub record HasBackRoom (r : OpenRun) (i step : ℕ) : Type 0 where
   pub each :
-      (c : code.Instance) (o : Open) → slice_get r.instances.items i ≡ Some c → c.open.items ≡ o ∷ []
+      (c : code.Instance) (o : Open) → slice_get r.instances.items i ≡ Some c
+      → c.open.items ≡ o ∷ []
       → 0 < back_room o.seats.back_rooms step
 
 -- or for one that is put aside
 pub record HasAsideRoom (r : OpenRun) (i step : ℕ) : Type 0 where
   pub each :
-      (c : code.Instance) (o : Open) → slice_get r.instances.items i ≡ Some c → c.open.items ≡ o ∷ []
+      (c : code.Instance) (o : Open) → slice_get r.instances.items i ≡ Some c
+      → c.open.items ≡ o ∷ []
       → 0 < room_at o.seats.aside_rooms step
 
 -- for an entry, and for one more due job

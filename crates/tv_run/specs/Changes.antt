@@ -43,13 +43,15 @@ pub record ChangesTo (r s : OpenRun) (ys : Instances) : Type 0 where
   pub rest : HasSameRest r s
 
 -- the open instance of that number is x, told v
-pub record IsOpenHere (r : OpenRun) (xs : Instances) (i : ℕ) (x : Instance) (v : View) : Type 0 where
+pub record IsOpenHere (r : OpenRun) (xs : Instances) (i : ℕ) (x : Instance)
+    (v : View) : Type 0 where
   pub fits : Fits r xs
   pub there : IsAt xs i x
   pub is_open : x.view ≡ Some v
 
 -- seat n of it is s, of step t
-pub record IsSeatHere (r : OpenRun) (xs : Instances) (i : ℕ) (x : Instance) (v : View) (n : ℕ) (s : Seat)
+pub record IsSeatHere (r : OpenRun) (xs : Instances) (i : ℕ) (x : Instance) (v : View) (n : ℕ)
+    (s : Seat)
     (t : Name × Step) : Type 0 where
   pub here : IsOpenHere r xs i x v
   pub seat : slice_get x.seats n ≡ Some s
@@ -58,12 +60,14 @@ pub record IsSeatHere (r : OpenRun) (xs : Instances) (i : ℕ) (x : Instance) (v
 -- ---- jobs that begin
 
 -- the job of seat n is at this stage from now on: of one that waited the instance was told that it is taken, of others nothing
-pub record TakesIn (r s : OpenRun) (xs : Instances) (i : ℕ) (x : Instance) (v : View) (n : ℕ) (y : Stage) : Type 0
+pub record TakesIn (r s : OpenRun) (xs : Instances) (i : ℕ) (x : Instance) (v : View) (n : ℕ)
+    (y : Stage) : Type 0
   where
     pub view : View
     pub waited :
         (s : Seat) → slice_get x.seats n ≡ Some s → is_waiting s.stage ≡ true
-        → GoesOn (run_view r.run) (levels_in x.flow) v view (took (spot_of x.flow.steps s).0 s.place) []
+        → GoesOn (run_view r.run)
+        (levels_in x.flow) v view (took (spot_of x.flow.steps s).0 s.place) []
     pub went_on : (s : Seat) → slice_get x.seats n ≡ Some s → is_waiting s.stage ≡ false → view ≡ v
     pub changes : ChangesTo r s (with_instance xs i (told x view (with_stage n y x.seats)))
     pub names : names_of s ≡ names_of r
@@ -71,7 +75,8 @@ pub record TakesIn (r s : OpenRun) (xs : Instances) (i : ℕ) (x : Instance) (v 
 -- ---- events
 
 -- the instance was told e, and the jobs of these seats, as many as that, became known, behind those of the seats ss
-pub record TellsIn (r s : OpenRun) (xs : Instances) (i : ℕ) (x : Instance) (v : View) (e : Event) (more : ℕ)
+pub record TellsIn (r s : OpenRun) (xs : Instances) (i : ℕ) (x : Instance) (v : View) (e : Event)
+    (more : ℕ)
     (ss : List Seat) : Type 0 where
   pub view : View
   pub new : List Seat
@@ -82,7 +87,8 @@ pub record TellsIn (r s : OpenRun) (xs : Instances) (i : ℕ) (x : Instance) (v 
   pub due : s.due ≤ r.due + more
 
 -- all room is taken for these as the result of the job of seat s, of step t, of instance i
-pub record IsReadyIn (r : OpenRun) (i : ℕ) (v : View) (s : Seat) (t : Name × Step) (vs : List Value) (p : Spot) : Type 0
+pub record IsReadyIn (r : OpenRun) (i : ℕ) (v : View) (s : Seat) (t : Name × Step) (vs : List Value)
+    (p : Spot) : Type 0
   where
     pub ready :
         (c : code.Instance) (o : Open) (plan : FlowPlan) → slice_get r.instances.items i ≡ Some c
@@ -91,7 +97,8 @@ pub record IsReadyIn (r : OpenRun) (i : ℕ) (v : View) (s : Seat) (t : Name × 
     pub room : HasRoomIn r i p.more
 
 -- and the job of seat n, which is s, runs: with its try out, or its flow open
-pub record MayBeGivenIn (r : OpenRun) (xs : Instances) (i : ℕ) (x : Instance) (v : View) (n : ℕ) (s : Seat)
+pub record MayBeGivenIn (r : OpenRun) (xs : Instances) (i : ℕ) (x : Instance) (v : View) (n : ℕ)
+    (s : Seat)
     (t : Name × Step) (vs : List Value) (p : Spot) : Type 0 where
   pub seat : IsSeatHere r xs i x v n s t
   pub ready : IsReadyIn r i v s t vs p
@@ -99,7 +106,8 @@ pub record MayBeGivenIn (r : OpenRun) (xs : Instances) (i : ℕ) (x : Instance) 
   pub taken : is_taken v.events t.0 s.place ≡ true
 
 -- or it waits, and is ready
-pub record MayBeBouncedIn (r : OpenRun) (xs : Instances) (i : ℕ) (x : Instance) (v : View) (n : ℕ) (s : Seat)
+pub record MayBeBouncedIn (r : OpenRun) (xs : Instances) (i : ℕ) (x : Instance) (v : View) (n : ℕ)
+    (s : Seat)
     (t : Name × Step) (vs : List Value) (p : Spot) : Type 0 where
   pub seat : IsSeatHere r xs i x v n s t
   pub ready : IsReadyIn r i v s t vs p
@@ -116,7 +124,8 @@ pub record IsReadyToSettleIn (r : OpenRun) (i : ℕ) (v : View) (e : Event) (mor
 -- ---- instances
 
 -- it is of this flow, on these inputs, told nothing, and all its jobs wait
-pub record IsOpenedOn (d : Document) (f : Flow) (values : List Value) (name : JobName) (y : Instance) : Type 0 where
+pub record IsOpenedOn (d : Document) (f : Flow) (values : List Value) (name : JobName)
+    (y : Instance) : Type 0 where
   pub view : View
   pub is_open : y.view ≡ Some view
   pub called : y.name ≡ name
@@ -132,13 +141,15 @@ IsNameOf r None n = n ≡ []
 IsNameOf r (Some k) n = slice_get (names_of r) k ≡ Some n
 
 -- an instance of the flow can be added: it is opened by a known job of whom there is none yet, or the main one
-pub record CanAdd (r : OpenRun) (xs : Instances) (flow : ℕ) (f : Flow) (opener : Option ℕ) (name : JobName)
+pub record CanAdd (r : OpenRun) (xs : Instances) (flow : ℕ) (f : Flow) (opener : Option ℕ)
+    (name : JobName)
     (values : List Value) : Type 0 where
   pub fits : Fits r xs
   pub is_flow : IsFlow (run_view r.run) flow f
   pub named : IsNameOf r opener name
   pub main : opener ≡ None → xs ≡ []
-  pub start : (plan : FlowPlan) → flow_view plan.flow ≡ f → CanStart (run_view r.run).flows plan values
+  pub start : (plan : FlowPlan) → flow_view plan.flow ≡ f
+      → CanStart (run_view r.run).flows plan values
 
 -- s fits these, with more names perhaps, and what was done is the same
 pub record AddsTo (r s : OpenRun) (ys : Instances) : Type 0 where
@@ -151,11 +162,13 @@ pub record AddsTo (r s : OpenRun) (ys : Instances) : Type 0 where
   pub outs : s.outs ≡ r.outs
   -- all others are open as they were
   pub opened :
-      (i : ℕ) (c e : code.Instance) → slice_get r.instances.items i ≡ Some c → slice_get s.instances.items i ≡ Some e
+      (i : ℕ) (c e : code.Instance) → slice_get r.instances.items i ≡ Some c
+      → slice_get s.instances.items i ≡ Some e
       → e.open ≡ c.open
 
 -- there is room for one more open flow of the step of seat n
 pub record HasNestRoom (r : OpenRun) (i n : ℕ) : Type 0 where
   pub each :
-      (c : code.Instance) (o : Open) → slice_get r.instances.items i ≡ Some c → c.open.items ≡ o ∷ []
+      (c : code.Instance) (o : Open) → slice_get r.instances.items i ≡ Some c
+      → c.open.items ≡ o ∷ []
       → 0 < room_at o.seats.nested_rooms (step_at o.seats.seats n)

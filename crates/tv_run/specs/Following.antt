@@ -29,7 +29,8 @@ pub record OthersAreSame (r s : OpenRun) (i : ℕ) : Type 0 where
 -- there is room for one more job of an instance
 pub record CanNumber (r : OpenRun) (i : ℕ) : Type 0 where
   pub there : i < length r.instances.items
-  pub numbers : (c : code.Instance) → slice_get r.instances.items i ≡ Some c → length c.jobs.items < vec_capacity c.jobs
+  pub numbers : (c : code.Instance) → slice_get r.instances.items i ≡ Some c
+      → length c.jobs.items < vec_capacity c.jobs
   pub jobs : length r.jobs.items < vec_capacity r.jobs
   pub due : r.due < vec_capacity r.entries
 
@@ -48,7 +49,8 @@ pub record AddsNumber (r s : OpenRun) (i n : ℕ) : Type 0 where
   pub around : HasSameAround r s
   pub others : OthersAreSame r s i
   pub numbered :
-      (c e : code.Instance) → slice_get r.instances.items i ≡ Some c → slice_get s.instances.items i ≡ Some e
+      (c e : code.Instance) → slice_get r.instances.items i ≡ Some c
+      → slice_get s.instances.items i ≡ Some e
       → HasNumbers c e (c.jobs.items ++ length r.jobs.items ∷ [])
   pub busy : s.busy ≡ r.busy
   pub jobs : s.jobs.items ≡ r.jobs.items ++ record { instance = i; number = n } ∷ []
@@ -82,20 +84,24 @@ pub record Numbers (r s : OpenRun) (i : ℕ) : Type 0 where
   pub around : HasSameAround r s
   pub others : OthersAreSame r s i
   pub numbered :
-      (c e : code.Instance) → slice_get r.instances.items i ≡ Some c → slice_get s.instances.items i ≡ Some e
+      (c e : code.Instance) → slice_get r.instances.items i ≡ Some c
+      → slice_get s.instances.items i ≡ Some e
       → HasNumbers c e (c.jobs.items ++ range_with_len (length r.jobs.items) (unnumbered c))
   pub busy : s.busy ≡ r.busy
   pub jobs :
       (c : code.Instance) → slice_get r.instances.items i ≡ Some c
-      → s.jobs.items ≡ r.jobs.items ++ map (numbered_in i) (range_with_len (length c.jobs.items) (unnumbered c))
-  pub due : (c : code.Instance) → slice_get r.instances.items i ≡ Some c → s.due ≡ r.due + unnumbered c
+      → s.jobs.items ≡ r.jobs.items
+      ++ map (numbered_in i) (range_with_len (length c.jobs.items) (unnumbered c))
+  pub due : (c : code.Instance) → slice_get r.instances.items i ≡ Some c
+      → s.due ≡ r.due + unnumbered c
 
 -- the instance is busy, and among the busy ones
 pub record LooksInto (r s : OpenRun) (i : ℕ) : Type 0 where
   pub around : HasSameAround r s
   pub others : OthersAreSame r s i
   pub itself :
-      (c e : code.Instance) → slice_get r.instances.items i ≡ Some c → slice_get s.instances.items i ≡ Some e
+      (c e : code.Instance) → slice_get r.instances.items i ≡ Some c
+      → slice_get s.instances.items i ≡ Some e
       → e ≡ record c { is_busy = true }
   pub jobs : s.jobs ≡ r.jobs
   pub due : s.due ≡ r.due
@@ -108,12 +114,15 @@ pub record FollowsIn (r s : OpenRun) (i : ℕ) : Type 0 where
   pub around : HasSameAround r s
   pub others : OthersAreSame r s i
   pub itself :
-      (c e : code.Instance) → slice_get r.instances.items i ≡ Some c → slice_get s.instances.items i ≡ Some e
+      (c e : code.Instance) → slice_get r.instances.items i ≡ Some c
+      → slice_get s.instances.items i ≡ Some e
       → HasNumbers (record c { is_busy = true }) e (c.jobs.items ++ range_with_len (length r.jobs.items) (unnumbered c))
   pub jobs :
       (c : code.Instance) → slice_get r.instances.items i ≡ Some c
-      → s.jobs.items ≡ r.jobs.items ++ map (numbered_in i) (range_with_len (length c.jobs.items) (unnumbered c))
-  pub due : (c : code.Instance) → slice_get r.instances.items i ≡ Some c → s.due ≡ r.due + unnumbered c
+      → s.jobs.items ≡ r.jobs.items
+      ++ map (numbered_in i) (range_with_len (length c.jobs.items) (unnumbered c))
+  pub due : (c : code.Instance) → slice_get r.instances.items i ≡ Some c
+      → s.due ≡ r.due + unnumbered c
   pub busy :
       (c : code.Instance) → slice_get r.instances.items i ≡ Some c
       → s.busy.items ≡ (if c.is_busy then r.busy.items else r.busy.items ++ i ∷ [])
@@ -121,7 +130,8 @@ pub record FollowsIn (r s : OpenRun) (i : ℕ) : Type 0 where
 -- ---- an instance that is new
 
 -- there is room for the instance, for itself and for its jobs
-pub record IsEntering (r : OpenRun) (jobs : Vec ℕ Global) (slot : Vec Open Global) (o : Open) : Type 0 where
+pub record IsEntering (r : OpenRun) (jobs : Vec ℕ Global) (slot : Vec Open Global)
+    (o : Open) : Type 0 where
   pub instances : length r.instances.items < vec_capacity r.instances
   pub empty : slot.items ≡ []
   pub place : 0 < vec_capacity slot
@@ -143,6 +153,7 @@ pub record Enters (r s : OpenRun) (flow : ℕ) (opener : Option ℕ) (o : Open) 
   pub numbers : itself.jobs.items ≡ range_with_len (length r.jobs.items) (length o.seats.seats)
   pub jobs :
       s.jobs.items
-      ≡ r.jobs.items ++ map (numbered_in (length r.instances.items)) (range_with_len 0 (length o.seats.seats))
+      ≡ r.jobs.items ++ map (numbered_in (length r.instances.items))
+      (range_with_len 0 (length o.seats.seats))
   pub due : s.due ≡ r.due + length o.seats.seats
   pub busy : s.busy.items ≡ r.busy.items ++ length r.instances.items ∷ []

@@ -16,19 +16,22 @@ use Rattle.tv_run.specs.declared.run.OpenRun.{OpenRun}
 -- the instance of a job
 abbrev pub instance_of : OpenRun → ℕ → Option code.Instance
 instance_of r k =
-    option_and_then (λ (n : Numbered). slice_get r.instances.items n.instance) (slice_get r.jobs.items k)
+    option_and_then (λ (n : Numbered). slice_get r.instances.items n.instance)
+    (slice_get r.jobs.items k)
 
 abbrev pub seat_of : OpenRun → ℕ → Option Seat
 seat_of r k =
     option_and_then
-    (λ (n : Numbered). option_and_then (λ c. slice_get (seats_of c) n.number) (slice_get r.instances.items n.instance))
+    (λ (n : Numbered). option_and_then (λ c. slice_get (seats_of c) n.number)
+    (slice_get r.instances.items n.instance))
     (slice_get r.jobs.items k)
 
 -- its step, with its name
 abbrev pub named_step_of : OpenRun → ℕ → Option (Name × Step)
 named_step_of r k =
     option_and_then
-    (λ c. option_and_then (λ (s : Seat). slice_get (steps_of (run_view r.run) c) s.step) (seat_of r k))
+    (λ c. option_and_then (λ (s : Seat). slice_get (steps_of (run_view r.run) c) s.step)
+    (seat_of r k))
     (instance_of r k)
 
 abbrev pub step_of : OpenRun → ℕ → Option Step
@@ -44,7 +47,8 @@ stage_in n c = by c.open.items
 
 abbrev pub stage_of : OpenRun → ℕ → Option Stage
 stage_of r k =
-    option_and_then (λ (n : Numbered). option_and_then (stage_in n) (slice_get r.instances.items n.instance))
+    option_and_then (λ (n : Numbered). option_and_then (stage_in n)
+    (slice_get r.instances.items n.instance))
     (slice_get r.jobs.items k)
 
 -- a try at this activity and attempt is out

@@ -48,7 +48,8 @@ pub record IsStepLook (d : Document) (s : Step) (l : StepLook) : Type 0 where
 pub record AreStepLooks (d : Document) (f : Flow) (ls : List StepLook) : Type 0 where
   pub as_many : length ls ≡ length f.steps
   pub each :
-      (k : ℕ) (s : Name × Step) (x : StepLook) → slice_get f.steps k ≡ Some s → slice_get ls k ≡ Some x
+      (k : ℕ) (s : Name × Step) (x : StepLook) → slice_get f.steps k ≡ Some s
+      → slice_get ls k ≡ Some x
       → IsStepLook d s.1 x
 
 pub record IsLook (d : Document) (f : Flow) (l : FlowLook) : Type 0 where
@@ -58,5 +59,6 @@ pub record IsLook (d : Document) (f : Flow) (l : FlowLook) : Type 0 where
 pub record AreLooks (d : Document) (looks : List FlowLook) : Type 0 where
   pub as_many : length looks ≡ length d.flows
   pub each :
-      (k : ℕ) (f : Name × Flow) (l : FlowLook) → slice_get d.flows k ≡ Some f → slice_get looks k ≡ Some l
+      (k : ℕ) (f : Name × Flow) (l : FlowLook) → slice_get d.flows k ≡ Some f
+      → slice_get looks k ≡ Some l
       → IsLook d f.1 l

@@ -18,7 +18,8 @@ out_in cs = sum_by (λ (c : code.Instance). sum_by (λ (o : Open). out_count o.s
 -- an open instance has the room for all of it that is out to be idle again
 pub record HasRoomsIn (r : OpenRun) (i : ℕ) : Type 0 where
   pub each :
-      (c : code.Instance) (o : Open) → slice_get r.instances.items i ≡ Some c → slice_get c.open.items 0 ≡ Some o
+      (c : code.Instance) (o : Open) → slice_get r.instances.items i ≡ Some c
+      → slice_get c.open.items 0 ≡ Some o
       → HasBackRooms o.seats
 
 abbrev pub HasRoomForAll : OpenRun → Type 0
@@ -32,7 +33,8 @@ pub record HasSameOpens (c e : code.Instance) : Type 0 where
   pub is_busy : e.is_busy ≡ c.is_busy
   pub as_many : length e.open.items ≡ length c.open.items
   pub opens :
-      (o p : Open) → slice_get c.open.items 0 ≡ Some o → slice_get e.open.items 0 ≡ Some p → IsSameButRooms o p
+      (o p : Open) → slice_get c.open.items 0 ≡ Some o → slice_get e.open.items 0 ≡ Some p
+      → IsSameButRooms o p
   pub seats : e.seats ≡ c.seats
 
 pub record OtherRoomsIn (r s : OpenRun) (i : ℕ) : Type 0 where
@@ -42,7 +44,8 @@ pub record OtherRoomsIn (r s : OpenRun) (i : ℕ) : Type 0 where
   pub jobs : s.jobs ≡ r.jobs
   pub due : s.due ≡ r.due
   pub itself :
-      (c e : code.Instance) → slice_get r.instances.items i ≡ Some c → slice_get s.instances.items i ≡ Some e
+      (c e : code.Instance) → slice_get r.instances.items i ≡ Some c
+      → slice_get s.instances.items i ≡ Some e
       → HasSameOpens c e
 
 -- ---- taken back
@@ -62,7 +65,8 @@ pub record IsCalledBack (c e : code.Instance) : Type 0 where
   pub is_busy : e.is_busy ≡ c.is_busy
   pub as_many : length e.open.items ≡ length c.open.items
   pub opens :
-      (o p : Open) → slice_get c.open.items 0 ≡ Some o → slice_get e.open.items 0 ≡ Some p → IsBack o p
+      (o p : Open) → slice_get c.open.items 0 ≡ Some o → slice_get e.open.items 0 ≡ Some p
+      → IsBack o p
   pub seats : e.seats ≡ c.seats
 
 pub record IsCalledBackIn (r s : OpenRun) (i : ℕ) : Type 0 where
@@ -72,7 +76,8 @@ pub record IsCalledBackIn (r s : OpenRun) (i : ℕ) : Type 0 where
   pub jobs : s.jobs ≡ r.jobs
   pub due : s.due ≡ r.due
   pub itself :
-      (c e : code.Instance) → slice_get r.instances.items i ≡ Some c → slice_get s.instances.items i ≡ Some e
+      (c e : code.Instance) → slice_get r.instances.items i ≡ Some c
+      → slice_get s.instances.items i ≡ Some e
       → IsCalledBack c e
 
 pub record AllCalledBack (r s : OpenRun) : Type 0 where
@@ -82,5 +87,6 @@ pub record AllCalledBack (r s : OpenRun) : Type 0 where
   pub jobs : s.jobs ≡ r.jobs
   pub due : s.due ≡ r.due
   pub each :
-      (i : ℕ) (c e : code.Instance) → slice_get r.instances.items i ≡ Some c → slice_get s.instances.items i ≡ Some e
+      (i : ℕ) (c e : code.Instance) → slice_get r.instances.items i ≡ Some c
+      → slice_get s.instances.items i ≡ Some e
       → IsCalledBack c e

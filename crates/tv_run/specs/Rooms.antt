@@ -49,7 +49,8 @@ pub record HasRoomBeside (r : OpenRun) (more : ℕ) : Type 0 where
 -- the same in an instance of that number
 pub record HasRoomIn (r : OpenRun) (i more : ℕ) : Type 0 where
   pub numbers :
-      (c : code.Instance) → slice_get r.instances.items i ≡ Some c → length c.jobs.items + more ≤ vec_capacity c.jobs
+      (c : code.Instance) → slice_get r.instances.items i ≡ Some c
+      → length c.jobs.items + more ≤ vec_capacity c.jobs
   pub beside : HasRoomBeside r more
 
 -- ---- all but rooms
@@ -71,7 +72,8 @@ pub record IsSameButRooms (r s : OpenRun) : Type 0 where
   pub pool : s.pool ≡ r.pool
   pub as_many : length s.instances.items ≡ length r.instances.items
   pub instances :
-      (i : ℕ) (c e : code.Instance) → slice_get r.instances.items i ≡ Some c → slice_get s.instances.items i ≡ Some e
+      (i : ℕ) (c e : code.Instance) → slice_get r.instances.items i ≡ Some c
+      → slice_get s.instances.items i ≡ Some e
       → IsSameInstance c e
   pub busy : s.busy.items ≡ r.busy.items
   pub jobs : s.jobs.items ≡ r.jobs.items

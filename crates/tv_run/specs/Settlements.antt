@@ -45,7 +45,8 @@ level_entry i (settled.Passed s q) = entry.Passed i s q
 
 -- of an open instance something holds, by what it was told
 abbrev pub OfOpen : OpenRun → ℕ → (Instance → View → Type 0) → Type 0
-OfOpen r i P = (xs : Instances) (x : Instance) (v : View) → Fits r xs → IsAt xs i x → x.view ≡ Some v → P x v
+OfOpen r i P = (xs : Instances) (x : Instance) (v : View) → Fits r xs → IsAt xs i x
+    → x.view ≡ Some v → P x v
 
 -- it is open
 pub record IsOpenIn (gives : Giving) (r : OpenRun) (i : ℕ) : Type 0 where
@@ -59,11 +60,13 @@ pub record IsOpenIn (gives : Giving) (r : OpenRun) (i : ℕ) : Type 0 where
 
 -- none of its ready jobs binds a fault
 abbrev pub NothingBouncesIn : Instance → View → Type 0
-NothingBouncesIn x v = (n : ℕ) (s : Seat) → slice_get x.seats n ≡ Some s → IsReadySeat v s → BindsFault v s false
+NothingBouncesIn x v = (n : ℕ) (s : Seat) → slice_get x.seats n ≡ Some s → IsReadySeat v s
+    → BindsFault v s false
 
 -- seat n is of a ready job that binds a fault
 abbrev pub BouncesIn : ℕ → Instance → View → Type 0
-BouncesIn n x v = (s : Seat) × (slice_get x.seats n ≡ Some s) × IsReadySeat v s × BindsFault v s true
+BouncesIn n x v = (s : Seat) × (slice_get x.seats n ≡ Some s) × IsReadySeat v s
+    × BindsFault v s true
 
 abbrev pub EndsIn : Instance → View → Type 0
 EndsIn x v = has_ended_now (levels_in v.flow) v ≡ true
@@ -89,12 +92,14 @@ last_busy r = slice_get r.busy.items (length r.busy.items - 1)
 -- of these instances nothing can be settled in it, or it has ended
 abbrev pub LastIsStill : OpenRun → Instances → Type 0
 LastIsStill r xs =
-    (i : ℕ) (x : Instance) (v : View) → last_busy r ≡ Some i → IsAt xs i x → x.view ≡ Some v → IsStill levels_in x v
+    (i : ℕ) (x : Instance) (v : View) → last_busy r ≡ Some i → IsAt xs i x → x.view ≡ Some v
+    → IsStill levels_in x v
 
 abbrev pub SettlesLast : Giving → OpenRun → OpenRun → Bool → Type 0
 SettlesLast gives r s true = StandsStill gives s × Settles (run_of r) (run_of s)
 SettlesLast gives r s false =
-    IsAsBefore r s × (s.busy.items ≡ r.busy.items) × ((xs : Instances) → Fits r xs → LastIsStill r xs)
+    IsAsBefore r s × (s.busy.items ≡ r.busy.items)
+    × ((xs : Instances) → Fits r xs → LastIsStill r xs)
 
 -- it is no longer among them
 pub record LeavesLast (r s : OpenRun) : Type 0 where
@@ -110,7 +115,8 @@ pub record LeavesLast (r s : OpenRun) : Type 0 where
 -- ---- jobs and lists
 
 -- job k, which is j, can be bounced
-pub record IsBouncedJob (gives : Giving) (r : OpenRun) (xs : Instances) (k : ℕ) (j : Job) : Type 0 where
+pub record IsBouncedJob (gives : Giving) (r : OpenRun) (xs : Instances) (k : ℕ)
+    (j : Job) : Type 0 where
   pub outer : ℕ
   pub number : ℕ
   pub instance : Instance
@@ -122,7 +128,8 @@ pub record IsBouncedJob (gives : Giving) (r : OpenRun) (xs : Instances) (k : ℕ
   pub faulty : BindsFault view seat true
 
 -- a list or fault can be settled by this event, with which so many jobs become known
-pub record IsReadyToSettleLevel (gives : Giving) (r : OpenRun) (i : ℕ) (e : Event) (more : ℕ) : Type 0 where
+pub record IsReadyToSettleLevel (gives : Giving) (r : OpenRun) (i : ℕ) (e : Event)
+    (more : ℕ) : Type 0 where
   pub here : IsOpenIn gives r i
   pub can : CanSettle here.view e
   pub ready : IsReadyToSettleIn r i here.view e more

@@ -68,7 +68,8 @@ abbrev pub name_behind : OpenRun → List JobName → Numbered → JobName
 name_behind r so_far k =
     option_map_or
     (λ (c : code.Instance). opener_name so_far c.opener
-    ++ option_map_or (λ s. spot_of (steps_of (run_view r.run) c) s ∷ []) (slice_get (seats_of c) k.number) [])
+    ++ option_map_or (λ s. spot_of (steps_of (run_view r.run) c) s ∷ [])
+    (slice_get (seats_of c) k.number) [])
     (slice_get r.instances.items k.instance) []
 
 -- each job stands behind the one that opened its instance
@@ -90,7 +91,8 @@ pub record IsOpenOf (r : OpenRun) (c : code.Instance) (x : Instance) (v : View) 
   pub itself : Open
   pub there : c.open.items ≡ itself ∷ []
   pub flow : v.flow ≡ x.flow
-  pub is_open : (plan : FlowPlan) → flow_view plan.flow ≡ x.flow → IsOpen (run_view r.run) plan r.pool itself v
+  pub is_open : (plan : FlowPlan) → flow_view plan.flow ≡ x.flow
+      → IsOpen (run_view r.run) plan r.pool itself v
   -- where it isn't busy nothing can be settled in it
   pub still : c.is_busy ≡ false → IsStill levels_in x v
 
@@ -115,7 +117,8 @@ pub record IsKept (r : OpenRun) (i : ℕ) (c : code.Instance) (x : Instance) : T
 -- the frame of the instance of that number, while it is open
 abbrev pub frame_at : OpenRun → ℕ → Option Frame
 frame_at r i =
-    option_and_then (λ (c : code.Instance). option_map (λ (o : Open). o.frame) (slice_get c.open.items 0))
+    option_and_then (λ (c : code.Instance). option_map (λ (o : Open). o.frame)
+    (slice_get c.open.items 0))
     (slice_get r.instances.items i)
 
 -- its job may be handed out, or open a flow
@@ -129,7 +132,8 @@ due_in x = count_by (λ s. is_due s.stage) x.seats
 pub record Fits (r : OpenRun) (xs : Instances) : Type 0 where
   pub as_many : length r.instances.items ≡ length xs
   pub kept :
-      (i : ℕ) (c : code.Instance) (x : Instance) → slice_get r.instances.items i ≡ Some c → IsAt xs i x → IsKept r i c x
+      (i : ℕ) (c : code.Instance) (x : Instance) → slice_get r.instances.items i ≡ Some c
+      → IsAt xs i x → IsKept r i c x
   pub looks : AreLooks (run_view r.run) r.looks.items
   pub numbered : AreNumbered xs (numbers_of r)
   pub names_are : names_of r ≡ names_by xs (numbers_of r)
@@ -140,7 +144,8 @@ pub record Fits (r : OpenRun) (xs : Instances) : Type 0 where
   pub theirs : AreTheirs r.pool (frame_at r)
   -- each that is busy is among the busy ones
   pub busy :
-      (i : ℕ) (c : code.Instance) → slice_get r.instances.items i ≡ Some c → c.is_busy ≡ true → In i r.busy.items
+      (i : ℕ) (c : code.Instance) → slice_get r.instances.items i ≡ Some c → c.is_busy ≡ true
+      → In i r.busy.items
   pub busy_low : (i : ℕ) → In i r.busy.items → i < length r.instances.items
   pub due_is : r.due ≡ sum_by due_in xs
 
@@ -148,13 +153,15 @@ pub record Fits (r : OpenRun) (xs : Instances) : Type 0 where
 
 abbrev pub failed_count : Giving → Run → ℕ
 failed_count gives r =
-    count_by (λ (j : Job). has_failed (past_of r) j.name) (filter (is_settled (past_of r)) (meant gives r).jobs)
+    count_by (λ (j : Job). has_failed (past_of r) j.name)
+    (filter (is_settled (past_of r)) (meant gives r).jobs)
 
 -- what the main flow gives, from its end on
 abbrev pub OutsAre : Giving → Document → Option Ended → Bool → Type 0
 OutsAre gives d None ended = ended ≡ false
 OutsAre gives d (Some e) ended =
-    (ended ≡ true) × AreSound e.outs × (piece_values e.outs ≡ map (λ o. plain o.1) (meaning gives d).outputs)
+    (ended ≡ true) × AreSound e.outs
+    × (piece_values e.outs ≡ map (λ o. plain o.1) (meaning gives d).outputs)
     × AreMainLevels gives d (map level_view e.levels.items)
 
 -- by the services' meaning of its document the run stands so, and these are its instances
@@ -166,7 +173,8 @@ pub record Stands (gives : Giving) (r : OpenRun) (xs : Instances) : Type 0 where
   pub failed_is : r.failed ≡ failed_count gives (run_of r)
   -- each due job has the room of an entry
   pub room : length r.entries.items + r.due ≤ vec_capacity r.entries
-  pub outs_are : (x : Instance) → IsAt xs 0 x → OutsAre gives (run_view r.run) r.outs (is_none x.view)
+  pub outs_are : (x : Instance) → IsAt xs 0 x
+      → OutsAre gives (run_view r.run) r.outs (is_none x.view)
 
 -- so it stands, with some instances
 abbrev pub StandsStill : Giving → OpenRun → Type 0

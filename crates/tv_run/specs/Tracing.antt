@@ -16,4 +16,5 @@ IsTracedBy gives r t = (flow : Flow) × AreTraces gives (run_view r.run) flow t
 
 -- a run that is done, with its traces
 abbrev pub StandsTraced : Giving → OpenRun → Traces → Type 0
-StandsTraced gives r t = StandsStill gives r × (is_done (past_of (run_of r)) ≡ true) × IsTracedBy gives r t
+StandsTraced gives r t = StandsStill gives r × (is_done (past_of (run_of r)) ≡ true)
+    × IsTracedBy gives r t

@@ -38,7 +38,8 @@ module _ (gives : Giving) (r : OpenRun) where
   passes s = passing gives (run_view r.run) (past_of (run_of r)) s
 
   -- job k of the run is j: that of seat n of instance i
-  pub record IsNumber (xs : Instances) (k i n : ℕ) (x : Instance) (s : Seat) (j : Job) : Type 0 where
+  pub record IsNumber (xs : Instances) (k i n : ℕ) (x : Instance) (s : Seat)
+      (j : Job) : Type 0 where
     pub numbered : slice_get (numbers_of r) k ≡ Some (i, n)
     pub is_job : IsJobAt gives (run_view r.run) xs i n x s j
 
@@ -77,7 +78,8 @@ module _ (gives : Giving) (r : OpenRun) where
       (k : ℕ) (t : Seat) (j : Job) → IsNumber xs k i n x t j → MayBegin xs k j
 
   -- of the jobs of a step of instance i that pass themselves, that of seat n has the least place
-  pub record IsFirstOwn (xs : Instances) (s : Seeking) (i : ℕ) (x : Instance) (step n : ℕ) : Type 0 where
+  pub record IsFirstOwn (xs : Instances) (s : Seeking) (i : ℕ) (x : Instance)
+      (step n : ℕ) : Type 0 where
     pub seat : Seat
     pub job : Job
     pub is_job : IsJobAt gives (run_view r.run) xs i n x seat job
@@ -89,7 +91,8 @@ module _ (gives : Giving) (r : OpenRun) where
 
   abbrev pub IsOwn : Instances → Seeking → ℕ → Instance → ℕ → Option ℕ → Type 0
   IsOwn xs s i x step None =
-      (n : ℕ) (t : Seat) (j : Job) → IsJobAt gives (run_view r.run) xs i n x t j → t.step ≡ step → passes s j ≡ false
+      (n : ℕ) (t : Seat) (j : Job) → IsJobAt gives (run_view r.run) xs i n x t j → t.step ≡ step
+      → passes s j ≡ false
   IsOwn xs s i x step (Some n) = IsFirstOwn xs s i x step n
 
   -- what is found at a job of an instance: inside its open flow, or itself where it passes
@@ -97,7 +100,8 @@ module _ (gives : Giving) (r : OpenRun) where
   IsFoundAtJob s j o = IsFoundAt gives (run_view r.run) (passes s) (past_of (run_of r)) j o
 
   -- job k is found at a seat of the step, and nothing at those of the step that stand before it
-  pub record IsFoundAtStep (xs : Instances) (s : Seeking) (i : ℕ) (x : Instance) (step k : ℕ) : Type 0 where
+  pub record IsFoundAtStep (xs : Instances) (s : Seeking) (i : ℕ) (x : Instance)
+      (step k : ℕ) : Type 0 where
     pub number : ℕ
     pub seat : Seat
     pub job : Job
@@ -113,13 +117,15 @@ module _ (gives : Giving) (r : OpenRun) where
   -- or nothing is found at any of the step
   abbrev pub IsFoundOf : Instances → Seeking → ℕ → Instance → ℕ → Option ℕ → Type 0
   IsFoundOf xs s i x step None =
-      (m : ℕ) (t : Seat) (l : Job) → IsJobAt gives (run_view r.run) xs i m x t l → t.step ≡ step → IsFoundAtJob s l None
+      (m : ℕ) (t : Seat) (l : Job) → IsJobAt gives (run_view r.run) xs i m x t l → t.step ≡ step
+      → IsFoundAtJob s l None
   IsFoundOf xs s i x step (Some k) = IsFoundAtStep xs s i x step k
 
   -- a seat of the step stands before that one, or there is no other
   abbrev pub StandsBeforeOwn : Instance → Seat → Option ℕ → Type 0
   StandsBeforeOwn x t None = Unit {0}
-  StandsBeforeOwn x t (Some n) = (s : Seat) → slice_get x.seats n ≡ Some s → place_before t.place s.place ≡ true
+  StandsBeforeOwn x t (Some n) = (s : Seat) → slice_get x.seats n ≡ Some s
+      → place_before t.place s.place ≡ true
 
   -- the same for those of a step that stand before one that passes itself
   abbrev pub IsFoundBefore : Instances → Seeking → ℕ → Instance → ℕ → Option ℕ → Option ℕ → Type 0
@@ -138,7 +144,8 @@ module _ (gives : Giving) (r : OpenRun) where
   pub record IsTicketOf (xs : Instances) (k : ℕ) (t : Ticket) : Type 0 where
     pub job : t.job ≡ k
     pub next :
-        (i n : ℕ) (x : Instance) (s : Seat) (j : Job) → IsNumber xs k i n x s j → passes seeking.Offers j ≡ true
+        (i n : ℕ) (x : Instance) (s : Seat) (j : Job) → IsNumber xs k i n x s j
+        → passes seeking.Offers j ≡ true
         → IsNextTry (past_of (run_of r)) j t.activity t.attempt
 
   -- this try of job k may be handed out next

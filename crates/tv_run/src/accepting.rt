@@ -91,7 +91,9 @@ impl OpenRun {
     /// Whether an answer's try is out, and it is what the try asks. Takes no memory.
     pub fn tested(&self, ticket: Ticket, service: &Name, inputs: &Items, outputs: &Depths) -> Tested
         requires { (gives : Giving) × StandsStill gives self.now }
-        ensures { (gives : Giving) → StandsStill gives self.now → IsTested gives (run_of self.now) (question ticket service.now inputs.now outputs.now) result }
+        ensures { (gives : Giving) → StandsStill gives self.now
+            → IsTested gives (run_of self.now)
+            (question ticket service.now inputs.now outputs.now) result }
     {
         if !self.is_out(&ticket) {
             return Tested::NotOut(self.state_of(ticket.job));
@@ -105,8 +107,12 @@ impl OpenRun {
 
     /// Whether an answer whose try is out is for its service, its inputs and outputs of its depths.
     fn asks(&self, ticket: Ticket, service: &Name, inputs: &Items, outputs: &Depths) -> bool
-        requires { (gives : Giving) × StandsStill gives self.now × (is_some (try_if_out gives (run_of self.now) ticket) ≡ true) }
-        ensures { (gives : Giving) → StandsStill gives self.now → is_some (try_if_out gives (run_of self.now) ticket) ≡ true → IsAnswerTo gives (run_of self.now) (question ticket service.now inputs.now outputs.now) result }
+        requires { (gives : Giving) × StandsStill gives self.now
+            × (is_some (try_if_out gives (run_of self.now) ticket) ≡ true) }
+        ensures { (gives : Giving) → StandsStill gives self.now
+            → is_some (try_if_out gives (run_of self.now) ticket) ≡ true
+            → IsAnswerTo gives (run_of self.now)
+            (question ticket service.now inputs.now outputs.now) result }
     {
         let Ticket { job, activity, .. } = ticket;
         let step = self.step_at(job);
@@ -118,12 +124,18 @@ impl OpenRun {
     /// Whether a job of an open instance binds these values.
     fn binds(&self, job: u64, inputs: &Items) -> bool
         requires { (xs : Instances) × Fits self.now xs × IsOfOpen self.now job }
-        ensures same { IsTrue result → (xs : Instances) (n : TheNumbered) (x : Instance) (v : View) (s : Seat)
-            → Fits self.now xs → slice_get self.now.jobs.items job ≡ Some n → IsAt xs n.instance x → x.view ≡ Some v
-            → slice_get x.seats n.number ≡ Some s → AreInputs v (spot_of x.flow.steps s) (values_view inputs.now) }
-        ensures other { result ≡ false → (xs : Instances) (n : TheNumbered) (x : Instance) (v : View) (s : Seat)
-            → Fits self.now xs → slice_get self.now.jobs.items job ≡ Some n → IsAt xs n.instance x → x.view ≡ Some v
-            → slice_get x.seats n.number ≡ Some s → (vs : List AValue) → AreInputs v (spot_of x.flow.steps s) vs
+        ensures same { IsTrue result
+            → (xs : Instances) (n : TheNumbered) (x : Instance) (v : View) (s : Seat)
+            → Fits self.now xs → slice_get self.now.jobs.items job ≡ Some n → IsAt xs n.instance x
+            → x.view ≡ Some v
+            → slice_get x.seats n.number ≡ Some s
+            → AreInputs v (spot_of x.flow.steps s) (values_view inputs.now) }
+        ensures other { result ≡ false
+            → (xs : Instances) (n : TheNumbered) (x : Instance) (v : View) (s : Seat)
+            → Fits self.now xs → slice_get self.now.jobs.items job ≡ Some n → IsAt xs n.instance x
+            → x.view ≡ Some v
+            → slice_get x.seats n.number ≡ Some s → (vs : List AValue)
+            → AreInputs v (spot_of x.flow.steps s) vs
             → values_view inputs.now ≡ vs → ⊥ }
     {
         let Numbered { instance, number } = self.known(job);
@@ -134,9 +146,13 @@ impl OpenRun {
 
     /// Accepts an outcome of a try that is out, by the judgment of it. Copies the outcome.
     pub fn accept(&mut self, ticket: Ticket, outcome: &Outcome) -> Result<Accepted, NoMemory>
-        requires { (gives : Giving) × (q : Question) × StandsOpen gives self.old × IsAsked gives self.old ticket q (outcome_view outcome.now) }
-        ensures accepted { IfOk result (λ a. (gives : Giving) (q : Question) → StandsOpen gives self.old → IsAsked gives self.old ticket q (outcome_view outcome.now) → AcceptsTo gives self.old self.new q (outcome_view outcome.now) a) }
-        ensures refused { OnErr result ((gives : Giving) → StandsOpen gives self.old → StaysAs gives self.old self.new) }
+        requires { (gives : Giving) × (q : Question) × StandsOpen gives self.old
+            × IsAsked gives self.old ticket q (outcome_view outcome.now) }
+        ensures accepted { IfOk result (λ a. (gives : Giving) (q : Question)
+            → StandsOpen gives self.old → IsAsked gives self.old ticket q (outcome_view outcome.now)
+            → AcceptsTo gives self.old self.new q (outcome_view outcome.now) a) }
+        ensures refused { OnErr result ((gives : Giving) → StandsOpen gives self.old
+            → StaysAs gives self.old self.new) }
     {
         let own = copy_of(self.alloc, outcome)?;
         self.accept_own(ticket, own)
@@ -147,10 +163,12 @@ impl OpenRun {
     pub fn accept_own(&mut self, ticket: Ticket, outcome: Outcome) -> Result<Accepted, NoMemory>
         requires { (gives : Giving) × (q : Question) × StandsOpen gives self.old
             × IsAsked gives self.old ticket q (outcome_view outcome) }
-        ensures accepted { IfOk result (λ a. (gives : Giving) (q : Question) → StandsOpen gives self.old
+        ensures accepted { IfOk result (λ a. (gives : Giving) (q : Question)
+            → StandsOpen gives self.old
             → IsAsked gives self.old ticket q (outcome_view outcome)
             → AcceptsTo gives self.old self.new q (outcome_view outcome) a) }
-        ensures refused { OnErr result ((gives : Giving) → StandsOpen gives self.old → StaysAs gives self.old self.new) }
+        ensures refused { OnErr result ((gives : Giving) → StandsOpen gives self.old
+            → StaysAs gives self.old self.new) }
     {
         let outputs = &self.step_at(ticket.job).outputs;
         match judge(self.alloc, outputs, &outcome)? {
@@ -160,9 +178,15 @@ impl OpenRun {
     }
 
     fn accept_right(&mut self, ticket: Ticket, outcome: Outcome) -> Result<Accepted, NoMemory>
-        requires { (gives : Giving) × (q : Question) × StandsOpen gives self.old × IsAsked gives self.old ticket q (outcome_view outcome) × (is_right q (outcome_view outcome) ≡ true) }
-        ensures accepted { IfOk result (λ a. (gives : Giving) (q : Question) → StandsOpen gives self.old → IsAsked gives self.old ticket q (outcome_view outcome) → is_right q (outcome_view outcome) ≡ true → AcceptsTo gives self.old self.new q (outcome_view outcome) a) }
-        ensures refused { OnErr result ((gives : Giving) → StandsOpen gives self.old → StaysAs gives self.old self.new) }
+        requires { (gives : Giving) × (q : Question) × StandsOpen gives self.old
+            × IsAsked gives self.old ticket q (outcome_view outcome)
+            × (is_right q (outcome_view outcome) ≡ true) }
+        ensures accepted { IfOk result (λ a. (gives : Giving) (q : Question)
+            → StandsOpen gives self.old → IsAsked gives self.old ticket q (outcome_view outcome)
+            → is_right q (outcome_view outcome) ≡ true
+            → AcceptsTo gives self.old self.new q (outcome_view outcome) a) }
+        ensures refused { OnErr result ((gives : Giving) → StandsOpen gives self.old
+            → StaysAs gives self.old self.new) }
     {
         match outcome {
             Outcome::Good(values) => {
@@ -176,9 +200,13 @@ impl OpenRun {
 
     /// The job goes on with its next try, has a flow next, or fails with this reason.
     fn accept_wrong(&mut self, ticket: Ticket, why: Text) -> Result<Accepted, NoMemory>
-        requires { (gives : Giving) × (q : Question) × (o : TheOutcome) × StandsOpen gives self.old × IsAsked gives self.old ticket q o × IsWrongFor q o why }
-        ensures accepted { IfOk result (λ a. (gives : Giving) (q : Question) (o : TheOutcome) → StandsOpen gives self.old → IsAsked gives self.old ticket q o → IsWrongFor q o why → AcceptsTo gives self.old self.new q o a) }
-        ensures refused { OnErr result ((gives : Giving) → StandsOpen gives self.old → StaysAs gives self.old self.new) }
+        requires { (gives : Giving) × (q : Question) × (o : TheOutcome) × StandsOpen gives self.old
+            × IsAsked gives self.old ticket q o × IsWrongFor q o why }
+        ensures accepted { IfOk result (λ a. (gives : Giving) (q : Question) (o : TheOutcome)
+            → StandsOpen gives self.old → IsAsked gives self.old ticket q o → IsWrongFor q o why
+            → AcceptsTo gives self.old self.new q o a) }
+        ensures refused { OnErr result ((gives : Giving) → StandsOpen gives self.old
+            → StaysAs gives self.old self.new) }
     {
         match after(
             self.tries_at(ticket.job),
@@ -203,9 +231,14 @@ impl OpenRun {
 
     /// The outcome wasn't right, and this is the job's next try.
     fn try_again(&mut self, ticket: Ticket, activity: u32, attempt: u32) -> Result<(), NoMemory>
-        requires { (gives : Giving) × (q : Question) × (o : TheOutcome) × StandsOpen gives self.old × IsAsked gives self.old ticket q o × GoesOnWith self.old ticket activity attempt }
-        ensures accepted { OnOk result ((gives : Giving) (q : Question) (o : TheOutcome) → StandsOpen gives self.old → IsAsked gives self.old ticket q o → is_right q o ≡ false → GoesOnWith self.old ticket activity attempt → AcceptsTo gives self.old self.new q o Again) }
-        ensures refused { OnErr result ((gives : Giving) → StandsOpen gives self.old → StaysAs gives self.old self.new) }
+        requires { (gives : Giving) × (q : Question) × (o : TheOutcome) × StandsOpen gives self.old
+            × IsAsked gives self.old ticket q o × GoesOnWith self.old ticket activity attempt }
+        ensures accepted { OnOk result ((gives : Giving) (q : Question) (o : TheOutcome)
+            → StandsOpen gives self.old → IsAsked gives self.old ticket q o → is_right q o ≡ false
+            → GoesOnWith self.old ticket activity attempt
+            → AcceptsTo gives self.old self.new q o Again) }
+        ensures refused { OnErr result ((gives : Giving) → StandsOpen gives self.old
+            → StaysAs gives self.old self.new) }
     {
         let Numbered { instance, number } = self.known(ticket.job);
         self.room_to_put_back(instance, self.step_number(ticket.job))?;
@@ -216,9 +249,13 @@ impl OpenRun {
 
     /// The outcome wasn't right, and the job has the flow of this activity next.
     fn set_aside(&mut self, ticket: Ticket, activity: u32) -> Result<(), NoMemory>
-        requires { (gives : Giving) × (q : Question) × (o : TheOutcome) × StandsOpen gives self.old × IsAsked gives self.old ticket q o × NestsThen self.old ticket activity }
-        ensures accepted { OnOk result ((gives : Giving) (q : Question) (o : TheOutcome) → StandsOpen gives self.old → IsAsked gives self.old ticket q o → is_right q o ≡ false → NestsThen self.old ticket activity → AcceptsTo gives self.old self.new q o Again) }
-        ensures refused { OnErr result ((gives : Giving) → StandsOpen gives self.old → StaysAs gives self.old self.new) }
+        requires { (gives : Giving) × (q : Question) × (o : TheOutcome) × StandsOpen gives self.old
+            × IsAsked gives self.old ticket q o × NestsThen self.old ticket activity }
+        ensures accepted { OnOk result ((gives : Giving) (q : Question) (o : TheOutcome)
+            → StandsOpen gives self.old → IsAsked gives self.old ticket q o → is_right q o ≡ false
+            → NestsThen self.old ticket activity → AcceptsTo gives self.old self.new q o Again) }
+        ensures refused { OnErr result ((gives : Giving) → StandsOpen gives self.old
+            → StaysAs gives self.old self.new) }
     {
         let Numbered { instance, number } = self.known(ticket.job);
         self.room_to_put_aside(instance, self.step_number(ticket.job))?;
@@ -229,7 +266,8 @@ impl OpenRun {
 
     /// Takes the room for a job of a step of an open instance to be idle again.
     fn room_to_put_back(&mut self, instance: u64, step: u32) -> Result<(), NoMemory>
-        requires { (xs : Instances) × (x : Instance) × (v : View) × IsOpenHere self.old xs instance x v
+        requires { (xs : Instances) × (x : Instance) × (v : View)
+            × IsOpenHere self.old xs instance x v
             × (step < length x.flow.steps) }
         ensures same { IsAsBefore self.old self.new }
         ensures rooms { OnOk result (HasBackRoom self.new instance step × HasEntryRoom self.new) }
@@ -240,10 +278,12 @@ impl OpenRun {
 
     /// A job that is out is idle from now on, with this try as its next. Takes no memory.
     fn put_back(&mut self, instance: u64, number: u64, activity: u32, attempt: u32)
-        requires may { (xs : Instances) × (x : Instance) × (v : View) × (s : Seat) × IsOutHere self.old xs instance x v number s
+        requires may { (xs : Instances) × (x : Instance) × (v : View) × (s : Seat)
+            × IsOutHere self.old xs instance x v number s
             × HasBackRoom self.old instance s.step }
         requires due { self.old.due < vec_capacity self.old.entries }
-        ensures moved { (xs : Instances) (x : Instance) (v : View) (s : Seat) → IsOutHere self.old xs instance x v number s
+        ensures moved { (xs : Instances) (x : Instance) (v : View) (s : Seat)
+            → IsOutHere self.old xs instance x v number s
             → MovesTo self.old self.new (with_instance xs instance (seated x (with_stage number (AnIdle activity attempt) x.seats))) }
         ensures due { self.new.due ≡ self.old.due + 1 }
     {
@@ -253,7 +293,8 @@ impl OpenRun {
 
     /// Takes the room for a job of a step of an open instance to be put aside.
     fn room_to_put_aside(&mut self, instance: u64, step: u32) -> Result<(), NoMemory>
-        requires { (xs : Instances) × (x : Instance) × (v : View) × IsOpenHere self.old xs instance x v
+        requires { (xs : Instances) × (x : Instance) × (v : View)
+            × IsOpenHere self.old xs instance x v
             × (step < length x.flow.steps) }
         ensures same { IsAsBefore self.old self.new }
         ensures rooms { OnOk result (HasAsideRoom self.new instance step × HasEntryRoom self.new) }
@@ -264,10 +305,12 @@ impl OpenRun {
 
     /// A job that is out has the flow of this activity next. Takes no memory.
     fn put_aside(&mut self, instance: u64, number: u64, activity: u32)
-        requires may { (xs : Instances) × (x : Instance) × (v : View) × (s : Seat) × IsOutHere self.old xs instance x v number s
+        requires may { (xs : Instances) × (x : Instance) × (v : View) × (s : Seat)
+            × IsOutHere self.old xs instance x v number s
             × HasAsideRoom self.old instance s.step }
         requires due { self.old.due < vec_capacity self.old.entries }
-        ensures moved { (xs : Instances) (x : Instance) (v : View) (s : Seat) → IsOutHere self.old xs instance x v number s
+        ensures moved { (xs : Instances) (x : Instance) (v : View) (s : Seat)
+            → IsOutHere self.old xs instance x v number s
             → MovesTo self.old self.new (with_instance xs instance (seated x (with_stage number (AnAside activity) x.seats))) }
         ensures due { self.new.due ≡ self.old.due + 1 }
     {
@@ -277,9 +320,13 @@ impl OpenRun {
 
     /// The job fails with this reason.
     fn fail(&mut self, ticket: Ticket, why: Text) -> Result<(), NoMemory>
-        requires { (gives : Giving) × (q : Question) × (o : TheOutcome) × StandsOpen gives self.old × IsAsked gives self.old ticket q o × IsWrongFor q o why × FailsThen self.old ticket }
-        ensures accepted { OnOk result ((gives : Giving) (q : Question) (o : TheOutcome) → StandsOpen gives self.old → IsAsked gives self.old ticket q o → IsWrongFor q o why → FailsThen self.old ticket → AcceptsTo gives self.old self.new q o (SettledAs false)) }
-        ensures refused { OnErr result ((gives : Giving) → StandsOpen gives self.old → StaysAs gives self.old self.new) }
+        requires { (gives : Giving) × (q : Question) × (o : TheOutcome) × StandsOpen gives self.old
+            × IsAsked gives self.old ticket q o × IsWrongFor q o why × FailsThen self.old ticket }
+        ensures accepted { OnOk result ((gives : Giving) (q : Question) (o : TheOutcome)
+            → StandsOpen gives self.old → IsAsked gives self.old ticket q o → IsWrongFor q o why
+            → FailsThen self.old ticket → AcceptsTo gives self.old self.new q o (SettledAs false)) }
+        ensures refused { OnErr result ((gives : Giving) → StandsOpen gives self.old
+            → StaysAs gives self.old self.new) }
     {
         let pieces = self.failed_with(ticket.job, why)?;
         self.settle_with(ticket, false, pieces)?;
@@ -289,9 +336,11 @@ impl OpenRun {
 
     /// What a job gives that fails with this reason.
     fn failed_with(&self, job: u64, why: Text) -> Result<Pieces, NoMemory>
-        requires { (gives : Giving) × StandsOpen gives self.now × (job < length self.now.jobs.items) }
+        requires { (gives : Giving) × StandsOpen gives self.now
+            × (job < length self.now.jobs.items) }
         ensures sound { IfOk result AreSound }
-        ensures values { IfOk result (λ ps. (n : TheName) (s : TheStep) → slice_get (names_of self.now) job ≡ Some n
+        ensures values { IfOk result (λ ps. (n : TheName) (s : TheStep)
+            → slice_get (names_of self.now) job ≡ Some n
             → step_of self.now job ≡ Some s
             → piece_values ps ≡ error_results n why [] (map (λ o. o.1) s.outputs)) }
     {
@@ -302,11 +351,17 @@ impl OpenRun {
 
     /// The job is settled with these.
     fn settle_with(&mut self, ticket: Ticket, right: bool, pieces: Pieces) -> Result<(), NoMemory>
-        requires settles { (gives : Giving) × StandsOpen gives self.old × SettlesWith gives self.old ticket right (piece_values pieces) }
+        requires settles { (gives : Giving) × StandsOpen gives self.old
+            × SettlesWith gives self.old ticket right (piece_values pieces) }
         requires sound { AreSound pieces }
-        ensures settled { OnOk result ((gives : Giving) → StandsOpen gives self.old → SettlesWith gives self.old ticket right (piece_values pieces) → GoesToBut gives self.old self.new (accepts ticket right) right) }
-        ensures done { OnOk result ((gives : Giving) → StandsOpen gives self.old → SettlesWith gives self.old ticket right (piece_values pieces) → is_settled_job gives (run_of self.new) ticket.job ≡ true) }
-        ensures refused { OnErr result ((gives : Giving) → StandsOpen gives self.old → StaysAs gives self.old self.new) }
+        ensures settled { OnOk result ((gives : Giving) → StandsOpen gives self.old
+            → SettlesWith gives self.old ticket right (piece_values pieces)
+            → GoesToBut gives self.old self.new (accepts ticket right) right) }
+        ensures done { OnOk result ((gives : Giving) → StandsOpen gives self.old
+            → SettlesWith gives self.old ticket right (piece_values pieces)
+            → is_settled_job gives (run_of self.new) ticket.job ≡ true) }
+        ensures refused { OnErr result ((gives : Giving) → StandsOpen gives self.old
+            → StaysAs gives self.old self.new) }
     {
         let Numbered { instance, number } = self.known(ticket.job);
         let spot = self.room_for_result(instance, number, &pieces)?;

@@ -26,7 +26,8 @@ impl OpenRun {
     /// Hands out the first try on offer. Takes no memory.
     pub fn hand_out(&mut self) -> Option<Ticket>
         requires { (gives : Giving) × StandsOpen gives self.old }
-        ensures { (gives : Giving) → StandsOpen gives self.old → HandsOut gives self.old self.new result }
+        ensures { (gives : Giving) → StandsOpen gives self.old
+            → HandsOut gives self.old self.new result }
     {
         match self.first_going(Seeking::Offers) {
             Some(job) => {
@@ -40,8 +41,10 @@ impl OpenRun {
 
     /// The ticket of a job's next try, which is on offer.
     fn ticket_of(&self, job: u64) -> Ticket
-        requires { (gives : Giving) × (xs : Instances) × Stands gives self.now xs × IsOnOffer gives self.now xs job }
-        ensures { (gives : Giving) (xs : Instances) → Stands gives self.now xs → IsOnOffer gives self.now xs job
+        requires { (gives : Giving) × (xs : Instances) × Stands gives self.now xs
+            × IsOnOffer gives self.now xs job }
+        ensures { (gives : Giving) (xs : Instances) → Stands gives self.now xs
+            → IsOnOffer gives self.now xs job
             → IsTicketOf gives self.now xs job result }
     {
         let Some(stage) = self.stage_of(job) else {
@@ -60,9 +63,11 @@ impl OpenRun {
 
     /// The ticket of a job's first try.
     fn first_ticket(&self, job: u64) -> Ticket
-        requires { (gives : Giving) × (xs : Instances) × Stands gives self.now xs × IsOnOffer gives self.now xs job
+        requires { (gives : Giving) × (xs : Instances) × Stands gives self.now xs
+            × IsOnOffer gives self.now xs job
             × WaitsIn self.now job }
-        ensures { (gives : Giving) (xs : Instances) → Stands gives self.now xs → IsOnOffer gives self.now xs job
+        ensures { (gives : Giving) (xs : Instances) → Stands gives self.now xs
+            → IsOnOffer gives self.now xs job
             → WaitsIn self.now job → IsTicketOf gives self.now xs job result }
     {
         match begin(self.tries_at(job), false) {
@@ -77,9 +82,11 @@ impl OpenRun {
 
     /// The try is out from now on.
     fn begin(&mut self, ticket: Ticket)
-        requires { (gives : Giving) × (xs : Instances) × Stands gives self.old xs × (self.old.outs ≡ None)
+        requires { (gives : Giving) × (xs : Instances) × Stands gives self.old xs
+            × (self.old.outs ≡ None)
             × IsHandable gives self.old xs ticket }
-        ensures { (gives : Giving) (xs : Instances) → Stands gives self.old xs → self.old.outs ≡ None
+        ensures { (gives : Giving) (xs : Instances) → Stands gives self.old xs
+            → self.old.outs ≡ None
             → IsHandable gives self.old xs ticket → HandsOut gives self.old self.new (Some ticket) }
     {
         let Ticket {
@@ -98,9 +105,11 @@ impl OpenRun {
 
     /// A try of a job of an open instance is out.
     fn take_out(&mut self, instance: u64, number: u64, activity: u32, attempt: u32)
-        requires { (xs : Instances) × (x : Instance) × (v : View) × IsOpenHere self.old xs instance x v
+        requires { (xs : Instances) × (x : Instance) × (v : View)
+            × IsOpenHere self.old xs instance x v
             × MayGoOut x.seats number × WaitsReady v x.seats number }
-        ensures taken { (xs : Instances) (x : Instance) (v : View) → IsOpenHere self.old xs instance x v
+        ensures taken { (xs : Instances) (x : Instance) (v : View)
+            → IsOpenHere self.old xs instance x v
             → MayGoOut x.seats number → WaitsReady v x.seats number
             → TakesIn self.old self.new xs instance x v number (AnOut activity attempt) }
         ensures due { self.new.due + 1 ≡ self.old.due }
@@ -115,9 +124,12 @@ impl OpenRun {
     /// Takes back all tries that are out, and tells how many. Linear in the instances, and in the jobs and steps of the open ones.
     pub fn recall_all(&mut self) -> Result<u64, NoMemory>
         requires { (gives : Giving) × StandsOpen gives self.old }
-        ensures recalled { IfOk result (λ n. (gives : Giving) → StandsOpen gives self.old → RecallsTo gives self.old self.new n) }
-        ensures refused { OnErr result ((gives : Giving) → StandsOpen gives self.old → StaysAs gives self.old self.new) }
-        ensures quiet { (gives : Giving) → StandsOpen gives self.old → out_count gives (run_of self.old) ≡ 0 → IsOk result }
+        ensures recalled { IfOk result (λ n. (gives : Giving) → StandsOpen gives self.old
+            → RecallsTo gives self.old self.new n) }
+        ensures refused { OnErr result ((gives : Giving) → StandsOpen gives self.old
+            → StaysAs gives self.old self.new) }
+        ensures quiet { (gives : Giving) → StandsOpen gives self.old
+            → out_count gives (run_of self.old) ≡ 0 → IsOk result }
     {
         let count = self.out_count();
         if count == 0 {

@@ -88,7 +88,8 @@ impl OpenRun {
     pub(crate) fn tries_of(&self, instance: u64, step: u32) -> &Plan
         requires { (xs : Instances) × (x : AnInstance) × Fits self.now xs × IsAt xs instance x
             × (step < length x.flow.steps) }
-        ensures { (xs : Instances) (x : AnInstance) (s : Name × TheStep) → Fits self.now xs → IsAt xs instance x
+        ensures { (xs : Instances) (x : AnInstance) (s : Name × TheStep) → Fits self.now xs
+            → IsAt xs instance x
             → slice_get x.flow.steps step ≡ Some s → result.now ≡ tries_of s.1 }
     {
         let flow = self.instances[instance as usize].flow;
@@ -162,8 +163,10 @@ impl OpenRun {
     /// Whether a ticket's try is out.
     pub fn is_out(&self, ticket: &Ticket) -> bool
         requires { (gives : Giving) × StandsStill gives self.now }
-        ensures stage { result ≡ is_at (stage_of self.now ticket.now.job) ticket.now.activity ticket.now.attempt }
-        ensures out { (gives : Giving) → StandsStill gives self.now → result ≡ is_some (try_if_out gives (run_of self.now) ticket.now) }
+        ensures stage { result
+            ≡ is_at (stage_of self.now ticket.now.job) ticket.now.activity ticket.now.attempt }
+        ensures out { (gives : Giving) → StandsStill gives self.now
+            → result ≡ is_some (try_if_out gives (run_of self.now) ticket.now) }
     {
         match self.stage_of(ticket.job) {
             Some(stage) => is_try(stage, ticket.activity, ticket.attempt),
@@ -188,7 +191,8 @@ impl OpenRun {
     /// Where a job stands.
     pub fn state_of(&self, job: u64) -> JobState
         requires { (gives : Giving) × StandsStill gives self.now }
-        ensures { (gives : Giving) → StandsStill gives self.now → result ≡ state_of gives (run_of self.now) job }
+        ensures { (gives : Giving) → StandsStill gives self.now
+            → result ≡ state_of gives (run_of self.now) job }
     {
         match self.stage_of(job) {
             Some(stage) => self.state_at(job, stage),
@@ -199,7 +203,8 @@ impl OpenRun {
     fn state_at(&self, job: u64, stage: Stage) -> JobState
         requires stands { (gives : Giving) × StandsStill gives self.now }
         requires stage { stage_of self.now job ≡ Some stage }
-        ensures { (gives : Giving) → StandsStill gives self.now → result ≡ state_of gives (run_of self.now) job }
+        ensures { (gives : Giving) → StandsStill gives self.now
+            → result ≡ state_of gives (run_of self.now) job }
     {
         match stage {
             Stage::Waiting => self.state_waiting(job),
@@ -218,7 +223,8 @@ impl OpenRun {
     fn state_waiting(&self, job: u64) -> JobState
         requires stands { (gives : Giving) × StandsStill gives self.now }
         requires stage { stage_of self.now job ≡ Some AWaiting }
-        ensures { (gives : Giving) → StandsStill gives self.now → result ≡ state_of gives (run_of self.now) job }
+        ensures { (gives : Giving) → StandsStill gives self.now
+            → result ≡ state_of gives (run_of self.now) job }
     {
         let Numbered { instance, number } = self.known(job);
         let open = self.opened(instance);

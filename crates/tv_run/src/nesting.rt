@@ -56,9 +56,11 @@ impl OpenRun {
     /// Opens the flow of the first job that goes on, where it has one next.
     pub(crate) fn open_first(&mut self) -> Result<bool, NoMemory>
         requires { (gives : Giving) × StandsOpen gives self.old × IsQuietRun gives self.old }
-        ensures settled { IfOk result (λ b. (gives : Giving) → StandsOpen gives self.old → IsQuietRun gives self.old
+        ensures settled { IfOk result (λ b. (gives : Giving) → StandsOpen gives self.old
+            → IsQuietRun gives self.old
             → SettlesTo gives self.old self.new b) }
-        ensures refused { OnErr result ((gives : Giving) → StandsOpen gives self.old → StaysAs gives self.old self.new) }
+        ensures refused { OnErr result ((gives : Giving) → StandsOpen gives self.old
+            → StaysAs gives self.old self.new) }
     {
         let first = self.first_going(Seeking::All);
         match first {
@@ -72,7 +74,8 @@ impl OpenRun {
         requires { (gives : Giving) × GoesOnFirst gives self.old job }
         ensures settled { IfOk result (λ b. (gives : Giving) → GoesOnFirst gives self.old job
             → SettlesTo gives self.old self.new b) }
-        ensures refused { OnErr result ((gives : Giving) → StandsOpen gives self.old → StaysAs gives self.old self.new) }
+        ensures refused { OnErr result ((gives : Giving) → StandsOpen gives self.old
+            → StaysAs gives self.old self.new) }
     {
         if !has_flow_next(self.tries_at(job), self.stage_of(job)) {
             return Ok(false);
@@ -86,7 +89,8 @@ impl OpenRun {
         requires { (gives : Giving) × OpensFirst gives self.old job }
         ensures settled { OnOk result ((gives : Giving) → OpensFirst gives self.old job
             → SettlesTo gives self.old self.new true) }
-        ensures refused { OnErr result ((gives : Giving) → StandsOpen gives self.old → StaysAs gives self.old self.new) }
+        ensures refused { OnErr result ((gives : Giving) → StandsOpen gives self.old
+            → StaysAs gives self.old self.new) }
     {
         let Numbered { instance, number } = self.known(job);
         let step = self.step_number(job);
@@ -107,8 +111,10 @@ impl OpenRun {
 
     /// The number of the flow that the jobs of a step open.
     fn flow_opened(&self, instance: u64, step: u32) -> Option<u32>
-        requires { (xs : Instances) × (x : Instance) × Fits self.now xs × IsAt xs instance x × (step < length x.flow.steps) }
-        ensures { (xs : Instances) (x : Instance) (t : Name × Step) → Fits self.now xs → IsAt xs instance x
+        requires { (xs : Instances) × (x : Instance) × Fits self.now xs × IsAt xs instance x
+            × (step < length x.flow.steps) }
+        ensures { (xs : Instances) (x : Instance) (t : Name × Step) → Fits self.now xs
+            → IsAt xs instance x
             → slice_get x.flow.steps step ≡ Some t
             → OpensNumber (run_view self.now.run) (opened_flow t.1) result }
     {
@@ -118,9 +124,12 @@ impl OpenRun {
 
     /// A job runs from now on, and its flow is open as the instance of that number.
     fn nest(&mut self, instance: u64, number: u64, inner: u64)
-        requires { (xs : Instances) × (x : Instance) × (v : View) × IsOpenHere self.old xs instance x v
-            × MayNest x.seats number × WaitsReady v x.seats number × HasNestRoom self.old instance number }
-        ensures taken { (xs : Instances) (x : Instance) (v : View) → IsOpenHere self.old xs instance x v
+        requires { (xs : Instances) × (x : Instance) × (v : View)
+            × IsOpenHere self.old xs instance x v
+            × MayNest x.seats number × WaitsReady v x.seats number
+            × HasNestRoom self.old instance number }
+        ensures taken { (xs : Instances) (x : Instance) (v : View)
+            → IsOpenHere self.old xs instance x v
             → MayNest x.seats number → WaitsReady v x.seats number
             → TakesIn self.old self.new xs instance x v number (ANested inner) }
         ensures due { self.new.due + 1 ≡ self.old.due }
@@ -135,7 +144,8 @@ impl OpenRun {
         requires { (gives : Giving) × IsOpenIn gives self.old instance }
         ensures settled { IfOk result (λ b. (gives : Giving) → IsOpenIn gives self.old instance
             → EndsOrNot gives self.old self.new instance b) }
-        ensures refused { OnErr result ((gives : Giving) → StandsOpen gives self.old → StaysAs gives self.old self.new) }
+        ensures refused { OnErr result ((gives : Giving) → StandsOpen gives self.old
+            → StaysAs gives self.old self.new) }
     {
         if !self.opened(instance).ended() {
             return Ok(false);
@@ -150,9 +160,11 @@ impl OpenRun {
     /// Ends the main instance: the run is done.
     fn end_main(&mut self) -> Result<(), NoMemory>
         requires { (gives : Giving) × IsOpenIn gives self.old 0 × OfOpen self.old 0 EndsIn }
-        ensures ended { OnOk result ((gives : Giving) → IsOpenIn gives self.old 0 → OfOpen self.old 0 EndsIn
+        ensures ended { OnOk result ((gives : Giving) → IsOpenIn gives self.old 0
+            → OfOpen self.old 0 EndsIn
             → SettlesIn gives self.old self.new 0 true) }
-        ensures refused { OnErr result ((gives : Giving) → StandsOpen gives self.old → StaysAs gives self.old self.new) }
+        ensures refused { OnErr result ((gives : Giving) → StandsOpen gives self.old
+            → StaysAs gives self.old self.new) }
     {
         self.reserve_entries(0)?;
         let ended = self.close(0);
@@ -163,11 +175,14 @@ impl OpenRun {
 
     /// Ends an instance that a job opened: what it gives is the job's result.
     fn end_nested(&mut self, instance: u64, job: u64) -> Result<(), NoMemory>
-        requires { (gives : Giving) × IsOpenIn gives self.old instance × OfOpen self.old instance EndsIn
+        requires { (gives : Giving) × IsOpenIn gives self.old instance
+            × OfOpen self.old instance EndsIn
             × IsOpenerOf self.old instance job }
-        ensures ended { OnOk result ((gives : Giving) → IsOpenIn gives self.old instance → OfOpen self.old instance EndsIn
+        ensures ended { OnOk result ((gives : Giving) → IsOpenIn gives self.old instance
+            → OfOpen self.old instance EndsIn
             → IsOpenerOf self.old instance job → SettlesIn gives self.old self.new instance true) }
-        ensures refused { OnErr result ((gives : Giving) → StandsOpen gives self.old → StaysAs gives self.old self.new) }
+        ensures refused { OnErr result ((gives : Giving) → StandsOpen gives self.old
+            → StaysAs gives self.old self.new) }
     {
         let outer = self.known(job);
         let pieces = self.outs_of(instance)?;
@@ -180,7 +195,8 @@ impl OpenRun {
 
     /// What an instance gives that has ended. The cells are shared.
     fn outs_of(&self, instance: u64) -> Result<Pieces, NoMemory>
-        requires { (xs : Instances) × (x : Instance) × (v : View) × IsOpenHere self.now xs instance x v × EndsIn x v }
+        requires { (xs : Instances) × (x : Instance) × (v : View)
+            × IsOpenHere self.now xs instance x v × EndsIn x v }
         ensures sound { IfOk result AreSound }
         ensures outputs { IfOk result (λ ps. (xs : Instances) (x : Instance) (v : View)
             → IsOpenHere self.now xs instance x v → EndsIn x v → AreOutputs v (piece_values ps)) }
@@ -193,12 +209,16 @@ impl OpenRun {
 
     /// An instance that has ended is open no more, and gives back its region. Takes no memory.
     fn close(&mut self, instance: u64) -> Ended
-        requires { (xs : Instances) × (x : Instance) × (v : View) × IsOpenHere self.old xs instance x v × EndsIn x v }
-        ensures outputs { (xs : Instances) (x : Instance) (v : View) → IsOpenHere self.old xs instance x v → EndsIn x v
+        requires { (xs : Instances) × (x : Instance) × (v : View)
+            × IsOpenHere self.old xs instance x v × EndsIn x v }
+        ensures outputs { (xs : Instances) (x : Instance) (v : View)
+            → IsOpenHere self.old xs instance x v → EndsIn x v
             → AreSound result.outs × AreOutputs v (piece_values result.outs) }
-        ensures levels { (xs : Instances) (x : Instance) (v : View) → IsOpenHere self.old xs instance x v → EndsIn x v
+        ensures levels { (xs : Instances) (x : Instance) (v : View)
+            → IsOpenHere self.old xs instance x v → EndsIn x v
             → AreItsLevels v (map level_view result.levels.items) }
-        ensures shut { (xs : Instances) (x : Instance) (v : View) → IsOpenHere self.old xs instance x v → EndsIn x v
+        ensures shut { (xs : Instances) (x : Instance) (v : View)
+            → IsOpenHere self.old xs instance x v → EndsIn x v
             → ChangesTo self.old self.new (with_instance xs instance (shut x)) }
         ensures names { names_of self.new ≡ names_of self.old }
         ensures due { self.new.due ≡ self.old.due }

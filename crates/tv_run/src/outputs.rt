@@ -34,7 +34,8 @@ fn named_values(
 ) -> Result<Sequence<(Name, Value)>, NoMemory>
     requires sound { AreSound pieces.now }
     requires many { length pieces.now ≡ length names.now }
-    ensures { IfOk result (λ os. each view os ≡ zip (map (λ n. n.0) names.now) (piece_values pieces.now)) }
+    ensures { IfOk result (λ os. each view os
+        ≡ zip (map (λ n. n.0) names.now) (piece_values pieces.now)) }
 {
     let mut values = Vec::with_capacity(alloc, pieces.len())?;
     for (index, piece) in pieces.iter().enumerate() {
@@ -89,8 +90,11 @@ fn is_settled(stage: Option<Stage>) -> bool
 impl OpenRun {
     /// The outputs of a run that is done.
     pub fn outputs(&self) -> Result<Sequence<(Name, Value)>, NoMemory>
-        requires { (gives : Giving) × StandsStill gives self.now × (is_done (past_of (run_of self.now)) ≡ true) }
-        ensures { IfOk result (λ os. (gives : Giving) → StandsStill gives self.now → is_done (past_of (run_of self.now)) ≡ true → each view os ≡ map (λ o. (o.0, plain o.1)) (meant gives (run_of self.now)).outputs) }
+        requires { (gives : Giving) × StandsStill gives self.now
+            × (is_done (past_of (run_of self.now)) ≡ true) }
+        ensures { IfOk result (λ os. (gives : Giving) → StandsStill gives self.now
+            → is_done (past_of (run_of self.now)) ≡ true
+            → each view os ≡ map (λ o. (o.0, plain o.1)) (meant gives (run_of self.now)).outputs) }
     {
         let plan = self.run.flow(self.run.main());
         match &self.outs {
@@ -116,7 +120,8 @@ impl OpenRun {
     fn count_settled(&self) -> u64
         requires { (gives : Giving) × StandsStill gives self.now }
         ensures { (gives : Giving) → StandsStill gives self.now
-            → result ≡ length (filter (is_settled (past_of (run_of self.now))) (meant gives (run_of self.now)).jobs) }
+            → result ≡ length (filter (is_settled (past_of (run_of self.now)))
+            (meant gives (run_of self.now)).jobs) }
     {
         let mut count = 0;
         for job in 0..self.jobs.len() as u64 {
@@ -130,7 +135,8 @@ impl OpenRun {
     /// The totals of the history so far. Linear in the history and in the jobs.
     pub fn totals(&self) -> Totals
         requires { (gives : Giving) × StandsStill gives self.now }
-        ensures { (gives : Giving) → StandsStill gives self.now → totals_view result ≡ totals_so_far gives (run_of self.now) }
+        ensures { (gives : Giving) → StandsStill gives self.now
+            → totals_view result ≡ totals_so_far gives (run_of self.now) }
     {
         let entries = self.entries.as_slice();
         Totals {

@@ -20,16 +20,21 @@ impl OpenRun {
 
     /// Whether the main instance has ended. A run that has is over: nothing of it is out, and nothing more can be done. Constant.
     pub fn is_done(&self) -> bool
-        ensures done { (gives : Giving) → StandsStill gives self.now → result ≡ is_done (past_of (run_of self.now)) }
-        ensures still { result ≡ false → (gives : Giving) → StandsStill gives self.now → StandsOpen gives self.now }
-        ensures over { result ≡ true → (gives : Giving) → StandsStill gives self.now → IsOver gives (run_of self.now) }
+        ensures done { (gives : Giving) → StandsStill gives self.now
+            → result ≡ is_done (past_of (run_of self.now)) }
+        ensures still { result ≡ false → (gives : Giving) → StandsStill gives self.now
+            → StandsOpen gives self.now }
+        ensures over { result ≡ true → (gives : Giving) → StandsStill gives self.now
+            → IsOver gives (run_of self.now) }
     {
         self.outs.is_some()
     }
 
     /// Every run that stands is of a document that was read, and has a legal history. The call does nothing.
     pub fn is_lawful(&self)
-        ensures formed { (gives : Giving) → StandsStill gives self.now → is_formed (run_of self.now).document ≡ true }
-        ensures legal { (gives : Giving) → StandsStill gives self.now → IsLegalRun gives (run_of self.now) }
+        ensures formed { (gives : Giving) → StandsStill gives self.now
+            → is_formed (run_of self.now).document ≡ true }
+        ensures legal { (gives : Giving) → StandsStill gives self.now
+            → IsLegalRun gives (run_of self.now) }
     {}
 }

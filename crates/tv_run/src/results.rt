@@ -26,12 +26,16 @@ impl OpenRun {
         number: u64,
         pieces: &Pieces,
     ) -> Result<Spot, NoMemory>
-        requires may { (xs : Instances) × (x : Instance) × (v : View) × (s : Seat) × (t : Name × Step)
-            × IsSeatHere self.old xs instance x v number s t × MayGive v t s.place (piece_values pieces.now) }
+        requires may { (xs : Instances) × (x : Instance) × (v : View) × (s : Seat)
+            × (t : Name × Step)
+            × IsSeatHere self.old xs instance x v number s t
+            × MayGive v t s.place (piece_values pieces.now) }
         requires sound { AreSound pieces.now }
         ensures same { IsAsBefore self.old self.new }
-        ensures ready { IfOk result (λ p. (xs : Instances) (x : Instance) (v : View) (s : Seat) (t : Name × Step)
-            → IsSeatHere self.old xs instance x v number s t → MayGive v t s.place (piece_values pieces.now)
+        ensures ready { IfOk result (λ p. (xs : Instances) (x : Instance) (v : View) (s : Seat)
+            (t : Name × Step)
+            → IsSeatHere self.old xs instance x v number s t
+            → MayGive v t s.place (piece_values pieces.now)
             → IsReadyIn self.new instance v s t (piece_values pieces.now) p) }
     {
         let plan = self.run.flow(self.instances[instance as usize].flow);
@@ -43,7 +47,8 @@ impl OpenRun {
 
     /// A job that runs is settled with these. Takes no memory.
     pub(crate) fn give(&mut self, instance: u64, number: u64, spot: Spot, pieces: Pieces)
-        requires may { (xs : Instances) × (x : Instance) × (v : View) × (s : Seat) × (t : Name × Step)
+        requires may { (xs : Instances) × (x : Instance) × (v : View) × (s : Seat)
+            × (t : Name × Step)
             × MayBeGivenIn self.old xs instance x v number s t (piece_values pieces) spot }
         requires sound { AreSound pieces }
         ensures { (xs : Instances) (x : Instance) (v : View) (s : Seat) (t : Name × Step)
@@ -58,7 +63,8 @@ impl OpenRun {
 
     /// A job that waits, and is ready, is settled with these: it is bounced. Takes no memory.
     pub(crate) fn give_bounced(&mut self, instance: u64, number: u64, spot: Spot, pieces: Pieces)
-        requires may { (xs : Instances) × (x : Instance) × (v : View) × (s : Seat) × (t : Name × Step)
+        requires may { (xs : Instances) × (x : Instance) × (v : View) × (s : Seat)
+            × (t : Name × Step)
             × MayBeBouncedIn self.old xs instance x v number s t (piece_values pieces) spot }
         requires sound { AreSound pieces }
         ensures { (xs : Instances) (x : Instance) (v : View) (s : Seat) (t : Name × Step)

@@ -108,15 +108,18 @@ impl OpenRun {
     /// The plan of an instance's flow.
     pub(crate) fn plan_of(&self, instance: u64) -> &FlowPlan
         requires { (xs : Instances) × Fits self.now xs × (instance < length xs) }
-        ensures { (xs : Instances) (x : AnInstance) → Fits self.now xs → IsAt xs instance x → flow_view result.now.flow ≡ x.flow }
+        ensures { (xs : Instances) (x : AnInstance) → Fits self.now xs → IsAt xs instance x
+            → flow_view result.now.flow ≡ x.flow }
     {
         self.run.flow(self.instances[instance as usize].flow)
     }
 
     /// An instance that is open.
     pub(crate) fn opened(&self, instance: u64) -> &Open
-        requires { (c : _) × (o : _) × (slice_get self.now.instances.items instance ≡ Some c) × (c.open.items ≡ o ∷ []) }
-        ensures { (c : _) → slice_get self.now.instances.items instance ≡ Some c → (os : _) × (c.open.items ≡ result.now ∷ os) }
+        requires { (c : _) × (o : _) × (slice_get self.now.instances.items instance ≡ Some c)
+            × (c.open.items ≡ o ∷ []) }
+        ensures { (c : _) → slice_get self.now.instances.items instance ≡ Some c → (os : _)
+            × (c.open.items ≡ result.now ∷ os) }
     {
         &self.instances[instance as usize].open[0]
     }

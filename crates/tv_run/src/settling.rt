@@ -50,8 +50,10 @@ impl OpenRun {
     /// next; `false` where none of these can be.
     pub fn settle_one(&mut self) -> Result<bool, NoMemory>
         requires { (gives : Giving) × StandsOpen gives self.old }
-        ensures settled { IfOk result (λ b. (gives : Giving) → StandsOpen gives self.old → SettlesTo gives self.old self.new b) }
-        ensures refused { OnErr result ((gives : Giving) → StandsOpen gives self.old → StaysAs gives self.old self.new) }
+        ensures settled { IfOk result (λ b. (gives : Giving) → StandsOpen gives self.old
+            → SettlesTo gives self.old self.new b) }
+        ensures refused { OnErr result ((gives : Giving) → StandsOpen gives self.old
+            → StaysAs gives self.old self.new) }
     {
         for _ in 0..self.busy.len() {
             if self.settle_last()? {
@@ -65,8 +67,10 @@ impl OpenRun {
     /// Settles one thing in the last instance in which something may be settled; `false` where nothing can be.
     fn settle_last(&mut self) -> Result<bool, NoMemory>
         requires { (gives : Giving) × StandsOpen gives self.old × (0 < length self.old.busy.items) }
-        ensures settled { IfOk result (λ b. (gives : Giving) → StandsOpen gives self.old → SettlesLast gives self.old self.new b) }
-        ensures refused { OnErr result ((gives : Giving) → StandsOpen gives self.old → StaysAs gives self.old self.new) }
+        ensures settled { IfOk result (λ b. (gives : Giving) → StandsOpen gives self.old
+            → SettlesLast gives self.old self.new b) }
+        ensures refused { OnErr result ((gives : Giving) → StandsOpen gives self.old
+            → StaysAs gives self.old self.new) }
     {
         let last = self.busy[self.busy.len() - 1];
         if self.instances[last as usize].open.is_empty() {
@@ -89,8 +93,10 @@ impl OpenRun {
     /// Settles one thing in an open instance: a job that can be bounced, the first in job order, before all else.
     fn settle_in(&mut self, instance: u64) -> Result<bool, NoMemory>
         requires { (gives : Giving) × IsOpenIn gives self.old instance }
-        ensures settled { IfOk result (λ b. (gives : Giving) → IsOpenIn gives self.old instance → SettlesIn gives self.old self.new instance b) }
-        ensures refused { OnErr result ((gives : Giving) → StandsOpen gives self.old → StaysAs gives self.old self.new) }
+        ensures settled { IfOk result (λ b. (gives : Giving) → IsOpenIn gives self.old instance
+            → SettlesIn gives self.old self.new instance b) }
+        ensures refused { OnErr result ((gives : Giving) → StandsOpen gives self.old
+            → StaysAs gives self.old self.new) }
     {
         let first = self.first_to_bounce(instance);
         match first {
@@ -104,17 +110,23 @@ impl OpenRun {
 
     /// The first job of an open instance that can be bounced, by its number there.
     fn first_to_bounce(&self, instance: u64) -> Option<u64>
-        requires { (xs : Instances) × (x : Instance) × (v : View) × IsOpenHere self.now xs instance x v }
-        ensures { MatchOption result (OfOpen self.now instance NothingBouncesIn) (λ n. OfOpen self.now instance (BouncesIn n)) }
+        requires { (xs : Instances) × (x : Instance) × (v : View)
+            × IsOpenHere self.now xs instance x v }
+        ensures { MatchOption result (OfOpen self.now instance NothingBouncesIn)
+            (λ n. OfOpen self.now instance (BouncesIn n)) }
     {
         self.opened(instance)
             .first_to_bounce(self.plan_of(instance), &self.pool)
     }
 
     fn bounce(&mut self, instance: u64, number: u64) -> Result<(), NoMemory>
-        requires { (gives : Giving) × IsOpenIn gives self.old instance × OfOpen self.old instance (BouncesIn number) }
-        ensures bounced { OnOk result ((gives : Giving) → IsOpenIn gives self.old instance → OfOpen self.old instance (BouncesIn number) → SettlesIn gives self.old self.new instance true) }
-        ensures refused { OnErr result ((gives : Giving) → StandsOpen gives self.old → StaysAs gives self.old self.new) }
+        requires { (gives : Giving) × IsOpenIn gives self.old instance
+            × OfOpen self.old instance (BouncesIn number) }
+        ensures bounced { OnOk result ((gives : Giving) → IsOpenIn gives self.old instance
+            → OfOpen self.old instance (BouncesIn number)
+            → SettlesIn gives self.old self.new instance true) }
+        ensures refused { OnErr result ((gives : Giving) → StandsOpen gives self.old
+            → StaysAs gives self.old self.new) }
     {
         let job = self.instances[instance as usize].jobs[number as usize];
         let pieces = self.bounced(job)?;
@@ -126,9 +138,11 @@ impl OpenRun {
 
     /// What a job gives that is bounced.
     fn bounced(&self, job: u64) -> Result<Pieces, NoMemory>
-        requires { (gives : Giving) × (xs : Instances) × (j : Job) × Stands gives self.now xs × IsBouncedJob gives self.now xs job j }
+        requires { (gives : Giving) × (xs : Instances) × (j : Job) × Stands gives self.now xs
+            × IsBouncedJob gives self.now xs job j }
         ensures sound { IfOk result AreSound }
-        ensures values { IfOk result (λ ps. (gives : Giving) (xs : Instances) (j : Job) → Stands gives self.now xs
+        ensures values { IfOk result (λ ps. (gives : Giving) (xs : Instances) (j : Job)
+            → Stands gives self.now xs
             → IsBouncedJob gives self.now xs job j → piece_values ps ≡ j.result) }
     {
         let inputs = self.inputs_of(job)?;
@@ -138,10 +152,13 @@ impl OpenRun {
     }
 
     fn settle_or_end(&mut self, instance: u64) -> Result<bool, NoMemory>
-        requires { (gives : Giving) × IsOpenIn gives self.old instance × OfOpen self.old instance NothingBouncesIn }
+        requires { (gives : Giving) × IsOpenIn gives self.old instance
+            × OfOpen self.old instance NothingBouncesIn }
         ensures settled { IfOk result (λ b. (gives : Giving) → IsOpenIn gives self.old instance
-            → OfOpen self.old instance NothingBouncesIn → SettlesIn gives self.old self.new instance b) }
-        ensures refused { OnErr result ((gives : Giving) → StandsOpen gives self.old → StaysAs gives self.old self.new) }
+            → OfOpen self.old instance NothingBouncesIn
+            → SettlesIn gives self.old self.new instance b) }
+        ensures refused { OnErr result ((gives : Giving) → StandsOpen gives self.old
+            → StaysAs gives self.old self.new) }
     {
         let plan = self.run.flow(self.instances[instance as usize].flow);
         let open = &mut self.instances[instance as usize].open[0];
@@ -157,10 +174,13 @@ impl OpenRun {
 
     /// Settles what an open instance is ready to settle, with which so many jobs become known.
     fn settle_level(&mut self, instance: u64, more: u64) -> Result<(), NoMemory>
-        requires { (gives : Giving) × (e : Event) × IsReadyToSettleLevel gives self.old instance e more }
-        ensures settled { OnOk result ((gives : Giving) (e : Event) → IsReadyToSettleLevel gives self.old instance e more
+        requires { (gives : Giving) × (e : Event)
+            × IsReadyToSettleLevel gives self.old instance e more }
+        ensures settled { OnOk result ((gives : Giving) (e : Event)
+            → IsReadyToSettleLevel gives self.old instance e more
             → SettlesIn gives self.old self.new instance true) }
-        ensures refused { OnErr result ((gives : Giving) → StandsOpen gives self.old → StaysAs gives self.old self.new) }
+        ensures refused { OnErr result ((gives : Giving) → StandsOpen gives self.old
+            → StaysAs gives self.old self.new) }
     {
         self.reserve_in(instance, more)?;
         let settled = self.told_level(instance);
@@ -171,10 +191,13 @@ impl OpenRun {
     /// An open instance settles what it is ready to settle, and what follows is so. Takes no memory.
     fn told_level(&mut self, instance: u64) -> Settled
         requires { (xs : Instances) × (x : Instance) × (v : View) × (e : Event) × (more : ℕ)
-            × IsOpenHere self.old xs instance x v × IsReadyToSettleIn self.old instance v e more × HasRoomIn self.old instance more }
+            × IsOpenHere self.old xs instance x v × IsReadyToSettleIn self.old instance v e more
+            × HasRoomIn self.old instance more }
         ensures { (xs : Instances) (x : Instance) (v : View) (e : Event) (more : ℕ)
-            → IsOpenHere self.old xs instance x v → IsReadyToSettleIn self.old instance v e more → HasRoomIn self.old instance more
-            → TellsIn self.old self.new xs instance x v e more x.seats × TellsAt x.flow.steps result e }
+            → IsOpenHere self.old xs instance x v → IsReadyToSettleIn self.old instance v e more
+            → HasRoomIn self.old instance more
+            → TellsIn self.old self.new xs instance x v e more x.seats
+            × TellsAt x.flow.steps result e }
     {
         let plan = self.run.flow(self.instances[instance as usize].flow);
         let settled = self.instances[instance as usize].open[0].settle(plan, &mut self.pool);

@@ -40,9 +40,13 @@ fn service_of(activity: &Activity) -> &Name
 impl OpenRun {
     /// The task of a ticket whose try is out. Linear in the inputs and outputs.
     pub fn task_of(&self, ticket: Ticket) -> Result<Task, NoMemory>
-        requires { (gives : Giving) × StandsStill gives self.now × (is_some (try_if_out gives (run_of self.now) ticket) ≡ true) }
+        requires { (gives : Giving) × StandsStill gives self.now
+            × (is_some (try_if_out gives (run_of self.now) ticket) ≡ true) }
         ensures ticket { IfOk result (λ t. t.ticket ≡ ticket) }
-        ensures task { IfOk result (λ t. (gives : Giving) → StandsStill gives self.now → is_some (try_if_out gives (run_of self.now) ticket) ≡ true → IsTask gives (run_of self.now) (question t.ticket t.service t.inputs t.outputs) × (declared_for gives (run_of self.now) ticket.job ≡ Some t.outputs)) }
+        ensures task { IfOk result (λ t. (gives : Giving) → StandsStill gives self.now
+            → is_some (try_if_out gives (run_of self.now) ticket) ≡ true
+            → IsTask gives (run_of self.now) (question t.ticket t.service t.inputs t.outputs)
+            × (declared_for gives (run_of self.now) ticket.job ≡ Some t.outputs)) }
     {
         let service = self.asked_service(ticket).copy(self.alloc)?;
         let inputs = self.asked_inputs(ticket)?;
@@ -95,9 +99,12 @@ impl OpenRun {
     pub(crate) fn inputs_of(&self, job: u64) -> Result<Pieces, NoMemory>
         requires { (xs : Instances) × Fits self.now xs × IsOfOpen self.now job }
         ensures sound { IfOk result AreSound }
-        ensures values { IfOk result (λ ps. (xs : Instances) (n : TheNumbered) (x : AnInstance) (v : View) (s : Seat)
-            → Fits self.now xs → slice_get self.now.jobs.items job ≡ Some n → IsAt xs n.instance x → x.view ≡ Some v
-            → slice_get x.seats n.number ≡ Some s → AreInputs v (spot_of x.flow.steps s) (piece_values ps)) }
+        ensures values { IfOk result (λ ps. (xs : Instances) (n : TheNumbered) (x : AnInstance)
+            (v : View) (s : Seat)
+            → Fits self.now xs → slice_get self.now.jobs.items job ≡ Some n → IsAt xs n.instance x
+            → x.view ≡ Some v
+            → slice_get x.seats n.number ≡ Some s
+            → AreInputs v (spot_of x.flow.steps s) (piece_values ps)) }
     {
         let Numbered { instance, number } = self.known(job);
         let plan = self.plan_of(instance);

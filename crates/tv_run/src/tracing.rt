@@ -17,8 +17,10 @@ impl OpenRun {
     /// What each job of the main flow used, of a run that is done: worked out from the lists and passed faults of the main
     /// instance. Costs what `Traces::start` does.
     pub fn traces(&self) -> Result<Traces, NoMemory>
-        requires { (gives : Giving) × StandsStill gives self.now × (is_done (past_of (run_of self.now)) ≡ true) }
-        ensures { (gives : Giving) → StandsStill gives self.now → is_done (past_of (run_of self.now)) ≡ true
+        requires { (gives : Giving) × StandsStill gives self.now
+            × (is_done (past_of (run_of self.now)) ≡ true) }
+        ensures { (gives : Giving) → StandsStill gives self.now
+            → is_done (past_of (run_of self.now)) ≡ true
             → IfOk result (IsTracedBy gives self.now) }
     {
         let plan = self.run.flow(self.run.main());
@@ -35,8 +37,10 @@ impl OpenRun {
         port: &Name,
         place: &Place,
     ) -> Result<Option<Marks>, NoMemory>
-        requires { (gives : Giving) × StandsStill gives self.now × (is_done (past_of (run_of self.now)) ≡ true) }
-        ensures { (gives : Giving) → StandsStill gives self.now → is_done (past_of (run_of self.now)) ≡ true
+        requires { (gives : Giving) × StandsStill gives self.now
+            × (is_done (past_of (run_of self.now)) ≡ true) }
+        ensures { (gives : Giving) → StandsStill gives self.now
+            → is_done (past_of (run_of self.now)) ≡ true
             → IsTracedBy gives self.now traces.now → IfOk result (λ o. option_map (map mark_view) o
             ≡ option_map marks_of (output_at (meant gives (run_of self.now)) port.now place.now)) }
     {
@@ -49,8 +53,10 @@ impl OpenRun {
 
     /// The leaves of the outputs, with what each used: outputs in order, then places.
     pub fn leaves(&self, traces: &Traces) -> Result<Leaves, NoMemory>
-        requires { (gives : Giving) × StandsStill gives self.now × (is_done (past_of (run_of self.now)) ≡ true) }
-        ensures { (gives : Giving) → StandsStill gives self.now → is_done (past_of (run_of self.now)) ≡ true
+        requires { (gives : Giving) × StandsStill gives self.now
+            × (is_done (past_of (run_of self.now)) ≡ true) }
+        ensures { (gives : Giving) → StandsStill gives self.now
+            → is_done (past_of (run_of self.now)) ≡ true
             → IsTracedBy gives self.now traces.now
             → IfOk result (λ ls. map leaf_view ls ≡ leaves (meant gives (run_of self.now))) }
     {

@@ -38,7 +38,8 @@ impl OpenRun {
     /// at the steps that aren't passed. Takes no memory.
     pub(crate) fn first_going(&self, seeking: Seeking) -> Option<u64>
         requires { (gives : Giving) × StandsOpen gives self.now }
-        ensures { (gives : Giving) (xs : Instances) → Stands gives self.now xs → IsFound gives self.now xs seeking result }
+        ensures { (gives : Giving) (xs : Instances) → Stands gives self.now xs
+            → IsFound gives self.now xs seeking result }
     {
         self.first_in(0, seeking, LEVELS)
     }
@@ -47,9 +48,11 @@ impl OpenRun {
     #[cycle(walk)]
     fn first_in(&self, instance: u64, seeking: Seeking, levels: u32) -> Option<u64>
         requires { (gives : Giving) × (xs : Instances) × (x : Instance) × (v : View)
-            × Stands gives self.now xs × IsAt xs instance x × (x.view ≡ Some v) × (length x.name + levels ≡ 8) }
+            × Stands gives self.now xs × IsAt xs instance x × (x.view ≡ Some v)
+            × (length x.name + levels ≡ 8) }
         ensures { (gives : Giving) (xs : Instances) (x : Instance) (v : View)
-            → Stands gives self.now xs → IsAt xs instance x → x.view ≡ Some v → length x.name + levels ≡ 8
+            → Stands gives self.now xs → IsAt xs instance x → x.view ≡ Some v
+            → length x.name + levels ≡ 8
             → IsFoundInside gives self.now xs seeking x result }
     {
         if levels == 0 {
@@ -67,11 +70,14 @@ impl OpenRun {
     #[cycle(walk)]
     fn first_at(&self, instance: u64, step: u32, seeking: Seeking, levels: u32) -> Option<u64>
         requires { (gives : Giving) × (xs : Instances) × (x : Instance) × (v : View)
-            × Stands gives self.now xs × IsAt xs instance x × (x.view ≡ Some v) × (length x.name + levels ≡ 8)
+            × Stands gives self.now xs × IsAt xs instance x × (x.view ≡ Some v)
+            × (length x.name + levels ≡ 8)
             × (step < length x.flow.steps) × (0 < levels) }
         ensures { (gives : Giving) (xs : Instances) (x : Instance) (v : View)
-            → Stands gives self.now xs → IsAt xs instance x → x.view ≡ Some v → length x.name + levels ≡ 8
-            → step < length x.flow.steps → IsFoundOf gives self.now xs seeking instance x step result }
+            → Stands gives self.now xs → IsAt xs instance x → x.view ≡ Some v
+            → length x.name + levels ≡ 8
+            → step < length x.flow.steps
+            → IsFoundOf gives self.now xs seeking instance x step result }
     {
         let own = self.first_own(instance, step, seeking);
         match self.first_inside(instance, step, own, seeking, levels) {
@@ -86,10 +92,12 @@ impl OpenRun {
             × Stands gives self.now xs × IsAt xs instance x × (x.view ≡ Some v)
             × (step < length x.flow.steps) }
         ensures own { (gives : Giving) (xs : Instances) (x : Instance) (v : View)
-            → Stands gives self.now xs → IsAt xs instance x → x.view ≡ Some v → step < length x.flow.steps
+            → Stands gives self.now xs → IsAt xs instance x → x.view ≡ Some v
+            → step < length x.flow.steps
             → IsOwn gives self.now xs seeking instance x step result }
         ensures begins { (gives : Giving) (xs : Instances) (x : Instance) (v : View)
-            → Stands gives self.now xs → IsAt xs instance x → x.view ≡ Some v → step < length x.flow.steps
+            → Stands gives self.now xs → IsAt xs instance x → x.view ≡ Some v
+            → step < length x.flow.steps
             → IsOwnBegun gives self.now xs seeking instance x v step result }
     {
         let begins = is_sought(self.tries_of(instance, step), seeking);
@@ -109,10 +117,13 @@ impl OpenRun {
         levels: u32,
     ) -> Option<u64>
         requires { (gives : Giving) × (xs : Instances) × (x : Instance) × (v : View)
-            × Stands gives self.now xs × IsAt xs instance x × (x.view ≡ Some v) × (length x.name + levels ≡ 8)
-            × (step < length x.flow.steps) × (0 < levels) × IsOwn gives self.now xs seeking instance x step own }
+            × Stands gives self.now xs × IsAt xs instance x × (x.view ≡ Some v)
+            × (length x.name + levels ≡ 8)
+            × (step < length x.flow.steps) × (0 < levels)
+            × IsOwn gives self.now xs seeking instance x step own }
         ensures { (gives : Giving) (xs : Instances) (x : Instance) (v : View)
-            → Stands gives self.now xs → IsAt xs instance x → x.view ≡ Some v → length x.name + levels ≡ 8
+            → Stands gives self.now xs → IsAt xs instance x → x.view ≡ Some v
+            → length x.name + levels ≡ 8
             → IsOwn gives self.now xs seeking instance x step own
             → IsFoundBefore gives self.now xs seeking instance x step own result }
     {

@@ -51,7 +51,8 @@ SitAtStart =
 -- a nested one's, once its flow is opened
 abbrev pub SitWhereOpened : Type 0
 SitWhereOpened =
-    (gives : Giving) (d : Document) (past : History) (j : Job) (levels : Name → ℕ) (v : View) (ss : List Seat)
+    (gives : Giving) (d : Document) (past : History) (j : Job) (levels : Name → ℕ) (v : View)
+    (ss : List Seat)
     → is_formed d ≡ true → IsAccepted d → In j (meaning gives d).jobs
     → is_legal gives (meaning gives d) (opened j.name ∷ past) ≡ true
     → IsOpenedBy d j v → IsNew d levels v ss
@@ -69,7 +70,8 @@ pub record GoesOn (d : Document) (levels : Name → ℕ) (v w : View) (e : Event
   pub new : AreNewSeats v.flow.steps ns
 
 -- seat n is that of the job, and at this stage
-pub record IsSeatOf (gives : Giving) (d : Document) (I : JobName) (v : View) (ss : List Seat) (j : Job) (n : ℕ)
+pub record IsSeatOf (gives : Giving) (d : Document) (I : JobName) (v : View) (ss : List Seat)
+    (j : Job) (n : ℕ)
     (x : Stage) : Type 0 where
   pub seat : Seat
   pub there : slice_get ss n ≡ Some seat
@@ -78,10 +80,12 @@ pub record IsSeatOf (gives : Giving) (d : Document) (I : JobName) (v : View) (ss
 
 -- of every seat of every open instance
 abbrev pub AnySeat :
-    (Giving → Document → History → JobName → (Name → ℕ) → View → List Seat → Job → ℕ → Stage → Seat → Type 0)
+    (Giving → Document → History → JobName → (Name → ℕ) → View → List Seat → Job → ℕ → Stage → Seat
+    → Type 0)
     → Type 0
 AnySeat P =
-    (gives : Giving) (d : Document) (past : History) (I : JobName) (levels : Name → ℕ) (v : View) (ss : List Seat)
+    (gives : Giving) (d : Document) (past : History) (I : JobName) (levels : Name → ℕ) (v : View)
+    (ss : List Seat)
     → Sit gives d past I levels v ss
     → (j : Job) (n : ℕ) (x : Stage) (is : IsSeatOf gives d I v ss j n x)
     → P gives d past I levels v ss j n x is.seat
@@ -173,7 +177,8 @@ PutAside =
 abbrev pub AnySeats :
     (Giving → Document → History → JobName → (Name → ℕ) → View → List Seat → Type 0) → Type 0
 AnySeats P =
-    (gives : Giving) (d : Document) (past : History) (I : JobName) (levels : Name → ℕ) (v : View) (ss : List Seat)
+    (gives : Giving) (d : Document) (past : History) (I : JobName) (levels : Name → ℕ) (v : View)
+    (ss : List Seat)
     → Sit gives d past I levels v ss → P gives d past I levels v ss
 
 -- a list is closed, or a fault passed

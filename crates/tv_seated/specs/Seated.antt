@@ -50,10 +50,12 @@ spot_of steps s = (option_map_or (λ t. t.0) (slice_get steps s.step) [], s.plac
 
 -- each seat is at a step
 abbrev pub AreAtSteps : List (Name × Step) → List Seat → Type 0
-AreAtSteps steps ss = (n : ℕ) (s : Seat) → slice_get ss n ≡ Some s → (t : Name × Step) × (slice_get steps s.step ≡ Some t)
+AreAtSteps steps ss = (n : ℕ) (s : Seat) → slice_get ss n ≡ Some s → (t : Name × Step)
+    × (slice_get steps s.step ≡ Some t)
 
 -- each known job of an open instance has the seat of its number
-pub record Sit (gives : Giving) (d : Document) (past : History) (I : JobName) (levels : Name → ℕ) (v : View)
+pub record Sit (gives : Giving) (d : Document) (past : History) (I : JobName) (levels : Name → ℕ)
+    (v : View)
     (ss : List Seat) : Type 0 where
   pub in_run : IsInRun gives d past I levels v
   pub jobs : map (spot_of v.flow.steps) ss ≡ v.jobs
@@ -63,14 +65,16 @@ pub record Sit (gives : Giving) (d : Document) (past : History) (I : JobName) (l
       → IsJobThere gives d I j (spot_of v.flow.steps s) → IsStage past j s.stage
 
 -- some seat of the instance is the job's
-pub record HasSeatIn (gives : Giving) (d : Document) (I : JobName) (flow : Flow) (ss : List Seat) (j : Job) : Type 0 where
+pub record HasSeatIn (gives : Giving) (d : Document) (I : JobName) (flow : Flow) (ss : List Seat)
+    (j : Job) : Type 0 where
   pub number : ℕ
   pub seat : Seat
   pub there : slice_get ss number ≡ Some seat
   pub is_its : IsJobThere gives d I j (spot_of flow.steps seat)
 
 -- of an instance that has ended all jobs have seats, and are settled
-pub record HasEnded (gives : Giving) (d : Document) (past : History) (I : JobName) (flow : Flow) (ss : List Seat)
+pub record HasEnded (gives : Giving) (d : Document) (past : History) (I : JobName) (flow : Flow)
+    (ss : List Seat)
     : Type 0 where
   pub legal : is_legal gives (meaning gives d) past ≡ true
   pub ended : list_any (is_ended_entry I) past ≡ true
@@ -78,7 +82,8 @@ pub record HasEnded (gives : Giving) (d : Document) (past : History) (I : JobNam
   pub apart :
       (n k : ℕ) (s t : Seat) → slice_get ss n ≡ Some s → slice_get ss k ≡ Some t
       → spot_of flow.steps s ≡ spot_of flow.steps t → n ≡ k
-  pub jobs : (n : ℕ) (s : Seat) → slice_get ss n ≡ Some s → (j : Job) × IsJobThere gives d I j (spot_of flow.steps s)
+  pub jobs : (n : ℕ) (s : Seat) → slice_get ss n ≡ Some s → (j : Job)
+      × IsJobThere gives d I j (spot_of flow.steps s)
   pub all : (j : Job) → In j (meaning gives d).jobs → j.instance ≡ I → HasSeatIn gives d I flow ss j
   pub settled : (n : ℕ) (s : Seat) → slice_get ss n ≡ Some s → s.stage ≡ stage.Settled
   pub stages :

@@ -59,7 +59,8 @@ abbrev pub wholes_at : Around → ℕ → Event → ℕ → List Whole
 wholes_at a s e c = wholes_among a s e (ports_at a c)
 
 abbrev pub tellings_by : Event → List Way → List Whole → Strategy → List Told
-tellings_by e ways whole strategy = flat_map (way_tellings strategy e) ways ++ map (whole_telling strategy) whole
+tellings_by e ways whole strategy = flat_map (way_tellings strategy e) ways
+    ++ map (whole_telling strategy) whole
 
 abbrev pub told_at : Around → ℕ → Event → ℕ → Strategy → List Told
 told_at a s e c = tellings_by e (ways_at a s c) (wholes_at a s e c)

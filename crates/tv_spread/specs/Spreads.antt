@@ -31,7 +31,8 @@ CanBeTold tellings ps (Some m) =
 
 -- each step that is told something can be told that
 abbrev pub CanHoldTold : Around → ℕ → Event → Intakes → Type 0
-CanHoldTold a s e i = (c : ℕ) → is_told a s e c ≡ true → CanBeTold (told_at a s e c) (ports_at a c) (matcher_at i c)
+CanHoldTold a s e i = (c : ℕ) → is_told a s e c ≡ true
+    → CanBeTold (told_at a s e c) (ports_at a c) (matcher_at i c)
 
 -- whatever list these tellings are, it can be held
 abbrev pub CanHoldThese : (Strategy → List Told) → Option Matcher → Type 0
@@ -52,13 +53,15 @@ StaysAt None None = Unit {0}
 
 -- these tellings are held, and all else is as it was
 abbrev pub HoldsAt : (Strategy → List Told) → Option Matcher → Option Matcher → Type 0
-HoldsAt ts (Some m) (Some n) = Holds (ts (matching m).strategy) (matching m) (matching n) × (in_order n ≡ in_order m)
+HoldsAt ts (Some m) (Some n) = Holds (ts (matching m).strategy) (matching m) (matching n)
+    × (in_order n ≡ in_order m)
 HoldsAt ts (Some m) None = ⊥
 HoldsAt ts None o = ⊥
 
 -- each step that is told something holds that, which can be told, and no other's matcher is another
 pub record HoldTold (a : Around) (s : ℕ) (e : Event) (i j : Intakes) : Type 0 where
-  pub told : (c : ℕ) → is_told a s e c ≡ true → HoldsAt (told_at a s e c) (matcher_at i c) (matcher_at j c)
+  pub told : (c : ℕ) → is_told a s e c ≡ true
+      → HoldsAt (told_at a s e c) (matcher_at i c) (matcher_at j c)
   pub can : (c : ℕ) → is_told a s e c ≡ true → CanShow (matcher_at j c)
   pub others : (c : ℕ) → is_told a s e c ≡ false → matcher_at j c ≡ matcher_at i c
 
@@ -87,7 +90,8 @@ new_count i cs = sum_by (λ c. jobs_among (brought_at i c)) cs
 -- a step's idle jobs have places as long as its jobs
 abbrev pub IsLevelled : Option Matcher → StepIdle → Type 0
 IsLevelled None s = Unit {0}
-IsLevelled (Some m) s = s.levels ≡ strategy_depth (number_of (matching m).mismatch) (matching m).strategy
+IsLevelled (Some m) s = s.levels
+    ≡ strategy_depth (number_of (matching m).mismatch) (matching m).strategy
 
 -- each of them stands before those that follow
 abbrev pub IsAscending : List ℕ → Type 0

@@ -35,13 +35,15 @@ WiringsAreWired = (f : Flow) → AreWires (wiring f)
 -- ---- an event that is held, and then shown
 
 -- a matcher was told these too, and these follow by that
-pub record IsTold (tellings : Strategy → List Told) (news : List Outcome) (m n : Matcher) : Type 0 where
+pub record IsTold (tellings : Strategy → List Told) (news : List Outcome)
+    (m n : Matcher) : Type 0 where
   pub told : (matching n).told ≡ (matching m).told ++ tellings (matching m).strategy
   pub strategy : (matching n).strategy ≡ (matching m).strategy
   pub mismatch : (matching n).mismatch ≡ (matching m).mismatch
   pub follows : in_order n ≡ in_order m ++ news
 
-abbrev pub IsToldAt : (Strategy → List Told) → List Outcome → Option Matcher → Option Matcher → Type 0
+abbrev pub IsToldAt : (Strategy → List Told) → List Outcome → Option Matcher → Option Matcher
+    → Type 0
 IsToldAt tellings news (Some m) (Some n) = IsTold tellings news m n
 IsToldAt tellings news (Some m) None = ⊥
 IsToldAt tellings news None (Some n) = ⊥
@@ -54,7 +56,8 @@ brought_with a s e j c = if is_told a s e c then brought_at j c else []
 -- each step was told what the event tells it, which may be nothing
 abbrev pub AllAreTold : Type 0
 AllAreTold =
-    (a : Around) (s : ℕ) (e : Event) (i j k : Intakes) → HoldTold a s e i j → MakeAll (told_steps a s e) j k
+    (a : Around) (s : ℕ) (e : Event) (i j k : Intakes) → HoldTold a s e i j
+    → MakeAll (told_steps a s e) j k
     → (c : ℕ) → c < length a.wiring.now.ports
     → IsToldAt (told_at a s e c) (brought_with a s e j c) (matcher_at i c) (matcher_at k c)
 
@@ -70,5 +73,6 @@ FlagsAreTold =
 abbrev pub ReadyStays : Type 0
 ReadyStays =
     (cs : List ℕ) (i : Intakes) (idle new : Idles) (step number : ℕ)
-    → new.steps ≡ slice_set idle.steps step (without number (of_step idle.steps step)) → new.room ≡ idle.room
+    → new.steps ≡ slice_set idle.steps step (without number (of_step idle.steps step))
+    → new.room ≡ idle.room
     → CanShowAll cs i idle → CanShowAll cs i new

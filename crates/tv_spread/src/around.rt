@@ -33,7 +33,8 @@ pub struct Around<'a> {
 fn is_link_faulty(around: &Around, step: u32, event: &Event, link: &NumberedLink) -> bool
     requires stand { (region : InRegion) × Stand around.now.pool.now around.now.outputs.now region }
     requires linked { IsLinked around.now step event.now link.now }
-    ensures { result ≡ link_faulty (input_faulty around.now) (output_faulty around.now step event.now) link.now }
+    ensures { result ≡ link_faulty (input_faulty around.now)
+        (output_faulty around.now step event.now) link.now }
 {
     match link {
         NumberedLink::Input(input) => around.faulty_inputs[*input as usize],
@@ -50,7 +51,8 @@ fn is_link_faulty(around: &Around, step: u32, event: &Event, link: &NumberedLink
 fn is_some_faulty(around: &Around, step: u32, event: &Event, links: &[NumberedLink]) -> bool
     requires stand { (region : InRegion) × Stand around.now.pool.now around.now.outputs.now region }
     requires linked { Each (IsLinked around.now step event.now) links.now }
-    ensures { result ≡ list_any (link_faulty (input_faulty around.now) (output_faulty around.now step event.now)) links.now }
+    ensures { result ≡ list_any (link_faulty (input_faulty around.now)
+        (output_faulty around.now step event.now)) links.now }
 {
     for link in links {
         if is_link_faulty(around, step, event, link) {
@@ -84,7 +86,8 @@ pub(crate) fn push_wholes(
 ) -> Result<(), NoMemory>
     requires stand { (region : InRegion) × Stand around.now.pool.now around.now.outputs.now region }
     requires fed { Each (λ p. IsFed around.now step event.now p.feed) ports.now }
-    ensures { OnOk result (whole.new.items ≡ whole.old.items ++ wholes_among around.now step event.now ports.now) }
+    ensures { OnOk result (whole.new.items ≡ whole.old.items
+        ++ wholes_among around.now step event.now ports.now) }
 {
     if event.whole_from != 0 {
         return Ok(());

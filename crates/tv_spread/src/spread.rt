@@ -61,11 +61,13 @@ impl Spread {
         requires around { IsAround around.now step event.now }
         requires sound { AreIntaken intakes.old }
         requires can { CanHoldTold around.now step event.now intakes.old }
-        requires levels { (c : ℕ) → IsLevelled (matcher_at intakes.old c) (of_step idle.old.steps c) }
+        requires levels { (c : ℕ)
+            → IsLevelled (matcher_at intakes.old c) (of_step idle.old.steps c) }
         requires steps { length around.now.wiring.now.ports ≤ length idle.old.steps }
         ensures touched { OnOk result (self.new.touched.items ≡ told_steps around.now step event.now) }
         ensures held { OnOk result (HoldTold around.now step event.now intakes.old intakes.new) }
-        ensures count { IfOk result (λ n. n ≡ new_count intakes.new (told_steps around.now step event.now)) }
+        ensures count { IfOk result (λ n. n
+            ≡ new_count intakes.new (told_steps around.now step event.now)) }
         ensures ready { OnOk result (CanShowAll (told_steps around.now step event.now) intakes.new idle.new) }
         ensures stays { (c : ℕ) → StaysAt (matcher_at intakes.old c) (matcher_at intakes.new c) }
         ensures jobs { known_jobs intakes.new ≡ known_jobs intakes.old }
@@ -120,7 +122,8 @@ impl Spread {
         step: u32,
         event: &Event,
     ) -> Result<(), NoMemory>
-        requires stand { (region : InRegion) × Stand around.now.pool.now around.now.outputs.now region }
+        requires stand { (region : InRegion)
+            × Stand around.now.pool.now around.now.outputs.now region }
         requires to { to < length around.now.wiring.now.ports }
         requires fed { Each (λ p. IsFed around.now step event.now p.feed) (ports_at around.now to) }
         requires wires { map way_of (filter is_walked wires.now) ≡ ways_at around.now step to }
@@ -145,11 +148,18 @@ impl Spread {
     ) -> Result<(), NoMemory>
         requires sound { AreIntaken intakes.old }
         requires outputs { Each (λ w. HasOutput event.now w.output) self.old.ways.items }
-        requires can { tells_some self.old.ways.items self.old.whole.items ≡ true → CanHoldThese (tellings_by event.now self.old.ways.items self.old.whole.items) (matcher_at intakes.old to) }
-        ensures touched { OnOk result (self.new.touched.items ≡ self.old.touched.items ++ if_so (tells_some self.old.ways.items self.old.whole.items) to) }
-        ensures held { OnOk result (tells_some self.old.ways.items self.old.whole.items ≡ true → HoldsAt (tellings_by event.now self.old.ways.items self.old.whole.items) (matcher_at intakes.old to) (matcher_at intakes.new to)) }
-        ensures can { OnOk result (tells_some self.old.ways.items self.old.whole.items ≡ true → CanShow (matcher_at intakes.new to)) }
-        ensures same { tells_some self.old.ways.items self.old.whole.items ≡ false → matcher_at intakes.new to ≡ matcher_at intakes.old to }
+        requires can { tells_some self.old.ways.items self.old.whole.items ≡ true
+            → CanHoldThese (tellings_by event.now self.old.ways.items self.old.whole.items)
+            (matcher_at intakes.old to) }
+        ensures touched { OnOk result (self.new.touched.items ≡ self.old.touched.items
+            ++ if_so (tells_some self.old.ways.items self.old.whole.items) to) }
+        ensures held { OnOk result (tells_some self.old.ways.items self.old.whole.items ≡ true
+            → HoldsAt (tellings_by event.now self.old.ways.items self.old.whole.items)
+            (matcher_at intakes.old to) (matcher_at intakes.new to)) }
+        ensures can { OnOk result (tells_some self.old.ways.items self.old.whole.items ≡ true
+            → CanShow (matcher_at intakes.new to)) }
+        ensures same { tells_some self.old.ways.items self.old.whole.items ≡ false
+            → matcher_at intakes.new to ≡ matcher_at intakes.old to }
         ensures stays { StaysAt (matcher_at intakes.old to) (matcher_at intakes.new to) }
         ensures others { OthersStay to intakes.old intakes.new }
         ensures jobs { known_jobs intakes.new ≡ known_jobs intakes.old }
@@ -171,7 +181,8 @@ impl Spread {
         requires can { Each (λ c. CanShow (matcher_at intakes.now c)) self.now.touched.items }
         requires within { Each (λ c. c < length idle.old.steps) self.now.touched.items }
         ensures good { OnOk result (Each (λ c. (of_step idle.new.steps c).good_room ≡ new_good intakes.now c) self.now.touched.items) }
-        ensures faulty { OnOk result (Each (λ c. (of_step idle.new.steps c).faulty_room ≡ new_faulty intakes.now c) self.now.touched.items) }
+        ensures faulty { OnOk result (Each (λ c. (of_step idle.new.steps c).faulty_room
+            ≡ new_faulty intakes.now c) self.now.touched.items) }
         ensures rooms { HasOtherRooms idle.old idle.new }
     {
         for step in &self.touched {
@@ -187,9 +198,13 @@ impl Spread {
         requires sound { AreIntaken intakes.old }
         requires ready { CanShowAll self.now.touched.items intakes.old idle.old }
         ensures made { MakeAll self.now.touched.items intakes.old intakes.new }
-        ensures jobs { known_jobs intakes.new ≡ known_jobs intakes.old ++ new_jobs intakes.old self.now.touched.items }
-        ensures waiting { waiting_things intakes.new ≡ waiting_things intakes.old ++ new_things intakes.old self.now.touched.items }
-        ensures idle { idle.new ≡ with_all_new (binds_fault intakes.old) (new_jobs intakes.old self.now.touched.items) idle.old }
+        ensures jobs { known_jobs intakes.new ≡ known_jobs intakes.old
+            ++ new_jobs intakes.old self.now.touched.items }
+        ensures waiting { waiting_things intakes.new ≡ waiting_things intakes.old
+            ++ new_things intakes.old self.now.touched.items }
+        ensures idle { idle.new
+            ≡ with_all_new (binds_fault intakes.old)
+            (new_jobs intakes.old self.now.touched.items) idle.old }
         ensures sound { AreIntaken intakes.new }
     {
         for step in &self.touched {

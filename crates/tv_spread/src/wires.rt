@@ -45,7 +45,8 @@ fn way_of(wire: &Wire) -> Way
 
 /// The ways along these wires, to ports that walk some levels.
 pub(crate) fn push_ways(wires: &[Wire], ways: &mut Vec<Way>) -> Result<(), NoMemory>
-    ensures { OnOk result (ways.new.items ≡ ways.old.items ++ map way_of (filter is_walked wires.now)) }
+    ensures { OnOk result (ways.new.items ≡ ways.old.items
+        ++ map way_of (filter is_walked wires.now)) }
 {
     for wire in wires {
         if wire.levels != 0 {

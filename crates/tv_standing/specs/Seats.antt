@@ -29,7 +29,8 @@ IsJobOf gives d I v j s = IsJobThere gives d I j (spot_of v.flow.steps s)
 
 -- P holds of each seat and its job
 abbrev pub AtEachSeat :
-    (Giving → Document → History → JobName → (Name → ℕ) → View → List Seat → ℕ → Seat → Job → Type 0)
+    (Giving → Document → History → JobName → (Name → ℕ) → View → List Seat → ℕ → Seat → Job
+    → Type 0)
     → Type 0
 AtEachSeat P =
     InEveryRun (λ gives d past I levels v ss.
@@ -37,14 +38,16 @@ AtEachSeat P =
     → P gives d past I levels v ss n s j)
 
 -- a seat has a job, which is the known one of the seat's number
-pub record HasJob (gives : Giving) (d : Document) (I : JobName) (v : View) (n : ℕ) (s : Seat) : Type 0
+pub record HasJob (gives : Giving) (d : Document) (I : JobName) (v : View) (n : ℕ)
+    (s : Seat) : Type 0
   where
     pub job : Job
     pub is_its : IsJobOf gives d I v job s
     pub known : numbered v n ≡ Some (spot_of v.flow.steps s)
 
 -- a job has a seat
-pub record HasSeat (gives : Giving) (d : Document) (I : JobName) (v : View) (ss : List Seat) (j : Job)
+pub record HasSeat (gives : Giving) (d : Document) (I : JobName) (v : View) (ss : List Seat)
+    (j : Job)
     : Type 0 where
   pub number : ℕ
   pub seat : Seat

@@ -99,7 +99,8 @@ pub record AreNamesOfJobs (gives : Giving) (d : Document) (past : History) (name
       → In j.name names
 
 -- the name of a number is its job's, and the job is found by its name
-pub record IsJobOfNumber (gives : Giving) (d : Document) (names : List JobName) (n : ℕ) (j : Job) : Type 0
+pub record IsJobOfNumber (gives : Giving) (d : Document) (names : List JobName) (n : ℕ)
+    (j : Job) : Type 0
   where
     pub named : slice_get names n ≡ Some j.name
     pub found : find (λ i. same_job j.name i.name) (meaning gives d).jobs ≡ Some j

@@ -34,7 +34,8 @@ happening_of (took s q) w = passed
 -- of a value that is known
 abbrev pub ValuesAreToldAlike : Type 0
 ValuesAreToldAlike =
-    (p : Name) (k : ℕ) (q : Place) (v : Value) → tellings (framing.value_told p k q v) ≡ tellings (value_told p k q v)
+    (p : Name) (k : ℕ) (q : Place) (v : Value)
+    → tellings (framing.value_told p k q v) ≡ tellings (value_told p k q v)
 
 -- with an event, of an output of its step
 abbrev pub WaysAreToldAlike : Type 0
@@ -67,7 +68,8 @@ module _ (e : Event) (given_at : Name → Value) (faults : Name → ℕ) (p : Na
 
 abbrev pub PortsAreToldByWays : Type 0
 PortsAreToldByWays =
-    (newly : Place → Bool) (e : Event) (given_at : Name → Value) (faults : Name → ℕ) (p : Name) (from : ℕ)
+    (newly : Place → Bool) (e : Event) (given_at : Name → Value) (faults : Name → ℕ) (p : Name)
+    (from : ℕ)
     → is_telling e ≡ true → IsFrom newly (event_place e) from
     → (whole_now faulty : Bool) (k : ℕ) (f : Feed)
     → tellings (port_told newly e given_at p whole_now k f)

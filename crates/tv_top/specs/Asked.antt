@@ -42,7 +42,8 @@ line_of r = (refusal_status r, refusal_line r)
 -- the JSON tree of the bytes, or that they have none, unless memory was wanting
 abbrev pub GivesJson : Result Json Refusal → List ℕ → Type 0
 GivesJson (Ok json) bytes = json_of bytes ≡ Some (json_view json)
-GivesJson (Err r) bytes = ((json_of bytes ≡ None) × (r ≡ why.Plain NotJson)) ⊎ (r ≡ why.Plain NoMemory)
+GivesJson (Err r) bytes = ((json_of bytes ≡ None) × (r ≡ why.Plain NotJson))
+    ⊎ (r ≡ why.Plain NoMemory)
 
 -- the checked document that was read, or why there is none, unless memory was wanting
 abbrev pub GivesRun : Result CheckedRun Refusal → Reading → Type 0

@@ -48,12 +48,14 @@ ToldCalls = Option (List Call)
 
 -- told calls are followed by these
 abbrev pub AsksThese : ToldCalls → ToldCalls → List Call → Type 0
-AsksThese before after more = (calls : List Call) → before ≡ Some calls → after ≡ Some (calls ++ more)
+AsksThese before after more = (calls : List Call) → before ≡ Some calls
+    → after ≡ Some (calls ++ more)
 
 -- told calls are followed by the first of these, as many as there are
 abbrev pub BeginsThese : ToldCalls → ToldCalls → List Call → Type 0
 BeginsThese before after more =
-    (calls : List Call) → before ≡ Some calls → (asked : List Call) × (after ≡ Some (calls ++ asked)) × IsFirstPart asked more
+    (calls : List Call) → before ≡ Some calls → (asked : List Call)
+    × (after ≡ Some (calls ++ asked)) × IsFirstPart asked more
 
 -- what an accepted document was asked for took, by the status of the refusal where there is no text to print: these calls where an
 -- element wasn't there, and where memory was wanting a beginning of them
@@ -84,7 +86,8 @@ AsksForDocument asks s before after = OfRead s (λ bytes. AsksThese before after
 
 -- told calls are as before, or followed by a beginning of those that the document takes
 abbrev pub BeginsForDocument : (List ℕ → List Call) → Source → ToldCalls → ToldCalls → Type 0
-BeginsForDocument asks s before after = IsSameCalls before after ⊎ OfRead s (λ bytes. BeginsThese before after (asks bytes))
+BeginsForDocument asks s before after = IsSameCalls before after
+    ⊎ OfRead s (λ bytes. BeginsThese before after (asks bytes))
 
 -- What was asked, by the status: all that the answer takes where there is one, whether or not it was written, and where an element
 -- wasn't there; nothing for another refusal; and a beginning of it where memory was wanting.
@@ -101,7 +104,8 @@ IsAsked asks s before after WriteFault = AsksForDocument asks s before after
 IsAsked asks s before after NoMemory = BeginsForDocument asks s before after
 
 -- the same for a text to print or a refusal
-abbrev pub IsAskedFor : (List ℕ → List Call) → Source → ToldCalls → ToldCalls → Result Text Refusal → Type 0
+abbrev pub IsAskedFor : (List ℕ → List Call) → Source → ToldCalls → ToldCalls → Result Text Refusal
+    → Type 0
 IsAskedFor asks s before after (Ok text) = AsksForDocument asks s before after
 IsAskedFor asks s before after (Err r) = IsAsked asks s before after (refusal_status r)
 
@@ -120,7 +124,8 @@ is_run (Some (gen n)) = true
 -- other words take no call
 abbrev pub OthersAskNothing : Type 0
 OthersAskNothing =
-    (gives : Giving) (knows : Name → Bool) (words : Option Command) (bytes : List ℕ) → is_run words ≡ false → asks_of gives knows words bytes ≡ []
+    (gives : Giving) (knows : Name → Bool) (words : Option Command) (bytes : List ℕ)
+    → is_run words ≡ false → asks_of gives knows words bytes ≡ []
 
 -- the words ask for the lineage of an element of an output
 abbrev pub is_lineage : Option Command → Bool
@@ -135,12 +140,15 @@ is_lineage (Some (gen n)) = false
 -- no refusal takes a call, but that of an element of an output: a run tells that it isn't there
 abbrev pub RefusalsAskNothing : Type 0
 RefusalsAskNothing =
-    (gives : Giving) (knows : Name → Bool) (words : Option Command) (bytes : List ℕ) (r : StatusLine)
+    (gives : Giving) (knows : Name → Bool) (words : Option Command) (bytes : List ℕ)
+    (r : StatusLine)
     → (is_lineage words ≡ true → r.0 ≡ NoSuchElement → ⊥)
     → answer_of gives knows words bytes ≡ Err r → asks_of gives knows words bytes ≡ []
 
 -- so they are followed by no call, whatever the status
 abbrev pub OthersAreNotAsked : Type 0
 OthersAreNotAsked =
-    (gives : Giving) (knows : Name → Bool) (words : Option Command) (s : Source) (before after : ToldCalls) (status : Status)
-    → is_run words ≡ false → IsAsked (asks_of gives knows words) s before after status → IsSameCalls before after
+    (gives : Giving) (knows : Name → Bool) (words : Option Command) (s : Source)
+    (before after : ToldCalls) (status : Status)
+    → is_run words ≡ false → IsAsked (asks_of gives knows words) s before after status
+    → IsSameCalls before after

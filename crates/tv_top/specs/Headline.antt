@@ -85,13 +85,15 @@ abbrev pub IsRefusal : {A : Type 0} → (List ℕ → Result A StatusLine) → S
 IsRefusal answer s status = OfDocument s (IsRefused answer status)
 
 -- the source was left so, and this refusal is the answer
-abbrev pub IsReadRefusal : {A : Type 0} → Leaving → (List ℕ → Result A StatusLine) → Source → Status → Type 0
+abbrev pub IsReadRefusal : {A : Type 0} → Leaving → (List ℕ → Result A StatusLine) → Source → Status
+    → Type 0
 IsReadRefusal left answer s status = OfDocument s (λ bytes. IsRefused answer status bytes × left s bytes)
 
 -- why a call ended with this status
 abbrev pub Cause : Leaving → (List ℕ → Answer) → Source → Sink → Status → Type 0
 -- the document was read to its end, where one is read, and its answer was written whole
-Cause left answer s out Done = OfDocument s (λ bytes. (text : Text) × (answer bytes ≡ Ok text) × left s bytes × IsSentOf out.sent out.sent_after text)
+Cause left answer s out Done = OfDocument s (λ bytes. (text : Text) × (answer bytes ≡ Ok text)
+    × left s bytes × IsSentOf out.sent out.sent_after text)
 Cause left answer s out Usage = IsRefusal answer s Usage
 -- the source counted a fault
 Cause left answer s out ReadFault = ReadFailed s
@@ -101,12 +103,15 @@ Cause left answer s out Form = IsReadRefusal left answer s Form
 Cause left answer s out Check = IsReadRefusal left answer s Check
 Cause left answer s out NoSuchElement = IsReadRefusal left answer s NoSuchElement
 -- the output counted a fault; the document was read to its end, where one is read, and a beginning of its answer was written, not the whole
-Cause left answer s out WriteFault = WriteFailed out × OfDocument s (λ bytes. (text : Text) × (answer bytes ≡ Ok text) × left s bytes × IsCutShort out.sent out.sent_after text)
+Cause left answer s out WriteFault = WriteFailed out
+    × OfDocument s (λ bytes. (text : Text) × (answer bytes ≡ Ok text) × left s bytes
+    × IsCutShort out.sent out.sent_after text)
 -- want of memory alone is free
 Cause left answer s out NoMemory = Unit {0}
 
 -- why a call came to an end without a text to print
-abbrev pub RefusalCause : {A : Type 0} → Leaving → (List ℕ → Result A StatusLine) → Source → Status → Type 0
+abbrev pub RefusalCause : {A : Type 0} → Leaving → (List ℕ → Result A StatusLine) → Source → Status
+    → Type 0
 RefusalCause left answer s Done = ⊥
 RefusalCause left answer s Usage = IsRefusal answer s Usage
 RefusalCause left answer s ReadFault = ReadFailed s
@@ -126,12 +131,15 @@ status_of (Err r) = r.0
 -- where neither the source nor the output counted a fault, the status is that of the answer, or memory was wanting
 abbrev pub IsComplete : (List ℕ → Answer) → Source → Sink → Status → Type 0
 IsComplete answer s out status =
-    OfDocument s (λ bytes. (ReadFailed s → ⊥) → (WriteFailed out → ⊥) → (status ≡ status_of (answer bytes)) ⊎ (status ≡ NoMemory))
+    OfDocument s (λ bytes. (ReadFailed s → ⊥) → (WriteFailed out → ⊥)
+    → (status ≡ status_of (answer bytes)) ⊎ (status ≡ NoMemory))
 
 -- the line of the answer to some bytes, and to those that the source had, where it tells them
-abbrev pub IsAnswersLine : {A : Type 0} → (List ℕ → Result A StatusLine) → Source → Status → Text → Type 0
+abbrev pub IsAnswersLine : {A : Type 0} → (List ℕ → Result A StatusLine) → Source → Status → Text
+    → Type 0
 IsAnswersLine answer s status line =
-    ((bytes : List ℕ) × (answer bytes ≡ Err (status, line))) × OfDocument s (λ bytes. answer bytes ≡ Err (status, line))
+    ((bytes : List ℕ) × (answer bytes ≡ Err (status, line)))
+    × OfDocument s (λ bytes. answer bytes ≡ Err (status, line))
 
 -- the line of a status: for a fault of the form or of the check, or an element that isn't there, that of the answer, else the one
 -- that the status always has
@@ -148,8 +156,10 @@ IsLine answer s WriteFault line = line ≡ fault_line WriteFault
 IsLine answer s NoMemory line = line ≡ fault_line NoMemory
 
 -- a refusal has its cause and its line
-abbrev pub IsRefusedSo : {A : Type 0} → Leaving → (List ℕ → Result A StatusLine) → Source → Refusal → Type 0
-IsRefusedSo left answer s r = RefusalCause left answer s (refusal_status r) × IsLine answer s (refusal_status r) (refusal_line r)
+abbrev pub IsRefusedSo : {A : Type 0} → Leaving → (List ℕ → Result A StatusLine) → Source → Refusal
+    → Type 0
+IsRefusedSo left answer s r = RefusalCause left answer s (refusal_status r)
+    × IsLine answer s (refusal_status r) (refusal_line r)
 
 -- the document that some bytes are, which are those that the source had, where it tells them, and it was left so
 abbrev pub IsRead : Leaving → (List ℕ → Reading) → Source → Result CheckedRun Refusal → Type 0
@@ -165,7 +175,8 @@ IsAnswered left answer s (Err r) = IsRefusedSo left answer s r
 
 -- the line was written whole, or its sink counted a fault and a beginning of it was written, not the whole
 abbrev pub IsReported : Sink → Text → Type 0
-IsReported err line = IsSentOf err.sent err.sent_after line ⊎ (WriteFailed err × IsCutShort err.sent err.sent_after line)
+IsReported err line = IsSentOf err.sent err.sent_after line
+    ⊎ (WriteFailed err × IsCutShort err.sent err.sent_after line)
 
 -- the status's line was reported
 abbrev pub IsSaid : (List ℕ → Answer) → Source → Sink → Status → Type 0

@@ -46,8 +46,10 @@ pub(crate) fn answer<A: Asker>(
 /// The result line of a document that a board runs.
 fn result_of_run<A: Asker>(alloc: Global, run: CheckedRun, asker: &mut A) -> Result<Text, NoMemory>
     ensures line { IfOk result (λ t. t ≡ result_line (meaning A.Services.gives (run_view run))) }
-    ensures asked { OnOk result (AsksThese (A.calls asker.old) (A.calls asker.new) (map call_of (ask_order (meaning A.Services.gives (run_view run))))) }
-    ensures begun { OnErr result (BeginsThese (A.calls asker.old) (A.calls asker.new) (map call_of (ask_order (meaning A.Services.gives (run_view run))))) }
+    ensures asked { OnOk result (AsksThese (A.calls asker.old) (A.calls asker.new)
+        (map call_of (ask_order (meaning A.Services.gives (run_view run))))) }
+    ensures begun { OnErr result (BeginsThese (A.calls asker.old) (A.calls asker.new)
+        (map call_of (ask_order (meaning A.Services.gives (run_view run))))) }
 {
     let (outputs, totals) = run_whole(alloc, run, asker)?;
     let line = result_line(alloc, &outputs, &totals)?;
@@ -56,9 +58,12 @@ fn result_of_run<A: Asker>(alloc: Global, run: CheckedRun, asker: &mut A) -> Res
 
 /// The lines of the jobs that asked, of a document that a board runs.
 fn trace_of_run<A: Asker>(alloc: Global, run: CheckedRun, asker: &mut A) -> Result<Text, NoMemory>
-    ensures lines { IfOk result (λ t. t ≡ trace_text (map (λ p. p.0) (ask_order (meaning A.Services.gives (run_view run))))) }
-    ensures asked { OnOk result (AsksThese (A.calls asker.old) (A.calls asker.new) (map call_of (ask_order (meaning A.Services.gives (run_view run))))) }
-    ensures begun { OnErr result (BeginsThese (A.calls asker.old) (A.calls asker.new) (map call_of (ask_order (meaning A.Services.gives (run_view run))))) }
+    ensures lines { IfOk result (λ t. t
+        ≡ trace_text (map (λ p. p.0) (ask_order (meaning A.Services.gives (run_view run))))) }
+    ensures asked { OnOk result (AsksThese (A.calls asker.old) (A.calls asker.new)
+        (map call_of (ask_order (meaning A.Services.gives (run_view run))))) }
+    ensures begun { OnErr result (BeginsThese (A.calls asker.old) (A.calls asker.new)
+        (map call_of (ask_order (meaning A.Services.gives (run_view run))))) }
 {
     let board = run_board(alloc, run, asker)?;
     let lines = trace_lines(alloc, &board)?;
@@ -73,7 +78,8 @@ pub(crate) fn summary<A: Asker>(
     asker: &mut A,
 ) -> Result<Text, Refusal>
     ensures answer { GivesAnswer result (answer_to A.Services.gives (gen number) (run_view run)) }
-    ensures asked { GivesAsks (A.calls asker.old) (A.calls asker.new) result (asks_to A.Services.gives (gen number) (run_view run)) }
+    ensures asked { GivesAsks (A.calls asker.old)
+        (A.calls asker.new) result (asks_to A.Services.gives (gen number) (run_view run)) }
 {
     Ok(summary_of_run(alloc, number, run, asker)?)
 }
@@ -86,8 +92,10 @@ fn summary_of_run<A: Asker>(
     asker: &mut A,
 ) -> Result<Text, NoMemory>
     ensures line { IfOk result (λ t. t ≡ summary_of A.Services.gives number (run_view run)) }
-    ensures asked { OnOk result (AsksThese (A.calls asker.old) (A.calls asker.new) (map call_of (ask_order (meaning A.Services.gives (run_view run))))) }
-    ensures begun { OnErr result (BeginsThese (A.calls asker.old) (A.calls asker.new) (map call_of (ask_order (meaning A.Services.gives (run_view run))))) }
+    ensures asked { OnOk result (AsksThese (A.calls asker.old) (A.calls asker.new)
+        (map call_of (ask_order (meaning A.Services.gives (run_view run))))) }
+    ensures begun { OnErr result (BeginsThese (A.calls asker.old) (A.calls asker.new)
+        (map call_of (ask_order (meaning A.Services.gives (run_view run))))) }
 {
     let (outputs, totals) = run_whole(alloc, run, asker)?;
     let line = result_line(alloc, &outputs, &totals)?;

@@ -60,7 +60,8 @@ fn run_of_json<V: Services>(alloc: Global, json: Json) -> Result<CheckedRun, Ref
 
 /// The line of a fault of form.
 fn form_refusal(alloc: Global, fault: &FormFault) -> Refusal
-    ensures { ((is_form fault.now ≡ true) × (result ≡ Refusal.Form (line_of fault.now))) ⊎ (result ≡ Refusal.Plain Status.NoMemory) }
+    ensures { ((is_form fault.now ≡ true) × (result ≡ Refusal.Form (line_of fault.now)))
+        ⊎ (result ≡ Refusal.Plain Status.NoMemory) }
 {
     match fault {
         FormFault::Form { .. } => match form_line(alloc, fault) {
@@ -75,7 +76,8 @@ pub(crate) fn run_of_document<V: Services>(
     alloc: Global,
     document: Document,
 ) -> Result<CheckedRun, Refusal>
-    ensures { GivesRun result (unless_complaint (document_view document) (checked V.knows (document_view document))) }
+    ensures { GivesRun result (unless_complaint (document_view document)
+        (checked V.knows (document_view document))) }
 {
     match check::<V>(alloc, document) {
         Ok(run) => Ok(run),
@@ -86,7 +88,8 @@ pub(crate) fn run_of_document<V: Services>(
 
 /// The line of a fault of the check.
 fn check_refusal(alloc: Global, fault: &CheckFault) -> Refusal
-    ensures { (result ≡ Refusal.Check (check_text (fault_view fault.now))) ⊎ (result ≡ Refusal.Plain Status.NoMemory) }
+    ensures { (result ≡ Refusal.Check (check_text (fault_view fault.now)))
+        ⊎ (result ≡ Refusal.Plain Status.NoMemory) }
 {
     match check_line(alloc, fault) {
         Ok(line) => Refusal::Check(line),

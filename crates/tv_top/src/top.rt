@@ -42,21 +42,24 @@ pub fn taverna_alone<S: Source, K: Sink, E: Sink, A: Asker>(
     asker: &mut A,
 ) -> Status
     // Why the status came, by the bytes of the document and of the answer.
-    ensures cause { Cause (left_by (asked_for (texts_of words.now))) (answer_of A.Services.gives A.Services.knows (asked_for (texts_of words.now)))
+    ensures cause { Cause (left_by (asked_for (texts_of words.now)))
+        (answer_of A.Services.gives A.Services.knows (asked_for (texts_of words.now)))
         (source_told ⟦<S as Source>⟧ source.old source.new)
         (sink_told ⟦<K as Sink>⟧ out.old out.new) result }
     ensures complete { IsComplete (answer_of A.Services.gives A.Services.knows (asked_for (texts_of words.now)))
         (source_told ⟦<S as Source>⟧ source.old source.new)
         (sink_told ⟦<K as Sink>⟧ out.old out.new) result }
     // Words that give no command are told from them alone, where memory isn't wanting, and then nothing is read.
-    ensures usage { result ≢ Status.NoMemory → ((result ≡ Status.Usage) ↔ (asked_for (texts_of words.now) ≡ None)) }
+    ensures usage { result ≢ Status.NoMemory
+        → ((result ≡ Status.Usage) ↔ (asked_for (texts_of words.now) ≡ None)) }
     ensures taken { TakesAtMost (byte_limit + 1) (S.left source.old) (S.left source.new) }
     ensures unread { result ≡ Status.Usage → source.new ≡ source.old }
     ensures unread_by_gen { IsGen (asked_for (texts_of words.now)) → source.new ≡ source.old }
     // The output has nothing but an answer, and the line on `err` is the status's.
     ensures silent { result ≢ Status.Done → result ≢ Status.WriteFault → out.new ≡ out.old }
     ensures unsaid { result ≡ Status.Done → err.new ≡ err.old }
-    ensures said { result ≢ Status.Done → IsSaid (answer_of A.Services.gives A.Services.knows (asked_for (texts_of words.now)))
+    ensures said { result ≢ Status.Done
+        → IsSaid (answer_of A.Services.gives A.Services.knows (asked_for (texts_of words.now)))
         (source_told ⟦<S as Source>⟧ source.old source.new)
         (sink_told ⟦<E as Sink>⟧ err.old err.new) result }
     // What the services were asked, where the asker tells its calls: all that the answer takes, in the order of one worker, and
@@ -93,16 +96,19 @@ fn carried_out<S: Source, K: Sink, A: Asker>(
     out: &mut K,
     asker: &mut A,
 ) -> Result<(), Refusal>
-    ensures cause { Cause (left_by (asked_for (texts_of words.now))) (answer_of A.Services.gives A.Services.knows (asked_for (texts_of words.now)))
+    ensures cause { Cause (left_by (asked_for (texts_of words.now)))
+        (answer_of A.Services.gives A.Services.knows (asked_for (texts_of words.now)))
         (source_told ⟦<S as Source>⟧ source.old source.new)
         (sink_told ⟦<K as Sink>⟧ out.old out.new) (ended result) }
     ensures line { IfErr result (λ r. IsLine (answer_of A.Services.gives A.Services.knows (asked_for (texts_of words.now)))
         (source_told ⟦<S as Source>⟧ source.old source.new) (refusal_status r) (refusal_line r)) }
-    ensures usage { ended result ≢ Status.NoMemory → ((ended result ≡ Status.Usage) ↔ (asked_for (texts_of words.now) ≡ None)) }
+    ensures usage { ended result ≢ Status.NoMemory
+        → ((ended result ≡ Status.Usage) ↔ (asked_for (texts_of words.now) ≡ None)) }
     ensures taken { TakesAtMost (byte_limit + 1) (S.left source.old) (S.left source.new) }
     ensures unread { ended result ≡ Status.Usage → source.new ≡ source.old }
     ensures unread_by_gen { IsGen (asked_for (texts_of words.now)) → source.new ≡ source.old }
-    ensures silent { ended result ≢ Status.Done → ended result ≢ Status.WriteFault → out.new ≡ out.old }
+    ensures silent { ended result ≢ Status.Done → ended result ≢ Status.WriteFault
+        → out.new ≡ out.old }
     ensures asked { IsAsked (asks_of A.Services.gives A.Services.knows (asked_for (texts_of words.now)))
         (source_told ⟦<S as Source>⟧ source.old source.new)
         (A.calls asker.old) (A.calls asker.new) (ended result) }
@@ -121,9 +127,11 @@ fn answered<S: Source, A: Asker>(
     source: &mut S,
     asker: &mut A,
 ) -> Result<Text, Refusal>
-    ensures answer { IsAnswered (left_by (asked_for (texts_of words.now))) (answer_of A.Services.gives A.Services.knows (asked_for (texts_of words.now)))
+    ensures answer { IsAnswered (left_by (asked_for (texts_of words.now)))
+        (answer_of A.Services.gives A.Services.knows (asked_for (texts_of words.now)))
         (source_told ⟦<S as Source>⟧ source.old source.new) result }
-    ensures usage { ended result ≢ Status.NoMemory → ((ended result ≡ Status.Usage) ↔ (asked_for (texts_of words.now) ≡ None)) }
+    ensures usage { ended result ≢ Status.NoMemory
+        → ((ended result ≡ Status.Usage) ↔ (asked_for (texts_of words.now) ≡ None)) }
     ensures taken { TakesAtMost (byte_limit + 1) (S.left source.old) (S.left source.new) }
     ensures unread { ended result ≡ Status.Usage → source.new ≡ source.old }
     ensures unread_by_gen { IsGen (asked_for (texts_of words.now)) → source.new ≡ source.old }
@@ -188,7 +196,8 @@ fn run_generated<V: Services>(alloc: Global, number: u32) -> Result<CheckedRun, 
 
 /// Reads a document to its end, and checks it.
 fn run_read<S: Source, V: Services>(alloc: Global, source: &mut S) -> Result<CheckedRun, Refusal>
-    ensures read { IsRead read_whole (reading_of V.knows) (source_told ⟦<S as Source>⟧ source.old source.new) result }
+    ensures read { IsRead read_whole (reading_of V.knows)
+        (source_told ⟦<S as Source>⟧ source.old source.new) result }
     ensures taken { TakesAtMost (byte_limit + 1) (S.left source.old) (S.left source.new) }
     ensures command { ended result ≢ Status.Usage }
     ensures element { ended result ≢ Status.NoSuchElement }
@@ -220,19 +229,22 @@ pub fn taverna<
     _gate: &G,
     asker: &mut A,
 ) -> Status
-    ensures cause { Cause (left_by (asked_for (texts_of words.now))) (answer_of G.Services.gives G.Services.knows (asked_for (texts_of words.now)))
+    ensures cause { Cause (left_by (asked_for (texts_of words.now)))
+        (answer_of G.Services.gives G.Services.knows (asked_for (texts_of words.now)))
         (source_told ⟦<S as Source>⟧ source.old source.new)
         (sink_told ⟦<K as Sink>⟧ out.old out.new) result }
     ensures complete { IsComplete (answer_of G.Services.gives G.Services.knows (asked_for (texts_of words.now)))
         (source_told ⟦<S as Source>⟧ source.old source.new)
         (sink_told ⟦<K as Sink>⟧ out.old out.new) result }
-    ensures usage { result ≢ Status.NoMemory → ((result ≡ Status.Usage) ↔ (asked_for (texts_of words.now) ≡ None)) }
+    ensures usage { result ≢ Status.NoMemory
+        → ((result ≡ Status.Usage) ↔ (asked_for (texts_of words.now) ≡ None)) }
     ensures taken { TakesAtMost (byte_limit + 1) (S.left source.old) (S.left source.new) }
     ensures unread { result ≡ Status.Usage → source.new ≡ source.old }
     ensures unread_by_gen { IsGen (asked_for (texts_of words.now)) → source.new ≡ source.old }
     ensures silent { result ≢ Status.Done → result ≢ Status.WriteFault → out.new ≡ out.old }
     ensures unsaid { result ≡ Status.Done → err.new ≡ err.old }
-    ensures said { result ≢ Status.Done → IsSaid (answer_of G.Services.gives G.Services.knows (asked_for (texts_of words.now)))
+    ensures said { result ≢ Status.Done
+        → IsSaid (answer_of G.Services.gives G.Services.knows (asked_for (texts_of words.now)))
         (source_told ⟦<S as Source>⟧ source.old source.new)
         (sink_told ⟦<E as Sink>⟧ err.old err.new) result }
     ensures asked { IsAsked (asks_of G.Services.gives G.Services.knows (asked_for (texts_of words.now)))

@@ -35,7 +35,8 @@ pub(crate) enum Reading {
 
 /// The command that the words give, or `None` where they give none.
 pub(crate) fn command_of(alloc: Global, words: &[String]) -> Result<Option<Command>, NoMemory>
-    ensures command { IfOk result (λ command. option_map command_view command ≡ command_of (texts_of words.now)) }
+    ensures command { IfOk result (λ command. option_map command_view command
+        ≡ command_of (texts_of words.now)) }
     ensures bounded { IfOk result (λ command. IfSome command IsBounded) }
 {
     match read_words(alloc, words)? {

@@ -14,7 +14,8 @@ use Rattle.tv_traces.specs.Views.{shapes_view}
 use Rattle.tv_traces.specs.declared.traces.Traces.{Traces}
 
 -- the document is accepted, this is its main flow, and these are the levels of its main instance
-pub record IsTraced (gives : Giving) (d : Document) (flow : Flow) (levels : List Level) : Type 0 where
+pub record IsTraced (gives : Giving) (d : Document) (flow : Flow)
+    (levels : List Level) : Type 0 where
   pub flow_is : IsMainFlow d flow
   pub levels_are : AreLevels flow (main_steps (meaning gives d)) levels
 
@@ -22,4 +23,5 @@ pub record IsTraced (gives : Giving) (d : Document) (flow : Flow) (levels : List
 pub record AreTraces (gives : Giving) (d : Document) (flow : Flow) (t : Traces) : Type 0 where
   pub flow_is : IsMainFlow d flow
   pub records : HaveSame (records_of t.records) (main_records (meaning gives d))
-  pub shapes : AreShapesOf flow (steps_until gives d flow (length flow.steps)) (shapes_view t.shapes.items)
+  pub shapes : AreShapesOf flow (steps_until gives d flow (length flow.steps))
+      (shapes_view t.shapes.items)

@@ -166,8 +166,10 @@ fn list_below(
     count: u32,
 ) -> Result<Node, NoMemory>
     requires grouped { AreGrouped records.old.groups walk.now }
-    requires told { told_in (get place_cmp walk.now.table.now) walk.now.step place.now ≡ Some (closed count) }
-    ensures { IfOk result (λ u. IsBuilt (telling walk.now) (levels + 1) place.now records.old records.new (node_view u)) }
+    requires told { told_in (get place_cmp walk.now.table.now) walk.now.step place.now
+        ≡ Some (closed count) }
+    ensures { IfOk result (λ u. IsBuilt (telling walk.now)
+        (levels + 1) place.now records.old records.new (node_view u)) }
 {
     let mut items = Vec::new(alloc);
     let mut parts = Vec::new(alloc);

@@ -31,7 +31,8 @@ pub(crate) struct Reached<'a> {
 /// Where the way to a place ends: at a node there, or at a job or a fault before. `None` where an item is missing.
 pub(crate) fn way_to<'a>(node: &'a Node, place: &[u32]) -> Option<Reached<'a>>
     ensures within { IfSome result (λ r. r.taken ≤ length place.now) }
-    ensures node { option_map (λ r. (take r.taken place.now, node_view r.node.now)) result ≡ reached [] (node_view node.now) place.now }
+    ensures node { option_map (λ r. (take r.taken place.now, node_view r.node.now)) result
+        ≡ reached [] (node_view node.now) place.now }
 {
     let mut here = node;
     for (taken, index) in place.iter().enumerate() {

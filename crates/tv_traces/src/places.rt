@@ -18,7 +18,8 @@ pub(crate) fn push_piece_places(
     place: &[u32],
     places: &mut Vec<Place>,
 ) -> Result<(), NoMemory>
-    ensures { OnOk result (places.new.items ≡ places.old.items ++ leaf_places place.now (piece_value piece.now)) }
+    ensures { OnOk result (places.new.items ≡ places.old.items
+        ++ leaf_places place.now (piece_value piece.now)) }
 {
     match piece {
         Piece::Part(cell, start) => match cell.at(start) {
@@ -43,7 +44,8 @@ fn push_pieces_places(
     place: &[u32],
     places: &mut Vec<Place>,
 ) -> Result<(), NoMemory>
-    ensures { OnOk result (places.new.items ≡ places.old.items ++ places_from place.now 0 (trees_of (map piece_value pieces.now))) }
+    ensures { OnOk result (places.new.items ≡ places.old.items
+        ++ places_from place.now 0 (trees_of (map piece_value pieces.now))) }
 {
     for (index, piece) in pieces.iter().enumerate() {
         let Ok(number) = u32::try_from(index) else {
@@ -63,7 +65,8 @@ fn push_value_places(
     place: &[u32],
     places: &mut Vec<Place>,
 ) -> Result<(), NoMemory>
-    ensures { OnOk result (places.new.items ≡ places.old.items ++ leaf_places place.now (view value.now)) }
+    ensures { OnOk result (places.new.items ≡ places.old.items
+        ++ leaf_places place.now (view value.now)) }
 {
     match value {
         Value::List(items) => push_items_places(alloc, items, place, places),
@@ -85,7 +88,8 @@ fn push_items_places(
     place: &[u32],
     places: &mut Vec<Place>,
 ) -> Result<(), NoMemory>
-    ensures { OnOk result (places.new.items ≡ places.old.items ++ places_from place.now 0 (items_view items.now)) }
+    ensures { OnOk result (places.new.items ≡ places.old.items
+        ++ places_from place.now 0 (items_view items.now)) }
 {
     push_values_places(alloc, &items.values, place, places)
 }
@@ -97,7 +101,8 @@ fn push_values_places(
     place: &[u32],
     places: &mut Vec<Place>,
 ) -> Result<(), NoMemory>
-    ensures { OnOk result (places.new.items ≡ places.old.items ++ places_from place.now 0 (trees_of (map view values.now))) }
+    ensures { OnOk result (places.new.items ≡ places.old.items
+        ++ places_from place.now 0 (trees_of (map view values.now))) }
 {
     for (index, value) in values.iter().enumerate() {
         let Ok(number) = u32::try_from(index) else {

@@ -52,8 +52,10 @@ pub(crate) fn put(shapes: &mut Vec<Node>, number: usize, node: Node)
 /// The number of the step of that rank. Linear in the steps.
 pub(crate) fn step_at(plan: &FlowPlan, rank: usize) -> Option<usize>
     ensures within { IfSome result (λ n. n < length plan.now.steps) }
-    ensures none { result ≡ None → (n : ℕ) (p : StepPlan) → slice_get plan.now.steps n ≡ Some p → p.rank ≡ rank → ⊥ }
-    ensures rank { IfSome result (λ n. (p : StepPlan) → slice_get plan.now.steps n ≡ Some p → p.rank ≡ rank) }
+    ensures none { result ≡ None → (n : ℕ) (p : StepPlan) → slice_get plan.now.steps n ≡ Some p
+        → p.rank ≡ rank → ⊥ }
+    ensures rank { IfSome result (λ n. (p : StepPlan) → slice_get plan.now.steps n ≡ Some p
+        → p.rank ≡ rank) }
 {
     for (number, step) in plan.steps.as_slice().iter().enumerate() {
         if step.rank as usize == rank {
@@ -74,8 +76,10 @@ pub(crate) fn step_node(
 ) -> Result<Node, NoMemory>
     requires number { number < length plan.now.steps }
     requires grouped { AllAreGrouped (flow_view plan.now.flow) records.old.groups (shapes_view shapes.now) }
-    ensures { IfOk result (λ u. (s : AName × Step) → slice_get (flow_view plan.now.flow).steps number ≡ Some s
-        → IsBuilt (telling_of (flow_view plan.now.flow) (shapes_view shapes.now) (told_in (get place_cmp table.now) number) s)
+    ensures { IfOk result (λ u. (s : AName × Step)
+        → slice_get (flow_view plan.now.flow).steps number ≡ Some s
+        → IsBuilt (telling_of (flow_view plan.now.flow) (shapes_view shapes.now)
+        (told_in (get place_cmp table.now) number) s)
         (strategy_depth (number_of (mismatches (flow_view plan.now.flow) s.1)) (strategy_of s.1)) [] records.old records.new (node_view u)) }
 {
     let step = &plan.steps.as_slice()[number];

@@ -30,7 +30,8 @@ pub(crate) fn told_at(
     step: u32,
     place: &[u32],
 ) -> Result<Option<What>, NoMemory>
-    ensures { IfOk result (λ w. option_map what_view w ≡ told_in (get place_cmp table.now) step place.now) }
+    ensures { IfOk result (λ w. option_map what_view w
+        ≡ told_in (get place_cmp table.now) step place.now) }
 {
     let key = key_of(alloc, step, place)?;
     match table.get(&key) {

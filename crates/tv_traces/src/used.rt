@@ -60,7 +60,8 @@ fn push_item_marks(
 
 /// Pushes an equal mark for each.
 fn push_same(alloc: Global, own: &[Mark], marks: &mut Vec<Mark>) -> Result<(), NoMemory>
-    ensures { OnOk result (map mark_view marks.new.items ≡ map mark_view marks.old.items ++ map mark_view own.now) }
+    ensures { OnOk result (map mark_view marks.new.items ≡ map mark_view marks.old.items
+        ++ map mark_view own.now) }
 {
     for mark in own {
         marks.push(mark_copy(alloc, mark)?)?;

@@ -68,7 +68,8 @@ pub record IsFirst (past : History) (j : Job) (s : Step) (p : Plan) : Type 0 whe
 pub record FlowComesAfterAsks (past : History) (j : Job) (p : Plan) : Type 0 where
   pub first : (a : ℕ) → first_next p false ≡ next.Nest a → a ≡ last_activity j.asks
   pub later :
-      (k : Ask) (a : ℕ) → next_ask past j ≡ Some k → next_after p k.activity k.attempt false ≡ next.Nest a
+      (k : Ask) (a : ℕ) → next_ask past j ≡ Some k
+      → next_after p k.activity k.attempt false ≡ next.Nest a
       → a ≡ last_activity j.asks
 
 -- what the plan says comes after this ask

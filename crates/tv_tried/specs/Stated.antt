@@ -71,7 +71,8 @@ FlowIsOfStep =
     (gives : Giving) (d : Document) (j : Job) (s : Step)
     → IsOwnStep gives d j s
     → is_some j.opens ≡ true
-    → (g : Name) × (j.opens ≡ Some g) × (slice_get s.activities (last_activity j.asks) ≡ Some (nested g))
+    → (g : Name) × (j.opens ≡ Some g)
+    × (slice_get s.activities (last_activity j.asks) ≡ Some (nested g))
 
 -- ---- asks
 

@@ -47,4 +47,5 @@ pub record IsBouncedJob (s : Step) (j : Job) : Type 0 where
   pub opens : j.opens ≡ None
   pub result :
       j.result
-      ≡ error_results j.name (codes "bounced") (fault_makers (map plain j.inputs)) (declared_depths s)
+      ≡ error_results j.name (codes "bounced") (fault_makers (map plain j.inputs))
+      (declared_depths s)

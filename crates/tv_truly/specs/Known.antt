@@ -32,7 +32,8 @@ HoldsFaults q tree count =
 
 -- what the event's job gave at the output of that name of its step
 abbrev pub given_at : Flow → Event → Name → Value
-given_at f (gave s q vs) o = unwrap_or (slice_get vs (position o (outputs_of f s))) (list tt no_trees)
+given_at f (gave s q vs) o = unwrap_or (slice_get vs (position o (outputs_of f s)))
+    (list tt no_trees)
 given_at f (events.closed s q n) o = list tt no_trees
 given_at f (fault_set s q e) o = list tt no_trees
 given_at f (took s q) o = list tt no_trees
@@ -41,7 +42,8 @@ given_at f (took s q) o = list tt no_trees
 module _ (f : Flow) (levels : Name → ℕ) (inputs : List (Name × Value)) (es : Events) where
   -- the partial tree of an output of a step
   abbrev pub tree_of : Name → Name → Partial Value
-  tree_of t o = part_so_far t (position o (outputs_of f t)) (levels t) (unwrap_or (named o (outputs_of f t)) 0) es
+  tree_of t o = part_so_far t (position o (outputs_of f t)) (levels t)
+      (unwrap_or (named o (outputs_of f t)) 0) es
 
   -- what is known of what a link delivers holds a fault
   abbrev pub link_faulty : Link → Bool
@@ -68,10 +70,13 @@ module _ (f : Flow) (levels : Name → ℕ) (inputs : List (Name × Value)) (es 
 
 -- the code has the event as c, with the numbers of prefixes of its place at which outputs of its step hold faults then, and the length
 -- from which on prefixes become whole
-pub record IsTrueEvent (levels : Name → ℕ) (v : View) (e : Event) (faults : Name → ℕ) (from : ℕ) (c : code.Event)
+pub record IsTrueEvent (levels : Name → ℕ) (v : View) (e : Event) (faults : Name → ℕ) (from : ℕ)
+    (c : code.Event)
     : Type 0 where
   pub seen : IsSeenAs v.flow (given_at v.flow e) faults from e c
-  pub whole_from : IsFrom (newly_by v.events e (event_step e) (levels (event_step e))) (event_place e) from
+  pub whole_from : IsFrom (newly_by v.events e (event_step e) (levels (event_step e)))
+      (event_place e) from
   pub hold :
       (o : Name) → has_name (outputs_of v.flow (event_step e)) o ≡ true
-      → HoldsFaults (event_place e) (tree_of v.flow levels v.inputs (e ∷ v.events) (event_step e) o) (faults o)
+      → HoldsFaults (event_place e) (tree_of v.flow levels v.inputs (e ∷ v.events) (event_step e) o)
+      (faults o)

@@ -33,16 +33,20 @@ module _ (inputs : ℕ → Bool) (outputs : ℕ → ℕ → Bool) where
   -- of these ports, those that take their feeds at once and have all of them with step t, where these steps are whole
   abbrev pub wholes_with : (ℕ → Bool) → ℕ → List Port → List Whole
   wholes_with whole t ports =
-      map (λ (p : Port). record { leaf = p.leaf; faulty = numbered_feed_faulty p.feed }) (filter (has_whole_with whole t) ports)
+      map (λ (p : Port). record { leaf = p.leaf; faulty = numbered_feed_faulty p.feed })
+      (filter (has_whole_with whole t) ports)
 
 -- so it is by events, after these
-pub record AreFaultsBy (f : Flow) (levels : Name → ℕ) (given : List (Name × Value)) (es : Events) (inputs : ℕ → Bool)
+pub record AreFaultsBy (f : Flow) (levels : Name → ℕ) (given : List (Name × Value)) (es : Events)
+    (inputs : ℕ → Bool)
     (outputs : ℕ → ℕ → Bool) : Type 0 where
   pub inputs_are :
-      (x : Name) → has_name f.inputs x ≡ true → inputs (position x f.inputs) ≡ holds_fault (value_given given x)
+      (x : Name) → has_name f.inputs x ≡ true
+      → inputs (position x f.inputs) ≡ holds_fault (value_given given x)
   pub outputs_are :
       (t o : Name) → has_name f.steps t ≡ true → has_name (outputs_of f t) o ≡ true
-      → outputs (position t f.steps) (position o (outputs_of f t)) ≡ holds_some holds_fault (tree_of f levels given es t o)
+      → outputs (position t f.steps) (position o (outputs_of f t))
+      ≡ holds_some holds_fault (tree_of f levels given es t o)
 
 -- each step that is whole then, or has number t, is so by counting events
 abbrev pub AreWholeBy : Flow → (Name → ℕ) → Events → (ℕ → Bool) → ℕ → Type 0

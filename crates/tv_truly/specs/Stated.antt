@@ -53,7 +53,8 @@ TruthGoesOn =
     → (faults : Name → ℕ) (from : ℕ) (c : code.Event) → IsTrueEvent levels v e faults from c
     → (ws : List Whole) → Each (IsTrueWhole v.flow levels v.inputs (e ∷ v.events) s.1) ws
     → (after : List Told)
-    → IsPermutation after (ts ++ (told_along v.flow n s.1 (event_step e) c ++ map (whole_telling (strategy_of s.1)) ws))
+    → IsPermutation after (ts
+    ++ (told_along v.flow n s.1 (event_step e) c ++ map (whole_telling (strategy_of s.1)) ws))
     → (new : List (Name × Place)) → TellsTruly (with_event v e new) s.0 after
 
 -- the ports that have their whole values with the event's step, as the code finds them
@@ -63,13 +64,15 @@ WholePortsAreTrue =
     → (levels : Name → ℕ) (given : List (Name × Value)) (es : Events) (whole : ℕ → Bool) (t : ℕ)
     → AreWholeBy f levels es whole t
     → (inputs : ℕ → Bool) (outputs : ℕ → ℕ → Bool) → AreFaultsBy f levels given es inputs outputs
-    → Each (IsTrueWhole f levels given es s.1) (wholes_with inputs outputs whole t (ports_of_step (wiring f) n))
+    → Each (IsTrueWhole f levels given es s.1)
+    (wholes_with inputs outputs whole t (ports_of_step (wiring f) n))
 
 -- with an event of another step an output's tree stays, and of the event's own step the first prefix tells whether it holds a fault
 pub record TreesOfEvents (levels : Name → ℕ) (v : View) (e : Event) : Type 0 where
   pub stays :
       (t o : Name) → same_name t (event_step e) ≡ false
-      → tree_of v.flow levels v.inputs (e ∷ v.events) t o ≡ tree_of v.flow levels v.inputs v.events t o
+      → tree_of v.flow levels v.inputs (e ∷ v.events) t o
+      ≡ tree_of v.flow levels v.inputs v.events t o
   pub own :
       (faults : Name → ℕ) (from : ℕ) (c : code.Event) → IsTrueEvent levels v e faults from c
       → (o : Name) → has_name (outputs_of v.flow (event_step e)) o ≡ true
@@ -80,7 +83,8 @@ abbrev pub TreesAreByEvents : Type 0
 TreesAreByEvents = (levels : Name → ℕ) (v : View) (e : Event) → TreesOfEvents levels v e
 
 -- the same by numbers: of the k-th output of a step
-pub record TreesOfNumbers (f : Flow) (levels : Name → ℕ) (given : List (Name × Value)) (es : Events) (s : Name × Step) : Type 0 where
+pub record TreesOfNumbers (f : Flow) (levels : Name → ℕ) (given : List (Name × Value)) (es : Events)
+    (s : Name × Step) : Type 0 where
   pub tree :
       (k : ℕ) (o : Name × ℕ) → slice_get s.1.outputs k ≡ Some o
       → tree_of f levels given es s.0 o.0 ≡ part_so_far s.0 k (levels s.0) o.1 es
@@ -89,20 +93,24 @@ pub record TreesOfNumbers (f : Flow) (levels : Name → ℕ) (given : List (Name
       → ((k : ℕ) (o : Name × ℕ) → slice_get s.1.outputs k ≡ Some o
       → HoldsFaults q (part_so_far s.0 k (levels s.0) o.1 es) (get_or counts k 0))
       → (o : Name) → has_name (outputs_of f s.0) o ≡ true
-      → HoldsFaults q (tree_of f levels given es s.0 o) (get_or counts (position o (outputs_of f s.0)) 0)
+      → HoldsFaults q (tree_of f levels given es s.0 o)
+      (get_or counts (position o (outputs_of f s.0)) 0)
 
 abbrev pub TreesAreByNumbers : Type 0
 TreesAreByNumbers =
     (f : Flow) → IsWired f → (n : ℕ) (s : Name × Step) → slice_get f.steps n ≡ Some s
-    → (levels : Name → ℕ) (given : List (Name × Value)) (es : Events) → TreesOfNumbers f levels given es s
+    → (levels : Name → ℕ) (given : List (Name × Value)) (es : Events)
+    → TreesOfNumbers f levels given es s
 
 -- and of all inputs and outputs
 abbrev pub FaultsAreByNumbers : Type 0
 FaultsAreByNumbers =
     (f : Flow) → IsWired f → (levels : Name → ℕ) (given : List (Name × Value)) (es : Events)
     → (inputs : ℕ → Bool) (outputs : ℕ → ℕ → Bool)
-    → ((m : ℕ) (x : Name × ℕ) → slice_get f.inputs m ≡ Some x → inputs m ≡ holds_fault (value_given given x.0))
-    → ((m k : ℕ) (s : Name × Step) (o : Name × ℕ) → slice_get f.steps m ≡ Some s → slice_get s.1.outputs k ≡ Some o
+    → ((m : ℕ) (x : Name × ℕ) → slice_get f.inputs m ≡ Some x
+    → inputs m ≡ holds_fault (value_given given x.0))
+    → ((m k : ℕ) (s : Name × Step) (o : Name × ℕ) → slice_get f.steps m ≡ Some s
+    → slice_get s.1.outputs k ≡ Some o
     → outputs m k ≡ holds_some holds_fault (part_so_far s.0 k (levels s.0) o.1 es))
     → AreFaultsBy f levels given es inputs outputs
 
@@ -115,10 +123,12 @@ TruthStays =
 -- what is said of a known job is whether some value that it binds holds a fault; each leaf of the step's strategy stands there once
 abbrev pub JobsHoldWhatIsSaid : Type 0
 JobsHoldWhatIsSaid =
-    (flows : List (Name × Flow)) (levels : Name → ℕ) (v : View) → IsFrame v → IsOfDepths flows levels v → IsWired v.flow
+    (flows : List (Name × Flow)) (levels : Name → ℕ) (v : View) → IsFrame v
+    → IsOfDepths flows levels v → IsWired v.flow
     → (n : ℕ) (s : Name × Step) → slice_get v.flow.steps n ≡ Some s
     → EachOnce (leaf_names (strategy_of s.1)) (leaf_names (strategy_of s.1))
     → (ts : List Told) → StepIsTold v s.0 ts → TellsTruly v s.0 ts
     → (q : Place) → In (s.0, q) v.jobs
     → InAll v (λ instance results fs. Each (λ (f : InstanceStep). Each (λ (j : PlacedJob).
-    j.step ≡ s.0 → j.place ≡ q → faulty_at (strategy_of s.1) ts q ≡ list_any (λ x. holds_fault x) j.inputs) f.jobs) fs)
+    j.step ≡ s.0 → j.place ≡ q
+    → faulty_at (strategy_of s.1) ts q ≡ list_any (λ x. holds_fault x) j.inputs) f.jobs) fs)

@@ -42,18 +42,21 @@ AreIdleWithOneMore =
     → (k : ℕ) (s : Name × Step) → slice_get v.flow.steps k ≡ Some s → k < length ss
     → (q : Place) → is_taken v.events s.0 q ≡ false → has_result v.events s.0 q ≡ false
     → (faulty : Bool)
-    → AreIdleOf (with_known v (s.0, q)) (slice_set ss k (with_idle faulty (length v.jobs, q) (of_step ss k)))
+    → AreIdleOf (with_known v (s.0, q))
+    (slice_set ss k (with_idle faulty (length v.jobs, q) (of_step ss k)))
 
 -- the job of that number, and no other at its place, is taken or gives its result
 abbrev pub AreIdleWithoutOne : Type 0
 AreIdleWithoutOne =
     (v : View) → IsWired v.flow → (ss : List StepIdle) → AreIdleOf v ss
     → (k : ℕ) (s : Name × Step) → slice_get v.flow.steps k ≡ Some s → k < length ss
-    → (n : ℕ) (q : Place) → numbered v n ≡ Some (s.0, q) → ((m : ℕ) → numbered v m ≡ Some (s.0, q) → m ≡ n)
+    → (n : ℕ) (q : Place) → numbered v n ≡ Some (s.0, q)
+    → ((m : ℕ) → numbered v m ≡ Some (s.0, q) → m ≡ n)
     → (e : Event) → IsOfJob e s.0 q
     → AreIdleOf (with_told v e) (slice_set ss k (without n (of_step ss k)))
 
 -- something else is told
 abbrev pub AreIdleStill : Type 0
 AreIdleStill =
-    (v : View) (ss : List StepIdle) → AreIdleOf v ss → (e : Event) → LeavesIdle v e → AreIdleOf (with_told v e) ss
+    (v : View) (ss : List StepIdle) → AreIdleOf v ss → (e : Event) → LeavesIdle v e
+    → AreIdleOf (with_told v e) ss

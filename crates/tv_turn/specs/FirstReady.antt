@@ -20,7 +20,8 @@ StandsAfter v None x = Unit {0}
 StandsAfter v (Some m) x = (y : Name × Place) → numbered v m ≡ Some y → stands_before v y x ≡ true
 
 -- the job of that number is ready and stands after it
-pub record CanBeNext (levels : Name → ℕ) (v : View) (after : Option ℕ) (n : ℕ) (x : Name × Place) : Type 0 where
+pub record CanBeNext (levels : Name → ℕ) (v : View) (after : Option ℕ) (n : ℕ)
+    (x : Name × Place) : Type 0 where
   pub job : numbered v n ≡ Some x
   pub ready : IsReadyJob levels v x
   pub later : StandsAfter v after x

@@ -15,11 +15,13 @@ use Rattle.tv_turn.specs.Turns.{first_in_turn, may_settle}
 
 abbrev pub FirstInTurnIsFirstReady : Type 0
 FirstInTurnIsFirstReady =
-    (v : View) → IsWired v.flow → (levels : Name → ℕ) (e : Endings) → AreEndingsOf v.flow levels v.events e
+    (v : View) → IsWired v.flow → (levels : Name → ℕ) (e : Endings)
+    → AreEndingsOf v.flow levels v.events e
     → (ss : List StepIdle) → AreIdleOf v ss
     → (after : Option ℕ) → ((m : ℕ) → after ≡ Some m → m < length v.jobs)
     → IsFirstReady levels v after
     (first_in_turn (may_settle (wiring v.flow) e) ss (by_falling_rank v.flow) (spot_given v after))
 
 abbrev pub OrderIsOfSteps : Type 0
-OrderIsOfSteps = (f : Flow) → IsWired f → list_all (λ k. nat_lt k (length (wiring f).after)) (by_falling_rank f) ≡ true
+OrderIsOfSteps = (f : Flow) → IsWired f
+    → list_all (λ k. nat_lt k (length (wiring f).after)) (by_falling_rank f) ≡ true

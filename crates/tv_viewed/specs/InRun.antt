@@ -24,7 +24,8 @@ use Rattle.tv_framing.specs.Stated.{IsOfDepths}
 use Rattle.tv_framing.specs.Views.{View}
 
 -- the view tells of the instance I after this history of the document's run
-pub record IsViewOf (gives : Giving) (d : Document) (past : History) (I : JobName) (v : View) : Type 0 where
+pub record IsViewOf (gives : Giving) (d : Document) (past : History) (I : JobName)
+    (v : View) : Type 0 where
   -- the instance is of the view's flow on its inputs
   pub levels : ℕ
   pub part : IsInstance gives d.flows (meaning gives d) I levels v.flow v.inputs
@@ -37,7 +38,8 @@ pub record IsViewOf (gives : Giving) (d : Document) (past : History) (I : JobNam
   pub gave : Extends (results_of I (made_of gives d.flows levels v.flow I v.inputs)) v.events
 
 -- a frame's view in a legal run of an accepted document; the levels are those of its steps' iterations
-pub record IsInRun (gives : Giving) (d : Document) (past : History) (I : JobName) (levels : Name → ℕ) (v : View)
+pub record IsInRun (gives : Giving) (d : Document) (past : History) (I : JobName)
+    (levels : Name → ℕ) (v : View)
     : Type 0 where
   pub formed : is_formed d ≡ true
   pub accepted : IsAccepted d
@@ -50,7 +52,8 @@ pub record IsInRun (gives : Giving) (d : Document) (past : History) (I : JobName
   pub view : IsViewOf gives d past I v
 
 -- the run's job at a spot of the instance: a step and a place
-pub record IsJobThere (gives : Giving) (d : Document) (I : JobName) (j : Job) (x : Name × Place) : Type 0 where
+pub record IsJobThere (gives : Giving) (d : Document) (I : JobName) (j : Job)
+    (x : Name × Place) : Type 0 where
   pub listed : In j (meaning gives d).jobs
   pub within : j.instance ≡ I
   pub step : j.step ≡ x.0

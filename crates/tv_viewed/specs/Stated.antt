@@ -25,7 +25,8 @@ use Rattle.tv_framing.specs.Views.{AreOfDepth, InAll, View, steps_with}
 use Rattle.tv_viewed.specs.InRun.{IsInRun, IsJobThere, IsOfJob}
 
 -- P holds of the view of every frame in every legal run of every accepted document
-abbrev pub InEveryRun : (Giving → Document → History → JobName → (Name → ℕ) → View → Type 0) → Type 0
+abbrev pub InEveryRun : (Giving → Document → History → JobName → (Name → ℕ) → View → Type 0)
+    → Type 0
 InEveryRun P =
     (gives : Giving) (d : Document) (past : History) (I : JobName) (levels : Name → ℕ) (v : View)
     → IsInRun gives d past I levels v → P gives d past I levels v
@@ -55,7 +56,8 @@ JobsAreSomewhere =
 -- ---- ready, begun and settled jobs
 
 -- the job is ready in the run exactly where it is known and ready by the view
-pub record IsReadyAsTold (gives : Giving) (d : Document) (past : History) (levels : Name → ℕ) (v : View)
+pub record IsReadyAsTold (gives : Giving) (d : Document) (past : History) (levels : Name → ℕ)
+    (v : View)
     (j : Job) (x : Name × Place) : Type 0 where
   pub told : is_ready (meaning gives d) past j ≡ true → In x v.jobs × IsReadyJob levels v x
   pub ready : In x v.jobs → IsReadyJob levels v x → is_ready (meaning gives d) past j ≡ true
@@ -63,7 +65,8 @@ pub record IsReadyAsTold (gives : Giving) (d : Document) (past : History) (level
 abbrev pub ReadyIsTold : Type 0
 ReadyIsTold =
     InEveryRun (λ gives d past I levels v.
-    (x : Name × Place) (j : Job) → IsJobThere gives d I j x → IsReadyAsTold gives d past levels v j x)
+    (x : Name × Place) (j : Job) → IsJobThere gives d I j x
+    → IsReadyAsTold gives d past levels v j x)
 
 -- the job is settled where the view has its result, and was begun where the view says that it was taken
 pub record IsBegunAsTold (past : History) (v : View) (j : Job) (x : Name × Place) : Type 0 where
@@ -119,13 +122,15 @@ InputsAreTold =
 -- it can end where each of its steps has ended by the view
 abbrev pub InstancesEndAsTold : Type 0
 InstancesEndAsTold =
-    InEveryRun (λ gives d past I levels v. can_end (meaning gives d) past I ≡ has_ended_now levels v)
+    InEveryRun (λ gives d past I levels v. can_end (meaning gives d) past I
+    ≡ has_ended_now levels v)
 
 -- of the main instance, on the document's inputs: what the view gives at its outputs is what the document means
 abbrev pub OutputsAreMeant : Type 0
 OutputsAreMeant =
     InEveryRun (λ gives d past I levels v.
-    I ≡ [] → named d.main d.flows ≡ Some v.flow → given_of v.flow v.inputs ≡ given_of v.flow d.inputs
+    I ≡ [] → named d.main d.flows ≡ Some v.flow
+    → given_of v.flow v.inputs ≡ given_of v.flow d.inputs
     → (vs : List Value) → AreOutputs v vs → vs ≡ map (λ o. plain o.1) (meaning gives d).outputs)
 
 -- of the one that a job opened, on what the job binds: what the view gives there is what the job gives
@@ -145,8 +150,10 @@ entry_of I (fault_set s q d) = fault_passed (spot I s q)
 entry_of I (took s q) = opened (spot I s q)
 
 -- what can be settled by the view is legal in the run, and where nothing can, nothing of the instance can in the run
-pub record SettlesAsTold (gives : Giving) (d : Document) (past : History) (I : JobName) (v : View) : Type 0 where
-  pub settles : (e : Event) → CanSettle v e → is_legal_after gives (meaning gives d) past (entry_of I e) ≡ true
+pub record SettlesAsTold (gives : Giving) (d : Document) (past : History) (I : JobName)
+    (v : View) : Type 0 where
+  pub settles : (e : Event) → CanSettle v e
+      → is_legal_after gives (meaning gives d) past (entry_of I e) ≡ true
   pub nothing :
       NothingSettles v → (l : Level) → In l (levels (meaning gives d).steps) → l.instance ≡ I
       → can_settle (meaning gives d) past l ≡ false

@@ -22,7 +22,8 @@ call_of p = record { service = p.1.service; inputs = p.1.inputs; attempt = p.1.a
 
 -- each is one of the job of its name
 abbrev pub AreAsksOf : List Job → List (JobName × Ask) → Type 0
-AreAsksOf js asks = (p : JobName × Ask) → In p asks → (j : Job) × In j js × (p.0 ≡ j.name) × In p.1 j.asks
+AreAsksOf js asks = (p : JobName × Ask) → In p asks → (j : Job) × In j js × (p.0 ≡ j.name)
+    × In p.1 j.asks
 
 -- the tries whose outcomes were accepted, the oldest first
 abbrev pub accepted_tries : Run → List NamedTry
@@ -43,7 +44,8 @@ abbrev pub AsksAtMostOneMore : Giving → Option (List Call) → Option (List Ca
 AsksAtMostOneMore gives before after r s =
     (between : Option (List Call))
     × AsksEach gives before between r s
-    × (IsSameCalls between after ⊎ ((q : Question) × IsTask gives s q × IsCalled between after (call_for q)))
+    × (IsSameCalls between after
+    ⊎ ((q : Question) × IsTask gives s q × IsCalled between after (call_for q)))
 
 -- the calls of the order of one worker, in that order, and no others
 abbrev pub AsksInOrder : Giving → Document → Option (List Call) → Option (List Call) → Type 0

@@ -35,7 +35,8 @@ IsCall gives r s (recall_all None) = s ≡ r
 -- these calls, one after another, each of which says that the run after it is legal
 abbrev pub AreCalls : Giving → Run → Run → List Call → Type 0
 AreCalls gives r s [] = s ≡ r
-AreCalls gives r s (c ∷ cs) = (t : Run) × IsCall gives r t c × IsLegalRun gives t × AreCalls gives t s cs
+AreCalls gives r s (c ∷ cs) = (t : Run) × IsCall gives r t c × IsLegalRun gives t
+    × AreCalls gives t s cs
 
 -- the one entry of a call, or none
 abbrev pub IsEntryOf : Call → List Entry → Type 0
@@ -52,7 +53,8 @@ IsEntryOf (recall_all _) es = es ≡ []
 abbrev pub AreEntriesOf : List Call → List Entry → Type 0
 AreEntriesOf [] es = es ≡ []
 AreEntriesOf (c ∷ cs) es =
-    (first : List Entry) × (rest : List Entry) × IsEntryOf c first × AreEntriesOf cs rest × (es ≡ first ++ rest)
+    (first : List Entry) × (rest : List Entry) × IsEntryOf c first × AreEntriesOf cs rest
+    × (es ≡ first ++ rest)
 
 -- a run of this document of which nothing is done
 pub record IsStart (gives : Giving) (d : Document) (r : Run) : Type 0 where

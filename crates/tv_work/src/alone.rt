@@ -33,11 +33,15 @@ pub fn run_alone<V: Services, A: Asker<Services = V>>(
     ensures legal { IsLegalRun V.gives board.new }
     ensures worked_off { OnOk result (IsWorkedOff V.gives board.new) }
     ensures refused { OnErr result (out_count V.gives board.new ≤ 1) }
-    ensures asked { OnOk result (AsksEach V.gives (A.calls asker.old) (A.calls asker.new) board.old board.new) }
-    ensures lost { OnErr result (AsksAtMostOneMore V.gives (A.calls asker.old) (A.calls asker.new) board.old board.new) }
+    ensures asked { OnOk result (AsksEach V.gives (A.calls asker.old)
+        (A.calls asker.new) board.old board.new) }
+    ensures lost { OnErr result (AsksAtMostOneMore V.gives (A.calls asker.old)
+        (A.calls asker.new) board.old board.new) }
     ensures by_one { StaysByOne V.gives board.old board.new }
-    ensures in_order { OnOk result (HasOnlySettled board.old → AsksInOrder V.gives board.old.document (A.calls asker.old) (A.calls asker.new)) }
-    ensures beginning { OnErr result (HasOnlySettled board.old → AsksABeginning V.gives board.old.document (A.calls asker.old) (A.calls asker.new)) }
+    ensures in_order { OnOk result (HasOnlySettled board.old
+        → AsksInOrder V.gives board.old.document (A.calls asker.old) (A.calls asker.new)) }
+    ensures beginning { OnErr result (HasOnlySettled board.old
+        → AsksABeginning V.gives board.old.document (A.calls asker.old) (A.calls asker.new)) }
     ensures accepted_in_order { OnOk result (HasOnlySettled board.old → AcceptsInOrder V.gives board.new) }
     ensures accepted_beginning { OnErr result (HasOnlySettled board.old → AcceptsABeginning V.gives board.new) }
 {
@@ -57,8 +61,10 @@ fn turn<V: Services, A: Asker<Services = V>>(
     ensures legal { IsLegalRun V.gives board.new }
     ensures turned { IfOk result (λ more. IsTurn V.gives board.old board.new more) }
     ensures refused { OnErr result (out_count V.gives board.new ≤ 1) }
-    ensures asked { OnOk result (AsksEach V.gives (A.calls asker.old) (A.calls asker.new) board.old board.new) }
-    ensures lost { OnErr result (AsksAtMostOneMore V.gives (A.calls asker.old) (A.calls asker.new) board.old board.new) }
+    ensures asked { OnOk result (AsksEach V.gives (A.calls asker.old)
+        (A.calls asker.new) board.old board.new) }
+    ensures lost { OnErr result (AsksAtMostOneMore V.gives (A.calls asker.old)
+        (A.calls asker.new) board.old board.new) }
     ensures by_one { StaysByOne V.gives board.old board.new }
 {
     settle_all(board)?;
@@ -107,8 +113,10 @@ fn ask_for<V: Services, A: Asker<Services = V>>(
     ensures legal { IsLegalRun V.gives board.new }
     ensures turned { OnOk result (IsTurn V.gives board.old board.new true) }
     ensures refused { OnErr result (out_count V.gives board.new ≤ 1) }
-    ensures asked { OnOk result (AsksEach V.gives (A.calls asker.old) (A.calls asker.new) board.old board.new) }
-    ensures lost { OnErr result (AsksAtMostOneMore V.gives (A.calls asker.old) (A.calls asker.new) board.old board.new) }
+    ensures asked { OnOk result (AsksEach V.gives (A.calls asker.old)
+        (A.calls asker.new) board.old board.new) }
+    ensures lost { OnErr result (AsksAtMostOneMore V.gives (A.calls asker.old)
+        (A.calls asker.new) board.old board.new) }
     ensures by_one { StaysByOne V.gives board.old board.new }
 {
     match board.ask_and_accept(alloc, ticket, asker) {
