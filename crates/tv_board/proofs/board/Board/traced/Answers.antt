@@ -10,4 +10,4 @@ traces-requires g c =
 pub invariant_of-result : goal.invariant_of-result
 invariant_of-result g c =
     let done = ap (λ (r : Run). is_done (past_of r)) c.self.view_is ∙ c.requires in
-    (c.self.invariant, done, c.in_ok-traces.ensures g.V.Services.gives c.self.invariant done)
+    (c.self.invariant, done, c.in-Ok.ensures g.V.Services.gives c.self.invariant done)
