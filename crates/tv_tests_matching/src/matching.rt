@@ -1,16 +1,18 @@
 //! Worked matchings: what comes out of each telling, as texts.
-ghost use Rattle.std.specs.Prelude.{◌≡◌, ◌<◌, ◌∷◌, [], true, false, length, map, IfOk, OnOk};
-ghost use Rattle.tv_value.specs.Strategies.{port, cross, dot, strategy, no_strategies};
+ghost use Rattle.std.specs.Prelude.{◌≡◌, ◌<◌, ◌++◌, ◌∷◌, [], true, false, length, map, IfOk, OnOk};
+ghost use Rattle.tv_value.specs.Strategies.{cross, no_strategies};
 ghost use Rattle.tv_value.specs.Views.{strategy_view};
 ghost use Rattle.tv_strategy.specs.Measures.{leaf_names};
 ghost use Rattle.tv_matching.specs.Matchers.{CanTell, CanTellAll, IsTold};
 ghost use Rattle.tv_match.specs.Seen.{told_view, leaf_of, NameLeaves, matching, IsSound};
 ghost use Rattle.tv_match.specs.Scripts.{IsScript};
 
+use crate::strategies::{leaf, pair, push_levels};
 use std::alloc::Global;
+use std::process::Abort;
 use std::test::Fail;
 use tv_match::{Kind, Matched, Matcher, Told, Tolds};
-use tv_value::{Depths, NoMemory, Place, Sequence, Text, Tree, Trees};
+use tv_value::{Depths, NoMemory, Place, Sequence, Tree, Trees};
 
 /// A strategy with the numbers of its ports, and what is told in turn.
 #[derive(Drop)]
@@ -27,10 +29,9 @@ fn jobs_come_before_the_lists_that_they_stand_in(rt: HostRuntime) -> Result<(), 
     let alloc = rt.alloc();
     let script = one_leaf(alloc)?;
     let want = "/job [2, 1];/job [0, 0];/list [] 3;/list [1] 0;/list [0] 1;";
-    assert_eq!(rt; one_by_one(alloc, &script)?.as_str(), want);
+    one_by_one(&rt, alloc, &script, want)?;
     let held = "5/job [2, 1];/job [0, 0];/list [] 3;/list [1] 0;/list [0] 1;";
-    assert_eq!(rt; reserved(alloc, &script)?.as_str(), held);
-    Ok(())
+    reserved(&rt, alloc, &script, held)
 }
 
 #[test]
@@ -38,108 +39,96 @@ fn what_is_held_is_told_at_once(rt: HostRuntime) -> Result<(), Fail> {
     let alloc = rt.alloc();
     let script = one_leaf(alloc)?;
     let want = "job [2, 1];job [0, 0];list [] 3;list [1] 0;list [0] 1;";
-    assert_eq!(rt; ahead(alloc, &script)?.as_str(), want);
-    let mut matcher = told_at_once(alloc, &script)?;
-    assert_eq!(rt; shown(alloc, &matcher)?.as_str(), want);
-    assert_eq!(rt; taken(alloc, &mut matcher)?.as_str(), want);
-    assert!(rt; matcher.first().is_none());
-    Ok(())
+    ahead(&rt, alloc, &script, want)?;
+    at_once(&rt, alloc, &script, want)
 }
 
 #[test]
 fn a_strategy_without_leaves_has_its_job_at_the_start(rt: HostRuntime) -> Result<(), Fail> {
     let alloc = rt.alloc();
     let script = no_leaf(alloc);
-    assert_eq!(rt; one_by_one(alloc, &script)?.as_str(), "job [];");
-    assert_eq!(rt; reserved(alloc, &script)?.as_str(), "0job [];");
-    Ok(())
+    one_by_one(&rt, alloc, &script, "job [];")?;
+    reserved(&rt, alloc, &script, "0job [];")
 }
 
 #[test]
 fn a_fault_of_the_second_child_stands_in_a_dot(rt: HostRuntime) -> Result<(), Fail> {
     let alloc = rt.alloc();
     let script = fault_beside_a_list(alloc)?;
-    assert_eq!(rt; one_by_one(alloc, &script)?.as_str(), "//passed [] 1;/");
-    assert_eq!(rt; reserved(alloc, &script)?.as_str(), "1//passed [] 1;/");
-    Ok(())
+    one_by_one(&rt, alloc, &script, "//passed [] 1;/")?;
+    reserved(&rt, alloc, &script, "1//passed [] 1;/")
 }
 
 #[test]
 fn a_dot_goes_on_to_the_shorter_list(rt: HostRuntime) -> Result<(), Fail> {
     let alloc = rt.alloc();
     let script = shorter_beside_longer(alloc)?;
-    let want = "///faulty job [0];/list [] 1;/";
-    assert_eq!(rt; one_by_one(alloc, &script)?.as_str(), want);
-    Ok(())
+    one_by_one(&rt, alloc, &script, "///faulty job [0];/list [] 1;/")
 }
 
 // ---- scripts
-
-fn leaf(alloc: Global, name: &str) -> Result<Tree, NoMemory>
-    ensures { IfOk result (λ t. strategy_view t ≡ port name.now) }
-{
-    let name = Text::from_str(alloc, name)?;
-    Ok(Tree::Leaf(name))
-}
-
-/// Two leaves, one beside the other.
-fn pair(alloc: Global) -> Result<Tree, NoMemory>
-    ensures { IfOk result (λ t. strategy_view t ≡ dot (strategy (port (97 ∷ [])) (strategy (port (98 ∷ [])) no_strategies))) }
-{
-    let first = leaf(alloc, "a")?;
-    let second = leaf(alloc, "b")?;
-    let trees = vec![in alloc; first, second]?;
-    Ok(Tree::Dot(Trees::of(trees)))
-}
 
 /// Both leaves walk one list.
 fn ones(alloc: Global) -> Result<Depths, NoMemory>
     ensures { IfOk result (λ ds. ds ≡ (97 ∷ [], 1) ∷ (98 ∷ [], 1) ∷ []) }
 {
-    let first = Text::from_str(alloc, "a")?;
-    let second = Text::from_str(alloc, "b")?;
-    let depths = vec![in alloc; (first, 1), (second, 1)]?;
+    let mut depths = Vec::new(alloc);
+    push_levels(alloc, &mut depths, "a", 1)?;
+    push_levels(alloc, &mut depths, "b", 1)?;
     Ok(Sequence::of(depths))
 }
 
-fn arrival(alloc: Global, leaf: u32, place: &[u32], fault: bool) -> Result<Told, NoMemory>
-    ensures { IfOk result (λ t. t ≡ Told.Arrival leaf place.now fault) }
+fn push_arrival(
+    alloc: Global,
+    tolds: &mut Vec<Told>,
+    leaf: u32,
+    place: &[u32],
+    fault: bool,
+) -> Result<(), NoMemory>
+    ensures { OnOk result (tolds.new.items ≡ tolds.old.items ++ Told.Arrival leaf place.now fault ∷ []) }
 {
     let place = Place::of(alloc, place)?;
-    Ok(Told::Arrival { leaf, place, fault })
+    tolds.push(Told::Arrival { leaf, place, fault })?;
+    Ok(())
 }
 
-fn faulty(alloc: Global, leaf: u32, place: &[u32]) -> Result<Told, NoMemory>
-    ensures { IfOk result (λ t. t ≡ Told.Faulty leaf place.now) }
+fn push_faulty(
+    alloc: Global,
+    tolds: &mut Vec<Told>,
+    leaf: u32,
+    place: &[u32],
+) -> Result<(), NoMemory>
+    ensures { OnOk result (tolds.new.items ≡ tolds.old.items ++ Told.Faulty leaf place.now ∷ []) }
 {
     let place = Place::of(alloc, place)?;
-    Ok(Told::Faulty { leaf, place })
+    tolds.push(Told::Faulty { leaf, place })?;
+    Ok(())
 }
 
-fn close(alloc: Global, leaf: u32, place: &[u32], length: u32) -> Result<Told, NoMemory>
-    ensures { IfOk result (λ t. t ≡ Told.Close leaf place.now length) }
+fn push_close(
+    alloc: Global,
+    tolds: &mut Vec<Told>,
+    leaf: u32,
+    place: &[u32],
+    length: u32,
+) -> Result<(), NoMemory>
+    ensures { OnOk result (tolds.new.items ≡ tolds.old.items ++ Told.Close leaf place.now length ∷ []) }
 {
     let place = Place::of(alloc, place)?;
-    Ok(Told::Close {
+    tolds.push(Told::Close {
         leaf,
         place,
         length,
-    })
-}
-
-fn single(alloc: Global) -> Result<Tree, NoMemory>
-    ensures { IfOk result (λ t. strategy_view t ≡ port (97 ∷ [])) }
-{
-    let tree = leaf(alloc, "a")?;
-    Ok(tree)
+    })?;
+    Ok(())
 }
 
 /// The leaf walks lists of lists.
 fn nested(alloc: Global) -> Result<Depths, NoMemory>
     ensures { IfOk result (λ ds. ds ≡ (97 ∷ [], 2) ∷ []) }
 {
-    let name = Text::from_str(alloc, "a")?;
-    let depths = vec![in alloc; (name, 2)]?;
+    let mut depths = Vec::new(alloc);
+    push_levels(alloc, &mut depths, "a", 2)?;
     Ok(Sequence::of(depths))
 }
 
@@ -147,12 +136,12 @@ fn nested(alloc: Global) -> Result<Depths, NoMemory>
 fn jobs_first(alloc: Global) -> Result<Tolds, NoMemory>
     ensures { IfOk result (λ ts. ts ≡ Told.Arrival 0 (2 ∷ 1 ∷ []) false ∷ Told.Arrival 0 (0 ∷ 0 ∷ []) false ∷ Told.Close 0 [] 3 ∷ Told.Close 0 (1 ∷ []) 0 ∷ Told.Close 0 (0 ∷ []) 1 ∷ []) }
 {
-    let first = arrival(alloc, 0, &[2, 1], false)?;
-    let second = arrival(alloc, 0, &[0, 0], false)?;
-    let third = close(alloc, 0, &[], 3)?;
-    let fourth = close(alloc, 0, &[1], 0)?;
-    let fifth = close(alloc, 0, &[0], 1)?;
-    let tolds = vec![in alloc; first, second, third, fourth, fifth]?;
+    let mut tolds = Vec::new(alloc);
+    push_arrival(alloc, &mut tolds, 0, &[2, 1], false)?;
+    push_arrival(alloc, &mut tolds, 0, &[0, 0], false)?;
+    push_close(alloc, &mut tolds, 0, &[], 3)?;
+    push_close(alloc, &mut tolds, 0, &[1], 0)?;
+    push_close(alloc, &mut tolds, 0, &[0], 1)?;
     Ok(Sequence::of(tolds))
 }
 
@@ -160,10 +149,10 @@ fn jobs_first(alloc: Global) -> Result<Tolds, NoMemory>
 fn fault_second(alloc: Global) -> Result<Tolds, NoMemory>
     ensures { IfOk result (λ ts. ts ≡ Told.Close 0 [] 1 ∷ Told.Arrival 1 [] true ∷ Told.Arrival 0 (0 ∷ []) false ∷ []) }
 {
-    let first = close(alloc, 0, &[], 1)?;
-    let second = arrival(alloc, 1, &[], true)?;
-    let third = arrival(alloc, 0, &[0], false)?;
-    let tolds = vec![in alloc; first, second, third]?;
+    let mut tolds = Vec::new(alloc);
+    push_close(alloc, &mut tolds, 0, &[], 1)?;
+    push_arrival(alloc, &mut tolds, 1, &[], true)?;
+    push_arrival(alloc, &mut tolds, 0, &[0], false)?;
     Ok(Sequence::of(tolds))
 }
 
@@ -171,12 +160,12 @@ fn fault_second(alloc: Global) -> Result<Tolds, NoMemory>
 fn two_lists(alloc: Global) -> Result<Tolds, NoMemory>
     ensures { IfOk result (λ ts. ts ≡ Told.Arrival 0 (0 ∷ []) false ∷ Told.Close 0 [] 2 ∷ Told.Faulty 1 (0 ∷ []) ∷ Told.Close 1 [] 1 ∷ Told.Arrival 0 (1 ∷ []) false ∷ []) }
 {
-    let first = arrival(alloc, 0, &[0], false)?;
-    let second = close(alloc, 0, &[], 2)?;
-    let third = faulty(alloc, 1, &[0])?;
-    let fourth = close(alloc, 1, &[], 1)?;
-    let fifth = arrival(alloc, 0, &[1], false)?;
-    let tolds = vec![in alloc; first, second, third, fourth, fifth]?;
+    let mut tolds = Vec::new(alloc);
+    push_arrival(alloc, &mut tolds, 0, &[0], false)?;
+    push_close(alloc, &mut tolds, 0, &[], 2)?;
+    push_faulty(alloc, &mut tolds, 1, &[0])?;
+    push_close(alloc, &mut tolds, 1, &[], 1)?;
+    push_arrival(alloc, &mut tolds, 0, &[1], false)?;
     Ok(Sequence::of(tolds))
 }
 
@@ -184,7 +173,7 @@ fn two_lists(alloc: Global) -> Result<Tolds, NoMemory>
 fn one_leaf(alloc: Global) -> Result<Script, NoMemory>
     ensures { IfOk result (λ x. IsScript (strategy_view x.tree) x.mismatch x.tolds) }
 {
-    let tree = single(alloc)?;
+    let tree = leaf(alloc, "a")?;
     let mismatch = nested(alloc)?;
     let tolds = jobs_first(alloc)?;
     Ok(Script {
@@ -219,7 +208,7 @@ fn no_leaf(alloc: Global) -> Script
 fn fault_beside_a_list(alloc: Global) -> Result<Script, NoMemory>
     ensures { IfOk result (λ x. IsScript (strategy_view x.tree) x.mismatch x.tolds) }
 {
-    let tree = pair(alloc)?;
+    let tree = pair(alloc, "a", "b")?;
     let mismatch = ones(alloc)?;
     let tolds = fault_second(alloc)?;
     Ok(Script {
@@ -233,7 +222,7 @@ fn fault_beside_a_list(alloc: Global) -> Result<Script, NoMemory>
 fn shorter_beside_longer(alloc: Global) -> Result<Script, NoMemory>
     ensures { IfOk result (λ x. IsScript (strategy_view x.tree) x.mismatch x.tolds) }
 {
-    let tree = pair(alloc)?;
+    let tree = pair(alloc, "a", "b")?;
     let mismatch = ones(alloc)?;
     let tolds = two_lists(alloc)?;
     Ok(Script {
@@ -316,81 +305,179 @@ fn tell_all(matcher: &mut Matcher, tolds: &[Told], text: &mut String) -> Result<
     tell_all(matcher, others, text)
 }
 
-/// What comes out of each telling, where nothing is held.
-fn one_by_one(alloc: Global, script: &Script) -> Result<String, Fail>
-    requires { IsScript (strategy_view script.now.tree) script.now.mismatch script.now.tolds }
+/// What comes out before all tellings of the script, and of each.
+fn tell_script(matcher: &mut Matcher, script: &Script, text: &mut String) -> Result<(), Fail>
+    requires sound { IsSound matcher.old }
+    requires leaves { NameLeaves (matching matcher.old).strategy script.now.tolds }
+    requires new { CanTellAll (matching matcher.old) (map (told_view (matching matcher.old).strategy) script.now.tolds) }
 {
-    let mut text = String::new(alloc);
-    let mut matcher = start(alloc, script)?;
-    pass_all(&mut matcher, &mut text)?;
-    tell_all(&mut matcher, script.tolds.as_slice(), &mut text)?;
-    Ok(text)
+    pass_all(matcher, text)?;
+    tell_all(matcher, script.tolds.as_slice(), text)
 }
 
 /// How many come out for the tellings, which were held before, and what comes out of each.
-fn reserved(alloc: Global, script: &Script) -> Result<String, Fail>
-    requires { IsScript (strategy_view script.now.tree) script.now.mismatch script.now.tolds }
+fn tell_reserved(matcher: &mut Matcher, script: &Script, text: &mut String) -> Result<(), Fail>
+    requires sound { IsSound matcher.old }
+    requires leaves { NameLeaves (matching matcher.old).strategy script.now.tolds }
+    requires new { CanTellAll (matching matcher.old) (map (told_view (matching matcher.old).strategy) script.now.tolds) }
 {
-    let mut text = String::new(alloc);
-    let mut matcher = start(alloc, script)?;
     matcher.hold(&script.tolds)?;
     let count = matcher.reserve(&script.tolds)?;
     write!(text, "{count}")?;
-    pass_all(&mut matcher, &mut text)?;
-    tell_all(&mut matcher, script.tolds.as_slice(), &mut text)?;
-    Ok(text)
+    tell_script(matcher, script, text)
 }
 
 /// What is ahead where the tellings are held.
-fn ahead(alloc: Global, script: &Script) -> Result<String, Fail>
-    requires { IsScript (strategy_view script.now.tree) script.now.mismatch script.now.tolds }
+fn tell_ahead(matcher: &mut Matcher, script: &Script, text: &mut String) -> Result<(), Fail>
+    requires sound { IsSound matcher.old }
+    requires leaves { NameLeaves (matching matcher.old).strategy script.now.tolds }
+    requires new { CanTellAll (matching matcher.old) (map (told_view (matching matcher.old).strategy) script.now.tolds) }
 {
-    let mut text = String::new(alloc);
-    let mut matcher = start(alloc, script)?;
     matcher.reserve(&script.tolds)?;
     for at in 0..matcher.ahead() {
         let (place, kind) = matcher.item_ahead(at);
-        say(&mut text, place, kind)?;
+        say(text, place, kind)?;
     }
-    Ok(text)
+    Ok(())
 }
 
-/// A matcher that was told the script at once.
-fn told_at_once(alloc: Global, script: &Script) -> Result<Matcher, NoMemory>
-    requires { IsScript (strategy_view script.now.tree) script.now.mismatch script.now.tolds }
-    ensures { IfOk result (λ m. IsSound m) }
+/// Tells the script at once.
+fn tell_at_once(matcher: &mut Matcher, script: &Script) -> Result<(), NoMemory>
+    requires sound { IsSound matcher.old }
+    requires leaves { NameLeaves (matching matcher.old).strategy script.now.tolds }
+    requires new { CanTellAll (matching matcher.old) (map (told_view (matching matcher.old).strategy) script.now.tolds) }
+    ensures { OnOk result (IsSound matcher.new) }
 {
-    let mut matcher = start(alloc, script)?;
     matcher.reserve(&script.tolds)?;
     matcher.tell_held();
-    Ok(matcher)
+    Ok(())
 }
 
 /// All that is shown, by numbers.
-fn shown(alloc: Global, matcher: &Matcher) -> Result<String, Fail>
+fn show(matcher: &Matcher, text: &mut String) -> Result<(), Fail>
     requires { IsSound matcher.now }
 {
-    let mut text = String::new(alloc);
     for at in 0..matcher.shown() {
         let (place, kind) = matcher.item(at);
-        say(&mut text, place, kind)?;
+        say(text, place, kind)?;
     }
-    Ok(text)
+    Ok(())
+}
+
+/// What came out, with a place of its own.
+fn say_matched(text: &mut String, matched: &Option<Matched>) -> Result<(), Fail> {
+    match matched {
+        Some(Matched::Job(place)) => write!(text, "job {:?};", place.as_slice())?,
+        Some(Matched::Closed(place, n)) => write!(text, "list {:?} {n};", place.as_slice())?,
+        Some(Matched::Passed(place, n)) => write!(text, "passed {:?} {n};", place.as_slice())?,
+        None => text.push_str("nothing;")?,
+    }
+    Ok(())
 }
 
 /// All that hasn't come out, with places of its own.
-fn taken(alloc: Global, matcher: &mut Matcher) -> Result<String, Fail>
+fn take(matcher: &mut Matcher, text: &mut String) -> Result<(), Fail>
     requires { IsSound matcher.old }
     ensures { IsSound matcher.new }
 {
-    let mut text = String::new(alloc);
     for _ in matcher.given()..matcher.shown() {
-        match matcher.next() {
-            Some(Matched::Job(place)) => write!(text, "job {:?};", place.as_slice())?,
-            Some(Matched::Closed(place, n)) => write!(text, "list {:?} {n};", place.as_slice())?,
-            Some(Matched::Passed(place, n)) => write!(text, "passed {:?} {n};", place.as_slice())?,
-            None => text.push_str("nothing;")?,
-        }
+        let matched = matcher.next();
+        say_matched(text, &matched)?;
     }
-    Ok(text)
+    Ok(())
+}
+
+fn tell_one_by_one(alloc: Global, script: &Script, text: &mut String) -> Result<(), Fail>
+    requires { IsScript (strategy_view script.now.tree) script.now.mismatch script.now.tolds }
+{
+    let mut matcher = start(alloc, script)?;
+    tell_script(&mut matcher, script, text)
+}
+
+fn hold_and_tell(alloc: Global, script: &Script, text: &mut String) -> Result<(), Fail>
+    requires { IsScript (strategy_view script.now.tree) script.now.mismatch script.now.tolds }
+{
+    let mut matcher = start(alloc, script)?;
+    tell_reserved(&mut matcher, script, text)
+}
+
+fn hold_and_look(alloc: Global, script: &Script, text: &mut String) -> Result<(), Fail>
+    requires { IsScript (strategy_view script.now.tree) script.now.mismatch script.now.tolds }
+{
+    let mut matcher = start(alloc, script)?;
+    tell_ahead(&mut matcher, script, text)
+}
+
+// ---- the same, compared
+
+fn one_by_one(rt: &impl Abort, alloc: Global, script: &Script, want: &str) -> Result<(), Fail>
+    requires { IsScript (strategy_view script.now.tree) script.now.mismatch script.now.tolds }
+{
+    let mut text = String::new(alloc);
+    tell_one_by_one(alloc, script, &mut text)?;
+    assert_eq!(rt; text.as_str(), want);
+    Ok(())
+}
+
+fn reserved(rt: &impl Abort, alloc: Global, script: &Script, want: &str) -> Result<(), Fail>
+    requires { IsScript (strategy_view script.now.tree) script.now.mismatch script.now.tolds }
+{
+    let mut text = String::new(alloc);
+    hold_and_tell(alloc, script, &mut text)?;
+    assert_eq!(rt; text.as_str(), want);
+    Ok(())
+}
+
+fn ahead(rt: &impl Abort, alloc: Global, script: &Script, want: &str) -> Result<(), Fail>
+    requires { IsScript (strategy_view script.now.tree) script.now.mismatch script.now.tolds }
+{
+    let mut text = String::new(alloc);
+    hold_and_look(alloc, script, &mut text)?;
+    assert_eq!(rt; text.as_str(), want);
+    Ok(())
+}
+
+fn shown(rt: &impl Abort, alloc: Global, matcher: &Matcher, want: &str) -> Result<(), Fail>
+    requires { IsSound matcher.now }
+{
+    let mut text = String::new(alloc);
+    show(matcher, &mut text)?;
+    assert_eq!(rt; text.as_str(), want);
+    Ok(())
+}
+
+fn taken(rt: &impl Abort, alloc: Global, matcher: &mut Matcher, want: &str) -> Result<(), Fail>
+    requires { IsSound matcher.old }
+    ensures { OnOk result (IsSound matcher.new) }
+{
+    let mut text = String::new(alloc);
+    take(matcher, &mut text)?;
+    assert_eq!(rt; text.as_str(), want);
+    Ok(())
+}
+
+/// Tells the script at once, and compares what is shown, and what then comes out.
+fn shown_and_taken(
+    rt: &impl Abort,
+    alloc: Global,
+    matcher: &mut Matcher,
+    script: &Script,
+    want: &str,
+) -> Result<(), Fail>
+    requires sound { IsSound matcher.old }
+    requires leaves { NameLeaves (matching matcher.old).strategy script.now.tolds }
+    requires new { CanTellAll (matching matcher.old) (map (told_view (matching matcher.old).strategy) script.now.tolds) }
+{
+    tell_at_once(matcher, script)?;
+    shown(rt, alloc, matcher, want)?;
+    taken(rt, alloc, matcher, want)?;
+    assert!(rt; matcher.first().is_none());
+    Ok(())
+}
+
+fn at_once(rt: &impl Abort, alloc: Global, script: &Script, want: &str) -> Result<(), Fail>
+    requires { IsScript (strategy_view script.now.tree) script.now.mismatch script.now.tolds }
+{
+    let mut matcher = start(alloc, script)?;
+    shown_and_taken(rt, alloc, &mut matcher, script, want)
 }

@@ -1,5 +1,6 @@
 //! Worked openings: an input that is walked or taken whole, an output, a constant, and a merge with an output among its links.
-ghost use Rattle.std.specs.Prelude.{◌≡◌};
+ghost use Rattle.std.specs.Prelude.{◌≡◌, is_some};
+ghost use Rattle.tv_opening.specs.Openings.{IsFedFrom, IsInput};
 
 use std::alloc::Global;
 use std::test::Fail;
@@ -17,6 +18,8 @@ enum Wanted {
     Close(u32),
 }
 
+type Want = (&'static [u32], Wanted);
+
 fn is(told: &Told, place: &[u32], wanted: Wanted) -> bool {
     match told {
         Told::Arrival {
@@ -33,7 +36,7 @@ fn is(told: &Told, place: &[u32], wanted: Wanted) -> bool {
     }
 }
 
-fn are(tellings: &[Told], wanted: &[(&[u32], Wanted)]) -> bool {
+fn are(tellings: &[Told], wanted: &[Want]) -> bool {
     if tellings.len() != wanted.len() {
         return false;
     }
@@ -45,6 +48,7 @@ fn are(tellings: &[Told], wanted: &[(&[u32], Wanted)]) -> bool {
     true
 }
 
+/// The list of two texts.
 fn pair(alloc: Global) -> Result<Cell, NoMemory> {
     let mut values = Vec::new(alloc);
     values.push(Value::Text(Text::from_str(alloc, "a")?))?;
@@ -62,51 +66,72 @@ fn port(feed: NumberedFeed, levels: u32) -> Port
     }
 }
 
+/// Whether this is what a port is told of an input, the list of two texts.
+fn starts(
+    alloc: Global,
+    port: &Port,
+    fixed: Option<&Cell>,
+    wanted: &[Want],
+) -> Result<bool, NoMemory>
+    requires { IsFedFrom 1 (is_some fixed) port.now.feed }
+{
+    let inputs = [Piece::Part(pair(alloc)?, Path::top(alloc))];
+    let told = port_start(alloc, &inputs, port, fixed)?;
+    Ok(are(told.as_slice(), wanted))
+}
+
+fn link_starts(
+    alloc: Global,
+    link: NumberedLink,
+    levels: u32,
+    wanted: &[Want],
+) -> Result<bool, NoMemory>
+    requires { IsInput 1 link }
+{
+    let port = port(NumberedFeed::Link(link), levels);
+    starts(alloc, &port, None, wanted)
+}
+
+/// The constant is the list of two texts, too.
+fn constant_starts(alloc: Global, wanted: &[Want]) -> Result<bool, NoMemory> {
+    let fixed = pair(alloc)?;
+    let port = port(NumberedFeed::Constant, 1);
+    starts(alloc, &port, Some(&fixed), wanted)
+}
+
+fn merge_starts(alloc: Global, wanted: &[Want]) -> Result<bool, NoMemory> {
+    let links = vec![in alloc; NumberedLink::Output(3, 0), NumberedLink::Input(0)]?;
+    let port = port(NumberedFeed::Merge(Sequence::of(links)), 2);
+    starts(alloc, &port, None, wanted)
+}
+
+static WHOLE: [Want; 1] = [(&[], Wanted::Arrival)];
+
+static ITEMS: [Want; 3] = [
+    (&[], Wanted::Close(2)),
+    (&[0], Wanted::Arrival),
+    (&[1], Wanted::Arrival),
+];
+
+static MERGED: [Want; 4] = [
+    (&[], Wanted::Close(2)),
+    (&[1], Wanted::Close(2)),
+    (&[1, 0], Wanted::Arrival),
+    (&[1, 1], Wanted::Arrival),
+];
+
 #[test]
 fn inputs_and_constants_are_told(rt: HostRuntime) -> Result<(), Fail> {
     let alloc = rt.alloc();
-    let inputs = [Piece::Part(pair(alloc)?, Path::top(alloc))];
-    let items: [(&[u32], Wanted); 3] = [
-        (&[], Wanted::Close(2)),
-        (&[0], Wanted::Arrival),
-        (&[1], Wanted::Arrival),
-    ];
-    let walked = port(NumberedFeed::Link(NumberedLink::Input(0)), 1);
-    assert!(rt;
-        are(
-            port_start(alloc, &inputs, &walked, None)?.as_slice(),
-            &items
-        )
-    );
-    let taken = port(NumberedFeed::Link(NumberedLink::Input(0)), 0);
-    let whole: [(&[u32], Wanted); 1] = [(&[], Wanted::Arrival)];
-    assert!(rt; are(port_start(alloc, &inputs, &taken, None)?.as_slice(), &whole));
-    let output = port(NumberedFeed::Link(NumberedLink::Output(3, 0)), 1);
-    assert!(rt; are(port_start(alloc, &inputs, &output, None)?.as_slice(), &[]));
-    let fixed = pair(alloc)?;
-    let constant = port(NumberedFeed::Constant, 1);
-    assert!(rt;
-        are(
-            port_start(alloc, &inputs, &constant, Some(&fixed))?.as_slice(),
-            &items
-        )
-    );
+    assert!(rt; link_starts(alloc, NumberedLink::Input(0), 1, &ITEMS)?);
+    assert!(rt; link_starts(alloc, NumberedLink::Input(0), 0, &WHOLE)?);
+    assert!(rt; link_starts(alloc, NumberedLink::Output(3, 0), 1, &[])?);
+    assert!(rt; constant_starts(alloc, &ITEMS)?);
     Ok(())
 }
 
 #[test]
 fn a_merge_is_told_its_list_and_its_inputs(rt: HostRuntime) -> Result<(), Fail> {
-    let alloc = rt.alloc();
-    let inputs = [Piece::Part(pair(alloc)?, Path::top(alloc))];
-    let links = vec![in alloc; NumberedLink::Output(3, 0), NumberedLink::Input(0)]?;
-    let walked = port(NumberedFeed::Merge(Sequence::of(links)), 2);
-    let told = port_start(alloc, &inputs, &walked, None)?;
-    let wanted: [(&[u32], Wanted); 4] = [
-        (&[], Wanted::Close(2)),
-        (&[1], Wanted::Close(2)),
-        (&[1, 0], Wanted::Arrival),
-        (&[1, 1], Wanted::Arrival),
-    ];
-    assert!(rt; are(told.as_slice(), &wanted));
+    assert!(rt; merge_starts(rt.alloc(), &MERGED)?);
     Ok(())
 }

@@ -1,9 +1,11 @@
 //! Worked tellings: of a value, and with events above, at and below the end of a port's walk.
 ghost use Rattle.std.specs.Prelude.{◌≡◌};
+ghost use Rattle.tv_strategy.specs.Sources.{Each};
+ghost use Rattle.tv_telling.specs.Views.{HasOutput};
 
 use std::alloc::Global;
 use std::test::Fail;
-use tv_cell::{Cell, Piece, Row};
+use tv_cell::{Cell, Piece, Pieces, Row};
 use tv_match::Told;
 use tv_path::Path;
 use tv_telling::{Event, Happened, Way, Whole, tellings_of, tellings_with};
@@ -16,6 +18,8 @@ enum Wanted {
     Faulty,
     Close(u32),
 }
+
+type Want = (&'static [u32], Wanted);
 
 /// The leaf and the place of a telling, and what it tells.
 fn parts(told: &Told) -> (u32, &[u32], Wanted) {
@@ -30,7 +34,7 @@ fn parts(told: &Told) -> (u32, &[u32], Wanted) {
     }
 }
 
-fn are(tellings: &[Told], leaf: u32, wanted: &[(&[u32], Wanted)]) -> bool {
+fn are(tellings: &[Told], leaf: u32, wanted: &[Want]) -> bool {
     if tellings.len() != wanted.len() {
         return false;
     }
@@ -57,45 +61,77 @@ fn fault(alloc: Global, depth: u32) -> Result<Value, NoMemory> {
     Ok(Value::Fault(Box::new(alloc, error)?))
 }
 
-fn list(alloc: Global, first: Value, second: Value) -> Result<Value, NoMemory> {
+/// A list whose first item is the list of two texts, and whose second one is a fault.
+fn cell(alloc: Global) -> Result<Cell, NoMemory> {
     let mut values = Vec::new(alloc);
-    values.push(first)?;
-    values.push(second)?;
+    values.push(pair(alloc)?)?;
+    values.push(fault(alloc, 7)?)?;
+    Cell::put(alloc, Value::List(Items::of(values)))
+}
+
+fn pair(alloc: Global) -> Result<Value, NoMemory> {
+    let mut values = Vec::new(alloc);
+    values.push(text(alloc, "a")?)?;
+    values.push(text(alloc, "b")?)?;
     Ok(Value::List(Items::of(values)))
 }
 
-/// A list whose first item is the list of two texts, and whose second one is a fault; the list itself is of pieces.
-fn worked(alloc: Global) -> Result<Piece, NoMemory> {
-    let inner = list(alloc, text(alloc, "a")?, text(alloc, "b")?)?;
-    let cell = Cell::put(alloc, list(alloc, inner, fault(alloc, 7)?)?)?;
-    let mut pieces = Vec::new(alloc);
-    pieces.push(Piece::Part(cell.share()?, Path::of(alloc, &[0])?))?;
-    pieces.push(Piece::Fault(cell, Path::of(alloc, &[1])?, 1))?;
-    Ok(Piece::List(Row::of(pieces)))
+fn first(alloc: Global, cell: &Cell) -> Result<Piece, NoMemory> {
+    Ok(Piece::Part(cell.share()?, Path::of(alloc, &[0])?))
 }
+
+fn second(alloc: Global, cell: &Cell) -> Result<Piece, NoMemory> {
+    Ok(Piece::Fault(cell.share()?, Path::of(alloc, &[1])?, 1))
+}
+
+fn both(alloc: Global, cell: &Cell) -> Result<Pieces, NoMemory> {
+    let mut pieces = Vec::new(alloc);
+    pieces.push(first(alloc, cell)?)?;
+    pieces.push(second(alloc, cell)?)?;
+    Ok(Row::of(pieces))
+}
+
+/// The items of the list as a list of pieces.
+fn worked(alloc: Global) -> Result<Piece, NoMemory> {
+    let cell = cell(alloc)?;
+    Ok(Piece::List(both(alloc, &cell)?))
+}
+
+/// Whether this is what a leaf is told of a value.
+fn tells(
+    alloc: Global,
+    value: &Piece,
+    levels: u32,
+    item: Option<u32>,
+    wanted: &[Want],
+) -> Result<bool, NoMemory> {
+    let told = tellings_of(alloc, 3, levels, item, value)?;
+    Ok(are(told.as_slice(), 3, wanted))
+}
+
+static NO_LEVEL: [Want; 1] = [(&[], Wanted::Faulty)];
+
+static ONE_LEVEL: [Want; 3] = [
+    (&[], Wanted::Close(2)),
+    (&[0], Wanted::Arrival(false)),
+    (&[1], Wanted::Faulty),
+];
+
+static TWO_LEVELS: [Want; 5] = [
+    (&[5], Wanted::Close(2)),
+    (&[5, 0], Wanted::Close(2)),
+    (&[5, 0, 0], Wanted::Arrival(false)),
+    (&[5, 0, 1], Wanted::Arrival(false)),
+    (&[5, 1], Wanted::Arrival(true)),
+];
 
 #[test]
 fn a_value_is_told_down_to_what_is_bound(rt: HostRuntime) -> Result<(), Fail> {
     let alloc = rt.alloc();
     let value = worked(alloc)?;
-    let whole = tellings_of(alloc, 3, 0, None, &value)?;
-    assert!(rt; are(whole.as_slice(), 3, &[(&[], Wanted::Faulty)]));
-    let one = tellings_of(alloc, 3, 1, None, &value)?;
-    let wanted: [(&[u32], Wanted); 3] = [
-        (&[], Wanted::Close(2)),
-        (&[0], Wanted::Arrival(false)),
-        (&[1], Wanted::Faulty),
-    ];
-    assert!(rt; are(one.as_slice(), 3, &wanted));
-    let two = tellings_of(alloc, 3, 2, Some(5), &value)?;
-    let wanted: [(&[u32], Wanted); 5] = [
-        (&[5], Wanted::Close(2)),
-        (&[5, 0], Wanted::Close(2)),
-        (&[5, 0, 0], Wanted::Arrival(false)),
-        (&[5, 0, 1], Wanted::Arrival(false)),
-        (&[5, 1], Wanted::Arrival(true)),
-    ];
-    assert!(rt; are(two.as_slice(), 3, &wanted));
+    assert!(rt; tells(alloc, &value, 0, None, &NO_LEVEL)?);
+    assert!(rt; tells(alloc, &value, 1, None, &ONE_LEVEL)?);
+    assert!(rt; tells(alloc, &value, 2, Some(5), &TWO_LEVELS)?);
     Ok(())
 }
 
@@ -109,6 +145,28 @@ fn way(levels: u32, item: Option<u32>) -> Way
         item,
     }
 }
+
+/// Whether this is what ports are told with an event.
+fn event_tells(
+    alloc: Global,
+    ways: &[Way],
+    whole: &[Whole],
+    event: &Event,
+    wanted: &[Want],
+) -> Result<bool, NoMemory>
+    requires { Each (λ w. HasOutput event.now w.output) ways.now }
+{
+    let told = tellings_with(alloc, ways, whole, event)?;
+    Ok(are(told.as_slice(), 2, wanted))
+}
+
+static BELOW: [Want; 5] = [
+    (&[4], Wanted::Close(2)),
+    (&[4, 0], Wanted::Arrival(false)),
+    (&[4, 1], Wanted::Faulty),
+    (&[8, 4], Wanted::Faulty),
+    (&[], Wanted::Arrival(false)),
+];
 
 #[test]
 fn a_result_is_told_below_its_place(rt: HostRuntime) -> Result<(), Fail> {
@@ -125,42 +183,43 @@ fn a_result_is_told_below_its_place(rt: HostRuntime) -> Result<(), Fail> {
         leaf: 2,
         faulty: false,
     }];
-    let told = tellings_with(alloc, &ways, &whole, &event)?;
-    let wanted: [(&[u32], Wanted); 5] = [
-        (&[4], Wanted::Close(2)),
-        (&[4, 0], Wanted::Arrival(false)),
-        (&[4, 1], Wanted::Faulty),
-        (&[8, 4], Wanted::Faulty),
-        (&[], Wanted::Arrival(false)),
-    ];
-    assert!(rt; are(told.as_slice(), 2, &wanted));
+    assert!(rt; event_tells(alloc, &ways, &whole, &event, &BELOW)?);
     Ok(())
 }
 
+static CLOSED: [Want; 2] = [
+    (&[4, 5], Wanted::Close(6)),
+    (&[4, 5], Wanted::Arrival(false)),
+];
+
 #[test]
-fn lists_and_faults_are_told_above_what_is_bound(rt: HostRuntime) -> Result<(), Fail> {
-    let alloc = rt.alloc();
+fn lists_are_told_above_what_is_bound(rt: HostRuntime) -> Result<(), Fail> {
     let ways = [way(3, None), way(2, None), way(1, None)];
-    let mut event = Event {
+    let event = Event {
         place: &[4, 5],
         whole_from: 2,
         faults: &[2],
         happened: Happened::Closed(6),
     };
-    let told = tellings_with(alloc, &ways, &[], &event)?;
-    let wanted: [(&[u32], Wanted); 2] = [
-        (&[4, 5], Wanted::Close(6)),
-        (&[4, 5], Wanted::Arrival(false)),
-    ];
-    assert!(rt; are(told.as_slice(), 2, &wanted));
-    event.happened = Happened::Passed;
-    event.whole_from = 0;
-    let told = tellings_with(alloc, &ways, &[], &event)?;
-    let wanted: [(&[u32], Wanted); 3] = [
-        (&[4, 5], Wanted::Arrival(true)),
-        (&[4, 5], Wanted::Arrival(false)),
-        (&[4], Wanted::Faulty),
-    ];
-    assert!(rt; are(told.as_slice(), 2, &wanted));
+    assert!(rt; event_tells(rt.alloc(), &ways, &[], &event, &CLOSED)?);
+    Ok(())
+}
+
+static PASSED: [Want; 3] = [
+    (&[4, 5], Wanted::Arrival(true)),
+    (&[4, 5], Wanted::Arrival(false)),
+    (&[4], Wanted::Faulty),
+];
+
+#[test]
+fn faults_are_told_above_what_is_bound(rt: HostRuntime) -> Result<(), Fail> {
+    let ways = [way(3, None), way(2, None), way(1, None)];
+    let event = Event {
+        place: &[4, 5],
+        whole_from: 0,
+        faults: &[2],
+        happened: Happened::Passed,
+    };
+    assert!(rt; event_tells(rt.alloc(), &ways, &[], &event, &PASSED)?);
     Ok(())
 }
