@@ -1,3 +1,5 @@
+ghost use Rattle.std.specs.Prelude.{◌≡◌, ◌∷◌, []};
+
 use std::alloc::Global;
 use std::fmt::Write;
 use std::process::Abort;
@@ -37,29 +39,36 @@ fn push_step(text: &mut String, running: u32, first: Option<u64>) -> Result<(), 
 }
 
 /// A job of each of two steps.
-fn told(alloc: Global) -> Result<String, Fail> {
-    let mut text = String::new(alloc);
-    let mut seats = Seats::start(alloc, [0, 0].as_slice())?;
+fn tell(seats: &mut Seats, text: &mut String) -> Result<(), Fail>
+    requires seats { seats.old.seats ≡ [] }
+    requires levels { seats.old.levels ≡ 0 ∷ 0 ∷ [] }
+{
     seats.reserve(2)?;
     let _ = seats.sit(0, &[]);
     let _ = seats.sit(1, &[]);
-    push_all(&mut text, &seats)?;
+    push_all(text, seats)?;
     seats.hand_out(0, 0, 0);
     seats.hand_out(1, 2, 1);
-    push_all(&mut text, &seats)?;
+    push_all(text, seats)?;
     seats.reserve_back(0)?;
     seats.put_back(0, 0, 1);
-    push_all(&mut text, &seats)?;
-    push_step(&mut text, seats.running(0), seats.first_idle(0))?;
-    push_step(&mut text, seats.running(1), seats.first_idle(1))?;
+    push_all(text, seats)?;
+    push_step(text, seats.running(0), seats.first_idle(0))?;
+    push_step(text, seats.running(1), seats.first_idle(1))?;
     seats.settle(1);
-    push_step(&mut text, seats.running(1), seats.first_idle(1))?;
+    push_step(text, seats.running(1), seats.first_idle(1))?;
     seats.hand_out(0, 0, 1);
-    push_all(&mut text, &seats)?;
+    push_all(text, seats)?;
     seats.reserve_all_back()?;
     let count = seats.put_all_back();
     write!(text, "{count}: ")?;
-    push_all(&mut text, &seats)?;
+    push_all(text, seats)
+}
+
+fn told(alloc: Global) -> Result<String, Fail> {
+    let mut text = String::new(alloc);
+    let mut seats = Seats::start(alloc, &[0, 0])?;
+    tell(&mut seats, &mut text)?;
     Ok(text)
 }
 

@@ -22,7 +22,7 @@ use tv_spread::{Around, Spread};
 use tv_telling::{Event, Happened};
 use tv_value::{Depths, NoMemory, Sequence, Text, Tree};
 use tv_wires::{
-    NumberedFeed, NumberedLink, Port, Ports, PortsBySteps, Wiring, dependents_of, wires_of,
+    NumberedFeed, NumberedLink, Numbers, Port, Ports, PortsBySteps, Wiring, dependents_of, wires_of,
 };
 
 fn leaf(alloc: Global) -> Result<Tree, NoMemory>
@@ -63,11 +63,19 @@ fn all_ports(alloc: Global) -> Result<PortsBySteps, NoMemory>
     Ok(Sequence::of(ports))
 }
 
+/// No step runs after another.
+fn none_after(alloc: Global) -> Result<Vec<Numbers>, NoMemory>
+    ensures { IfOk result (λ after. length after.items ≡ 2) }
+{
+    let after = vec![in alloc; Sequence::empty(alloc), Sequence::empty(alloc)]?;
+    Ok(after)
+}
+
 fn wiring(alloc: Global) -> Result<Wiring, NoMemory>
     ensures { IfOk result IsTried }
 {
     let ports = all_ports(alloc)?;
-    let after = vec![in alloc; Sequence::empty(alloc), Sequence::empty(alloc)]?;
+    let after = none_after(alloc)?;
     let wires = wires_of(alloc, ports.as_slice())?;
     let dependents = dependents_of(alloc, after.as_slice())?;
     Ok(Wiring {
@@ -144,18 +152,42 @@ fn trees(alloc: Global, pool: &mut Nodes, region: &Region) -> Result<Outputs, No
     Outputs::start(alloc, pool, region, &[0])
 }
 
-/// What is known and idle after the event.
-fn told(
+/// Whether this is known and idle after the event.
+fn spreads(alloc: Global, around: &Around, jobs: u64, text: &str) -> Result<bool, Fail>
+    requires wiring { IsTried around.now.wiring.now }
+    requires whole { length around.now.endings.now.whole.items ≡ 2 }
+    requires firsts { around.now.firsts.now ≡ 0 ∷ 0 ∷ [] }
+    requires tree { 0 < length (known around.now.pool.now around.now.outputs.now) }
+    requires stand { (region : InRegion) × Stand around.now.pool.now around.now.outputs.now region }
+{
+    let mut intakes = Intakes::new(alloc);
+    let mut idle = Idle::new(alloc);
+    begun(alloc, &mut intakes, &mut idle)?;
+    let count = spread(alloc, around, &mut intakes, &mut idle)?;
+    let found = shown(alloc, &intakes, &idle)?;
+    Ok(count == jobs && found.as_str() == text)
+}
+
+/// No step is whole.
+fn none_whole(alloc: Global) -> Result<Endings, NoMemory>
+    ensures { IfOk result (λ e. length e.whole.items ≡ 2) }
+{
+    Endings::start(alloc, &[Sequence::empty(alloc), Sequence::empty(alloc)])
+}
+
+/// The event makes one job known.
+fn one_job(
+    rt: &impl Abort,
     alloc: Global,
     outputs: &Outputs,
     pool: &Nodes,
     _region: &Region,
-) -> Result<(u64, String), Fail>
+) -> Result<(), Fail>
     requires tree { 0 < length (known pool.now outputs.now) }
     requires stand { Stand pool.now outputs.now _region.now }
 {
     let wiring = wiring(alloc)?;
-    let endings = Endings::start(alloc, &[Sequence::empty(alloc), Sequence::empty(alloc)])?;
+    let endings = none_whole(alloc)?;
     let around = Around {
         wiring: &wiring,
         endings: &endings,
@@ -164,12 +196,8 @@ fn told(
         firsts: &[0, 0],
         faulty_inputs: &[],
     };
-    let mut intakes = Intakes::new(alloc);
-    let mut idle = Idle::new(alloc);
-    begun(alloc, &mut intakes, &mut idle)?;
-    let count = spread(alloc, &around, &mut intakes, &mut idle)?;
-    let text = shown(alloc, &intakes, &idle)?;
-    Ok((count, text))
+    assert!(rt; spreads(alloc, &around, 1, "0 at 0 0 false;true")?);
+    Ok(())
 }
 
 #[test]
@@ -178,8 +206,5 @@ fn a_port_is_told_with_the_last_event(rt: HostRuntime) -> Result<(), Fail> {
     let mut pool = Pool::new(alloc);
     let region = pool.begin()?;
     let outputs = trees(alloc, &mut pool, &region)?;
-    let (count, text) = told(alloc, &outputs, &pool, &region)?;
-    assert_eq!(rt; count, 1);
-    assert_eq!(&rt; text.as_str(), "0 at 0 0 false;true");
-    Ok(())
+    one_job(&rt, alloc, &outputs, &pool, &region)
 }

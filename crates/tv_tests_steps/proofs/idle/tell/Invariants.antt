@@ -1,6 +1,6 @@
 use Rattle.std.proofs.Common.{◌≡◌, length}
 use Rattle.tv_idle.specs.Idles.{of_step}
-use Rattle.tv_tests_steps.proofs.idle.told.Given as goal
+use Rattle.tv_tests_steps.proofs.idle.tell.Given as goal
 
 abbrev pub invariant-loop-call : goal.invariant-loop-call
 invariant-loop-call l = record {
