@@ -1,4 +1,5 @@
-//! Tests of what trees of values are kept in: pools, partial trees, shared values and pieces of them. Each module has those of the crate of its name.
+//! Tests of what trees of values are kept in: pools, partial trees, shared values and pieces of them. Each module
+//! has those of the crate of its name, over values that `values` makes.
 #![tactic(auto)]
 
 #[cfg(test)]
@@ -13,3 +14,5 @@ mod path;
 mod results;
 #[cfg(test)]
 mod stream;
+#[cfg(test)]
+mod values;

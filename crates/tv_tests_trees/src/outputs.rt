@@ -1,4 +1,4 @@
-ghost use Rattle.std.specs.Prelude.{◌≡◌, length, IfOk};
+ghost use Rattle.std.specs.Prelude.{◌≡◌, ◌∷◌, [], length, IfOk, OnOk};
 ghost use Rattle.tv_pool.specs.Pool.{IsLive};
 ghost use Rattle.tv_cell.specs.Soundness.{IsSound, AreSound};
 ghost use Rattle.tv_tests_trees.specs.Tried.{Tried, IsNothing, IsSomething, HasSecond, HasBoth};
@@ -56,25 +56,32 @@ fn are_texts(value: &Value, first: &str, second: &str) -> bool {
     }
 }
 
-fn one(alloc: Global, first: Piece) -> Result<Pieces, NoMemory>
-    requires { IsSound first }
+fn one_text(alloc: Global, letters: &str) -> Result<Pieces, NoMemory>
     ensures sound { IfOk result AreSound }
     ensures count { IfOk result (λ ps. length ps ≡ 1) }
 {
     let mut pieces = Vec::with_capacity(alloc, 1)?;
-    pieces.push(first)?;
+    pieces.push(text(alloc, letters)?)?;
     Ok(Row::of(pieces))
 }
 
-fn two(alloc: Global, first: Piece, second: Piece) -> Result<Pieces, NoMemory>
-    requires first { IsSound first }
-    requires second { IsSound second }
+fn two_texts(alloc: Global, first: &str, second: &str) -> Result<Pieces, NoMemory>
     ensures sound { IfOk result AreSound }
     ensures count { IfOk result (λ ps. length ps ≡ 2) }
 {
     let mut pieces = Vec::with_capacity(alloc, 2)?;
-    pieces.push(first)?;
-    pieces.push(second)?;
+    pieces.push(text(alloc, first)?)?;
+    pieces.push(text(alloc, second)?)?;
+    Ok(Row::of(pieces))
+}
+
+fn text_and_fault(alloc: Global, letters: &str) -> Result<Pieces, NoMemory>
+    ensures sound { IfOk result AreSound }
+    ensures count { IfOk result (λ ps. length ps ≡ 2) }
+{
+    let mut pieces = Vec::with_capacity(alloc, 2)?;
+    pieces.push(text(alloc, letters)?)?;
+    pieces.push(fault(alloc)?)?;
     Ok(Row::of(pieces))
 }
 
@@ -97,7 +104,7 @@ fn second_items(
     ensures { IfOk result (λ least. Tried pool.new outputs.new region.now HasSecond IsNothing) }
 {
     let place = Place::of(alloc, &[1])?;
-    let pieces = two(alloc, text(alloc, "b")?, text(alloc, "y")?)?;
+    let pieces = two_texts(alloc, "b", "y")?;
     outputs.reserve(pool, 0, 2)?;
     let least = outputs.whole_by_arrival(pool, 0, &place);
     outputs.arrive(pool, region, 0, &place, pieces);
@@ -115,7 +122,7 @@ fn no_outputs(
     ensures { IfOk result (λ least. Tried pool.new outputs.new region.now HasSecond IsSomething) }
 {
     let place = Place::top(alloc);
-    let pieces = one(alloc, text(alloc, "")?)?;
+    let pieces = one_text(alloc, "")?;
     outputs.reserve(pool, 2, 1)?;
     let least = outputs.whole_by_arrival(pool, 2, &place);
     outputs.arrive(pool, region, 2, &place, pieces);
@@ -133,7 +140,7 @@ fn first_items(
     ensures { IfOk result (λ faults. Tried pool.new outputs.new region.now HasBoth IsSomething) }
 {
     let place = Place::of(alloc, &[0])?;
-    let pieces = two(alloc, text(alloc, "a")?, fault(alloc)?)?;
+    let pieces = text_and_fault(alloc, "a")?;
     let mut faults = Faults::new(alloc);
     outputs.faults_by_arrival(pool, 0, &place, pieces.as_slice(), &mut faults)?;
     outputs.reserve(pool, 0, 2)?;
@@ -194,16 +201,32 @@ fn item_ahead(
     outputs: &mut Outputs,
     pool: &mut Nodes,
     region: &Region,
+    place: &Place,
+    piece: &Piece,
 ) -> Result<Value, NoMemory>
-    requires { Tried pool.old outputs.old region.now HasSecond IsNothing }
+    requires tried { Tried pool.old outputs.old region.now HasSecond IsNothing }
+    requires place { place.now ≡ 0 ∷ [] }
+    requires sound { IsSound piece.now }
 {
     let top = Place::top(alloc);
     outputs.reserve(pool, 0, 1)?;
     outputs.close(pool, region, 0, 1, &top, 2);
+    let ahead = outputs.piece_with(alloc, pool, 0, place, piece)?;
+    assemble(alloc, &ahead)
+}
+
+fn has_list_ahead(
+    alloc: Global,
+    outputs: &mut Outputs,
+    pool: &mut Nodes,
+    region: &Region,
+) -> Result<bool, NoMemory>
+    requires { Tried pool.old outputs.old region.now HasSecond IsNothing }
+{
     let place = Place::of(alloc, &[0])?;
     let piece = text(alloc, "a")?;
-    let ahead = outputs.piece_with(alloc, pool, 0, &place, &piece)?;
-    assemble(alloc, &ahead)
+    let list = item_ahead(alloc, outputs, pool, region, &place, &piece)?;
+    Ok(are_texts(&list, "a", "b"))
 }
 
 /// Whether a value is the first list, its first item, or its second.
@@ -233,36 +256,91 @@ fn looks(outputs: &Outputs, pool: &Nodes, _region: &Region) -> ((bool, bool, boo
     ((third, first, second), (of_first, of_second))
 }
 
+/// All items come, and it is told what each makes whole, and where the faults will stand.
+fn all_come(
+    rt: &impl Abort,
+    alloc: Global,
+    outputs: &mut Outputs,
+    pool: &mut Nodes,
+    region: &Region,
+) -> Result<(), Fail>
+    requires { Tried pool.old outputs.old region.now IsNothing IsNothing }
+    ensures { OnOk result (Tried pool.new outputs.new region.now HasBoth IsSomething) }
+{
+    assert_eq!(rt; second_items(alloc, outputs, pool, region)?, 1);
+    assert_eq!(rt; no_outputs(alloc, outputs, pool, region)?, 0);
+    let faults = first_items(alloc, outputs, pool, region)?;
+    assert_eq!(rt; faults.as_slice(), [0, 2].as_slice());
+    Ok(())
+}
+
+fn all_close(
+    rt: &impl Abort,
+    alloc: Global,
+    outputs: &mut Outputs,
+    pool: &mut Nodes,
+    region: &Region,
+) -> Result<(), Fail>
+    requires { Tried pool.old outputs.old region.now HasBoth IsSomething }
+    ensures { OnOk result (Tried pool.new outputs.new region.now IsSomething IsSomething) }
+{
+    let (least, none, faults) = closed(alloc, outputs, pool, region)?;
+    assert_eq!(rt; (least, none), (0, 1));
+    assert_eq!(rt; faults.as_slice(), [0, 1].as_slice());
+    Ok(())
+}
+
+/// Looks at whole trees, and where the first list and its second item stand in the first of them.
+fn look_at_whole(
+    rt: &impl Abort,
+    outputs: &Outputs,
+    pool: &Nodes,
+    region: &Region,
+    list: &Value,
+    second: &Value,
+)
+    requires { Tried pool.now outputs.now region.now IsSomething IsSomething }
+{
+    assert_eq!(rt;
+        looks(outputs, pool, region),
+        ((true, true, true), (false, true))
+    );
+    assert_eq!(rt;
+        stands_where(outputs, pool, region, list),
+        (true, false, false)
+    );
+    assert_eq!(rt;
+        stands_where(outputs, pool, region, second),
+        (false, false, true)
+    );
+}
+
+fn two_lists(
+    rt: &impl Abort,
+    alloc: Global,
+    outputs: &mut Outputs,
+    pool: &mut Nodes,
+    region: &Region,
+) -> Result<(), Fail>
+    requires { Tried pool.old outputs.old region.now IsNothing IsNothing }
+{
+    all_come(rt, alloc, outputs, pool, region)?;
+    let b = second_item(alloc, outputs, pool, region)?;
+    assert!(rt; is_text(&b, "b"));
+    let list = list_ahead(alloc, outputs, pool, region)?;
+    assert!(rt; are_texts(&list, "a", "b"));
+    all_close(rt, alloc, outputs, pool, region)?;
+    look_at_whole(rt, outputs, pool, region, &list, &b);
+    Ok(())
+}
+
 #[test]
 fn two_steps(rt: HostRuntime) -> Result<(), Fail> {
     let alloc = rt.alloc();
     let mut pool = Pool::new(alloc);
     let region = pool.begin()?;
     let mut outputs = begun(alloc, &mut pool, &region)?;
-    assert_eq!(rt; second_items(alloc, &mut outputs, &mut pool, &region)?, 1);
-    assert_eq!(rt; no_outputs(alloc, &mut outputs, &mut pool, &region)?, 0);
-    let faults = first_items(alloc, &mut outputs, &mut pool, &region)?;
-    assert_eq!(rt; faults.as_slice(), [0, 2].as_slice());
-    let b = second_item(alloc, &outputs, &pool, &region)?;
-    assert!(rt; is_text(&b, "b"));
-    let list = list_ahead(alloc, &outputs, &pool, &region)?;
-    assert!(rt; are_texts(&list, "a", "b"));
-    let (least, none, faults) = closed(alloc, &mut outputs, &mut pool, &region)?;
-    assert_eq!(rt; (least, none), (0, 1));
-    assert_eq!(rt; faults.as_slice(), [0, 1].as_slice());
-    assert_eq!(rt;
-        looks(&outputs, &pool, &region),
-        ((true, true, true), (false, true))
-    );
-    assert_eq!(rt;
-        stands_where(&outputs, &pool, &region, &list),
-        (true, false, false)
-    );
-    assert_eq!(rt;
-        stands_where(&outputs, &pool, &region, &b),
-        (false, false, true)
-    );
-    Ok(())
+    two_lists(&rt, alloc, &mut outputs, &mut pool, &region)
 }
 
 #[test]
@@ -272,7 +350,6 @@ fn an_item_ahead(rt: HostRuntime) -> Result<(), Fail> {
     let region = pool.begin()?;
     let mut outputs = begun(alloc, &mut pool, &region)?;
     second_items(alloc, &mut outputs, &mut pool, &region)?;
-    let list = item_ahead(alloc, &mut outputs, &mut pool, &region)?;
-    assert!(rt; are_texts(&list, "a", "b"));
+    assert!(rt; has_list_ahead(alloc, &mut outputs, &mut pool, &region)?);
     Ok(())
 }

@@ -1,38 +1,9 @@
+use crate::values::{fault, name, text};
 use std::alloc::Global;
 use std::test::Fail;
 use tv_cell::same_value;
 use tv_results::{bounced_pieces, error_pieces, value_pieces, values_of};
-use tv_value::{
-    Depths, ErrorDoc, Items, JobName, JobNames, NoMemory, Place, Sequence, Text, Value,
-};
-
-fn name(alloc: Global, step: &str) -> Result<JobName, NoMemory> {
-    let mut levels = Vec::new(alloc);
-    levels.push((Text::from_str(alloc, step)?, Place::top(alloc)))?;
-    Ok(Sequence::of(levels))
-}
-
-fn names(alloc: Global, step: &str) -> Result<JobNames, NoMemory> {
-    let mut all = Vec::new(alloc);
-    all.push(name(alloc, step)?)?;
-    Ok(Sequence::of(all))
-}
-
-fn fault(
-    alloc: Global,
-    at: &str,
-    depth: u32,
-    why: &str,
-    from: JobNames,
-) -> Result<Value, NoMemory> {
-    let error = ErrorDoc {
-        at: name(alloc, at)?,
-        depth,
-        why: Text::from_str(alloc, why)?,
-        from,
-    };
-    Ok(Value::Fault(Box::new(alloc, error)?))
-}
+use tv_value::{Depths, Items, JobNames, NoMemory, Sequence, Text, Value};
 
 // An output of depth 0 and one of depth 2.
 fn outputs(alloc: Global) -> Result<Depths, NoMemory> {
@@ -42,48 +13,95 @@ fn outputs(alloc: Global) -> Result<Depths, NoMemory> {
     Ok(Sequence::of(all))
 }
 
-fn are_same(found: &Items, first: &Value, second: &Value) -> bool {
-    let found = found.as_slice();
-    found.len() == 2 && same_value(&found[0], first) && same_value(&found[1], second)
+/// The jobs of these steps.
+fn names(alloc: Global, steps: &[&str]) -> Result<JobNames, NoMemory> {
+    let mut all = Vec::new(alloc);
+    for step in steps {
+        all.push(name(alloc, *step)?)?;
+    }
+    Ok(Sequence::of(all))
+}
+
+/// A list of an error of the step r.
+fn faulty_list(alloc: Global) -> Result<Value, NoMemory> {
+    let mut inside = Vec::new(alloc);
+    inside.push(fault(alloc, "r", 0, "no number", Sequence::empty(alloc))?)?;
+    Ok(Value::List(Items::of(inside)))
 }
 
 /// A text and a list that holds an error of the step r.
 fn bound(alloc: Global) -> Result<Items, NoMemory> {
-    let mut inside = Vec::new(alloc);
-    inside.push(fault(alloc, "r", 0, "no number", Sequence::empty(alloc))?)?;
     let mut all = Vec::new(alloc);
-    all.push(Value::Text(Text::from_str(alloc, "a")?))?;
-    all.push(Value::List(Items::of(inside)))?;
+    all.push(text(alloc, "a")?)?;
+    all.push(faulty_list(alloc)?)?;
     Ok(Items::of(all))
 }
 
+/// The values as pieces, and values again.
+fn there_and_back(alloc: Global, values: &Items) -> Result<Items, NoMemory> {
+    let pieces = value_pieces(alloc, values.copy(alloc)?)?;
+    values_of(alloc, pieces.as_slice())
+}
+
 #[test]
-fn what_jobs_give(rt: HostRuntime) -> Result<(), Fail> {
+fn values_come_back(rt: HostRuntime) -> Result<(), Fail> {
     let alloc = rt.alloc();
     let values = bound(alloc)?;
-    let pieces = value_pieces(alloc, values.copy(alloc)?)?;
-    let back = values_of(alloc, pieces.as_slice())?;
-    assert_eq!(&rt; same_value(&Value::List(back), &Value::List(values)), true);
-    let failed = error_pieces(
-        alloc,
-        name(alloc, "u")?,
-        Text::from_str(alloc, "late")?,
-        Sequence::empty(alloc),
-        &outputs(alloc)?,
-    )?;
-    let given = values_of(alloc, failed.as_slice())?;
-    let first = fault(alloc, "u", 0, "late", Sequence::empty(alloc))?;
-    let second = fault(alloc, "u", 2, "late", Sequence::empty(alloc))?;
-    assert_eq!(&rt; are_same(&given, &first, &second), true);
-    let bounced = bounced_pieces(
-        alloc,
-        name(alloc, "u")?,
-        pieces.as_slice(),
-        &outputs(alloc)?,
-    )?;
-    let given = values_of(alloc, bounced.as_slice())?;
-    let first = fault(alloc, "u", 0, "bounced", names(alloc, "r")?)?;
-    let second = fault(alloc, "u", 2, "bounced", names(alloc, "r")?)?;
-    assert_eq!(&rt; are_same(&given, &first, &second), true);
+    let back = there_and_back(alloc, &values)?;
+    assert!(rt; same_value(&Value::List(back), &Value::List(values)));
+    Ok(())
+}
+
+/// Whether the values are the errors of the step u, one for each output.
+fn are_faults(alloc: Global, found: &Items, why: &str, from: &[&str]) -> Result<bool, NoMemory> {
+    match found.as_slice() {
+        [first, second] => Ok(
+            is_fault(alloc, first, 0, why, from)? && is_fault(alloc, second, 2, why, from)?,
+        ),
+        _ => Ok(false),
+    }
+}
+
+fn is_fault(
+    alloc: Global,
+    found: &Value,
+    depth: u32,
+    why: &str,
+    from: &[&str],
+) -> Result<bool, NoMemory> {
+    let wanted = fault(alloc, "u", depth, why, names(alloc, from)?)?;
+    Ok(same_value(found, &wanted))
+}
+
+/// What the step u gives where it failed.
+fn failed(alloc: Global) -> Result<Items, NoMemory> {
+    let outputs = outputs(alloc)?;
+    let at = name(alloc, "u")?;
+    let why = Text::from_str(alloc, "late")?;
+    let pieces = error_pieces(alloc, at, why, Sequence::empty(alloc), &outputs)?;
+    values_of(alloc, pieces.as_slice())
+}
+
+#[test]
+fn each_output_has_the_error(rt: HostRuntime) -> Result<(), Fail> {
+    let alloc = rt.alloc();
+    let given = failed(alloc)?;
+    assert!(rt; are_faults(alloc, &given, "late", &[])?);
+    Ok(())
+}
+
+/// What the step u gives where its inputs hold an error.
+fn bounced(alloc: Global) -> Result<Items, NoMemory> {
+    let outputs = outputs(alloc)?;
+    let inputs = value_pieces(alloc, bound(alloc)?)?;
+    let pieces = bounced_pieces(alloc, name(alloc, "u")?, inputs.as_slice(), &outputs)?;
+    values_of(alloc, pieces.as_slice())
+}
+
+#[test]
+fn each_output_has_the_errors_of_inputs(rt: HostRuntime) -> Result<(), Fail> {
+    let alloc = rt.alloc();
+    let given = bounced(alloc)?;
+    assert!(rt; are_faults(alloc, &given, "bounced", &["r"])?);
     Ok(())
 }

@@ -1,6 +1,8 @@
-ghost use Rattle.std.specs.Prelude.{OnOk};
+ghost use Rattle.std.specs.Prelude.{◌≡◌, ◌∷◌, []};
+ghost use Rattle.tv_parts.specs.Partials.{wanting};
 ghost use Rattle.tv_pool.specs.Pool.{IsLive};
 ghost use Rattle.tv_stream.specs.Stands.{Stands, IsIn};
+ghost use Rattle.tv_stream.specs.Trees.{tree_of};
 
 use std::alloc::Global;
 use std::process::Abort;
@@ -76,7 +78,67 @@ type Step = (&'static [u32], Event, Came);
 /// What stands at a place in the end: its kind, its item, whether it is whole, and whether something marked is there.
 type Look = (&'static [u32], PartKind, Option<u64>, bool, bool);
 
-// All events in their order on a new tree.
+/// Does it, and compares what came of it.
+fn step(
+    rt: &impl Abort,
+    alloc: Global,
+    pool: &mut Pool<Slot<u64>>,
+    region: &Region,
+    tree: &mut Partial<u64>,
+    step: &Step,
+) -> Result<(), Fail>
+    requires live { IsLive pool.old region.now }
+    requires region { IsIn tree.old region.now }
+    requires stands { Stands pool.old tree.old }
+    ensures live { IsLive pool.new region.now }
+    ensures region { IsIn tree.new region.now }
+    ensures stands { Stands pool.new tree.new }
+{
+    let (place, event, came) = *step;
+    let found = done(alloc, pool, region, tree, place, event)?;
+    assert_eq!(rt; found, came, "{place:?} {event:?}");
+    Ok(())
+}
+
+/// All events in their order.
+fn follow(
+    rt: &impl Abort,
+    alloc: Global,
+    pool: &mut Pool<Slot<u64>>,
+    region: &Region,
+    tree: &mut Partial<u64>,
+    steps: &[Step],
+) -> Result<(), Fail>
+    requires live { IsLive pool.old region.now }
+    requires region { IsIn tree.old region.now }
+    requires stands { Stands pool.old tree.old }
+    ensures { Stands pool.new tree.new }
+{
+    for next in steps {
+        step(rt, alloc, pool, region, tree, next)?;
+    }
+    Ok(())
+}
+
+/// Looks at places.
+fn look(
+    rt: &impl Abort,
+    alloc: Global,
+    pool: &Pool<Slot<u64>>,
+    tree: &Partial<u64>,
+    looks: &[Look],
+) -> Result<(), Fail>
+    requires { Stands pool.now tree.now }
+{
+    for look in looks {
+        let (place, kind, item, whole, marked) = *look;
+        let found = seen(alloc, pool, tree, place)?;
+        assert_eq!(rt; found, (kind, item, whole, marked), "{place:?}");
+    }
+    Ok(())
+}
+
+/// All events in their order on a new tree, and then looks at it.
 fn run(
     rt: &impl Abort,
     alloc: Global,
@@ -87,23 +149,8 @@ fn run(
     let mut pool = Pool::new(alloc);
     let region = pool.begin()?;
     let mut tree: Partial<u64> = Partial::start(&mut pool, &region, depth)?;
-    'steps: for step in steps {
-        let (place, event, came) = *step;
-        assert_eq!(rt;
-            done(alloc, &mut pool, &region, &mut tree, place, event)?,
-            came,
-            "{place:?} {event:?}"
-        );
-    }
-    'looks: for look in looks {
-        let (place, kind, item, whole, marked) = *look;
-        assert_eq!(rt;
-            seen(alloc, &pool, &tree, place)?,
-            (kind, item, whole, marked),
-            "{place:?}"
-        );
-    }
-    Ok(())
+    follow(rt, alloc, &mut pool, &region, &mut tree, steps)?;
+    look(rt, alloc, &pool, &tree, looks)
 }
 
 fn seen(
@@ -123,100 +170,134 @@ fn seen(
     ))
 }
 
+static OUT_OF_ORDER: [Step; 6] = [
+    (&[1], Event::Arrive(5), Came::Whole(Some(1))),
+    (&[0], Event::Arrive(7), Came::Whole(Some(1))),
+    (&[], Event::Close(2), Came::Whole(Some(0))),
+    (&[], Event::Close(2), Came::Taken),
+    (&[0], Event::Arrive(8), Came::Taken),
+    (&[2], Event::Arrive(8), Came::NoPlace),
+];
+
 #[test]
 fn two_parts_out_of_order(rt: HostRuntime) -> Result<(), Fail> {
-    run(
-        &rt,
-        rt.alloc(),
-        1,
-        &[
-            (&[1], Event::Arrive(5), Came::Whole(Some(1))),
-            (&[0], Event::Arrive(7), Came::Whole(Some(1))),
-            (&[], Event::Close(2), Came::Whole(Some(0))),
-            (&[], Event::Close(2), Came::Taken),
-            (&[0], Event::Arrive(8), Came::Taken),
-            (&[2], Event::Arrive(8), Came::NoPlace),
-        ],
-        &[],
-    )
+    run(&rt, rt.alloc(), 1, &OUT_OF_ORDER, &[])
 }
+
+static TOO_SHORT: [Step; 4] = [
+    (&[1], Event::Arrive(5), Came::Whole(Some(1))),
+    (&[], Event::Close(1), Came::Short(1, 2)),
+    (&[], Event::Close(2), Came::Whole(None)),
+    (&[0], Event::Arrive(7), Came::Whole(Some(0))),
+];
 
 #[test]
 fn a_list_too_short(rt: HostRuntime) -> Result<(), Fail> {
-    run(
-        &rt,
-        rt.alloc(),
-        1,
-        &[
-            (&[1], Event::Arrive(5), Came::Whole(Some(1))),
-            (&[], Event::Close(1), Came::Short(1, 2)),
-            (&[], Event::Close(2), Came::Whole(None)),
-            (&[0], Event::Arrive(7), Came::Whole(Some(0))),
-        ],
-        &[],
-    )
+    run(&rt, rt.alloc(), 1, &TOO_SHORT, &[])
 }
 
 // Inner lists that are closed before and after their parts come, an empty one, and a fault in a list's place.
+static IN_LISTS: [Step; 13] = [
+    (&[2, 1], Event::Arrive(5), Came::Whole(Some(2))),
+    (&[2, 1, 0], Event::Arrive(5), Came::NoPlace),
+    (&[2, 1], Event::Close(0), Came::NoPlace),
+    (&[2], Event::Arrive(5), Came::Taken),
+    (&[], Event::Close(3), Came::Whole(None)),
+    (&[3, 0], Event::Close(0), Came::NoPlace),
+    (&[3, 0], Event::Arrive(1), Came::NoPlace),
+    (&[0], Event::Close(0), Came::Whole(Some(1))),
+    (&[1], Event::Arrive(9), Came::Whole(Some(1))),
+    (&[1, 0], Event::Arrive(1), Came::NoPlace),
+    (&[1], Event::Close(0), Came::NoPlace),
+    (&[2], Event::Close(2), Came::Whole(None)),
+    (&[2, 0], Event::Arrive(6), Came::Whole(Some(0))),
+];
+
 #[test]
 fn lists_in_lists(rt: HostRuntime) -> Result<(), Fail> {
-    run(
-        &rt,
-        rt.alloc(),
-        2,
-        &[
-            (&[2, 1], Event::Arrive(5), Came::Whole(Some(2))),
-            (&[2, 1, 0], Event::Arrive(5), Came::NoPlace),
-            (&[2, 1], Event::Close(0), Came::NoPlace),
-            (&[2], Event::Arrive(5), Came::Taken),
-            (&[], Event::Close(3), Came::Whole(None)),
-            (&[3, 0], Event::Close(0), Came::NoPlace),
-            (&[3, 0], Event::Arrive(1), Came::NoPlace),
-            (&[0], Event::Close(0), Came::Whole(Some(1))),
-            (&[1], Event::Arrive(9), Came::Whole(Some(1))),
-            (&[1, 0], Event::Arrive(1), Came::NoPlace),
-            (&[1], Event::Close(0), Came::NoPlace),
-            (&[2], Event::Close(2), Came::Whole(None)),
-            (&[2, 0], Event::Arrive(6), Came::Whole(Some(0))),
-        ],
-        &[],
-    )
+    run(&rt, rt.alloc(), 2, &IN_LISTS, &[])
 }
+
+static MARKED_INSIDE: [Step; 2] = [
+    (&[1, 0], Event::Arrive(9), Came::Whole(Some(2))),
+    (&[1], Event::Close(1), Came::Whole(Some(1))),
+];
+
+static KNOWN: [Look; 5] = [
+    (&[], PartKind::Growing, None, false, true),
+    (&[0], PartKind::Wanting, None, false, false),
+    (&[1], PartKind::Closed(1), None, true, true),
+    (&[1, 0], PartKind::Item, Some(9), true, true),
+    (&[1, 1], PartKind::Wanting, None, false, false),
+];
 
 #[test]
 fn what_is_known(rt: HostRuntime) -> Result<(), Fail> {
-    run(
-        &rt,
-        rt.alloc(),
-        2,
-        &[
-            (&[1, 0], Event::Arrive(9), Came::Whole(Some(2))),
-            (&[1], Event::Close(1), Came::Whole(Some(1))),
-        ],
-        &[
-            (&[], PartKind::Growing, None, false, true),
-            (&[0], PartKind::Wanting, None, false, false),
-            (&[1], PartKind::Closed(1), None, true, true),
-            (&[1, 0], PartKind::Item, Some(9), true, true),
-            (&[1, 1], PartKind::Wanting, None, false, false),
-        ],
-    )
+    run(&rt, rt.alloc(), 2, &MARKED_INSIDE, &KNOWN)
 }
 
-// The calls that answer no more than that they are done, and those that say before what they will answer.
+/// What the calls on a new tree say before what they will answer.
+fn look_ahead(
+    rt: &impl Abort,
+    pool: &Pool<Slot<u64>>,
+    tree: &Partial<u64>,
+    root: &Place,
+    part: &Place,
+)
+    requires stands { Stands pool.now tree.now }
+    requires depth { tree.now.depth ≡ 1 }
+    requires new { tree_of pool.now tree.now ≡ wanting }
+    requires root { root.now ≡ [] }
+    requires part { part.now ≡ 0 ∷ [] }
+{
+    assert_eq!(rt; tree.whole_by_arrival(pool, part), 1);
+    assert_eq!(rt; tree.whole_by_close(pool, root, 1), None);
+    assert_eq!(rt; tree.whole_by_close(pool, root, 0), Some(0));
+}
+
+/// The calls that answer no more than that they are done.
+fn fill(
+    rt: &impl Abort,
+    pool: &mut Pool<Slot<u64>>,
+    region: &Region,
+    tree: &mut Partial<u64>,
+    root: &Place,
+    part: &Place,
+)
+    requires live { IsLive pool.old region.now }
+    requires region { IsIn tree.old region.now }
+    requires stands { Stands pool.old tree.old }
+{
+    assert!(rt; tree.arrive(pool, region, part, 7).is_ok());
+    assert!(rt; tree.close(pool, region, root, 1).is_ok());
+    assert!(rt; tree.whole_at(pool, root));
+}
+
+fn call_plainly(
+    rt: &impl Abort,
+    alloc: Global,
+    pool: &mut Pool<Slot<u64>>,
+    region: &Region,
+    tree: &mut Partial<u64>,
+) -> Result<(), Fail>
+    requires live { IsLive pool.old region.now }
+    requires region { IsIn tree.old region.now }
+    requires stands { Stands pool.old tree.old }
+    requires depth { tree.old.depth ≡ 1 }
+    requires new { tree_of pool.old tree.old ≡ wanting }
+{
+    let root = Place::of(alloc, &[])?;
+    let part = Place::of(alloc, &[0])?;
+    look_ahead(rt, pool, tree, &root, &part);
+    fill(rt, pool, region, tree, &root, &part);
+    Ok(())
+}
+
 #[test]
 fn plain_calls(rt: HostRuntime) -> Result<(), Fail> {
     let alloc = rt.alloc();
     let mut pool = Pool::new(alloc);
     let region = pool.begin()?;
     let mut tree: Partial<u64> = Partial::start(&mut pool, &region, 1)?;
-    let root = Place::of(alloc, &[])?;
-    let part = Place::of(alloc, &[0])?;
-    assert_eq!(rt; tree.whole_by_arrival(&pool, &part), 1);
-    assert_eq!(rt; tree.whole_by_close(&pool, &root, 1), None);
-    assert_eq!(rt; tree.whole_by_close(&pool, &root, 0), Some(0));
-    assert!(rt; tree.arrive(&mut pool, &region, &part, 7).is_ok());
-    assert!(rt; tree.close(&mut pool, &region, &root, 1).is_ok());
-    assert!(rt; tree.whole_at(&pool, &root));
-    Ok(())
+    call_plainly(&rt, alloc, &mut pool, &region, &mut tree)
 }
