@@ -1,5 +1,6 @@
 pub mod Nested
 pub mod Values
+pub mod Insides
 pub mod DepthSets
 pub mod Orders
 pub mod Strategies
