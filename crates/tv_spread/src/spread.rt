@@ -15,10 +15,12 @@ use crate::adding::add_known;
 use crate::around::{Around, push_wholes};
 use crate::wires::{push_ways, run_length};
 use std::alloc::Global;
+use std::mem;
 use tv_idle::Idle;
 use tv_intake::Intakes;
+use tv_match::Tolds;
 use tv_telling::{Event, Way, Whole, tellings_with};
-use tv_value::NoMemory;
+use tv_value::{NoMemory, Sequence};
 use tv_wires::Wire;
 
 /// What is told with an event, step by step: working room, and the steps that hold it.
@@ -29,6 +31,9 @@ pub struct Spread {
     // What the step that is looked at is told.
     ways: Vec<Way>,
     whole: Vec<Whole>,
+    // The room of what the last step was told, and of a place.
+    told: Tolds,
+    place: Vec<u32>,
 }
 
 impl Spread {
@@ -40,6 +45,8 @@ impl Spread {
             touched: Vec::new(alloc),
             ways: Vec::new(alloc),
             whole: Vec::new(alloc),
+            told: Sequence::empty(alloc),
+            place: Vec::new(alloc),
         }
     }
 
@@ -169,8 +176,17 @@ impl Spread {
         if self.ways.is_empty() && self.whole.is_empty() {
             return Ok(());
         }
-        let told = tellings_with(alloc, self.ways.as_slice(), self.whole.as_slice(), event)?;
+        let before = mem::replace(&mut self.told, Sequence::empty(alloc));
+        let told = tellings_with(
+            alloc,
+            self.ways.as_slice(),
+            self.whole.as_slice(),
+            event,
+            before,
+            &mut self.place,
+        )?;
         let _things = intakes.hold(to, &told)?;
+        self.told = told;
         self.touched.push(to)?;
         Ok(())
     }

@@ -17,20 +17,23 @@ use tv_value::NoMemory;
 /// What the ports at the ends of these ways are told with an event, way by way, and then that those ports, which take their
 /// values whole, have them.
 ///
-/// Linear in the ways and in the tellings. Of a value that a job gave, only the levels are looked at that are walked.
+/// Linear in the ways and in the tellings. Of a value that a job gave, only the levels are looked at that are walked. What was
+/// told before goes, and its memory is room for these; so is that of the place.
 pub fn tellings_with(
     alloc: Global,
     ways: &[Way],
     whole: &[Whole],
     event: &Event,
+    before: Tolds,
+    place: &mut Vec<u32>,
 ) -> Result<Tolds, NoMemory>
     requires { Each (λ w. HasOutput event.now w.output) ways.now }
     ensures { IfOk result (λ ts. AreTellings ts (λ s. flat_map (way_tellings s event.now) ways.now ++ map (whole_telling s) whole.now)) }
 {
-    let mut tellings = Vec::new(alloc);
-    let mut place = Vec::new(alloc);
+    let mut tellings = before.into_vec();
+    tellings.clear();
     for way in ways {
-        tell_way(alloc, way, event, &mut place, &mut tellings)?;
+        tell_way(alloc, way, event, place, &mut tellings)?;
     }
     for port in whole {
         tell_bound(alloc, port.leaf, &[], port.faulty, &mut tellings)?;

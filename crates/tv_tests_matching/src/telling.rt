@@ -156,7 +156,9 @@ fn event_tells(
 ) -> Result<bool, NoMemory>
     requires { Each (λ w. HasOutput event.now w.output) ways.now }
 {
-    let told = tellings_with(alloc, ways, whole, event)?;
+    let before = Sequence::empty(alloc);
+    let mut place = Vec::new(alloc);
+    let told = tellings_with(alloc, ways, whole, event, before, &mut place)?;
     Ok(are(told.as_slice(), 2, wanted))
 }
 
