@@ -12,11 +12,14 @@ use Rattle.tv_entries.specs.Calls.{IsNothingOffered, NothingSettles, Settles, ha
 use Rattle.tv_entries.specs.Idle.{AreIdle}
 use Rattle.tv_entries.specs.Recalls.{IsRecalled}
 use Rattle.tv_entries.specs.Runs.{Appends, IsLegalRun, Run, meant, past_of}
+use Rattle.tv_entries.specs.Moves.{IsMove}
 use Rattle.tv_entries.specs.Settlements.{IsSettling}
+use Rattle.tv_entries.specs.declared.told.Moved.{Moved}
+use Rattle.tv_entries.specs.declared.told.Moved.TheVariants as moved
 use Rattle.tv_entries.specs.declared.ticket.JobState.TheVariants as state
 use Rattle.tv_entries.specs.declared.ticket.Ticket.{Ticket}
 use Rattle.tv_run.specs.Standing.{StandsOpen, StandsStill, run_of}
-use Rattle.tv_run.specs.Turns.{HandsOut, IsOver, RecallsTo, SettlesTo, StaysAs}
+use Rattle.tv_run.specs.Turns.{HandsOut, IsOver, MovesTo, RecallsTo, SettlesTo, StaysAs}
 use Rattle.tv_run.specs.declared.run.OpenRun.{OpenRun}
 
 pub still : (gives : Giving) (r : OpenRun) → StandsOpen gives r → StandsStill gives r
@@ -39,6 +42,13 @@ module _ (gives : Giving) (r : OpenRun) (x : Run) (e : run_of r ≡ x) (over : I
 
   pub over-idle : AreIdle gives x x
   over-idle = λ k a t h. absurd (over.no_state_out k a t (ap (λ y. state_of gives y k) e ∙ h))
+
+  pub over-moves : IsMove gives x x moved.Nothing
+  over-moves = record {
+    same = refl;
+    settled = subst (NothingSettles gives) e over.nothing_settles;
+    nothing_offered = subst (IsNothingOffered gives) e over.nothing_offered;
+  }
 
 -- ---- calls
 
@@ -79,6 +89,36 @@ module _ (gives : Giving) (r s : OpenRun) (x : Run) (e : run_of r ≡ x) (st : S
   pub hand-names : (o : Option Ticket) → HandsOut gives r s o → (run_of s).names ≡ x.names
   hand-names None h = ap (λ (y : Run). y.names) (h.0.same ∙ e)
   hand-names (Some t) h = h.1 ∙ ap (λ (y : Run). y.names) e
+
+  moved-still : (m : Moved) → MovesTo gives r s m → StandsStill gives s
+  moved-still moved.Settled h = h.0
+  moved-still (moved.HandedOut t) h = still gives s h.0.0.stands
+  moved-still moved.Nothing h = still gives s h.0.0.stands
+
+  moved-told : (m : Moved) → MovesTo gives r s m → IsMove gives x (run_of s) m
+  moved-told moved.Settled h = subst (λ y. Settles y (run_of s)) e h.1
+  moved-told (moved.HandedOut t) h = record {
+    settled = subst (NothingSettles gives) e h.1;
+    handed = subst (λ y. Appends y (run_of s) (hands_out t)) e h.0.0.appends;
+    names = h.0.1 ∙ ap (λ (y : Run). y.names) e;
+  }
+  moved-told moved.Nothing h = record {
+    same = h.0.0.same ∙ e;
+    settled = subst (NothingSettles gives) e h.1;
+    nothing_offered = subst (IsNothingOffered gives) e h.0.1;
+  }
+
+  pub move-stands : {E : Type 0}
+      (o : Result Moved E) → IfOk o (λ m. (g : Giving) → StandsOpen g r → MovesTo g r s m)
+      → OnErr o ((g : Giving) → StandsOpen g r → StaysAs g r s) → StandsStill gives s
+  move-stands (Ok m) h k = moved-still m (h gives st)
+  move-stands (Err n) h k = still gives s (k gives st).stands
+
+  pub move-tells : {E : Type 0}
+      (o : Result Moved E) → IfOk o (λ m. (g : Giving) → StandsOpen g r → MovesTo g r s m)
+      → IfOk o (λ m. IsMove gives x (run_of s) m)
+  move-tells (Ok m) h = moved-told m (h gives st)
+  move-tells (Err n) h = tt
 
   -- all tries taken back, or a refusal
   abbrev pub Recalls : ℕ → Type 0

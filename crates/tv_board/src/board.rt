@@ -17,6 +17,7 @@ ghost use Rattle.tv_board.specs.Asked.{AsksAndAccepts, AsksOnceAtMost};
 ghost use Rattle.tv_board.specs.Refusals.{IsRefused, answered, told_or_back};
 ghost use Rattle.tv_entries.specs.Refusals.{IsAccepting};
 ghost use Rattle.tv_entries.specs.Runs.{Appends, IsLegalRun, meant, past_of};
+ghost use Rattle.tv_entries.specs.Moves.{IsMove};
 ghost use Rattle.tv_entries.specs.Settlements.{IsSettling};
 ghost use Rattle.tv_entries.specs.Recalls.{IsRecalled};
 
@@ -25,7 +26,7 @@ use crate::refused::Refused;
 use std::alloc::Global;
 use std::marker::{Model, PhantomData};
 use tv_check::CheckedRun;
-use tv_entries::{Accepted, Entry, Task, TaskFault, Tested, Ticket};
+use tv_entries::{Accepted, Entry, Moved, Task, TaskFault, Tested, Ticket};
 use tv_gate::{Asker, Services};
 use tv_model::Totals;
 use tv_run::OpenRun;
@@ -135,6 +136,19 @@ impl<V: Services> Board<V> {
             return None;
         }
         self.run.hand_out()
+    }
+
+    /// Goes on by itself: settles one thing as `settle_one` does, or where nothing can be settled hands out the first try on offer, as
+    /// `hand_out` does. It costs less than the two, since it looks for the first job that goes on once.
+    pub fn move_on(&mut self) -> Result<Moved, NoMemory>
+        ensures moved { IfOk result (λ m. IsMove V.gives self.old self.new m) }
+        ensures refused { OnErr result (self.new ≡ self.old) }
+        ensures legal { IsLegalRun V.gives self.new }
+    {
+        if self.run.is_done() {
+            return Ok(Moved::Nothing);
+        }
+        self.run.move_on()
     }
 
     /// Takes back all tries that are out, and tells how many. They are on offer again. Takes no memory where none is out.

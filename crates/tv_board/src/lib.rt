@@ -38,4 +38,4 @@ pub use answer::{Answer, ask, ask_alone};
 pub use board::Board;
 pub use refused::Refused;
 pub use traced::Traced;
-pub use tv_entries::{Accepted, Entry, JobState, Task, TaskFault, Ticket};
+pub use tv_entries::{Accepted, Entry, JobState, Moved, Task, TaskFault, Ticket};

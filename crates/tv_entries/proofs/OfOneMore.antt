@@ -52,8 +52,8 @@ module _ (d : Document) (ns more is js : List JobName) where
   one-named (entry.HandedOut k a t) w = ap (λ n. history.handed_out n a t) (name-more ns more k w)
   one-named (entry.Accepted k a t r) w = ap (λ n. history.accepted n a t r) (name-more ns more k w)
   one-named (entry.Bounced k) w = ap (λ n. history.bounced n) (name-more ns more k w)
-  one-named (entry.Closed i s q c) w = ap (λ n. history.closed (spot n (step_name d n s) q) c) (name-more is js i w)
-  one-named (entry.Passed i s q) w = ap (λ n. history.fault_passed (spot n (step_name d n s) q)) (name-more is js i w)
+  one-named (entry.Closed i s q c) w = ap (λ n. history.closed (spot n (step_name d n s) q.value) c) (name-more is js i w)
+  one-named (entry.Passed i s q) w = ap (λ n. history.fault_passed (spot n (step_name d n s) q.value)) (name-more is js i w)
   one-named (entry.Opened k i) w = ap (λ n. history.opened n) (name-more ns more k w)
   one-named (entry.Ended i) w = ap (λ n. history.ended n) (name-more is js i w)
   one-named (entry.Recalled c) w = refl

@@ -1,8 +1,9 @@
 -- What each kind of entry adds to the history of a run, of however many instances.
-use Rattle.std.specs.Prelude.{Bool, List, None, Some, [], filter_map, is_some, length, nat_lt, refl, slice_get, suc, true, unwrap_or, zero, ℕ, ◌++◌, ◌<◌, ◌∷◌, ◌≡◌}
+use Rattle.std.specs.Prelude.{Box, Bool, List, None, Some, [], filter_map, is_some, length, nat_lt, refl, slice_get, suc, true, unwrap_or, zero, ℕ, ◌++◌, ◌<◌, ◌∷◌, ◌≡◌}
+use Rattle.std.specs.declared.alloc.Global.{Global}
 use Rattle.std.proofs.Common.{ap, arith, sym, ◌∙◌}
 use Rattle.std.proofs.lemmas.Bool.{lt-ltb}
-use Rattle.tv_value.specs.Nested.{Place}
+use Rattle.tv_value.specs.declared.place.Place.{Place}
 use Rattle.tv_value.specs.Values.{JobName, Name}
 use Rattle.tv_gate.specs.Outcomes.{Giving}
 use Rattle.tv_flow.specs.Flows.{Flow, Step}
@@ -64,19 +65,21 @@ module _ (r : Run) (i : ℕ) (n : JobName) (instance : slice_get (instances_of r
 
   -- at a step of its flow
   module _ (f : Flow) (k : ℕ) (s : Name × Step) (flow : flow_of r.document.flows r.document.main n ≡ Some f)
-      (step : slice_get f.steps k ≡ Some s) (q : Place) where
-    at-spot : spot (name_at (instances_of r.names r.entries) i) (step_name r.document (name_at (instances_of r.names r.entries) i) k) q ≡ spot n s.0 q
+      (step : slice_get f.steps k ≡ Some s) (q : Box Place Global) where
+    at-spot :
+        spot (name_at (instances_of r.names r.entries) i) (step_name r.document (name_at (instances_of r.names r.entries) i) k) q.value
+        ≡ spot n s.0 q.value
     at-spot =
-        ap (λ m. spot m (step_name r.document m k) q) (name-there (instances_of r.names r.entries) i n instance)
-        ∙ ap (λ x. spot n x q) (step-named r.document n f flow k s step)
+        ap (λ m. spot m (step_name r.document m k) q.value) (name-there (instances_of r.names r.entries) i n instance)
+        ∙ ap (λ x. spot n x q.value) (step-named r.document n f flow k s step)
 
-    pub tells-closed : (c : ℕ) → IsTold r (entry.Closed i k q c) (history.closed (spot n s.0 q) c)
+    pub tells-closed : (c : ℕ) → IsTold r (entry.Closed i k q c) (history.closed (spot n s.0 q.value) c)
     tells-closed c = record {
       given = there (instances_of r.names r.entries) i n instance;
       is = ap (λ m. history.closed m c) at-spot;
     }
 
-    pub tells-passed : IsTold r (entry.Passed i k q) (history.fault_passed (spot n s.0 q))
+    pub tells-passed : IsTold r (entry.Passed i k q) (history.fault_passed (spot n s.0 q.value))
     tells-passed = record {
       given = there (instances_of r.names r.entries) i n instance;
       is = ap history.fault_passed at-spot;

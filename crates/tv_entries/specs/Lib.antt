@@ -3,6 +3,7 @@ pub mod RunCodes
 pub mod Answers
 pub mod Calls
 pub mod Settlements
+pub mod Moves
 pub mod Recalls
 pub mod Idle
 pub mod Declarations

@@ -66,9 +66,9 @@ with_names d names is (entry.HandedOut k a t) = history.handed_out (name_at name
 with_names d names is (entry.Accepted k a t r) = history.accepted (name_at names k) a t r
 with_names d names is (entry.Bounced k) = history.bounced (name_at names k)
 with_names d names is (entry.Closed i s q n) =
-    history.closed (spot (name_at is i) (step_name d (name_at is i) s) q) n
+    history.closed (spot (name_at is i) (step_name d (name_at is i) s) q.value) n
 with_names d names is (entry.Passed i s q) =
-    history.fault_passed (spot (name_at is i) (step_name d (name_at is i) s) q)
+    history.fault_passed (spot (name_at is i) (step_name d (name_at is i) s) q.value)
 with_names d names is (entry.Opened k i) = history.opened (name_at names k)
 with_names d names is (entry.Ended i) = history.ended (name_at is i)
 with_names d names is (entry.Recalled c) = history.recalled c

@@ -27,14 +27,14 @@ pub enum Entry {
     Closed {
         instance: u64,
         step: u32,
-        place: Place,
+        place: Box<Place>,
         length: u32,
     },
     /// A fault stands in the place of a list of a step's iteration.
     Passed {
         instance: u64,
         step: u32,
-        place: Place,
+        place: Box<Place>,
     },
     /// The job's flow was opened, under this number.
     Opened {

@@ -5,10 +5,11 @@
 //! is made of.
 //!
 //! - `entry`, `ticket`: entries of the history; tickets, tasks and where jobs stand
-//! - `told`: what calls tell of a try
+//! - `told`: what calls tell of a try, and what a run did that went on by itself
 //! - `specs/Runs.antt`, `specs/RunCodes.antt`: runs, their histories, and what holds of every run
 //! - `specs/Calls.antt`: what is settled, handed out and asked
 //! - `specs/Settlements.antt`: what is settled next, or that there is nothing of a kind
+//! - `specs/Moves.antt`: what a run does that goes on by itself
 //! - `specs/Recalls.antt`: tries that are taken back
 //! - `specs/Answers.antt`, `specs/Refusals.antt`: what an answer answers, and what becomes of it
 //! - `specs/Declarations.antt`, `specs/Counted.antt`: what the document declares for a job; what totals count
@@ -20,4 +21,4 @@ mod told;
 
 pub use entry::Entry;
 pub use ticket::{JobState, Task, Ticket};
-pub use told::{Accepted, TaskFault, Tested};
+pub use told::{Accepted, Moved, TaskFault, Tested};

@@ -44,6 +44,7 @@ pub mod OfLevels
 pub mod OfLive
 pub mod OfLooking
 pub mod OfMoved
+pub mod OfMoves
 pub mod OfNamedValues
 pub mod OfNames
 pub mod OfNaming

@@ -4,7 +4,7 @@ use Rattle.std.specs.Prelude.{◌≡◌, refl, ℕ, suc, ◌+◌, ◌≤◌, Boo
 use Rattle.std.proofs.Common.{ap, arith, subst, sym, ◌∙◌}
 use Rattle.std.proofs.lemmas.List.{length-append}
 use Rattle.tv_value.specs.Orders.{same_job}
-use Rattle.tv_value.specs.Values.{JobName, Name, Value}
+use Rattle.tv_value.specs.Values.{JobName, Value}
 use Rattle.tv_gate.specs.Outcomes.{Giving, Outcome}
 use Rattle.tv_check.specs.RunViews.{run_view}
 use Rattle.tv_dispatch.specs.Jobs.{Ask}
@@ -38,7 +38,7 @@ use Rattle.tv_entries.proofs.OfTold.{IsTold, past-told, tells-accepted}
 use Rattle.tv_run.specs.Accepting.{GoesToBut, HasEntryRoom, MovesTo, with_failed}
 use Rattle.tv_run.specs.Changes.{ChangesTo, TellsIn}
 use Rattle.tv_run.specs.Rooms.{HasRoomIn, IsAsBefore, IsNoted}
-use Rattle.tv_run.specs.Standing.{Stands, StandsOpen, names_of, run_of}
+use Rattle.tv_run.specs.Standing.{Stands, names_of, run_of}
 use Rattle.tv_run.specs.Turns.{AcceptsTo, GoesTo, IsAsked}
 use Rattle.tv_run.specs.declared.run.OpenRun.{OpenRun}
 use Rattle.tv_run.proofs.OfRooms.{stands-before}

@@ -1,5 +1,5 @@
 -- Whether an answer is what its try asks: by whether its job binds the inputs.
-use Rattle.std.specs.Prelude.{◌≡◌, refl, ℕ, Bool, IsTrue, true, false, List, [], Some, map, slice_get}
+use Rattle.std.specs.Prelude.{◌≡◌, refl, Bool, IsTrue, true, false, List, [], Some, map, slice_get}
 use Rattle.std.proofs.Common.{ap, subst, sym, ◌∙◌}
 use Rattle.tv_value.specs.Nested.{Place}
 use Rattle.tv_value.specs.Values.{Name, Value}

@@ -1,7 +1,7 @@
 -- A ready job of an open instance that binds a fault: it can be bounced, what it gives then, and how the instances go on with that.
 use Rattle.std.specs.List.{list_any}
 use Rattle.std.specs.Option.{option_map_or}
-use Rattle.std.specs.Prelude.{◌≡◌, refl, ℕ, ◌||◌, true, false, List, [], ◌∷◌, ◌++◌, Some}
+use Rattle.std.specs.Prelude.{◌≡◌, refl, ℕ, ◌||◌, true, List, [], ◌∷◌, ◌++◌, Some}
 use Rattle.std.specs.Prelude.{codes, if◌then◌else◌, is_none, is_some, map, slice_get}
 use Rattle.std.proofs.Common.{ap, subst, sym, ◌∙◌}
 use Rattle.tv_value.specs.Nested.{Place}

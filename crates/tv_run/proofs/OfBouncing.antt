@@ -1,5 +1,5 @@
 -- A job of an open instance that can be bounced, by its number: what it gives, and what the calls that bounce it want.
-use Rattle.std.specs.Prelude.{◌≡◌, refl, ℕ, ◌<◌, true, List, [], ◌∷◌, ◌++◌, Some, codes, length, map, slice_get, slice_index_or}
+use Rattle.std.specs.Prelude.{◌≡◌, ℕ, ◌<◌, true, List, Some, codes, length, map, slice_get, slice_index_or}
 use Rattle.std.proofs.Common.{ap, arith, subst, sym, ◌∙◌}
 use Rattle.std.proofs.lemmas.Option.{same_Some, slice_get-get_or, slice_get_within}
 use Rattle.tv_value.specs.Values.{JobName, Name, Value}

@@ -1,9 +1,9 @@
 -- The instances that are busy, the last of them first: one that is left, and the first job there that can be bounced.
 use Rattle.std.specs.Prelude.{◌≡◌, refl, ℕ, ◌+◌, ◌-◌, ◌<◌, ◌++◌, Bool, true, List, [], ◌∷◌, MatchOption, None, Option, Some, false, length, slice_get, slice_index_or, vec_capacity}
 use Rattle.std.specs.Vec.{with_item}
-use Rattle.std.proofs.Common.{ap, arith, inl, inr, length-append, subst, sym, ◌∙◌}
+use Rattle.std.proofs.Common.{ap, arith, inl, inr, subst, sym, ◌∙◌}
 use Rattle.std.proofs.lemmas.List.{length-set}
-use Rattle.std.proofs.lemmas.Option.{none-some, same_Some, slice_get_read}
+use Rattle.std.proofs.lemmas.Option.{same_Some, slice_get_read}
 use Rattle.tv_gate.specs.Outcomes.{Giving}
 use Rattle.tv_flow.specs.Flows.{Document}
 use Rattle.tv_flow.specs.Views.{flow_view}
@@ -11,12 +11,10 @@ use Rattle.tv_check.specs.RunViews.{run_view}
 use Rattle.tv_check.specs.declared.plans.FlowPlan.{FlowPlan}
 use Rattle.tv_model.specs.Members.{In}
 use Rattle.tv_framing.specs.Views.{View}
-use Rattle.tv_frame.specs.Tables.{levels_in}
 use Rattle.tv_seats.specs.Seats.{Seat}
 use Rattle.tv_seats.proofs.Staging.{set-other}
 use Rattle.tv_forest.specs.Forest.{Instance, Instances, IsAt}
 use Rattle.tv_forest.proofs.OfLists.{at-set}
-use Rattle.tv_firsts.specs.Opening.{IsStill}
 use Rattle.tv_open.specs.Firsts.{IsFirstFaulty}
 use Rattle.tv_open.specs.Standing.{IsOpen}
 use Rattle.tv_open.specs.declared.open.Open.{Open}
@@ -29,7 +27,7 @@ use Rattle.tv_run.specs.declared.instances.Instance as code
 use Rattle.tv_run.specs.declared.run.OpenRun.{OpenRun}
 use Rattle.tv_run.proofs.OfItself.{its-code, o, open-by, seats-are}
 use Rattle.tv_run.proofs.OfJobs.{instance-there, instance-told, open-is, view-is}
-use Rattle.tv_run.proofs.OfLeaving.{IsLeft, left}
+use Rattle.tv_run.proofs.OfLeaving.{left}
 use Rattle.tv_run.proofs.OfOpens.{first-open, nothing-open}
 use Rattle.tv_run.proofs.OfRooms.{before-itself, stays-before}
 use Rattle.tv_run.proofs.OfSettled.{stays-from}

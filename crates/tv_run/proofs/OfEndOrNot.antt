@@ -1,5 +1,5 @@
 -- Whether an open instance has ended, as its Open tells it.
-use Rattle.std.specs.Prelude.{◌≡◌, ℕ, Bool, None, Option, Some, List, ◌∷◌, [], slice_get, slice_index_or}
+use Rattle.std.specs.Prelude.{◌≡◌, ℕ, Bool, None, Some, List, ◌∷◌, [], slice_get, slice_index_or}
 use Rattle.std.proofs.Common.{ap, subst, sym, ◌∙◌}
 use Rattle.tv_gate.specs.Outcomes.{Giving}
 use Rattle.tv_flow.specs.Flows.{Document}

@@ -1,12 +1,11 @@
 -- The first job of an open instance that can be bounced, as its Open finds it.
 use Rattle.std.specs.Prelude.{◌≡◌, ℕ, List, ◌∷◌, [], MatchOption, None, Option, Some, slice_get}
 use Rattle.std.proofs.Common.{ap, subst, sym, ◌∙◌}
-use Rattle.tv_flow.specs.Flows.{Document, Flow}
+use Rattle.tv_flow.specs.Flows.{Document}
 use Rattle.tv_flow.specs.Views.{flow_view}
 use Rattle.tv_check.specs.RunViews.{run_view}
 use Rattle.tv_check.specs.declared.plans.FlowPlan.{FlowPlan}
 use Rattle.tv_framing.specs.Views.{View}
-use Rattle.tv_seats.specs.Seats.{Seat}
 use Rattle.tv_forest.specs.Forest.{Instance, Instances, IsAt}
 use Rattle.tv_open.specs.Firsts.{IsFirstFaulty}
 use Rattle.tv_open.specs.Standing.{IsOpen}

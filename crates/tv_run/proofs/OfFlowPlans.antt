@@ -1,5 +1,5 @@
 -- The plan of a flow by the flow's number.
-use Rattle.std.specs.Prelude.{◌≡◌, ℕ, ◌<◌, Some, length, option_map, slice_get}
+use Rattle.std.specs.Prelude.{◌≡◌, ℕ, Some, option_map, slice_get}
 use Rattle.std.proofs.Common.{ap, sym, ◌∙◌}
 use Rattle.std.proofs.lemmas.Option.{same_Some}
 use Rattle.tv_value.specs.Values.{Name}

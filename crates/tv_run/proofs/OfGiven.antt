@@ -1,19 +1,16 @@
 -- A job that is settled by the outcome of its try: it gives its result, and that may be given to its frame.
 use Rattle.std.specs.List.{list_any}
 use Rattle.std.specs.Option.{option_map_or}
-use Rattle.std.specs.Prelude.{◌≡◌, refl, ℕ, Bool, true, false, not, ◌&&◌, ◌||◌, if◌then◌else◌, List, [], ◌∷◌, ◌++◌, Some, slice_get, unwrap_or}
+use Rattle.std.specs.Prelude.{◌≡◌, refl, ℕ, Bool, true, false, not, ◌||◌, if◌then◌else◌, List, [], ◌∷◌, ◌++◌, slice_get, unwrap_or}
 use Rattle.std.proofs.Common.{ap, subst, sym, ◌∙◌}
-use Rattle.tv_value.specs.Nested.{Place}
 use Rattle.tv_value.specs.Values.{JobName, Name, Text, Value}
 use Rattle.tv_gate.specs.Outcomes.{Giving}
 use Rattle.tv_flow.specs.Flows.{Document, Step}
 use Rattle.tv_check.specs.RunViews.{run_view}
 use Rattle.tv_depths.specs.Steps.{declared_depths}
 use Rattle.tv_dispatch.specs.Jobs.{Ask, error_results}
-use Rattle.tv_instance.specs.Events.{Event, gave, has_result, is_taken}
-use Rattle.tv_model.specs.Jobs.{Job}
+use Rattle.tv_instance.specs.Events.{gave, has_result, is_taken}
 use Rattle.tv_model.specs.Made.{Meaning}
-use Rattle.tv_model.specs.Meanings.{meaning}
 use Rattle.tv_model.specs.Members.{In}
 use Rattle.tv_model.specs.RightDepths.{HaveTheseDepths}
 use Rattle.tv_model.proofs.Results.{judged-depths}
@@ -36,7 +33,7 @@ use Rattle.tv_seated.specs.GoingOn.{GoesOn, MaySettle}
 use Rattle.tv_seated.specs.Seated.{IsStage, spot_of}
 use Rattle.tv_seated.proofs.OfLists.{get-image, is-member}
 use Rattle.tv_forest.specs.Entries.{told, with_instance}
-use Rattle.tv_forest.specs.Forest.{Instance, Instances, Stand}
+use Rattle.tv_forest.specs.Forest.{Instances, Stand}
 use Rattle.tv_forest.proofs.OfEntries.{settling}
 use Rattle.tv_entries.specs.Runs.{meant, past_of}
 use Rattle.tv_entries.specs.declared.ticket.Ticket.{Ticket}

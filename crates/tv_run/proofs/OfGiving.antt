@@ -1,6 +1,6 @@
 -- An open instance is told of a result, or of a list or fault: what the calls want, and what the run is then.
 use Rattle.std.specs.Option.{option_map_or}
-use Rattle.std.specs.Prelude.{◌≡◌, refl, ℕ, ◌+◌, ◌-◌, ◌<◌, ◌≤◌, ◌||◌, ◌++◌, Bool, true, false, List, [], ◌∷◌, Some, cond, length, map, slice_get, slice_index_or, slice_set, vec_capacity}
+use Rattle.std.specs.Prelude.{◌≡◌, refl, ℕ, ◌+◌, ◌-◌, ◌≤◌, ◌||◌, true, List, [], ◌∷◌, Some, cond, length, map, slice_get, slice_index_or, slice_set, vec_capacity}
 use Rattle.std.specs.List.{sum_by}
 use Rattle.std.proofs.Common.{ap, arith, length-append, subst, sym, ◌∙◌}
 use Rattle.std.proofs.lemmas.List.{length-map}
@@ -12,7 +12,7 @@ use Rattle.tv_check.specs.RunViews.{run_view}
 use Rattle.tv_check.specs.declared.plans.FlowPlan.{FlowPlan}
 use Rattle.tv_pool.specs.Pool.{number_of}
 use Rattle.tv_nodes.specs.Calls.{KeepsRegions}
-use Rattle.tv_instance.specs.Events.{Event, gave}
+use Rattle.tv_instance.specs.Events.{Event}
 use Rattle.tv_model.proofs.Tests.{true≠false}
 use Rattle.tv_framing.specs.Views.{View}
 use Rattle.tv_seats.specs.Seats.{Seat, staged, with_stage}
@@ -25,7 +25,6 @@ use Rattle.tv_open.specs.Events.{IsReadyToGive, IsReadyToSettleAt, IsTold, MayBe
 use Rattle.tv_open.specs.Standing.{job_of}
 use Rattle.tv_open.specs.declared.events.Spot.{Spot}
 use Rattle.tv_open.specs.declared.open.Open.{Open}
-use Rattle.tv_open.proofs.OfSeats.{staged-jobs}
 use Rattle.tv_run.specs.Changes.{IsOpenHere, IsReadyIn, IsReadyToSettleIn, IsSeatHere, MayBeBouncedIn, MayBeGivenIn, TellsIn}
 use Rattle.tv_run.specs.Following.{CanFollow, FollowsIn, unnumbered}
 use Rattle.tv_run.specs.Rooms.{HasRoomIn}
@@ -33,7 +32,7 @@ use Rattle.tv_run.specs.Standing.{due_in, is_due}
 use Rattle.tv_run.specs.declared.instances.Instance as code
 use Rattle.tv_run.specs.declared.run.OpenRun.{OpenRun}
 use Rattle.tv_run.proofs.OfFits.{IsTurned, due_seats, tells-in}
-use Rattle.tv_run.proofs.OfItself.{IsCalled, its, its-code, o, seats-are, turned}
+use Rattle.tv_run.proofs.OfItself.{IsCalled, its-code, o, seats-are, turned}
 use Rattle.tv_run.proofs.OfMoved.{sum-set}
 
 -- ---- how many are due

@@ -1,5 +1,5 @@
 -- An open instance in the code: what is read there, and what stands there once its Open is another.
-use Rattle.std.specs.Prelude.{◌≡◌, ◌≢◌, refl, ℕ, ◌<◌, List, [], ◌∷◌, None, Option, Some, length, option_map, slice_get, slice_index_or, slice_set}
+use Rattle.std.specs.Prelude.{◌≡◌, refl, ℕ, ◌<◌, [], ◌∷◌, None, Option, Some, length, option_map, slice_get, slice_index_or, slice_set}
 use Rattle.std.specs.Vec.{with_item}
 use Rattle.std.proofs.Common.{ap, arith, subst, sym, ◌∙◌}
 use Rattle.std.proofs.lemmas.List.{length-set}
@@ -22,7 +22,6 @@ use Rattle.tv_open.specs.Standing.{IsOpen}
 use Rattle.tv_open.specs.declared.open.Open.{Open}
 use Rattle.tv_run.specs.Changes.{IsOpenHere}
 use Rattle.tv_run.specs.Following.{OthersAreSame}
-use Rattle.tv_run.specs.Looks.{IsFlow}
 use Rattle.tv_run.specs.Standing.{IsKept, IsOpenOf}
 use Rattle.tv_run.specs.declared.instances.Instance as code
 use Rattle.tv_run.specs.declared.run.OpenRun.{OpenRun}

@@ -1,20 +1,18 @@
 -- The last of the instances in which something may be settled.
-use Rattle.std.specs.Prelude.{◌≡◌, refl, ℕ, ◌-◌, ◌<◌, Bool, true, false, List, [], ◌∷◌, Option, Some, length, slice_get, slice_index_or}
+use Rattle.std.specs.Prelude.{◌≡◌, refl, ℕ, ◌-◌, ◌<◌, Bool, true, false, List, [], ◌∷◌, Some, length, slice_get, slice_index_or}
 use Rattle.std.proofs.Common.{ap, arith, subst, sym, ◌∙◌}
 use Rattle.std.proofs.lemmas.Option.{get_or_from_slice_get, same_Some, slice_get-get_or}
 use Rattle.tv_gate.specs.Outcomes.{Giving}
-use Rattle.tv_framing.specs.Views.{View}
 use Rattle.tv_seated.proofs.OfLists.{is-member}
-use Rattle.tv_forest.specs.Forest.{Instance, Instances, IsAt}
+use Rattle.tv_forest.specs.Forest.{Instances, IsAt}
 use Rattle.tv_frame.proofs.OfHoldAround.{within-get}
 use Rattle.tv_open.specs.declared.open.Open.{Open}
 use Rattle.tv_run.specs.Settlements.{IsOpenIn, LastIsStill, SettlesIn, SettlesLast, last_busy}
-use Rattle.tv_run.specs.Standing.{Fits, Stands, StandsOpen}
+use Rattle.tv_run.specs.Standing.{Fits, StandsOpen}
 use Rattle.tv_run.specs.declared.instances.Instance as code
 use Rattle.tv_run.specs.declared.run.OpenRun.{OpenRun}
 use Rattle.tv_run.proofs.OfJobs.{instance-told, open-is, view-is}
 use Rattle.tv_run.proofs.OfOpens.{nothing-open}
-use Rattle.tv_run.proofs.OfRooms.{before-itself}
 
 pub none-there : {A : Type 0} (l : List A) → length l ≡ 0 → l ≡ []
 none-there [] h = refl

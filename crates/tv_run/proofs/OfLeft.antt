@@ -1,5 +1,5 @@
 -- A run that has left the last of its busy instances stands as it did.
-use Rattle.std.specs.Prelude.{◌≡◌, ℕ, ◌+◌, ◌-◌, ◌≤◌, List, Some, false, is_none, length, map, slice_get, vec_capacity}
+use Rattle.std.specs.Prelude.{◌≡◌, ℕ, ◌+◌, ◌-◌, ◌≤◌, List, false, is_none, length, map, slice_get, vec_capacity}
 use Rattle.std.proofs.Common.{ap, arith, subst, sym, ◌∙◌}
 use Rattle.tv_gate.specs.Outcomes.{Giving}
 use Rattle.tv_check.specs.RunViews.{run_view}
@@ -7,7 +7,7 @@ use Rattle.tv_frame.specs.Tables.{levels_in}
 use Rattle.tv_forest.specs.Forest.{Instance, Instances, Stand}
 use Rattle.tv_entries.specs.Runs.{IsLegalRun, Run, instances_of, past_of}
 use Rattle.tv_run.specs.Settlements.{LeavesLast, SettlesLast}
-use Rattle.tv_run.specs.Standing.{Fits, OutsAre, Stands, StandsOpen, failed_count, run_of}
+use Rattle.tv_run.specs.Standing.{Fits, OutsAre, Stands, StandsOpen, failed_count}
 use Rattle.tv_run.specs.Turns.{StaysAs}
 use Rattle.tv_run.specs.declared.run.OpenRun.{OpenRun}
 use Rattle.tv_run.proofs.OfRooms.{stands-before}

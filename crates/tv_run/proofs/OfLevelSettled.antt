@@ -1,6 +1,8 @@
 -- An open instance settles a list or passes a fault where one can be, once there is room for that; or else it is still but for its end.
-use Rattle.std.specs.Prelude.{◌≡◌, ℕ, ◌<◌, Bool, true, false, IfSome, Option, Some, length, slice_get, slice_index_or}
-use Rattle.std.proofs.Common.{ap, arith, subst, sym, ◌∙◌}
+use Rattle.std.specs.Prelude.{Box, ◌≡◌, ℕ, ◌<◌, Bool, true, false, IfSome, Option, Some, length, slice_get, slice_index_or}
+use Rattle.std.specs.declared.alloc.Global.{Global}
+use Rattle.std.proofs.Common.{ap, subst, sym, ◌∙◌}
+use Rattle.tv_value.specs.declared.place.Place.{Place}
 use Rattle.tv_gate.specs.Outcomes.{Giving}
 use Rattle.tv_flow.specs.Flows.{Document, Flow}
 use Rattle.tv_check.specs.FlowPlanViews.{flow_plan_view}
@@ -74,12 +76,12 @@ module _ (gives : Giving) (r : OpenRun) (i more : ℕ) (e : Event) (q : IsReadyT
 
   module _ (room : HasRoomIn m i more) (t : OpenRun)
       (tells : TellsIn m t q.here.instances i q.here.instance q.here.view e more q.here.instance.seats) where
-    pub level-settled : (s : OpenRun) (y : Settled) → TellsAt q.here.instance.flow.steps y e → IsNoted t s (level_entry i y)
-        → SettlesIn gives r s i true
-    level-settled s y at noted =
-        settles-in gives r m s i (level_entry i y) before.same (level-settles y i)
+    pub level-settled : (s : OpenRun) (y : Settled) (b : Box Place Global) → TellsAt q.here.instance.flow.steps y e
+        → IsNoted t s (level_entry i y b) → SettlesIn gives r s i true
+    level-settled s y b at noted =
+        settles-in gives r m s i (level_entry i y b) before.same (level-settles y i b)
         (level-goes gives m t s q.here.instances i q.here.instance q.here.view e more o.stands o.going q.here.there
-        q.here.is_open q.can tells y at noted room.beside.entries)
+        q.here.is_open q.can tells y at b noted room.beside.entries)
 
 -- ---- and where nothing was, it ends or is still
 

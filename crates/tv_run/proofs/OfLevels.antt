@@ -1,12 +1,13 @@
 -- A list is closed or a fault passed in an open instance: the entry of what was settled, and how the instances go on with it.
-use Rattle.std.specs.Prelude.{◌≡◌, refl, ℕ, true, false, List, None, [], ◌∷◌, ◌++◌, Some, map, slice_get}
+use Rattle.std.specs.Prelude.{Box, ◌≡◌, refl, ℕ, true, List, None, ◌∷◌, ◌++◌, Some, slice_get}
+use Rattle.std.specs.declared.alloc.Global.{Global}
 use Rattle.std.proofs.Common.{ap, subst, sym, ◌∙◌}
-use Rattle.tv_value.specs.Values.{JobName, Name}
+use Rattle.tv_value.specs.declared.place.Place.{Place}
+use Rattle.tv_value.specs.Values.{Name}
 use Rattle.tv_gate.specs.Outcomes.{Giving}
-use Rattle.tv_flow.specs.Flows.{Document, Flow, Step}
+use Rattle.tv_flow.specs.Flows.{Document, Step}
 use Rattle.tv_depths.specs.Steps.{spot}
 use Rattle.tv_check.specs.RunViews.{run_view}
-use Rattle.tv_check.specs.declared.plans.FlowPlan.{FlowPlan}
 use Rattle.tv_instance.specs.Events as events
 use Rattle.tv_instance.specs.Events.{Event, event_step, fault_set}
 use Rattle.tv_model.specs.Meanings.{meaning}
@@ -35,7 +36,6 @@ use Rattle.tv_entries.specs.Runs.{flow_of, instances_of, opened_number, past_of}
 use Rattle.tv_entries.specs.declared.entry.Entry.TheVariants as entry
 use Rattle.tv_entries.proofs.OfTold.{IsTold, tells-closed, tells-passed}
 use Rattle.tv_open.specs.Events.{IsReadyToSettleAt, TellsAt}
-use Rattle.tv_open.specs.declared.open.Open.{Open}
 use Rattle.tv_run.specs.Changes.{IsReadyToSettleIn}
 use Rattle.tv_run.specs.Rooms.{IsSameButRooms}
 use Rattle.tv_run.specs.Settlements.{IsReadyToSettleLevel, level_entry}
@@ -47,13 +47,13 @@ use Rattle.tv_seated.proofs.OfLists.{get-image}
 
 -- ---- the entry
 
-pub level-settles : (y : Settled) (i : ℕ) → settles (level_entry i y) ≡ true
-level-settles (settled.Closed s q n) i = refl
-level-settles (settled.Passed s q) i = refl
+pub level-settles : (y : Settled) (i : ℕ) (b : Box Place Global) → settles (level_entry i y b) ≡ true
+level-settles (settled.Closed s q n) i b = refl
+level-settles (settled.Passed s q) i b = refl
 
-pub level-opens_none : (y : Settled) (i : ℕ) → opened_number (level_entry i y) ≡ None
-level-opens_none (settled.Closed s q n) i = refl
-level-opens_none (settled.Passed s q) i = refl
+pub level-opens_none : (y : Settled) (i : ℕ) (b : Box Place Global) → opened_number (level_entry i y b) ≡ None
+level-opens_none (settled.Closed s q n) i b = refl
+level-opens_none (settled.Passed s q) i b = refl
 
 module _ (gives : Giving) (r : OpenRun) (xs : Instances) (st : Stands gives r xs) (i : ℕ) (x : Instance)
     (there : IsAt xs i x) where
@@ -72,9 +72,9 @@ module _ (gives : Giving) (r : OpenRun) (xs : Instances) (st : Stands gives r xs
   flow-named = flows-by_names gives d levels_in past xs st.stand i x there
 
   -- what it tells
-  pub level-told : (y : Settled) (e : Event) → TellsAt x.flow.steps y e
-      → IsTold (run_of r) (level_entry i y) (entry_of x.name e)
-  level-told y e h = by y e h.3 h.4
+  pub level-told : (b : Box Place Global) (y : Settled) (e : Event) → TellsAt x.flow.steps y e
+      → IsTold (run_of r) (level_entry i y b) (entry_of x.name e)
+  level-told b y e h = by y e h.3 h.4
     where
       n : ℕ
       n = h.0
@@ -83,17 +83,17 @@ module _ (gives : Giving) (r : OpenRun) (xs : Instances) (st : Stands gives r xs
       s = h.1
 
       by : (y : Settled) (e : Event) → event_step e ≡ s.0 → Tells y n e
-          → IsTold (run_of r) (level_entry i y) (entry_of x.name e)
+          → IsTold (run_of r) (level_entry i y b) (entry_of x.name e)
       by (settled.Closed t q m) (events.closed u p k) g c =
           subst (λ f. IsTold (run_of r) f (history.closed (spot x.name u p) k))
-          (λ j. entry.Closed i (sym c.0 j) (sym c.1 j) (sym c.2 j))
-          (subst (λ a. IsTold (run_of r) (entry.Closed i n p k) (history.closed (spot x.name a p) k)) (sym g)
-          (tells-closed (run_of r) i x.name instance-named x.flow n s flow-named h.2 p k))
+          (λ j. entry.Closed i (sym c.0 j) (record b { value = sym c.1 j }) (sym c.2 j))
+          (subst (λ a. IsTold (run_of r) (entry.Closed i n (record b { value = p }) k) (history.closed (spot x.name a p) k)) (sym g)
+          (tells-closed (run_of r) i x.name instance-named x.flow n s flow-named h.2 (record b { value = p }) k))
       by (settled.Passed t q) (fault_set u p f) g c =
           subst (λ f. IsTold (run_of r) f (history.fault_passed (spot x.name u p)))
-          (λ j. entry.Passed i (sym c.0 j) (sym c.1 j))
-          (subst (λ a. IsTold (run_of r) (entry.Passed i n p) (history.fault_passed (spot x.name a p))) (sym g)
-          (tells-passed (run_of r) i x.name instance-named x.flow n s flow-named h.2 p))
+          (λ j. entry.Passed i (sym c.0 j) (record b { value = sym c.1 j }))
+          (subst (λ a. IsTold (run_of r) (entry.Passed i n (record b { value = p })) (history.fault_passed (spot x.name a p))) (sym g)
+          (tells-passed (run_of r) i x.name instance-named x.flow n s flow-named h.2 (record b { value = p })))
       by y e g c = absurd c
 
   module _ (v : View) (is_open : x.view ≡ Some v) (e : Event) (can : CanSettle v e) where

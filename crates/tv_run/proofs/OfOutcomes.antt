@@ -1,12 +1,12 @@
 -- What follows the outcome of a try that is out: by the plan of its step its job goes on, has a flow next, or is settled.
-use Rattle.std.specs.Prelude.{◌≡◌, refl, ℕ, Bool, true, false, not, ◌∷◌, List, Some, Ok, Err, Result, is_ok, option_map}
+use Rattle.std.specs.Prelude.{◌≡◌, refl, ℕ, Bool, true, false, ◌∷◌, List, Ok, Err, Result, is_ok, option_map}
 use Rattle.std.specs.Option.{option_map_or}
-use Rattle.std.specs.Prelude.{is_some, ◌&&◌, ◌==◌, []}
+use Rattle.std.specs.Prelude.{is_some, ◌==◌, []}
 use Rattle.std.proofs.Common.{ap, eq-eqb, subst, sym, ◌∙◌}
 use Rattle.std.proofs.lemmas.Option.{same_Some}
-use Rattle.tv_value.specs.Values.{Name, Text, Value}
+use Rattle.tv_value.specs.Values.{Text, Value}
 use Rattle.tv_gate.specs.Outcomes.{Giving}
-use Rattle.tv_flow.specs.Flows.{Document, Step}
+use Rattle.tv_flow.specs.Flows.{Document}
 use Rattle.tv_check.specs.RunViews.{run_view}
 use Rattle.tv_depths.specs.Steps.{declared_depths}
 use Rattle.tv_dispatch.specs.Jobs.{Ask, error_results, outcome_of}
@@ -23,7 +23,6 @@ use Rattle.tv_tried.specs.Steps.{IsOfPlan, IsPlanOf}
 use Rattle.tv_tried.proofs.OfFlows.{flows-come_after_asks}
 use Rattle.tv_tried.proofs.OfNext.{after-is}
 use Rattle.tv_tried.proofs.OfTries.{asks-plan}
-use Rattle.tv_seats.specs.declared.stage.Stage.TheVariants as stage
 use Rattle.tv_seated.specs.Seated.{IsNextFlow, IsNextTry}
 use Rattle.tv_forest.specs.Forest.{Instances}
 use Rattle.tv_entries.specs.Runs.{meant, past_of}

@@ -1,9 +1,9 @@
 -- Each flow of a checked run has a plan.
-use Rattle.std.specs.Prelude.{◌≡◌, refl, ℕ, None, Option, Some, map, option_map, slice_get}
-use Rattle.std.proofs.Common.{ap, sym, ◌∙◌}
+use Rattle.std.specs.Prelude.{◌≡◌, refl, ℕ, None, Option, Some, option_map, slice_get}
+use Rattle.std.proofs.Common.{ap, ◌∙◌}
 use Rattle.std.proofs.lemmas.Option.{none-some, same_Some}
 use Rattle.tv_value.specs.Values.{Name}
-use Rattle.tv_flow.specs.Flows.{Document, Flow}
+use Rattle.tv_flow.specs.Flows.{Flow}
 use Rattle.tv_flow.specs.Views.{flow_view}
 use Rattle.tv_check.specs.FlowPlanViews.{flow_plan_view}
 use Rattle.tv_check.specs.Plans.{flow_plan}

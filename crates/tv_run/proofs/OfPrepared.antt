@@ -1,5 +1,5 @@
 -- An open instance takes room: the run is as it was, but for rooms.
-use Rattle.std.specs.Prelude.{◌≡◌, refl, ℕ, ◌<◌, true, List, [], ◌∷◌, None, Option, Some, length, option_and_then, option_map, slice_get, vec_capacity}
+use Rattle.std.specs.Prelude.{◌≡◌, refl, ℕ, ◌<◌, true, [], ◌∷◌, None, Option, Some, option_and_then, option_map, slice_get, vec_capacity}
 use Rattle.std.proofs.Common.{ap, arith, subst, sym, ◌∙◌}
 use Rattle.std.proofs.lemmas.Option.{same_Some}
 use Rattle.tv_flow.specs.Flows.{Document, Flow}
@@ -9,19 +9,18 @@ use Rattle.tv_check.specs.declared.plans.FlowPlan.{FlowPlan}
 use Rattle.tv_model.specs.Members.{In}
 use Rattle.tv_framing.specs.Views.{View}
 use Rattle.tv_frame.specs.Calls.{SameRegions}
-use Rattle.tv_frame.specs.declared.frame.Frame.{Frame}
 use Rattle.tv_beside.specs.Theirs.{AreTheirs, OthersStay}
 use Rattle.tv_beside.proofs.OfFrames.{rooms-keep, same-keeps}
 use Rattle.tv_beside.proofs.OfTheirs.{theirs-called}
 use Rattle.tv_pool.specs.Pool.{number_of}
-use Rattle.tv_forest.specs.Forest.{Instance, Instances, IsAt}
+use Rattle.tv_forest.specs.Forest.{Instance, Instances}
 use Rattle.tv_forest.proofs.OfLists.{same-number}
 use Rattle.tv_open.specs.Standing.{IsOpen}
 use Rattle.tv_open.specs.declared.open.Open.{Open}
 use Rattle.tv_run.specs.Following.{OthersAreSame}
 use Rattle.tv_run.specs.Looks.{IsFlow}
 use Rattle.tv_run.specs.Rooms.{IsAsBefore}
-use Rattle.tv_run.specs.Standing.{Fits, IsKept, IsLife, IsOpenOf, frame_at, run_of}
+use Rattle.tv_run.specs.Standing.{Fits, IsKept, IsLife, frame_at}
 use Rattle.tv_run.specs.declared.instances.Instance as code
 use Rattle.tv_run.specs.declared.run.OpenRun.{OpenRun}
 use Rattle.tv_run.proofs.OfAlike.{AreAlike, IsAlike, alike-there, fits-alike, names-alike}

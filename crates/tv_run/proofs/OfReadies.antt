@@ -1,6 +1,5 @@
 -- An open instance is ready for an event by any plan of its flow.
 use Rattle.std.specs.Prelude.{◌≡◌, ℕ, List}
-use Rattle.std.proofs.Common.{sym}
 use Rattle.tv_value.specs.Values.{Name, Value}
 use Rattle.tv_flow.specs.Flows.{Document, Flow, Step}
 use Rattle.tv_flow.specs.Views.{flow_view}
@@ -8,7 +7,6 @@ use Rattle.tv_check.specs.declared.plans.FlowPlan.{FlowPlan}
 use Rattle.tv_outputs.specs.Known.{Nodes}
 use Rattle.tv_instance.specs.Events.{Event}
 use Rattle.tv_framing.specs.Views.{View}
-use Rattle.tv_frame.specs.Calls.{IsReadyToSettle}
 use Rattle.tv_frame.specs.Prepared.{IsReadyFor}
 use Rattle.tv_frame.specs.declared.frame.Frame.{Frame}
 use Rattle.tv_seats.specs.Seats.{Seat}

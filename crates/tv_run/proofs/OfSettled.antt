@@ -1,20 +1,19 @@
 -- What is settled in a run that stands, and what is left as it was.
-use Rattle.std.specs.Prelude.{◌≡◌, refl, ℕ, ◌+◌, ◌≤◌, Bool, true, false, List, [], Err, IfSome, Ok, OnErr, Option, Result, Some, is_none, length, vec_capacity}
-use Rattle.std.proofs.Common.{ap, arith, subst, sym, ◌∙◌}
+use Rattle.std.specs.Prelude.{◌≡◌, ℕ, Bool, true, false, [], Err, IfSome, Ok, OnErr, Option, Result, Some}
+use Rattle.std.proofs.Common.{subst, ◌∙◌}
 use Rattle.tv_lemmas.proofs.Cases.{on_test}
 use Rattle.tv_gate.specs.Outcomes.{Giving}
 use Rattle.tv_check.specs.RunViews.{run_view}
 use Rattle.tv_model.specs.Members.{In}
 use Rattle.tv_framing.specs.Views.{View}
 use Rattle.tv_frame.specs.Tables.{levels_in}
-use Rattle.tv_forest.specs.Forest.{Instance, Instances, IsAt, Stand}
+use Rattle.tv_forest.specs.Forest.{Instance, Instances, IsAt}
 use Rattle.tv_firsts.specs.Opening.{IsStill}
 use Rattle.tv_firsts.proofs.OfQuiet.{quiet-by_instances}
-use Rattle.tv_entries.specs.Calls.{NothingSettles, Settles, settles}
-use Rattle.tv_entries.specs.Runs.{Run, past_of}
-use Rattle.tv_entries.specs.declared.entry.Entry.{Entry}
+use Rattle.tv_entries.specs.Calls.{NothingSettles, Settles}
+use Rattle.tv_entries.specs.Runs.{past_of}
 use Rattle.tv_run.specs.Settlements.{IsQuietRun}
-use Rattle.tv_run.specs.Standing.{Stands, StandsOpen, run_of}
+use Rattle.tv_run.specs.Standing.{Stands, run_of}
 use Rattle.tv_run.specs.Turns.{SettlesTo, StaysAs}
 use Rattle.tv_run.specs.declared.run.OpenRun.{OpenRun}
 use Rattle.tv_run.proofs.OfJobs.{instance-there, open-is}

@@ -1,6 +1,8 @@
 -- The run goes on once a job was bounced, or a list closed or a fault passed, and the entry noted.
-use Rattle.std.specs.Prelude.{◌≡◌, refl, ℕ, ◌+◌, ◌<◌, ◌≤◌, true, List, [], ◌∷◌, ◌++◌, None, Option, Some, is_none, length, slice_get, vec_capacity}
+use Rattle.std.specs.Prelude.{Box, ◌≡◌, refl, ℕ, ◌+◌, ◌<◌, ◌≤◌, true, List, ◌∷◌, ◌++◌, None, Option, Some, is_none, length, slice_get, vec_capacity}
+use Rattle.std.specs.declared.alloc.Global.{Global}
 use Rattle.std.proofs.Common.{ap, arith, subst, sym, ◌∙◌}
+use Rattle.tv_value.specs.declared.place.Place as held
 use Rattle.tv_value.specs.Nested.{Place}
 use Rattle.tv_value.specs.Values.{Name, Value}
 use Rattle.tv_gate.specs.Outcomes.{Giving}
@@ -24,20 +26,20 @@ use Rattle.tv_forest.specs.Forest.{Instance, Instances, IsAt, Stand}
 use Rattle.tv_entries.specs.Calls.{Settles, settles}
 use Rattle.tv_entries.specs.Runs.{Run, meant, past_of}
 use Rattle.tv_entries.specs.declared.entry.Entry.{Entry}
-use Rattle.tv_entries.proofs.OfTold.{IsTold, tells-bounced}
+use Rattle.tv_entries.proofs.OfTold.{tells-bounced}
 use Rattle.tv_open.specs.Events.{TellsAt}
 use Rattle.tv_run.specs.Changes.{TellsIn}
 use Rattle.tv_run.specs.Rooms.{HasRoomIn, IsNoted}
 use Rattle.tv_run.specs.Settlements.{IsBouncedJob, SettlesIn, bounces_job, level_entry}
-use Rattle.tv_run.specs.Standing.{Stands, names_of, run_of}
+use Rattle.tv_run.specs.Standing.{Stands, run_of}
 use Rattle.tv_run.specs.Turns.{GoesTo}
 use Rattle.tv_run.specs.declared.run.OpenRun.{OpenRun}
 use Rattle.tv_run.proofs.OfBounces as bounces
 use Rattle.tv_run.proofs.OfBouncing as bouncing
 use Rattle.tv_run.proofs.OfFailing.{bounced-fails_none}
 use Rattle.tv_run.proofs.OfJobs.{spot-is}
-use Rattle.tv_run.proofs.OfLevels.{level-fails_none, level-legal, level-opens_none, level-settles, level-stand, level-told}
-use Rattle.tv_run.proofs.OfNext.{IsNotedNext, goes-noted, main-kept, names-kept}
+use Rattle.tv_run.proofs.OfLevels.{level-fails_none, level-legal, level-opens_none, level-stand, level-told}
+use Rattle.tv_run.proofs.OfNext.{goes-noted, main-kept, names-kept}
 use Rattle.tv_run.proofs.OfNumbers.{job-named}
 
 -- an entry that settles something, in a run with the names and entries of another
@@ -142,23 +144,23 @@ module _ (gives : Giving) (r m t s : OpenRun) (xs : Instances) (k : ℕ) (j : Jo
 module _ (gives : Giving) (m t s : OpenRun) (xs : Instances) (i : ℕ) (x : Instance) (v : View) (e : Event) (more : ℕ)
     (now : Stands gives m xs) (undone : m.outs ≡ None) (there : IsAt xs i x) (is_open : x.view ≡ Some v)
     (can : CanSettle v e) (tells : TellsIn m t xs i x v e more x.seats) (y : Settled) (at : TellsAt x.flow.steps y e)
-    (noted : IsNoted t s (level_entry i y))
+    (b : Box held.Place Global) (noted : IsNoted t s (level_entry i y b))
     (room : length m.entries.items + m.due + more + 1 ≤ vec_capacity m.entries) where
   abbrev then_told : Instance
   then_told = told x tells.view (x.seats ++ tells.new)
 
-  pub level-goes : GoesTo gives m s (level_entry i y)
+  pub level-goes : GoesTo gives m s (level_entry i y b)
   level-goes =
-      goes-noted gives m t s xs (with_instance xs i then_told) (level_entry i y) (entry_of x.name e)
+      goes-noted gives m t s xs (with_instance xs i then_told) (level_entry i y b) (entry_of x.name e)
       (record {
         changes = tells.changes;
         noted = noted;
-        told = level-told gives m xs now i x there y e at;
-        none = level-opens_none y i;
+        told = level-told gives m xs now i x there b y e at;
+        none = level-opens_none y i b;
         legal = level-legal gives m xs now i x there v is_open e can;
         stand = level-stand gives m xs now i x there v is_open e can tells.view tells.new tells.goes_on;
         failed = level-fails_none gives m xs now i x there v is_open e can;
-        room = room-left m t s xs i x v e more x.seats tells (level_entry i y) noted room;
+        room = room-left m t s xs i x v e more x.seats tells (level_entry i y b) noted room;
         names = names-kept xs i x then_told there refl;
         main = main-kept xs i x then_told there (sym (ap (λ (o : Option View). is_none o) is_open));
       })

@@ -2,7 +2,7 @@
 use Rattle.std.specs.Option.{option_map_or}
 use Rattle.std.specs.Global.{Global}
 use Rattle.std.specs.Vec.{with_item}
-use Rattle.std.specs.Prelude.{Vec, ◌≡◌, ◌≢◌, refl, ℕ, ◌+◌, ◌<◌, ◌++◌, true, List, [], ◌∷◌, None, Option, Some, is_some, length, option_and_then, option_map, slice_get, slice_index_or, slice_set}
+use Rattle.std.specs.Prelude.{Vec, ◌≡◌, ◌≢◌, refl, ℕ, ◌<◌, ◌++◌, true, List, [], ◌∷◌, None, Option, Some, is_some, length, option_and_then, option_map, slice_get, slice_index_or, slice_set}
 use Rattle.std.proofs.Common.{ap, append-nil, arith, inl, subst, sym, ◌∙◌}
 use Rattle.std.proofs.lemmas.List.{length-set}
 use Rattle.std.proofs.lemmas.Option.{none-some, same_Some, slice_get_within}

@@ -1,5 +1,7 @@
 -- What is settled in an instance, and when a flow is opened.
-use Rattle.std.specs.Prelude.{Bool, None, Option, Some, false, find, length, not, slice_get, true, ℕ, ◌+◌, ◌-◌, ◌≡◌}
+use Rattle.std.specs.Prelude.{Bool, Box, None, Option, Some, false, find, length, not, slice_get, true, ℕ, ◌+◌, ◌-◌, ◌≡◌}
+use Rattle.std.specs.declared.alloc.Global.{Global}
+use Rattle.tv_value.specs.declared.place.Place.{Place}
 use Rattle.tv_value.specs.Values.{Name}
 use Rattle.tv_gate.specs.Outcomes.{Giving}
 use Rattle.tv_flow.specs.Flows.{Step}
@@ -29,6 +31,7 @@ use Rattle.tv_open.specs.declared.firsts.Seeking.TheVariants as seeking
 use Rattle.tv_run.specs.Changes.{IsReadyToSettleIn}
 use Rattle.tv_run.specs.Rooms.{IsAsBefore}
 use Rattle.tv_run.specs.Standing.{Fits, Stands, StandsStill, run_of}
+use Rattle.tv_run.specs.Turns.{StaysAs}
 use Rattle.tv_run.specs.Walking.{IsNumber, MayBegin, is_sought, passes}
 use Rattle.tv_run.specs.declared.instances.Instance as code
 use Rattle.tv_run.specs.declared.run.OpenRun.{OpenRun}
@@ -36,10 +39,10 @@ use Rattle.tv_run.specs.declared.run.OpenRun.{OpenRun}
 abbrev pub bounces_job : ℕ → Entry
 bounces_job k = entry.Bounced k
 
--- the entry of what was settled in an instance
-abbrev pub level_entry : ℕ → Settled → Entry
-level_entry i (settled.Closed s q n) = entry.Closed i s q n
-level_entry i (settled.Passed s q) = entry.Passed i s q
+-- the entry of what was settled in an instance, with its place in this box
+abbrev pub level_entry : ℕ → Settled → Box Place Global → Entry
+level_entry i (settled.Closed s q n) b = entry.Closed i s (record b { value = q }) n
+level_entry i (settled.Passed s q) b = entry.Passed i s (record b { value = q })
 
 -- ---- in one instance
 
@@ -139,6 +142,11 @@ pub record IsReadyToSettleLevel (gives : Giving) (r : OpenRun) (i : ℕ) (e : Ev
 -- nothing is left to settle but flows to open
 abbrev pub IsQuietRun : Giving → OpenRun → Type 0
 IsQuietRun gives r = IsQuiet gives (run_view r.run) (past_of (run_of r))
+
+-- something is settled, or nothing is left to settle but flows to open
+abbrev pub SettlesBusy : Giving → OpenRun → OpenRun → Bool → Type 0
+SettlesBusy gives r s true = StandsStill gives s × Settles (run_of r) (run_of s)
+SettlesBusy gives r s false = StaysAs gives r s × IsQuietRun gives s
 
 -- job k is the first that goes on
 pub record GoesOnFirst (gives : Giving) (r : OpenRun) (k : ℕ) : Type 0 where

@@ -14,6 +14,8 @@ use Rattle.tv_run.specs.declared.run.OpenRun.{OpenRun}
 use Rattle.tv_entries.specs.declared.ticket.JobState.TheVariants as state
 use Rattle.tv_entries.specs.declared.ticket.Ticket.{Ticket}
 use Rattle.tv_entries.specs.declared.told.Accepted.{Accepted}
+use Rattle.tv_entries.specs.declared.told.Moved.{Moved}
+use Rattle.tv_entries.specs.declared.told.Moved.TheVariants as moved
 
 module _ (gives : Giving) where
   -- it stands as it did, but for rooms: no node came or went
@@ -36,6 +38,12 @@ module _ (gives : Giving) where
   abbrev pub SettlesTo : OpenRun → OpenRun → Bool → Type 0
   SettlesTo r s true = StandsStill gives s × Settles (run_of r) (run_of s)
   SettlesTo r s false = StaysAs r s × NothingSettles gives (run_of r)
+
+  -- something is settled; or nothing can be, and the first try on offer is handed out, or there is none
+  abbrev pub MovesTo : OpenRun → OpenRun → Moved → Type 0
+  MovesTo r s moved.Settled = SettlesTo r s true
+  MovesTo r s (moved.HandedOut t) = HandsOut r s (Some t) × NothingSettles gives (run_of r)
+  MovesTo r s moved.Nothing = HandsOut r s None × NothingSettles gives (run_of r)
 
   -- all tries that were out are taken back
   pub record RecallsTo (r s : OpenRun) (n : ℕ) : Type 0 where

@@ -40,7 +40,7 @@ impl OpenRun {
     }
 
     /// The ticket of a job's next try, which is on offer.
-    fn ticket_of(&self, job: u64) -> Ticket
+    pub(crate) fn ticket_of(&self, job: u64) -> Ticket
         requires { (gives : Giving) × (xs : Instances) × Stands gives self.now xs
             × IsOnOffer gives self.now xs job }
         ensures { (gives : Giving) (xs : Instances) → Stands gives self.now xs
@@ -81,7 +81,7 @@ impl OpenRun {
     }
 
     /// The try is out from now on.
-    fn begin(&mut self, ticket: Ticket)
+    pub(crate) fn begin(&mut self, ticket: Ticket)
         requires { (gives : Giving) × (xs : Instances) × Stands gives self.old xs
             × (self.old.outs ≡ None)
             × IsHandable gives self.old xs ticket }

@@ -19,14 +19,14 @@ ghost use Rattle.tv_run.specs.Changes.{ChangesTo, HasNestRoom, IsOpenHere, Takes
 ghost use Rattle.tv_run.specs.Looks.{OpensNumber};
 ghost use Rattle.tv_run.specs.Settlements.{EndsIn, EndsOrNot, GoesOnFirst, IsOpenIn, IsOpenerOf, IsQuietRun, OfOpen, OpensFirst, SettlesIn, has_flow_next, opened_flow};
 ghost use Rattle.tv_run.specs.Standing.{Fits, StandsOpen, names_of};
-ghost use Rattle.tv_run.specs.Turns.{SettlesTo, StaysAs};
+ghost use Rattle.tv_run.specs.Turns.{MovesTo, SettlesTo, StaysAs};
 
 use crate::ended::Ended;
 use crate::instances::Numbered;
 use crate::run::OpenRun;
 use tv_cell::Pieces;
 use tv_dispatch::{Kind, Plan};
-use tv_entries::Entry;
+use tv_entries::{Entry, Moved};
 use tv_open::Seeking;
 use tv_seats::Stage;
 use tv_value::{Copied, NoMemory};
@@ -82,6 +82,39 @@ impl OpenRun {
         }
         self.open_flow(job)?;
         Ok(true)
+    }
+
+    /// Opens the flow of the first job that goes on, where it has one next, or else hands out its next try.
+    pub(crate) fn open_or_hand_out(&mut self) -> Result<Moved, NoMemory>
+        requires { (gives : Giving) × StandsOpen gives self.old × IsQuietRun gives self.old }
+        ensures moved { IfOk result (λ m. (gives : Giving) → StandsOpen gives self.old
+            → IsQuietRun gives self.old
+            → MovesTo gives self.old self.new m) }
+        ensures refused { OnErr result ((gives : Giving) → StandsOpen gives self.old
+            → StaysAs gives self.old self.new) }
+    {
+        let first = self.first_going(Seeking::All);
+        match first {
+            Some(job) => self.open_or_begin(job),
+            None => Ok(Moved::Nothing),
+        }
+    }
+
+    /// Opens the flow of the first job that goes on, where it has one next, or else hands out its next try.
+    fn open_or_begin(&mut self, job: u64) -> Result<Moved, NoMemory>
+        requires { (gives : Giving) × GoesOnFirst gives self.old job }
+        ensures moved { IfOk result (λ m. (gives : Giving) → GoesOnFirst gives self.old job
+            → MovesTo gives self.old self.new m) }
+        ensures refused { OnErr result ((gives : Giving) → StandsOpen gives self.old
+            → StaysAs gives self.old self.new) }
+    {
+        if has_flow_next(self.tries_at(job), self.stage_of(job)) {
+            self.open_flow(job)?;
+            return Ok(Moved::Settled);
+        }
+        let ticket = self.ticket_of(job);
+        self.begin(ticket);
+        Ok(Moved::HandedOut(ticket))
     }
 
     /// Opens the flow of a job that has it next.

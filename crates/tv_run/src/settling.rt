@@ -10,37 +10,44 @@ ghost use Rattle.tv_forest.specs.Forest.{Instance, Instances};
 ghost use Rattle.tv_open.specs.Events.{TellsAt};
 ghost use Rattle.tv_run.specs.Changes.{IsOpenHere, IsReadyToSettleIn, TellsIn};
 ghost use Rattle.tv_run.specs.Rooms.{HasRoomIn};
-ghost use Rattle.tv_run.specs.Settlements.{BouncesIn, IsBouncedJob, IsOpenIn, IsReadyToSettleLevel, LeavesLast, NothingBouncesIn, OfOpen, SettlesIn, SettlesLast, level_entry};
+ghost use Rattle.tv_run.specs.Settlements.{BouncesIn, IsBouncedJob, IsOpenIn, IsReadyToSettleLevel, LeavesLast, NothingBouncesIn, OfOpen, SettlesBusy, SettlesIn, SettlesLast, level_entry};
 ghost use Rattle.tv_run.specs.Standing.{Fits, Stands, StandsOpen};
-ghost use Rattle.tv_run.specs.Turns.{SettlesTo, StaysAs};
+ghost use Rattle.tv_run.specs.Turns.{MovesTo, SettlesTo, StaysAs};
 
 use crate::run::OpenRun;
 use tv_cell::Pieces;
-use tv_entries::Entry;
+use tv_entries::{Entry, Moved};
 use tv_frame::Settled;
 use tv_results::bounced_pieces;
-use tv_value::NoMemory;
+use tv_value::{NoMemory, Place};
 
-/// The entry of what was settled in an instance.
-fn entry_of(instance: u64, settled: Settled) -> Entry
-    ensures { result ≡ level_entry instance settled }
+/// The entry of what was settled in an instance, with its place put here.
+fn entry_of(instance: u64, settled: Settled, kept: Box<Place>) -> Entry
+    ensures { result ≡ level_entry instance settled kept }
 {
+    let mut kept = kept;
     match settled {
         Settled::Closed {
             step,
             place,
             length,
-        } => Entry::Closed {
-            instance,
-            step,
-            place,
-            length,
-        },
-        Settled::Passed { step, place } => Entry::Passed {
-            instance,
-            step,
-            place,
-        },
+        } => {
+            *kept = place;
+            Entry::Closed {
+                instance,
+                step,
+                place: kept,
+                length,
+            }
+        }
+        Settled::Passed { step, place } => {
+            *kept = place;
+            Entry::Passed {
+                instance,
+                step,
+                place: kept,
+            }
+        }
     }
 }
 
@@ -55,13 +62,42 @@ impl OpenRun {
         ensures refused { OnErr result ((gives : Giving) → StandsOpen gives self.old
             → StaysAs gives self.old self.new) }
     {
+        if self.settle_busy()? {
+            return Ok(true);
+        }
+        self.open_first()
+    }
+
+    /// Settles one thing as `settle_one` does, or where nothing can be settled hands out the first try on offer. One walk to the
+    /// first job that goes on tells both whether its flow is opened and whether its try is handed out.
+    pub fn move_on(&mut self) -> Result<Moved, NoMemory>
+        requires { (gives : Giving) × StandsOpen gives self.old }
+        ensures moved { IfOk result (λ m. (gives : Giving) → StandsOpen gives self.old
+            → MovesTo gives self.old self.new m) }
+        ensures refused { OnErr result ((gives : Giving) → StandsOpen gives self.old
+            → StaysAs gives self.old self.new) }
+    {
+        if self.settle_busy()? {
+            return Ok(Moved::Settled);
+        }
+        self.open_or_hand_out()
+    }
+
+    /// Bounces a job, closes a list, passes a fault or ends an instance; `false` where none of these can be.
+    fn settle_busy(&mut self) -> Result<bool, NoMemory>
+        requires { (gives : Giving) × StandsOpen gives self.old }
+        ensures settled { IfOk result (λ b. (gives : Giving) → StandsOpen gives self.old
+            → SettlesBusy gives self.old self.new b) }
+        ensures refused { OnErr result ((gives : Giving) → StandsOpen gives self.old
+            → StaysAs gives self.old self.new) }
+    {
         for _ in 0..self.busy.len() {
             if self.settle_last()? {
                 return Ok(true);
             }
             self.leave_last();
         }
-        self.open_first()
+        Ok(false)
     }
 
     /// Settles one thing in the last instance in which something may be settled; `false` where nothing can be.
@@ -182,9 +218,10 @@ impl OpenRun {
         ensures refused { OnErr result ((gives : Giving) → StandsOpen gives self.old
             → StaysAs gives self.old self.new) }
     {
+        let kept = Box::new(self.alloc, Place::top(self.alloc))?;
         self.reserve_in(instance, more)?;
         let settled = self.told_level(instance);
-        self.note(entry_of(instance, settled));
+        self.note(entry_of(instance, settled, kept));
         Ok(())
     }
 

@@ -10,5 +10,6 @@ pub mod OfAsked
 pub mod OfAnswers
 pub mod OfTries
 pub mod OfStarts
+pub mod OfMoving
 pub mod OfOrders
 pub mod OfReadings

@@ -1,6 +1,6 @@
 -- Where nothing can be settled, nothing is out and nothing is on offer, the run is done.
 use Rattle.std.specs.Option.{option_map_or}
-use Rattle.std.specs.Prelude.{[], false, nat_le, refl, true, ◌&&◌, ◌+◌, ◌∷◌, ◌≡◌, ◌≤◌}
+use Rattle.std.specs.Prelude.{false, nat_le, refl, true, ◌&&◌, ◌≡◌, ◌≤◌}
 use Rattle.std.proofs.Common.{ap, sym, ◌∙◌}
 use Rattle.std.proofs.lemmas.Bool.{leb-true}
 use Rattle.tv_outcomes.proofs.Read.{named-pass}

@@ -1,6 +1,6 @@
 -- A try that was just handed out is out, and no other; once its outcome is accepted nothing is.
 use Rattle.std.specs.Option.{option_map_or}
-use Rattle.std.specs.Prelude.{Bool, List, None, Option, Some, [], cond, count_by, false, find, if◌then◌else◌, is_some, length, option_and_then, refl, slice_get, suc, true, unwrap_or, zero, ℕ, ◌&&◌, ◌+◌, ◌<◌, ◌∷◌, ◌≡◌, ◌≤◌}
+use Rattle.std.specs.Prelude.{Bool, List, None, Option, Some, [], cond, count_by, false, find, if◌then◌else◌, is_some, length, option_and_then, refl, slice_get, suc, true, unwrap_or, zero, ℕ, ◌&&◌, ◌<◌, ◌∷◌, ◌≡◌, ◌≤◌}
 use Rattle.std.proofs.Common.{ap, arith, inl, inr, subst, sym, ◌∙◌}
 use Rattle.std.proofs.lemmas.Bool.{lt-ltb}
 use Rattle.tv_entries.proofs.OfPasts.{and-some, name-more}

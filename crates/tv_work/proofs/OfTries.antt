@@ -1,9 +1,8 @@
 -- A job of a meaning has no two asks with the same activity and attempt, and where it isn't bounced it has an ask or opens a flow.
-use Rattle.std.specs.Prelude.{Bool, List, [], false, is_some, true, ◌≡◌}
+use Rattle.std.specs.Prelude.{List, [], false, is_some, true, ◌≡◌}
 use Rattle.tv_gate.specs.Outcomes.{Giving}
 use Rattle.tv_flow.specs.Flows.{Document}
 use Rattle.tv_model.specs.Jobs.{Job}
-use Rattle.tv_model.specs.Made.{Meaning}
 use Rattle.tv_model.specs.Meanings.{meaning}
 use Rattle.tv_model.specs.Members.{In}
 use Rattle.tv_model.specs.Turns.{is_bounced}

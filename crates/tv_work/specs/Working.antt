@@ -1,5 +1,5 @@
 -- A run that goes on, and one that is worked off.
-use Rattle.std.specs.Prelude.{Bool, false, is_some, true, ℕ, ◌<◌, ◌≡◌, ◌≤◌, count_by}
+use Rattle.std.specs.Prelude.{Bool, None, Option, Some, false, is_some, true, ℕ, ◌<◌, ◌≡◌, ◌≤◌, count_by}
 use Rattle.tv_value.specs.Orders.{same_job}
 use Rattle.tv_gate.specs.Outcomes.{Giving}
 use Rattle.tv_flow.specs.Formed.{is_formed}
@@ -10,7 +10,8 @@ use Rattle.tv_history.specs.Alone.{IsFirstPart}
 use Rattle.tv_history.specs.Entries.{is_out}
 use Rattle.tv_history.specs.Histories.{is_done}
 use Rattle.tv_entries.specs.Runs.{IsLegalRun, Run, meant, name_at, past_of}
-use Rattle.tv_entries.specs.Calls.{out_count, try_if_out}
+use Rattle.tv_entries.specs.Calls.{Settles, out_count, try_if_out}
+use Rattle.tv_entries.specs.Moves.{IsAtRest, IsHandingOut}
 use Rattle.tv_entries.specs.Counted.{is_acceptance}
 use Rattle.tv_entries.specs.declared.entry.Entry.{Entry}
 use Rattle.tv_entries.specs.declared.entry.Entry.TheVariants as entry
@@ -57,6 +58,17 @@ pub record IsWorkedOff (gives : Giving) (r : Run) : Type 0 where
   pub done : is_done (past_of r) ≡ true
   pub none_out : out_count gives r ≡ 0
   pub attempts : count_by is_acceptance r.entries ≡ (totals (meant gives r).jobs).attempts
+
+-- after one move: something was settled, or nothing could be, and this try was handed out, or none was on offer
+abbrev pub IsMoving : Giving → Run → Run → Option Ticket → Bool → Type 0
+IsMoving gives r s o true = Settles r s
+IsMoving gives r s None false = IsAtRest gives r s
+IsMoving gives r s (Some t) false = IsHandingOut gives r s t
+
+-- all that can be settled is, and the first try on offer alone is out; or where none is, it is worked off
+abbrev pub IsHanded : Giving → Run → Option Ticket → Type 0
+IsHanded gives r None = IsWorkedOff gives r
+IsHanded gives r (Some t) = IsOnlyOut gives r t
 
 -- after a turn that asked for something the run is further, and after one that had nothing to ask for it is worked
 -- off

@@ -1,15 +1,14 @@
 //! One worker alone.
 ghost use Rattle.std.specs.Prelude.{◌≡◌, ◌≤◌, IfOk, OnErr, OnOk, true};
-ghost use Rattle.tv_entries.specs.Calls.{NothingSettles, out_count};
+ghost use Rattle.tv_entries.specs.Calls.{out_count};
 ghost use Rattle.tv_entries.specs.Runs.{IsLegalRun};
-ghost use Rattle.tv_entries.specs.Settlements.{IsSettling};
 ghost use Rattle.tv_work.specs.Asked.{AsksABeginning, AsksAtMostOneMore, AsksEach, AsksInOrder, accepted_tries};
 ghost use Rattle.tv_work.specs.ByOne.{StaysByOne};
 ghost use Rattle.tv_work.specs.InOrder.{AcceptsABeginning, AcceptsInOrder, HasOnlySettled};
-ghost use Rattle.tv_work.specs.Working.{GoesOn, IsFree, IsOnlyOut, IsTurn, IsWorkedOff};
+ghost use Rattle.tv_work.specs.Working.{GoesOn, IsFree, IsHanded, IsMoving, IsOnlyOut, IsTurn, IsWorkedOff};
 
 use std::alloc::Global;
-use tv_board::{Board, Ticket};
+use tv_board::{Board, Moved, Ticket};
 use tv_gate::{Asker, Services};
 use tv_value::NoMemory;
 
@@ -67,8 +66,7 @@ fn turn<V: Services, A: Asker<Services = V>>(
         (A.calls asker.new) board.old board.new) }
     ensures by_one { StaysByOne V.gives board.old board.new }
 {
-    settle_all(board)?;
-    match board.hand_out() {
+    match settle_all(board)? {
         Some(ticket) => {
             ask_for(alloc, board, asker, &ticket)?;
             Ok(true)
@@ -77,26 +75,38 @@ fn turn<V: Services, A: Asker<Services = V>>(
     }
 }
 
-/// Settles all that can be settled.
-fn settle_all<V: Services>(board: &mut Board<V>) -> Result<(), NoMemory>
+/// Settles all that can be settled, and then hands out the first try on offer: `None` where none is.
+fn settle_all<V: Services>(board: &mut Board<V>) -> Result<Option<Ticket>, NoMemory>
     requires { IsFree V.gives board.old }
     ensures goes_on { GoesOn board.old board.new }
-    ensures free { IsFree V.gives board.new }
-    ensures settled { OnOk result (NothingSettles V.gives board.new) }
+    ensures legal { IsLegalRun V.gives board.new }
+    ensures handed { IfOk result (IsHanded V.gives board.new) }
+    ensures few { out_count V.gives board.new ≤ 1 }
     ensures none_accepted { accepted_tries board.new ≡ accepted_tries board.old }
     ensures by_one { StaysByOne V.gives board.old board.new }
 {
-    'settling: while settle(board)? {}
-    Ok(())
+    let mut handed = None;
+    'settling: while move_on(board, &mut handed)? {}
+    Ok(handed)
 }
 
-/// Settles one thing, and tells whether there was one.
-fn settle<V: Services>(board: &mut Board<V>) -> Result<bool, NoMemory>
-    ensures settled { IfOk result (λ more. IsSettling V.gives board.old board.new more) }
+/// Settles one thing, and tells whether there was one; where there was none, the first try on offer is handed out.
+fn move_on<V: Services>(board: &mut Board<V>, handed: &mut Option<Ticket>) -> Result<bool, NoMemory>
+    ensures moved { IfOk result (λ more. IsMoving V.gives board.old board.new handed.new more) }
     ensures refused { OnErr result (board.new ≡ board.old) }
     ensures legal { IsLegalRun V.gives board.new }
 {
-    board.settle_one()
+    match board.move_on()? {
+        Moved::Settled => Ok(true),
+        Moved::HandedOut(ticket) => {
+            *handed = Some(ticket);
+            Ok(false)
+        }
+        Moved::Nothing => {
+            *handed = None;
+            Ok(false)
+        }
+    }
 }
 
 /// Asks for a try that was just handed out, and has the outcome accepted. Want of memory is the one

@@ -117,6 +117,19 @@ fn a_fault_comes_out_of_an_instance(rt: HostRuntime) -> Result<(), Fail> {
     )
 }
 
+// The same board, moved on: it opens flows and hands out in their order, and what is out doesn't hold it up.
+#[test]
+fn a_board_of_nested_flows_moves_on(rt: HostRuntime) -> Result<(), Fail> {
+    nests(
+        &rt,
+        rt.alloc(),
+        (CHAIN, FAILURE, "q", r#"["true","no"]"#),
+        "move move move move move move move ask:2/0/0 ask:3/0/0 accept:0 move move move accept:1",
+        "settles settles settles 2/0/0 settles 3/0/0 none failed settles settles none good ",
+        "{\"outputs\":{\"out\":[{\"error\":{\"at\":\"q[0]\",\"depth\":0,\"from\":[\"n[0]/f[]\"],\"why\":\"bounced\"}},\"NO\"]},\"totals\":{\"attempts\":3,\"bounced\":1,\"failed\":1,\"jobs\":6}}\n",
+    )
+}
+
 // A nested step waits for the step that it runs after, and a step that runs after it for all its
 // instances.
 #[test]

@@ -19,6 +19,21 @@ fn an_answer_is_accepted_once(rt: HostRuntime) -> Result<(), Fail> {
     )
 }
 
+// A board that moves on settles as long as it can, hands out what is on offer, and rests.
+#[test]
+fn a_board_moves_on(rt: HostRuntime) -> Result<(), Fail> {
+    let alloc = rt.alloc();
+    let text = document(alloc, "{\"x\":0}", CAPITALS, "u", "{\"x\":\"a\"}")?;
+    plays(
+        &rt,
+        alloc,
+        text.as_str(),
+        "move move ask:0/0/0 move accept:0 move move done",
+        "0/0/0 none none good settles none true ",
+        "{\"outputs\":{\"out\":\"A\"},\"totals\":{\"attempts\":1,\"bounced\":0,\"failed\":0,\"jobs\":1}}\n",
+    )
+}
+
 // A try that was taken back isn't out, and its answer is accepted once it is out again.
 #[test]
 fn a_recalled_try_is_handed_out_again(rt: HostRuntime) -> Result<(), Fail> {

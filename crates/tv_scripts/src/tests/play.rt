@@ -8,6 +8,7 @@
 //! | `settle` | settles one thing | whether there was one |
 //! | `settles` | settles all that can be settled | how many |
 //! | `hand` | hands out a try | its ticket, or `none` |
+//! | `move` | settles one thing, or where nothing can be hands out a try | `settles`, the ticket, or `none` |
 //! | `recall` | takes back all that is out | how many |
 //! | `done` | | whether the run is done |
 //! | `totals` | | attempts, bounced, failed, jobs |
@@ -20,7 +21,7 @@
 use crate::tests::telling::{push_history, push_state, push_task, push_ticket};
 use std::alloc::Global;
 use std::fmt::Write;
-use tv_board::{Accepted, Answer, Board, Refused, Ticket, ask, ask_alone};
+use tv_board::{Accepted, Answer, Board, Moved, Refused, Ticket, ask, ask_alone};
 use tv_check::CheckedRun;
 use tv_gate::GateAsker;
 use tv_json::job_text;
@@ -83,6 +84,7 @@ impl Play {
             "settle" => self.settle(),
             "settles" => self.settle_all(),
             "hand" => self.hand(),
+            "move" => self.move_on(),
             "recall" => self.recall(),
             "done" => self.tell_done(),
             "totals" => self.tell_totals(),
@@ -134,6 +136,14 @@ impl Play {
             }
         }
         Ok(())
+    }
+
+    fn move_on(&mut self) -> Result<(), NoMemory> {
+        match self.board.move_on()? {
+            Moved::Settled => Ok(self.said.push_str("settles ")?),
+            Moved::HandedOut(ticket) => Ok(push_ticket(&mut self.said, ticket)?),
+            Moved::Nothing => Ok(self.said.push_str("none ")?),
+        }
     }
 
     fn hand(&mut self) -> Result<(), NoMemory> {

@@ -1,4 +1,4 @@
-use Rattle.std.proofs.Common.{ap, map, refl, slice_get, ◌≡◌, ◌∙◌}
+use Rattle.std.proofs.Common.{ap, map, refl, ◌≡◌, ◌∙◌}
 use Rattle.std.specs.Prelude.{codes}
 use Rattle.std.proofs.lemmas.Result.{IfOk-weaker}
 use Rattle.tv_gate.specs.Outcomes.{Giving}

@@ -1,4 +1,4 @@
-use Rattle.std.proofs.Common.{arith, false, sym, ◌+◌, ◌<◌}
+use Rattle.std.proofs.Common.{arith, false, sym, ◌+◌}
 use Rattle.tv_cell.specs.PieceValues.{piece_values}
 use Rattle.tv_run.specs.Accepting.{with_failed}
 use Rattle.tv_run.proofs.OfAccepted.{accepts-settled, failed-counted}

@@ -1,4 +1,3 @@
-use Rattle.std.proofs.Common.{sym}
 use Rattle.std.proofs.lemmas.Option.{slice_get_within}
 use Rattle.tv_check.specs.RunViews.{run_view}
 use Rattle.tv_run.proofs.OfFirstBounced.{first-bounced, open-read}

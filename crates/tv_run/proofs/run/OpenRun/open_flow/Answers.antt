@@ -1,5 +1,5 @@
 use Rattle.std.specs.Prelude.{[], vec_capacity, ◌++◌, ◌∷◌, ◌≡◌}
-use Rattle.std.proofs.Common.{ap, arith, length, refl, subst, sym, ◌+◌, ◌∙◌}
+use Rattle.std.proofs.Common.{ap, arith, length, refl, subst, sym, ◌∙◌}
 use Rattle.std.proofs.lemmas.Option.{slice_get_within}
 use Rattle.tv_check.specs.RunViews.{run_view}
 use Rattle.tv_cell.specs.PieceValues.{piece_values}

@@ -1,9 +1,8 @@
-use Rattle.std.proofs.Common.{ap, arith, refl, subst, sym, ◌∙◌}
+use Rattle.std.proofs.Common.{arith, refl}
 use Rattle.std.specs.Vec.{with_item}
 use Rattle.std.proofs.lemmas.List.{length-set}
 use Rattle.tv_check.specs.RunViews.{run_view}
 use Rattle.tv_cell.specs.PieceValues.{piece_values}
-use Rattle.tv_open.specs.Standing.{IsOpen}
 use Rattle.tv_run.proofs.OfItself.{flow-low, number-low, open-low, open-read, plan-is, with_open}
 use Rattle.tv_run.proofs.OfRoomed.{ready-to_give, roomed, seat-read, step-read, still-open}
 use Rattle.tv_run.proofs.OfRooms.{before-rooms, before-then}

@@ -1,5 +1,5 @@
 use Rattle.std.specs.Vec.{with_item}
-use Rattle.std.proofs.Common.{ap, arith, refl, slice_get, subst, sym, Some, ◌<◌, ◌≡◌, ◌∙◌}
+use Rattle.std.proofs.Common.{ap, arith, refl, slice_get, sym, ◌∙◌}
 use Rattle.tv_open.specs.declared.open.Open.{Open}
 use Rattle.tv_seats.specs.Seats.{room_at}
 use Rattle.tv_run.proofs.OfOpenSet.{open-in_set}

@@ -1,4 +1,4 @@
-use Rattle.std.proofs.Common.{arith, ap, length, refl, sym, ◌-◌, ◌≡◌, ◌∙◌}
+use Rattle.std.proofs.Common.{arith, length, refl, sym, ◌-◌, ◌≡◌, ◌∙◌}
 use Rattle.std.proofs.lemmas.Bool.{eq-eqb, eqb-true}
 use Rattle.std.proofs.lemmas.Result.{IfOk-weaker}
 use Rattle.tv_gate.specs.Outcomes.{Giving}

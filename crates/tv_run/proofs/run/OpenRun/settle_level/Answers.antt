@@ -13,7 +13,7 @@ reserve_in-requires c =
 
 pub returns-in_err-reserve_in-clause-refused : goal.returns-in_err-reserve_in-clause-refused
 returns-in_err-reserve_in-clause-refused c =
-    on-err c.from_residual.result _
+    on-err c.from_residual-in_err-reserve_in.result _
     (λ gives so.
     let r = c.args.self.now in
     let m = c.reserve_in.new.self in
@@ -65,5 +65,5 @@ returns-clause-settled c = λ gives e q.
     let told =
     c.told_level-settled.ensures q.here.instances q.here.instance q.here.view e more
     (here-then gives r i more e q m rooms) (ready-here gives r i more e q m rooms) room in
-    level-settled gives r i more e q m rooms room t told.0 c.note.new.self c.told_level-settled.result told.1
+    level-settled gives r i more e q m rooms room t told.0 c.note.new.self c.told_level-settled.result c.in_ok-kept.kept told.1
     (subst (IsNoted t c.note.new.self) c.entry_of.ensures c.note.ensures)

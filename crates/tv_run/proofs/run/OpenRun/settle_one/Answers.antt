@@ -1,121 +1,49 @@
-use Rattle.std.proofs.Common.{ap, arith, false, length, refl, subst, true, ◌<◌, ◌≡◌}
+use Rattle.std.proofs.Common.{subst}
 use Rattle.std.proofs.lemmas.Result.{IfOk-weaker, on_err_weaker}
 use Rattle.tv_gate.specs.Outcomes.{Giving}
-use Rattle.tv_run.specs.Settlements.{IsQuietRun, SettlesLast}
+use Rattle.tv_run.specs.Settlements.{IsQuietRun, SettlesBusy}
 use Rattle.tv_run.specs.Standing.{StandsOpen}
 use Rattle.tv_run.specs.Turns.{SettlesTo}
-use Rattle.tv_run.proofs.OfLasts.{none-there}
-use Rattle.tv_run.proofs.OfLeft.{left-stays}
-use Rattle.tv_run.proofs.OfSettled.{quiet-run, settles-from, stays-from, when-refused}
+use Rattle.tv_run.proofs.OfSettled.{settles-from, stays-from, when-refused}
 use Rattle.tv_run.proofs.run.OpenRun.settle_one.Goals as goal
 
-pub loop-init : goal.loop-init
-loop-init c = record {
-  stays = λ gives so. record { stands = so; same = refl; regions = λ n. refl };
-  left = omega arith;
-}
-
-pub settle_last-requires : goal.settle_last-requires
-settle_last-requires c =
-    let r = c.args.self.now in
-    let gives = c.requires.0 in
-    let left = c.loop.invariant.left in (
-      gives,
-      (c.loop.invariant.stays gives c.requires.1).stands,
-      omega (arith, left, c.loop-test.true, c.len-end.ensures, r.busy.ok.0),
-    )
-
-pub returns-in_err-settle_last-clause-refused : goal.returns-in_err-settle_last-clause-refused
-returns-in_err-settle_last-clause-refused c =
-    when-refused c.from_residual.result
-    (λ gives so.
-    let now = c.loop.invariant.stays gives so in
-    stays-from gives c.args.self.now c.loop.self c.settle_last.new.self now
-    (c.in_err-settle_last.ensures.refused gives now.stands))
+pub returns-in_err-settle_busy-clause-refused : goal.returns-in_err-settle_busy-clause-refused
+returns-in_err-settle_busy-clause-refused c =
+    when-refused c.from_residual.result (λ gives so. c.in_err-settle_busy.ensures.refused gives so)
 
 pub returns-then-branch-clause-settled : goal.returns-then-branch-clause-settled
 returns-then-branch-clause-settled c = λ gives so.
-    let now = c.loop.invariant.stays gives so in
-    settles-from gives c.args.self.now c.loop.self c.settle_last.new.self true now
-    (subst (SettlesLast gives c.loop.self c.settle_last.new.self) c.if-branch.true
-    (c.in_ok-settle_last.ensures.settled gives now.stands))
-
-pub leave_last-requires-clause-busy : goal.leave_last-requires-clause-busy
-leave_last-requires-clause-busy c =
-    let r = c.args.self.now in
-    let gives = c.requires.0 in
-    let now = c.loop.invariant.stays gives c.requires.1 in
-    let last =
-    subst (SettlesLast gives c.loop.self c.settle_last.new.self) c.if-branch.false
-    (c.in_ok-settle_last.ensures.settled gives now.stands) in
-    let left = c.loop.invariant.left in
-    let same = ap length last.1 in
-    omega (arith, left, same, c.loop-test.true, c.len-end.ensures, r.busy.ok.0)
-
-pub leave_last-requires-clause-fits : goal.leave_last-requires-clause-fits
-leave_last-requires-clause-fits c =
-    let gives = c.requires.0 in
-    let now = c.loop.invariant.stays gives c.requires.1 in
-    let last =
-    subst (SettlesLast gives c.loop.self c.settle_last.new.self) c.if-branch.false
-    (c.in_ok-settle_last.ensures.settled gives now.stands) in
-    (now.stands.0, last.0.fits now.stands.0 now.stands.1.fits)
-
-pub loop-preserved : goal.loop-preserved
-loop-preserved c = record {
-  stays = λ gives so.
-      let now = c.loop.invariant.stays gives so in
-      let last =
-      subst (SettlesLast gives c.loop.self c.settle_last.new.self) c.if-branch.false
-      (c.in_ok-settle_last.ensures.settled gives now.stands) in
-      stays-from gives c.args.self.now c.loop.self c.leave_last.new.self now
-      (left-stays gives c.loop.self c.settle_last.new.self c.leave_last.new.self now.stands last c.leave_last.ensures);
-  left =
-      let gives = c.requires.0 in
-      let now = c.loop.invariant.stays gives c.requires.1 in
-      let last =
-      subst (SettlesLast gives c.loop.self c.settle_last.new.self) c.if-branch.false
-      (c.in_ok-settle_last.ensures.settled gives now.stands) in
-      let same = ap length last.1 in
-      let left = c.loop.invariant.left in
-      let fewer = c.leave_last.ensures.fewer in
-      omega (arith, left, same, fewer);
-}
+    subst (SettlesBusy gives c.args.self.now c.settle_busy.new.self) c.if-branch.true
+    (c.in_ok-settle_busy.ensures.settled gives so)
 
 pub open_first-requires : goal.open_first-requires
 open_first-requires c =
-    let r = c.args.self.now in
     let gives = c.requires.0 in
-    let now = c.loop.invariant.stays gives c.requires.1 in
-    let left = c.loop.invariant.left in
-    let none : length c.loop.self.busy.items ≡ 0 =
-    omega (arith, left, c.loop-test.false, c.len-end.ensures, r.busy.ok.0) in (
-      gives,
-      now.stands,
-      quiet-run gives c.loop.self now.stands.0 now.stands.1 (none-there c.loop.self.busy.items none),
-    )
+    let quiet =
+    subst (SettlesBusy gives c.args.self.now c.settle_busy.new.self) c.if-branch.false
+    (c.in_ok-settle_busy.ensures.settled gives c.requires.1) in
+    (gives, quiet.0.stands, quiet.1)
 
 pub returns-clause-settled : goal.returns-clause-settled
 returns-clause-settled c =
     let r = c.args.self.now in
-    let m = c.loop.self in
+    let m = c.settle_busy.new.self in
     let s = c.open_first.new.self in
-    let left = c.loop.invariant.left in
-    let none : length m.busy.items ≡ 0 =
-    omega (arith, left, c.loop-test.false, c.len-end.ensures, r.busy.ok.0) in
     IfOk-weaker c.open_first.result
     (λ b. (gives : Giving) → StandsOpen gives m → IsQuietRun gives m → SettlesTo gives m s b)
     (λ b. (gives : Giving) → StandsOpen gives r → SettlesTo gives r s b)
     (λ b h gives so.
-    let now = c.loop.invariant.stays gives so in
-    settles-from gives r m s b now
-    (h gives now.stands (quiet-run gives m now.stands.0 now.stands.1 (none-there m.busy.items none))))
+    let quiet =
+    subst (SettlesBusy gives r m) c.if-branch.false (c.in_ok-settle_busy.ensures.settled gives so) in
+    settles-from gives r m s b quiet.0 (h gives quiet.0.stands quiet.1))
     c.open_first.ensures.settled
 
 pub returns-clause-refused : goal.returns-clause-refused
 returns-clause-refused c =
     on_err_weaker c.open_first.result
     (λ h gives so.
-    let now = c.loop.invariant.stays gives so in
-    stays-from gives c.args.self.now c.loop.self c.open_first.new.self now (h gives now.stands))
+    let quiet =
+    subst (SettlesBusy gives c.args.self.now c.settle_busy.new.self) c.if-branch.false
+    (c.in_ok-settle_busy.ensures.settled gives so) in
+    stays-from gives c.args.self.now c.settle_busy.new.self c.open_first.new.self quiet.0 (h gives quiet.0.stands))
     c.open_first.ensures.refused

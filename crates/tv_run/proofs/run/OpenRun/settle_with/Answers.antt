@@ -1,4 +1,4 @@
-use Rattle.std.proofs.Common.{ap, arith, length, subst, ◌+◌, ◌<◌, ◌≡◌, ◌≤◌}
+use Rattle.std.proofs.Common.{ap, arith, length, subst}
 use Rattle.std.specs.Prelude.{vec_capacity}
 use Rattle.tv_cell.specs.PieceValues.{piece_values}
 use Rattle.tv_instance.specs.Events.{gave}

@@ -1,4 +1,4 @@
-use Rattle.std.proofs.Common.{ap, arith, refl, subst, sym, ◌∙◌}
+use Rattle.std.proofs.Common.{ap, arith, refl, ◌∙◌}
 use Rattle.std.specs.Vec.{with_item}
 use Rattle.tv_check.specs.RunViews.{run_view}
 use Rattle.tv_run.proofs.OfGiving.{can-follow, tells-then, to-settle}

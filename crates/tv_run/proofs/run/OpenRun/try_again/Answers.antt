@@ -1,4 +1,4 @@
-use Rattle.std.proofs.Common.{ap, arith, length, subst, ◌+◌, ◌<◌, ◌≡◌, ◌≤◌}
+use Rattle.std.proofs.Common.{ap, arith, length, subst}
 use Rattle.std.specs.Prelude.{vec_capacity}
 use Rattle.tv_seats.specs.Seats.{with_stage}
 use Rattle.tv_seats.specs.declared.stage.Stage.TheVariants as stage
