@@ -7,8 +7,11 @@ use Rattle.tv_entries.specs.Calls.{IsNothingOffered, hands_out, out_count, settl
 use Rattle.tv_entries.specs.Refusals.{IsAccepting, accepts, is_right}
 use Rattle.tv_entries.specs.Runs.{Appends, IsLegalRun, Run}
 use Rattle.tv_entries.specs.Settlements.{IsSettling}
+use Rattle.tv_entries.specs.Moves.{IsMove}
 use Rattle.tv_entries.specs.Recalls.{IsRecalled, recalls}
 use Rattle.tv_entries.specs.declared.told.Accepted.{Accepted}
+use Rattle.tv_entries.specs.declared.told.Moved.{Moved}
+use Rattle.tv_entries.specs.declared.told.Moved.TheVariants as moved
 use Rattle.tv_entries.specs.declared.entry.Entry.{Entry}
 use Rattle.tv_entries.specs.declared.ticket.Ticket.{Ticket}
 use Rattle.tv_history.specs.Alone.{IsFirstPart}
@@ -20,6 +23,7 @@ pub data Call : Type 0 where
   hand_out : Option Ticket → Call
   accept : Question → Outcome → Option Accepted → Call
   recall_all : Option ℕ → Call
+  move_on : Option Moved → Call
 
 -- what it appends or answers, as its contract says, by the run before and after it
 abbrev pub IsCall : Giving → Run → Run → Call → Type 0
@@ -31,6 +35,8 @@ IsCall gives r s (accept q o (Some a)) = IsAccepting gives r s q o a
 IsCall gives r s (accept q o None) = s ≡ r
 IsCall gives r s (recall_all (Some n)) = (n ≡ out_count gives r) × IsRecalled r s n
 IsCall gives r s (recall_all None) = s ≡ r
+IsCall gives r s (move_on (Some m)) = IsMove gives r s m
+IsCall gives r s (move_on None) = s ≡ r
 
 -- these calls, one after another, each of which says that the run after it is legal
 abbrev pub AreCalls : Giving → Run → Run → List Call → Type 0
@@ -48,6 +54,10 @@ IsEntryOf (accept q o (Some a)) es = es ≡ accepts q.ticket (is_right q o) ∷ 
 IsEntryOf (accept q o None) es = es ≡ []
 IsEntryOf (recall_all (Some (suc n))) es = es ≡ recalls (suc n) ∷ []
 IsEntryOf (recall_all _) es = es ≡ []
+IsEntryOf (move_on (Some moved.Settled)) es = (e : Entry) × (es ≡ e ∷ []) × (settles e ≡ true)
+IsEntryOf (move_on (Some (moved.HandedOut t))) es = es ≡ hands_out t ∷ []
+IsEntryOf (move_on (Some moved.Nothing)) es = es ≡ []
+IsEntryOf (move_on None) es = es ≡ []
 
 -- their entries, in order
 abbrev pub AreEntriesOf : List Call → List Entry → Type 0
