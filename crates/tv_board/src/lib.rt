@@ -11,9 +11,9 @@
 //!
 //! - `history`, `is_done` are constant, `name_of` linear in the name, `outputs` linear in them
 //! - `task` is linear in what is asked; `ask` and `ask_alone` cost the one call that they make
-//! - `hand_out` and `settle_one` walk down to the first job that goes on, by the steps before it;
-//!   `settle_one` looks at all steps of each instance in which something happened. Both leave out
-//!   the first steps of an instance that are passed, all jobs of which are out or settled: they are
+//! - `hand_out`, `settle_one` and `move_on` walk down to the first job that goes on, by the steps
+//!   before it, once each; `settle_one` and `move_on` look at all steps of each instance in which
+//!   something happened. All leave out the first steps of an instance that are passed, all jobs of which are out or settled: they are
 //!   so from when a job behind them is taken until one of theirs or before them becomes known,
 //!   comes back or opens its flow. Then the calls cost what they change; a job that is bounced
 //!   costs what it binds too, and an instance that is opened a look at each step of its flow, and

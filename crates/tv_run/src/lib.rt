@@ -17,7 +17,7 @@
 //! - `handing`: handing out, and taking back
 //! - `results`: a job given its result, and what follows
 //! - `settling`: a job bounced, a list closed or a fault passed
-//! - `nesting`: an instance opened or ended
+//! - `nesting`: an instance opened or ended; where no flow is next, a try handed out
 //! - `accepting`: an outcome accepted
 //! - `ended`: what is left of the main instance once it has ended
 //! - `outputs`: what a run gives once it is done, and its totals so far

@@ -100,7 +100,7 @@ impl OpenRun {
         }
     }
 
-    /// Opens the flow of the first job that goes on, where it has one next, or else hands out its next try.
+    /// Opens the flow of this job, where it has one next, or else hands out its next try.
     fn open_or_begin(&mut self, job: u64) -> Result<Moved, NoMemory>
         requires { (gives : Giving) × GoesOnFirst gives self.old job }
         ensures moved { IfOk result (λ m. (gives : Giving) → GoesOnFirst gives self.old job
