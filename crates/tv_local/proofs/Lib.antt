@@ -1,6 +1,7 @@
 pub mod OfViews
 pub mod OfNumbers
 pub mod OfComplaints
+pub mod OfSplits
 pub mod OfTexts
 pub mod OfLists
 pub mod Examples
