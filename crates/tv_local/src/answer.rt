@@ -27,6 +27,13 @@ pub(crate) fn good_text(alloc: Global, text: String) -> Result<Outcome, NoMemory
     good_value(alloc, Value::Text(Text::of(text)))
 }
 
+/// A copy of a text.
+pub(crate) fn good_copy(alloc: Global, text: &str) -> Result<Outcome, NoMemory>
+    ensures { IfOk result (λ o. outcome_view o ≡ one_text text.now) }
+{
+    good_value(alloc, Value::Text(Text::from_str(alloc, text)?))
+}
+
 /// A list.
 pub(crate) fn good_list(alloc: Global, values: Vec<Value>) -> Result<Outcome, NoMemory>
     ensures { IfOk result (λ o. outcome_view o ≡ good (list_value (trees_of (map view values.items)) ∷ [])) }

@@ -8,7 +8,7 @@ ghost use Rattle.tv_local.specs.Numbers.{count_up, span};
 ghost use Rattle.tv_local.specs.Table.{number_or, range_of, range_limit, flaky_of};
 ghost use Rattle.tv_local.specs.Reading.{text_of, number_of};
 
-use crate::answer::{good_list, good_number, good_text, refused};
+use crate::answer::{good_copy, good_list, good_number, refused};
 use crate::input::{number_of, text_of};
 use crate::list::push_string;
 use std::alloc::Global;
@@ -85,7 +85,7 @@ pub(crate) fn flaky(
     ensures { IfOk result (λ o. outcome_view o ≡ flaky_of (text_of (view text.now)) (number_of (view count.now)) attempt) }
 {
     if i64::from(attempt) >= number_of(count) {
-        return good_text(alloc, String::from_str(alloc, text_of(text))?);
+        return good_copy(alloc, text_of(text));
     }
     let why = format!(in alloc; "flaky attempt {attempt}")?;
     Ok(Outcome::Bad(Text::of(why)))

@@ -19,7 +19,8 @@ use tv_value::{NoMemory, Text, Value};
 pub(crate) fn push_text(alloc: Global, values: &mut Vec<Value>, text: &str) -> Result<(), NoMemory>
     ensures { OnOk result (map view values.new.items ≡ map view values.old.items ++ text_value text.now ∷ []) }
 {
-    push_string(values, String::from_str(alloc, text)?)
+    values.push(Value::Text(Text::from_str(alloc, text)?))?;
+    Ok(())
 }
 
 /// Puts a text at the end, without a copy.

@@ -8,10 +8,11 @@ ghost use Rattle.tv_local.specs.Texts.{joined, parts};
 ghost use Rattle.tv_local.specs.Reading.{text_of, texts_of};
 ghost use Rattle.tv_local.specs.Table.{with_one, one_text, split_by};
 
-use crate::answer::{good_count, good_list, good_text, refused};
+use crate::answer::{good_copy, good_count, good_list, good_text, refused};
 use crate::input::{items_of, text_of};
 use crate::list::push_text;
 use crate::row::Local;
+use arrayvec::ArrayString;
 use std::alloc::Global;
 use tv_gate::Outcome;
 use tv_value::{NoMemory, Value};
@@ -52,14 +53,21 @@ pub(crate) fn fail_if(alloc: Global, value: &Value) -> Result<Outcome, NoMemory>
     if text == "true" {
         return refused(alloc, "told to fail");
     }
-    good_text(alloc, String::from_str(alloc, text)?)
+    good_copy(alloc, text)
 }
 
 pub(crate) fn concat(alloc: Global, first: &Value, second: &Value) -> Result<Outcome, NoMemory>
     ensures { IfOk result (λ o. outcome_view o ≡ one_text (text_of (view first.now) ++ text_of (view second.now))) }
 {
-    let mut text = String::from_str(alloc, text_of(first))?;
-    text.push_str(text_of(second))?;
+    let (first, second) = (text_of(first), text_of(second));
+    if let Ok(mut text) = ArrayString::<16>::from(first) {
+        if text.try_push_str(second).is_ok() {
+            return good_copy(alloc, text.as_str());
+        }
+    }
+    let mut text = String::with_capacity(alloc, first.len().saturating_add(second.len()))?;
+    text.push_str(first)?;
+    text.push_str(second)?;
     good_text(alloc, text)
 }
 

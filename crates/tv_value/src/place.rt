@@ -41,7 +41,11 @@ impl Place {
         ensures short { length indices.now ≤ 32 → IsOk result }
     {
         let mut place = Place::top(alloc);
-        place.indices.extend_from_slice(indices)?;
+        match indices {
+            [] => (),
+            [index] => place.indices.push(*index)?,
+            _ => place.indices.extend_from_slice(indices)?,
+        }
         Ok(place)
     }
 

@@ -7,6 +7,7 @@ ghost use Rattle.tv_value.specs.Views.{items_view};
 ghost use Rattle.tv_value.specs.Answers.{IsReading, IsReadingOfItems, IsWithin};
 
 use crate::depth::DepthSet;
+use crate::memory::NoMemory;
 use crate::place::Place;
 use crate::text::Text;
 use crate::value::{Items, Value};
@@ -56,10 +57,10 @@ pub fn value_of(alloc: Global, json: &serde_json::Value) -> Result<Value, ValueF
     ensures { IsReading result (read (json_view json.now)) }
 {
     match json {
-        serde_json::Value::String(text) => {
-            let inside = String::from_str(alloc, text.as_str())?;
-            Ok(Value::Text(Text::of(inside)))
-        }
+        serde_json::Value::String(text) => match Text::from_str(alloc, text.as_str()) {
+            Ok(text) => Ok(Value::Text(text)),
+            Err(NoMemory) => Err(ValueFault::NoMemory),
+        },
         serde_json::Value::Number(number) => number_value(alloc, number),
         serde_json::Value::Array(items) => list_of(alloc, items),
         _ => Err(ValueFault::NotText(Place::top(alloc))),
