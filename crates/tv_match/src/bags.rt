@@ -159,12 +159,30 @@ fn put_both(indices: &mut Vec<u32>, first: &[u32], second: &[u32]) -> Result<(),
     ensures err { OnErr result (indices.new.items ≡ indices.old.items) }
 {
     let before = indices.len();
-    indices.extend_from_slice(first)?;
-    match indices.extend_from_slice(second) {
+    put_all(indices, first)?;
+    match put_all(indices, second) {
         Ok(()) => Ok(()),
-        Err(_error) => {
+        Err(error) => {
             indices.truncate(before);
-            Err(NoMemory)
+            Err(error)
         }
+    }
+}
+
+/// Puts indices at the end. Where memory is wanting the list stays as it was.
+fn put_all(indices: &mut Vec<u32>, more: &[u32]) -> Result<(), NoMemory>
+    ensures ok { OnOk result (indices.new.items ≡ indices.old.items ++ more.now) }
+    ensures err { OnErr result (indices.new.items ≡ indices.old.items) }
+{
+    match more {
+        [] => Ok(()),
+        [index] => match indices.push(*index) {
+            Ok(()) => Ok(()),
+            Err(_full) => Err(NoMemory),
+        },
+        _ => match indices.extend_from_slice(more) {
+            Ok(()) => Ok(()),
+            Err(_error) => Err(NoMemory),
+        },
     }
 }

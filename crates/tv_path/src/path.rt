@@ -40,7 +40,11 @@ impl Path {
         ensures short { length indices.now ≤ 5 → IsOk result }
     {
         let mut path = Path::top(alloc);
-        path.indices.extend_from_slice(indices)?;
+        match indices {
+            [] => (),
+            [index] => path.indices.push(*index)?,
+            _ => path.indices.extend_from_slice(indices)?,
+        }
         Ok(path)
     }
 
@@ -57,8 +61,13 @@ impl Path {
         ensures ok { IfOk result (λ p. p ≡ self.now ++ tail.now) }
         ensures short { length self.now + length tail.now ≤ 5 → IsOk result }
     {
+        if self.indices.is_empty() {
+            return Path::of(alloc, tail);
+        }
         let mut path = self.copy(alloc)?;
-        path.indices.extend_from_slice(tail)?;
+        if !tail.is_empty() {
+            path.indices.extend_from_slice(tail)?;
+        }
         Ok(path)
     }
 }
