@@ -1,5 +1,6 @@
 ghost use Rattle.std.specs.Prelude.{◌≡◌, IfOk, IsTrue, is_some, option_map};
 ghost use Rattle.tv_value.specs.Nested.{at};
+ghost use Rattle.tv_value.specs.Values.{holds_fault};
 ghost use Rattle.tv_value.specs.Views.{error_view, view};
 ghost use Rattle.tv_cell.specs.Found.{document_of, found_value, is_document};
 
@@ -10,10 +11,58 @@ use std::sync::Arc;
 use tv_path::Path;
 use tv_value::{ErrorDoc, NoMemory, Value};
 
-/// A value that never changes, with any number of owners in any threads. The last owner drops it.
+/// A value, and whether it is an error document or contains one.
+#[derive(Drop)]
+struct Noted {
+    value: Value,
+    faulty: bool,
+}
+
+impl Model for Noted {
+    ghost use Rattle.tv_value.specs.declared.value.Value.{Value as Held};
+    ghost use Rattle.tv_value.specs.contracts.value.Value as held;
+    ghost use Rattle.std.specs.Coded.{codes};
+
+    ghost Value = { Held };
+
+    ghost coded = { Prim.hlevel (codes, held.the_row.coded) };
+
+    ghost view = { λ n. n.value };
+
+    ghost use Rattle.std.specs.Prelude.{◌≡◌};
+    ghost use Rattle.tv_value.specs.Values.{holds_fault};
+    ghost use Rattle.tv_value.specs.Views as seen;
+
+    ghost invariant = { λ n. n.faulty ≡ holds_fault (seen.view n.value) };
+}
+
+impl Noted {
+    /// The value is looked through: linear in it at the most.
+    fn of(value: Value) -> Noted
+        ensures { result ≡ value }
+    {
+        let faulty = value.holds_fault();
+        Noted { value, faulty }
+    }
+
+    fn read(&self) -> &Value
+        ensures { result.now ≡ self.now }
+    {
+        &self.value
+    }
+
+    fn holds_fault(&self) -> bool
+        ensures { result ≡ holds_fault (view self.now) }
+    {
+        self.faulty
+    }
+}
+
+/// A value that never changes, with any number of owners in any threads. The last owner drops it. Whether it holds a fault is kept
+/// beside it.
 #[derive(Drop)]
 pub struct Cell {
-    inside: Arc<Value, Global>,
+    inside: Arc<Noted, Global>,
 }
 
 impl Model for Cell {
@@ -29,11 +78,12 @@ impl Model for Cell {
 }
 
 impl Cell {
-    /// A cell of that value, moved there as it is. Where memory is wanting the value is dropped. The cost is constant.
+    /// A cell of that value, moved there as it is. Where memory is wanting the value is dropped. The value is looked through for
+    /// faults, here and nowhere else: linear in it at the most.
     pub fn put(alloc: Global, value: Value) -> Result<Cell, NoMemory>
         ensures { IfOk result (λ c. c ≡ value) }
     {
-        let inside = Arc::new(alloc, value)?;
+        let inside = Arc::new(alloc, Noted::of(value))?;
         Ok(Cell { inside })
     }
 
@@ -41,7 +91,14 @@ impl Cell {
     pub fn read(&self) -> &Value
         ensures { result.now ≡ self.now }
     {
-        &*self.inside
+        self.inside.read()
+    }
+
+    /// Whether the value is an error document or contains one. Takes no memory, and the cost is constant.
+    pub fn holds_fault(&self) -> bool
+        ensures { result ≡ holds_fault (view self.now) }
+    {
+        self.inside.holds_fault()
     }
 
     /// One more owner of the same value, which is not copied. Takes no memory, and the cost is constant. It may be refused,

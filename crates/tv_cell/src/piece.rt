@@ -1,10 +1,10 @@
-ghost use Rattle.std.specs.Prelude.{◌≡◌, ◌&&◌, IfOk, IsTrue, Some, is_some, length, nat_lt};
+ghost use Rattle.std.specs.Prelude.{◌≡◌, ◌&&◌, IfOk, IsTrue, Some, is_some, length, nat_lt, true};
 ghost use Rattle.std.specs.List.{list_all, list_any};
 ghost use Rattle.tv_value.specs.Nested.{at};
 ghost use Rattle.tv_value.specs.Readings.{length_limit};
 ghost use Rattle.tv_value.specs.Values.{holds_fault};
 ghost use Rattle.tv_value.specs.Views.{view};
-ghost use Rattle.tv_cell.specs.Found.{is_document};
+ghost use Rattle.tv_cell.specs.Found.{found_value, is_document};
 ghost use Rattle.tv_cell.specs.PieceValues.{list_length, piece_value};
 ghost use Rattle.tv_cell.specs.Soundness.{IsSound, is_sound};
 
@@ -108,16 +108,14 @@ impl Piece {
         }
     }
 
-    /// Whether the value is an error document or contains one. Linear in the value at the most. Takes no memory.
+    /// Whether the value is an error document or contains one. Constant for a whole value, and for a part of one without faults;
+    /// linear in the pieces of a list, and in a part of a value with faults. Takes no memory.
     #[cycle(holds_fault)]
     pub fn holds_fault(&self) -> bool
         ensures { result ≡ holds_fault (piece_value self.now) }
     {
         match self {
-            Piece::Part(cell, place) => match cell.at(place) {
-                Some(value) => value.holds_fault(),
-                None => false,
-            },
+            Piece::Part(cell, place) => cell.holds_fault() && part_holds_fault(cell, place),
             Piece::List(pieces) => any_holds_fault(pieces.as_slice()),
             Piece::Fault(_, _, _) => true,
         }
@@ -154,6 +152,20 @@ fn copies(alloc: Global, pieces: &[Piece]) -> Result<Vec<Piece>, NoMemory>
         copies.push(piece.copy(alloc)?)?;
     }
     Ok(copies)
+}
+
+/// Whether what stands at a place of a value that holds a fault is an error document or contains one.
+fn part_holds_fault(cell: &Cell, place: &Path) -> bool
+    requires { holds_fault (view cell.now) ≡ true }
+    ensures { result ≡ holds_fault (found_value (at (view cell.now) place.now)) }
+{
+    if place.as_slice().is_empty() {
+        return true;
+    }
+    match cell.at(place) {
+        Some(value) => value.holds_fault(),
+        None => false,
+    }
 }
 
 #[cycle(holds_fault)]

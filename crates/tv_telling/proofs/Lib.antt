@@ -1,3 +1,4 @@
 pub mod Adding
 pub mod OfValues
 pub mod OfWays
+pub mod OfSizes

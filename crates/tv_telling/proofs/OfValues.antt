@@ -1,6 +1,9 @@
 -- What is told of a value, item by item.
-use Rattle.std.specs.Prelude.{◌≡◌, ℕ, zero, suc, ◌+◌, ◌-◌, ◌<◌, ◌≤◌, List, [], ◌∷◌, ◌++◌, map, take, drop, length}
-use Rattle.std.proofs.Common.{arith, get_or, ap, sym, ◌∙◌, append_assoc, append-nil, length-append}
+use Rattle.std.specs.List.{list_any}
+use Rattle.std.specs.Prelude.{◌≡◌, Bool, false, true, ℕ, zero, suc, ◌+◌, ◌-◌, ◌<◌, ◌≤◌, List, [], ◌∷◌, ◌++◌, map, take, drop, length}
+use Rattle.std.proofs.lemmas.Bool.{false_from_ne_true}
+use Rattle.std.proofs.lemmas.List.Folds.{list_any_at}
+use Rattle.std.proofs.Common.{arith, get_or, ap, sym, subst, true≢false, ◌∙◌, append_assoc, append-nil, length-append}
 use Rattle.std.proofs.Math.Seq.{take-append_seam}
 use Rattle.std.proofs.lemmas.List.{drop_all}
 use Rattle.tv_value.specs.Nested.{Place, Trees, count, list, trees_of}
@@ -13,6 +16,12 @@ pub popped : (q all : Place) (i n : ℕ) → all ≡ q ++ i ∷ [] → n ≡ len
 popped q all i n e l =
     let m : n - 1 ≡ length q = omega (arith, l, ap length e, length-append q (i ∷ [])) in
     (λ k. take (m k) (e k)) ∙ take-append_seam q (i ∷ [])
+
+-- where none of a list passes a test, its items don't
+pub none-at : {X : Type 0} (p : X → Bool) (xs : List X) (i : ℕ) (x : X) → i < length xs
+    → x ≡ get_or xs i x → list_any p xs ≡ false → p x ≡ false
+none-at p xs i x k e h =
+    false_from_ne_true (p x) (λ t. true≢false (sym (list_any_at p xs i x k (subst (λ y. p y ≡ true) e t)) ∙ h))
 
 none : {A : Type 0} (i : ℕ) → i < 0 → A
 none i p = absurd (omega arith)

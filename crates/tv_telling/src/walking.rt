@@ -1,5 +1,6 @@
-ghost use Rattle.std.specs.Prelude.{◌≡◌, OnOk, map};
-ghost use Rattle.tv_value.specs.Nested.{trees_of};
+ghost use Rattle.std.specs.Prelude.{◌≡◌, OnOk, false, map};
+ghost use Rattle.tv_value.specs.Nested.{list, trees_of};
+ghost use Rattle.tv_value.specs.Values.{holds_fault};
 ghost use Rattle.tv_value.specs.Views.{items_view, view};
 ghost use Rattle.tv_cell.specs.PieceValues.{piece_value};
 ghost use Rattle.tv_matching.specs.Matchers.{leaf_name};
@@ -30,7 +31,10 @@ pub(crate) fn tell_piece(
     }
     match piece {
         Piece::Part(cell, start) => match cell.at(start) {
-            Some(value) => tell_value(alloc, leaf, levels, place, value, tellings),
+            Some(value) => {
+                let faulty = cell.holds_fault();
+                tell_value(alloc, leaf, levels, place, value, faulty, tellings)
+            }
             None => Ok(()),
         },
         Piece::List(pieces) => {
@@ -55,6 +59,7 @@ fn tell_pieces(
     ensures told { OnOk result (AddsTellings tellings.old.items tellings.new.items (λ s. values_told (leaf_name s leaf) levels place.old.items 0 (trees_of (map piece_value pieces.now)))) }
     ensures place { OnOk result (place.new.items ≡ place.old.items) }
 {
+    tellings.reserve(pieces.len())?;
     for (index, piece) in pieces.iter().enumerate() {
         place.push(index_of(index)?)?;
         tell_piece(alloc, leaf, levels, place, piece, tellings)?;
@@ -63,7 +68,7 @@ fn tell_pieces(
     Ok(())
 }
 
-/// Tells a leaf of a value at a place.
+/// Tells a leaf of a value at a place. Where it is known to hold no fault it isn't looked through for any.
 #[cycle(value)]
 fn tell_value(
     alloc: Global,
@@ -71,13 +76,16 @@ fn tell_value(
     levels: usize,
     place: &mut Vec<u32>,
     value: &Value,
+    faulty: bool,
     tellings: &mut Vec<Told>,
 ) -> Result<(), NoMemory>
+    requires faulty { faulty ≡ false → holds_fault (view value.now) ≡ false }
     ensures told { OnOk result (AddsTellings tellings.old.items tellings.new.items (λ s. value_told (leaf_name s leaf) levels place.old.items (view value.now))) }
     ensures place { OnOk result (place.new.items ≡ place.old.items) }
 {
     if levels == 0 {
-        return tell_bound(alloc, leaf, place.as_slice(), value.holds_fault(), tellings);
+        let faulty = faulty && value.holds_fault();
+        return tell_bound(alloc, leaf, place.as_slice(), faulty, tellings);
     }
     match value {
         Value::Text(_) => Ok(()),
@@ -89,7 +97,7 @@ fn tell_value(
                 items.as_slice().len(),
                 tellings,
             )?;
-            tell_items(alloc, leaf, levels - 1, place, items, tellings)
+            tell_items(alloc, leaf, levels - 1, place, items, faulty, tellings)
         }
         Value::Fault(_) => tell_fault(alloc, leaf, place.as_slice(), tellings),
     }
@@ -103,14 +111,17 @@ fn tell_items(
     levels: usize,
     place: &mut Vec<u32>,
     items: &Items,
+    faulty: bool,
     tellings: &mut Vec<Told>,
 ) -> Result<(), NoMemory>
+    requires faulty { faulty ≡ false → holds_fault (list tt (items_view items.now)) ≡ false }
     ensures told { OnOk result (AddsTellings tellings.old.items tellings.new.items (λ s. values_told (leaf_name s leaf) levels place.old.items 0 (items_view items.now))) }
     ensures place { OnOk result (place.new.items ≡ place.old.items) }
 {
+    tellings.reserve(items.values.len())?;
     for (index, value) in items.values.iter().enumerate() {
         place.push(index_of(index)?)?;
-        tell_value(alloc, leaf, levels, place, value, tellings)?;
+        tell_value(alloc, leaf, levels, place, value, faulty, tellings)?;
         let _ = place.pop();
     }
     Ok(())

@@ -1,6 +1,9 @@
 use Rattle.std.proofs.Common.{◌≡◌, ◌++◌, ◌+◌, ◌∷◌, [], ◌<◌, map, ap, sym, ◌∙◌, vec_len, arith, length}
 use Rattle.tv_value.specs.Nested.{list, trees_of}
 use Rattle.tv_cell.specs.PieceValues.{piece_value, piece_values}
+use Rattle.tv_value.specs.Values.{holds_fault}
+use Rattle.tv_cell.specs.Found.{found_value}
+use Rattle.tv_cell.proofs.OfFaults.{no-fault-inside}
 use Rattle.tv_cell.proofs.OfPieces.{count-each, list-value}
 use Rattle.tv_matching.specs.Matchers.{leaf_name}
 use Rattle.tv_match.specs.Seen.{told_view}
@@ -8,6 +11,12 @@ use Rattle.tv_telling.specs.ValueTellings.{value_told}
 use Rattle.tv_telling.proofs.Adding.{adds-both, ok-along}
 use Rattle.tv_telling.proofs.OfValues.{list-told, popped, rest-end, rest-step, told_rest}
 use Rattle.tv_telling.proofs.walking.+piece.Goals as goal
+
+pub tell_piece-tell_value-requires : goal.tell_piece-tell_value-requires
+tell_piece-tell_value-requires t c = record {
+  faulty = λ h. ap (λ o. holds_fault (found_value o)) c.in-Some.ensures
+      ∙ no-fault-inside _ c.in-Part.start (sym c.holds_fault-faulty.ensures ∙ h);
+}
 
 pub tell_piece-returns-in_ok-tell_list-in-List-clause-told :
     goal.tell_piece-returns-in_ok-tell_list-in-List-clause-told

@@ -1,13 +1,17 @@
-use Rattle.std.proofs.Common.{◌≡◌, ◌++◌, ◌+◌, ◌∷◌, [], ◌<◌, map, ap, sym, ◌∙◌, vec_len, arith, length}
-use Rattle.tv_value.specs.Nested.{count, trees_of}
+use Rattle.std.proofs.Common.{subst, ◌≡◌, ◌++◌, ◌+◌, ◌∷◌, [], ◌<◌, map, ap, sym, ◌∙◌, vec_len, arith, length}
+use Rattle.std.specs.List.{list_any}
+use Rattle.tv_value.specs.Nested.{all_leaves, count, trees_of}
+use Rattle.tv_value.specs.Values.{holds_fault, is_fault}
 use Rattle.tv_value.specs.Views.{view, items_view}
+use Rattle.tv_value.proofs.OfFaults.{hold_fault-each}
 use Rattle.tv_value.proofs.OfItems.{items_view-each}
 use Rattle.tv_cell.proofs.OfPieces.{count-each, list-view}
 use Rattle.tv_matching.specs.Matchers.{leaf_name}
 use Rattle.tv_match.specs.Seen.{told_view}
 use Rattle.tv_telling.specs.ValueTellings.{value_told, values_told}
 use Rattle.tv_telling.proofs.Adding.{adds-both, ok-along}
-use Rattle.tv_telling.proofs.OfValues.{list-told, popped, rest-end, rest-step, told_rest}
+use Rattle.tv_telling.proofs.OfValues.{list-told, none-at, popped, rest-end, rest-step, told_rest}
+use Rattle.tv_telling.proofs.OfSizes.{item-smaller, size, sizes}
 use Rattle.tv_telling.proofs.walking.+value.Goals as goal
 
 pub tell_value-returns-in_ok-tell_list-in-List-clause-told :
@@ -23,6 +27,25 @@ tell_value-returns-in_ok-tell_list-in-List-clause-told t c =
     c.in_ok-tell_list-in-List.ensures h
     (λ s. list-told (leaf_name s c.args.leaf) c.args.levels (length us) q c.as_slice-in-List.result.now (view c.args.value.now) (items_view vs) more c.as_slice-in-List.ensures.value (ap view c.in-List.is ∙ list-view vs) counted))
     c.tell_items.ensures.told
+
+pub tell_value-tell_items-requires : goal.tell_value-tell_items-requires
+tell_value-tell_items-requires t c =
+    let is = ap view c.in-List.is ∙ list-view c.in-List.items in (
+      subst (λ n. sizes (items_view c.in-List.items) < n) (sym (ap size is) ∙ c.decreases) (omega arith),
+      λ h. ap holds_fault (sym is) ∙ c.requires.faulty h,
+    )
+
+pub tell_items-tell_value-requires : goal.tell_items-tell_value-requires
+tell_items-tell_value-requires t c =
+    let xs = c.deref-value-items.result.now in
+    let i = c.loop-index.index in
+    let x = c.value-item.result in
+    let within = c.loop-index-test.true in
+    let all : trees_of (map view xs) ≡ items_view c.args.items.now = ap (λ vs. trees_of (map view vs)) c.deref-value-items.ensures.value ∙ sym (items_view-each c.args.items.now) in (
+      subst (λ n. size (view x) < n) (ap sizes all ∙ c.decreases) (item-smaller view xs i x within c.value-item.is),
+      λ h. none-at (λ v. holds_fault (view v)) xs i x within c.value-item.is
+          (sym (hold_fault-each xs) ∙ ap (λ ts. list_any is_fault (all_leaves ts)) all ∙ c.requires.faulty h),
+    )
 
 pub tell_items-loop-index-preserved : goal.tell_items-loop-index-preserved
 tell_items-loop-index-preserved t c =
