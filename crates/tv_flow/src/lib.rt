@@ -30,8 +30,6 @@ mod objects;
 mod reading;
 mod scalars;
 mod steps;
-#[cfg(test)]
-mod tests;
 mod trees;
 
 pub use document::{

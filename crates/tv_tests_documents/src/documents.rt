@@ -3,12 +3,12 @@ mod forms;
 mod kinds;
 mod limits;
 
-use crate::{Document, Feed, FormFault, Part, Path, read_document};
 use serde_json::Value as Json;
 use std::alloc::{AllocError, Global};
 use std::fmt::Write;
 use std::process::Abort;
 use std::test::Fail;
+use tv_flow::{Document, Feed, FormFault, Part, Path, read_document};
 use tv_value::Value;
 
 const DOCUMENT: [&str; 2] = ["", ""];
