@@ -1,5 +1,5 @@
 -- What is told of tickets and answers: the board's run is x.
-use Rattle.std.specs.Prelude.{◌≡◌, refl, Bool, true, false, Err, IfErr, IfOk, None, Ok, OnErr, Option, Result, Some, is_some}
+use Rattle.std.specs.Prelude.{◌≡◌, refl, Bool, false, Err, IfErr, IfOk, None, Ok, OnErr, Option, Result, Some, is_some}
 use Rattle.std.proofs.Common.{subst, sym, ◌∙◌}
 use Rattle.tv_value.specs.Views.{values_view}
 use Rattle.tv_gate.specs.Outcomes.{Giving, Outcome}

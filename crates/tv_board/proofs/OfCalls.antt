@@ -16,7 +16,6 @@ use Rattle.tv_entries.specs.Moves.{IsMove}
 use Rattle.tv_entries.specs.Settlements.{IsSettling}
 use Rattle.tv_entries.specs.declared.told.Moved.{Moved}
 use Rattle.tv_entries.specs.declared.told.Moved.TheVariants as moved
-use Rattle.tv_entries.specs.declared.ticket.JobState.TheVariants as state
 use Rattle.tv_entries.specs.declared.ticket.Ticket.{Ticket}
 use Rattle.tv_run.specs.Standing.{StandsOpen, StandsStill, run_of}
 use Rattle.tv_run.specs.Turns.{HandsOut, IsOver, MovesTo, RecallsTo, SettlesTo, StaysAs}

@@ -1,5 +1,5 @@
 //! The type of boards, and its calls.
-ghost use Rattle.std.specs.Prelude.{◌≡◌, [], IfErr, IfOk, IsOk, MatchOption, OnErr, OnOk, Some, is_some, map, slice_get, true};
+ghost use Rattle.std.specs.Prelude.{◌≡◌, ◌≤◌, [], IfErr, IfOk, IsOk, MatchOption, OnErr, OnOk, Some, is_some, map, slice_get, true};
 ghost use Rattle.tv_value.specs.Views.{view};
 ghost use Rattle.tv_flow.specs.Views.{each};
 ghost use Rattle.tv_gate.specs.Views.{outcome_view};
@@ -8,7 +8,7 @@ ghost use Rattle.tv_strategy.specs.Origins.{plain};
 ghost use Rattle.tv_check.specs.RunViews.{run_view};
 ghost use Rattle.tv_model.specs.Totals as model;
 ghost use Rattle.tv_model.specs.TotalsViews.{totals_view};
-ghost use Rattle.tv_history.specs.Histories.{is_done};
+ghost use Rattle.tv_history.specs.Histories.{is_done, kept};
 ghost use Rattle.tv_entries.specs.Answers.{question};
 ghost use Rattle.tv_entries.specs.Calls.{IsNothingOffered, IsTask, IsTaskFault, hands_out, out_count, totals_so_far, try_if_out};
 ghost use Rattle.tv_entries.specs.Declarations.{declared_for};
@@ -25,6 +25,7 @@ use crate::answer::Answer;
 use crate::refused::Refused;
 use std::alloc::Global;
 use std::marker::{Model, PhantomData};
+use std::mem;
 use tv_check::CheckedRun;
 use tv_entries::{Accepted, Entry, Moved, Task, TaskFault, Tested, Ticket};
 use tv_gate::{Asker, Services};
@@ -37,6 +38,8 @@ use tv_value::{JobName, Name, NoMemory, Sequence, Value};
 pub struct Board<V: Services> {
     pub(crate) run: OpenRun,
     pub(crate) services: PhantomData<V>,
+    // Empty: the memory that values for services stand in.
+    pub(crate) room: Vec<Value>,
 }
 
 impl<V: Services> Model for Board<V> {
@@ -79,6 +82,7 @@ impl<V: Services> Board<V> {
         Ok(Board {
             run: OpenRun::start(alloc, run)?,
             services: PhantomData,
+            room: Vec::new(alloc),
         })
     }
 
@@ -225,9 +229,14 @@ impl<V: Services> Board<V> {
         ensures unchanged { OnErr result (self.new ≡ self.old) }
         ensures legal { IsLegalRun V.gives self.new }
     {
-        let inputs = self.run.asked_inputs(*ticket)?;
+        let mut room = mem::replace(&mut self.room, Vec::new(alloc));
+        room.clear();
+        let inputs = self.run.asked_inputs(*ticket, room)?;
         let service = self.run.asked_service(*ticket).as_str();
         let outcome = asker.call(alloc, service, &inputs, ticket.attempt)?;
+        let mut values = inputs.into_vec();
+        values.clear();
+        self.room = values;
         self.run.accept_own(*ticket, outcome)
     }
 
@@ -241,10 +250,12 @@ impl<V: Services> Board<V> {
         self.run.outputs()
     }
 
-    /// How many nodes the pool keeps for the open instances: none once the run is done. Constant.
-    /// Takes no memory. Before the end only the run (`tv_run`) says how many.
+    /// How many nodes the pool keeps for the open instances: at least one for each result that is kept, of
+    /// each output of each settled job in an open instance, and none once the run is done. Constant. Takes
+    /// no memory.
     pub fn live(&self) -> u64
-        ensures { is_done (past_of self.now) ≡ true → result ≡ 0 }
+        ensures kept { kept (meant V.gives self.now) (past_of self.now) ≤ result }
+        ensures done { is_done (past_of self.now) ≡ true → result ≡ 0 }
     {
         self.run.live()
     }

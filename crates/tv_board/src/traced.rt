@@ -53,7 +53,7 @@ impl<V: Services> Board<V> {
     {
         match self.run.traces() {
             Ok(traces) => {
-                let Board { run, services } = self;
+                let Board { run, services, .. } = self;
                 Ok(Traced {
                     run,
                     traces,

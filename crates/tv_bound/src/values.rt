@@ -1,5 +1,5 @@
 //! Values of what jobs bind, each of its own.
-ghost use Rattle.std.specs.Prelude.{◌≡◌, ◌<◌, Some, is_some, length, option_map, IsTrue, IfOk};
+ghost use Rattle.std.specs.Prelude.{◌≡◌, ◌<◌, [], Some, is_some, length, option_map, IsTrue, IfOk};
 ghost use Rattle.tv_value.specs.Nested.{at};
 ghost use Rattle.tv_value.specs.Views.{values_view, view};
 ghost use Rattle.tv_strategy.specs.Sources.{Each};
@@ -23,7 +23,7 @@ use tv_wires::{NumberedFeed, NumberedLink, Port};
 
 /// The values that the job at a place of a step's iteration binds, in the order of the ports: those
 /// of the pieces that `job_inputs` gives. Linear in the ports and in the values, with a walk for each
-/// port to its part of the place.
+/// port to its part of the place. They stand in the memory of `room`, which is empty.
 pub fn job_values(
     alloc: Global,
     sources: &Sources<'_>,
@@ -31,7 +31,9 @@ pub fn job_values(
     step: &StepPorts<'_>,
     starts: &[u32],
     place: &[u32],
+    room: Vec<Value>,
 ) -> Result<Items, NoMemory>
+    requires room { room.items ≡ [] }
     requires stand { Stand sources.now }
     requires parts { Each (IsPartOf step.now place.now starts.now) step.now.ports.now }
     requires inputs { length step.now.inputs.now ≡ length step.now.ports.now }
@@ -42,7 +44,8 @@ pub fn job_values(
     ensures { IfOk result (λ vs. job_found (known_by sources.now) (constants_view constants.now)
         step.now place.now ≡ Some (values_view vs)) }
 {
-    let mut values = Vec::with_capacity(alloc, step.ports.len())?;
+    let mut values = room;
+    values.reserve(step.ports.len())?;
     for (number, port) in step.ports.iter().enumerate() {
         let start = starts[port.leaf as usize] as usize;
         let part = part_of(place, start, port.levels as usize);

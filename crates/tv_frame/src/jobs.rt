@@ -253,14 +253,17 @@ impl Frame {
     }
 
     /// The values of what a known job binds, port by port in byte order of their names. Linear in them
-    /// and in the ports, with a walk to each one's part of the place.
+    /// and in the ports, with a walk to each one's part of the place. They stand in the memory of `room`,
+    /// which is empty.
     pub fn values(
         &self,
         alloc: Global,
         plan: &FlowPlan,
         pool: &Nodes,
         number: u64,
+        room: Vec<Value>,
     ) -> Result<Items, NoMemory>
+        requires room { room.items ≡ [] }
         requires keeps { (flows : List (Name × Flow)) × (v : View)
             × Keeps flows plan.now pool.now self.now v }
         requires known { number < length (known_jobs self.now.intakes) }
@@ -274,7 +277,7 @@ impl Frame {
         let starts = self.tables.read().starts[step as usize].as_slice();
         let sources = self.sources(pool);
         let constants = self.tables.constants();
-        job_values(alloc, &sources, constants, &ports, starts, place)
+        job_values(alloc, &sources, constants, &ports, starts, place, room)
     }
 
     /// Whether a known job binds these values, port by port in byte order of their names. Takes no memory. Linear in the ports,

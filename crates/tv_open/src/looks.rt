@@ -94,21 +94,23 @@ impl Open {
     }
 
     /// The values that a known job binds, in byte order of the ports. Linear in them, in the ports and in
-    /// the indices of its place.
+    /// the indices of its place. They stand in the memory of `room`, which is empty.
     pub fn values(
         &self,
         alloc: Global,
         plan: &FlowPlan,
         pool: &Nodes,
         number: u64,
+        room: Vec<Value>,
     ) -> Result<Items, NoMemory>
+        requires room { room.items ≡ [] }
         requires open { (d : Document) × (v : View) × IsOpen d plan.now pool.now self.now v }
         requires known { number < length self.now.seats.seats }
         ensures { IfOk result (λ vs. (d : Document) (v : View) (s : Seat)
             → IsOpen d plan.now pool.now self.now v → slice_get self.now.seats.seats number ≡ Some s
             → AreInputs v (spot_of v.flow.steps s) (values_view vs)) }
     {
-        self.frame.values(alloc, plan, pool, number)
+        self.frame.values(alloc, plan, pool, number, room)
     }
 
     /// Whether a known job binds these values. Takes no memory.

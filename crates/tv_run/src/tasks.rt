@@ -1,5 +1,5 @@
 //! Tasks of tickets.
-ghost use Rattle.std.specs.Prelude.{◌≡◌, Some, IfOk, is_some, slice_get, true};
+ghost use Rattle.std.specs.Prelude.{◌≡◌, [], Some, IfOk, is_some, slice_get, true};
 ghost use Rattle.tv_value.specs.Activities.{service};
 ghost use Rattle.tv_value.specs.Views.{values_view};
 ghost use Rattle.tv_dispatch.specs.Jobs.{Ask};
@@ -24,7 +24,7 @@ use crate::run::OpenRun;
 use tv_cell::Pieces;
 use tv_entries::{Task, Ticket};
 use tv_flow::Activity;
-use tv_value::{Copied, Items, Name, NoMemory};
+use tv_value::{Copied, Items, Name, NoMemory, Value};
 
 /// The name of the service of an activity that is one.
 fn service_of(activity: &Activity) -> &Name
@@ -49,7 +49,7 @@ impl OpenRun {
             × (declared_for gives (run_of self.now) ticket.job ≡ Some t.outputs)) }
     {
         let service = self.asked_service(ticket).copy(self.alloc)?;
-        let inputs = self.asked_inputs(ticket)?;
+        let inputs = self.asked_inputs(ticket, Vec::new(self.alloc))?;
         let outputs = self.step_at(ticket.job).outputs.copy(self.alloc)?;
         Ok(Task {
             ticket,
@@ -70,19 +70,22 @@ impl OpenRun {
         service_of(&step.activities.as_slice()[ticket.activity as usize])
     }
 
-    /// The values that the try of a ticket gives to its service, where that is out. Linear in them.
-    pub fn asked_inputs(&self, ticket: Ticket) -> Result<Items, NoMemory>
-        requires { (gives : Giving) × StandsStill gives self.now
+    /// The values that the try of a ticket gives to its service, where that is out. Linear in them. They
+    /// stand in the memory of `room`, which is empty.
+    pub fn asked_inputs(&self, ticket: Ticket, room: Vec<Value>) -> Result<Items, NoMemory>
+        requires room { room.items ≡ [] }
+        requires out { (gives : Giving) × StandsStill gives self.now
             × (is_some (try_if_out gives (run_of self.now) ticket) ≡ true) }
         ensures { IfOk result (λ vs. (gives : Giving) (a : Ask) → StandsStill gives self.now
             → try_if_out gives (run_of self.now) ticket ≡ Some a → values_view vs ≡ a.inputs) }
     {
-        self.values_bound(ticket.job)
+        self.values_bound(ticket.job, room)
     }
 
     /// The values that a job of an open instance binds. Linear in them.
-    fn values_bound(&self, job: u64) -> Result<Items, NoMemory>
-        requires { (xs : Instances) × Fits self.now xs × IsOfOpen self.now job }
+    fn values_bound(&self, job: u64, room: Vec<Value>) -> Result<Items, NoMemory>
+        requires room { room.items ≡ [] }
+        requires job { (xs : Instances) × Fits self.now xs × IsOfOpen self.now job }
         ensures { IfOk result (λ vs. (xs : Instances) (n : TheNumbered) (x : AnInstance) (v : View)
             (s : Seat)
             → Fits self.now xs → slice_get self.now.jobs.items job ≡ Some n
@@ -92,7 +95,7 @@ impl OpenRun {
         let Numbered { instance, number } = self.known(job);
         let plan = self.plan_of(instance);
         self.opened(instance)
-            .values(self.alloc, plan, &self.pool, number)
+            .values(self.alloc, plan, &self.pool, number, room)
     }
 
     /// What a job of an open instance binds.

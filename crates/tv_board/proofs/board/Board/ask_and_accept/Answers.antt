@@ -8,8 +8,8 @@ use Rattle.tv_board.proofs.OfAsking.{asks-none, asks-one, asks-same, found, is-o
 use Rattle.tv_board.proofs.OfCalls.{legal-now}
 use Rattle.tv_board.proofs.board.Board.ask_and_accept.Goals as goal
 
-pub asked_inputs-requires : goal.asked_inputs-requires
-asked_inputs-requires g c =
+pub asked_inputs-requires-clause-out : goal.asked_inputs-requires-clause-out
+asked_inputs-requires-clause-out g c =
     (g.V.Services.gives, c.self.invariant, is-out g.V.Services.gives c.self.inside.run c.args.self.now c.self.view_is c.self.invariant c.args.ticket.now c.requires)
 
 pub asked_service-requires : goal.asked_service-requires
@@ -24,7 +24,10 @@ accept_own-requires g c =
     (g.V.Services.gives, its g.V.Services.gives c.self.inside.run c.args.self.now c.self.view_is c.self.invariant c.args.ticket.now c.requires, opens g.V.Services.gives c.self.inside.run c.args.self.now c.self.view_is c.self.invariant c.args.ticket.now c.requires c.as_str-service.result.now (values_view c.in_ok-inputs.inputs) (outcome_view c.in_ok-outcome.outcome) p h c.in_ok-outcome.ensures.answer, its-asked g.V.Services.gives c.self.inside.run c.args.self.now c.self.view_is c.self.invariant c.args.ticket.now c.requires c.as_str-service.result.now (values_view c.in_ok-inputs.inputs) (outcome_view c.in_ok-outcome.outcome) p h c.in_ok-outcome.ensures.answer)
 
 pub invariant_of-self : goal.invariant_of-self
-invariant_of-self g c =
+invariant_of-self g c = c.self.invariant
+
+pub invariant_of-self-2 : goal.invariant_of-self-2
+invariant_of-self-2 g c =
     let f = found g.V.Services.gives c.self.inside.run c.args.self.now c.self.view_is c.self.invariant c.args.ticket.now c.requires in
     let p = c.as_str-service.ensures ∙ c.asked_service.ensures g.V.Services.gives f.0 c.self.invariant f.1 in
     let h = c.in_ok-inputs.ensures g.V.Services.gives f.0 c.self.invariant f.1 in
@@ -53,7 +56,7 @@ returns-clause-unchanged g c =
 
 pub returns-clause-legal : goal.returns-clause-legal
 returns-clause-legal g c =
-    legal-now g.V.Services.gives c.accept_own.new.self (run_of c.accept_own.new.self) refl (invariant_of-self g c)
+    legal-now g.V.Services.gives c.accept_own.new.self (run_of c.accept_own.new.self) refl (invariant_of-self-2 g c)
 
 pub returns-in_err-outcome-clause-refused : goal.returns-in_err-outcome-clause-refused
 returns-in_err-outcome-clause-refused g c =
@@ -65,8 +68,8 @@ returns-in_err-inputs-clause-refused g c =
 
 pub returns-in_err-inputs-clause-legal : goal.returns-in_err-inputs-clause-legal
 returns-in_err-inputs-clause-legal g c =
-    legal-now g.V.Services.gives c.self.inside.run c.args.self.now c.self.view_is c.self.invariant
+    legal-now g.V.Services.gives c.self.inside.run (run_of c.self.inside.run) refl c.self.invariant
 
 pub returns-in_err-outcome-clause-legal : goal.returns-in_err-outcome-clause-legal
 returns-in_err-outcome-clause-legal g c =
-    legal-now g.V.Services.gives c.self.inside.run c.args.self.now c.self.view_is c.self.invariant
+    legal-now g.V.Services.gives c.self.inside.run (run_of c.self.inside.run) refl c.self.invariant

@@ -5,10 +5,10 @@ use Rattle.tv_run.proofs.OfAskedOut.{asked-now, asked-out}
 use Rattle.tv_run.proofs.OfTasks.{inputs-are, of-open}
 use Rattle.tv_run.proofs.run.OpenRun.asked_inputs.Goals as goal
 
-pub values_bound-requires : goal.values_bound-requires
-values_bound-requires c =
+pub values_bound-requires-clause-job : goal.values_bound-requires-clause-job
+values_bound-requires-clause-job c =
     let r = c.args.self.now in
-    let q = c.requires in
+    let q = c.requires.out in
     let t = c.args.ticket in
     let w = asked-now q.0 r q.1.0 q.1.1 t q.2 in
     (q.1.0, q.1.1.fits, of-open q.0 r q.1.0 q.1.1 t w.0 w.1 w.2)

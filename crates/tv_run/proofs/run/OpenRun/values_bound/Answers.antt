@@ -11,7 +11,7 @@ use Rattle.tv_run.proofs.run.OpenRun.values_bound.Goals as goal
 pub plan_of-plan-requires : goal.plan_of-plan-requires
 plan_of-plan-requires c =
     let r = c.args.self.now in
-    let q = c.requires in
+    let q = c.requires.job in
     let w = open-as r q.0 q.1 c.args.job q.2 in
     let m = c.known-instance.result in (
       q.0,
@@ -22,7 +22,7 @@ plan_of-plan-requires c =
 pub opened-requires : goal.opened-requires
 opened-requires c =
     let r = c.args.self.now in
-    let q = c.requires in
+    let q = c.requires.job in
     let w = open-as r q.0 q.1 c.args.job q.2 in
     let m = c.known-instance.result in (
       w.known.itself,
@@ -34,7 +34,7 @@ opened-requires c =
 pub values-requires-clause-open : goal.values-requires-clause-open
 values-requires-clause-open c =
     let r = c.args.self.now in
-    let q = c.requires in
+    let q = c.requires.job in
     let w = open-as r q.0 q.1 c.args.job q.2 in
     let m = c.known-instance.result in
     let e = c.known-instance.ensures in
@@ -54,7 +54,7 @@ values-requires-clause-open c =
 pub values-requires-clause-known : goal.values-requires-clause-known
 values-requires-clause-known c =
     let r = c.args.self.now in
-    let q = c.requires in
+    let q = c.requires.job in
     let w = open-as r q.0 q.1 c.args.job q.2 in
     let m = c.known-instance.result in
     let e = c.known-instance.ensures in

@@ -1,0 +1,4 @@
+pub mod Counting
+pub mod Flattened
+pub mod Slots
+pub mod Places

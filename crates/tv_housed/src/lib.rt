@@ -1,0 +1,11 @@
+//! That the region of a frame has a node for each output of each job with a result: laws, of which
+//! the program runs nothing.
+//!
+//! A frame (`tv_frame`) keeps what it was told of its outputs as trees in the nodes of one region. So
+//! each output of each job that has a result has a node of its own there (`tv_counted`).
+//!
+//! - `specs/Stated.antt`: the laws
+//! - `laws`: the function whose clauses they are
+#![tactic(auto)]
+
+pub mod laws;

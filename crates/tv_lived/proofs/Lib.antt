@@ -1,0 +1,5 @@
+pub mod Sums
+pub mod Regions
+pub mod Jobs
+pub mod Instances
+pub mod Lived

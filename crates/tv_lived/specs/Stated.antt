@@ -1,0 +1,14 @@
+-- While a run goes on, the pool has at least as many nodes as results are kept.
+use Rattle.std.specs.Prelude.{◌≤◌}
+use Rattle.tv_gate.specs.Outcomes.{Giving}
+use Rattle.tv_pool.specs.Pool.{live_count}
+use Rattle.tv_history.specs.Histories.{kept}
+use Rattle.tv_entries.specs.Runs.{meant, past_of}
+use Rattle.tv_run.specs.Standing.{StandsStill, run_of}
+use Rattle.tv_run.specs.declared.run.OpenRun.{OpenRun}
+
+-- those kept are the outputs of settled jobs in open instances
+abbrev pub ResultsHaveNodes : Type 0
+ResultsHaveNodes =
+    (gives : Giving) (r : OpenRun) → StandsStill gives r
+    → kept (meant gives (run_of r)) (past_of (run_of r)) ≤ live_count r.pool.regions
