@@ -1,10 +1,10 @@
 //! Words that tell elements.
 ghost use Rattle.std.specs.Prelude.{◌≡◌, ◌&&◌, ◌==◌, IfOk, nat_lt, length, option_map, slice_index};
-ghost use Rattle.std.specs.List.{list_all, slice_split};
-ghost use Rattle.tv_flow.specs.Forms.{is_name, is_name_byte};
+ghost use Rattle.std.specs.List.{slice_split};
 ghost use Rattle.tv_elements.specs.Elements as spec;
 
 use std::alloc::Global;
+use tv_flow::is_name;
 use tv_value::{Name, NoMemory, Place, Text};
 
 /// The element that a text tells: a name, `[`, nothing or indices with a comma between each two, and `]`. An index is `0`
@@ -38,26 +38,6 @@ fn bracketed(text: &str) -> Option<(&str, &str)>
     let (port, rest) = text.split_once('[')?;
     let inside = rest.strip_suffix(']')?;
     Some((port, inside))
-}
-
-/// Whether a text is 1 to 64 letters, digits and underscores of ASCII.
-fn is_name(text: &str) -> bool
-    ensures { result ≡ is_name text.now }
-{
-    let length = text.len();
-    1 <= length && length <= 64 && has_name_bytes(text)
-}
-
-fn has_name_bytes(text: &str) -> bool
-    ensures { result ≡ list_all is_name_byte text.now }
-{
-    text.as_bytes().iter().all(|b| is_name_byte(*b))
-}
-
-fn is_name_byte(b: u8) -> bool
-    ensures { result ≡ is_name_byte b }
-{
-    b.is_ascii_digit() || b.is_ascii_uppercase() || b == b'_' || b.is_ascii_lowercase()
 }
 
 /// The place that stands in brackets: nothing, or indices with a comma between each two.

@@ -38,3 +38,4 @@ pub use document::{
 };
 pub use faults::{FormFault, FormKind, Part, Path};
 pub use reading::read_document;
+pub use scalars::is_name;

@@ -36,8 +36,8 @@ pub(crate) fn name_or_not(alloc: Global, at: &At<'_>, text: &str) -> Result<Name
     }
 }
 
-/// Whether a text is 1 to 64 letters, digits and underscores of ASCII.
-fn is_name(text: &str) -> bool
+/// Whether a text is 1 to 64 letters, digits and underscores of ASCII. Linear in such a text. Takes no memory.
+pub fn is_name(text: &str) -> bool
     ensures { result ≡ is_name text.now }
 {
     let length = text.len();

@@ -3,13 +3,14 @@ use Rattle.std.specs.Prelude.{◌≡◌, refl, ℕ, zero, suc, ◌≤◌, List, 
 use Rattle.std.proofs.Common.{arith, sym, ap, subst, ◌∙◌, inl, inr}
 use Rattle.tv_value.specs.Orders.{same_job, in_order}
 use Rattle.tv_lineage.specs.Touching as marks
+use Rattle.tv_lineage.specs.Touching.{Label, label_cmp}
 use Rattle.tv_lineage.specs.Members.{In}
 use Rattle.tv_lineage.specs.Lineages.{Record, LeadsIn, Leads, IsReached, backward}
 use Rattle.tv_lineage.proofs.OfMembers.{in-map, of-map, in-flat, of-flat, true≠false}
 use Rattle.tv_lineage.proofs.Closing.{same_job_decides, leads-more, backward-is}
 use Rattle.tv_strategy.specs.Origins.{Mark, given, made, Traced}
 use Rattle.tv_model.specs.Jobs.{Job}
-use Rattle.tv_model.specs.Lineages.{Label, label_cmp, labels, used}
+use Rattle.tv_model.specs.Lineages.{labels, used}
 use Rattle.tv_model.proofs.Members.{Apart, once-of_apart}
 use Rattle.tv_followed.specs.Recorded.{mark_of, marks_of, record_of}
 

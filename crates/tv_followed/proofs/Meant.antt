@@ -9,7 +9,7 @@ use Rattle.tv_value.specs.Orders.{in_order, named, same_name}
 use Rattle.tv_flow.specs.Flows.{Flow, Feed}
 use Rattle.tv_gate.specs.Outcomes.{Giving}
 use Rattle.tv_lineage.specs.Members.{In, HaveSame}
-use Rattle.tv_lineage.specs.Touching.{touches, Label}
+use Rattle.tv_lineage.specs.Touching.{Label, label_cmp, touches}
 use Rattle.tv_lineage.specs.Lineages.{IsReached, Record, Leaf, backward, forward, leaf_label}
 use Rattle.tv_lineage.proofs.OfLaws.{backward-closure}
 use Rattle.tv_strategy.specs.Origins.{Mark, given, made, Origin, Traced}
@@ -243,7 +243,7 @@ module _ (gives : Giving) (inside : Name → JobName → List (Name × Value) �
   by-records : (rs : List Record) → AreOnly rs (jobs_so_far ms) → ((r : Record) → In r (recorded (jobs_so_far ms)) → In r rs) → (v : Traced) → AtNodes P v → backward rs (marks_of v) ≡ model.lineage m v
   by-records rs o w v h =
       backward-labels rs (jobs_so_far ms) main-apart (use-steps ms marked.1) o w v (used-of v h)
-      ∙ ap (λ js. in_order model.label_cmp (flat_map (model.labels js) (model.used v))) (sym main-is)
+      ∙ ap (λ js. in_order label_cmp (flat_map (model.labels js) (model.used v))) (sym main-is)
 
   same-lineage : (rs : List Record) → AreRecords m rs → (v : Traced) → AtNodes P v → backward rs (marks_of v) ≡ model.lineage m v
   same-lineage rs (inl f) v h =

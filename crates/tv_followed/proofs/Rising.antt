@@ -20,7 +20,8 @@ use Rattle.tv_lineage.proofs.OfMembers.{each_in, in-append, in_each, of-flat, of
 use Rattle.tv_strategy.specs.Origins.{Traced}
 use Rattle.tv_strategy.specs.Sources as sources
 use Rattle.tv_model.specs.Instances.{given_of}
-use Rattle.tv_model.specs.Lineages.{Label, forward, label_cmp, leaf_label, lineage, touches}
+use Rattle.tv_lineage.specs.Touching.{Label, label_cmp, touches}
+use Rattle.tv_model.specs.Lineages.{forward, leaf_label, lineage}
 use Rattle.tv_model.specs.Made.{Meaning, feed_value}
 use Rattle.tv_model.specs.Meanings.{flow_meaning, instance_meaning, meaning, nesting_limit, no_meaning}
 use Rattle.tv_model.proofs.Fed.{named_map_or}

@@ -7,7 +7,7 @@ use Rattle.tv_flow.specs.Flows.{Document}
 use Rattle.tv_flow.specs.Formed.{is_formed}
 use Rattle.tv_lineage.specs.Members.{HaveSame, In, Rises}
 use Rattle.tv_lineage.specs.Lineages.{IsReached, Record, backward, by_step, forward, job_at}
-use Rattle.tv_lineage.specs.Touching.{Label}
+use Rattle.tv_lineage.specs.Touching.{Label, label_cmp}
 use Rattle.tv_strategy.specs.Origins.{Traced}
 use Rattle.tv_model.specs.Jobs.{Job}
 use Rattle.tv_model.specs.Lineages as model
@@ -47,7 +47,7 @@ ForwardIsForward =
 abbrev pub ForwardRises : Type 0
 ForwardRises =
     (gives : Giving) (d : Document) → is_formed d ≡ true → (x : Name) (q : Place)
-    → Rises model.label_cmp (model.forward (meaning gives d) x q)
+    → Rises label_cmp (model.forward (meaning gives d) x q)
 
 -- this is the name of a job of the main flow's step s
 pub record IsJobOf (m : Meaning) (s : Name) (n : JobName) : Type 0 where

@@ -1,11 +1,10 @@
 -- Which elements of the main flow's inputs a value was made from, and which outputs from an element.
 use Rattle.std.specs.List.{list_any}
-use Rattle.std.specs.Ordering.{ordering_then}
-use Rattle.std.specs.Prelude.{Bool, List, None, Option, Some, [], false, filter, filter_map, flat_map, if◌then◌else◌, option_and_then, option_map, true, ◌&&◌, ◌++◌, ◌||◌, ◌∷◌}
-use Rattle.std.specs.declared.cmp.Ordering.{Ordering}
+use Rattle.std.specs.Prelude.{Bool, List, None, Option, Some, [], false, filter, filter_map, flat_map, if◌then◌else◌, option_and_then, option_map, true, ◌++◌, ◌∷◌}
 use Rattle.tv_value.specs.Nested.{Place, Trees, at, leaf, list, no_trees, nodes, tree}
-use Rattle.tv_value.specs.Orders.{in_order, is_prefix, name_cmp, named, place_cmp, same_job, same_name}
+use Rattle.tv_value.specs.Orders.{in_order, named, same_job}
 use Rattle.tv_value.specs.Values.{JobName, Name, Scalar}
+use Rattle.tv_lineage.specs.Touching.{Label, label_cmp, touches}
 use Rattle.tv_strategy.specs.Origins.{Mark, Origin, Traced, given, made}
 use Rattle.tv_model.specs.Jobs.{Job}
 use Rattle.tv_model.specs.Made.{Meaning}
@@ -24,9 +23,6 @@ abbrev mutual
   all_used no_trees = []
   all_used (tree t ts) = used t ++ all_used ts
 
-abbrev pub Label : Type 0
-Label = Name × Place
-
 -- the input elements that a mark leads to; a job's mark stands for the marks of its inputs. The jobs stand in
 -- job order, so those that feed a job stand after it.
 abbrev pub labels : List Job → Mark → List Label
@@ -36,9 +32,6 @@ labels (j ∷ js) (made n) =
     let through = flat_map (labels js) (flat_map used j.inputs) in
     let others = labels js (made n) in
     if same_job n j.name then through else others
-
-abbrev pub label_cmp : Label → Label → Ordering
-label_cmp a b = ordering_then (name_cmp a.0 b.0) (place_cmp a.1 b.1)
 
 abbrev pub is_outermost : JobName → Bool
 is_outermost [] = true
@@ -53,10 +46,6 @@ lineage m v = in_order label_cmp (flat_map (labels (main_jobs m)) (used v))
 -- the lineage of an output element, where there is one
 abbrev pub lineage_of : Meaning → Name → Place → Option (List Label)
 lineage_of m p q = option_map (lineage m) (option_and_then (λ v. at v q) (named p m.outputs))
-
--- the element's place is q, begins q, or goes on from it
-abbrev pub touches : Name → Place → Label → Bool
-touches x q l = same_name x l.0 && (is_prefix q l.1 || is_prefix l.1 q)
 
 abbrev pub leaf_label : Meaning → Name → Place → Name → Place × Traced → Option Label
 leaf_label m x q p (r, leaf o a) =
