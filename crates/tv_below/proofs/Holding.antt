@@ -26,14 +26,15 @@ use Rattle.tv_frame.proofs.OfFeeds.{output-below}
 use Rattle.tv_frame.proofs.OfHoldAround.{fewer-trees, output-there}
 use Rattle.tv_frame.proofs.OfHoldTold.{at-mapped}
 use Rattle.tv_frame.proofs.OfKeeping.{kept-wired}
-use Rattle.tv_below.specs.Stated.{OutputsAreBelow, tree_of}
+use Rattle.tv_below.specs.Known.{tree_of}
+use Rattle.tv_below.specs.Stated.{OutputsAreBelow}
 
 module _ (flows : List (Name × Flow)) (plan : FlowPlan) (pool : Nodes) (f : Frame) (v : View)
     (keeps : Keeps flows plan pool f v) (t o : Name) (there_is : is_there v.flow (output t o) ≡ true) where
   abbrev levels : Name → ℕ
   levels = levels_in v.flow
 
-  tree-is : tree_of pool f v.flow t o ≡ truly.tree_of v.flow levels v.inputs v.events t o
+  pub tree-is : tree_of pool f v.flow t o ≡ truly.tree_of v.flow levels v.inputs v.events t o
   tree-is =
       let b = output-there v.flow t o there_is in
       let st = is-named t v.flow.steps b.0 in

@@ -1,1 +1,4 @@
 pub mod Holding
+pub mod OfFeeds
+pub mod OfShown
+pub mod OfExact
