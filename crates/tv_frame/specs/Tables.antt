@@ -1,5 +1,5 @@
 -- What a frame looks up of its flow, by the numbers of steps.
-use Rattle.std.specs.Prelude.{◌≡◌, ℕ, zero, suc, ◌+◌, List, [], ◌∷◌, flat_map, length, map, replicate}
+use Rattle.std.specs.Prelude.{◌≡◌, ℕ, zero, suc, ◌+◌, List, [], ◌∷◌, filter, flat_map, length, map, replicate}
 use Rattle.std.specs.List.{range_with_len}
 use Rattle.std.specs.Option.{option_map_or}
 use Rattle.tv_value.specs.Orders.{named}
@@ -10,6 +10,8 @@ use Rattle.tv_strategy.specs.Measures.{strategy_depth}
 use Rattle.tv_depths.specs.CheckedDepths.{flow_depths, port_depth}
 use Rattle.tv_depths.specs.Steps.{strategy_of}
 use Rattle.tv_wires.specs.Ports.{mismatches}
+use Rattle.tv_wires.specs.Wirings.{wires_by_step}
+use Rattle.tv_spread.specs.Along.{is_walked}
 use Rattle.tv_bound.specs.Constants.{constants_view, flow_constants}
 use Rattle.tv_starts.specs.Starts.{starts}
 use Rattle.tv_turn.specs.FirstReady.{by_falling_rank}
@@ -49,7 +51,7 @@ step_starts f s = starts (number_of (mismatches f s.1)) 0 (strategy_of s.1)
 -- ---- all of it
 
 -- the tables of a flow: first trees, starts, the steps with the greatest rank first, the levels of each step, the depth of
--- each tree, and constants
+-- each tree, the wires into ports that walk some levels, and constants
 pub record AreTables (f : Flow) (t : Tables) : Type 0 where
   pub firsts_are : t.firsts.items ≡ map (first_tree f.steps) (range_with_len 0 (length f.steps))
   pub starts_are : map (λ is. is.items) t.starts.items
@@ -57,4 +59,5 @@ pub record AreTables (f : Flow) (t : Tables) : Type 0 where
   pub order_is : t.order.items ≡ by_falling_rank f
   pub levels_are : t.levels.items ≡ map (λ s. levels_in f s.0) f.steps
   pub depths_are : t.depths.items ≡ tree_depths f
+  pub walked_are : map (λ row. row.items) t.walked.items ≡ map (filter is_walked) (wires_by_step f)
   pub constants_are : constants_view t.constants ≡ flow_constants f

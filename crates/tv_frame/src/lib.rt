@@ -1,8 +1,10 @@
 //! One open instance of a flow: it is told what its jobs give, and knows at once what follows.
 //!
-//! A frame is told the events of its instance: a job's result, a list closed, a fault passed. Each becomes tellings of the ports
-//! that it feeds, and the matchers of these steps bring new jobs, lists and faults. Nothing is worked out anew: an event costs its
-//! own tellings and what comes out of them, with a logarithm.
+//! A frame is told the events of its instance: a job's result, a list closed, a fault passed. Each
+//! becomes tellings of the ports that it feeds, and the matchers of these steps bring new jobs, lists
+//! and faults. Nothing is worked out anew: an event costs the wires from its step into ports that walk
+//! some levels, its tellings and what comes out of them, with a logarithm. The one that makes its step
+//! whole costs all wires from the step, and the links of the ports of the steps that they feed.
 //!
 //! An event comes in two halves. `room_for_result` and `room_for_settle` take all memory that it needs, and tell how many
 //! jobs it will make known; they may be refused, and then nothing has changed but rooms. `result` and `settle` take no memory.
@@ -28,6 +30,6 @@ mod starting;
 mod tables;
 
 pub use events::Settled;
-pub use frame::{Frame, Husk};
+pub use frame::Frame;
 pub use jobs::FrameJob;
 pub use tables::FlowTables;

@@ -44,8 +44,10 @@ use tv_value::{Copied, Name as OutputName, NoMemory, Place};
 use tv_wires::Port;
 
 impl Frame {
-    /// Takes all the room that `result` with these arguments needs, and answers how many jobs it will make known. It reads the
-    /// lengths of lists in the cells, and looks through the values for faults.
+    /// Takes all the room that `result` with these arguments needs, and answers how many jobs it will
+    /// make known. Of the values it reads as many levels as ports walk. Whether one holds a fault is
+    /// asked of its piece: a cell knows it, a list of pieces is looked through for one, and so is a
+    /// part of a value that holds some.
     pub fn room_for_result(
         &mut self,
         plan: &FlowPlan,
@@ -272,8 +274,8 @@ impl Frame {
         Ok(jobs)
     }
 
-    /// Has the steps that are fed work the event ahead, and answers how many jobs will become known with it. Costs what they
-    /// are told, and where a step turns whole the links of the ports of the steps that it feeds.
+    /// Has the steps that are fed work the event ahead, and answers how many jobs will become known
+    /// with it. Costs what `Spread::hold` does.
     fn hold(
         &mut self,
         plan: &FlowPlan,
@@ -299,6 +301,7 @@ impl Frame {
         self.ahead.whole = event.whole_from == 0;
         let around = Around {
             wiring: &plan.wiring,
+            walked: self.tables.walked(),
             endings: &self.endings,
             outputs: &self.outputs,
             pool,

@@ -1,9 +1,11 @@
 //! What a frame looks up of its flow.
-ghost use Rattle.std.specs.Prelude.{◌≡◌, ◌++◌, ◌<◌, IfOk, OnOk, Some, length, map, replicate, slice_get, slice_index_or};
+ghost use Rattle.std.specs.Prelude.{◌≡◌, ◌++◌, ◌<◌, IfOk, OnOk, Some, filter, length, map, replicate, slice_get, slice_index_or};
 ghost use Rattle.std.specs.List.{range_with_len};
 ghost use Rattle.tv_value.specs.Values.{Name};
 ghost use Rattle.tv_flow.specs.Flows.{Step};
 ghost use Rattle.tv_flow.specs.Views.{flow_view};
+ghost use Rattle.tv_wires.specs.Wirings.{wires_by_step};
+ghost use Rattle.tv_spread.specs.Along.{is_walked};
 ghost use Rattle.tv_turn.specs.FirstReady.{by_falling_rank};
 ghost use Rattle.tv_frame.specs.Tables.{AreTables, first_tree, levels_in, step_starts, tree_depths, trees_of};
 
@@ -12,8 +14,10 @@ use std::marker::Model;
 use std::sync::Arc;
 use tv_bound::Constants;
 use tv_check::FlowPlan;
+use tv_spread::walked_wires;
 use tv_starts::leaf_starts;
 use tv_value::NoMemory;
+use tv_wires::Wire;
 
 /// What a frame looks up of its flow by numbers.
 #[derive(Drop)]
@@ -28,6 +32,8 @@ pub struct Tables {
     pub(crate) levels: Vec<u32>,
     /// The depth of each tree.
     pub(crate) depths: Vec<u32>,
+    /// For each step the wires from it into ports that walk some levels.
+    pub(crate) walked: Vec<Vec<Wire>>,
     /// The flow's constants.
     pub(crate) constants: Constants,
 }
@@ -51,8 +57,8 @@ impl Model for FlowTables {
 }
 
 impl FlowTables {
-    /// The tables of a flow. Linear in the flow, in its strategies with a look-up for each leaf.
-    /// The flow's constants are copied, each once.
+    /// The tables of a flow. Linear in the flow and its wires, in its strategies with a look-up for
+    /// each leaf. The flow's constants are copied, each once.
     pub fn start(alloc: Global, plan: &FlowPlan) -> Result<FlowTables, NoMemory>
         ensures { IfOk result (λ t. AreTables (flow_view plan.now.flow) t) }
     {
@@ -113,6 +119,13 @@ impl FlowTables {
         self.read().depths.as_slice()
     }
 
+    /// For each step the wires from it into ports that walk some levels.
+    pub(crate) fn walked(&self) -> &[Vec<Wire>]
+        ensures { result.now ≡ self.now.walked.items }
+    {
+        self.read().walked.as_slice()
+    }
+
     /// The flow's constants.
     pub(crate) fn constants(&self) -> &Constants
         ensures { result.now ≡ self.now.constants }
@@ -129,6 +142,7 @@ fn tables_of(alloc: Global, plan: &FlowPlan) -> Result<Tables, NoMemory>
     let order = order_of(alloc, plan)?;
     let levels = levels_of(alloc, plan)?;
     let depths = tree_depths(alloc, plan)?;
+    let walked = walked_of(alloc, plan)?;
     let constants = Constants::start(alloc, &plan.flow)?;
     Ok(Tables {
         firsts,
@@ -136,8 +150,17 @@ fn tables_of(alloc: Global, plan: &FlowPlan) -> Result<Tables, NoMemory>
         order,
         levels,
         depths,
+        walked,
         constants,
     })
+}
+
+/// For each step the wires from it into ports that walk some levels.
+fn walked_of(alloc: Global, plan: &FlowPlan) -> Result<Vec<Vec<Wire>>, NoMemory>
+    ensures { IfOk result (λ rows. map (λ row. row.items) rows.items
+        ≡ map (filter is_walked) (wires_by_step (flow_view plan.now.flow))) }
+{
+    walked_wires(alloc, &plan.wiring)
 }
 
 /// The levels that the iteration of each step has.

@@ -71,6 +71,15 @@ pub filter-same : {A : Type 0} (p q : A → Bool) (xs : List A) → Each (λ x. 
 filter-same p q [] h = refl
 filter-same p q (x ∷ xs) h = (λ i. cond (h.0 i) (x ∷ filter-same p q xs h.1 i) (filter-same p q xs h.1 i))
 
+-- those that pass one test among those that pass another, which all of them pass
+pub filter-among : {A : Type 0} (p q : A → Bool) → ((x : A) → q x ≡ false → p x ≡ false) → (xs : List A) → filter p (filter q xs) ≡ filter p xs
+filter-among p q h [] = refl
+filter-among p q h (x ∷ xs) = by (q x) refl (filter-among p q h xs)
+  where
+    by : (b : Bool) → q x ≡ b → filter p (filter q xs) ≡ filter p xs → filter p (cond b (x ∷ filter q xs) (filter q xs)) ≡ cond (p x) (x ∷ filter p xs) (filter p xs)
+    by true e r = ap (λ ys. cond (p x) (x ∷ ys) ys) r
+    by false e r = r ∙ sym (ap (λ b. cond b (x ∷ filter p xs) (filter p xs)) (h x e))
+
 -- ---- ranges
 
 range-more : (a b : ℕ) → range_with_len a (b + 1) ≡ range_with_len a b ++ (a + b) ∷ []

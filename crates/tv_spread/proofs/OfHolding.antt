@@ -8,7 +8,6 @@ use Rattle.tv_strategy.specs.Sources.{Each}
 use Rattle.tv_matching.specs.Items.{if_so}
 use Rattle.tv_strategy.specs.Measures.{leaf_names}
 use Rattle.tv_matching.specs.Matchers.{CanTellAll}
-use Rattle.tv_matching.specs.Told.{Told}
 use Rattle.tv_matching.proofs.Lists.{each-append, each-weaken}
 use Rattle.tv_match.specs.declared.matchers.Matcher.{Matcher}
 use Rattle.tv_match.specs.declared.told.Told as code
@@ -19,15 +18,14 @@ use Rattle.tv_wires.specs.declared.wires.Wire.{Wire}
 use Rattle.tv_intake.specs.declared.intakes.Intakes.{Intakes}
 use Rattle.tv_intake.specs.Intaken.{AreIntaken, CanHold, CanShow, HoldsThese, OthersStay, known_jobs, matcher_at, waiting_things}
 use Rattle.tv_spread.specs.declared.around.Around.{Around}
-use Rattle.tv_spread.specs.Along.{is_walked, way_of, ways_into, wires_from}
-use Rattle.tv_spread.specs.Arounds.{IsAround, is_told, ports_at, told_at, told_steps, ways_at, wholes_at}
+use Rattle.tv_spread.specs.Along.{is_walked, way_of, ways_into}
+use Rattle.tv_spread.specs.Arounds.{IsAround, is_told, ports_at, told_at, told_steps, ways_at, wholes_at, wires_along}
 use Rattle.tv_spread.specs.Runs.{AreSortedFrom, StartsElsewhere}
 use Rattle.tv_spread.specs.Spreads.{CanBeTold, CanHoldThese, HoldTold, HoldsAt, StaysAt}
 use Rattle.tv_spread.proofs.Lists.{none, passing-more, passing-until}
 use Rattle.tv_spread.proofs.OfRuns.{run-ways, sorted-behind, sorted-each, sorted-first}
 use Rattle.tv_spread.proofs.OfLeaves.{leaves-named}
-use Rattle.tv_spread.proofs.OfTold.{untold, ways-leaf, wholes-leaf}
-use Rattle.tv_spread.proofs.OfWires.{wires-sorted, wires-within}
+use Rattle.tv_spread.proofs.OfTold.{along-sorted, along-ways, along-within, untold, ways-leaf, wholes-leaf}
 
 -- ---- one matcher
 
@@ -55,7 +53,7 @@ can-shown ts (Some m) (Some n) c h = can-held (matching m) (matching n) ts h.0 c
 -- the wires before `rest` have been looked at
 pub record Telling (a : Around) (s : ℕ) (e : Event) (i j : Intakes) (touched : List ℕ) (rest : List Wire) : Type 0 where
   pub done : List Wire
-  pub all : done ++ rest ≡ wires_from a.wiring.now s
+  pub all : done ++ rest ≡ wires_along a s e
   pub bound : ℕ
   pub below : Each (λ (w : Wire). w.step < bound) done
   pub sorted : AreSortedFrom bound rest
@@ -98,14 +96,14 @@ at-test (suc c) zero f g = g (λ e. omega (arith, e))
 at-test (suc c) (suc d) f g = at-test c d (λ e. f (ap suc e)) (λ ne. g (λ e. ne (omega (arith, e))))
 
 module _ (a : Around) (s : ℕ) (e : Event) (h : IsAround a s e) (i : Intakes) where
-  pub telling-none : (touched : List ℕ) (rest : List Wire) → touched ≡ [] → rest ≡ wires_from a.wiring.now s → AreIntaken i → Telling a s e i i touched rest
+  pub telling-none : (touched : List ℕ) (rest : List Wire) → touched ≡ [] → rest ≡ wires_along a s e → AreIntaken i → Telling a s e i i touched rest
   telling-none touched rest t r sound =
       record {
         done = [];
         all = r;
         bound = 0;
         below = tt;
-        sorted = subst (AreSortedFrom 0) (sym r) (wires-sorted a.wiring.now s h.wires h.step);
+        sorted = subst (AreSortedFrom 0) (sym r) (along-sorted a s e h);
         within = omega arith;
         touched_are = t;
         told = λ c l. none c l;
@@ -135,7 +133,7 @@ module _ (a : Around) (s : ℕ) (e : Event) (h : IsAround a s e) (i : Intakes) w
           first-on (w ∷ ws) h l = h.0
 
       pub there : c < length a.wiring.now.ports
-      there = subst (λ k. k < length a.wiring.now.ports) first (first-in rest (behind-in v.done rest (subst (Each (λ (w : Wire). w.step < length a.wiring.now.ports)) (sym v.all) (wires-within a.wiring.now s h.wires h.step))) more)
+      there = subst (λ k. k < length a.wiring.now.ports) first (first-in rest (behind-in v.done rest (subst (Each (λ (w : Wire). w.step < length a.wiring.now.ports)) (sym v.all) (along-within a s e h))) more)
         where
           behind-in : (xs ys : List Wire) → Each (λ (w : Wire). w.step < length a.wiring.now.ports) (xs ++ ys) → Each (λ (w : Wire). w.step < length a.wiring.now.ports) ys
           behind-in [] ys h = h
@@ -153,6 +151,7 @@ module _ (a : Around) (s : ℕ) (e : Event) (h : IsAround a s e) (i : Intakes) w
           run-ways c v.done (take n rest) (drop n rest) before-c run behind
           ∙ ap (λ l. ways_into c (v.done ++ l)) (take-append-drop n rest)
           ∙ ap (ways_into c) v.all
+          ∙ along-ways a s e h c
 
       -- steps between are told nothing
       between : (k : ℕ) → v.bound ≤ k → k < c → is_told a s e k ≡ false

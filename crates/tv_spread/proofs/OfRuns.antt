@@ -1,5 +1,5 @@
 -- Wires sorted by the step that they feed.
-use Rattle.std.specs.Prelude.{◌≡◌, ℕ, zero, suc, ◌+◌, ◌<◌, ◌≤◌, ◌&&◌, false, List, [], ◌∷◌, ◌++◌, drop, filter, length, map, take}
+use Rattle.std.specs.Prelude.{◌≡◌, ℕ, zero, suc, ◌+◌, ◌<◌, ◌≤◌, ◌==◌, ◌&&◌, Bool, true, false, cond, List, [], ◌∷◌, ◌++◌, drop, filter, length, map, take, refl}
 use Rattle.std.proofs.Common.{arith, get_or, ap, sym, subst, ◌∙◌, append-nil}
 use Rattle.std.proofs.lemmas.Bool.{eq-eqb, ne_eqb}
 use Rattle.std.proofs.lemmas.List.Elements.{filter-append}
@@ -8,7 +8,7 @@ use Rattle.tv_matching.proofs.Lists.{each-weaken}
 use Rattle.tv_wires.specs.declared.wires.Wire.{Wire}
 use Rattle.tv_spread.specs.Along.{is_walked, leads_into, way_of, ways_into}
 use Rattle.tv_spread.specs.Runs.{AreSortedFrom, StartsElsewhere}
-use Rattle.tv_spread.proofs.Lists.{filter-none, filter-same, none}
+use Rattle.tv_spread.proofs.Lists.{filter-among, filter-none, filter-same, none}
 
 -- from a lesser step on too
 pub sorted-lower : (a b : ℕ) (ws : List Wire) → a ≤ b → AreSortedFrom b ws → AreSortedFrom a ws
@@ -35,6 +35,15 @@ pub sorted-first : (b : ℕ) (ws : List Wire) (d : Wire) → AreSortedFrom b ws 
 sorted-first b [] d h l = none 0 l
 sorted-first b (w ∷ ws) d h l = (omega arith, h.1)
 
+-- some of them are sorted too
+pub sorted-filter : (p : Wire → Bool) (b : ℕ) (ws : List Wire) → AreSortedFrom b ws → AreSortedFrom b (filter p ws)
+sorted-filter p b [] h = tt
+sorted-filter p b (w ∷ ws) h = by (p w) (sorted-filter p w.step ws h.1)
+  where
+    by : (t : Bool) → AreSortedFrom w.step (filter p ws) → AreSortedFrom b (cond t (w ∷ filter p ws) (filter p ws))
+    by true r = (h.0, r)
+    by false r = sorted-lower b w.step (filter p ws) h.0 r
+
 -- ---- the ways into step c lie in its run
 
 other-no : (c : ℕ) (w : Wire) → (w.step ≡ c → ⊥) → leads_into c w ≡ false
@@ -45,6 +54,17 @@ own-same c w e = ap (λ b. b && is_walked w) (eq-eqb w.step c e)
 
 pub no-ways : (c : ℕ) (ws : List Wire) → Each (λ (w : Wire). w.step ≡ c → ⊥) ws → ways_into c ws ≡ []
 no-ways c ws h = ap (map way_of) (filter-none (leads_into c) ws (each-weaken (λ (w : Wire). w.step ≡ c → ⊥) (λ w. leads_into c w ≡ false) (other-no c) ws h))
+
+-- ways lead along wires into ports that walk some levels
+pub walked-ways : (c : ℕ) (ws : List Wire) → ways_into c (filter is_walked ws) ≡ ways_into c ws
+walked-ways c ws = ap (map way_of) (filter-among (leads_into c) is_walked unwalked ws)
+  where
+    no : (b : Bool) → (b && false) ≡ false
+    no true = refl
+    no false = refl
+
+    unwalked : (w : Wire) → is_walked w ≡ false → leads_into c w ≡ false
+    unwalked w e = ap (λ b. w.step == c && b) e ∙ no (w.step == c)
 
 pub run-ways : (c : ℕ) (before run rest : List Wire) → Each (λ (w : Wire). w.step < c) before → Each (λ (w : Wire). w.step ≡ c) run → AreSortedFrom (c + 1) rest → map way_of (filter is_walked run) ≡ ways_into c (before ++ (run ++ rest))
 run-ways c before run rest b r s =

@@ -1,6 +1,6 @@
 -- Which steps are told something, wire by wire.
 use Rattle.std.specs.Prelude.{◌≡◌, ℕ, ◌==◌, ◌&&◌, Bool, true, false, if◌then◌else◌, List, [], filter, length, map, refl, ◌<◌}
-use Rattle.std.proofs.Common.{ap, ◌∙◌}
+use Rattle.std.proofs.Common.{ap, sym, ◌∙◌}
 use Rattle.std.proofs.lemmas.Bool.{eqb-true}
 use Rattle.tv_strategy.specs.Sources.{Each}
 use Rattle.tv_matching.proofs.Lists.{each-map, each-weaken}
@@ -17,12 +17,13 @@ use Rattle.tv_wires.specs.declared.wires.Wire.{Wire}
 use Rattle.tv_endings.specs.Ends.{is_whole}
 use Rattle.tv_feeds.specs.Feeds.{IsLinkWithin, IsWithin, feed_from, feed_whole, has_whole_with, with_step}
 use Rattle.tv_spread.specs.declared.around.Around.{Around}
-use Rattle.tv_spread.specs.Along.{is_walked, leads_into, way_of, wires_from}
+use Rattle.tv_spread.specs.Along.{is_walked, leads_into, way_of, ways_into, wires_from}
 use Rattle.tv_spread.specs.Wholes.{whole_port, wholes_with}
-use Rattle.tv_spread.specs.Arounds.{IsAround, IsFed, IsLinked, delivers_fault, is_told, ports_at, tells_some, ways_at, wholes_among, wholes_at}
+use Rattle.tv_spread.specs.Arounds.{IsAround, IsFed, IsLinked, delivers_fault, is_told, ports_at, tells_some, ways_at, wholes_among, wholes_at, wires_along}
 use Rattle.tv_spread.proofs.Lists.{each-filter, each-passing, filter-none}
-use Rattle.tv_spread.proofs.OfRuns.{no-ways}
-use Rattle.tv_spread.proofs.OfWires.{AreSo, IsSo, none-fed, wires-leaf, wires-so}
+use Rattle.tv_spread.proofs.OfRuns.{no-ways, sorted-filter, walked-ways}
+use Rattle.tv_spread.proofs.OfWires.{AreSo, IsSo, none-fed, wires-leaf, wires-so, wires-sorted, wires-within}
+use Rattle.tv_spread.specs.Runs.{AreSortedFrom}
 
 -- ---- of what is around
 
@@ -80,23 +81,50 @@ module _ (a : Around) (s : ℕ) (e : Event) where
         by true = each-map (λ (w : Whole). w.leaf < n) (whole_port (delivers_fault a s e)) (filter (has_whole_with (is_whole a.endings.now) s) ps) (each-filter (λ (p : Port). p.leaf < n) (has_whole_with (is_whole a.endings.now) s) ps l)
         by false = tt
 
-    -- a step that no wire feeds is told nothing
-    none-whole : (ps : List Port) → Each (λ (p : Port). feed_from s p.feed ≡ false) ps → wholes_among a s e ps ≡ []
-    none-whole ps n = by (e.whole_from == 0)
+    -- ---- the wires along which it is told
+
+    pub along-sorted : AreSortedFrom 0 (wires_along a s e)
+    along-sorted = by (e.whole_from == 0)
       where
+        by : (b : Bool) → AreSortedFrom 0 (if b then wires_from a.wiring.now s else filter is_walked (wires_from a.wiring.now s))
+        by true = wires-sorted a.wiring.now s h.wires h.step
+        by false = sorted-filter is_walked 0 (wires_from a.wiring.now s) (wires-sorted a.wiring.now s h.wires h.step)
+
+    pub along-within : Each (λ (w : Wire). w.step < length a.wiring.now.ports) (wires_along a s e)
+    along-within = by (e.whole_from == 0)
+      where
+        by : (b : Bool) → Each (λ (w : Wire). w.step < length a.wiring.now.ports) (if b then wires_from a.wiring.now s else filter is_walked (wires_from a.wiring.now s))
+        by true = wires-within a.wiring.now s h.wires h.step
+        by false = each-filter (λ (w : Wire). w.step < length a.wiring.now.ports) is_walked (wires_from a.wiring.now s) (wires-within a.wiring.now s h.wires h.step)
+
+    -- all ways lead along them
+    pub along-ways : (c : ℕ) → ways_into c (wires_along a s e) ≡ ways_at a s c
+    along-ways c = by (e.whole_from == 0)
+      where
+        by : (b : Bool) → ways_into c (if b then wires_from a.wiring.now s else filter is_walked (wires_from a.wiring.now s)) ≡ ways_at a s c
+        by true = refl
+        by false = walked-ways c (wires_from a.wiring.now s)
+
+    -- a step into which none of them leads is told nothing
+    none-whole : (ps : List Port) → Each (λ (p : Port). feed_from s p.feed ≡ false) ps → wholes_with (is_whole a.endings.now) s (delivers_fault a s e) ps ≡ []
+    none-whole ps n =
+        ap (map (whole_port (delivers_fault a s e)))
+        (filter-none (has_whole_with (is_whole a.endings.now) s) ps (each-weaken (λ (p : Port). feed_from s p.feed ≡ false) (λ p. has_whole_with (is_whole a.endings.now) s p ≡ false) one ps n))
+      where
+        no : (b : Bool) → (b && false) ≡ false
+        no true = refl
+        no false = refl
+
         one : (p : Port) → feed_from s p.feed ≡ false → has_whole_with (is_whole a.endings.now) s p ≡ false
         one p f = ap (λ b. p.levels == 0 && (b && feed_whole (with_step (is_whole a.endings.now) s) p.feed)) f ∙ no (p.levels == 0)
-          where
-            no : (b : Bool) → (b && false) ≡ false
-            no true = refl
-            no false = refl
 
-        by : (b : Bool) → (if b then wholes_with (is_whole a.endings.now) s (delivers_fault a s e) ps else []) ≡ []
-        by true = ap (map (whole_port (delivers_fault a s e))) (filter-none (has_whole_with (is_whole a.endings.now) s) ps (each-weaken (λ (p : Port). feed_from s p.feed ≡ false) (λ p. has_whole_with (is_whole a.endings.now) s p ≡ false) one ps n))
-        by false = refl
-
-    pub untold : (c : ℕ) → Each (λ (w : Wire). w.step ≡ c → ⊥) (wires_from a.wiring.now s) → is_told a s e c ≡ false
+    pub untold : (c : ℕ) → Each (λ (w : Wire). w.step ≡ c → ⊥) (wires_along a s e) → is_told a s e c ≡ false
     untold c n =
-        let ways : ways_at a s c ≡ [] = no-ways c (wires_from a.wiring.now s) n in
-        let whole : wholes_at a s e c ≡ [] = none-whole (ports_at a c) (none-fed a.wiring.now s c h.wires h.step n) in
+        let ways : ways_at a s c ≡ [] = sym (along-ways c) ∙ no-ways c (wires_along a s e) n in
+        let whole : wholes_at a s e c ≡ [] = by (e.whole_from == 0) n in
         (λ i. tells_some (ways i) (whole i))
+      where
+        by : (b : Bool) → Each (λ (w : Wire). w.step ≡ c → ⊥) (if b then wires_from a.wiring.now s else filter is_walked (wires_from a.wiring.now s))
+            → (if b then wholes_with (is_whole a.endings.now) s (delivers_fault a s e) (ports_at a c) else []) ≡ []
+        by true m = none-whole (ports_at a c) (none-fed a.wiring.now s c h.wires h.step m)
+        by false m = refl

@@ -1,10 +1,11 @@
 -- The wires of all ports, turned round: those from one step are sorted by the step that they feed, and a step that none of them
 -- feeds has no port that comes from it.
 use Rattle.std.specs.List.{list_any}
-use Rattle.std.specs.Prelude.{◌≡◌, ℕ, zero, suc, ◌+◌, ◌<◌, ◌==◌, ◌||◌, Bool, true, false, cond, List, [], ◌∷◌, ◌++◌, Option, Some, filter, flat_map, length, map, slice_index_or, refl, ◌≤◌}
-use Rattle.std.proofs.Common.{arith, ap, sym, subst, ◌∙◌}
+use Rattle.std.specs.Global.{Global}
+use Rattle.std.specs.Prelude.{◌≡◌, ℕ, zero, suc, ◌+◌, ◌<◌, ◌==◌, ◌||◌, Bool, true, false, cond, List, [], ◌∷◌, ◌++◌, Option, Some, filter, flat_map, length, map, slice_index_or, refl, ◌≤◌, Vec}
+use Rattle.std.proofs.Common.{arith, get_or, ap, sym, subst, ◌∙◌}
 use Rattle.std.proofs.lemmas.Bool.{eq-eqb, eqb-true, ne_eqb}
-use Rattle.std.proofs.lemmas.List.{map-append}
+use Rattle.std.proofs.lemmas.List.{get_or-map, length-map, map-append}
 use Rattle.std.proofs.lemmas.List.Elements.{filter-append}
 use Rattle.std.proofs.lemmas.List.FromFn.{get_or-map-range_with_len, length-map-range_with_len}
 use Rattle.tv_strategy.specs.Sources.{Each}
@@ -20,8 +21,8 @@ use Rattle.tv_wires.specs.declared.wires.Wire.{Wire}
 use Rattle.tv_wires.specs.declared.wiring.Wiring.{Wiring}
 use Rattle.tv_wires.specs.Turned.{all_wires, from_number, links_of, port_wires, step_wires, wire_of}
 use Rattle.tv_feeds.specs.Feeds.{feed_from, link_from}
-use Rattle.tv_spread.specs.Along.{wires_from}
-use Rattle.tv_spread.specs.Arounds.{AreWires}
+use Rattle.tv_spread.specs.Along.{is_walked, wires_from}
+use Rattle.tv_spread.specs.Arounds.{AreWalked, AreWires}
 use Rattle.tv_spread.specs.Runs.{AreSortedFrom}
 use Rattle.tv_spread.proofs.Lists.{each-unflat}
 use Rattle.tv_spread.proofs.OfRuns.{sorted-block}
@@ -234,3 +235,15 @@ wires-leaf w s c n h l a =
     subst (Each (λ (x : Wire). x.step ≡ c → x.leaf < n)) (sym (row-is w s h l))
     (from-each s (λ (x : Wire). x.step ≡ c → x.leaf < n) (all_wires w.ports)
     (each-weaken (HasLeaf c n) (λ (y : ℕ × Wire). y.0 ≡ s → y.1.step ≡ c → y.1.leaf < n) (λ y k e. k) (all_wires w.ports) (steps-leaf c n 0 c w.ports (omega arith) a)))
+
+-- ---- the rows of wires into ports that walk some levels
+
+module _ (rows : List (Vec Wire Global)) (w : Wiring) (h : AreWalked rows w) where
+  pub walked-many : length rows ≡ length w.wires
+  walked-many = sym (length-map rows (λ row. row.items)) ∙ ap length h ∙ length-map w.wires (filter is_walked)
+
+  pub walked-row : (k : ℕ) (row : Vec Wire Global) → k < length rows → (get_or rows k row).items ≡ filter is_walked (wires_from w k)
+  walked-row k row l =
+      sym (get_or-map (λ r. r.items) rows k row [] l)
+      ∙ ap (λ ls. get_or ls k []) h
+      ∙ get_or-map (filter is_walked) w.wires k [] [] (omega (arith, l, walked-many))

@@ -1,6 +1,7 @@
 -- What an event of a step tells each step that it feeds, and which steps are told something.
 use Rattle.std.specs.List.{range_with_len}
-use Rattle.std.specs.Prelude.{◌≡◌, ℕ, ◌+◌, ◌==◌, ◌<◌, ◌||◌, not, nat_lt, Bool, false, if◌then◌else◌, List, [], ◌++◌, filter, flat_map, get_or, length, map, slice_index_or}
+use Rattle.std.specs.Global.{Global}
+use Rattle.std.specs.Prelude.{◌≡◌, ℕ, ◌+◌, ◌==◌, ◌<◌, ◌||◌, not, nat_lt, Bool, false, if◌then◌else◌, List, [], ◌++◌, filter, flat_map, get_or, length, map, slice_index_or, Vec}
 use Rattle.tv_value.specs.Values.{holds_fault}
 use Rattle.tv_value.specs.Strategies.{Strategy}
 use Rattle.tv_strategy.specs.Sources.{Each}
@@ -16,13 +17,14 @@ use Rattle.tv_wires.specs.declared.feeds.NumberedLink.TheVariants.{Input, Output
 use Rattle.tv_wires.specs.declared.feeds.NumberedFeed.{NumberedFeed}
 use Rattle.tv_wires.specs.declared.feeds.NumberedFeed.TheVariants.{Link, Merge, Constant}
 use Rattle.tv_wires.specs.declared.ports.Port.{Port}
+use Rattle.tv_wires.specs.declared.wires.Wire.{Wire}
 use Rattle.tv_wires.specs.declared.wiring.Wiring.{Wiring}
 use Rattle.tv_wires.specs.Turned.{all_wires, from_each}
 use Rattle.tv_endings.specs.Ends.{is_whole}
 use Rattle.tv_outputs.specs.Known.{known, tree_in}
 use Rattle.tv_outputs.specs.Kept.{Stand}
 use Rattle.tv_spread.specs.declared.around.Around.{Around}
-use Rattle.tv_spread.specs.Along.{ways_into, wires_from}
+use Rattle.tv_spread.specs.Along.{is_walked, ways_into, wires_from}
 use Rattle.tv_spread.specs.Wholes.{feed_faulty, wholes_with}
 
 -- ---- which values hold a fault once event e of step s has happened
@@ -50,6 +52,13 @@ ports_at a c = slice_index_or a.wiring.now.ports c []
 
 abbrev pub ways_at : Around → ℕ → ℕ → List Way
 ways_at a s c = ways_into c (wires_from a.wiring.now s)
+
+-- the wires along which it is told: those into ports that take their feeds at once only where it
+-- makes its step whole
+abbrev pub wires_along : Around → ℕ → Event → List Wire
+wires_along a s e =
+    if e.whole_from == 0 then wires_from a.wiring.now s
+    else filter is_walked (wires_from a.wiring.now s)
 
 -- of ports that take their feeds at once only where the event makes its step whole
 abbrev pub wholes_among : Around → ℕ → Event → List Port → List Whole
@@ -83,6 +92,10 @@ told_steps a s e = filter (is_told a s e) (range_with_len 0 (length a.wiring.now
 abbrev pub AreWires : Wiring → Type 0
 AreWires w = w.wires ≡ from_each (range_with_len 0 (length w.ports)) (all_wires w.ports)
 
+-- for each step those of them into ports that walk some levels
+abbrev pub AreWalked : List (Vec Wire Global) → Wiring → Type 0
+AreWalked rows w = map (λ row. row.items) rows ≡ map (filter is_walked) w.wires
+
 -- a link is of a step that there is, of one of its outputs
 pub record IsOfOutput (a : Around) (s : ℕ) (e : Event) (t o : ℕ) : Type 0 where
   pub step : t < length a.endings.now.whole.items
@@ -103,6 +116,7 @@ IsFed a s e Constant = Unit {0}
 pub record IsAround (a : Around) (s : ℕ) (e : Event) : Type 0 where
   pub step : s < length a.wiring.now.ports
   pub wires : AreWires a.wiring.now
+  pub walked : AreWalked a.walked.now a.wiring.now
   pub fed : Each (λ (ps : List Port). Each (λ (p : Port). IsFed a s e p.feed) ps) a.wiring.now.ports
   pub region : Region
   pub stand : Stand a.pool.now a.outputs.now region

@@ -12,12 +12,14 @@ use tv_feeds::has_whole;
 use tv_outputs::{Nodes, Outputs};
 use tv_telling::{Event, Whole};
 use tv_value::NoMemory;
-use tv_wires::{NumberedFeed, NumberedLink, Port, Wiring};
+use tv_wires::{NumberedFeed, NumberedLink, Port, Wire, Wiring};
 
 /// What a step's ports are looked up in.
 #[derive(Clone, Copy)]
 pub struct Around<'a> {
     pub wiring: &'a Wiring,
+    /// For each step the wires from it into ports that walk some levels, as `walked_wires` gives them.
+    pub walked: &'a [Vec<Wire>],
     /// Which steps are whole.
     pub endings: &'a Endings,
     /// What is known of all outputs, with the pool in which that stands.

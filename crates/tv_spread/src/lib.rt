@@ -6,11 +6,13 @@
 //! what is held and the rooms are other than before. `show` makes what is held: the new jobs are known, get their numbers and
 //! are idle. It takes no memory (`specs/Spreads.antt`).
 //!
-//! The wires of a step are sorted by the step that they feed, so an event costs what it tells, and the links of ports that
-//! turn whole. No step is looked at that it doesn't feed.
+//! An event looks at the wires from its step into ports that walk some levels. Only the one that
+//! makes its step whole looks at all wires from it, and at the links of the ports of the steps that
+//! they feed. Wires are sorted by the step that they feed: each step that they feed is looked at
+//! once, and no other.
 //!
 //! - `around`: what ports are looked up in, and the ports that have their whole values
-//! - `wires`: the wires into one step
+//! - `wires`: the wires along which an event is told, and those of them into one step
 //! - `adding`: new jobs become idle
 //! - `spread`: the calls
 //! - `laws`: what holds of the definitions
@@ -25,3 +27,4 @@ mod wires;
 pub use adding::add_known;
 pub use around::Around;
 pub use spread::Spread;
+pub use wires::walked_wires;

@@ -13,7 +13,7 @@ ghost use Rattle.tv_spread.specs.Spreads.{CanHoldThese, CanHoldTold, CanShowAll,
 
 use crate::adding::add_known;
 use crate::around::{Around, push_wholes};
-use crate::wires::{push_ways, run_length};
+use crate::wires::{push_ways, run_length, wires_along};
 use std::alloc::Global;
 use std::mem;
 use tv_idle::Idle;
@@ -53,9 +53,11 @@ impl Spread {
     /// Has the matcher of each step that an event's step feeds work ahead what it is told with the event, takes all room that
     /// showing it needs, and answers how many jobs become known with it.
     ///
-    /// What a step that is told something held before is let go. Where it is refused, some of these steps may hold what they
-    /// are told, or nothing, and some rooms may be taken; all else is as before. Costs what is told, and the links of ports
-    /// that turn whole.
+    /// What a step that is told something held before is let go. Where it is refused, some of these
+    /// steps may hold what they are told, or nothing, and some rooms may be taken; all else is as
+    /// before. Costs the wires from the step into ports that walk some levels, and what is told along
+    /// them; where the event makes the step whole, all wires from the step, and the links of the
+    /// ports of the steps that they feed.
     pub fn hold(
         &mut self,
         alloc: Global,
@@ -109,7 +111,7 @@ impl Spread {
         ensures intaken { AreIntaken intakes.new }
     {
         self.touched.clear();
-        let mut rest = around.wiring.wires.row(step);
+        let mut rest = wires_along(around, step, event);
         while let Some(first) = rest.first() {
             let to = first.step;
             let (run, others) = rest.split_at(run_length(rest, to));

@@ -1,12 +1,56 @@
-//! The wires into one step.
-ghost use Rattle.std.specs.Prelude.{◌≡◌, ◌≤◌, ◌<◌, ◌++◌, map, filter, drop, take, length, OnOk};
+//! The wires of a step along which an event is told, and those of them that lead into one step.
+ghost use Rattle.std.specs.Prelude.{◌≡◌, ◌≤◌, ◌<◌, ◌^◌, ◌++◌, map, filter, drop, take, length, IfOk, OnOk};
 ghost use Rattle.tv_strategy.specs.Sources.{Each};
 ghost use Rattle.tv_spread.specs.Along.{is_walked, levels_walked, way_of};
+ghost use Rattle.tv_spread.specs.Arounds.{IsAround, wires_along};
 ghost use Rattle.tv_spread.specs.Runs.{StartsElsewhere};
 
-use tv_telling::Way;
+use crate::around::Around;
+use std::alloc::Global;
+use tv_telling::{Event, Way};
 use tv_value::NoMemory;
-use tv_wires::Wire;
+use tv_wires::{Wire, Wiring};
+
+/// For each step the wires from it into ports that walk some levels, in their order. Linear in all
+/// wires and in the steps.
+pub fn walked_wires(alloc: Global, wiring: &Wiring) -> Result<Vec<Vec<Wire>>, NoMemory>
+    requires few { length wiring.now.wires < 2 ^ 32 }
+    ensures { IfOk result (λ rows. map (λ row. row.items) rows.items
+        ≡ map (filter is_walked) wiring.now.wires) }
+{
+    let count = wiring.wires.len();
+    let mut rows = Vec::with_capacity(alloc, count)?;
+    for step in 0..count {
+        rows.push(walked_among(alloc, wiring.wires.row(step as u32))?)?;
+    }
+    Ok(rows)
+}
+
+/// Those of the wires that lead into ports that walk some levels.
+fn walked_among(alloc: Global, wires: &[Wire]) -> Result<Vec<Wire>, NoMemory>
+    ensures { IfOk result (λ row. row.items ≡ filter is_walked wires.now) }
+{
+    let mut row = Vec::new(alloc);
+    for wire in wires {
+        if wire.levels != 0 {
+            row.push(*wire)?;
+        }
+    }
+    Ok(row)
+}
+
+/// The wires along which an event of a step is told: all from the step where the event makes it
+/// whole, else those into ports that walk some levels.
+pub(crate) fn wires_along<'a>(around: &Around<'a>, step: u32, event: &Event) -> &'a [Wire]
+    requires { IsAround around.now step event.now }
+    ensures { result.now ≡ wires_along around.now step event.now }
+{
+    if event.whole_from == 0 {
+        around.wiring.wires.row(step)
+    } else {
+        around.walked[step as usize].as_slice()
+    }
+}
 
 /// How many of the wires, from the first on, feed this step.
 pub(crate) fn run_length(wires: &[Wire], step: u32) -> usize

@@ -7,6 +7,7 @@ ghost use Rattle.tv_pool.specs.declared.handles.Region.{Region as InRegion};
 ghost use Rattle.tv_outputs.specs.Known.{known};
 ghost use Rattle.tv_outputs.specs.Kept.{Stand};
 ghost use Rattle.tv_intake.specs.Intaken.{AreIntaken};
+ghost use Rattle.tv_spread.specs.Arounds.{AreWalked};
 ghost use Rattle.tv_tests_steps.specs.Tried.{AreBegun, IsTried, tried_ports};
 
 use std::alloc::Global;
@@ -18,7 +19,7 @@ use tv_idle::Idle;
 use tv_intake::Intakes;
 use tv_outputs::{Nodes, Outputs};
 use tv_pool::{Pool, Region};
-use tv_spread::{Around, Spread};
+use tv_spread::{Around, Spread, walked_wires};
 use tv_telling::{Event, Happened};
 use tv_value::{Depths, NoMemory, Sequence, Text, Tree};
 use tv_wires::{
@@ -107,6 +108,7 @@ fn spread(
     idle: &mut Idle,
 ) -> Result<u64, NoMemory>
     requires wiring { IsTried around.now.wiring.now }
+    requires walked { AreWalked around.now.walked.now around.now.wiring.now }
     requires whole { length around.now.endings.now.whole.items ≡ 2 }
     requires firsts { around.now.firsts.now ≡ 0 ∷ 0 ∷ [] }
     requires tree { 0 < length (known around.now.pool.now around.now.outputs.now) }
@@ -149,12 +151,15 @@ fn trees(alloc: Global, pool: &mut Nodes, region: &Region) -> Result<Outputs, No
     ensures tree { IfOk result (λ outputs. 0 < length (known pool.new outputs)) }
     ensures stand { IfOk result (λ outputs. Stand pool.new outputs region.now) }
 {
-    Outputs::start(alloc, pool, region, &[0])
+    let mut outputs = Outputs::new(alloc);
+    outputs.start(pool, region, &[0])?;
+    Ok(outputs)
 }
 
 /// Whether this is known and idle after the event.
 fn spreads(alloc: Global, around: &Around, jobs: u64, text: &str) -> Result<bool, Fail>
     requires wiring { IsTried around.now.wiring.now }
+    requires walked { AreWalked around.now.walked.now around.now.wiring.now }
     requires whole { length around.now.endings.now.whole.items ≡ 2 }
     requires firsts { around.now.firsts.now ≡ 0 ∷ 0 ∷ [] }
     requires tree { 0 < length (known around.now.pool.now around.now.outputs.now) }
@@ -187,9 +192,11 @@ fn one_job(
     requires stand { Stand pool.now outputs.now _region.now }
 {
     let wiring = wiring(alloc)?;
+    let walked = walked_wires(alloc, &wiring)?;
     let endings = none_whole(alloc)?;
     let around = Around {
         wiring: &wiring,
+        walked: walked.as_slice(),
         endings: &endings,
         outputs,
         pool,

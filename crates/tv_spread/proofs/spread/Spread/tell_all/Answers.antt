@@ -1,4 +1,4 @@
-use Rattle.std.proofs.Common.{◌≡◌, ◌++◌, [], true, false, Some, map, get_or, slice_get, arith, ap, sym, subst, ◌∙◌}
+use Rattle.std.proofs.Common.{◌≡◌, ◌++◌, true, false, Some, map, get_or, slice_get, ap, sym, subst, ◌∙◌}
 use Rattle.std.specs.Prelude.{filter}
 use Rattle.std.proofs.lemmas.Option.{get_or_from_slice_get, slice_get_within}
 use Rattle.tv_strategy.specs.Sources.{Each}
@@ -12,21 +12,12 @@ use Rattle.tv_spread.specs.Arounds.{tellings_by, tells_some, told_at, ways_at}
 use Rattle.tv_spread.specs.Spreads.{CanHoldThese, HoldsAt}
 use Rattle.tv_spread.proofs.OfHolding.{Telling, can-hold, hold-told, no-first, not-yet, telling-more, telling-none, there, told-all, ways-here}
 use Rattle.tv_spread.proofs.OfTold.{ways-have}
-use Rattle.tv_spread.proofs.OfWires.{rows-many}
 use Rattle.tv_spread.proofs.spread.Spread.tell_all.Goals as goal
-
-pub row-rest-requires : goal.row-rest-requires
-row-rest-requires c =
-    let h = c.requires.around in
-    let e = rows-many c.args.around.now.wiring.now h.wires in
-    let l = h.step in
-    omega (arith, e, l)
 
 pub loop-first-init : goal.loop-first-init
 loop-first-init c =
-    let w = c.args.around.now.wiring.now in
-    telling-none c.args.around.now c.args.step c.args.event.now c.requires.around c.args.intakes.now c.clear.new.self.items c.row-rest.result.now
-    c.clear.ensures.items (sym (get_or_from_slice_get w.wires c.args.step c.row-rest.result.now [] c.row-rest.ensures)) c.requires.sound
+    telling-none c.args.around.now c.args.step c.args.event.now c.requires.around c.args.intakes.now c.clear.new.self.items c.wires_along-rest.result.now
+    c.clear.ensures.items c.wires_along-rest.ensures c.requires.sound
 
 pub find-requires-clause-to : goal.find-requires-clause-to
 find-requires-clause-to c =
