@@ -1,5 +1,5 @@
 -- What is known at a node of a tree of pieces, as the calls tell it.
-use Rattle.std.proofs.Common.{◌≡◌, ◌≤◌, ◌<◌, ℕ, zero, suc, ◌+◌, Bool, true, false, ◌&&◌, if◌then◌else◌, List, [], ◌∷◌, ◌++◌, length, ◌-◌, ◌^◌, append_assoc, length-append, is_some, Some, None, refl, sym, ap, ◌∙◌, subst, true≢false, arith}
+use Rattle.std.proofs.Common.{map, ◌≡◌, ◌≤◌, ◌<◌, ℕ, zero, suc, ◌+◌, Bool, true, false, ◌&&◌, if◌then◌else◌, List, [], ◌∷◌, ◌++◌, length, ◌-◌, ◌^◌, append_assoc, length-append, is_some, Some, None, refl, sym, ap, ◌∙◌, subst, true≢false, arith}
 use Rattle.std.specs.List.{list_all, slice_range}
 use Rattle.std.proofs.lemmas.Bool.{lt-ltb}
 use Rattle.std.proofs.lemmas.List.Folds.{list_all-append}
@@ -7,7 +7,7 @@ use Rattle.std.proofs.lemmas.Option.{same_Some}
 use Rattle.tv_value.specs.Nested.{Place, at, trees_of}
 use Rattle.tv_value.specs.Values.{Value, list_value}
 use Rattle.tv_value.specs.Readings.{length_limit}
-use Rattle.tv_parts.specs.Partials.{Partial, wanting, item, growing, closed, part, part_count, part_at, known_at, whole, map_parts}
+use Rattle.tv_parts.specs.Partials.{Partial, wanting, item, growing, closed, part_count, part_at, known_at, whole, map_parts}
 use Rattle.tv_parts.specs.Below.{value_in}
 use Rattle.tv_parts.specs.Changes.{arrive, close_here, is_place, MayClose}
 use Rattle.tv_stream.specs.declared.held.PartKind.{PartKind}
@@ -15,6 +15,8 @@ use Rattle.tv_stream.specs.declared.held.PartKind.TheVariants.{Wanting, Growing,
 use Rattle.tv_stream.specs.Trees.{Marked}
 use Rattle.tv_stream.specs.Answers.{kind_of, item_of}
 use Rattle.tv_cell.specs.declared.piece.Piece.{Piece}
+use Rattle.tv_value.specs.Views.{view}
+use Rattle.tv_value.specs.declared.value.Value as held
 use Rattle.tv_cell.specs.declared.piece.Piece.TheViews as code
 use Rattle.tv_cell.specs.PieceValues.{piece_value, piece_values}
 use Rattle.tv_cell.specs.Soundness.{IsSound, AreSound, is_sound}
@@ -150,6 +152,12 @@ pushed r first i old items more x lo w e h m =
     ap piece_values m ∙ map-more piece_value items x ∙ ap (λ us. us ++ piece_value x ∷ []) h
     ∙ append_assoc old (slice_range (list_values r) first i) (piece_value x ∷ [])
     ∙ ap (λ us. old ++ us) (sym (range-more (list_values r) first i (piece_value x) lo (value-there r i w ∙ ap Some (sym e))))
+
+pub values-pushed : (r : Partial Value) (i : ℕ) (old : List Value) (items more : List held.Value) (x : held.Value) → whole (part_at r i) ≡ true → view x ≡ value_in (part_at r i) → map view items ≡ old ++ slice_range (list_values r) 0 i → more ≡ items ++ x ∷ [] → map view more ≡ old ++ slice_range (list_values r) 0 (i + 1)
+values-pushed r i old items more x w e h m =
+    ap (map view) m ∙ map-more view items x ∙ ap (λ us. us ++ view x ∷ []) h
+    ∙ append_assoc old (slice_range (list_values r) 0 i) (view x ∷ [])
+    ∙ ap (λ us. old ++ us) (sym (range-more (list_values r) 0 i (view x) (omega arith) (value-there r i w ∙ ap Some (sym e))))
 
 pub pushed-all : (row new begun : List Piece) (vs : List Value) → row ≡ new → begun ≡ [] → piece_values new ≡ piece_values begun ++ vs → piece_values row ≡ vs
 pushed-all row new begun vs e none h = ap piece_values e ∙ h ∙ ap (λ ps. piece_values ps ++ vs) none
