@@ -1,5 +1,5 @@
 //! Which steps are whole, and which have ended.
-ghost use Rattle.std.specs.Prelude.{◌≡◌, ◌<◌, ◌≤◌, ◌-◌, ◌&&◌, ◌||◌, ◌==◌, ◌++◌, ◌∷◌, [], ℕ, List, Bool, not, cond, true, false, length, replicate, slice_set, slice_index, IfOk, vec_len, vec_capacity};
+ghost use Rattle.std.specs.Prelude.{◌≡◌, ◌<◌, ◌≤◌, ◌-◌, ◌&&◌, ◌||◌, ◌==◌, ◌++◌, ◌∷◌, [], ℕ, List, Bool, not, cond, true, false, length, replicate, slice_set, slice_index, IfOk, OnOk, vec_len, vec_capacity};
 ghost use Rattle.std.specs.List.{list_all};
 ghost use Rattle.tv_endings.specs.Ends.{after_of, is_whole, has_ended, have_ended, ended_now, AreTurned, IsSound};
 ghost use Rattle.tv_endings.specs.Counting.{Counts, IsCounting};
@@ -21,13 +21,13 @@ pub struct Endings {
     fresh: Vec<u32>,
 }
 
-/// So many marks, of which none is set, in the memory of others.
-fn unmarked(mut marks: Vec<bool>, count: usize) -> Result<Vec<bool>, NoMemory>
-    ensures { IfOk result (λ v. v.items ≡ replicate count false) }
+/// So many marks, of which none is set, in place of what stood there.
+fn unmark(marks: &mut Vec<bool>, count: usize) -> Result<(), NoMemory>
+    ensures { OnOk result (marks.new.items ≡ replicate count false) }
 {
     marks.clear();
     marks.resize(count, false)?;
-    Ok(marks)
+    Ok(())
 }
 
 impl Endings {
@@ -47,38 +47,28 @@ impl Endings {
         ensures sound { IfOk result (λ e. IsSound after.now e) }
         ensures whole { IfOk result (λ e. e.whole.items ≡ replicate (length after.now) false) }
     {
-        Endings::new(alloc).started(after)
+        let mut endings = Endings::new(alloc);
+        endings.restart(after)?;
+        Ok(endings)
     }
 
-    /// The same in the memory of others, which are no more.
-    pub fn started(self, after: &[Numbers]) -> Result<Endings, NoMemory>
-        ensures sound { IfOk result (λ e. IsSound after.now e) }
-        ensures whole { IfOk result (λ e. e.whole.items ≡ replicate (length after.now) false) }
+    /// The same in place of what stood here, and in its memory.
+    pub fn restart(&mut self, after: &[Numbers]) -> Result<(), NoMemory>
+        ensures sound { OnOk result (IsSound after.now self.new) }
+        ensures whole { OnOk result (self.new.whole.items ≡ replicate (length after.now) false) }
     {
-        let Endings {
-            mut left,
-            whole,
-            ended,
-            mut fresh,
-            ..
-        } = self;
         let count = after.len();
-        left.clear();
-        left.reserve(count)?;
+        self.left.clear();
+        self.left.reserve(count)?;
         for numbers in after {
-            left.push(numbers.as_slice().len())?;
+            self.left.push(numbers.as_slice().len())?;
         }
-        let whole = unmarked(whole, count)?;
-        let ended = unmarked(ended, count)?;
-        fresh.clear();
-        fresh.reserve(count)?;
-        Ok(Endings {
-            left,
-            whole,
-            ended,
-            growing: count,
-            fresh,
-        })
+        unmark(&mut self.whole, count)?;
+        unmark(&mut self.ended, count)?;
+        self.growing = count;
+        self.fresh.truncate(0);
+        self.fresh.reserve(count)?;
+        Ok(())
     }
 
     /// How many steps there are.

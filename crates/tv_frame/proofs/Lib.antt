@@ -31,6 +31,7 @@ pub mod OfFound
 pub mod OfPlans
 pub mod OfTables
 pub mod OfOrder
+pub mod OfWalked
 pub mod OfFirstTellings
 pub mod OfStarting
 pub mod OfStarted

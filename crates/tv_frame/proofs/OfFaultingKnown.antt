@@ -12,7 +12,6 @@ use Rattle.tv_naming.specs.Naming.{has_name, is_there}
 use Rattle.tv_naming.specs.Numbers.{position}
 use Rattle.tv_naming.proofs.ByPosition.{there}
 use Rattle.tv_wires.specs.Feeds.{outputs_of}
-use Rattle.tv_outputs.specs.Kept as outputs
 use Rattle.tv_outputs.specs.Known.{Nodes, known, tree_in}
 use Rattle.tv_cell.specs.PieceValues.{piece_values}
 use Rattle.tv_bound.specs.declared.sources.Sources.{Sources}

@@ -28,7 +28,7 @@ use Rattle.tv_endings.specs.Ends.{IsSound as IsSoundEndings}
 use Rattle.tv_matching.specs.Items.{Item, Kind, closes, ends, passes}
 use Rattle.tv_matching.specs.Levels.{KindAt}
 use Rattle.tv_matching.specs.Matchers.{Outcome, all_out, fault_at, job_at, list_at, out}
-use Rattle.tv_matching.specs.Told.{Spot, Told, matched_after}
+use Rattle.tv_matching.specs.Told.{Spot, matched_after}
 use Rattle.tv_matching.proofs.Lists.{each-map, each-weaken}
 use Rattle.tv_matching.proofs.OfLaws.{matches-once}
 use Rattle.tv_matching.proofs.OfMembers.{each-permutes}

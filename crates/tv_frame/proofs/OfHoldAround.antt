@@ -1,7 +1,7 @@
 -- What a frame has around an event that its steps are asked to hold: each feed is of what is there.
 use Rattle.std.specs.List.{list_all, range_with_len}
 use Rattle.std.specs.Option.{option_map_or}
-use Rattle.std.specs.Prelude.{◌≡◌, refl, ℕ, zero, suc, ◌+◌, ◌-◌, ◌<◌, Bool, true, false, flat_map, if◌then◌else◌, is_some, List, [], ◌∷◌, length, map, Option, Some, None, replicate, slice_get, slice_index_or, unwrap_or}
+use Rattle.std.specs.Prelude.{◌≡◌, refl, ℕ, zero, suc, ◌+◌, ◌-◌, ◌<◌, Bool, true, false, filter, flat_map, if◌then◌else◌, is_some, List, [], ◌∷◌, length, map, Option, Some, None, replicate, slice_get, slice_index_or, unwrap_or}
 use Rattle.std.proofs.Common.{arith, sym, ap, subst, ◌∙◌}
 use Rattle.std.proofs.lemmas.Bool.{and_parts, true≢false}
 use Rattle.std.proofs.lemmas.List.{length-append, length-map, length-replicate}
@@ -39,7 +39,8 @@ use Rattle.tv_outputs.specs.Kept.{Stand}
 use Rattle.tv_intake.specs.Intaken.{matcher_at}
 use Rattle.tv_idle.specs.Idles.{of_step}
 use Rattle.tv_spread.specs.declared.around.Around.{Around}
-use Rattle.tv_spread.specs.Arounds.{AreWires, IsAround, IsFed, IsLinked, IsOfOutput, tree_number}
+use Rattle.tv_spread.specs.Along.{is_walked}
+use Rattle.tv_spread.specs.Arounds.{AreWalked, AreWires, IsAround, IsFed, IsLinked, IsOfOutput, tree_number}
 use Rattle.tv_spread.specs.Spreads.{IsLevelled}
 use Rattle.tv_instance.specs.Events.{Event}
 use Rattle.tv_framing.specs.Views.{View}
@@ -150,6 +151,7 @@ module _ (flows : List (Name × Flow)) (plan : FlowPlan) (pool : Nodes) (f : Fra
 -- the parts of a frame that are looked at
 pub record IsAroundOf (plan : FlowPlan) (pool : Nodes) (f : Frame) (a : Around) : Type 0 where
   pub wired : a.wiring.now ≡ plan.wiring
+  pub walked : a.walked.now ≡ f.tables.walked.items
   pub endings : a.endings.now ≡ f.endings
   pub outputs : a.outputs.now ≡ f.outputs
   pub nodes : a.pool.now ≡ pool
@@ -165,6 +167,12 @@ module _ (flows : List (Name × Flow)) (plan : FlowPlan) (pool : Nodes) (f : Fra
 
   wires-turned : AreWires a.wiring.now
   wires-turned = subst AreWires (sym wiring-of) (ap (λ n. from_each (range_with_len 0 n) (all_wires (all_ports v.flow))) (sym (length-map v.flow.steps (λ (s : Name × Step). ports_of v.flow s.1))))
+
+  wires-walked : AreWalked a.walked.now a.wiring.now
+  wires-walked =
+      ap (map (λ row. row.items)) of.walked
+      ∙ keeps.tables_are.walked_are
+      ∙ ap (λ (w : Wiring). map (filter is_walked) w.wires) (sym wiring-of)
 
   pub inputs-many : length a.faulty_inputs.now ≡ length v.flow.inputs
   inputs-many =
@@ -254,6 +262,7 @@ module _ (flows : List (Name × Flow)) (plan : FlowPlan) (pool : Nodes) (f : Fra
         record {
           step = subst (λ k. n < k) (sym ports-many) (inside v.flow.steps n s coming.at);
           wires = wires-turned;
+          walked = wires-walked;
           fed = subst (λ (w : Wiring). Each (λ (ps : List Port). Each (λ (p : Port). IsFed a n c p.feed) ps) w.ports) (sym wiring-of) all-fed;
           region = f.region;
           stand = subst (λ p. Stand p a.outputs.now f.region) (sym of.nodes) (subst (λ o. Stand pool o f.region) (sym of.outputs) keeps.stand);

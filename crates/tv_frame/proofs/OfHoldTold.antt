@@ -48,12 +48,11 @@ use Rattle.tv_check.specs.declared.plans.FlowPlan.{FlowPlan}
 use Rattle.tv_intake.specs.Intaken.{matcher_at}
 use Rattle.tv_spread.specs.declared.around.Around.{Around}
 use Rattle.tv_spread.specs.Along.{ways_into, wires_from}
-use Rattle.tv_spread.specs.Arounds.{IsAround, delivers_fault, input_faulty, is_told, output_faulty, ports_at, tellings_by, told_at, tree_number, ways_at, wholes_at}
+use Rattle.tv_spread.specs.Arounds.{IsAround, delivers_fault, input_faulty, is_told, output_faulty, ports_at, tellings_by, told_at, tree_number, ways_at, wholes_at, wires_along}
 use Rattle.tv_spread.specs.Spreads.{CanBeTold, CanHoldTold}
 use Rattle.tv_spread.specs.Wholes.{wholes_with}
 use Rattle.tv_spread.proofs.OfLaws.{wholes-leaves}
-use Rattle.tv_spread.proofs.OfTold.{untold}
-use Rattle.tv_spread.proofs.OfWires.{wires-within}
+use Rattle.tv_spread.proofs.OfTold.{along-within, untold}
 use Rattle.tv_model.specs.Instances.{value_given}
 use Rattle.tv_model.specs.Members.{In}
 use Rattle.tv_instance.specs.Events.{Event, event_step}
@@ -342,8 +341,8 @@ module _ (flows : List (Name × Flow)) (plan : FlowPlan) (pool : Nodes) (f : Fra
       far : length a.wiring.now.ports ≤ k → is_told a n c k ≡ false
       far l =
           untold a n c (is-around flows plan pool f v keeps a of n s e c coming) k
-          (each-weaken (λ (w : Wire). w.step < length a.wiring.now.ports) (λ (w : Wire). w.step ≡ k → ⊥) (λ w b g. omega (arith, b, g, l)) (wires_from a.wiring.now n)
-          (wires-within a.wiring.now n (is-around flows plan pool f v keeps a of n s e c coming).wires (is-around flows plan pool f v keeps a of n s e c coming).step))
+          (each-weaken (λ (w : Wire). w.step < length a.wiring.now.ports) (λ (w : Wire). w.step ≡ k → ⊥) (λ w b g. omega (arith, b, g, l)) (wires_along a n c)
+          (along-within a n c (is-around flows plan pool f v keeps a of n s e c coming)))
 
       on-either : (k < length a.wiring.now.ports) ⊎ (length a.wiring.now.ports ≤ k) → k < length v.flow.steps
       on-either (inl l) = subst (λ m. k < m) (ports-many flows plan pool f v keeps a of) l

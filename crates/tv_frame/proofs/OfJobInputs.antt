@@ -2,7 +2,7 @@
 use Rattle.std.specs.Global.{Global}
 use Rattle.std.specs.List.{list_all, list_any}
 use Rattle.std.specs.Option.{option_map_or}
-use Rattle.std.specs.Prelude.{◌≡◌, refl, ℕ, zero, suc, ◌+◌, ◌-◌, ◌&&◌, ◌↔◌, Bool, true, false, IsTrue, if◌then◌else◌, find, is_some, ◌<◌, length, Vec, List, [], ◌∷◌, map, IfOk, Ok, Err, Result, Option, Some, None, option_and_then, slice_get, slice_index_or}
+use Rattle.std.specs.Prelude.{◌≡◌, refl, ℕ, zero, suc, ◌+◌, ◌-◌, ◌&&◌, ◌↔◌, Bool, true, false, IsTrue, find, is_some, ◌<◌, length, Vec, List, [], ◌∷◌, map, IfOk, Ok, Err, Result, Option, Some, None, option_and_then, slice_get, slice_index_or}
 use Rattle.std.proofs.Common.{arith, sym, ap, ap₂, subst, ◌∙◌}
 use Rattle.std.proofs.lemmas.Bool.{and_parts, true≢false}
 use Rattle.std.proofs.lemmas.List.{length-map}
@@ -13,7 +13,7 @@ use Rattle.tv_value.specs.Orders.{named, same_name}
 use Rattle.tv_value.specs.Values.{JobName, Name, Value}
 use Rattle.tv_value.specs.Views.{strategy_view}
 use Rattle.tv_flow.specs.Flows.{Feed, Flow, Step, StepInput}
-use Rattle.tv_flow.specs.Formed.{are_named, is_ascending, is_depth, is_feed, is_step_input}
+use Rattle.tv_flow.specs.Formed.{are_named, is_depth, is_feed, is_step_input}
 use Rattle.tv_flow.specs.Forms.{is_name}
 use Rattle.tv_flow.specs.Views.{flow_view, step_input_view, step_view}
 use Rattle.tv_flow.specs.declared.document.Step.{Step as CodeStep}

@@ -1,6 +1,6 @@
 -- A region that begins, and is released again where a frame is refused.
-use Rattle.std.specs.Prelude.{◌≡◌, ◌⊎◌, Err, IfOk, Ok, OnErr, Result, refl, ℕ, zero, suc, List, [], ◌∷◌, ◌++◌, length, Option, None, slice_index_or, slice_set}
-use Rattle.std.proofs.Common.{sym, ap, ◌∙◌, inl, inr}
+use Rattle.std.specs.Prelude.{◌≡◌, ◌⊎◌, IsSomeAnd, refl, ℕ, zero, suc, List, [], ◌∷◌, ◌++◌, length, Option, None, Some, slice_index_or, slice_set}
+use Rattle.std.proofs.Common.{sym, ap, subst, ◌∙◌, inl, inr}
 use Rattle.tv_depths.proofs.OfRanked.{same-or-not}
 use Rattle.tv_pool.specs.declared.handles.Region.{Region}
 use Rattle.tv_pool.specs.Pool.{Begins, Contents, IsLive, number_of, region_at, regions_with}
@@ -28,6 +28,10 @@ module _ {A : Type 0} where
   push-other (x ∷ xs) y zero h = refl
   push-other (x ∷ xs) y (suc k) h = push-other xs y k (λ e. h (ap suc e))
 
+  push-last : (xs : List (Option A)) (y : Option A) → slice_index_or (xs ++ y ∷ []) (length xs) None ≡ y
+  push-last [] y = refl
+  push-last (x ∷ xs) y = push-last xs y
+
   past-end : (xs : List (Option A)) → slice_index_or xs (length xs) None ≡ None
   past-end [] = refl
   past-end (x ∷ xs) = past-end xs
@@ -36,6 +40,16 @@ module _ {A : Type 0} where
 begun-others : (old mid : Nodes) (region : Region) → Begins old mid region → (k : ℕ) → (k ≡ number_of region → ⊥) → region_at mid k ≡ region_at old k
 begun-others old mid region b k h =
     ap (λ rs. slice_index_or rs k None) b.regions ∙ push-other old.regions _ k (λ e. h (e ∙ sym b.number))
+
+-- a region that has begun is live
+pub begun-live : (old mid : Nodes) (region : Region) → Begins old mid region → IsLive mid region
+begun-live old mid region b =
+    subst (λ o. IsSomeAnd o (λ c. c.entry ≡ region.entry))
+    (sym
+    (ap (λ rs. slice_index_or rs (number_of region) None) b.regions
+    ∙ ap (λ k. slice_index_or (old.regions ++ Some (record { entry = region.entry; stored = [] }) ∷ []) k None) b.number
+    ∙ push-last old.regions (Some (record { entry = region.entry; stored = [] }))))
+    refl
 
 pub begun-keeps : (old mid after : Nodes) (region : Region) → Begins old mid region → pool.Keeps old mid → KeepsRegions mid after (number_of region) → KeepsRegions old after (number_of region)
 begun-keeps old mid after region b live k = record {
@@ -52,11 +66,3 @@ released-same old mid after new region b k e n = by (same-or-not n (number_of re
         ap (λ rs. slice_index_or rs n None) e ∙ ap (λ m. slice_index_or (slice_set after.regions (number_of region) None) m None) is ∙ set-none after.regions (number_of region)
         ∙ sym (ap (λ m. slice_index_or old.regions m None) (is ∙ b.number) ∙ past-end old.regions)
     by (inr ne) = ap (λ rs. slice_index_or rs n None) e ∙ set-other after.regions (number_of region) n None ne ∙ k.others n ne ∙ begun-others old mid region b n ne
-
-pub if-both : {T E : Type 0} {P Q R : T → Type 0} (r : Result T E) → ((x : T) → P x → Q x → R x) → IfOk r P → IfOk r Q → IfOk r R
-if-both (Ok x) f p q = f x p q
-if-both (Err e) f p q = tt
-
-pub on-err : {T E P Q : Type 0} (r : Result T E) → (P → Q) → OnErr r P → OnErr r Q
-on-err (Ok x) f h = tt
-on-err (Err e) f h = f h

@@ -27,7 +27,7 @@ use Rattle.tv_framing.specs.Views.{View}
 use Rattle.tv_joined.specs.EndedSteps.{AreEndingsOf}
 use Rattle.tv_turn.specs.IdleJobs.{IsIdle}
 use Rattle.tv_begun.specs.Starts.{step_start}
-use Rattle.tv_frame.specs.declared.frame.Parts.{Parts}
+use Rattle.tv_frame.specs.declared.frame.Frame.{Frame}
 use Rattle.tv_frame.specs.Tables.{AreTables, levels_at, levels_in}
 
 -- the flow's inputs with these values
@@ -98,15 +98,15 @@ pub record HaveBegun (f : Flow) (tells : ℕ → Step → List Told) (count : �
 
 -- ---- all of it
 
-pub record AreParts (plan : FlowPlan) (inputs : List Piece) (p : Parts) : Type 0 where
-  pub tables_are : AreTables (flow_view plan.flow) p.tables
-  pub marked : p.faulty_inputs.items ≡ map holds_fault (piece_values inputs)
+pub record AreParts (plan : FlowPlan) (f : Frame) : Type 0 where
+  pub tables_are : AreTables (flow_view plan.flow) f.tables
+  pub marked : f.faulty_inputs.items ≡ map holds_fault (piece_values f.inputs)
   pub endings_are : AreEndingsOf (flow_view plan.flow)
-      (levels_in (flow_view plan.flow)) [] p.endings
-  pub none_whole : p.endings.whole.items ≡ replicate (length (flow_view plan.flow).steps) false
+      (levels_in (flow_view plan.flow)) [] f.endings
+  pub none_whole : f.endings.whole.items ≡ replicate (length (flow_view plan.flow).steps) false
   pub begun :
-      HaveBegun (flow_view plan.flow) (at_start (flow_view plan.flow) (given_values plan inputs))
-      (length (flow_view plan.flow).steps) p.intakes p.idle
+      HaveBegun (flow_view plan.flow) (at_start (flow_view plan.flow) (given_values plan f.inputs))
+      (length (flow_view plan.flow).steps) f.intakes f.idle
 
 -- the flow's outputs are there where it has no steps: an instance on these values has ended with them, told nothing
 abbrev pub AreFirstOuts : FlowPlan → List Value → Option (List Piece) → Type 0

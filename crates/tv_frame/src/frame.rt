@@ -23,8 +23,9 @@ ghost use Rattle.tv_frame.specs.Tables.{AreTables, levels_in, tree_depths};
 use crate::starting::start_steps;
 use crate::tables::{FlowTables, Tables};
 use std::alloc::Global;
+use std::mem;
 use tv_bound::{Sources, flow_outputs};
-use tv_cell::{Piece, Pieces};
+use tv_cell::{Piece, Pieces, Row};
 use tv_check::FlowPlan;
 use tv_endings::Endings;
 use tv_idle::Idle;
@@ -53,29 +54,6 @@ pub struct Frame {
     pub(crate) outs: Option<Pieces>,
 }
 
-/// What an instance that has ended leaves: memory, in which another is started.
-#[derive(Drop)]
-pub struct Husk {
-    faulty_inputs: Vec<bool>,
-    intakes: Intakes,
-    idle: Idle,
-    endings: Endings,
-    spread: Spread,
-}
-
-impl Husk {
-    /// That of no instance. Takes no memory.
-    pub fn new(alloc: Global) -> Husk {
-        Husk {
-            faulty_inputs: Vec::new(alloc),
-            intakes: Intakes::new(alloc),
-            idle: Idle::new(alloc),
-            endings: Endings::new(alloc),
-            spread: Spread::new(alloc),
-        }
-    }
-}
-
 /// What the last room call found, for the call that follows it.
 #[derive(Drop)]
 pub(crate) struct Ahead {
@@ -89,104 +67,108 @@ pub(crate) struct Ahead {
 }
 
 impl Frame {
-    /// The instance of a flow on its inputs, told nothing yet. Takes the flow's tables, which it
-    /// shares, and the memory of a husk. Known jobs are numbered from 0 in the order in which they become known. An instance of
-    /// a flow without steps has ended at once.
+    /// Of no instance: memory in which one is started. Takes no memory.
+    pub fn unused(alloc: Global, tables: FlowTables) -> Frame {
+        Frame {
+            alloc,
+            region: Region::none(),
+            tables,
+            inputs: Row::empty(alloc),
+            faulty_inputs: Vec::new(alloc),
+            outputs: Outputs::new(alloc),
+            intakes: Intakes::new(alloc),
+            idle: Idle::new(alloc),
+            endings: Endings::new(alloc),
+            spread: Spread::new(alloc),
+            ahead: Ahead {
+                whole: false,
+                outs: None,
+                place: None,
+                pieces: None,
+            },
+            outs: None,
+        }
+    }
+
+    /// The instance of a flow on its inputs, told nothing yet, in the place and in the memory of one that has ended, or of none.
+    /// Takes the flow's tables, which it shares. Known jobs are numbered from 0 in the order in which they become known. An
+    /// instance of a flow without steps has ended at once.
     ///
-    /// Its nodes stand in a region that is new in the pool. Linear in the flow, and in the inputs,
-    /// which are looked through for faults.
+    /// Its nodes stand in a region that is new in the pool. Linear in the flow, and in the inputs. Where it is refused the
+    /// frame is of no instance.
     pub fn start(
-        alloc: Global,
+        &mut self,
         plan: &FlowPlan,
         tables: &FlowTables,
         inputs: Pieces,
         pool: &mut Nodes,
-        husk: Husk,
-    ) -> Result<Frame, NoMemory>
+    ) -> Result<(), NoMemory>
         requires can { (flows : List (Name × Flow))
             × CanStart flows plan.now (piece_values inputs) }
         requires sound { AreSound inputs }
         requires tables { AreTables (flow_view plan.now.flow) tables.now }
-        ensures ok { IfOk result (λ f. (flows : List (Name × Flow))
+        ensures ok { OnOk result ((flows : List (Name × Flow))
             → CanStart flows plan.now (piece_values inputs)
-            → Starts flows plan.now (piece_values inputs) pool.new f) }
-        ensures own { IfOk result (λ f. number_of f.region ≡ length pool.old.regions) }
-        ensures kept { IfOk result (λ f. KeepsRegions pool.old pool.new (number_of f.region)) }
+            → Starts flows plan.now (piece_values inputs) pool.new self.new) }
+        ensures own { OnOk result (number_of self.new.region ≡ length pool.old.regions) }
+        ensures kept { OnOk result (KeepsRegions pool.old pool.new (number_of self.new.region)) }
         ensures refused { OnErr result (SameRegions pool.old pool.new) }
     {
-        let parts = parts_of(alloc, plan, tables, inputs.as_slice(), husk)?;
-        let region = match pool.begin() {
-            Ok(region) => region,
+        self.tables = tables.share()?;
+        self.inputs = inputs;
+        self.start_parts(plan)?;
+        match pool.begin() {
+            Ok(region) => self.region = region,
             Err(_full) => return Err(NoMemory),
-        };
-        match Outputs::start(alloc, pool, &region, tables.depths()) {
-            Ok(outputs) => Frame::begun(alloc, plan, inputs, pool, parts, region, outputs),
+        }
+        match self.start_trees(plan, pool) {
+            Ok(()) => Ok(()),
             Err(error) => {
-                pool.release(region);
+                self.abandon(pool);
                 Err(error)
             }
         }
     }
 
-    /// The same once its trees stand. Where it is refused, the region is released.
-    fn begun(
-        alloc: Global,
-        plan: &FlowPlan,
-        inputs: Pieces,
-        pool: &mut Nodes,
-        parts: Parts,
-        region: Region,
-        outputs: Outputs,
-    ) -> Result<Frame, NoMemory>
+    /// What it has of its flow and inputs.
+    fn start_parts(&mut self, plan: &FlowPlan) -> Result<(), NoMemory>
         requires can { (flows : List (Name × Flow))
-            × CanStart flows plan.now (piece_values inputs) }
-        requires sound { AreSound inputs }
-        requires parts { AreParts plan.now inputs parts }
-        requires live { IsLive pool.old region }
-        requires stand { Stand pool.old outputs region }
-        requires depths { depths outputs ≡ tree_depths (flow_view plan.now.flow) }
-        requires known { known pool.old outputs
-            ≡ map (λ d. wanting) (tree_depths (flow_view plan.now.flow)) }
-        ensures ok { IfOk result (λ f. (flows : List (Name × Flow))
-            → CanStart flows plan.now (piece_values inputs)
-            → Starts flows plan.now (piece_values inputs) pool.new f) }
-        ensures region { IfOk result (λ f. f.region ≡ region) }
-        ensures kept { OnOk result (pool.new ≡ pool.old) }
-        ensures refused { OnErr result (pool.new.regions
-            ≡ regions_with pool.old (number_of region) None) }
+            × CanStart flows plan.now (piece_values self.old.inputs) }
+        requires tables { AreTables (flow_view plan.now.flow) self.old.tables }
+        ensures parts { OnOk result (AreParts plan.now self.new) }
+        ensures inputs { self.new.inputs ≡ self.old.inputs }
     {
-        match first_outs(
-            alloc,
-            plan,
-            parts.tables.read(),
-            inputs.as_slice(),
-            &outputs,
-            pool,
-        ) {
-            Ok(outs) => Ok(Frame {
-                alloc,
-                region,
-                tables: parts.tables,
-                inputs,
-                faulty_inputs: parts.faulty_inputs,
-                outputs,
-                intakes: parts.intakes,
-                idle: parts.idle,
-                endings: parts.endings,
-                spread: parts.spread,
-                ahead: Ahead {
-                    whole: false,
-                    outs: None,
-                    place: None,
-                    pieces: None,
-                },
-                outs,
-            }),
-            Err(error) => {
-                pool.release(region);
-                Err(error)
-            }
-        }
+        let inputs = self.inputs.as_slice();
+        find_faults(inputs, &mut self.faulty_inputs)?;
+        self.intakes.clear();
+        self.idle.clear();
+        let tables = self.tables.read();
+        let (intakes, idle) = (&mut self.intakes, &mut self.idle);
+        start_steps(self.alloc, plan, tables, inputs, intakes, idle)?;
+        self.endings.restart(plan.wiring.after.as_slice())?;
+        Ok(())
+    }
+
+    /// Its trees, in its region, and its outputs where it has ended at once.
+    fn start_trees(&mut self, plan: &FlowPlan, pool: &mut Nodes) -> Result<(), NoMemory>
+        requires can { (flows : List (Name × Flow))
+            × CanStart flows plan.now (piece_values self.old.inputs) }
+        requires sound { AreSound self.old.inputs }
+        requires parts { AreParts plan.now self.old }
+        requires live { IsLive pool.old self.old.region }
+        ensures ok { OnOk result ((flows : List (Name × Flow))
+            → CanStart flows plan.now (piece_values self.old.inputs)
+            → Starts flows plan.now (piece_values self.old.inputs) pool.new self.new) }
+        ensures region { self.new.region ≡ self.old.region }
+        ensures kept { KeepsRegions pool.old pool.new (number_of self.old.region) }
+    {
+        let tables = self.tables.read();
+        self.outputs
+            .start(pool, &self.region, tables.depths.as_slice())?;
+        let inputs = self.inputs.as_slice();
+        let outs = first_outs(self.alloc, plan, tables, inputs, &self.outputs, pool)?;
+        self.outs = outs;
+        Ok(())
     }
 
     /// Whether the instance has ended.
@@ -214,97 +196,45 @@ impl Frame {
         self.outs.as_ref()
     }
 
-    /// Gives the outputs of an instance that has ended, and what it leaves, and releases its region. Takes no memory.
-    pub fn finish(self, pool: &mut Nodes) -> (Pieces, Husk)
+    /// Gives the outputs of an instance that has ended, and releases its region: from then on the frame is of no instance.
+    /// Takes no memory.
+    pub fn finish(&mut self, pool: &mut Nodes) -> Pieces
         requires ended { (flows : List (Name × Flow)) × (plan : ThePlan) × (v : View)
-            × Keeps flows plan pool.old self v × (has_ended_now (levels_in v.flow) v ≡ true) }
+            × Keeps flows plan pool.old self.old v × (has_ended_now (levels_in v.flow) v ≡ true) }
         ensures outputs { (flows : List (Name × Flow)) (plan : ThePlan) (v : View)
-            → Keeps flows plan pool.old self v
-            → AreSound result.0 × AreOutputs v (piece_values result.0) }
-        ensures gone { pool.new.regions ≡ regions_with pool.old (number_of self.region) None }
+            → Keeps flows plan pool.old self.old v
+            → AreSound result × AreOutputs v (piece_values result) }
+        ensures gone { pool.new.regions ≡ regions_with pool.old (number_of self.old.region) None }
     {
-        let Frame {
-            region,
-            faulty_inputs,
-            intakes,
-            idle,
-            endings,
-            spread,
-            outs,
-            ..
-        } = self;
-        pool.release(region);
-        let husk = Husk {
-            faulty_inputs,
-            intakes,
-            idle,
-            endings,
-            spread,
-        };
-        match outs {
-            Some(outs) => (outs, husk),
+        self.abandon(pool);
+        match self.outs.take() {
+            Some(outs) => outs,
             None => unreachable!(),
         }
     }
 
-    /// Releases the region of an instance whose opening is refused. Takes no memory.
-    pub fn abandon(self, pool: &mut Nodes)
-        requires { IsLive pool.old self.region }
-        ensures { pool.new.regions ≡ regions_with pool.old (number_of self.region) None }
+    /// Releases the region of an instance whose opening is refused: from then on the frame is of no instance. Takes no memory.
+    pub fn abandon(&mut self, pool: &mut Nodes)
+        requires { IsLive pool.old self.old.region }
+        ensures gone { pool.new.regions ≡ regions_with pool.old (number_of self.old.region) None }
+        ensures outs { self.new.outs ≡ self.old.outs }
     {
-        pool.release(self.region);
+        let region = mem::replace(&mut self.region, Region::none());
+        pool.release(region);
+        self.inputs = Row::empty(self.alloc);
     }
 }
 
-/// What a frame has of its flow and inputs.
-#[derive(Drop)]
-struct Parts {
-    tables: FlowTables,
-    faulty_inputs: Vec<bool>,
-    intakes: Intakes,
-    idle: Idle,
-    endings: Endings,
-    spread: Spread,
-}
-
-fn parts_of(
-    alloc: Global,
-    plan: &FlowPlan,
-    tables: &FlowTables,
-    inputs: &[Piece],
-    husk: Husk,
-) -> Result<Parts, NoMemory>
-    requires can { (flows : List (Name × Flow))
-        × CanStart flows plan.now (piece_values inputs.now) }
-    requires tables { AreTables (flow_view plan.now.flow) tables.now }
-    ensures { IfOk result (λ p. AreParts plan.now inputs.now p) }
-{
-    let tables = tables.share()?;
-    let faulty_inputs = faults_of(inputs, husk.faulty_inputs)?;
-    let mut intakes = husk.intakes.emptied();
-    let mut idle = husk.idle.emptied();
-    start_steps(alloc, plan, tables.read(), inputs, &mut intakes, &mut idle)?;
-    let endings = husk.endings.started(plan.wiring.after.as_slice())?;
-    Ok(Parts {
-        tables,
-        faulty_inputs,
-        intakes,
-        idle,
-        endings,
-        spread: husk.spread,
-    })
-}
-
-/// Of each input whether it holds a fault, in the memory of another list.
-fn faults_of(inputs: &[Piece], mut faults: Vec<bool>) -> Result<Vec<bool>, NoMemory>
-    ensures { IfOk result (λ bs. bs.items ≡ map holds_fault (piece_values inputs.now)) }
+/// Of each input whether it holds a fault, in place of what stood there.
+fn find_faults(inputs: &[Piece], faults: &mut Vec<bool>) -> Result<(), NoMemory>
+    ensures { OnOk result (faults.new.items ≡ map holds_fault (piece_values inputs.now)) }
 {
     faults.clear();
     faults.reserve(inputs.len())?;
     for piece in inputs {
         faults.push(piece.holds_fault())?;
     }
-    Ok(faults)
+    Ok(())
 }
 
 /// The flow's outputs, where the flow has no steps, so that its instances have ended from the start: they come from inputs and

@@ -6,6 +6,7 @@ ghost use Rattle.tv_idle.specs.Idles.{first_after, first_number, first_of, has_s
 use crate::queues::Queues;
 use std::alloc::Global;
 use std::marker::Model;
+use std::mem;
 use tv_value::NoMemory;
 
 /// The known jobs of an instance that neither run nor have a result. The steps are told by their numbers, and so are the jobs.
@@ -66,27 +67,18 @@ impl Idle {
         }
     }
 
-    /// Of no step, with no job, in the same memory: the steps that are added take that of those before. Takes no memory.
-    pub fn emptied(self) -> Idle
-        ensures steps { result.steps ≡ [] }
-        ensures known { result.known ≡ 0 }
-        ensures room { result.room ≡ 0 }
+    /// Of no step from now on, with no job, in the same memory: the steps that are added take that of those before. Takes no
+    /// memory.
+    pub fn clear(&mut self)
+        ensures steps { self.new.steps ≡ [] }
+        ensures known { self.new.known ≡ 0 }
+        ensures room { self.new.room ≡ 0 }
     {
-        let Idle {
-            queues,
-            mut gone,
-            mut spare,
-            ..
-        } = self;
-        gone.clear();
-        spare.clear();
-        Idle {
-            queues: spare,
-            gone,
-            room: 0,
-            faulty: 0,
-            spare: queues,
-        }
+        self.gone.clear();
+        self.room = 0;
+        self.faulty = 0;
+        self.spare.clear();
+        mem::swap(&mut self.queues, &mut self.spare);
     }
 
     /// Adds a step, with no job, whose places have so many indices.

@@ -6,6 +6,7 @@ ghost use Rattle.tv_match.specs.Seen.{is_faulty};
 use crate::found::Found;
 use crate::sorting::{count_each, count_jobs, put, sort_from};
 use std::alloc::Global;
+use std::mem;
 use tv_match::{Kind, Matcher, Tolds};
 use tv_value::{Depths, NoMemory, Tree};
 
@@ -45,30 +46,19 @@ impl Intakes {
         }
     }
 
-    /// Of no step, in the same memory: the steps that are added take that of those before. Takes no memory.
-    pub fn emptied(self) -> Intakes
-        ensures steps { result.matchers.items ≡ [] }
-        ensures jobs { result.jobs.items ≡ [] }
-        ensures waiting { result.waiting.items ≡ [] }
-        ensures sound { AreIntaken result }
+    /// Of no step from now on, in the same memory: the steps that are added take that of those before. Takes no memory.
+    pub fn clear(&mut self)
+        ensures steps { self.new.matchers.items ≡ [] }
+        ensures jobs { self.new.jobs.items ≡ [] }
+        ensures waiting { self.new.waiting.items ≡ [] }
+        ensures sound { AreIntaken self.new }
     {
-        let Intakes {
-            mut matchers,
-            mut jobs,
-            mut waiting,
-            mut spare,
-        } = self;
-        jobs.clear();
-        waiting.clear();
-        spare.clear();
+        self.jobs.clear();
+        self.waiting.clear();
+        self.spare.clear();
+        mem::swap(&mut self.matchers, &mut self.spare);
         // The first step takes the last of them: its own, where the flow is the same.
-        matchers.as_mut_slice().reverse();
-        Intakes {
-            matchers: spare,
-            jobs,
-            waiting,
-            spare: matchers,
-        }
+        self.spare.as_mut_slice().reverse();
     }
 
     /// Adds a step, which was told nothing, with its strategy and the levels that its ports walk. Where the strategy has no leaf

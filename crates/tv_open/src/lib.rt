@@ -26,4 +26,4 @@ mod turns;
 
 pub use events::Spot;
 pub use firsts::Seeking;
-pub use open::{Husk, Open};
+pub use open::Open;

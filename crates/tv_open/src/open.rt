@@ -25,6 +25,7 @@ ghost use Rattle.tv_open.specs.Standing.{IsOpen, StartsOpen};
 use crate::levels::Levels;
 use crate::turns::Turns;
 use std::alloc::Global;
+use std::mem;
 use tv_cell::Pieces;
 use tv_check::FlowPlan;
 use tv_frame::{FlowTables, Frame};
@@ -40,23 +41,6 @@ pub struct Open {
     pub(crate) seats: Seats,
     pub(crate) turns: Turns,
     pub(crate) levels: Levels,
-}
-
-/// What an instance that has ended leaves: memory, in which another is started.
-#[derive(Drop)]
-pub struct Husk {
-    frame: tv_frame::Husk,
-    turns: Turns,
-}
-
-impl Husk {
-    /// That of no instance. Takes no memory.
-    fn new(alloc: Global) -> Husk {
-        Husk {
-            frame: tv_frame::Husk::new(alloc),
-            turns: Turns::new(alloc),
-        }
-    }
 }
 
 /// The jobs that a frame knows and that have no seat sit down, and their steps aren't passed any
@@ -94,109 +78,68 @@ fn seat_job(frame: &Frame, seats: &mut Seats, turns: &mut Turns, number: u64)
     }
 }
 
-/// Takes the room for the jobs that a frame knows from its start to sit down. Answers the turns of
-/// its steps, of which none is passed.
-fn room_to_sit(
-    frame: &Frame,
-    seats: &mut Seats,
-    plan: &FlowPlan,
-    spare: Turns,
-) -> Result<Turns, NoMemory>
-    requires { (d : Document) × (values : _) × (pool : TheNodes)
-        × Starts d.flows plan.now values pool frame.now }
-    ensures turns { IfOk result (λ t.
-        AreTurns (by_falling_rank (flow_view plan.now.flow)) t.positions.items
-        × (t.from ≡ 0)) }
-    ensures room { OnOk result (seats.new.room ≡ length (known_jobs frame.now.intakes)) }
-    ensures seats { seats.new.seats ≡ seats.old.seats }
-    ensures levels { seats.new.levels ≡ seats.old.levels }
-{
-    let turns = spare.started(plan.steps.as_slice().len(), frame.order())?;
-    seats.reserve(frame.known() as usize)?;
-    Ok(turns)
-}
-
-/// The jobs that a frame knows from its start sit down. Where that is refused, its region is released.
-fn seated(
-    alloc: Global,
-    frame: Frame,
-    mut seats: Seats,
-    spare: Turns,
-    plan: &FlowPlan,
-    pool: &mut Nodes,
-) -> Result<Open, NoMemory>
-    requires starts { (d : Document) × (values : _)
-        × Starts d.flows plan.now values pool.old frame }
-    requires empty { seats.seats ≡ [] }
-    requires levels { seats.levels
-        ≡ map (λ s. levels_in (flow_view plan.now.flow) s.0) (flow_view plan.now.flow).steps }
-    ensures ok { IfOk result (λ o. (d : Document) (values : _)
-        → Starts d.flows plan.now values pool.old frame
-        → StartsOpen d plan.now values pool.new o) }
-    ensures region { IfOk result (λ o. o.frame.region ≡ frame.region) }
-    ensures kept { OnOk result (pool.new ≡ pool.old) }
-    ensures refused { OnErr result (pool.new.regions
-        ≡ regions_with pool.old (number_of frame.region) None) }
-{
-    match room_to_sit(&frame, &mut seats, plan, spare) {
-        Ok(mut turns) => {
-            seat_new(&frame, &mut seats, &mut turns);
-            Ok(Open {
-                frame,
-                seats,
-                turns,
-                levels: Levels::new(alloc),
-            })
-        }
-        Err(error) => {
-            frame.abandon(pool);
-            Err(error)
-        }
-    }
-}
-
-/// The last of the husks, and that of no instance where there is none. Takes no memory.
-fn last_of(alloc: Global, husks: &mut Vec<Husk>) -> Husk {
-    match husks.pop() {
-        Some(husk) => husk,
-        None => Husk::new(alloc),
-    }
-}
-
-/// Keeps a husk as long as that takes no memory.
-fn keep(husks: &mut Vec<Husk>, husk: Husk) {
-    if husks.len() < husks.capacity() {
-        husks.push_reserved(husk);
-    }
-}
-
 impl Open {
-    /// The instance of a plan's flow on its inputs, told nothing, in a region that is new in the
-    /// pool. Takes the flow's tables, which it shares, and the memory of the last of the husks.
-    /// Linear in the flow with its constants, and in the inputs: both are looked through for
-    /// faults. A refusal leaves the pool's regions as they were.
+    /// Of no instance: memory in which one is started. Takes no memory.
+    pub fn unused(alloc: Global, tables: FlowTables) -> Open {
+        Open {
+            frame: Frame::unused(alloc, tables),
+            seats: Seats::none(alloc),
+            turns: Turns::new(alloc),
+            levels: Levels::new(alloc),
+        }
+    }
+
+    /// The instance of a plan's flow on its inputs, told nothing, in a region that is new in the pool, in the place and in the
+    /// memory of one that has ended, or of none. Takes the flow's tables, which it shares. Linear in the flow and in the
+    /// inputs. A refusal leaves the pool's regions as they were, and it is of no instance then.
     pub fn start(
+        &mut self,
         alloc: Global,
         plan: &FlowPlan,
         tables: &FlowTables,
         inputs: Pieces,
         pool: &mut Nodes,
-        husks: &mut Vec<Husk>,
-    ) -> Result<Open, NoMemory>
+    ) -> Result<(), NoMemory>
         requires can { (d : Document) × CanStart d.flows plan.now (piece_values inputs) }
         requires sound { AreSound inputs }
         requires tables { AreTables (flow_view plan.now.flow) tables.now }
-        ensures ok { IfOk result (λ o. (d : Document)
+        ensures ok { OnOk result ((d : Document)
             → CanStart d.flows plan.now (piece_values inputs)
-            → StartsOpen d plan.now (piece_values inputs) pool.new o) }
-        ensures own { IfOk result (λ o. number_of o.frame.region ≡ length pool.old.regions) }
-        ensures kept { IfOk result (λ o. KeepsRegions pool.old pool.new (number_of o.frame.region)) }
+            → StartsOpen d plan.now (piece_values inputs) pool.new self.new) }
+        ensures own { OnOk result (number_of self.new.frame.region ≡ length pool.old.regions) }
+        ensures kept { OnOk result (KeepsRegions pool.old pool.new (number_of self.new.frame.region)) }
         ensures refused { OnErr result (SameRegions pool.old pool.new) }
     {
-        let seats = Seats::start(alloc, tables.levels())?;
-        let husk = last_of(alloc, husks);
-        let frame = Frame::start(alloc, plan, tables, inputs, pool, husk.frame)?;
-        seated(alloc, frame, seats, husk.turns, plan, pool)
+        self.seats = Seats::start(alloc, tables.levels())?;
+        self.levels = Levels::new(alloc);
+        self.frame.start(plan, tables, inputs, pool)?;
+        match self.seat_first(plan) {
+            Ok(()) => Ok(()),
+            Err(error) => {
+                self.frame.abandon(pool);
+                Err(error)
+            }
+        }
+    }
+
+    /// The jobs that its frame knows from its start sit down, and no step is passed.
+    fn seat_first(&mut self, plan: &FlowPlan) -> Result<(), NoMemory>
+        requires starts { (d : Document) × (values : _) × (pool : TheNodes)
+            × Starts d.flows plan.now values pool self.old.frame }
+        requires empty { self.old.seats.seats ≡ [] }
+        requires levels { self.old.seats.levels
+            ≡ map (λ s. levels_in (flow_view plan.now.flow) s.0) (flow_view plan.now.flow).steps }
+        requires none { self.old.levels.settled ≡ [] }
+        ensures ok { OnOk result ((d : Document) (values : _) (pool : TheNodes)
+            → Starts d.flows plan.now values pool self.old.frame
+            → StartsOpen d plan.now values pool self.new) }
+        ensures frame { self.new.frame ≡ self.old.frame }
+    {
+        let steps = plan.steps.as_slice().len();
+        self.turns.start(steps, self.frame.order())?;
+        self.seats.reserve(self.frame.known() as usize)?;
+        seat_new(&self.frame, &mut self.seats, &mut self.turns);
+        Ok(())
     }
 
     /// Whether the instance has ended.
@@ -216,34 +159,31 @@ impl Open {
         self.frame.outputs()
     }
 
-    /// Gives the outputs of an instance that has ended with its jobs' seats and its levels, and releases its region. What else it
-    /// leaves stands with the husks, where they have room for it. Takes no memory.
-    pub fn finish(self, pool: &mut Nodes, husks: &mut Vec<Husk>) -> (Pieces, Seats, Vec<Level>)
+    /// Gives the outputs of an instance that has ended with its jobs' seats and its levels, and releases its region: from then
+    /// on it is of no instance. Takes no memory.
+    pub fn finish(&mut self, alloc: Global, pool: &mut Nodes) -> (Pieces, Seats, Vec<Level>)
         requires ended { (d : Document) × (plan : ThePlan) × (v : View)
-            × IsOpen d plan pool.old self v × (has_ended_now (levels_in v.flow) v ≡ true) }
-        ensures outputs { (d : Document) (plan : ThePlan) (v : View) → IsOpen d plan pool.old self v
+            × IsOpen d plan pool.old self.old v × (has_ended_now (levels_in v.flow) v ≡ true) }
+        ensures outputs { (d : Document) (plan : ThePlan) (v : View)
+            → IsOpen d plan pool.old self.old v
             → AreSound result.0 × AreOutputs v (piece_values result.0) }
-        ensures seats { result.1.seats ≡ self.seats.seats }
-        ensures levels { (d : Document) (plan : ThePlan) (v : View) → IsOpen d plan pool.old self v
+        ensures seats { result.1.seats ≡ self.old.seats.seats }
+        ensures levels { (d : Document) (plan : ThePlan) (v : View)
+            → IsOpen d plan pool.old self.old v
             → AreItsLevels v (map level_view result.2.items) }
         ensures gone { pool.new.regions
-            ≡ regions_with pool.old (number_of self.frame.region) None }
+            ≡ regions_with pool.old (number_of self.old.frame.region) None }
     {
-        let Open {
-            frame,
-            seats,
-            turns,
-            levels,
-        } = self;
-        let (outs, frame) = frame.finish(pool);
-        keep(husks, Husk { frame, turns });
+        let outs = self.frame.finish(pool);
+        let seats = mem::replace(&mut self.seats, Seats::none(alloc));
+        let levels = mem::replace(&mut self.levels, Levels::new(alloc));
         (outs, seats, levels.finish())
     }
 
-    /// Releases the region of an instance whose opening is refused. Takes no memory.
-    pub fn abandon(self, pool: &mut Nodes)
-        requires { IsLive pool.old self.frame.region }
-        ensures { pool.new.regions ≡ regions_with pool.old (number_of self.frame.region) None }
+    /// Releases the region of an instance whose opening is refused: from then on it is of no instance. Takes no memory.
+    pub fn abandon(&mut self, pool: &mut Nodes)
+        requires { IsLive pool.old self.old.frame.region }
+        ensures { pool.new.regions ≡ regions_with pool.old (number_of self.old.frame.region) None }
     {
         self.frame.abandon(pool);
     }

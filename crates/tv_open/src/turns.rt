@@ -1,5 +1,5 @@
 //! Which steps are looked at, that of the greatest rank first.
-ghost use Rattle.std.specs.Prelude.{◌≡◌, ◌<◌, ℕ, IfOk, IsTrue, Some, length, slice_get};
+ghost use Rattle.std.specs.Prelude.{◌≡◌, ◌<◌, ℕ, IfOk, OnOk, IsTrue, Some, length, slice_get};
 ghost use Rattle.tv_flow.specs.Flows.{Document};
 ghost use Rattle.tv_check.specs.declared.plans.FlowPlan.{FlowPlan as ThePlan};
 ghost use Rattle.tv_outputs.specs.Known.{Nodes as TheNodes};
@@ -35,20 +35,20 @@ impl Turns {
         }
     }
 
-    /// None is passed, in the memory of others. Linear in the steps.
-    pub(crate) fn started(self, steps: usize, order: &[u32]) -> Result<Turns, NoMemory>
+    /// None is passed, in place of what stood here and in its memory. Linear in the steps.
+    pub(crate) fn start(&mut self, steps: usize, order: &[u32]) -> Result<(), NoMemory>
         requires { (i k : ℕ) → slice_get order.now i ≡ Some k → k < steps }
-        ensures turns { IfOk result (λ t. AreTurns order.now t.positions.items) }
-        ensures none { IfOk result (λ t. t.from ≡ 0) }
+        ensures turns { OnOk result (AreTurns order.now self.new.positions.items) }
+        ensures none { OnOk result (self.new.from ≡ 0) }
     {
-        let mut positions = self.positions;
-        positions.clear();
-        positions.resize(steps, 0)?;
+        self.positions.clear();
+        self.positions.resize(steps, 0)?;
         for done in 0..order.len() {
             let at = order.len() - 1 - done;
-            positions[order[at] as usize] = at;
+            self.positions[order[at] as usize] = at;
         }
-        Ok(Turns { positions, from: 0 })
+        self.restart();
+        Ok(())
     }
 
     /// This step is not passed from now on. Constant.

@@ -43,29 +43,37 @@ pub struct Outputs {
 }
 
 impl Outputs {
-    /// A tree of each depth, of which nothing is known yet. Takes one node for each. Where it is refused, nodes may lie in the
-    /// region.
+    /// Of no output. Takes no memory.
+    pub fn new(alloc: Global) -> Outputs {
+        Outputs {
+            trees: Vec::new(alloc),
+        }
+    }
+
+    /// A tree of each depth, of which nothing is known yet, in place of what stood here and in its memory. Takes one node for
+    /// each. Where it is refused, nodes may lie in the region.
     pub fn start(
-        alloc: Global,
+        &mut self,
         pool: &mut Nodes,
         region: &Region,
         depths: &[u32],
-    ) -> Result<Outputs, NoMemory>
+    ) -> Result<(), NoMemory>
         requires { IsLive pool.old region.now }
-        ensures known { IfOk result (λ outputs. known pool.new outputs ≡ map (λ d. wanting) depths.now) }
-        ensures depths { IfOk result (λ outputs. depths_of outputs ≡ depths.now) }
-        ensures stand { IfOk result (λ outputs. Stand pool.new outputs region.now) }
+        ensures known { OnOk result (known pool.new self.new ≡ map (λ d. wanting) depths.now) }
+        ensures depths { OnOk result (depths_of self.new ≡ depths.now) }
+        ensures stand { OnOk result (Stand pool.new self.new region.now) }
         ensures kept { KeepsRegions pool.old pool.new (number_of region.now) }
         ensures spare { pool.old.spare ≤ pool.new.spare + length depths.now }
     {
-        let mut trees = Vec::with_capacity(alloc, depths.len())?;
+        self.trees.clear();
+        self.trees.reserve(depths.len())?;
         for depth in depths {
             match Partial::start(pool, region, *depth) {
-                Ok(tree) => trees.push(tree)?,
+                Ok(tree) => self.trees.push(tree)?,
                 Err(_full) => return Err(NoMemory),
             }
         }
-        Ok(Outputs { trees })
+        Ok(())
     }
 
     /// Takes the room for one change, `arrive` or `close`, of so many trees from the first on. Linear in their number.

@@ -1,6 +1,6 @@
 //! The handles that a pool gives out.
 ghost use Rattle.std.specs.Prelude.{◌≡◌, ◌==◌};
-ghost use Rattle.tv_pool.specs.Pool.{slot_of, lies_at, nowhere};
+ghost use Rattle.tv_pool.specs.Pool.{number_of, slot_of, lies_at, nowhere};
 
 /// A region of a pool, which is filled by `Pool::put` and goes by `Pool::release`.
 ///
@@ -12,6 +12,18 @@ pub struct Region {
     pub(crate) number: u64,
     // Where the pool's table of regions has it.
     pub(crate) entry: usize,
+}
+
+impl Region {
+    /// That of no pool: what stands in a region's place where there is none. Its number is the one that no region gets.
+    pub fn none() -> Region
+        ensures { number_of result ≡ u64.MAX }
+    {
+        Region {
+            number: u64::MAX,
+            entry: 0,
+        }
+    }
 }
 
 /// An item of a pool: its region's number and its position in that region's list.

@@ -1,6 +1,6 @@
 -- An instance is added to a run: where that is refused, the run is as it was.
 use Rattle.std.specs.Global.{Global}
-use Rattle.std.specs.Prelude.{◌≡◌, refl, ℕ, ◌+◌, ◌<◌, ◌≤◌, [], Err, List, Ok, None, OnErr, Option, Result, Some, Vec, length, option_map, slice_get, vec_capacity}
+use Rattle.std.specs.Prelude.{◌≡◌, refl, ℕ, ◌+◌, ◌<◌, ◌≤◌, [], ◌∷◌, Err, List, Ok, None, OnErr, Option, Result, Some, Vec, length, option_map, slice_get, slice_set, vec_capacity}
 use Rattle.std.proofs.Common.{ap, arith, get_or, subst, sym, ◌∙◌}
 use Rattle.std.proofs.lemmas.Option.{none-some, same_Some, slice_get-get_or, slice_get_within}
 use Rattle.tv_value.specs.Values.{Name}
@@ -10,7 +10,6 @@ use Rattle.tv_frame.specs.Tables.{AreTables}
 use Rattle.tv_pool.specs.Pool.{number_of, regions_with}
 use Rattle.tv_nodes.specs.Calls.{KeepsRegions}
 use Rattle.tv_open.proofs.OfRegions.{given-up}
-use Rattle.tv_open.specs.declared.open.Husk.{Husk}
 use Rattle.tv_open.specs.declared.open.Open.{Open}
 use Rattle.tv_outputs.specs.Known.{Nodes}
 use Rattle.tv_run.specs.Following.{IsEntering}
@@ -25,6 +24,16 @@ use Rattle.tv_run.proofs.OfRooms.{before-but_pool}
 pub on-err : {A E P : Type 0} (r : Result A E) → P → OnErr r P
 on-err (Ok x) p = tt
 on-err (Err e) p = p
+
+-- a list of one with another in its place
+pub set-one : (xs : List Open) (x : Open) → length xs ≡ 1 → slice_set xs 0 x ≡ x ∷ []
+set-one [] x h = absurd (omega (arith, h))
+set-one (y ∷ []) x h = refl
+set-one (y ∷ z ∷ zs) x h = absurd (omega (arith, h))
+
+-- what is read of a list of one
+pub only-one : (slot : Vec Open Global) (o : Open) → slot.items ≡ o ∷ [] → (x : Open) → x ≡ get_or slot.items 0 x → x ≡ o
+only-one slot o one x e = e ∙ ap (λ l. get_or l 0 x) one
 
 -- the number of a flow is below their count
 pub flow-low : (d : Document) (k : ℕ) (f : Flow) → IsFlow d k f → k < length d.flows
@@ -57,7 +66,7 @@ module _ (r : OpenRun) (instances : Vec code.Instance Global) (same : instances.
   abbrev with_room : OpenRun
   with_room = record r { instances = instances }
 
-  taken-with : (husks : Vec Husk Global) → IsSameButRooms r (record with_room { husks = husks })
+  taken-with : (husks : Vec (Vec Open Global) Global) → IsSameButRooms r (record with_room { husks = husks })
   taken-with husks = record {
     alloc = refl;
     run = refl;
@@ -76,14 +85,14 @@ module _ (r : OpenRun) (instances : Vec code.Instance Global) (same : instances.
   }
 
   -- and in another pool with the same regions, with other husks
-  pub before-room : (husks : Vec Husk Global) (pool : Nodes) → SameRegions r.pool pool
+  pub before-room : (husks : Vec (Vec Open Global) Global) (pool : Nodes) → SameRegions r.pool pool
       → IsAsBefore r (record with_room { pool = pool; husks = husks })
   before-room husks pool regions =
       before-but_pool r (record with_room { pool = pool; husks = husks })
       (record { rooms = taken-with husks; regions = regions })
 
   -- the room for the rest was refused, and the region that was started is given up
-  module _ (husks : Vec Husk Global) (mid after : Nodes) (t : OpenRun) (o : Open)
+  module _ (husks : Vec (Vec Open Global) Global) (mid after : Nodes) (t : OpenRun) (o : Open)
       (rooms : IsSameButRooms (record with_room { pool = mid; husks = husks }) t)
       (own : number_of o.frame.region ≡ length r.pool.regions)
       (keeps : KeepsRegions r.pool mid (number_of o.frame.region))
@@ -115,15 +124,14 @@ module _ (r : OpenRun) (instances : Vec code.Instance Global) (same : instances.
         before-but_pool r (record t { pool = after }) (record { rooms = rooms-then; regions = regions-same })
 
   -- the room is there for it to enter
-  pub is-entering : (husks : Vec Husk Global) (mid : Nodes) (t : OpenRun) (o : Open) (jobs : Vec ℕ Global)
+  pub is-entering : (husks : Vec (Vec Open Global) Global) (mid : Nodes) (t : OpenRun) (o : Open) (jobs : Vec ℕ Global)
       (slot : Vec Open Global)
-      → IsSameButRooms (record with_room { pool = mid; husks = husks }) t → slot.items ≡ [] → 0 < vec_capacity slot → jobs.items ≡ []
+      → IsSameButRooms (record with_room { pool = mid; husks = husks }) t → slot.items ≡ o ∷ [] → jobs.items ≡ []
       → HasRoomBeside t (length o.seats.seats) → length jobs.items + length o.seats.seats ≤ vec_capacity jobs
       → length t.instances.items < vec_capacity t.instances → IsEntering t jobs slot o
-  is-entering husks mid t o jobs slot rooms empty place none beside numbers instances = record {
+  is-entering husks mid t o jobs slot rooms one none beside numbers instances = record {
     instances = instances;
-    empty = empty;
-    place = place;
+    is_one = one;
     none_numbered = none;
     numbers = let long = ap length none in omega (arith, long, numbers);
     room = beside.jobs;

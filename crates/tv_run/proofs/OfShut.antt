@@ -2,10 +2,10 @@
 use Rattle.std.specs.Option.{option_map_or}
 use Rattle.std.specs.Global.{Global}
 use Rattle.std.specs.Vec.{with_item}
-use Rattle.std.specs.Prelude.{Vec, ◌≡◌, ◌≢◌, refl, ℕ, ◌<◌, ◌++◌, true, List, [], ◌∷◌, None, Option, Some, is_some, length, option_and_then, option_map, slice_get, slice_index_or, slice_set}
+use Rattle.std.specs.Prelude.{Vec, ◌≡◌, ◌≢◌, refl, ℕ, ◌<◌, ◌++◌, true, [], ◌∷◌, None, Option, Some, is_some, length, option_and_then, option_map, slice_get, slice_index_or, slice_set}
 use Rattle.std.proofs.Common.{ap, append-nil, arith, inl, subst, sym, ◌∙◌}
 use Rattle.std.proofs.lemmas.List.{length-set}
-use Rattle.std.proofs.lemmas.Option.{none-some, same_Some, slice_get_within}
+use Rattle.std.proofs.lemmas.Option.{same_Some, slice_get_within}
 use Rattle.tv_check.specs.RunViews.{run_view}
 use Rattle.tv_pool.specs.Pool.{number_of, regions_with}
 use Rattle.tv_model.specs.Members.{In}
@@ -20,7 +20,6 @@ use Rattle.tv_seats.proofs.Staging.{set-other}
 use Rattle.tv_forest.specs.Entries.{shut, with_instance}
 use Rattle.tv_forest.specs.Forest.{Instance, Instances, IsAt}
 use Rattle.tv_forest.proofs.OfLists.{at-set, of-set, one-at, same-number, to-set}
-use Rattle.tv_open.specs.declared.open.Husk.{Husk}
 use Rattle.tv_open.specs.declared.open.Open.{Open}
 use Rattle.tv_run.specs.Changes.{ChangesTo, IsOpenHere}
 use Rattle.tv_run.specs.Following.{OthersAreSame}
@@ -267,22 +266,6 @@ module _ (r s : OpenRun) (xs : Instances) (i : ℕ) (x : Instance) (v : View) (i
 
 -- ---- as the code does it
 
--- what was the last of a list of one
-pub popped : (ps : List Open) (p q : Open) → ps ++ p ∷ [] ≡ q ∷ [] → p ≡ q
-popped [] p q e = same_Some p q (ap (λ l. slice_get l 0) e)
-popped (a ∷ []) p q e = absurd (none-some p (ap (λ l. slice_get l 1) (sym e)))
-popped (a ∷ b ∷ ps) p q e = absurd (none-some b (ap (λ l. slice_get l 1) (sym e)))
-
--- of an open instance it is its Open
-pub popped-is : (r : OpenRun) (i : ℕ) (xs : Instances) (x : Instance) (v : View) (here : IsOpenHere r xs i x v)
-    (c : code.Instance) → c ≡ slice_index_or r.instances.items i c → (ps : List Open) (p : Open)
-    → c.open.items ≡ ps ++ p ∷ [] → p ≡ o r i xs x v here
-popped-is r i xs x v here c read ps p e =
-    popped ps p (o r i xs x v here)
-    (sym e
-    ∙ ap (λ (g : code.Instance). g.open.items) (read-is r i xs x v here c read)
-    ∙ (its-code r i xs x v here).opened.there)
-
 -- s is r with this in the place of what is read there: it has seats like those of p, whose region is released
 pub record IsClosed (r s : OpenRun) (i : ℕ) (c : code.Instance) (p : Open) : Type 0 where
   pub run : s.run ≡ r.run
@@ -306,7 +289,7 @@ pub record IsClosed (r s : OpenRun) (i : ℕ) (c : code.Instance) (p : Open) : T
   pub gone : s.pool.regions ≡ regions_with r.pool (number_of p.frame.region) None
 
 -- the run with this instance closed
-abbrev pub with_closed : OpenRun → ℕ → code.Instance → Vec Open Global → Seated → Nodes → Vec Husk Global → OpenRun
+abbrev pub with_closed : OpenRun → ℕ → code.Instance → Vec Open Global → Seated → Nodes → Vec (Vec Open Global) Global → OpenRun
 with_closed r i c none left pool husks =
     record r {
       pool = pool;
@@ -325,7 +308,7 @@ with_closed r i c none left pool husks =
 
 pub closes : (r : OpenRun) (i : ℕ) (c : code.Instance) (p : Open) (none : Vec Open Global) → none.items ≡ []
     → (left : Seated) → left.seats ≡ p.seats.seats → (pool : Nodes)
-    → pool.regions ≡ regions_with r.pool (number_of p.frame.region) None → (husks : Vec Husk Global)
+    → pool.regions ≡ regions_with r.pool (number_of p.frame.region) None → (husks : Vec (Vec Open Global) Global)
     → IsClosed r (with_closed r i c none left pool husks) i c p
 closes r i c p none empty left seats pool gone husks = record {
   run = refl;

@@ -133,8 +133,7 @@ pub record FollowsIn (r s : OpenRun) (i : ℕ) : Type 0 where
 pub record IsEntering (r : OpenRun) (jobs : Vec ℕ Global) (slot : Vec Open Global)
     (o : Open) : Type 0 where
   pub instances : length r.instances.items < vec_capacity r.instances
-  pub empty : slot.items ≡ []
-  pub place : 0 < vec_capacity slot
+  pub is_one : slot.items ≡ o ∷ []
   pub none_numbered : jobs.items ≡ []
   pub numbers : length o.seats.seats ≤ vec_capacity jobs
   pub room : length r.jobs.items + length o.seats.seats ≤ vec_capacity r.jobs

@@ -9,5 +9,6 @@ pub mod Recalling
 pub mod Turns
 pub mod Walking
 pub mod Settlements
+pub mod Slots
 pub mod Accepting
 pub mod Tracing

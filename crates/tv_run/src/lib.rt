@@ -11,6 +11,7 @@
 //!
 //! - `plans`: what is looked up of the document
 //! - `instances`: an instance that was opened, and a job by its number there
+//! - `slots`: where open instances stand, and stood that have ended
 //! - `run`: what a run has, how it starts, and the room that a call takes
 //! - `jobs`, `tasks`: where a job stands, what it is called, and what its try asks
 //! - `walk`: the walk to the first job of all that goes on
@@ -37,6 +38,7 @@ mod plans;
 mod results;
 mod run;
 mod settling;
+mod slots;
 mod tasks;
 mod tracing;
 mod walk;

@@ -24,6 +24,8 @@ ghost use Rattle.tv_run.specs.Turns.{MovesTo, SettlesTo, StaysAs};
 use crate::ended::Ended;
 use crate::instances::Numbered;
 use crate::run::OpenRun;
+use crate::slots::keep;
+use std::mem;
 use tv_cell::Pieces;
 use tv_dispatch::{Kind, Plan};
 use tv_entries::{Entry, Moved};
@@ -257,14 +259,10 @@ impl OpenRun {
         ensures due { self.new.due ≡ self.old.due }
     {
         let ended = &mut self.instances[instance as usize];
-        match ended.open.pop() {
-            Some(itself) => {
-                let (outs, seats, levels) = itself.finish(&mut self.pool, &mut self.husks);
-                ended.open = Vec::new(self.alloc);
-                ended.seats = Some(seats);
-                Ended { outs, levels }
-            }
-            None => unreachable!(),
-        }
+        let mut husk = mem::replace(&mut ended.open, Vec::new(self.alloc));
+        let (outs, seats, levels) = husk[0].finish(self.alloc, &mut self.pool);
+        ended.seats = Some(seats);
+        keep(&mut self.husks, husk);
+        Ended { outs, levels }
     }
 }

@@ -9,6 +9,7 @@ ghost use Rattle.tv_check.specs.RunViews.{run_view};
 ghost use Rattle.tv_cell.specs.PieceValues.{piece_values};
 ghost use Rattle.tv_cell.specs.Soundness.{AreSound};
 ghost use Rattle.tv_forest.specs.Forest.{Instance as AnInstance, Instances, IsAt};
+ghost use Rattle.tv_open.specs.declared.open.Open.{Open as Held};
 ghost use Rattle.tv_run.specs.Changes.{AddsTo, CanAdd, IsOpenedOn};
 ghost use Rattle.tv_run.specs.Following.{AddsNumber, CanFollow, CanNumber, Enters, FollowsIn, IsEntering, LooksInto, Numbers};
 ghost use Rattle.tv_run.specs.Rooms.{HasRoomBeside, HasRoomIn, IsAsBefore, IsNoted, IsSameButEntries, IsSameButRooms};
@@ -17,11 +18,12 @@ ghost use Rattle.tv_run.specs.Standing.{Fits, StandsOpen};
 use crate::ended::Ended;
 use crate::instances::{Instance, Numbered};
 use crate::plans::{FlowLook, looks_of};
+use crate::slots::{Slot, slot_with};
 use std::alloc::Global;
 use tv_cell::{Pieces, Row};
 use tv_check::{CheckedRun, FlowPlan};
 use tv_entries::Entry;
-use tv_open::{Husk, Open};
+use tv_open::Open;
 use tv_outputs::Nodes;
 use tv_pool::Pool;
 use tv_results::value_piece;
@@ -48,8 +50,8 @@ pub struct OpenRun {
     pub(crate) failed: u64,
     // What the main instance gives, once it has ended.
     pub(crate) outs: Option<Ended>,
-    // What instances that ended have left, for those that are opened.
-    pub(crate) husks: Vec<Husk>,
+    // Where instances stood that have ended, each in a list of one, for those that are opened.
+    pub(crate) husks: Vec<Slot>,
 }
 
 /// So many husks are kept.
@@ -143,39 +145,29 @@ impl OpenRun {
         ensures refused { OnErr result (IsAsBefore self.old self.new) }
     {
         self.instances.reserve(1)?;
-        let slot = Vec::with_capacity(self.alloc, 1)?;
         let plan = self.run.flow(flow);
         let tables = &self.looks[flow as usize].tables;
         let (pool, husks) = (&mut self.pool, &mut self.husks);
-        let open = Open::start(self.alloc, plan, tables, inputs, pool, husks)?;
+        let mut slot = slot_with(self.alloc, plan, tables, inputs, pool, husks)?;
         let mut jobs = Vec::new(self.alloc);
-        match self.reserve(&mut jobs, open.known()) {
+        match self.reserve(&mut jobs, slot[0].known()) {
             Ok(()) => {
-                self.enter(flow, opener, jobs, slot, open);
+                self.enter(flow, opener, jobs, slot);
                 Ok(())
             }
             Err(error) => {
-                open.abandon(&mut self.pool);
+                slot[0].abandon(&mut self.pool);
                 Err(error)
             }
         }
     }
 
     /// An instance is open from now on. Takes no memory.
-    fn enter(
-        &mut self,
-        flow: u32,
-        opener: Option<u64>,
-        jobs: Vec<u64>,
-        slot: Vec<Open>,
-        opened: Open,
-    )
-        requires { IsEntering self.old jobs slot opened }
-        ensures { Enters self.old self.new flow opener opened }
+    fn enter(&mut self, flow: u32, opener: Option<u64>, jobs: Vec<u64>, slot: Slot)
+        requires { (o : Held) × IsEntering self.old jobs slot o }
+        ensures { (o : Held) → slot.items ≡ o ∷ [] → Enters self.old self.new flow opener o }
     {
         let number = self.instances.len() as u64;
-        let mut slot = slot;
-        slot.push_reserved(opened);
         self.instances.push_reserved(Instance {
             flow,
             opener,

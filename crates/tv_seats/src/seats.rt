@@ -48,6 +48,18 @@ impl Model for Seats {
 }
 
 impl Seats {
+    /// No seats, of no step. Takes no memory.
+    pub fn none(alloc: Global) -> Seats
+        ensures seats { result.seats ≡ [] }
+        ensures levels { result.levels ≡ [] }
+    {
+        Seats {
+            table: Table::new(alloc, 0),
+            steps: Vec::new(alloc),
+            out: 0,
+        }
+    }
+
     /// No seats, where the places of each step have so many indices. Linear in the steps.
     pub fn start(alloc: Global, levels: &[u32]) -> Result<Seats, NoMemory>
         ensures seats { IfOk result (λ s. s.seats ≡ []) }

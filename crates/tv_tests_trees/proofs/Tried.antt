@@ -1,7 +1,6 @@
 -- The script of the tests, step by step.
 use Rattle.std.proofs.Common.{◌≡◌, ◌≤◌, ◌<◌, ◌+◌, ℕ, zero, suc, List, [], ◌∷◌, length, map, Some, true, inl, inr, refl, sym, ap, ◌∙◌, subst, arith}
 use Rattle.std.specs.Prelude.{is_some, slice_get}
-use Rattle.std.specs.Prelude.{Result, Ok, Err, IfOk}
 use Rattle.tv_value.specs.Nested.{Place}
 use Rattle.tv_value.specs.Values.{Value}
 use Rattle.tv_parts.specs.Partials.{Partial, wanting, whole}
@@ -144,10 +143,6 @@ first-comes v u h = (v, (h.0, ap (arrive (0 ∷ []) v) h.1))
 
 pub both-close : (n : ℕ) → 2 ≤ n → (u : Partial Value) → HasBoth u → CanClose [] n u
 both-close n fits u h = subst (CanClose [] n) (sym h.1.1) fits
-
-pub begun-ok : {E : Type 0} (r : Result Outputs E) (pool : Nodes) (region : Region) (ds : List ℕ) → ds ≡ 1 ∷ 1 ∷ 0 ∷ [] → IsLive pool region → IfOk r (λ o. Stand pool o region) → IfOk r (λ o. depths o ≡ ds) → IfOk r (λ o. known pool o ≡ map (λ d. wanting) ds) → IfOk r (λ o. Tried pool o region IsNothing IsNothing)
-begun-ok (Ok o) pool region ds is live stand deep empty = tried-begun pool o region ds is live stand deep empty
-begun-ok (Err e) pool region ds is live stand deep empty = tt
 
 -- ---- pieces of the trees
 

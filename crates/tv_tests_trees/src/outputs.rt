@@ -90,7 +90,9 @@ fn begun(alloc: Global, pool: &mut Nodes, region: &Region) -> Result<Outputs, No
     requires { IsLive pool.old region.now }
     ensures { IfOk result (λ outputs. Tried pool.new outputs region.now IsNothing IsNothing) }
 {
-    Outputs::start(alloc, pool, region, &[1, 1, 0])
+    let mut outputs = Outputs::new(alloc);
+    outputs.start(pool, region, &[1, 1, 0])?;
+    Ok(outputs)
 }
 
 /// The second items of both lists come, and it is told what will be whole in the first.

@@ -1,6 +1,9 @@
 use Rattle.std.proofs.Common.{refl}
-use Rattle.tv_tests_trees.proofs.Tried.{begun-ok}
+use Rattle.tv_tests_trees.proofs.Tried.{tried-begun}
 use Rattle.tv_tests_trees.proofs.outputs.begun.Goals as goal
 
 pub returns : goal.returns
-returns c = begun-ok c.start.result c.start.new.pool c.args.region.now _ refl (c.start.ensures.kept.live c.args.region.now c.requires) c.start.ensures.stand c.start.ensures.depths c.start.ensures.known
+returns c =
+    let e = c.in_ok-start.ensures in
+    tried-begun c.start.new.pool c.start.new.self c.args.region.now _ refl
+    (c.start.ensures.kept.live c.args.region.now c.requires) e.stand e.depths e.known

@@ -1,22 +1,18 @@
-use Rattle.std.proofs.Common.{◌∙◌}
-use Rattle.std.proofs.lemmas.Result.{on_err_weaker}
+use Rattle.std.specs.Prelude.{None}
+use Rattle.std.proofs.Common.{ap, ◌∙◌}
 use Rattle.tv_cell.specs.PieceValues.{piece_values}
-use Rattle.tv_pool.specs.Pool.{number_of}
+use Rattle.tv_pool.specs.Pool.{number_of, regions_with}
+use Rattle.tv_frame.specs.declared.frame.Frame.{Frame}
 use Rattle.tv_open.proofs.OfRegions.{given-up}
 use Rattle.tv_open.proofs.open.Open.start.Goals as goal
 
-pub seated-requires-clause-starts : goal.seated-requires-clause-starts
-seated-requires-clause-starts c =
+pub seat_first-requires-clause-starts : goal.seat_first-requires-clause-starts
+seat_first-requires-clause-starts c =
     let q = c.requires.can in
-    (q.0, piece_values c.args.inputs, c.in_ok-frame.ensures.ok q.0.flows q.1)
+    (q.0, piece_values c.args.inputs, c.start-2.new.pool, c.in_ok-start.ensures.ok q.0.flows q.1)
 
-pub seated-requires-clause-levels : goal.seated-requires-clause-levels
-seated-requires-clause-levels c = c.in_ok-seats.ensures.levels ∙ c.levels.ensures ∙ c.requires.tables.levels_are
-
-pub returns-clause-refused : goal.returns-clause-refused
-returns-clause-refused c =
-    on_err_weaker c.seated.result
-    (λ e.
-    given-up c.args.pool.now c.start-2.new.pool c.seated.new.pool (number_of c.in_ok-frame.frame.region)
-    c.in_ok-frame.ensures.own c.in_ok-frame.ensures.kept e)
-    c.seated.ensures.refused
+pub returns-in-Err-clause-refused : goal.returns-in-Err-clause-refused
+returns-in-Err-clause-refused c =
+    let e = c.in_ok-start.ensures in
+    given-up c.args.pool.now c.start-2.new.pool c.abandon.new.pool (number_of c.start-2.new.self.region) e.own e.kept
+    (c.abandon.ensures.gone ∙ ap (λ (f : Frame). regions_with c.start-2.new.pool (number_of f.region) None) c.seat_first.ensures.frame)

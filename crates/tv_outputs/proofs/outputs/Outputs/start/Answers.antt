@@ -16,7 +16,7 @@ pub loop-depth-init : goal.loop-depth-init
 loop-depth-init c =
     let pool = c.args.pool.now in
     let region = c.args.region.now in
-    let none = c.in_ok-trees.ensures.items in
+    let none = c.in_ok-reserve.ensures.items ∙ c.clear.ensures.items in
     record {
       live = c.requires;
       kept = subst (AreKept pool region) (sym none) (kept-none pool region);
@@ -34,7 +34,7 @@ loop-depth-preserved c =
     let l = c.loop-depth.invariant in
     let old = c.loop-depth.pool in
     let new = c.start.new.pool in
-    let ts = c.loop-depth.trees.items in
+    let ts = c.loop-depth.self.trees.items in
     let i = c.loop-depth.depth-index in
     let ds = c.args.depths.now in
     let d = get_or ds i 0 in

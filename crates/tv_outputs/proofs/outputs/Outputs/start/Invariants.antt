@@ -9,9 +9,9 @@ use Rattle.tv_outputs.proofs.outputs.Outputs.start.Given as goal
 abbrev pub invariant-loop-depth : goal.invariant-loop-depth
 invariant-loop-depth l = record {
   live : IsLive l.pool l.region;
-  kept : AreKept l.pool l.region l.trees.items;
-  known : known_in l.pool l.trees.items ≡ map (λ d. wanting) (take l.depth-index l.depths);
-  depths : depths_in l.trees.items ≡ take l.depth-index l.depths;
+  kept : AreKept l.pool l.region l.self.trees.items;
+  known : known_in l.pool l.self.trees.items ≡ map (λ d. wanting) (take l.depth-index l.depths);
+  depths : depths_in l.self.trees.items ≡ take l.depth-index l.depths;
   regions : KeepsRegions l.fn.pool l.pool (number_of l.region);
   spare : l.fn.pool.spare ≤ l.pool.spare + l.depth-index;
 }

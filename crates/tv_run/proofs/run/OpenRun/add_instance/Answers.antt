@@ -1,12 +1,12 @@
-use Rattle.std.specs.Prelude.{refl, length, ◌+◌, ◌<◌, ◌≤◌, vec_capacity}
+use Rattle.std.specs.Prelude.{refl, length, None, ◌+◌, ◌<◌, ◌≤◌, vec_capacity}
 use Rattle.std.proofs.Common.{ap, arith, subst, sym, ◌∙◌}
 use Rattle.tv_cell.specs.PieceValues.{piece_values}
-use Rattle.tv_pool.specs.Pool.{IsLive}
+use Rattle.tv_pool.specs.Pool.{IsLive, number_of, regions_with}
 use Rattle.tv_check.specs.RunViews.{run_view}
 use Rattle.tv_frame.specs.Tables.{AreTables}
 use Rattle.tv_run.specs.Rooms.{HasRoomBeside}
 use Rattle.tv_run.specs.declared.run.OpenRun.{OpenRun}
-use Rattle.tv_run.proofs.OfAdding.{before-given_up, before-room, flow-low, is-entering, looks-low, on-err, tables-are}
+use Rattle.tv_run.proofs.OfAdding.{before-given_up, before-room, flow-low, is-entering, looks-low, on-err, only-one, tables-are}
 use Rattle.tv_run.proofs.OfEnters.{IsStarted, adds-to, entered, opened-on}
 use Rattle.tv_run.proofs.OfFlowPlans.{plan-flow}
 use Rattle.tv_run.proofs.run.OpenRun.add_instance.Goals as goal
@@ -17,19 +17,13 @@ returns-in_err-reserve-clause-refused c =
     (before-room c.args.self.now c.reserve.new.self c.reserve.ensures.items c.args.self.now.husks c.args.self.now.pool
     (λ n. refl))
 
-pub returns-in_err-slot-clause-refused : goal.returns-in_err-slot-clause-refused
-returns-in_err-slot-clause-refused c =
-    on-err c.from_residual-in_err-slot.result
-    (before-room c.args.self.now c.reserve.new.self c.reserve.ensures.items c.args.self.now.husks c.args.self.now.pool
-    (λ n. refl))
-
 pub flow-plan-requires : goal.flow-plan-requires
 flow-plan-requires c =
     let q = c.requires.fits in
     flow-low (run_view c.args.self.now.run) c.args.flow q.1 q.3.is_flow
 
-pub start-requires-clause-can : goal.start-requires-clause-can
-start-requires-clause-can c =
+pub slot_with-requires-clause-can : goal.slot_with-requires-clause-can
+slot_with-requires-clause-can c =
     let q = c.requires.fits in
     let d = run_view c.args.self.now.run in
     (d, q.3.start c.flow-plan.result.now (plan-flow d c.args.flow q.1 c.flow-plan.result.now q.3.is_flow c.flow-plan.ensures))
@@ -41,8 +35,8 @@ index-requires c =
     subst (λ n. c.args.flow < n) (sym r.looks.ok.0)
     (looks-low (run_view r.run) r.looks.items q.3.fits.looks c.args.flow q.1 q.3.is_flow)
 
-pub start-requires-clause-tables : goal.start-requires-clause-tables
-start-requires-clause-tables c =
+pub slot_with-requires-clause-tables : goal.slot_with-requires-clause-tables
+slot_with-requires-clause-tables c =
     let q = c.requires.fits in
     let r = c.args.self.now in
     let d = run_view r.run in
@@ -50,37 +44,52 @@ start-requires-clause-tables c =
     (sym (plan-flow d c.args.flow q.1 c.flow-plan.result.now q.3.is_flow c.flow-plan.ensures))
     (tables-are d r.looks.items q.3.fits.looks c.args.flow q.1 q.3.is_flow c.index.result.now c.index.ensures)
 
-pub returns-in_err-open-clause-refused : goal.returns-in_err-open-clause-refused
-returns-in_err-open-clause-refused c =
-    on-err c.from_residual-in_err-open.result
-    (before-room c.args.self.now c.reserve.new.self c.reserve.ensures.items c.start.new.husks c.start.new.pool
-    c.in_err-open.ensures.refused)
+pub returns-in_err-slot-clause-refused : goal.returns-in_err-slot-clause-refused
+returns-in_err-slot-clause-refused c =
+    on-err c.from_residual-in_err-slot.result
+    (before-room c.args.self.now c.reserve.new.self c.reserve.ensures.items c.slot_with.new.husks c.slot_with.new.pool
+    c.in_err-slot.ensures.refused)
+
+pub index-requires-2 : goal.index-requires-2
+index-requires-2 c =
+    let one = ap length c.in_ok-slot.ensures.ok.is_one in
+    omega (arith, one, c.in_ok-slot.slot.ok.0)
 
 pub enter-requires : goal.enter-requires
 enter-requires c =
-    let more = c.known.ensures in
+    let h = c.in_ok-slot.ensures.ok in
+    let more = c.known.ensures ∙ ap (λ o. length o.seats.seats) (only-one c.in_ok-slot.slot h.itself h.is_one c.index-2.result.now c.index-2.ensures) in
     let room = c.in_ok-reserve.ensures.ok in
-    let slot = c.in_ok-slot.ensures.capacity in
     let same = c.reserve-2.ensures.instances in
     let long = ap (λ v. length v.items) same in
     let wide = ap vec_capacity same in
     let items = ap length c.reserve.ensures.items in
-    let numbers = c.in-Ok.ensures.rooms.1 in
-    is-entering c.args.self.now c.reserve.new.self c.reserve.ensures.items c.start.new.husks c.start.new.pool
-    c.reserve-2.new.self c.in_ok-open.open c.reserve-2.new.jobs c.in_ok-slot.slot c.reserve-2.ensures.same c.in_ok-slot.ensures.items
-    (omega (arith, slot)) (c.reserve-2.ensures.jobs ∙ c.new-jobs.ensures.items)
-    (subst (HasRoomBeside c.reserve-2.new.self) more c.in-Ok.ensures.rooms.0)
-    (subst (λ n. length c.reserve-2.new.jobs.items + n ≤ vec_capacity c.reserve-2.new.jobs) more numbers)
-    (omega (arith, room, long, wide, items))
+    let numbers = c.in-Ok.ensures.rooms.1 in (
+      h.itself,
+      is-entering c.args.self.now c.reserve.new.self c.reserve.ensures.items c.slot_with.new.husks c.slot_with.new.pool
+          c.reserve-2.new.self h.itself c.reserve-2.new.jobs c.in_ok-slot.slot c.reserve-2.ensures.same h.is_one
+          (c.reserve-2.ensures.jobs ∙ c.new-jobs.ensures.items)
+          (subst (HasRoomBeside c.reserve-2.new.self) more c.in-Ok.ensures.rooms.0)
+          (subst (λ n. length c.reserve-2.new.jobs.items + n ≤ vec_capacity c.reserve-2.new.jobs) more numbers)
+          (omega (arith, room, long, wide, items)),
+    )
+
+pub index_mut-requires : goal.index_mut-requires
+index_mut-requires c =
+    let one = ap length c.in_ok-slot.ensures.ok.is_one in
+    omega (arith, one, c.in_ok-slot.slot.ok.0)
 
 pub abandon-requires : goal.abandon-requires
 abandon-requires c =
     let q = c.requires.fits in
     let d = run_view c.args.self.now.run in
+    let h = c.in_ok-slot.ensures.ok in
     let starts =
-    c.in_ok-open.ensures.ok d
+    h.starts d
     (q.3.start c.flow-plan.result.now (plan-flow d c.args.flow q.1 c.flow-plan.result.now q.3.is_flow c.flow-plan.ensures)) in
-    subst (λ p. IsLive p c.in_ok-open.open.frame.region) (sym c.reserve-2.ensures.same.pool) starts.is_open.keeps.live
+    subst (λ o. IsLive c.reserve-2.new.self.pool o.frame.region)
+    (sym (only-one c.in_ok-slot.slot h.itself h.is_one c.index_mut.result.now c.index_mut.ensures.value))
+    (subst (λ p. IsLive p h.itself.frame.region) (sym c.reserve-2.ensures.same.pool) starts.is_open.keeps.live)
 
 pub returns-in-Ok-clause-added : goal.returns-in-Ok-clause-added
 returns-in-Ok-clause-added c xs f name can =
@@ -88,14 +97,15 @@ returns-in-Ok-clause-added c xs f name can =
     let d = run_view r.run in
     let m : OpenRun = record r {
       instances = c.reserve.new.self;
-      pool = c.start.new.pool;
-      husks = c.start.new.husks;
+      pool = c.slot_with.new.pool;
+      husks = c.slot_with.new.husks;
     } in
-    let o = c.in_ok-open.open in
+    let h = c.in_ok-slot.ensures.ok in
+    let o = h.itself in
     let plan = c.flow-plan.result.now in
     let of_flow = plan-flow d c.args.flow f plan can.is_flow c.flow-plan.ensures in
     let vs = piece_values c.args.inputs in
-    let starts = c.in_ok-open.ensures.ok d (can.start plan of_flow) in
+    let starts = h.starts d (can.start plan of_flow) in
     let started : IsStarted r m o =
     record {
       run = refl;
@@ -107,21 +117,35 @@ returns-in-Ok-clause-added c xs f name can =
       due = refl;
       failed = refl;
       outs = refl;
-      own = c.in_ok-open.ensures.own;
-      keeps = c.in_ok-open.ensures.kept;
+      own = h.own;
+      keeps = h.keeps;
     } in
     let t = c.reserve-2.new.self in
     let s = c.enter.new.self in (
-      entered r m t s xs c.args.flow f c.args.opener name vs o can started c.reserve-2.ensures.same c.enter.ensures plan
+      entered r m t s xs c.args.flow f c.args.opener name vs o can started c.reserve-2.ensures.same (c.enter.ensures o h.is_one) plan
           of_flow starts,
-      opened-on r m t s xs c.args.flow f c.args.opener name vs o can started c.reserve-2.ensures.same c.enter.ensures plan
+      opened-on r m t s xs c.args.flow f c.args.opener name vs o can started c.reserve-2.ensures.same (c.enter.ensures o h.is_one) plan
           of_flow starts,
-      adds-to r m t s xs c.args.flow f c.args.opener name vs o can started c.reserve-2.ensures.same c.enter.ensures plan
+      adds-to r m t s xs c.args.flow f c.args.opener name vs o can started c.reserve-2.ensures.same (c.enter.ensures o h.is_one) plan
           of_flow starts,
     )
 
+pub returns-in-Ok-clause-room : goal.returns-in-Ok-clause-room
+returns-in-Ok-clause-room c =
+    let h = c.in_ok-slot.ensures.ok in
+    let more = c.known.ensures ∙ ap (λ o. length o.seats.seats) (only-one c.in_ok-slot.slot h.itself h.is_one c.index-2.result.now c.index-2.ensures) in
+    let e = c.enter.ensures h.itself h.is_one in
+    let long = ap (λ v. length v.items) e.around.entries in
+    let wide = ap vec_capacity e.around.entries in
+    let due = e.due in
+    let beside : HasRoomBeside c.reserve-2.new.self (length h.itself.seats.seats) = subst (HasRoomBeside c.reserve-2.new.self) more c.in-Ok.ensures.rooms.0 in
+    let room = beside.entries in
+    omega (arith, long, wide, due, room)
+
 pub returns-in-Err-clause-refused : goal.returns-in-Err-clause-refused
 returns-in-Err-clause-refused c =
-    before-given_up c.args.self.now c.reserve.new.self c.reserve.ensures.items c.start.new.husks c.start.new.pool
-    c.abandon.new.pool c.reserve-2.new.self c.in_ok-open.open c.reserve-2.ensures.same c.in_ok-open.ensures.own c.in_ok-open.ensures.kept
-    c.abandon.ensures
+    let h = c.in_ok-slot.ensures.ok in
+    let same = only-one c.in_ok-slot.slot h.itself h.is_one c.index_mut.result.now c.index_mut.ensures.value in
+    before-given_up c.args.self.now c.reserve.new.self c.reserve.ensures.items c.slot_with.new.husks c.slot_with.new.pool
+    c.abandon.new.pool c.reserve-2.new.self h.itself c.reserve-2.ensures.same h.own h.keeps
+    (c.abandon.ensures ∙ ap (λ o. regions_with c.reserve-2.new.self.pool (number_of o.frame.region) None) same)

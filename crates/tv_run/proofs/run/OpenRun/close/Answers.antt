@@ -1,8 +1,9 @@
-use Rattle.std.proofs.Common.{arith}
+use Rattle.std.specs.Prelude.{length, slice_index_or}
+use Rattle.std.proofs.Common.{ap, arith, ◌∙◌}
 use Rattle.tv_check.specs.RunViews.{run_view}
 use Rattle.tv_run.proofs.OfEnding.{open-some}
-use Rattle.tv_run.proofs.OfItself.{number-low, open-low}
-use Rattle.tv_run.proofs.OfShut.{changes-closed, closes, names-closed, popped-is, with_closed}
+use Rattle.tv_run.proofs.OfItself.{number-low, open-low, open-read}
+use Rattle.tv_run.proofs.OfShut.{changes-closed, closes, names-closed, with_closed}
 use Rattle.tv_run.proofs.run.OpenRun.close.Goals as goal
 
 pub index_mut-ended-requires : goal.index_mut-ended-requires
@@ -12,44 +13,44 @@ index_mut-ended-requires c =
     let low = number-low r c.args.instance q.0 q.1 q.2 q.3 in
     omega (arith, low, r.instances.ok.0)
 
+pub index_mut-requires : goal.index_mut-requires
+index_mut-requires c =
+    let q = c.requires in
+    let g = c.index_mut-ended.result.now in
+    let low = open-low c.args.self.now c.args.instance q.0 q.1 q.2 q.3 g c.index_mut-ended.ensures.value in
+    let same = ap (λ v. length v.items) c.replace-husk.ensures.value in
+    omega (arith, low, same, c.replace-husk.result.ok.0)
+
 pub finish-outs-requires : goal.finish-outs-requires
 finish-outs-requires c =
     let q = c.requires in
     let r = c.args.self.now in
     let i = c.args.instance in
-    let same =
-    popped-is r i q.0 q.1 q.2 q.3 c.index_mut-ended.result.now c.index_mut-ended.ensures.value c.pop.new.self.items
-    c.in-Some.itself c.in-Some.ensures.items in
-    let w = open-some r i q.0 q.1 q.2 q.3 c.in-Some.itself same in
-    record { ended = (run_view r.run, w.0, q.2, w.1, q.4) }
-
-pub unreachable-requires : goal.unreachable-requires
-unreachable-requires c =
-    let q = c.requires in
     let g = c.index_mut-ended.result.now in
-    let low =
-    open-low c.args.self.now c.args.instance q.0 q.1 q.2 q.3 g c.index_mut-ended.ensures.value in
-    let none = c.in-None.ensures.cases in
-    omega (arith, low, none.0, g.open.ok.0)
+    let p = c.index_mut.result.now in
+    let same =
+    open-read r i q.0 q.1 q.2 q.3 g c.index_mut-ended.ensures.value p (c.index_mut.ensures.value ∙ ap (λ w. slice_index_or w.items 0 p) c.replace-husk.ensures.value) in
+    let w = open-some r i q.0 q.1 q.2 q.3 p same in
+    record { ended = (run_view r.run, w.0, q.2, w.1, q.4) }
 
 pub returns-clause-outputs : goal.returns-clause-outputs
 returns-clause-outputs c = λ xs x v here ends.
     let r = c.args.self.now in
     let i = c.args.instance in
-    let same =
-    popped-is r i xs x v here c.index_mut-ended.result.now c.index_mut-ended.ensures.value c.pop.new.self.items
-    c.in-Some.itself c.in-Some.ensures.items in
-    let w = open-some r i xs x v here c.in-Some.itself same in
+    let g = c.index_mut-ended.result.now in
+    let p = c.index_mut.result.now in
+    let same = open-read r i xs x v here g c.index_mut-ended.ensures.value p (c.index_mut.ensures.value ∙ ap (λ w. slice_index_or w.items 0 p) c.replace-husk.ensures.value) in
+    let w = open-some r i xs x v here p same in
     c.finish-outs.ensures.outputs (run_view r.run) w.0 v w.1
 
 pub returns-clause-levels : goal.returns-clause-levels
 returns-clause-levels c = λ xs x v here ends.
     let r = c.args.self.now in
     let i = c.args.instance in
-    let same =
-    popped-is r i xs x v here c.index_mut-ended.result.now c.index_mut-ended.ensures.value c.pop.new.self.items
-    c.in-Some.itself c.in-Some.ensures.items in
-    let w = open-some r i xs x v here c.in-Some.itself same in
+    let g = c.index_mut-ended.result.now in
+    let p = c.index_mut.result.now in
+    let same = open-read r i xs x v here g c.index_mut-ended.ensures.value p (c.index_mut.ensures.value ∙ ap (λ w. slice_index_or w.items 0 p) c.replace-husk.ensures.value) in
+    let w = open-some r i xs x v here p same in
     c.finish-outs.ensures.levels (run_view r.run) w.0 v w.1
 
 pub returns-clause-shut : goal.returns-clause-shut
@@ -57,12 +58,11 @@ returns-clause-shut c = λ xs x v here ends.
     let r = c.args.self.now in
     let i = c.args.instance in
     let g = c.index_mut-ended.result.now in
-    let p = c.in-Some.itself in
-    let same =
-    popped-is r i xs x v here g c.index_mut-ended.ensures.value c.pop.new.self.items p c.in-Some.ensures.items in
+    let p = c.index_mut.result.now in
+    let same = open-read r i xs x v here g c.index_mut-ended.ensures.value p (c.index_mut.ensures.value ∙ ap (λ w. slice_index_or w.items 0 p) c.replace-husk.ensures.value) in
     changes-closed r i xs x v here _ g c.index_mut-ended.ensures.value p same
-    (closes r i g p c.new.result c.new.ensures.items c.finish-outs.result.1 c.finish-outs.ensures.seats
-    c.finish-outs.new.pool c.finish-outs.ensures.gone c.finish-outs.new.husks)
+    (closes r i g p c.replace-husk.new.dest (ap (λ w. w.items) c.replace-husk.ensures.after ∙ c.new.ensures.items) c.finish-outs.result.1 c.finish-outs.ensures.seats
+    c.finish-outs.new.pool c.finish-outs.ensures.gone c.keep.new.husks)
 
 pub returns-clause-names : goal.returns-clause-names
 returns-clause-names c =
@@ -70,11 +70,11 @@ returns-clause-names c =
     let r = c.args.self.now in
     let i = c.args.instance in
     let g = c.index_mut-ended.result.now in
-    let p = c.in-Some.itself in
+    let p = c.index_mut.result.now in
     let same =
-    popped-is r i q.0 q.1 q.2 q.3 g c.index_mut-ended.ensures.value c.pop.new.self.items p c.in-Some.ensures.items in
+    open-read r i q.0 q.1 q.2 q.3 g c.index_mut-ended.ensures.value p (c.index_mut.ensures.value ∙ ap (λ w. slice_index_or w.items 0 p) c.replace-husk.ensures.value) in
     names-closed r i q.0 q.1 q.2 q.3
-    (with_closed r i g c.new.result c.finish-outs.result.1 c.finish-outs.new.pool c.finish-outs.new.husks)
+    (with_closed r i g c.replace-husk.new.dest c.finish-outs.result.1 c.finish-outs.new.pool c.keep.new.husks)
     g c.index_mut-ended.ensures.value p same
-    (closes r i g p c.new.result c.new.ensures.items c.finish-outs.result.1 c.finish-outs.ensures.seats
-    c.finish-outs.new.pool c.finish-outs.ensures.gone c.finish-outs.new.husks)
+    (closes r i g p c.replace-husk.new.dest (ap (λ w. w.items) c.replace-husk.ensures.after ∙ c.new.ensures.items) c.finish-outs.result.1 c.finish-outs.ensures.seats
+    c.finish-outs.new.pool c.finish-outs.ensures.gone c.keep.new.husks)

@@ -1,6 +1,7 @@
-use Rattle.std.specs.Prelude.{refl, [], ◌∷◌, ◌++◌, None, false}
+use Rattle.std.specs.Prelude.{refl, None, false, slice_get}
 use Rattle.std.proofs.Common.{ap, subst, sym, ◌∙◌}
-use Rattle.tv_run.specs.Following.{CanFollow, FollowsIn}
+use Rattle.std.proofs.lemmas.Option.{same_Some}
+use Rattle.tv_run.specs.Following.{CanFollow, FollowsIn, IsEntering}
 use Rattle.tv_run.specs.declared.instances.Instance.{Instance}
 use Rattle.tv_run.specs.declared.run.OpenRun.{OpenRun}
 use Rattle.tv_run.proofs.OfEntering.{HasLast, can-follow, entered-so}
@@ -8,34 +9,35 @@ use Rattle.tv_run.proofs.run.OpenRun.enter.Goals as goal
 
 pub follow-requires : goal.follow-requires
 follow-requires c =
-    let m : OpenRun = record c.args.self.now { instances = c.push_reserved-2.new.self } in
+    let m : OpenRun = record c.args.self.now { instances = c.push_reserved.new.self } in
     let e : Instance =
     record {
       flow = c.args.flow;
       opener = c.args.opener;
       jobs = c.args.jobs;
       is_busy = false;
-      «open» = c.push_reserved.new.self;
+      «open» = c.args.slot;
       seats = None;
     } in
-    let last : HasLast c.args.self.now m e = record { same = refl; instances = c.push_reserved-2.ensures.items } in
+    let last : HasLast c.args.self.now m e = record { same = refl; instances = c.push_reserved.ensures.items } in
     subst (CanFollow m) (sym (c.len-number.ensures ∙ c.args.self.now.instances.ok.0))
-    (can-follow c.args.self.now m c.args.jobs c.args.slot c.args.opened e c.requires last refl
-    (c.push_reserved.ensures.items ∙ ap (λ l. l ++ c.args.opened ∷ []) c.requires.empty))
+    (can-follow c.args.self.now m c.args.jobs c.args.slot c.requires.0 e c.requires.1 last refl c.requires.1.is_one)
 
 pub returns : goal.returns
-returns c =
-    let m : OpenRun = record c.args.self.now { instances = c.push_reserved-2.new.self } in
+returns c o one =
+    let entering =
+    subst (IsEntering c.args.self.now c.args.jobs c.args.slot)
+    (same_Some c.requires.0 o (ap (λ l. slice_get l 0) (sym c.requires.1.is_one ∙ one))) c.requires.1 in
+    let m : OpenRun = record c.args.self.now { instances = c.push_reserved.new.self } in
     let e : Instance =
     record {
       flow = c.args.flow;
       opener = c.args.opener;
       jobs = c.args.jobs;
       is_busy = false;
-      «open» = c.push_reserved.new.self;
+      «open» = c.args.slot;
       seats = None;
     } in
-    let last : HasLast c.args.self.now m e = record { same = refl; instances = c.push_reserved-2.ensures.items } in
-    entered-so c.args.self.now m c.args.jobs c.args.slot c.args.opened e c.requires last refl
-    (c.push_reserved.ensures.items ∙ ap (λ l. l ++ c.args.opened ∷ []) c.requires.empty) c.follow.new.self
+    let last : HasLast c.args.self.now m e = record { same = refl; instances = c.push_reserved.ensures.items } in
+    entered-so c.args.self.now m c.args.jobs c.args.slot o e entering last refl entering.is_one c.follow.new.self
     (subst (FollowsIn m c.follow.new.self) (c.len-number.ensures ∙ c.args.self.now.instances.ok.0) c.follow.ensures) refl
