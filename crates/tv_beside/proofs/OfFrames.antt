@@ -1,14 +1,15 @@
 -- A frame whose region is what it was keeps what it kept.
-use Rattle.std.specs.Prelude.{List, Some, [], refl, slice_get, suc, ℕ, ◌∷◌, ◌≡◌}
+use Rattle.std.specs.Prelude.{List, Some, [], length, refl, slice_get, suc, ℕ, ◌+◌, ◌∷◌, ◌≡◌, ◌≤◌}
 use Rattle.std.proofs.Common.{ap, arith, subst, sym}
 use Rattle.tv_pool.specs.Pool.{lying_in, number_of, region_at, region_of, slot_of, stored_in}
 use Rattle.tv_pool.specs.declared.handles.Region.{Region}
+use Rattle.tv_nodes.specs.Calls.{count_in}
 use Rattle.tv_stream.specs.declared.partial.Partial.{Partial as Handle}
 use Rattle.tv_stream.specs.Stands.{IsIn}
 use Rattle.tv_stream.specs.Trees.{tree_at}
 use Rattle.tv_stream.proofs.Others.{stays-elsewhere}
 use Rattle.tv_cell.specs.declared.piece.Piece.{Piece}
-use Rattle.tv_outputs.specs.Known.{Nodes, known, known_in, known_of, shown}
+use Rattle.tv_outputs.specs.Known.{Nodes, all_nodes, known, known_in, known_of, shown}
 use Rattle.tv_outputs.specs.Kept.{AreKept, EachItem, IsNoted}
 use Rattle.tv_frame.specs.Kept.{AreTrees}
 use Rattle.tv_beside.specs.Beside.{GivenUpKeeps, KeepsBeside, OthersCallsKeep, ReadyBeside, RefusalsKeep, ReleasesKeep, RoomsKeep, SameKeeps, StartsKeep}
@@ -45,6 +46,9 @@ module _ (pool after : Nodes) (r : Region) (same : region_at after (number_of r)
           items = subst (EachItem IsNoted) (sym stays.tree) was.items;
         };
     apart = a.apart;
+    few =
+        subst (λ us. count_in after (number_of r) ≤ 0 + all_nodes us) (sym (trees-known ts (λ k t e. (a.kept k t e).within)))
+        (subst (λ o. length (stored_in o) ≤ 0 + all_nodes (known_in pool ts)) (sym same) a.few);
   }
 
 -- ---- frames
@@ -83,6 +87,7 @@ ready-beside flows plan pool after f v n s e r same more = record {
   from = r.from;
   turns = r.turns;
   whole = r.whole;
+  counted = r.counted;
   told = r.told;
   show = r.show;
   outs = r.outs;

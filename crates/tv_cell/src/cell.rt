@@ -79,7 +79,7 @@ impl Model for Cell {
 
 impl Cell {
     /// A cell of that value, moved there as it is. Where memory is wanting the value is dropped. The value is looked through for
-    /// faults, here and nowhere else: linear in it at the most.
+    /// faults, so that whoever takes the cell asks it instead: linear in it at the most.
     pub fn put(alloc: Global, value: Value) -> Result<Cell, NoMemory>
         ensures { IfOk result (λ c. c ≡ value) }
     {

@@ -2,3 +2,4 @@ pub mod Counting
 pub mod Flattened
 pub mod Slots
 pub mod Places
+pub mod OfValues

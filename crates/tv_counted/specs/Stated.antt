@@ -1,14 +1,16 @@
--- A region has a node for each place of its trees at which something is known.
+-- A region has a node for each place of its trees at which something is known, and no others but the roots of trees of which nothing is known.
 use Rattle.std.specs.List.{All, AllPairs}
 use Rattle.std.specs.Prelude.{◌≢◌, ℕ, ◌≤◌, List, length}
-use Rattle.tv_value.specs.Nested.{Place}
+use Rattle.tv_value.specs.Nested.{Place, notes}
 use Rattle.tv_value.specs.Values.{Value}
+use Rattle.tv_parts.specs.Below.{Below}
 use Rattle.tv_parts.specs.Partials.{Partial, known_at, wanting}
 use Rattle.tv_pool.specs.Pool.{number_of, region_at, stored_in}
 use Rattle.tv_pool.specs.declared.handles.Region.{Region}
+use Rattle.tv_stream.specs.NodeCounts.{tree_nodes}
 use Rattle.tv_outputs.specs.declared.outputs.Outputs.{Outputs}
 use Rattle.tv_outputs.specs.Kept.{Stand}
-use Rattle.tv_outputs.specs.Known.{Nodes, known, tree_in}
+use Rattle.tv_outputs.specs.Known.{Nodes, all_nodes, known, tree_in}
 
 -- no two of the list are the same
 abbrev pub AreDifferent : {A : Type 0} → List A → Type 0
@@ -32,3 +34,14 @@ PlacesHaveNodes =
     → AreDifferent places
     → All (KnowsAt (known pool outputs)) places
     → length places ≤ node_count pool region
+
+-- and no more than its trees have, the root of each counted though nothing is known of it
+abbrev pub TreesHaveAllNodes : Type 0
+TreesHaveAllNodes =
+    (pool : Nodes) (outputs : Outputs) (region : Region)
+    → Stand pool outputs region
+    → node_count pool region ≤ all_nodes (known pool outputs)
+
+-- a tree has at most as many nodes as a value that it is below
+abbrev pub TreesHaveNoMore : Type 0
+TreesHaveNoMore = (r : Partial Value) (v : Value) → Below r v → tree_nodes r ≤ length (notes v)

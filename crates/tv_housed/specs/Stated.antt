@@ -1,4 +1,4 @@
--- The region of a frame has a node for each output of each job that has a result.
+-- The region of a frame has a node for each output of each job that has a result, and no more than the values of its steps.
 use Rattle.std.specs.List.{All, sum_by}
 use Rattle.std.specs.Option.{option_map_or}
 use Rattle.std.specs.Prelude.{◌≡◌, ℕ, ◌≤◌, true, List, length, slice_get}
@@ -9,7 +9,8 @@ use Rattle.tv_check.specs.declared.plans.FlowPlan.{FlowPlan}
 use Rattle.tv_outputs.specs.Known.{Nodes}
 use Rattle.tv_counted.specs.Stated.{AreDifferent, node_count}
 use Rattle.tv_instance.specs.Events.{has_result}
-use Rattle.tv_framing.specs.Views.{View}
+use Rattle.tv_history.specs.Histories.{step_room}
+use Rattle.tv_framing.specs.Views.{InAll, View}
 use Rattle.tv_drawn.specs.Steps.{IsStepAt}
 use Rattle.tv_frame.specs.declared.frame.Frame.{Frame}
 use Rattle.tv_frame.specs.Kept.{Keeps}
@@ -44,3 +45,11 @@ JobsHaveNodes =
     → Keeps flows plan pool f v
     → (jobs : List (ℕ × Place)) → HaveResults v jobs
     → length jobs ≤ node_count pool f.region
+
+-- and no more than the values at its steps' outputs and their iterations have, in each instance that
+-- has what was told
+abbrev pub NodesFitSteps : Type 0
+NodesFitSteps =
+    (flows : List (Name × Flow)) (plan : FlowPlan) (pool : Nodes) (f : Frame) (v : View)
+    → Keeps flows plan pool f v
+    → InAll v (λ instance results fs. node_count pool f.region ≤ sum_by (λ g. step_room g.step) fs)

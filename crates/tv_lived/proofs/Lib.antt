@@ -3,3 +3,4 @@ pub mod Regions
 pub mod Jobs
 pub mod Instances
 pub mod Lived
+pub mod Room

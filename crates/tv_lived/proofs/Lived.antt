@@ -17,7 +17,7 @@ use Rattle.tv_lived.specs.Stated.{ResultsHaveNodes}
 use Rattle.tv_lived.proofs.Instances.{kept-housed}
 use Rattle.tv_lived.proofs.Regions.{HasFrame}
 
-has-frame : (r : OpenRun) (xs : Instances) → Fits r xs → (i : ℕ) (x : Instance) (v : View)
+pub has-frame : (r : OpenRun) (xs : Instances) → Fits r xs → (i : ℕ) (x : Instance) (v : View)
     → IsAt xs i x → x.view ≡ Some v → HasFrame (run_view r.run).flows r.pool (frame_at r) i v
 has-frame r xs fits i x v at e =
     let c = its-code r i xs x v (record { fits = fits; there = at; is_open = e }) in

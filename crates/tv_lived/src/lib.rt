@@ -1,12 +1,14 @@
-//! That a run keeps no more results than the pool has nodes: a law, of which the program runs
-//! nothing.
+//! That a run keeps no more results than the pool has nodes, and the pool has no more nodes than the
+//! open instances have room: laws, of which the program runs nothing.
 //!
 //! Each open instance of a run has a frame, which keeps its trees in a region of its own of the one
 //! pool (`tv_beside`). The region of a frame has a node for each output of each job with a result
-//! (`tv_housed`). So the live regions together have a node for each result that the run keeps.
+//! (`tv_housed`). So the live regions together have a node for each result that the run keeps. Each live
+//! region is a frame's, and has no more nodes than the values at the outputs of its instance's steps and
+//! their iterations.
 //!
-//! - `specs/Stated.antt`: the law
-//! - `laws`: the function whose clause it is
+//! - `specs/Stated.antt`: the laws
+//! - `laws`: the functions whose clauses they are
 #![tactic(auto)]
 
 pub mod laws;

@@ -5,3 +5,4 @@ pub mod Hanging
 pub mod Bodies
 pub mod Calls
 pub mod Apart
+pub mod Counts

@@ -1,8 +1,7 @@
 -- What the calls of this crate do.
-use Rattle.std.specs.Prelude.{◌≡◌, ◌≢◌, ℕ, ◌<◌, ◌^◌, [], ◌∷◌, ◌++◌, Option, Some, None}
-use Rattle.tv_pool.specs.Pool.{Pool, item_in, lies_at, region_at, IsLive}
+use Rattle.std.specs.Prelude.{◌≡◌, ◌≢◌, ℕ, ◌<◌, ◌^◌, [], ◌∷◌, ◌++◌, length, Option, Some, None}
+use Rattle.tv_pool.specs.Pool.{Pool, item_in, lies_at, region_at, stored_in, IsLive}
 use Rattle.tv_pool.specs.declared.handles.Region.{Region}
-use Rattle.tv_pool.specs.declared.handles.Link.{Link}
 use Rattle.tv_nodes.specs.declared.nodes.Entry.{Entry}
 use Rattle.tv_nodes.specs.declared.nodes.Gap.{Gap}
 use Rattle.tv_nodes.specs.declared.nodes.Stop.{Stop}
@@ -59,3 +58,7 @@ module _ {B : Type 0} where
   pub record KeepsRegions (old new : Pool (Entry B)) (number : ℕ) : Type 0 where
     pub live : (region : Region) → IsLive old region → IsLive new region
     pub others : (other : ℕ) → other ≢ number → region_at new other ≡ region_at old other
+
+  -- how many nodes the region of a number has
+  abbrev pub count_in : Pool (Entry B) → ℕ → ℕ
+  count_in pool number = length (stored_in (region_at pool number))

@@ -3,7 +3,7 @@ ghost use Rattle.std.specs.Prelude.{◌≡◌, ℕ, ◌<◌, ◌+◌, ◌≤◌,
 ghost use Rattle.tv_pool.specs.Pool.{IsLive, item_in, number_of, region_of, slot_of, lies_at, nowhere};
 ghost use Rattle.tv_nodes.specs.Nodes.{leads, body_in};
 ghost use Rattle.tv_nodes.specs.Stands.{Spot, AreNodes, IsNode};
-ghost use Rattle.tv_nodes.specs.Calls.{part_of_gap, IsGap, EndsAt, Plants, HangsPart, Sets, KeepsRegions};
+ghost use Rattle.tv_nodes.specs.Calls.{part_of_gap, IsGap, EndsAt, Plants, HangsPart, Sets, KeepsRegions, count_in};
 
 use tv_pool::{Link, Node, Pool, PutRefused, Region};
 
@@ -48,6 +48,7 @@ pub fn plant<B>(pool: &mut Pool<Entry<B>>, region: &Region, body: B) -> Result<N
     requires { IsLive pool.old region.now }
     ensures region { IfOk result (λ node. region_of node ≡ number_of region.now) }
     ensures ok { IfOk result (λ node. Plants (item_in pool.old (number_of region.now)) (item_in pool.new (number_of region.now)) (slot_of node) body) }
+    ensures count { OnOk result (count_in pool.new (number_of region.now) ≡ count_in pool.old (number_of region.now) + 1) }
     ensures refused { IfErr result (λ refused. refused.item ≡ body) }
     ensures unchanged { OnErr result (pool.new.regions ≡ pool.old.regions) }
     ensures kept { KeepsRegions pool.old pool.new (number_of region.now) }
@@ -123,6 +124,7 @@ pub fn hang<B: Drop>(pool: &mut Pool<Entry<B>>, region: &Region, gap: Gap, body:
     requires gap { (s : ℕ) × IsNode pool.old (number_of region.now) s × IsGap (item_in pool.old (number_of region.now)) s gap }
     requires room { 0 < pool.old.spare }
     ensures hangs { (s : ℕ) (spots : ℕ → Option Spot) (p : Spot) → IsGap (item_in pool.old (number_of region.now)) s gap → AreNodes (item_in pool.old (number_of region.now)) spots → spots s ≡ Some p → HangsPart (item_in pool.old (number_of region.now)) (item_in pool.new (number_of region.now)) spots s p (part_of_gap gap) (lies_at result) body }
+    ensures count { count_in pool.new (number_of region.now) ≡ count_in pool.old (number_of region.now) + 1 }
     ensures kept { KeepsRegions pool.old pool.new (number_of region.now) }
     ensures spare { pool.old.spare ≤ pool.new.spare + 1 }
 {
@@ -148,6 +150,7 @@ pub fn body<B>(pool: &Pool<Entry<B>>, node: Link) -> &B
 pub fn set_body<B: Drop>(pool: &mut Pool<Entry<B>>, node: Link, body: B)
     requires { (number : ℕ) × IsNode pool.old number (lies_at node) }
     ensures sets { (number : ℕ) → IsNode pool.old number (lies_at node) → Sets (item_in pool.old number) (item_in pool.new number) (lies_at node) body }
+    ensures count { (number : ℕ) → count_in pool.new number ≡ count_in pool.old number }
     ensures kept { (number : ℕ) → IsNode pool.old number (lies_at node) → KeepsRegions pool.old pool.new number }
     ensures spare { pool.new.spare ≡ pool.old.spare }
 {

@@ -1,5 +1,5 @@
 -- What a change of one tree makes of all of them, and what a new one does.
-use Rattle.std.proofs.Common.{◌≡◌, ◌≢◌, ℕ, ◌<◌, List, [], ◌∷◌, ◌++◌, length, Option, Some, None, inl, inr, refl, sym, ap, ◌∙◌, subst, arith}
+use Rattle.std.proofs.Common.{◌≡◌, ◌≢◌, ℕ, zero, suc, ◌+◌, ◌<◌, ◌≤◌, List, [], ◌∷◌, ◌++◌, length, Option, Some, None, inl, inr, refl, sym, ap, ◌∙◌, subst, arith}
 use Rattle.std.specs.Prelude.{slice_get, ◌==◌, if◌then◌else◌}
 use Rattle.std.proofs.lemmas.Bool.{cases_eq, eq-eqb, ne_eqb}
 use Rattle.std.proofs.lemmas.Option.{same_Some}
@@ -7,14 +7,17 @@ use Rattle.tv_value.specs.Values.{Value}
 use Rattle.tv_parts.specs.Partials.{Partial, wanting}
 use Rattle.tv_pool.specs.Pool.{item_in, region_of, slot_of, number_of}
 use Rattle.tv_pool.specs.declared.handles.Region.{Region}
+use Rattle.tv_nodes.specs.Calls.{count_in}
 use Rattle.tv_nodes.specs.Stands.{Spot}
 use Rattle.tv_stream.specs.declared.partial.Partial.{Partial as Handle}
 use Rattle.tv_stream.specs.Trees.{tree_at, tree_of}
 use Rattle.tv_stream.specs.Stands.{Grows, Starts, Apart, Stays}
+use Rattle.tv_stream.specs.NodeCounts.{tree_nodes}
+use Rattle.tv_stream.proofs.NodeCounts.{nodes-mapped}
 use Rattle.tv_stream.proofs.Others.{stays-grown, stays-started}
 use Rattle.tv_cell.specs.declared.piece.Piece.{Piece}
-use Rattle.tv_outputs.specs.Known.{Nodes, shown, known_of, known_in}
-use Rattle.tv_outputs.specs.Kept.{IsNoted, EachItem, IsKept, AreKept}
+use Rattle.tv_outputs.specs.Known.{Nodes, all_nodes, item_value, shown, known_of, known_in}
+use Rattle.tv_outputs.specs.Kept.{IsNoted, EachItem, IsKept, AreKept, AreKeptBeside}
 use Rattle.tv_outputs.specs.Changes.{Turns}
 use Rattle.tv_outputs.proofs.Lists.{tree-at, same-in, all-same, mapped-length, map-more, get-cases}
 
@@ -38,7 +41,47 @@ apart-turned one other h s x known = by (other s) refl
     by None e = refl
     by (Some y) e = absurd (clash (one s) known (h s y e))
 
-module _ (old new : Nodes) (region : Region) (trees : List (Handle Piece)) (a : AreKept old region trees) where
+-- ---- how many nodes they have
+
+-- all trees but one have as many as they had
+nodes-grown : (old new : Nodes) (trees : List (Handle Piece)) (k : ℕ) (tree : Handle Piece) → slice_get trees k ≡ Some tree → ((j : ℕ) (u : Handle Piece) → j ≢ k → slice_get trees j ≡ Some u → tree_of new u ≡ tree_of old u) → all_nodes (known_in new trees) + tree_nodes (known_of old tree) ≡ all_nodes (known_in old trees) + tree_nodes (known_of new tree)
+nodes-grown old new [] k tree e same = absurd (none e)
+  where
+    none : None ≡ Some tree → ⊥
+    none h = cc
+nodes-grown old new (t ∷ ts) zero tree e same =
+    subst (λ u. (tree_nodes (known_of new t) + all_nodes (known_in new ts)) + tree_nodes (known_of old u) ≡ (tree_nodes (known_of old t) + all_nodes (known_in old ts)) + tree_nodes (known_of new u)) (same_Some t tree e)
+    (turn (tree_nodes (known_of new t)) (tree_nodes (known_of old t)) (all_nodes (known_in new ts)) (all_nodes (known_in old ts)) (ap all_nodes (all-same old new ts (λ j u there. ap shown (same (suc j) u (above j) there)))))
+  where
+    above : (j : ℕ) → suc j ≢ 0
+    above j h = omega arith
+
+    turn : (a b c d : ℕ) → c ≡ d → (a + c) + b ≡ (b + d) + a
+    turn a b c d h = omega arith
+nodes-grown old new (t ∷ ts) (suc k) tree e same =
+    behind (tree_nodes (known_of new t)) (tree_nodes (known_of old t)) (all_nodes (known_in new ts)) (all_nodes (known_in old ts)) (tree_nodes (known_of old tree)) (tree_nodes (known_of new tree))
+    (ap (λ r. tree_nodes (shown r)) (same 0 t (below k) refl))
+    (nodes-grown old new ts k tree e (λ j u ne there. same (suc j) u (λ is. ne (down j k is)) there))
+  where
+    below : (k : ℕ) → 0 ≢ suc k
+    below k h = omega arith
+
+    down : (j k : ℕ) → suc j ≡ suc k → j ≡ k
+    down j k h = omega arith
+
+    behind : (a b c d e f : ℕ) → a ≡ b → c + e ≡ d + f → (a + c) + e ≡ (b + d) + f
+    behind a b c d e f h k = omega arith
+
+nodes-last : (trees : List (Partial Value)) → all_nodes (trees ++ wanting ∷ []) ≡ all_nodes trees + 1
+nodes-last [] = refl
+nodes-last (t ∷ ts) = behind (tree_nodes t) (all_nodes (ts ++ wanting ∷ [])) (all_nodes ts) (nodes-last ts)
+  where
+    behind : (a b c : ℕ) → b ≡ c + 1 → a + b ≡ (a + c) + 1
+    behind a b c h = omega arith
+
+-- ---- one changes
+
+module _ (beside : ℕ) (old new : Nodes) (region : Region) (trees : List (Handle Piece)) (a : AreKeptBeside beside old region trees) where
   -- one tree grew
   module _ (k : ℕ) (tree : Handle Piece) (there : slice_get trees k ≡ Some tree) (g : Grows old new tree (a.slots k)) where
     stay : (j : ℕ) (u : Handle Piece) → j ≢ k → slice_get trees j ≡ Some u → Stays old new u (a.slots j) × Apart g.more (a.slots j)
@@ -50,8 +93,18 @@ module _ (old new : Nodes) (region : Region) (trees : List (Handle Piece)) (a : 
     abbrev slots' : ℕ → ℕ → Option Spot
     slots' = with_slots a.slots k g.more
 
-    pub kept-grown : EachItem IsNoted (tree_of new tree) → AreKept new region trees
-    kept-grown items = record {
+    few-grown : (more : ℕ) → count_in new (number_of region) ≤ count_in old (number_of region) + more → tree_nodes (tree_of new tree) ≡ tree_nodes (tree_of old tree) + more → count_in new (number_of region) ≤ beside + all_nodes (known_in new trees)
+    few-grown more fits is =
+        by (count_in old (number_of region)) (all_nodes (known_in old trees)) (all_nodes (known_in new trees)) (tree_nodes (known_of old tree)) (tree_nodes (known_of new tree))
+        fits (nodes-mapped item_value (tree_of new tree) ∙ is ∙ ap (λ n. n + more) (sym (nodes-mapped item_value (tree_of old tree))))
+        a.few (nodes-grown old new trees k tree there others-stay)
+      where
+        by : (c n m t u : ℕ) → count_in new (number_of region) ≤ c + more → u ≡ t + more → c ≤ beside + n → m + t ≡ n + u → count_in new (number_of region) ≤ beside + m
+        by c n m t u h e l s = omega arith
+
+    pub kept-grown : (more : ℕ) → count_in new (number_of region) ≤ count_in old (number_of region) + more → tree_nodes (tree_of new tree) ≡ tree_nodes (tree_of old tree) + more → EachItem IsNoted (tree_of new tree) → AreKeptBeside beside new region trees
+    kept-grown more fits is items = record {
+      few = few-grown more fits is;
       slots = slots';
       kept = λ j u e. elim (cases_eq j k) [
         | inl same ↦ subst (IsKept new region u) (sym (slots-here a.slots k g.more j same)) (subst (λ t. IsKept new region t g.more) (same_Some _ _ (sym there ∙ ap (slice_get trees) (sym same) ∙ e)) (record { stands = g.stands; within = (a.kept k tree there).within; items = items }))
@@ -90,8 +143,15 @@ module _ (old new : Nodes) (region : Region) (trees : List (Handle Piece)) (a : 
     short : (j : ℕ) → j < length trees → j ≢ length trees
     short j h e = omega arith
 
-    pub kept-started : AreKept new region (trees ++ tree ∷ [])
-    kept-started = record {
+    pub known-started : known_in new (trees ++ tree ∷ []) ≡ known_in old trees ++ wanting ∷ []
+    known-started =
+        map-more (known_of new) trees tree
+        ∙ ap (λ ts. ts ++ known_of new tree ∷ []) (all-same old new trees (λ j u e. ap shown (unmoved j u e).0.tree))
+        ∙ ap (λ t. known_in old trees ++ t ∷ []) (ap shown started-empty)
+
+    pub kept-started : count_in new (number_of region) ≡ count_in old (number_of region) + 1 → AreKeptBeside beside new region (trees ++ tree ∷ [])
+    kept-started one = record {
+      few = by (count_in new (number_of region)) (count_in old (number_of region)) (all_nodes (known_in old trees)) (all_nodes (known_in new (trees ++ tree ∷ []))) one a.few (ap all_nodes known-started ∙ nodes-last (known_in old trees));
       slots = longer;
       kept = λ j u e. elim (get-cases trees tree j u e) [
         | inl h ↦ let s = unmoved j u h.1 in subst (IsKept new region u) (sym (slots-other a.slots (length trees) g.spots j (short j h.0))) (record { stands = s.0.stands; within = (a.kept j u h.1).within; items = subst (EachItem IsNoted) (sym s.0.tree) (a.kept j u h.1).items })
@@ -108,18 +168,23 @@ module _ (old new : Nodes) (region : Region) (trees : List (Handle Piece)) (a : 
         ])
       ];
     }
+      where
+        by : (c d n m : ℕ) → c ≡ d + 1 → d ≤ beside + n → m ≡ n + 1 → c ≤ beside + m
+        by c d n m h k e = omega arith
 
-    pub known-started : known_in new (trees ++ tree ∷ []) ≡ known_in old trees ++ wanting ∷ []
-    known-started =
-        map-more (known_of new) trees tree
-        ∙ ap (λ ts. ts ++ known_of new tree ∷ []) (all-same old new trees (λ j u e. ap shown (unmoved j u e).0.tree))
-        ∙ ap (λ t. known_in old trees ++ t ∷ []) (ap shown started-empty)
-
-pub kept-none : (pool : Nodes) (region : Region) → AreKept pool region []
-kept-none pool region = record { slots = λ k s. None; kept = λ k tree e. absurd (clash tree e); apart = λ j k one other ne e f. absurd (clash one e) }
+pub kept-none : (pool : Nodes) (region : Region) → AreKeptBeside (count_in pool (number_of region)) pool region []
+kept-none pool region = record {
+  slots = λ k s. None;
+  kept = λ k tree e. absurd (clash tree e);
+  apart = λ j k one other ne e f. absurd (clash one e);
+  few = plus (count_in pool (number_of region));
+}
   where
     clash : (tree : Handle Piece) → None ≡ Some tree → ⊥
     clash tree e = cc
+
+    plus : (n : ℕ) → n ≤ n + 0
+    plus n = omega arith
 
 -- other room changes nothing
 pub kept-respared : (old new : Nodes) (region : Region) (trees : List (Handle Piece)) → new.regions ≡ old.regions → AreKept old region trees → AreKept new region trees
@@ -127,4 +192,5 @@ kept-respared old new region trees same a = subst (λ rs. AreKept (record { regi
   slots = a.slots;
   kept = λ k t e. let s = a.kept k t e in record { stands = record { nodes = s.stands.nodes; spot = s.stands.spot; known = s.stands.known; sound = s.stands.sound; fits = s.stands.fits }; within = s.within; items = s.items };
   apart = a.apart;
+  few = a.few;
 })

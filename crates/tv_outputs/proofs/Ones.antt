@@ -1,5 +1,5 @@
 -- A change of one tree of a list, as its call leaves it.
-use Rattle.std.proofs.Common.{◌≡◌, ◌<◌, ℕ, List, length, Some, refl, sym, ap, ◌∙◌, subst, get_or}
+use Rattle.std.proofs.Common.{◌≡◌, ◌<◌, ◌≤◌, ◌+◌, ℕ, List, length, Some, refl, sym, ap, ◌∙◌, subst, get_or}
 use Rattle.std.specs.Prelude.{slice_get, slice_set}
 use Rattle.std.proofs.lemmas.List.{set-get_or}
 use Rattle.std.proofs.lemmas.Option.{slice_get_read}
@@ -7,11 +7,15 @@ use Rattle.tv_value.specs.Nested.{Place}
 use Rattle.tv_value.specs.Values.{Value, holds_fault}
 use Rattle.tv_parts.specs.Partials.{Partial}
 use Rattle.tv_parts.specs.Changes.{arrive, close_at, CanArrive, CanClose}
+use Rattle.tv_pool.specs.Pool.{number_of}
 use Rattle.tv_pool.specs.declared.handles.Region.{Region}
+use Rattle.tv_nodes.specs.Calls.{count_in}
 use Rattle.tv_stream.specs.declared.partial.Partial.{Partial as Handle}
 use Rattle.tv_stream.specs.Trees.{tree_of}
 use Rattle.tv_stream.specs.Stands.{Stands, KeepsTrees}
 use Rattle.tv_stream.specs.Answers.{marked_item}
+use Rattle.tv_stream.specs.NodeCounts.{tree_nodes, new_nodes}
+use Rattle.tv_stream.proofs.NodeCounts.{nodes-added}
 use Rattle.tv_cell.specs.declared.piece.Piece.{Piece}
 use Rattle.tv_cell.specs.PieceValues.{piece_value}
 use Rattle.tv_cell.specs.Soundness.{IsSound}
@@ -45,16 +49,23 @@ module _ (pool : Nodes) (region : Region) (trees : List (Handle Piece)) (a : Are
     pub one-same : slice_set trees k other ≡ trees
     one-same = ap (slice_set trees k) (same ∙ read) ∙ set-get_or trees k tree
 
-    one-kept : EachItem IsNoted (tree_of new other) → AreKept new region (slice_set trees k other)
-    one-kept items = subst (AreKept new region) (sym one-same) (kept-grown pool new region trees a k tree there (keeps (a.slots k) (a.kept k tree there).stands) (subst (λ t. EachItem IsNoted (tree_of new t)) same items))
+    -- the region has at most the tree's new nodes more
+    abbrev Fits : Place → Type 0
+    Fits q = count_in new (number_of region) ≤ count_in pool (number_of region) + new_nodes q (tree_of pool tree)
+
+    one-kept : (q : Place) → Fits q → tree_nodes (tree_of new other) ≡ tree_nodes (tree_of pool tree) + new_nodes q (tree_of pool tree) → EachItem IsNoted (tree_of new other) → AreKept new region (slice_set trees k other)
+    one-kept q fits is items =
+        subst (AreKept new region) (sym one-same)
+        (kept-grown 0 pool new region trees a k tree there (keeps (a.slots k) (a.kept k tree there).stands) (new_nodes q (tree_of pool tree)) fits
+        (ap (λ t. tree_nodes (tree_of new t)) (sym same) ∙ is) (subst (λ t. EachItem IsNoted (tree_of new t)) same items))
 
     one-turns : (t : Partial Value) → known_of new other ≡ t → Turns k t (known_in pool trees) (known_in new (slice_set trees k other))
-    one-turns t is = subst (λ ts. Turns k t (known_in pool trees) (known_in new ts)) (sym one-same) (turns-grown pool new region trees a k tree there (keeps (a.slots k) (a.kept k tree there).stands) t (ap (known_of new) (sym same) ∙ is))
+    one-turns t is = subst (λ ts. Turns k t (known_in pool trees) (known_in new ts)) (sym one-same) (turns-grown 0 pool new region trees a k tree there (keeps (a.slots k) (a.kept k tree there).stands) t (ap (known_of new) (sym same) ∙ is))
 
     -- a piece arrived
     module _ (q : Place) (piece : Piece) (is : tree_of new other ≡ arrive q (marked_item piece (holds_fault (piece_value piece))) (tree_of pool tree)) where
-      pub arrived-kept : IsSound piece → AreKept new region (slice_set trees k other)
-      arrived-kept sound = one-kept (subst (EachItem IsNoted) (sym is) (each-arrive IsNoted q (marked_item piece (holds_fault (piece_value piece))) (tree_of pool tree) (record { sound = sound; marked = refl }) (a.kept k tree there).items))
+      pub arrived-kept : Fits q → CanArrive q (tree_in (known_in pool trees) k) → IsSound piece → AreKept new region (slice_set trees k other)
+      arrived-kept fits can sound = one-kept q fits (ap tree_nodes is ∙ nodes-added.arrival q (marked_item piece (holds_fault (piece_value piece))) (tree_of pool tree) (one-arrives q can)) (subst (EachItem IsNoted) (sym is) (each-arrive IsNoted q (marked_item piece (holds_fault (piece_value piece))) (tree_of pool tree) (record { sound = sound; marked = refl }) (a.kept k tree there).items))
 
       pub arrived-turns : Turns k (arrive q (piece_value piece) (tree_in (known_in pool trees) k)) (known_in pool trees) (known_in new (slice_set trees k other))
       arrived-turns = one-turns (arrive q (piece_value piece) (tree_in (known_in pool trees) k)) (
@@ -65,8 +76,8 @@ module _ (pool : Nodes) (region : Region) (trees : List (Handle Piece)) (a : Are
 
     -- a list was closed
     module _ (q : Place) (n : ℕ) (is : tree_of new other ≡ close_at q n (tree_of pool tree)) where
-      pub closed-kept : AreKept new region (slice_set trees k other)
-      closed-kept = one-kept (subst (EachItem IsNoted) (sym is) (each-close IsNoted q n (tree_of pool tree) (a.kept k tree there).items))
+      pub closed-kept : Fits q → CanClose q n (tree_in (known_in pool trees) k) → AreKept new region (slice_set trees k other)
+      closed-kept fits can = one-kept q fits (ap tree_nodes is ∙ nodes-added.close q n (tree_of pool tree) (one-closes q n can)) (subst (EachItem IsNoted) (sym is) (each-close IsNoted q n (tree_of pool tree) (a.kept k tree there).items))
 
       pub closed-turns : Turns k (close_at q n (tree_in (known_in pool trees) k)) (known_in pool trees) (known_in new (slice_set trees k other))
       closed-turns = one-turns (close_at q n (tree_in (known_in pool trees) k)) (

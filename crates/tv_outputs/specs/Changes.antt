@@ -55,3 +55,8 @@ pub record Counted (count : ℕ) (q : Place) (old new : List ℕ) (tree : ℕ �
   pub all : new ≡ old ++ added
   pub many : length added ≡ count
   pub each : (k : ℕ) → k < count → HoldsFaults q (tree k) (slice_index_or added k 0)
+
+-- the counts say which of these values hold a fault: those with one at the place itself
+pub record AreMarked (q : Place) (values : List Value) (counts : List ℕ) : Type 0 where
+  pub many : length values ≤ length counts
+  pub each : (k : ℕ) → k < length values → nat_lt (length q) (slice_index_or counts k 0) ≡ holds_fault (slice_index_or values k no_value)

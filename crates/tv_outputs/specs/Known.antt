@@ -1,5 +1,5 @@
 -- What is known of outputs: the partial trees of values that trees of pieces show.
-use Rattle.std.specs.Prelude.{ℕ, zero, suc, ◌+◌, List, map, slice_index_or}
+use Rattle.std.specs.Prelude.{ℕ, zero, suc, ◌+◌, List, [], ◌∷◌, map, slice_index_or}
 use Rattle.tv_value.specs.Values.{Value}
 use Rattle.tv_parts.specs.Partials.{Partial, wanting, map_partial}
 use Rattle.tv_pool.specs.Pool.{Pool}
@@ -7,6 +7,7 @@ use Rattle.tv_nodes.specs.declared.nodes.Entry.{Entry}
 use Rattle.tv_stream.specs.declared.held.Held.{Held}
 use Rattle.tv_stream.specs.declared.partial.Partial.{Partial as Handle}
 use Rattle.tv_stream.specs.Trees.{Marked, tree_of}
+use Rattle.tv_stream.specs.NodeCounts.{tree_nodes}
 use Rattle.tv_cell.specs.declared.piece.Piece.{Piece}
 use Rattle.tv_cell.specs.PieceValues.{piece_value}
 use Rattle.tv_outputs.specs.declared.outputs.Outputs.{Outputs}
@@ -48,3 +49,8 @@ depth_in ds number = slice_index_or ds number 0
 abbrev pub needed : List ℕ → ℕ → ℕ → ℕ
 needed ds first zero = 0
 needed ds first (suc count) = needed ds first count + (depth_in ds (first + count) + 1)
+
+-- how many nodes trees have together
+abbrev pub all_nodes : List (Partial Value) → ℕ
+all_nodes [] = 0
+all_nodes (tree ∷ trees) = tree_nodes tree + all_nodes trees

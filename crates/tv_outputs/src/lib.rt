@@ -12,7 +12,8 @@
 //! piece of a whole tree before the change by which it is whole.
 //!
 //! **What is kept.** The trees stand on slots of their own, each item is sound, and it is marked exactly where its value holds a
-//! fault (`specs/Kept.antt`). So no value is walked twice for its faults.
+//! fault (`specs/Kept.antt`). So a value is walked for its faults once, when its cell is made; a list of pieces, which has no
+//! cell of its own, is asked item by item.
 //!
 //! - `outputs`: the trees and their calls
 //! - `one`: a change of one tree

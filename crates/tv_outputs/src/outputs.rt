@@ -7,15 +7,15 @@ ghost use Rattle.tv_parts.specs.Below.{value_in};
 ghost use Rattle.tv_parts.specs.Changes.{arrive as arrived, close_at, CanArrive, CanClose};
 ghost use Rattle.tv_pool.specs.Pool.{IsLive, number_of};
 ghost use Rattle.tv_pool.specs.declared.handles.Region.{Region as InRegion};
-ghost use Rattle.tv_nodes.specs.Calls.{KeepsRegions};
+ghost use Rattle.tv_nodes.specs.Calls.{KeepsRegions, count_in};
 ghost use Rattle.tv_stream.specs.Trees.{least_whole};
 ghost use Rattle.tv_cell.specs.declared.piece.Piece.{Piece as APiece};
 ghost use Rattle.tv_cell.specs.PieceValues.{piece_value, piece_values};
 ghost use Rattle.tv_cell.specs.Soundness.{IsSound, AreSound};
 ghost use Rattle.tv_outputs.specs.Known.{known, depths as depths_of, tree_in, depth_in, needed};
-ghost use Rattle.tv_outputs.specs.Kept.{Stand};
+ghost use Rattle.tv_outputs.specs.Kept.{Stand, StandBeside};
 ghost use Rattle.tv_outputs.specs.FoundIn.{found_in};
-ghost use Rattle.tv_outputs.specs.Changes.{Arrive, Close, Turns, AllCanArrive, AllCanClose, least_or_past, HoldsFaults, Counted};
+ghost use Rattle.tv_outputs.specs.Changes.{Arrive, Close, Turns, AllCanArrive, AllCanClose, AreMarked, least_or_past, HoldsFaults, Counted};
 
 use crate::one::{arrive_in, close_in};
 use crate::pieces::{found_piece, list_at, piece_around};
@@ -61,7 +61,8 @@ impl Outputs {
         requires { IsLive pool.old region.now }
         ensures known { OnOk result (known pool.new self.new ≡ map (λ d. wanting) depths.now) }
         ensures depths { OnOk result (depths_of self.new ≡ depths.now) }
-        ensures stand { OnOk result (Stand pool.new self.new region.now) }
+        ensures stand { OnOk result (StandBeside (count_in pool.old (number_of region.now))
+            pool.new self.new region.now) }
         ensures kept { KeepsRegions pool.old pool.new (number_of region.now) }
         ensures spare { pool.old.spare ≤ pool.new.spare + length depths.now }
     {
@@ -98,9 +99,9 @@ impl Outputs {
         }
     }
 
-    /// A piece arrives at the place in each of these trees: the first piece in the first tree, the next in the next one. It
-    /// takes no memory beyond the room that `reserve` took. For each tree linear in its piece at the most, and logarithmic in
-    /// the known parts of each list on the way.
+    /// A piece arrives at the place in each of these trees: the first piece in the first tree, the next in the next one. `faults`
+    /// is what `faults_by_arrival` counted for them, so that no piece is asked for faults again. It takes no memory beyond the room
+    /// that `reserve` took. For each tree logarithmic in the known parts of each list on the way.
     pub fn arrive(
         &mut self,
         pool: &mut Nodes,
@@ -108,11 +109,13 @@ impl Outputs {
         first: usize,
         place: &Place,
         pieces: Pieces,
+        faults: &[usize],
     )
         requires live { IsLive pool.old region.now }
         requires stand { Stand pool.old self.old region.now }
         requires can { AllCanArrive first (length pieces) place.now (depths_of self.old) (known pool.old self.old) }
         requires sound { AreSound pieces }
+        requires marked { AreMarked place.now (piece_values pieces) faults.now }
         requires room { needed (depths_of self.old) first (length pieces) ≤ pool.old.spare }
         ensures known { Arrive first place.now (piece_values pieces) (known pool.old self.old) (known pool.new self.new) }
         ensures depths { depths_of self.new ≡ depths_of self.old }
@@ -122,12 +125,13 @@ impl Outputs {
     {
         let mut number = first;
         for piece in pieces.into_vec() {
-            self.arrive_at(pool, region, number, place, piece);
+            let faulty = place.as_slice().len() < faults[number - first];
+            self.arrive_at(pool, region, number, place, piece, faulty);
             number += 1;
         }
     }
 
-    /// The same in one tree.
+    /// The same in one tree, of a piece that is said to hold a fault or none.
     pub fn arrive_at(
         &mut self,
         pool: &mut Nodes,
@@ -135,6 +139,7 @@ impl Outputs {
         number: usize,
         place: &Place,
         piece: Piece,
+        faulty: bool,
     )
         requires live { IsLive pool.old region.now }
         requires stand { Stand pool.old self.old region.now }
@@ -142,6 +147,7 @@ impl Outputs {
         requires short { length place.now ≤ depth_in (depths_of self.old) number }
         requires can { CanArrive place.now (tree_in (known pool.old self.old) number) }
         requires sound { IsSound piece }
+        requires faulty { faulty ≡ holds_fault (piece_value piece) }
         requires room { depth_in (depths_of self.old) number < pool.old.spare }
         ensures turns { Turns number (arrived place.now (piece_value piece) (tree_in (known pool.old self.old) number)) (known pool.old self.old) (known pool.new self.new) }
         ensures same { self.new.trees.items ≡ self.old.trees.items }
@@ -149,7 +155,7 @@ impl Outputs {
         ensures kept { KeepsRegions pool.old pool.new (number_of region.now) }
         ensures spare { pool.old.spare ≤ pool.new.spare + depth_in (depths_of self.old) number }
     {
-        arrive_in(&mut self.trees[number], pool, region, place, piece);
+        arrive_in(&mut self.trees[number], pool, region, place, piece, faulty);
     }
 
     /// The list at the place is closed with this length in each of so many trees from the first on. It takes no memory beyond

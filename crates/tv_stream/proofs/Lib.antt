@@ -10,3 +10,4 @@ pub mod Looks
 pub mod Calls
 pub mod Others
 pub mod Mapped
+pub mod NodeCounts

@@ -4,3 +4,4 @@ pub mod Mapped
 pub mod Answers
 pub mod Inside
 pub mod Looks
+pub mod NodeCounts

@@ -3,10 +3,11 @@ ghost use Rattle.std.specs.Prelude.{◌≡◌, ◌≢◌, ℕ, ◌+◌, ◌≤�
 ghost use Rattle.tv_pool.specs.Pool.{IsLive, item_in, number_of, lies_at};
 ghost use Rattle.tv_nodes.specs.Nodes.{part_in, body_in};
 ghost use Rattle.tv_nodes.specs.Stands.{Spot, AreNodes, IsNode};
-ghost use Rattle.tv_nodes.specs.Calls.{KeepsRegions, Sets};
+ghost use Rattle.tv_nodes.specs.Calls.{KeepsRegions, Sets, count_in};
 ghost use Rattle.tv_parts.specs.Changes.{arrive, close_at, CanArrive, CanClose};
 ghost use Rattle.tv_stream.specs.Trees.{Marked, tree_at, least_whole};
 ghost use Rattle.tv_stream.specs.Answers.{marked_item};
+ghost use Rattle.tv_stream.specs.NodeCounts.{new_nodes};
 ghost use Rattle.tv_stream.specs.Inside.{counts_with, counts_whole, counts_in, noted, is_zero, outer_least, InTree, Parted, ArrivesIn, RefusesArrivalIn, ClosesIn, RefusesCloseIn};
 
 use crate::held::{Held, Part};
@@ -28,6 +29,7 @@ fn part_or_new<T: Drop>(
     requires room { 0 < room }
     ensures ok { IfOk result (λ part. (spots : ℕ → Option Spot) (p : Spot) → AreNodes (item_in pool.old (number_of region.now)) spots → spots (lies_at node) ≡ Some p → Parted (item_in pool.old (number_of region.now)) (item_in pool.new (number_of region.now)) spots (lies_at node) index (lies_at part)) }
     ensures found { OnOk result ((part_in (item_in pool.old (number_of region.now)) (lies_at node) index ≡ None) ⊎ (pool.new ≡ pool.old)) }
+    ensures one { OnOk result (count_in pool.new (number_of region.now) ≤ count_in pool.old (number_of region.now) + 1) }
     ensures left { OnOk result (part_in (item_in pool.old (number_of region.now)) (lies_at node) index ≡ None → room ≤ pool.new.spare + 1) }
     ensures none { OnErr result (part_in (item_in pool.old (number_of region.now)) (lies_at node) index ≡ None) }
     ensures refused { OnErr result (pool.old.spare < room) }
@@ -55,6 +57,7 @@ fn note_part<T: Drop>(
     requires { (number : ℕ) × IsNode pool.old number (lies_at node) × ((b : Held T) × (body_in (item_in pool.old number) (lies_at node) ≡ Some b) × ((counts_in b).whole < 2 ^ 63)) }
     ensures sets { (number : ℕ) (b : Held T) → IsNode pool.old number (lies_at node) → body_in (item_in pool.old number) (lies_at node) ≡ Some b → Sets (item_in pool.old number) (item_in pool.new number) (lies_at node) (noted b index whole marked) }
     ensures whole { (number : ℕ) (b : Held T) → IsNode pool.old number (lies_at node) → body_in (item_in pool.old number) (lies_at node) ≡ Some b → result ≡ counts_whole (counts_with (counts_in b) index whole) }
+    ensures nodes { (number : ℕ) → count_in pool.new number ≡ count_in pool.old number }
     ensures kept { (number : ℕ) → IsNode pool.old number (lies_at node) → KeepsRegions pool.old pool.new number }
     ensures spare { pool.new.spare ≡ pool.old.spare }
 {
@@ -82,6 +85,7 @@ fn settle<T: Drop>(
     requires { (number : ℕ) × ((spots : ℕ → Option Spot) × ((height : ℕ) × InTree (item_in pool.old number) spots (lies_at node) height)) }
     ensures ok { IfOk result (λ least. (number : ℕ) → IsNode pool.old number (lies_at node) → ArrivesIn (item_in pool.old number) (item_in pool.new number) (lies_at node) [] (marked_item item marked) least) }
     ensures refused { IfErr result (λ refused. (number : ℕ) (spots : ℕ → Option Spot) (height : ℕ) → InTree (item_in pool.old number) spots (lies_at node) height → RefusesArrivalIn pool.old.spare [] item (tree_at height (item_in pool.old number) (lies_at node)) refused) }
+    ensures nodes { (number : ℕ) → count_in pool.new number ≡ count_in pool.old number }
     ensures unchanged { OnErr result (pool.new ≡ pool.old) }
     ensures kept { (number : ℕ) → IsNode pool.old number (lies_at node) → KeepsRegions pool.old pool.new number }
     ensures spare { pool.new.spare ≡ pool.old.spare }
@@ -116,6 +120,7 @@ pub fn arrive_in<T: Drop>(
     requires short { count place.now < 2 ^ 32 }
     ensures ok { IfOk result (λ least. ArrivesIn (item_in pool.old (number_of region.now)) (item_in pool.new (number_of region.now)) (lies_at node) place.now (marked_item item marked) least) }
     ensures refused { IfErr result (λ refused. (spots : ℕ → Option Spot) (height : ℕ) → InTree (item_in pool.old (number_of region.now)) spots (lies_at node) height → count place.now ≤ height → RefusesArrivalIn pool.old.spare place.now item (tree_at height (item_in pool.old (number_of region.now)) (lies_at node)) refused) }
+    ensures nodes { OnOk result ((spots : ℕ → Option Spot) (height : ℕ) → InTree (item_in pool.old (number_of region.now)) spots (lies_at node) height → count place.now ≤ height → count_in pool.new (number_of region.now) ≤ count_in pool.old (number_of region.now) + new_nodes place.now (tree_at height (item_in pool.old (number_of region.now)) (lies_at node))) }
     ensures unchanged { OnErr result (pool.new.regions ≡ pool.old.regions) }
     ensures kept { KeepsRegions pool.old pool.new (number_of region.now) }
     ensures spare { pool.old.spare ≤ pool.new.spare + count place.now }
@@ -146,6 +151,7 @@ fn end<T: Drop>(
     requires { (number : ℕ) × ((spots : ℕ → Option Spot) × ((height : ℕ) × (InTree (item_in pool.old number) spots (lies_at node) height × (0 < height)))) }
     ensures ok { IfOk result (λ least. (number : ℕ) → IsNode pool.old number (lies_at node) → ClosesIn (item_in pool.old number) (item_in pool.new number) (lies_at node) [] length least) }
     ensures refused { IfErr result (λ refused. (number : ℕ) (spots : ℕ → Option Spot) (height : ℕ) → InTree (item_in pool.old number) spots (lies_at node) height → 0 < height → RefusesCloseIn pool.old.spare [] length (tree_at height (item_in pool.old number) (lies_at node)) refused) }
+    ensures nodes { (number : ℕ) → count_in pool.new number ≡ count_in pool.old number }
     ensures unchanged { OnErr result (pool.new ≡ pool.old) }
     ensures kept { (number : ℕ) → IsNode pool.old number (lies_at node) → KeepsRegions pool.old pool.new number }
     ensures spare { pool.new.spare ≡ pool.old.spare }
@@ -190,6 +196,7 @@ pub fn close_in<T: Drop>(
     requires short { count place.now < 2 ^ 32 }
     ensures ok { IfOk result (λ least. ClosesIn (item_in pool.old (number_of region.now)) (item_in pool.new (number_of region.now)) (lies_at node) place.now length least) }
     ensures refused { IfErr result (λ refused. (spots : ℕ → Option Spot) (height : ℕ) → InTree (item_in pool.old (number_of region.now)) spots (lies_at node) height → count place.now < height → RefusesCloseIn pool.old.spare place.now length (tree_at height (item_in pool.old (number_of region.now)) (lies_at node)) refused) }
+    ensures nodes { OnOk result ((spots : ℕ → Option Spot) (height : ℕ) → InTree (item_in pool.old (number_of region.now)) spots (lies_at node) height → count place.now < height → count_in pool.new (number_of region.now) ≤ count_in pool.old (number_of region.now) + new_nodes place.now (tree_at height (item_in pool.old (number_of region.now)) (lies_at node))) }
     ensures unchanged { OnErr result (pool.new.regions ≡ pool.old.regions) }
     ensures kept { KeepsRegions pool.old pool.new (number_of region.now) }
     ensures spare { pool.old.spare ≤ pool.new.spare + count place.now }

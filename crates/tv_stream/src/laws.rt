@@ -1,6 +1,7 @@
 //! What holds of the definitions alone: each law is the clause of a function that does nothing.
 ghost use Rattle.tv_stream.specs.Stands.{StaysWhereOneGrows, StaysWhereOneStarts, StaysElsewhere, StaysWhereAnotherIsReleased};
 ghost use Rattle.tv_stream.specs.Mapped.{ChangesAlike, IsAlike, CanChangeAlike, KnownStays, NoneWasWhole, ChangesWhereOpen, ItemsBuildValue};
+ghost use Rattle.tv_stream.specs.NodeCounts.{NodesAreAdded, AsManyNodes};
 
 /// A tree stays while another one of its region starts or grows, and whatever is done to other regions, their release among it.
 pub fn other_trees<T>()
@@ -28,4 +29,10 @@ pub fn changes_of_any<A>()
 /// Items that stand for values, by any function: a tree below a value stays below it, and a whole one shows the value.
 pub fn trees_of_values<T>()
     ensures { ItemsBuildValue T }
+{}
+
+/// A change adds a node for each index of its place that led to nothing known, whatever the items are.
+pub fn nodes_of_trees<A, B>()
+    ensures added { NodesAreAdded A }
+    ensures many { AsManyNodes A B }
 {}

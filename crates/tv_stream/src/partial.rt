@@ -1,7 +1,7 @@
 //! A partial tree, and its calls.
 ghost use Rattle.std.specs.Prelude.{◌≡◌, ◌≢◌, ℕ, ◌+◌, ◌≤◌, ◌<◌, Bool, false, Some, None, length, nat_lt, take, IfOk, IfErr, OnOk, OnErr, MatchOption};
 ghost use Rattle.tv_pool.specs.Pool.{IsLive, lies_at, number_of};
-ghost use Rattle.tv_nodes.specs.Calls.{KeepsRegions};
+ghost use Rattle.tv_nodes.specs.Calls.{KeepsRegions, count_in};
 ghost use Rattle.tv_parts.specs.Partials.{wanting, known_at, whole as is_whole_tree, holds_some};
 ghost use Rattle.tv_parts.specs.Changes.{arrive as arrived, close_at, CanArrive, CanClose};
 ghost use Rattle.tv_stream.specs.Trees.{Marked, memory_of, tree_of, least_whole};
@@ -9,6 +9,7 @@ ghost use Rattle.tv_stream.specs.Stands.{is_marked, Stands, IsIn, KeepsTrees, St
 ghost use Rattle.tv_stream.specs.Inside.{IsAt};
 ghost use Rattle.tv_stream.specs.Looks.{Shows};
 ghost use Rattle.tv_stream.specs.Answers.{marked_item, kind_of, item_of, RefusesArrival, RefusesClose};
+ghost use Rattle.tv_stream.specs.NodeCounts.{new_nodes};
 
 use crate::changes::{arrive_in, close_in, whole_by_arrival_in, whole_by_close_in};
 use crate::held::{Held, Part, PartKind};
@@ -46,6 +47,7 @@ impl<T> Partial<T> {
         ensures ok { IfOk result (λ tree. Starts pool.old pool.new tree depth (number_of region.now)) }
         ensures stands { IfOk result (Stands pool.new) }
         ensures region { IfOk result (λ tree. IsIn tree region.now) }
+        ensures node { OnOk result (count_in pool.new (number_of region.now) ≡ count_in pool.old (number_of region.now) + 1) }
         ensures unchanged { OnErr result (pool.new.regions ≡ pool.old.regions) }
         ensures kept { KeepsRegions pool.old pool.new (number_of region.now) }
         ensures room { OnErr result (pool.old.spare ≡ 0) }
@@ -91,6 +93,7 @@ impl<T> Partial<T> {
         ensures unchanged { OnErr result (pool.new.regions ≡ pool.old.regions) }
         ensures same { self.new ≡ self.old }
         ensures trees { KeepsTrees pool.old pool.new self.old }
+        ensures nodes { OnOk result (count_in pool.new (number_of region.now) ≤ count_in pool.old (number_of region.now) + new_nodes place.now (tree_of pool.old self.old)) }
         ensures stands { Stands pool.new self.new }
         ensures kept { KeepsRegions pool.old pool.new (number_of region.now) }
         ensures spare { pool.old.spare ≤ pool.new.spare + self.old.depth }
@@ -124,6 +127,7 @@ impl<T> Partial<T> {
         ensures unchanged { OnErr result (pool.new.regions ≡ pool.old.regions) }
         ensures same { self.new ≡ self.old }
         ensures trees { KeepsTrees pool.old pool.new self.old }
+        ensures nodes { OnOk result (count_in pool.new (number_of region.now) ≤ count_in pool.old (number_of region.now) + new_nodes place.now (tree_of pool.old self.old)) }
         ensures stands { Stands pool.new self.new }
         ensures kept { KeepsRegions pool.old pool.new (number_of region.now) }
         ensures spare { pool.old.spare ≤ pool.new.spare + self.old.depth }
@@ -158,6 +162,7 @@ impl<T> Partial<T> {
         ensures unchanged { OnErr result (pool.new.regions ≡ pool.old.regions) }
         ensures same { self.new ≡ self.old }
         ensures trees { KeepsTrees pool.old pool.new self.old }
+        ensures nodes { OnOk result (count_in pool.new (number_of region.now) ≤ count_in pool.old (number_of region.now) + new_nodes place.now (tree_of pool.old self.old)) }
         ensures stands { Stands pool.new self.new }
         ensures kept { KeepsRegions pool.old pool.new (number_of region.now) }
         ensures spare { pool.old.spare ≤ pool.new.spare + self.old.depth }
@@ -190,6 +195,7 @@ impl<T> Partial<T> {
         ensures unchanged { OnErr result (pool.new.regions ≡ pool.old.regions) }
         ensures same { self.new ≡ self.old }
         ensures trees { KeepsTrees pool.old pool.new self.old }
+        ensures nodes { OnOk result (count_in pool.new (number_of region.now) ≤ count_in pool.old (number_of region.now) + new_nodes place.now (tree_of pool.old self.old)) }
         ensures stands { Stands pool.new self.new }
         ensures kept { KeepsRegions pool.old pool.new (number_of region.now) }
         ensures spare { pool.old.spare ≤ pool.new.spare + self.old.depth }

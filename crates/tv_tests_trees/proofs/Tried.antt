@@ -1,6 +1,6 @@
 -- The script of the tests, step by step.
 use Rattle.std.proofs.Common.{◌≡◌, ◌≤◌, ◌<◌, ◌+◌, ℕ, zero, suc, List, [], ◌∷◌, length, map, Some, true, inl, inr, refl, sym, ap, ◌∙◌, subst, arith}
-use Rattle.std.specs.Prelude.{is_some, slice_get}
+use Rattle.std.specs.Prelude.{is_some, slice_get, slice_index_or}
 use Rattle.tv_value.specs.Nested.{Place}
 use Rattle.tv_value.specs.Values.{Value}
 use Rattle.tv_parts.specs.Partials.{Partial, wanting, whole}
@@ -11,8 +11,11 @@ use Rattle.tv_outputs.specs.declared.outputs.Outputs.{Outputs}
 use Rattle.tv_outputs.specs.Known.{Nodes, known, depths, tree_in, depth_in}
 use Rattle.tv_outputs.specs.FoundIn.{found_in}
 use Rattle.tv_outputs.specs.Kept.{Stand}
-use Rattle.tv_outputs.specs.Changes.{Arrive, Close, AllCanArrive, AllCanClose}
+use Rattle.tv_outputs.specs.Changes.{Arrive, Close, AllCanArrive, AllCanClose, AreMarked, Counted, no_value}
+use Rattle.tv_cell.specs.declared.piece.Piece.{Piece}
+use Rattle.tv_cell.specs.PieceValues.{piece_values}
 use Rattle.tv_tests_trees.specs.Tried.{Tried, IsNothing, IsSomething, HasSecond, HasBoth}
+use Rattle.tv_outputs.proofs.Counts.{counts-mark}
 use Rattle.tv_outputs.proofs.Keeping.{kept-respared}
 
 pub tried-reserved : (P Q : Partial Value → Type 0) (old new : Nodes) (outputs : Outputs) (region : Region) → new.regions ≡ old.regions → Tried old outputs region P Q → Tried new outputs region P Q
@@ -162,3 +165,15 @@ second-waits u x h e = subst (CanArrive (0 ∷ [])) (sym (e ∙ ap (close_at [] 
 
 pub second-completes : (u x : Partial Value) (v : Value) → HasSecond u → x ≡ close_at [] 2 u → whole (arrive (0 ∷ []) v x) ≡ true
 second-completes u x v h e = subst (λ y. whole (arrive (0 ∷ []) v y) ≡ true) (sym (e ∙ ap (close_at [] 2) h.1)) refl
+
+-- what was counted of pieces says which of them hold a fault
+pub counted-marks :
+    (q : Place) (first : ℕ) (ps : List Piece) (counts : List ℕ) (o : Outputs) (pool : Nodes) (pieces : List Piece) → pieces ≡ ps
+    → (old new : List ℕ) → old ≡ [] → counts ≡ new → AllCanArrive first (length ps) q (depths o) (known pool o)
+    → Counted (length pieces) q old new (λ k. arrive q (slice_index_or (piece_values pieces) k no_value) (tree_in (known pool o) (first + k)))
+    → AreMarked q (piece_values ps) counts
+counted-marks q first ps counts o pool pieces e old new none same can h =
+    counts-mark q first ps (depths o) (known pool o) counts can
+    (subst (λ xs. Counted (length xs) q [] counts (λ k. arrive q (slice_index_or (piece_values xs) k no_value) (tree_in (known pool o) (first + k)))) e
+    (subst (λ ns. Counted (length pieces) q [] ns (λ k. arrive q (slice_index_or (piece_values pieces) k no_value) (tree_in (known pool o) (first + k)))) (sym same)
+    (subst (λ os. Counted (length pieces) q os new (λ k. arrive q (slice_index_or (piece_values pieces) k no_value) (tree_in (known pool o) (first + k)))) none h)))

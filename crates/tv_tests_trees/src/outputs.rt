@@ -1,5 +1,6 @@
 ghost use Rattle.std.specs.Prelude.{◌≡◌, ◌∷◌, [], length, IfOk, OnOk};
-ghost use Rattle.tv_pool.specs.Pool.{IsLive};
+ghost use Rattle.tv_pool.specs.Pool.{IsLive, number_of};
+ghost use Rattle.tv_nodes.specs.Calls.{count_in};
 ghost use Rattle.tv_cell.specs.Soundness.{IsSound, AreSound};
 ghost use Rattle.tv_tests_trees.specs.Tried.{Tried, IsNothing, IsSomething, HasSecond, HasBoth};
 
@@ -87,7 +88,8 @@ fn text_and_fault(alloc: Global, letters: &str) -> Result<Pieces, NoMemory>
 
 /// Two outputs of one step, of lists, and a step without outputs.
 fn begun(alloc: Global, pool: &mut Nodes, region: &Region) -> Result<Outputs, NoMemory>
-    requires { IsLive pool.old region.now }
+    requires live { IsLive pool.old region.now }
+    requires empty { count_in pool.old (number_of region.now) ≡ 0 }
     ensures { IfOk result (λ outputs. Tried pool.new outputs region.now IsNothing IsNothing) }
 {
     let mut outputs = Outputs::new(alloc);
@@ -109,7 +111,9 @@ fn second_items(
     let pieces = two_texts(alloc, "b", "y")?;
     outputs.reserve(pool, 0, 2)?;
     let least = outputs.whole_by_arrival(pool, 0, &place);
-    outputs.arrive(pool, region, 0, &place, pieces);
+    let mut faults = Faults::new(alloc);
+    outputs.faults_by_arrival(pool, 0, &place, pieces.as_slice(), &mut faults)?;
+    outputs.arrive(pool, region, 0, &place, pieces, faults.as_slice());
     Ok(least)
 }
 
@@ -127,7 +131,9 @@ fn no_outputs(
     let pieces = one_text(alloc, "")?;
     outputs.reserve(pool, 2, 1)?;
     let least = outputs.whole_by_arrival(pool, 2, &place);
-    outputs.arrive(pool, region, 2, &place, pieces);
+    let mut faults = Faults::new(alloc);
+    outputs.faults_by_arrival(pool, 2, &place, pieces.as_slice(), &mut faults)?;
+    outputs.arrive(pool, region, 2, &place, pieces, faults.as_slice());
     Ok(least)
 }
 
@@ -143,10 +149,10 @@ fn first_items(
 {
     let place = Place::of(alloc, &[0])?;
     let pieces = text_and_fault(alloc, "a")?;
+    outputs.reserve(pool, 0, 2)?;
     let mut faults = Faults::new(alloc);
     outputs.faults_by_arrival(pool, 0, &place, pieces.as_slice(), &mut faults)?;
-    outputs.reserve(pool, 0, 2)?;
-    outputs.arrive(pool, region, 0, &place, pieces);
+    outputs.arrive(pool, region, 0, &place, pieces, faults.as_slice());
     Ok(faults)
 }
 

@@ -1,6 +1,7 @@
-use Rattle.std.proofs.Common.{◌<◌, arith}
+use Rattle.std.proofs.Common.{◌<◌, ◌∙◌, arith}
 use Rattle.tv_pool.specs.Pool.{item_in, number_of}
 use Rattle.tv_nodes.proofs.Bodies.{keeps-linked}
+use Rattle.tv_nodes.proofs.Counts.{count-put, count-linked}
 use Rattle.tv_nodes.proofs.Calls.{part-free, still-linked, put-hangs, keeps-put, keeps-both}
 use Rattle.tv_nodes.proofs.nodes.hang.Goals as goal
 
@@ -28,6 +29,11 @@ pub returns-clause-hangs : goal.returns-clause-hangs
 returns-clause-hangs g c s spots p gap nodes known =
     let a = c.alone.ensures in
     put-hangs c.args.pool.now c.put.new.self c.args.region.now c.in-Ok.node c.alone.result c.requires.live c.in-Ok.ensures.ok c.in-Ok.ensures.fresh c.args.gap.at c.link-link.result c.args.gap.by c.args.gap.index c.args.body (record { number = a.index; links = a.links; nowhere_by = a.alone; body = a.body }) gap.fits c.in-Ok.ensures.lies c.link-link.ensures c.at_mut.result.now (λ item. c.at_mut.ensures.value _ item) spots nodes s p known gap.ends
+
+pub returns-clause-count : goal.returns-clause-count
+returns-clause-count g c =
+    count-linked c.put.new.self c.args.gap.at (record { index = c.at_mut.result.now.index; links = _; body = c.at_mut.result.now.body }) (number_of c.args.region.now)
+    ∙ count-put c.args.pool.now c.put.new.self c.args.region.now c.alone.result c.in-Ok.node c.requires.live c.in-Ok.ensures.ok
 
 pub returns-clause-kept : goal.returns-clause-kept
 returns-clause-kept g c =

@@ -4,6 +4,7 @@ use Rattle.tv_pool.specs.Pool.{item_in, number_of, lies_at}
 use Rattle.tv_nodes.specs.declared.nodes.Entry.{Entry}
 use Rattle.tv_nodes.specs.Nodes.{part_in, body_in}
 use Rattle.tv_nodes.specs.Stands.{Spot, AreNodes}
+use Rattle.tv_nodes.specs.Calls.{count_in}
 use Rattle.tv_nodes.proofs.Calls.{keeps-both}
 use Rattle.tv_stream.specs.declared.held.Held.{Held}
 use Rattle.tv_stream.specs.declared.refusals.ArriveRefused.{ArriveRefused}
@@ -17,6 +18,7 @@ use Rattle.tv_stream.proofs.Places.{place-none, arrive-can, arrive-wanting}
 use Rattle.tv_stream.proofs.Same.{tree-suc, part-tree}
 use Rattle.tv_stream.proofs.Steps.{part-in-tree}
 use Rattle.tv_stream.proofs.Inner.{arrives-step}
+use Rattle.tv_stream.proofs.NodeCounts.{as-many, then-same, arrival-nodes}
 use Rattle.tv_stream.proofs.Ways.{nil-of, tall-place, head-fits, no-tall, pool-spare, same-regions, node-of, enter, arrive-after, inner-new, refuse-arrive, never-refused}
 use Rattle.tv_stream.proofs.changes.+arrive_in.Goals as goal
 
@@ -226,3 +228,27 @@ returns-else-note_part-clause-kept g t c =
     let body = c.body.ensures k (node-of c.args.pool.now k n.0 s n.1.0 n.1.1.0) in
     let a = arrive-after m mid s (lies_at c.in-Ok.part) i q c.in-Ok.ensures.ok m2 b body (sym c.has_place.ensures ∙ c.if-not-has_place.false) (head-fits c.args.place.now i q place.0 (c.type_inv.place 0).fits) (marked_item c.args.item c.args.marked) c.in_ok-least.least c.in_ok-least.ensures.ok n.0 n.1.0 n.1.1.0 (tall-place c.args.place.now i q n.1.0 place.0 n.1.1.1) in
     keeps-both c.args.pool.now c.part_or_new.new.pool c.note_part.new.pool k c.in-Ok.ensures.kept (keeps-both c.part_or_new.new.pool c.arrive_in.new.pool c.note_part.new.pool k c.in_ok-least.ensures.kept (c.if-note_part.ensures.kept k (record { spots = a.more; nodes = a.nodes; spot = a.spot; known = a.known })))
+
+pub returns-then-note_part-clause-nodes : goal.returns-then-note_part-clause-nodes
+returns-then-note_part-clause-nodes g t c spots height inside tall =
+    let k = number_of c.args.region.now in
+    let m = item_in c.args.pool.now k in
+    let mid = item_in c.part_or_new.new.pool k in
+    let s = lies_at c.args.node in
+    let place = c.in-Some.ensures.cases in
+    let i = c.in-Some.field-0-0.now in
+    let q = c.in-Some.rest.now in
+    then-same _ (count_in c.arrive_in.new.pool k) _ (c.note_part.ensures.nodes k)
+    (arrival-nodes m mid s (lies_at c.in-Ok.part) i q c.args.place.now c.in-Ok.ensures.ok place.0 (count_in c.args.pool.now k) (count_in c.part_or_new.new.pool k) (count_in c.arrive_in.new.pool k) (as-many c.part_or_new.new.pool c.args.pool.now k _ c.in-Ok.ensures.found) c.in-Ok.ensures.one c.in_ok-least.ensures.nodes spots height inside tall)
+
+pub returns-else-note_part-clause-nodes : goal.returns-else-note_part-clause-nodes
+returns-else-note_part-clause-nodes g t c spots height inside tall =
+    let k = number_of c.args.region.now in
+    let m = item_in c.args.pool.now k in
+    let mid = item_in c.part_or_new.new.pool k in
+    let s = lies_at c.args.node in
+    let place = c.in-Some.ensures.cases in
+    let i = c.in-Some.field-0-0.now in
+    let q = c.in-Some.rest.now in
+    then-same _ (count_in c.arrive_in.new.pool k) _ (c.note_part.ensures.nodes k)
+    (arrival-nodes m mid s (lies_at c.in-Ok.part) i q c.args.place.now c.in-Ok.ensures.ok place.0 (count_in c.args.pool.now k) (count_in c.part_or_new.new.pool k) (count_in c.arrive_in.new.pool k) (as-many c.part_or_new.new.pool c.args.pool.now k _ c.in-Ok.ensures.found) c.in-Ok.ensures.one c.in_ok-least.ensures.nodes spots height inside tall)

@@ -4,7 +4,7 @@ use Rattle.tv_pool.specs.Pool.{item_in, number_of, lies_at}
 use Rattle.tv_nodes.specs.declared.nodes.Entry.{Entry}
 use Rattle.tv_nodes.specs.Nodes.{part_in, body_in}
 use Rattle.tv_nodes.specs.Stands.{Spot, AreNodes}
-use Rattle.tv_nodes.specs.Calls.{Sets}
+use Rattle.tv_nodes.specs.Calls.{Sets, count_in}
 use Rattle.tv_nodes.proofs.Calls.{keeps-both}
 use Rattle.tv_stream.specs.declared.held.Held.{Held}
 use Rattle.tv_stream.specs.declared.refusals.CloseRefused.{CloseRefused}
@@ -17,6 +17,7 @@ use Rattle.tv_stream.proofs.Places.{place-none, close-can, close-wanting}
 use Rattle.tv_stream.proofs.Same.{tree-suc, part-tree}
 use Rattle.tv_stream.proofs.Steps.{part-in-tree}
 use Rattle.tv_stream.proofs.Inner.{closes-step}
+use Rattle.tv_stream.proofs.NodeCounts.{as-many, then-same, close-nodes-in}
 use Rattle.tv_stream.proofs.Ways.{false-true, nil-of, head-fits, pool-spare, same-regions, node-of, enter-close, close-after, inner-new, refuse-close, never-refused-close}
 use Rattle.tv_stream.proofs.changes.+close_in.Goals as goal
 
@@ -208,3 +209,15 @@ returns-clause-kept g t c =
     let small = head-fits c.args.place.now i q place.0 (c.type_inv.place 0).fits in
     let a = close-after m mid s (lies_at c.in-Ok.part) i q c.in-Ok.ensures.ok m2 b body has small c.args.length c.in_ok-least.least c.in_ok-least.ensures.ok n.0 n.1.0 n.1.1.0 (tall-list c.args.place.now i q n.1.0 place.0 n.1.1.1) in
     keeps-both c.args.pool.now c.part_or_new.new.pool c.note_part-whole.new.pool k c.in-Ok.ensures.kept (keeps-both c.part_or_new.new.pool c.close_in.new.pool c.note_part-whole.new.pool k c.in_ok-least.ensures.kept (c.note_part-whole.ensures.kept k (record { spots = a.more; nodes = a.nodes; spot = a.spot; known = a.known })))
+
+pub returns-clause-nodes : goal.returns-clause-nodes
+returns-clause-nodes g t c spots height inside tall =
+    let k = number_of c.args.region.now in
+    let m = item_in c.args.pool.now k in
+    let mid = item_in c.part_or_new.new.pool k in
+    let s = lies_at c.args.node in
+    let place = c.in-Some.ensures.cases in
+    let i = c.in-Some.field-0-0.now in
+    let q = c.in-Some.rest.now in
+    then-same _ (count_in c.close_in.new.pool k) _ (c.note_part-whole.ensures.nodes k)
+    (close-nodes-in m mid s (lies_at c.in-Ok.part) i q c.args.place.now c.in-Ok.ensures.ok place.0 (count_in c.args.pool.now k) (count_in c.part_or_new.new.pool k) (count_in c.close_in.new.pool k) (as-many c.part_or_new.new.pool c.args.pool.now k _ c.in-Ok.ensures.found) c.in-Ok.ensures.one c.in_ok-least.ensures.nodes spots height inside tall)

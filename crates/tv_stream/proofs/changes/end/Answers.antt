@@ -29,6 +29,7 @@ returns-then-is_some g c = record {
       let t = body-tree height m (lies_at c.args.node) c.body-held.result.now b in
       let k = closed-tree t.0 m (lies_at c.args.node) c.body-held.result.now.marked c.body-held.result.now.part (ap (λ x. is_some x.length) (sym c.counts-counts.ensures) ∙ sym c.is_some.ensures ∙ c.if-is_some.true) in
       (refl, (k.0, t.1 ∙ k.1));
+  nodes = λ number. refl;
   unchanged = refl;
   kept = λ number n. keeps-refl c.args.pool.now number;
   spare = refl;
@@ -44,6 +45,7 @@ returns-then-counts-from g c = record {
       let less = subst (λ n. n < c.counts-counts.result.most) c.from.ensures c.if-counts-from.true in
       let k = growing-tree t.0 t.1.0 m (lies_at c.args.node) c.body-held.result.now.marked c.body-held.result.now.part c.args.length t.1.1.1 (ap (λ x. is_some x.length) (sym c.counts-counts.ensures) ∙ sym c.is_some.ensures ∙ c.if-is_some.false) (subst (λ x. c.args.length < x.most) c.counts-counts.ensures less) in
       (refl, (k.0, t.1.1.0 ∙ k.1, ap (λ x. x.most) c.counts-counts.ensures ∙ k.2, k.3), refl, less);
+  nodes = λ number. refl;
   unchanged = refl;
   kept = λ number n. keeps-refl c.args.pool.now number;
   spare = refl;
@@ -85,6 +87,7 @@ returns-then-is_whole g c = record {
         (ap (λ b. if b then Some 0 else None) (ap counts_whole (sym (c.ended-counts.ensures ∙ ap (λ x. counts_ended x c.args.length) c.counts-counts.ensures)) ∙ sym c.is_whole.ensures ∙ c.if-is_whole.true));
   };
   refused = tt;
+  nodes = c.set_body.ensures.count;
   unchanged = tt;
   kept = c.set_body.ensures.kept;
   spare = c.set_body.ensures.spare;
@@ -101,6 +104,7 @@ returns-else-is_whole g c = record {
         (ap (λ b. if b then Some 0 else None) (ap counts_whole (sym (c.ended-counts.ensures ∙ ap (λ x. counts_ended x c.args.length) c.counts-counts.ensures)) ∙ sym c.is_whole.ensures ∙ c.if-is_whole.false));
   };
   refused = tt;
+  nodes = c.set_body.ensures.count;
   unchanged = tt;
   kept = c.set_body.ensures.kept;
   spare = c.set_body.ensures.spare;

@@ -17,6 +17,7 @@ returns-in_default g c = record {
       let b = c.body.ensures number (record { spots = spots; nodes = inside.nodes; spot = inside.spot; known = inside.known }) in
       let t = body-tree height m (lies_at c.args.node) c.body.result.now b in
       (refl, refl, λ h. c.in_default.not-Wanting (nothing-wanting t.0 m (lies_at c.args.node) c.body.result.now.marked c.body.result.now.part (sym t.1 ∙ h)));
+  nodes = λ number. refl;
   unchanged = refl;
   kept = λ number n. keeps-refl c.args.pool.now number;
   spare = refl;

@@ -2,9 +2,10 @@ use Rattle.std.proofs.Common.{◌≡◌, ◌≤◌, ◌<◌, ◌+◌, ◌∙◌,
 use Rattle.tv_parts.specs.Changes.{arrive, close_at, CanArrive, CanClose}
 use Rattle.tv_cell.specs.PieceValues.{piece_value, piece_values}
 use Rattle.tv_outputs.specs.Known.{known, depths, needed}
+use Rattle.tv_outputs.specs.Changes.{AllCanArrive}
 use Rattle.tv_tests_trees.specs.Tried.{Tried, IsNothing, IsSomething, HasSecond, HasBoth}
 use Rattle.tv_outputs.proofs.Lists.{mapped-length}
-use Rattle.tv_tests_trees.proofs.Tried.{tried-reserved, two-arrive, third-arrives, two-close, two-arrived, third-arrived, two-closed, nothing-takes, second-comes, second-takes, first-comes, both-close}
+use Rattle.tv_tests_trees.proofs.Tried.{counted-marks, tried-reserved, two-arrive, third-arrives, two-close, two-arrived, third-arrived, two-closed, nothing-takes, second-comes, second-takes, first-comes, both-close}
 use Rattle.tv_tests_trees.proofs.outputs.second_items.Goals as goal
 
 pub reserve-requires : goal.reserve-requires
@@ -34,7 +35,8 @@ arrive-requires c =
     let place : q ≡ 1 ∷ [] = c.in_ok-place.ensures.ok in
     let many : length ps ≡ 2 = c.in_ok-pieces.ensures.count in
     let asks = two-arrive IsNothing IsNothing pool o region t q (ap length place) (λ u h. nothing-takes q u h) (length ps) many in
-    record { live = t.live; stand = t.stand; can = asks; sound = c.in_ok-pieces.ensures.sound; room = subst (λ n. needed (depths o) 0 n ≤ pool.spare) (sym many) c.in_ok-reserve.ensures.ok }
+    let marked = counted-marks q 0 ps (c.as_slice-2.result.now) o pool c.as_slice.result.now c.as_slice.ensures c.new-faults.result.items c.faults_by_arrival.new.faults.items c.new-faults.ensures.items c.as_slice-2.ensures asks c.in_ok-faults_by_arrival.ensures in
+    record { live = t.live; stand = t.stand; can = asks; sound = c.in_ok-pieces.ensures.sound; marked = marked; room = subst (λ n. needed (depths o) 0 n ≤ pool.spare) (sym many) c.in_ok-reserve.ensures.ok }
 
 pub returns : goal.returns
 returns c =
@@ -48,3 +50,16 @@ returns c =
     let many : length ps ≡ 2 = c.in_ok-pieces.ensures.count in
     let asks = two-arrive IsNothing IsNothing pool o region t q (ap length place) (λ u h. nothing-takes q u h) (length ps) many in
     two-arrived IsNothing IsNothing pool o region t HasSecond c.arrive.new.pool c.arrive.new.self (c.arrive.ensures.kept.live region t.live) c.arrive.ensures.stand c.arrive.ensures.depths q (piece_values ps) (mapped-length piece_value ps ∙ many) (λ v u h. subst (λ l. HasSecond (arrive l v u)) (sym place) (second-comes v u h)) c.arrive.ensures.known
+
+pub faults_by_arrival-requires : goal.faults_by_arrival-requires
+faults_by_arrival-requires c =
+    let region = c.args.region.now in
+    let o = c.args.outputs.now in
+    let pool = c.reserve.new.pool in
+    let t = tried-reserved IsNothing IsNothing c.args.pool.now pool o region c.reserve.ensures.regions c.requires in
+    let q = c.in_ok-place.place in
+    let ps = c.in_ok-pieces.pieces in
+    let place : q ≡ 1 ∷ [] = c.in_ok-place.ensures.ok in
+    let many : length ps ≡ 2 = c.in_ok-pieces.ensures.count in
+    let asks = two-arrive IsNothing IsNothing pool o region t q (ap length place) (λ u h. nothing-takes q u h) (length ps) many in
+    record { stand = (region, t.stand); can = subst (λ l. AllCanArrive 0 (length l) q (depths o) (known pool o)) (sym c.as_slice.ensures) asks }

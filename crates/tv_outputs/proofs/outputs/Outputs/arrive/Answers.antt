@@ -1,14 +1,17 @@
-use Rattle.std.proofs.Common.{rules, refl, ◌≡◌, ◌≤◌, ◌<◌, ◌+◌, ℕ, List, ◌++◌, ◌∷◌, [], sym, ap, ◌∙◌, subst, length, map, arith}
+use Rattle.std.proofs.Common.{rules, refl, ◌≡◌, ◌≤◌, ◌<◌, ◌+◌, ◌-◌, get_or, ℕ, List, ◌++◌, ◌∷◌, [], sym, ap, ◌∙◌, subst, length, map, arith}
+use Rattle.std.specs.Prelude.{nat_lt, slice_index_or}
+use Rattle.std.proofs.lemmas.List.{get_or-map}
 use Rattle.std.proofs.lemmas.Iterator.Adapters.{YieldsList-from_vec}
 use Rattle.std.proofs.lemmas.Iterator.Consumers.{YieldsList-turn, YieldsList-end}
+use Rattle.tv_value.specs.Values.{holds_fault}
 use Rattle.tv_parts.specs.Changes.{arrive, CanArrive}
 use Rattle.tv_cell.specs.declared.piece.Piece.{Piece}
 use Rattle.tv_cell.specs.PieceValues.{piece_value}
 use Rattle.tv_cell.specs.Soundness.{AreSound}
 use Rattle.tv_cell.proofs.OfPieces.{piece-sound}
 use Rattle.tv_outputs.specs.Known.{known_in, depths_in, needed}
-use Rattle.tv_outputs.specs.Changes.{Arrive}
-use Rattle.tv_outputs.proofs.Lists.{length-more}
+use Rattle.tv_outputs.specs.Changes.{Arrive, no_value}
+use Rattle.tv_outputs.proofs.Lists.{length-more, mapped-length}
 use Rattle.tv_outputs.proofs.Turning.{Asks, arriving-none, arriving-asks, arriving-more, leaves-at}
 use Rattle.tv_outputs.proofs.outputs.Outputs.arrive.Goals as goal
 
@@ -31,6 +34,7 @@ arrive_at-requires c =
     let inside = subst (λ ps. length done < length ps) c.into_vec-piece-items.ensures turn.0 in
     let asks = arriving-asks old now region ts0 ts first q done l.arriving (length c.args.pieces) c.requires.can c.requires.room inside in
     let here = subst (λ n. Asks q now.spare n (depths_in ts) (known_in now ts) (λ d. length q ≤ d) (CanArrive q)) (sym l.number) asks in
+    let same : c.loop-piece.number - first ≡ length done = omega (arith, l.number) in
     record {
       live = l.arriving.live;
       stand = l.arriving.kept;
@@ -38,6 +42,12 @@ arrive_at-requires c =
       short = here.short;
       can = here.can;
       sound = piece-sound vec (length done) c.in-Some.piece turn.0 turn.1 (subst AreSound (sym c.into_vec-piece-items.ensures) c.requires.sound);
+      faulty =
+          (λ i. nat_lt (length (c.as_slice.ensures i)) (slice_index_or c.args.faults.now (same i) 0))
+          ∙ c.requires.marked.each (length done) (subst (λ n. length done < n) (sym (mapped-length piece_value c.args.pieces)) inside)
+          ∙ ap holds_fault (get_or-map piece_value c.args.pieces (length done) c.in-Some.piece no_value inside)
+          ∙ ap (λ ps. holds_fault (piece_value (get_or ps (length done) c.in-Some.piece))) (sym c.into_vec-piece-items.ensures)
+          ∙ ap (λ p. holds_fault (piece_value p)) (sym turn.1);
       room = here.room;
     }
 

@@ -21,6 +21,7 @@ arrive_in-requires c =
       short = subst (λ d. length c.args.place.now ≤ d) (depth-at ts k t there) c.requires.short;
       can = one-arrives c.args.pool.now c.args.region.now ts a k t there c.args.place.now c.requires.can;
       room = subst (λ d. d < c.args.pool.now.spare) (depth-at ts k t there) c.requires.room;
+      faulty = c.requires.faulty;
     }
 
 pub returns-clause-turns : goal.returns-clause-turns
@@ -45,7 +46,7 @@ returns-clause-stand c =
     let t = c.index_mut.result.now in
     let k = c.args.number in
     let there : slice_get ts k ≡ Some t = found c.args.pool.now ts k t c.requires.there c.index_mut.ensures.value in
-    arrived-kept c.args.pool.now c.args.region.now ts c.requires.stand k t there c.arrive_in.new.pool c.arrive_in.new.tree c.index_mut.ensures.value c.arrive_in.ensures.same c.arrive_in.ensures.trees c.args.place.now c.args.piece c.arrive_in.ensures.tree c.requires.sound
+    arrived-kept c.args.pool.now c.args.region.now ts c.requires.stand k t there c.arrive_in.new.pool c.arrive_in.new.tree c.index_mut.ensures.value c.arrive_in.ensures.same c.arrive_in.ensures.trees c.args.place.now c.args.piece c.arrive_in.ensures.tree c.arrive_in.ensures.nodes c.requires.can c.requires.sound
 
 pub returns-clause-spare : goal.returns-clause-spare
 returns-clause-spare c =

@@ -45,7 +45,7 @@ returns-clause-stand c =
     let t = c.index_mut.result.now in
     let k = c.args.number in
     let there : slice_get ts k ≡ Some t = found c.args.pool.now ts k t c.requires.there c.index_mut.ensures.value in
-    closed-kept c.args.pool.now c.args.region.now ts c.requires.stand k t there c.close_in.new.pool c.close_in.new.tree c.index_mut.ensures.value c.close_in.ensures.same c.close_in.ensures.trees c.args.place.now c.args.length c.close_in.ensures.tree
+    closed-kept c.args.pool.now c.args.region.now ts c.requires.stand k t there c.close_in.new.pool c.close_in.new.tree c.index_mut.ensures.value c.close_in.ensures.same c.close_in.ensures.trees c.args.place.now c.args.length c.close_in.ensures.tree c.close_in.ensures.nodes c.requires.can
 
 pub returns-clause-spare : goal.returns-clause-spare
 returns-clause-spare c =

@@ -2,8 +2,9 @@ use Rattle.std.proofs.Common.{◌≤◌, ◌+◌, ◌++◌, ◌∷◌, [], ℕ, 
 use Rattle.std.proofs.lemmas.List.{take_all, take_more}
 use Rattle.tv_parts.specs.Partials.{wanting}
 use Rattle.tv_pool.specs.Pool.{number_of}
+use Rattle.tv_nodes.specs.Calls.{count_in}
 use Rattle.tv_outputs.specs.Known.{known_in, depths_in}
-use Rattle.tv_outputs.specs.Kept.{AreKept}
+use Rattle.tv_outputs.specs.Kept.{AreKeptBeside}
 use Rattle.tv_outputs.proofs.Lists.{map-more}
 use Rattle.tv_outputs.proofs.Keeping.{kept-started, known-started, kept-none}
 use Rattle.tv_outputs.proofs.Turning.{keeps-then, keeps-same}
@@ -19,7 +20,7 @@ loop-depth-init c =
     let none = c.in_ok-reserve.ensures.items ∙ c.clear.ensures.items in
     record {
       live = c.requires;
-      kept = subst (AreKept pool region) (sym none) (kept-none pool region);
+      kept = subst (AreKeptBeside (count_in pool (number_of region)) pool region) (sym none) (kept-none pool region);
       known = ap (known_in pool) none;
       depths = ap depths_in none;
       regions = keeps-same pool (number_of region);
@@ -42,11 +43,12 @@ loop-depth-preserved c =
     let tree = c.in-Ok.tree in
     let g = c.in-Ok.ensures.ok in
     let more = c.in_ok-push-in-Ok.ensures.items in
+    let beside = count_in c.args.pool.now (number_of region) in
     let taken = take_more ds i 0 c.loop-depth-test.true in
     record {
       live = c.start.ensures.kept.live region l.live;
-      kept = subst (AreKept new region) (sym more) (kept-started old new region ts l.kept tree d g);
-      known = ap (known_in new) more ∙ known-started old new region ts l.kept tree d g ∙ ap (λ us. us ++ wanting ∷ []) l.known ∙ sym (map-more (λ e. wanting) (take i ds) d) ∙ ap (map (λ e. wanting)) (sym taken);
+      kept = subst (AreKeptBeside beside new region) (sym more) (kept-started beside old new region ts l.kept tree d g c.in-Ok.ensures.node);
+      known = ap (known_in new) more ∙ known-started beside old new region ts l.kept tree d g ∙ ap (λ us. us ++ wanting ∷ []) l.known ∙ sym (map-more (λ e. wanting) (take i ds) d) ∙ ap (map (λ e. wanting)) (sym taken);
       depths = ap depths_in more ∙ map-more (λ t. t.depth) ts tree ∙ ap (λ es. es ++ tree.depth ∷ []) l.depths ∙ ap (λ e. take i ds ++ e ∷ []) g.depth_is ∙ sym taken;
       regions = keeps-then c.args.pool.now old new (number_of region) l.regions c.start.ensures.kept;
       spare = further c.args.pool.now.spare old.spare new.spare i l.spare c.start.ensures.spare;

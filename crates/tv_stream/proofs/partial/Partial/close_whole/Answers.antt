@@ -1,9 +1,11 @@
-use Rattle.std.proofs.Common.{ℕ, Option, ap, ◌∙◌, subst, length, ◌<◌, false}
-use Rattle.std.proofs.lemmas.Result.{IfOk-weaker, IfErr-weaker, IfOk-at_ok}
+use Rattle.std.proofs.Common.{ℕ, Option, ◌≤◌, ◌+◌, ap, ◌∙◌, subst, length, ◌<◌, false}
+use Rattle.std.proofs.lemmas.Result.{IfOk-weaker, IfErr-weaker, IfOk-at_ok, on_ok_weaker}
 use Rattle.tv_pool.specs.Pool.{number_of, lies_at}
 use Rattle.tv_nodes.specs.Stands.{Spot}
+use Rattle.tv_nodes.specs.Calls.{count_in}
 use Rattle.tv_stream.specs.Trees.{least_whole, tree_of, tree_at}
 use Rattle.tv_stream.specs.Inside.{InTree, RefusesCloseIn}
+use Rattle.tv_stream.specs.NodeCounts.{new_nodes}
 use Rattle.tv_stream.proofs.Calls.{by-result, at-err, at-root, root-in, closes-call, grows, grows-same, refuses-close}
 use Rattle.tv_stream.proofs.partial.Partial.close_whole.Goals as goal
 
@@ -61,3 +63,14 @@ returns-clause-stands g c =
     let n = c.requires.stands in
     let x = returns-clause-trees g c n.0 n.1 in
     (x.more, x.stands)
+
+pub returns-clause-nodes : goal.returns-clause-nodes
+returns-clause-nodes g c =
+    let n = c.requires.stands in
+    let p = c.args.self.now in
+    let k = number_of c.args.region.now in
+    let was = count_in c.args.pool.now k in
+    let now = count_in c.close_in.new.pool k in
+    let inside = root-in c.args.pool.now p n.0 n.1 in
+    on_ok_weaker c.close_in.result (λ h. subst (λ l. now ≤ was + new_nodes l (tree_of c.args.pool.now p)) c.as_slice-place.ensures
+    (at-root c.args.pool.now p k (lies_at c.link.result) c.requires.region c.link.ensures (λ m s. (spots : ℕ → Option Spot) (height : ℕ) → InTree m spots s height → length c.as_slice-place.result.now < height → now ≤ was + new_nodes c.as_slice-place.result.now (tree_at height m s)) h n.0 p.depth inside c.if-place-self.false)) c.close_in.ensures.nodes
