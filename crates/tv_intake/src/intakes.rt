@@ -1,6 +1,6 @@
 ghost use Rattle.std.specs.Prelude.{◌≡◌, ◌++◌, ◌+◌, ◌-◌, ℕ, ◌<◌, ◌^◌, ◌≤◌, [], not, count_by, All, IfOk, IfSome, IsNone, OnErr, OnOk, Some, length, map, slice_get, sum_by, take, vec_capacity, vec_len};
 ghost use Rattle.tv_strategy.specs.Conditions.{Suits, number_of};
-ghost use Rattle.tv_strategy.specs.Measures.{DotsAgree};
+ghost use Rattle.tv_strategy.specs.Measures.{DotsAgree, strategy_depth};
 ghost use Rattle.tv_match.specs.Seen.{is_faulty};
 
 use crate::found::Found;
@@ -62,11 +62,18 @@ impl Intakes {
     }
 
     /// Adds a step, which was told nothing, with its strategy and the levels that its ports walk. Where the strategy has no leaf
-    /// its one job is known. Linear in the strategy.
-    pub fn add(&mut self, alloc: Global, tree: &Tree, mismatch: &Depths) -> Result<(), NoMemory>
+    /// its one job is known. Takes the strategy's depth. Linear in the strategy.
+    pub fn add(
+        &mut self,
+        alloc: Global,
+        tree: &Tree,
+        mismatch: &Depths,
+        depth: u32,
+    ) -> Result<(), NoMemory>
         requires sound { AreIntaken self.old }
         requires suits { Suits mismatch.now (strategy_view tree.now) }
         requires agree { DotsAgree (number_of mismatch.now) (strategy_view tree.now) }
+        requires deep { depth ≡ strategy_depth (number_of mismatch.now) (strategy_view tree.now) }
         ensures refused { OnErr result (IsSame self.old self.new) }
         ensures started { OnOk result (IsStartedAt (strategy_view tree.now) mismatch.now (matcher_at self.new (length self.old.matchers.items))) }
         ensures others { OthersStay (length self.old.matchers.items) self.old self.new }
@@ -74,8 +81,11 @@ impl Intakes {
         ensures waiting { OnOk result (waiting_things self.new ≡ waiting_things self.old ++ map (λ o. (length self.old.matchers.items, o)) (others_among (followed_at self.new (length self.old.matchers.items)))) }
         ensures sound { AreIntaken self.new }
     {
-        let spare = self.spare.pop();
-        let matcher = Matcher::start_in(alloc, tree, mismatch, spare)?;
+        let mut matcher = match self.spare.pop() {
+            Some(spare) => spare,
+            None => Matcher::unused(alloc),
+        };
+        matcher.restart(tree, mismatch, depth)?;
         self.take_in(matcher)
     }
 

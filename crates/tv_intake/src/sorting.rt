@@ -15,9 +15,7 @@ pub(crate) fn put<T: Drop>(list: &mut Vec<T>, item: T)
     ensures len { vec_len list.new ≡ vec_len list.old + 1 }
     ensures capacity { vec_capacity list.old ≤ vec_capacity list.new }
 {
-    if list.push(item).is_err() {
-        unreachable!()
-    }
+    list.push_reserved(item);
 }
 
 /// Puts a thing into the list for its kind.

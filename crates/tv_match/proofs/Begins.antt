@@ -1,5 +1,5 @@
 -- A matcher that was told nothing.
-use Rattle.std.proofs.Common.{◌≡◌, refl, ℕ, ◌≤◌, List, [], ◌∷◌, sym, ap, subst, ◌∙◌, arith, append-nil}
+use Rattle.std.proofs.Common.{◌≡◌, refl, ℕ, ◌≤◌, List, [], ◌∷◌, ◌++◌, sym, ap, subst, ◌∙◌, arith, append-nil}
 use Rattle.tv_value.specs.Values.{Name}
 use Rattle.tv_value.specs.Strategies.{Strategy}
 use Rattle.tv_strategy.specs.Conditions.{Suits, number_of}
@@ -45,9 +45,25 @@ module _ (s : Strategy) (mm : List (Name × ℕ)) (empty root : Filed) (out : Li
   pub start-sound : Suits mm s → DotsAgree (number_of mm) s → AreSound s mm root [] out 0 0
   start-sound suits agree = record { suits = suits; agree = agree; fit = tt; once = λ p q. omega arith; proper = tt; done = begun; told_within = omega arith; given_within = omega arith }
 
-pub sound-at : (s t : Strategy) (mm nn : List (Name × ℕ)) (root : Filed) (log out : List Entry) → t ≡ s → nn ≡ mm → log ≡ [] → AreSound s mm root [] out 0 0 → AreSound t nn root log out 0 0
+sound-at : (s t : Strategy) (mm nn : List (Name × ℕ)) (root : Filed) (log out : List Entry) → t ≡ s → nn ≡ mm → log ≡ [] → AreSound s mm root [] out 0 0 → AreSound t nn root log out 0 0
 sound-at s t mm nn root log out e f g h =
     subst (λ x. AreSound x nn root log out 0 0) (sym e) (subst (λ x. AreSound s x root log out 0 0) (sym f) (subst (λ x. AreSound s mm root x out 0 0) (sym g) h))
 
-pub more-of : (xs out : List Entry) → xs ≡ [] → AreMore 0 xs out → AreMore 0 [] out
-more-of xs out e h = subst (λ x. AreMore 0 x out) e h
+-- what follows from nothing was put behind what stood there
+pub record Begun (s : Strategy) (empty root : Filed) (before out : List Entry) : Type 0 where
+  pub store : kept_store kepts empty ≡ store_for 0 s
+  pub full : IsFull 0 empty
+  pub adds : Adds 0 empty root
+  pub more : AreMore 0 before out
+  pub grown : kept_store kepts root ≡ brief_store (grown (told_by unit_news) (kept_store kepts empty))
+  pub put : kepts out ≡ kepts before ++ briefs (gain (told_by unit_news) (kept_store kepts empty))
+
+-- nothing stood there, and nothing is listed
+pub begun-at : (s t : Strategy) (mm nn : List (Name × ℕ)) (empty root : Filed) (before log out : List Entry) → t ≡ s → nn ≡ mm → log ≡ [] → before ≡ [] → Begun s empty root before out → Suits mm s → DotsAgree (number_of mm) s → AreSound t nn root log out 0 0
+begun-at s t mm nn empty root before log out e f g h b suits agree =
+    sound-at s t mm nn root log out e f g
+    (start-sound s mm empty root out b.store b.full b.adds
+    (subst (λ x. AreMore 0 x out) h b.more)
+    b.grown
+    (b.put ∙ ap (λ l. kepts l ++ briefs (gain (told_by unit_news) (kept_store kepts empty))) h)
+    suits agree)

@@ -4,7 +4,6 @@ use Rattle.tv_value.specs.Nested.{Place}
 use Rattle.tv_matching.specs.Items.{Kind, ends, closes, passes}
 use Rattle.tv_matching.specs.Matched.{below_jobs, replaced_below}
 use Rattle.tv_matching.specs.Matchers.{Kept}
-use Rattle.tv_match.specs.declared.kinds.Kind as code
 use Rattle.tv_match.specs.Entries.{Entry, entry_at, kepts, AreMore}
 use Rattle.tv_match.specs.Brief.{briefs}
 

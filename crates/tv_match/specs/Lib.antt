@@ -1,4 +1,5 @@
 pub mod Entries
+pub mod OneLeaf
 pub mod Brief
 pub mod Slots
 pub mod Linked

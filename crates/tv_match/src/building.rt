@@ -1,10 +1,11 @@
-ghost use Rattle.std.specs.Prelude.{◌≡◌, ◌+◌, [], length, IfOk};
+ghost use Rattle.std.specs.Prelude.{◌≡◌, ◌+◌, [], length, true, IfOk, OnOk};
 ghost use Rattle.tv_value.specs.Views.{strategy_view};
 ghost use Rattle.tv_strategy.specs.Measures.{leaf_names, all_leaf_names};
 ghost use Rattle.tv_strategy.specs.Views.{children_view};
 ghost use Rattle.tv_matching.specs.Stores.{store_for, store_for_cross, store_for_dot, crossed_with};
 ghost use Rattle.tv_match.specs.Entries.{kepts};
 ghost use Rattle.tv_match.specs.Filed.{filed, filed_cross, filed_dot, kept_store};
+ghost use Rattle.tv_match.specs.OneLeaf.{IsOneLeaf, IsOnlyLeaf};
 ghost use Rattle.tv_match.specs.Working.{IsFull};
 
 use crate::bags::Bag;
@@ -18,6 +19,40 @@ use tv_value::{NoMemory, Tree};
 pub struct Built {
     pub store: Store,
     pub next: u32,
+}
+
+/// Has a store be that of a strategy that was told nothing, whatever it was before. Linear in the strategy, and constant where it
+/// is one leaf, or has one child that is.
+pub fn rebuild(alloc: Global, store: &mut Store, tree: &Tree) -> Result<(), NoMemory>
+    ensures store { OnOk result (kept_store kepts (filed store.new) ≡ store_for 0 (strategy_view tree.now)) }
+    ensures full { OnOk result (IsFull 0 (filed store.new)) }
+{
+    if is_one_leaf(tree) {
+        *store = Store::Leaf(Some(0));
+    } else {
+        *store = build(alloc, tree, 0)?.store;
+    }
+    Ok(())
+}
+
+/// Whether a strategy is one leaf, or has one child, which is.
+fn is_one_leaf(tree: &Tree) -> bool
+    ensures { result ≡ true → IsOneLeaf (strategy_view tree.now) }
+{
+    match tree {
+        Tree::Leaf(_) => true,
+        Tree::Cross(trees) => is_only_leaf(trees.as_slice()),
+        Tree::Dot(trees) => is_only_leaf(trees.as_slice()),
+    }
+}
+
+fn is_only_leaf(trees: &[Tree]) -> bool
+    ensures { result ≡ true → IsOnlyLeaf (children_view trees.now) }
+{
+    match trees {
+        [Tree::Leaf(_)] => true,
+        _ => false,
+    }
 }
 
 /// The store of a strategy whose leaves are numbered from `from`. Linear in the strategy.

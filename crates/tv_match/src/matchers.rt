@@ -1,5 +1,5 @@
 ghost use Rattle.std.specs.Prelude.{◌≡◌, ℕ, ◌+◌, ◌^◌, ◌<◌, ◌≤◌, ◌∷◌, [], length, map, take, get_or, IsPermutation, IfOk, OnOk, OnErr, IfSome, IsNone, IsOk, IsTrue, List};
-ghost use Rattle.tv_strategy.specs.Measures.{DotsAgree, leaf_names};
+ghost use Rattle.tv_strategy.specs.Measures.{DotsAgree, leaf_names, strategy_depth};
 ghost use Rattle.tv_strategy.specs.Conditions.{Suits, number_of};
 ghost use Rattle.tv_matching.specs.Told.{Told as Telling, arrival, faulty, close, faulty_at, count_of_added};
 ghost use Rattle.tv_matching.specs.Matchers.{all_out, HasGivenAll, CanTell, CanTellAll, Starts, Holds, IsTold, Gives, IsFreed, leaf_name};
@@ -10,17 +10,17 @@ mod ahead;
 mod shells;
 
 use crate::bags::Bag;
-use crate::building::build;
+use crate::building::{build, rebuild};
 use crate::kinds::Kind;
 use crate::listing::work_all;
 use crate::places::Places;
-use crate::steps::{take_back, work};
-use crate::stores::{News, Store};
+use crate::steps::{begin, take_back, work};
+use crate::stores::Store;
 use crate::told::{Matched, Tolds};
 pub use ahead::what_is_ahead;
-use shells::{own_depths, own_tree, shell_of};
+use shells::{keep_depths, keep_tree};
 use std::alloc::Global;
-use tv_value::{Copied, Depths, NoMemory, Place, Tree};
+use tv_value::{Copied, Depths, NoMemory, Place, Sequence, Tree, Trees};
 
 /// The iteration of a strategy, as far as its leaves were told.
 #[derive(Drop)]
@@ -57,45 +57,63 @@ impl Matcher {
         ensures ok { IfOk result (λ m. Starts (strategy_view tree.now) mismatch.now (matching m)) }
         ensures sound { IfOk result (λ m. IsSound m) }
     {
-        Matcher::start_in(alloc, tree, mismatch, None)
-    }
-
-    /// The same, in the memory of another one. Where that is of an equal strategy with equal numbers, it keeps its copies of them.
-    pub fn start_in(
-        alloc: Global,
-        tree: &Tree,
-        mismatch: &Depths,
-        spare: Option<Matcher>,
-    ) -> Result<Matcher, NoMemory>
-        requires suits { Suits mismatch.now (strategy_view tree.now) }
-        requires agree { DotsAgree (number_of mismatch.now) (strategy_view tree.now) }
-        ensures ok { IfOk result (λ m. Starts (strategy_view tree.now) mismatch.now (matching m)) }
-        ensures sound { IfOk result (λ m. IsSound m) }
-    {
         let built = build(alloc, tree, 0)?;
         let mut root = built.store;
-        let shell = shell_of(alloc, spare);
-        let mut out = shell.out;
-        let news = News {
-            leaf: None,
-            place: &[],
-            kind: Kind::Job { faulty: false },
-            number: 0,
-        };
-        root.tell(&news, &mut out)?;
+        let mut out = Bag::new(alloc);
+        begin(&mut root, &mut out)?;
         let mut places = Places::start(alloc, tree, mismatch);
         places.make(&out, 0)?;
+        let own = tree.copy(alloc)?;
+        let numbers = mismatch.copy(alloc)?;
         Ok(Matcher {
             alloc,
-            tree: own_tree(alloc, shell.tree, tree)?,
-            mismatch: own_depths(alloc, shell.mismatch, mismatch)?,
+            tree: own,
+            mismatch: numbers,
             root,
-            log: shell.log,
+            log: Bag::new(alloc),
             out,
             told: 0,
             given: 0,
             places,
         })
+    }
+
+    /// Of no strategy, as memory in which one is started. Takes no memory.
+    pub fn unused(alloc: Global) -> Matcher {
+        Matcher {
+            alloc,
+            tree: Tree::Cross(Trees::of(Vec::new(alloc))),
+            mismatch: Sequence::empty(alloc),
+            root: Store::Leaf(None),
+            log: Bag::new(alloc),
+            out: Bag::new(alloc),
+            told: 0,
+            given: 0,
+            places: Places::none(alloc),
+        }
+    }
+
+    /// As `start`, in the place and the memory of this one, whatever it was told. Where that is of an equal strategy with equal
+    /// numbers, it keeps its copies of them. Takes the strategy's depth, which is not measured again. Where it is refused nothing
+    /// is promised of it.
+    pub fn restart(&mut self, tree: &Tree, mismatch: &Depths, depth: u32) -> Result<(), NoMemory>
+        requires suits { Suits mismatch.now (strategy_view tree.now) }
+        requires agree { DotsAgree (number_of mismatch.now) (strategy_view tree.now) }
+        requires deep { depth ≡ strategy_depth (number_of mismatch.now) (strategy_view tree.now) }
+        ensures ok { OnOk result (Starts (strategy_view tree.now) mismatch.now (matching self.new)) }
+        ensures sound { OnOk result (IsSound self.new) }
+    {
+        keep_tree(self.alloc, &mut self.tree, tree)?;
+        keep_depths(self.alloc, &mut self.mismatch, mismatch)?;
+        rebuild(self.alloc, &mut self.root, tree)?;
+        self.log.truncate(0);
+        self.out.truncate(0);
+        self.told = 0;
+        self.given = 0;
+        begin(&mut self.root, &mut self.out)?;
+        self.places.restart(depth);
+        self.places.make(&self.out, 0)?;
+        Ok(())
     }
 
     /// Takes all the room that these tellings need, and answers how many things will come out for them.

@@ -36,6 +36,23 @@ impl Places {
         }
     }
 
+    /// Of no item. Takes no memory.
+    pub fn none(alloc: Global) -> Places {
+        Places {
+            alloc,
+            deep: true,
+            made: Vec::new(alloc),
+        }
+    }
+
+    /// Of no item from now on, for a strategy of that depth, in the same memory. Takes no memory.
+    pub fn restart(&mut self, depth: u32)
+        ensures { self.new.deep ≡ false → depth ≤ 32 }
+    {
+        self.deep = depth > 32;
+        self.made.clear();
+    }
+
     /// Of these items, as deep as other ones.
     pub fn copy(&self, out: &Bag) -> Result<Places, NoMemory>
         ensures deep { IfOk result (λ p. p.deep ≡ self.now.deep) }

@@ -1,13 +1,31 @@
 ghost use Rattle.std.specs.Prelude.{◌≡◌, ℕ, ◌+◌, ◌≤◌, ◌++◌, ◌∷◌, [], length, take, OnOk};
 ghost use Rattle.tv_value.specs.Strategies.{Strategy};
-ghost use Rattle.tv_match.specs.Entries.{entry, front, Rise, AreMore};
-ghost use Rattle.tv_match.specs.Filed.{filed};
-ghost use Rattle.tv_match.specs.Working.{IsWorked, IsDone};
+ghost use Rattle.tv_matching.specs.Stores.{gain, grown, told_by};
+ghost use Rattle.tv_match.specs.Brief.{briefs, brief_store};
+ghost use Rattle.tv_match.specs.Entries.{entry, front, kepts, Rise, AreMore};
+ghost use Rattle.tv_match.specs.Filed.{Adds, filed, kept_store};
+ghost use Rattle.tv_match.specs.Working.{IsWorked, IsDone, unit_news};
 
 use crate::bags::Bag;
 use crate::kinds::Kind;
 use crate::stores::{News, Store};
 use tv_value::NoMemory;
+
+/// Works what follows from nothing. Where memory is wanting some of it is there.
+pub fn begin(root: &mut Store, out: &mut Bag) -> Result<(), NoMemory>
+    ensures store { OnOk result (kept_store kepts (filed root.new) ≡ brief_store (grown (told_by unit_news) (kept_store kepts (filed root.old)))) }
+    ensures items { OnOk result (kepts out.new ≡ kepts out.old ++ briefs (gain (told_by unit_news) (kept_store kepts (filed root.old)))) }
+    ensures more { AreMore 0 out.old out.new }
+    ensures adds { Adds 0 (filed root.old) (filed root.new) }
+{
+    let news = News {
+        leaf: None,
+        place: &[],
+        kind: Kind::Job { faulty: false },
+        number: 0,
+    };
+    root.tell(&news, out)
+}
 
 /// Works one more telling of a leaf: it is listed, and what follows is put behind `out`.
 ///

@@ -54,24 +54,15 @@ impl Ready {
         }
     }
 
-    /// The same memory without jobs, with places of so many indices. Takes no memory.
-    pub fn emptied(self, levels: usize) -> Ready
-        ensures jobs { result.jobs ≡ [] }
-        ensures levels { result.levels ≡ levels }
-        ensures room { result.room ≡ 0 }
+    /// No jobs from now on, with places of so many indices, in the same memory. Takes no memory.
+    pub fn restart(&mut self, levels: usize)
+        ensures jobs { self.new.jobs ≡ [] }
+        ensures levels { self.new.levels ≡ levels }
+        ensures room { self.new.room ≡ 0 }
     {
-        let Ready {
-            table,
-            mut queue,
-            mut late,
-        } = self;
-        queue.clear();
-        late.clear();
-        Ready {
-            table: table.emptied(levels),
-            queue,
-            late,
-        }
+        self.queue.clear();
+        self.late.clear();
+        self.table.restart(levels);
     }
 
     /// How many jobs are ready.

@@ -54,25 +54,16 @@ impl Table {
         }
     }
 
-    /// The same memory without jobs, with places of so many levels. Takes no memory.
-    pub fn emptied(self, levels: usize) -> Table
-        ensures jobs { result.jobs ≡ [] }
-        ensures levels { result.levels ≡ levels }
-        ensures room { result.room ≡ 0 }
+    /// No jobs from now on, with places of so many levels, in the same memory. Takes no memory.
+    pub fn restart(&mut self, levels: usize)
+        ensures jobs { self.new.jobs ≡ [] }
+        ensures levels { self.new.levels ≡ levels }
+        ensures room { self.new.room ≡ 0 }
     {
-        let Table {
-            mut slots,
-            mut indices,
-            ..
-        } = self;
-        slots.clear();
-        indices.clear();
-        Table {
-            levels,
-            slots,
-            indices,
-            room: 0,
-        }
+        self.slots.clear();
+        self.indices.clear();
+        self.levels = levels;
+        self.room = 0;
     }
 
     /// How many jobs were put.

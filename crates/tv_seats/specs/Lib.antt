@@ -5,3 +5,4 @@ pub mod Nested
 pub mod Tables
 pub mod Laid
 pub mod Kept
+pub mod Starts

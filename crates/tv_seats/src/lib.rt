@@ -22,3 +22,4 @@ mod table;
 
 pub use seats::Seats;
 pub use stage::Stage;
+pub use table::Table;

@@ -5,6 +5,7 @@ ghost use Rattle.tv_seats.specs.declared.stage.Stage.TheVariants.{Aside as AnAsi
 ghost use Rattle.tv_seats.specs.Firsts.{IsFirstAsideOf, IsFirstOf, MayGoOut, MayNest};
 ghost use Rattle.tv_seats.specs.Nested.{AreNested, StandsBehind};
 ghost use Rattle.tv_seats.specs.Seats.{HasBackRooms, HasRoomsOrAsBefore, IsFree, back, back_room, count_at, levels_of, new_seat, one_less, out_count, place_at, room_at, running_count, stage_at, stands, step_at, with_back, with_stage};
+ghost use Rattle.tv_seats.specs.Starts.{AreEmptySteps, IsEmptyStep};
 ghost use Rattle.tv_seats.specs.Stages.{is_nested, is_out, may_settle, may_settle_alone};
 
 use crate::stage::Stage;
@@ -12,6 +13,7 @@ use crate::steps::StepSeats;
 use crate::table::Table;
 use std::alloc::Global;
 use std::marker::Model;
+use std::mem;
 use tv_value::NoMemory;
 
 /// The seats of one instance's known jobs. The steps are told by their numbers, and so are the jobs, from 0 in the order in which
@@ -24,6 +26,8 @@ pub struct Seats {
     table: Table,
     // By step.
     steps: Vec<StepSeats>,
+    // Those of ended instances, whose memory steps of new ones take.
+    spare: Vec<StepSeats>,
     // How many jobs are out.
     out: u64,
 }
@@ -56,26 +60,42 @@ impl Seats {
         Seats {
             table: Table::new(alloc, 0),
             steps: Vec::new(alloc),
+            spare: Vec::new(alloc),
             out: 0,
         }
     }
 
-    /// No seats, where the places of each step have so many indices. Linear in the steps.
-    pub fn start(alloc: Global, levels: &[u32]) -> Result<Seats, NoMemory>
-        ensures seats { IfOk result (λ s. s.seats ≡ []) }
-        ensures levels { IfOk result (λ s. s.levels ≡ levels.now) }
+    /// No seats from now on, where the places of each step have so many indices, in the memory of those before. Linear in the
+    /// steps. Where it is refused there are no seats, of no step.
+    pub fn start(&mut self, alloc: Global, levels: &[u32]) -> Result<(), NoMemory>
+        ensures seats { self.new.seats ≡ [] }
+        ensures levels { OnOk result (self.new.levels ≡ levels.now) }
     {
-        let mut steps = Vec::with_capacity(alloc, levels.len())?;
-        let mut widest = 0;
-        for count in levels {
-            steps.push(StepSeats::new(alloc, *count as usize))?;
-            widest = wider(widest, *count as usize);
-        }
-        Ok(Seats {
+        let Seats {
+            mut steps,
+            mut spare,
+            ..
+        } = mem::replace(self, Seats::none(alloc));
+        let widest = empty_steps(alloc, &mut steps, &mut spare, levels)?;
+        *self = Seats {
             table: Table::new(alloc, widest),
             steps,
+            spare,
             out: 0,
-        })
+        };
+        Ok(())
+    }
+
+    /// Gives the seats by number: from then on there are none, of no step. Takes no memory.
+    pub fn finish(&mut self, alloc: Global) -> Table
+        ensures given { result.seats ≡ self.old.seats }
+        ensures seats { self.new.seats ≡ [] }
+        ensures levels { self.new.levels ≡ [] }
+    {
+        self.out = 0;
+        self.spare.clear();
+        mem::swap(&mut self.steps, &mut self.spare);
+        mem::replace(&mut self.table, Table::new(alloc, 0))
     }
 
     /// How many jobs have a seat. Each of their numbers is below that, and there are fewer than 2^32.
@@ -442,6 +462,38 @@ impl Seats {
             _ => (),
         }
     }
+}
+
+/// Steps with no jobs, whose places have so many indices, in the memory of these and of others. Answers the most indices of a place.
+fn empty_steps(
+    alloc: Global,
+    steps: &mut Vec<StepSeats>,
+    spare: &mut Vec<StepSeats>,
+    levels: &[u32],
+) -> Result<usize, NoMemory>
+    ensures { IfOk result (λ widest. AreEmptySteps levels.now widest steps.new.items) }
+{
+    steps.clear();
+    steps.reserve(levels.len())?;
+    let mut widest = 0;
+    for count in levels {
+        let step = empty_step(alloc, spare.pop(), *count as usize);
+        steps.push(step)?;
+        widest = wider(widest, *count as usize);
+    }
+    Ok(widest)
+}
+
+/// A step with no jobs, in the memory of another where there is one. Takes no memory.
+fn empty_step(alloc: Global, spare: Option<StepSeats>, levels: usize) -> StepSeats
+    ensures { IsEmptyStep levels result }
+{
+    let mut step = match spare {
+        Some(step) => step,
+        None => StepSeats::new(alloc, levels),
+    };
+    step.restart(levels);
+    step
 }
 
 /// How many of some jobs in order of place stand before a job: its position, where it is one of them. Linear.

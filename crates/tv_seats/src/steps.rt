@@ -2,6 +2,7 @@
 ghost use Rattle.std.specs.Prelude.{◌≡◌, ◌+◌, ◌-◌, ◌<◌, ◌≤◌, ◌^◌, if◌then◌else◌, [], drop, length, vec_capacity, OnErr, OnOk};
 ghost use Rattle.std.specs.List.{insert, remove};
 ghost use Rattle.tv_ready.specs.Listed.{with_job};
+ghost use Rattle.tv_seats.specs.Starts.{IsEmptyStep};
 
 use std::alloc::Global;
 use tv_ready::Ready;
@@ -23,14 +24,7 @@ pub struct StepSeats {
 impl StepSeats {
     /// No jobs, with places of so many indices. Takes no memory.
     pub(crate) fn new(alloc: Global, levels: usize) -> StepSeats
-        ensures idle { result.idle.jobs ≡ [] }
-        ensures levels { result.idle.levels ≡ levels }
-        ensures aside { result.aside.jobs ≡ [] }
-        ensures aside_levels { result.aside.levels ≡ levels }
-        ensures nested { result.nested.items ≡ [] }
-        ensures nested_room { result.nested_room ≡ 0 }
-        ensures running { result.running ≡ 0 }
-        ensures out { result.out ≡ 0 }
+        ensures { IsEmptyStep levels result }
     {
         StepSeats {
             idle: Ready::new(alloc, levels),
@@ -40,6 +34,18 @@ impl StepSeats {
             running: 0,
             out: 0,
         }
+    }
+
+    /// No jobs from now on, with places of so many indices, in the same memory. Takes no memory.
+    pub(crate) fn restart(&mut self, levels: usize)
+        ensures { IsEmptyStep levels self.new }
+    {
+        self.idle.restart(levels);
+        self.aside.restart(levels);
+        self.nested.clear();
+        self.nested_room = 0;
+        self.running = 0;
+        self.out = 0;
     }
 
     /// Takes the room to put so many back.

@@ -76,7 +76,8 @@ fn starts(
     requires { IsFedFrom 1 (is_some fixed) port.now.feed }
 {
     let inputs = [Piece::Part(pair(alloc)?, Path::top(alloc))];
-    let told = port_start(alloc, &inputs, port, fixed)?;
+    let faulty = [inputs[0].holds_fault()];
+    let told = port_start(alloc, &inputs, &faulty, port, fixed)?;
     Ok(are(told.as_slice(), wanted))
 }
 

@@ -105,7 +105,8 @@ fn tells(
     item: Option<u32>,
     wanted: &[Want],
 ) -> Result<bool, NoMemory> {
-    let told = tellings_of(alloc, 3, levels, item, value)?;
+    let faulty = value.holds_fault();
+    let told = tellings_of(alloc, 3, levels, item, value, faulty)?;
     Ok(are(told.as_slice(), 3, wanted))
 }
 

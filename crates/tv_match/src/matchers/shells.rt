@@ -1,79 +1,29 @@
-//! What a matcher that is no more leaves to the next one.
-ghost use Rattle.std.specs.Prelude.{◌≡◌, [], IfOk, true};
+//! What a matcher keeps of its strategy where it starts anew.
+ghost use Rattle.std.specs.Prelude.{◌≡◌, OnOk, true};
 ghost use Rattle.tv_value.specs.Views.{strategy_view};
 ghost use Rattle.tv_strategy.specs.Views.{children_view};
 
-use super::Matcher;
-use crate::bags::Bag;
 use std::alloc::Global;
-use tv_value::{Copied, Depths, NoMemory, Sequence, Tree, Trees};
+use tv_value::{Copied, Depths, NoMemory, Tree};
 
-/// A strategy with the numbers of its ports, and two bags with nothing in them.
-#[derive(Drop)]
-pub(super) struct Shell {
-    pub(super) tree: Tree,
-    pub(super) mismatch: Depths,
-    pub(super) log: Bag,
-    pub(super) out: Bag,
+/// Has a strategy equal `tree`: it stays where it does, else it is a copy now.
+pub(super) fn keep_tree(alloc: Global, own: &mut Tree, tree: &Tree) -> Result<(), NoMemory>
+    ensures { OnOk result (strategy_view own.new ≡ strategy_view tree.now) }
+{
+    if !same_tree(own, tree) {
+        *own = tree.copy(alloc)?;
+    }
+    Ok(())
 }
 
-/// What a matcher leaves, or nothing. Takes no memory.
-pub(super) fn shell_of(alloc: Global, spare: Option<Matcher>) -> Shell
-    ensures log { result.log ≡ [] }
-    ensures out { result.out ≡ [] }
+/// Has numbers equal `depths`: they stay where they do, else they are a copy now.
+pub(super) fn keep_depths(alloc: Global, own: &mut Depths, depths: &Depths) -> Result<(), NoMemory>
+    ensures { OnOk result (own.new ≡ depths.now) }
 {
-    match spare {
-        Some(matcher) => emptied(matcher),
-        None => Shell {
-            tree: Tree::Cross(Trees::of(Vec::new(alloc))),
-            mismatch: Sequence::empty(alloc),
-            log: Bag::new(alloc),
-            out: Bag::new(alloc),
-        },
+    if !same_depths(own, depths) {
+        *own = depths.copy(alloc)?;
     }
-}
-
-fn emptied(matcher: Matcher) -> Shell
-    ensures log { result.log ≡ [] }
-    ensures out { result.out ≡ [] }
-{
-    let Matcher {
-        tree,
-        mismatch,
-        mut log,
-        mut out,
-        ..
-    } = matcher;
-    log.truncate(0);
-    out.truncate(0);
-    Shell {
-        tree,
-        mismatch,
-        log,
-        out,
-    }
-}
-
-/// A strategy of its own that equals `tree`: this one if it does, else a copy.
-pub(super) fn own_tree(alloc: Global, own: Tree, tree: &Tree) -> Result<Tree, NoMemory>
-    ensures { IfOk result (λ t. strategy_view t ≡ strategy_view tree.now) }
-{
-    if same_tree(&own, tree) {
-        Ok(own)
-    } else {
-        tree.copy(alloc)
-    }
-}
-
-/// Numbers of its own that equal `depths`: these if they do, else a copy.
-pub(super) fn own_depths(alloc: Global, own: Depths, depths: &Depths) -> Result<Depths, NoMemory>
-    ensures { IfOk result (λ ds. ds ≡ depths.now) }
-{
-    if same_depths(&own, depths) {
-        Ok(own)
-    } else {
-        depths.copy(alloc)
-    }
+    Ok(())
 }
 
 fn same_depths(first: &Depths, second: &Depths) -> bool

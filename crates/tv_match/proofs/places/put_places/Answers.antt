@@ -1,4 +1,4 @@
-use Rattle.std.proofs.Common.{rules, ◌≡◌, ◌≤◌, ◌<◌, ◌++◌, ◌+◌, length, take, drop, ap, ◌∙◌, arith}
+use Rattle.std.proofs.Common.{rules, ◌≤◌, ◌<◌, ◌++◌, ◌+◌, length, take, drop, ap, ◌∙◌}
 use Rattle.tv_match.specs.Entries.{places_of}
 use Rattle.tv_match.proofs.Placing.{put-next, put-first, put-end}
 use Rattle.tv_match.proofs.places.put_places.Goals as goal

@@ -1,4 +1,3 @@
-use Rattle.std.proofs.Common.{◌≡◌, ◌≤◌, take, length, sym, ap, subst, ◌∙◌}
 use Rattle.tv_match.proofs.Placing.{first-kept}
 use Rattle.tv_match.proofs.places.Places.make.Goals as goal
 
