@@ -136,9 +136,12 @@ class Compared:
             own = [job for job in ready if job[0] == name]
             same(f"the first good job of {name}", good, next((numbers[job] for job in own if not told.holds_error(job)), None))
             same(f"the first faulty job of {name}", faulty, next((numbers[job] for job in own if told.holds_error(job)), None))
+        faulty = any(told.holds_error((name, place)) for name in self.names for place in told.idle(name))
+        same("whether an idle job holds an error", line["faulty"], faulty)
+        same("as many items as results at least", line["live"] >= told.results(), True)
         same("ended", line["ended"], told.ended())
         same("outputs", line["outputs"], told.instance.outputs if told.ended() else None)
-        self.comparisons += 5 + 3 * len(jobs) + 4 * len(self.names)
+        self.comparisons += 7 + 3 * len(jobs) + 4 * len(self.names)
 
     def end(self, line):
         if line["finished"] is not None:

@@ -258,6 +258,10 @@ class Told:
             if ("level", name, place) not in self.happened and sources <= self.happened
         }
 
+    def results(self):
+        """How many values were given: one for each output of each job with a result."""
+        return sum(len(self.instance.flow["steps"][node[1]]["outputs"]) for node in self.happened if node and node[0] == "job")
+
     def has_ended(self, name):
         step = self.instance.steps[name]
         own = {("job", name, place) for place in step.jobs} | {("level", name, place) for place in step.levels}

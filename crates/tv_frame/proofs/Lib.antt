@@ -65,3 +65,4 @@ pub mod OfReadyFirst
 pub mod OfJobInputs
 pub mod OfLists
 pub mod OfPlanLevels
+pub mod OfFaultyIdle

@@ -1,12 +1,12 @@
 -- An event that may come next, as the code has it.
-use Rattle.std.specs.Prelude.{◌≡◌, refl, ℕ, suc, ◌+◌, ◌<◌, true, List, [], ◌∷◌, length, slice_get, slice_index_or, unwrap_or}
+use Rattle.std.specs.Prelude.{◌≡◌, refl, ℕ, suc, ◌+◌, ◌<◌, ◌≤◌, true, false, List, [], ◌∷◌, length, slice_get, slice_index_or, unwrap_or}
 use Rattle.std.specs.Option.{option_map_or}
 use Rattle.std.proofs.Common.{sym, ap, subst, ◌∙◌, arith}
 use Rattle.std.proofs.lemmas.List.{get_or_default, length-map}
 use Rattle.std.proofs.lemmas.Option.{unwrap_or-slice_get}
 use Rattle.tv_value.specs.Nested.{Place, list, no_trees}
 use Rattle.tv_value.specs.Orders.{named}
-use Rattle.tv_value.specs.Values.{Name, Value}
+use Rattle.tv_value.specs.Values.{ErrorDoc, Name, Value, holds_fault}
 use Rattle.tv_flow.specs.Flows.{Flow, Step}
 use Rattle.tv_naming.specs.Naming.{has_name}
 use Rattle.tv_naming.specs.Numbers.{position}
@@ -22,8 +22,11 @@ use Rattle.tv_check.specs.declared.plans.FlowPlan.{FlowPlan}
 use Rattle.tv_outputs.specs.Changes.{Counted, HoldsFaults, no_value}
 use Rattle.tv_outputs.specs.Known.{Nodes, known, tree_in}
 use Rattle.tv_telling.specs.declared.ways.Event as code
-use Rattle.tv_telling.specs.Views.{HasPiece}
-use Rattle.tv_instance.specs.Events.{Event, event_place, event_step}
+use Rattle.tv_telling.specs.declared.ways.Happened.{Happened}
+use Rattle.tv_telling.specs.declared.ways.Happened.TheVariants.{Gave, Closed, Passed}
+use Rattle.tv_telling.specs.Views.{HasPiece, IsFaultless, happening}
+use Rattle.tv_instance.specs.Events as events
+use Rattle.tv_instance.specs.Events.{Event, event_place, event_step, fault_set, gave}
 use Rattle.tv_model.specs.RightDepths.{HaveTheseDepths}
 use Rattle.tv_framing.specs.Arriving.{part_so_far}
 use Rattle.tv_framing.specs.Views.{View}
@@ -33,7 +36,7 @@ use Rattle.tv_kept.specs.NextEvents.{IsNextEvent}
 use Rattle.tv_drawn.specs.Steps.{IsStepAt}
 use Rattle.tv_fed.specs.Coming.{put_here}
 use Rattle.tv_fed.specs.Fed.{newly}
-use Rattle.tv_fed.specs.Seen.{IsCodeOf}
+use Rattle.tv_fed.specs.Seen.{Happens, IsCodeOf}
 use Rattle.tv_fed.proofs.OfSeen.{events-are_seen}
 use Rattle.tv_frame.specs.declared.frame.Frame.{Frame}
 use Rattle.tv_frame.specs.Kept.{Keeps, declared_at}
@@ -86,8 +89,9 @@ module _ (flows : List (Name × Flow)) (plan : FlowPlan) (pool : Nodes) (f : Fra
       → length c.faults.now ≡ length s.1.outputs
       → ((i : ℕ) → i < length s.1.outputs → HasPiece c.happened i)
       → ((i : ℕ) → i < length s.1.outputs → HoldsFaults (event_place e) (after i) (slice_index_or c.faults.now i 0))
+      → ((i : ℕ) → i < length s.1.outputs → slice_index_or c.faults.now i 0 ≤ length c.place.now → IsFaultless (happening c.happened i))
       → IsComing flows v n s e c
-  is-coming c coded from many piece each = record {
+  is-coming c coded from many piece each faultless = record {
     next = next;
     at = at;
     named = own;
@@ -97,6 +101,7 @@ module _ (flows : List (Name × Flow)) (plan : FlowPlan) (pool : Nodes) (f : Fra
     hold = holds c.faults.now each;
     outputs = many;
     pieces = piece;
+    faultless = faultless;
   }
 
 -- ---- what arrives
@@ -119,6 +124,26 @@ first-value (p ∷ ps) = (p, refl)
 
 pub value-of : (vs : List Value) (i : ℕ) → i < length vs → slice_index_or vs i no_value ≡ unwrap_or (slice_get vs i) (list tt no_trees)
 value-of vs i h = get_or_default vs i no_value (list tt no_trees) h ∙ sym (unwrap_or-slice_get vs i (list tt no_trees))
+
+-- ---- what came, where no fault is counted at its place
+
+-- nothing comes as a list is closed
+pub closing-faultless : (t : Name) (q : Place) (m : ℕ) (h : Happened) → Happens (events.closed t q m) h → (i : ℕ) → IsFaultless (happening h i)
+closing-faultless t q m (Gave ps) a i = absurd a
+closing-faultless t q m (Closed n) a i = tt
+closing-faultless t q m Passed a i = absurd a
+
+-- nor as a fault is passed
+pub passing-faultless : (t : Name) (q : Place) (d : ErrorDoc) (h : Happened) → Happens (fault_set t q d) h → (i : ℕ) → IsFaultless (happening h i)
+passing-faultless t q d (Gave ps) a i = absurd a
+passing-faultless t q d (Closed n) a i = absurd a
+passing-faultless t q d Passed a i = tt
+
+-- of a job's result it is so of what it gave
+pub given-faultless : (t : Name) (q : Place) (vs : List Value) (h : Happened) → Happens (gave t q vs) h → (i : ℕ) → holds_fault (unwrap_or (slice_get vs i) (list tt no_trees)) ≡ false → IsFaultless (happening h i)
+given-faultless t q vs (Gave ps) a i none = ap (λ ws. holds_fault (unwrap_or (slice_get ws i) (list tt no_trees))) a ∙ none
+given-faultless t q vs (Closed n) a i none = absurd a
+given-faultless t q vs Passed a i none = absurd a
 
 -- so many counts, each of its tree
 pub counts-of : (count : ℕ) (q : Place) (faults : List ℕ) (tree : ℕ → Partial Value) → Counted count q [] faults tree → (length faults ≡ count) × ((i : ℕ) → i < count → HoldsFaults q (tree i) (slice_index_or faults i 0))

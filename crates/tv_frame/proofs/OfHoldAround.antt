@@ -231,7 +231,11 @@ module _ (flows : List (Name × Flow)) (plan : FlowPlan) (pool : Nodes) (f : Fra
           own = λ g.
               let same : (t, st.thing) ≡ s = same_Some (t, st.thing) s (sym st.here ∙ ap (slice_get v.flow.steps) g ∙ coming.at) in
               let mine : number < length s.1.outputs = subst (λ (u : Name × Step). number < length u.1.outputs) same few in
-              (subst (λ k. number < k) (sym coming.outputs) mine, coming.pieces number mine);
+              record {
+                counted = subst (λ k. number < k) (sym coming.outputs) mine;
+                piece = coming.pieces number mine;
+                faultless = coming.faultless number mine;
+              };
         }
 
     link-fed : (l : Link) → is_there v.flow l ≡ true → IsLinked a n c (link_numbered v.flow l)

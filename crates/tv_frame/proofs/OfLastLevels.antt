@@ -1,15 +1,16 @@
 -- The list or passed fault that waits last is right as a level in all instances.
-use Rattle.std.specs.Prelude.{◌≡◌, ℕ, zero, suc, ◌-◌, ◌<◌, Bool, get_or, find, List, [], ◌∷◌, length, map, Option, None, Some, option_and_then, slice_get}
+use Rattle.std.specs.Prelude.{◌≡◌, true, drop, ℕ, zero, suc, ◌-◌, ◌<◌, Bool, get_or, find, List, [], ◌∷◌, length, map, Option, None, Some, option_and_then, slice_get}
 use Rattle.std.proofs.Common.{arith, sym, ap, ap₂, subst, ◌∙◌}
 use Rattle.std.proofs.Math.Path.{fun_ext}
 use Rattle.std.proofs.lemmas.Option.{none-some, same_Some, slice_get_within}
 use Rattle.tv_value.specs.Nested.{Place, at, leaf, list}
-use Rattle.tv_value.specs.Orders.{same_name}
-use Rattle.tv_value.specs.Values.{ErrorDoc, JobName, Name}
+use Rattle.tv_value.specs.Orders.{named, same_name}
+use Rattle.tv_value.specs.Values.{ErrorDoc, JobName, Name, Scalar, fault}
 use Rattle.tv_flow.specs.Flows.{Flow, Step}
 use Rattle.tv_strategy.specs.Iterations.{Iteration, job, passed}
-use Rattle.tv_strategy.specs.Origins.{Mark, Origin}
-use Rattle.tv_depths.specs.Steps.{strategy_of}
+use Rattle.tv_strategy.specs.Origins.{Mark, Origin, Traced}
+use Rattle.tv_depths.specs.Delivered.{Ported}
+use Rattle.tv_depths.specs.Steps.{port_mismatch, strategy_of}
 use Rattle.tv_check.specs.declared.plans.FlowPlan.{FlowPlan}
 use Rattle.tv_starts.specs.Starts.{starts}
 use Rattle.tv_match.specs.declared.kinds.Kind as kinds
@@ -56,13 +57,16 @@ same-mark : (m n : Option Mark) (d e : ErrorDoc) → stopped (m, d) ≡ stopped 
 same-mark m n d e h = ap (λ (z : Stopped). z.0) (same-stop (m, d) (n, e) h)
 
 module _ (flow : Flow) (s : Name × Step) (f : InstanceStep) (made : IsMadeOf flow s f) (known : Origin → Bool) (q : Place) (l : ℕ) (k : IsKnownAt flow s f known q l) where
+  begins-so : slice_get (starts (port_mismatch f.step.inputs) 0 (strategy_of s.1)) l ≡ Some (k.name, k.start)
+  begins-so =
+      ap (λ ports. slice_get (starts ports 0 (strategy_of s.1)) l) (sym (fun_ext made.numbers))
+      ∙ pair-at (step_starts flow s) l k.name k.start k.start_is (ap (λ ns. get_or ns l []) (starts-names _ 0 (strategy_of s.1)) ∙ k.leaf_is)
+
   came-from : (m : Option Mark) → k.fault.origin.mark ≡ m → CameFrom s.1 f.step q l m
   came-from m e = record {
     port = k.name;
     start = k.start;
-    begins =
-        ap (λ ports. slice_get (starts ports 0 (strategy_of s.1)) l) (sym (fun_ext made.numbers))
-        ∙ pair-at (step_starts flow s) l k.name k.start k.start_is (ap (λ ns. get_or ns l []) (starts-names _ 0 (strategy_of s.1)) ∙ k.leaf_is);
+    begins = begins-so;
     ported = k.port;
     is_port = k.input;
     origin = k.fault.origin;
@@ -71,6 +75,19 @@ module _ (flow : Flow) (s : Name × Step) (f : InstanceStep) (made : IsMadeOf fl
     above = k.above;
     mark = e;
   }
+
+  -- wherever it came from by its leaf, that is known
+  pub came-known : (m : Option Mark) (c : CameFrom s.1 f.step q l m) → known c.origin ≡ true
+  came-known m c =
+      let same : ◌≡◌ {A = Name × ℕ} (k.name, k.start) (c.port, c.start) = same_Some (k.name, k.start) (c.port, c.start) (sym begins-so ∙ c.begins) in
+      let port : k.port ≡ c.ported = same_Some k.port c.ported (sym k.input ∙ ap (λ (x : Name × ℕ). named x.0 f.step.inputs) same ∙ c.is_port) in
+      let stands : ◌≡◌ {A = Option Traced} (Some (leaf k.fault.origin (fault k.fault.document))) (Some (leaf c.origin (fault c.document))) =
+      sym k.fault.is ∙ ap₂ (λ (p : Ported) (x : Name × ℕ). at p.value (drop x.1 q)) port same ∙ c.stands
+      in
+      subst (λ o. known o ≡ true) (same-origin stands) k.fault.knows
+    where
+      same-origin : {a b : Origin} {x y : Scalar} → ◌≡◌ {A = Option Traced} (Some (leaf a x)) (Some (leaf b y)) → a ≡ b
+      same-origin h = cc
 
   -- it stands in the step's iteration, and came from its leaf
   pub came-there : FitsThere s.1 f.step q (came l) (at f.step.iteration q)
@@ -146,6 +163,12 @@ module _ (flows : List (Name × Flow)) (plan : FlowPlan) (pool : Nodes) (f : Fra
             subst (λ p. FitsThere s.1 g.step p l.what (at g.step.iteration p)) (sym place)
             (subst (λ u. FitsThere s.1 g.step q u (at g.step.iteration q)) (sym is) (h instance results depth x g i named))
 
+        not-came : (j k : ℕ) → closed j ≡ came k → ⊥
+        not-came j k h = cc
+
+        same_leaf : (j k : ℕ) → came j ≡ came k → j ≡ k
+        same_leaf j k h = cc
+
         by : (k : kinds.Kind) → Settles s e (outcome_kind q k) → ready.outcome ≡ outcome_kind q k → IsWhat k l.what → IsLevelOf v n s e l
         by (kinds.Kind.Job b) h o w = absurd h
         by (kinds.Kind.Closed j) h o w = record {
@@ -157,6 +180,7 @@ module _ (flows : List (Name × Flow)) (plan : FlowPlan) (pool : Nodes) (f : Fra
               let fs = steps_with v instance results in
               closed-there instance fs v.events s q j (subst (IsLegalNext instance fs v.events) h (ready.ready.next.legal instance results depth (closed-extends results x))) g
               (in-finds fs (steps-distinct v instance results) g i) named);
+          known = λ instance results depth x g i named k y m c. absurd (not-came j k (sym w ∙ y));
         }
           where
             closed-extends : (results : Results) → events.Extends results v.events → events.Extends results (e ∷ v.events)
@@ -170,4 +194,10 @@ module _ (flows : List (Name × Flow)) (plan : FlowPlan) (pool : Nodes) (f : Fra
               came-there v.flow s g (made-at flows plan pool f v n s keeps ready.ready.at q k (waits-here (fault_at q k) o) instance results depth g i named)
               (known_by instance v.events) q k
               (known-at flows plan pool f v n s keeps ready.ready.at q k (waits-here (fault_at q k) o) instance results depth x g i named));
+          known = λ instance results depth x g i named j y m.
+              subst (λ p. (c : CameFrom s.1 g.step p j m) → known_by instance v.events c.origin ≡ true) (sym place)
+              (subst (λ a. (c : CameFrom s.1 g.step q a m) → known_by instance v.events c.origin ≡ true) (same_leaf k j (sym w ∙ y))
+              (came-known v.flow s g (made-at flows plan pool f v n s keeps ready.ready.at q k (waits-here (fault_at q k) o) instance results depth g i named)
+              (known_by instance v.events) q k
+              (known-at flows plan pool f v n s keeps ready.ready.at q k (waits-here (fault_at q k) o) instance results depth x g i named) m));
         }

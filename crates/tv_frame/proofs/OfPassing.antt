@@ -1,10 +1,10 @@
 -- A fault that is passed: it arrives in each tree of its step, with the depth that the output has there.
 use Rattle.std.specs.Prelude.{◌≡◌, refl, ℕ, zero, suc, ◌+◌, ◌<◌, ◌≤◌, List, [], ◌∷◌, length, take, Option, Some, slice_get, slice_index_or, unwrap_or}
 use Rattle.std.proofs.Common.{sym, ap, subst, ◌∙◌, arith}
-use Rattle.std.proofs.lemmas.List.{get_or-take, length-take-le}
+use Rattle.std.proofs.lemmas.List.{get_or-take, length-map, length-take-le}
 use Rattle.std.proofs.lemmas.Option.{get_or_from_slice_get, none-some, same_Some}
 use Rattle.tv_value.specs.Nested.{Place}
-use Rattle.tv_value.specs.Values.{ErrorDoc, Name, Value}
+use Rattle.tv_value.specs.Values.{ErrorDoc, Name, Value, holds_fault}
 use Rattle.tv_flow.specs.Flows.{Flow, Step}
 use Rattle.tv_parts.specs.Changes.{CanArrive, arrive}
 use Rattle.tv_cell.specs.declared.piece.Piece.{Piece}
@@ -13,6 +13,7 @@ use Rattle.tv_check.specs.declared.plans.FlowPlan.{FlowPlan}
 use Rattle.tv_stream.specs.Trees.{least_whole}
 use Rattle.tv_outputs.specs.Changes.{AllCanArrive, Counted, HoldsFaults, no_value}
 use Rattle.tv_outputs.specs.Known.{Nodes, depth_in, depths, known, tree_in}
+use Rattle.tv_outputs.proofs.Counts.{counts-mark}
 use Rattle.tv_telling.specs.declared.ways.Event as code
 use Rattle.tv_telling.specs.Views.{HasPiece}
 use Rattle.tv_instance.specs.Events.{Event, fault_set}
@@ -27,9 +28,9 @@ use Rattle.tv_fed.specs.Seen.{IsCodeOf}
 use Rattle.tv_frame.specs.declared.frame.Frame.{Frame}
 use Rattle.tv_frame.specs.Calls.{ArePassed}
 use Rattle.tv_frame.specs.Kept.{Keeps}
-use Rattle.tv_frame.specs.Prepared.{IsComing, IsReadyFor, event_value}
+use Rattle.tv_frame.specs.Prepared.{AreCounted, IsComing, IsReadyFor, event_value}
 use Rattle.tv_frame.specs.Tables.{first_tree, levels_in, trees_of}
-use Rattle.tv_frame.proofs.OfComing.{counts-of, is-coming}
+use Rattle.tv_frame.proofs.OfComing.{counts-of, is-coming, passing-faultless}
 use Rattle.tv_frame.proofs.OfKeeping.{keeps-ahead}
 use Rattle.tv_frame.proofs.OfPutting.{all-arrive, can-put, depth-here, one-tree, outputs-few, right-length, trees-there, turns-at}
 
@@ -54,6 +55,7 @@ ready-aside flows plan pool f v n s e ps r = record {
   told = r.told;
   show = r.show;
   outs = r.outs;
+  counted = r.counted;
 }
 
 -- ---- pieces by their values
@@ -117,6 +119,17 @@ module _ (flows : List (Name × Flow)) (plan : FlowPlan) (pool : Nodes) (f : Fra
         ∙ ap (λ y. least_whole q (arrive q (piece_value x.0) (tree_in (known pool f.outputs) y))) (sym here)
         ∙ h x.0))
 
+    -- its counts say that each of the values holds a fault
+    pub fault-counted : (all : List ℕ) → Counted (length ps) q [] all (λ i. arrive q (slice_index_or (piece_values ps) i no_value) (tree_in (known pool f.outputs) (first + i))) → AreCounted s passing all
+    fault-counted all counted =
+        let marked = counts-mark q first ps (depths f.outputs) (known pool f.outputs) all fault-arrives counted in
+        let many = passed.many in
+        let values = length-map ps piece_value in
+        let enough = marked.many in (
+          omega (arith, many, values, enough),
+          λ k lt. marked.each k (omega (arith, lt, many, values)) ∙ ap holds_fault (get_or_from_slice_get (piece_values ps) k (event_value v s passing k) no_value (passed.each k lt)),
+        )
+
     pub fault-coming :
         (c : code.Event) → IsCodeOf passing c
         → ((x : Piece) → least_whole q (arrive q (piece_value x) (tree_in (known pool f.outputs) first)) ≡ Some c.whole_from)
@@ -139,6 +152,7 @@ module _ (flows : List (Name × Flow)) (plan : FlowPlan) (pool : Nodes) (f : Fra
         (subst (λ x. HoldsFaults q (arrive q (event_value v s passing i) (tree_in (known pool f.outputs) (x + i))) (slice_index_or all i 0)) is_first
         (subst (λ w. HoldsFaults q (arrive q w (tree_in (known pool f.outputs) (first + i))) (slice_index_or all i 0))
         (get_or_from_slice_get (piece_values ps) i (event_value v s passing i) no_value (passed.each i among)) (h.1 i (omega (arith, among, many))))))
+        (λ i lt few. passing-faultless s.0 q d c.happened coded.happened i)
 
   -- what arrives in the trees of its outputs
   pub fault-values : (k : ℕ) → k < length s.1.outputs → slice_get (piece_values ps) k ≡ Some (event_value v s passing k)

@@ -160,4 +160,5 @@ module _ (flows : List (Name × Flow)) (plan : FlowPlan) (pool : Nodes) (f : Fra
     told = λ c t at. matcher-so t (is_one_of f.spread.touched.items c) (matcher_at f.intakes c) (h.told c t at);
     show = ready-stays f.spread.touched.items f.intakes f.idle new k number steps room h.show;
     outs = outs-so f.ahead.outs h.outs;
+    counted = h.counted;
   }

@@ -1,9 +1,10 @@
 -- A frame that has worked an event ahead is ready to show it.
 use Rattle.std.specs.Prelude.{◌≡◌, refl, ℕ, suc, ◌+◌, ◌==◌, ◌<◌, ◌≤◌, List, [], length, Some, slice_get, slice_index_or, unwrap_or}
 use Rattle.std.proofs.Common.{sym, ap, subst, ◌∙◌, arith}
+use Rattle.std.proofs.lemmas.Bool.{le-ltb}
 use Rattle.std.proofs.lemmas.List.{length-map}
 use Rattle.tv_value.specs.Nested.{Place, list, no_trees}
-use Rattle.tv_value.specs.Values.{Name, Value}
+use Rattle.tv_value.specs.Values.{Name, Value, holds_fault}
 use Rattle.tv_flow.specs.Flows.{Flow, Step}
 use Rattle.tv_parts.specs.Changes.{CanArrive, CanClose, arrive, close_at}
 use Rattle.tv_parts.specs.Partials.{Partial}
@@ -11,8 +12,9 @@ use Rattle.tv_cell.specs.declared.piece.Piece.{Piece}
 use Rattle.tv_cell.specs.PieceValues.{piece_value, piece_values}
 use Rattle.tv_check.specs.declared.plans.FlowPlan.{FlowPlan}
 use Rattle.tv_stream.specs.Trees.{least_whole}
-use Rattle.tv_outputs.specs.Changes.{AllCanArrive, AllCanClose, Counted, HoldsFaults, least_or_past, no_value}
+use Rattle.tv_outputs.specs.Changes.{AllCanArrive, AllCanClose, AreMarked, Counted, HoldsFaults, least_or_past, no_value}
 use Rattle.tv_outputs.specs.Known.{Nodes, depth_in, depths, known, needed, tree_in}
+use Rattle.tv_outputs.proofs.Counts.{counts-mark}
 use Rattle.tv_intake.specs.Intaken.{matcher_at}
 use Rattle.tv_spread.specs.Spreads.{CanShowAll, new_count}
 use Rattle.tv_telling.specs.declared.ways.Event as code
@@ -29,14 +31,15 @@ use Rattle.tv_drawn.specs.Steps.{IsStepAt}
 use Rattle.tv_drawn.proofs.OfLaws.{given-goes_on}
 use Rattle.tv_fed.specs.Fed.{newly}
 use Rattle.tv_fed.specs.Seen.{IsCodeOf}
+use Rattle.tv_frame.specs.declared.frame.Ahead.{Ahead}
 use Rattle.tv_frame.specs.declared.frame.Frame.{Frame}
 use Rattle.tv_frame.specs.Calls.{Brings}
 use Rattle.tv_frame.specs.Kept.{AreOuts, Keeps}
-use Rattle.tv_frame.specs.Prepared.{HasSameHeld, HasSameParts, IsComing, IsHeld, IsReadyFor, IsToldWith, MayGive, is_one_of}
+use Rattle.tv_frame.specs.Prepared.{AreCounted, HasSameHeld, HasSameParts, IsComing, IsHeld, IsReadyFor, IsToldWith, MayGive, is_one_of}
 use Rattle.tv_frame.specs.Tables.{first_tree, levels_in, trees_of}
 use Rattle.tv_frame.proofs.OfBringing.{ready-brings}
-use Rattle.tv_frame.proofs.OfComing.{counts-of, first-value, given-many, is-coming, value-of}
-use Rattle.tv_frame.proofs.OfKeeping.{kept-ranked}
+use Rattle.tv_frame.proofs.OfComing.{closing-faultless, counts-of, first-value, given-faultless, given-many, is-coming, value-of}
+use Rattle.tv_frame.proofs.OfKeeping.{keeps-ahead, kept-ranked}
 use Rattle.tv_frame.proofs.OfPutting.{all-arrive, all-close, can-put, depth-here, one-tree, outputs-few, past-is_from, right-length, trees-there, turns-at}
 
 -- ---- once it is worked ahead
@@ -56,17 +59,18 @@ pub record IsWorked (flows : List (Name × Flow)) (plan : FlowPlan) (pool : Node
   pub same : HasSameHeld g h
   pub outs : AreOuts (with_event v e []) (has_ended_now (levels_in v.flow) (with_event v e [])) h.ahead.outs
 
+-- with the counts of faults put beside what was found ahead
 module _ (flows : List (Name × Flow)) (plan : FlowPlan) (pool : Nodes) (f g h : Frame) (v : View) (n : ℕ) (s : Name × Step) (e : Event) (from : ℕ) (w : IsWorked flows plan pool f g h v n s e from) where
-  pub worked-ready : IsReadyFor flows plan pool h v n s e
-  worked-ready = record {
-    keeps = w.keeps;
+  pub worked-ready : (a : Ahead) → a.whole ≡ h.ahead.whole → a.outs ≡ h.ahead.outs → AreCounted s e a.faults.items → IsReadyFor flows plan pool (record h { ahead = a }) v n s e
+  worked-ready a whole outs counted = record {
+    keeps = keeps-ahead flows plan pool h v a w.keeps;
     next = w.next;
     at = w.at;
     named = w.named;
     room = subst (λ o. needed (depths o) (first_tree v.flow.steps n) (trees_of s) ≤ pool.spare) (sym (w.later.outputs ∙ w.parts.outputs)) w.room;
     from = from;
     turns = w.turns;
-    whole = w.same.whole ∙ w.whole;
+    whole = whole ∙ w.same.whole ∙ w.whole;
     told =
         λ c t a.
         subst (λ sp. IsToldWith v e t (is_one_of sp.touched.items c) (matcher_at h.intakes c)) (sym w.same.spread)
@@ -75,17 +79,18 @@ module _ (flows : List (Name × Flow)) (plan : FlowPlan) (pool : Nodes) (f g h :
         subst (λ sp. CanShowAll sp.touched.items h.intakes h.idle) (sym w.same.spread)
         (subst (λ i. CanShowAll g.spread.touched.items i h.idle) (sym w.same.intakes)
         (subst (λ d. CanShowAll g.spread.touched.items g.intakes d) (sym w.same.idle) w.held.show));
-    outs = w.outs;
+    outs = subst (AreOuts (with_event v e []) (has_ended_now (levels_in v.flow) (with_event v e []))) (sym outs) w.outs;
+    counted = counted;
   }
 
 -- so many jobs as it counted before the outputs were found
 pub counts-new :
-    (flows : List (Name × Flow)) (plan : FlowPlan) (pool : Nodes) (g h : Frame) (v : View) (n : ℕ) (s : Name × Step) (e : Event) → HasSameHeld g h
-    → IsReadyFor flows plan pool h v n s e → (jobs : ℕ) → jobs ≡ new_count g.intakes g.spread.touched.items → Brings v e jobs
-counts-new flows plan pool g h v n s e same ready jobs counted =
+    (flows : List (Name × Flow)) (plan : FlowPlan) (pool : Nodes) (g h : Frame) (a : Ahead) (v : View) (n : ℕ) (s : Name × Step) (e : Event) → HasSameHeld g h
+    → IsReadyFor flows plan pool (record h { ahead = a }) v n s e → (jobs : ℕ) → jobs ≡ new_count g.intakes g.spread.touched.items → Brings v e jobs
+counts-new flows plan pool g h a v n s e same ready jobs counted =
     subst (Brings v e)
     (ap (λ sp. new_count h.intakes sp.touched.items) same.spread ∙ ap (λ i. new_count i g.spread.touched.items) same.intakes ∙ sym counted)
-    (ready-brings flows plan pool h v n s e ready)
+    (ready-brings flows plan pool (record h { ahead = a }) v n s e ready)
 
 -- ---- before: a job's result
 
@@ -144,6 +149,10 @@ module _ (flows : List (Name × Flow)) (plan : FlowPlan) (pool : Nodes) (f : Fra
         ∙ ap (λ y. least_whole q (arrive q (piece_value x.0) (tree_in (known pool f.outputs) y))) (sym first-here)
         ∙ h x.0))
 
+    -- its counts say which of the values hold a fault
+    pub result-marked : (ns : List ℕ) → Counted (length ps) q [] ns (λ i. arrive q (slice_index_or (piece_values ps) i no_value) (tree_in (known pool f.outputs) (first + i))) → AreMarked q (piece_values ps) ns
+    result-marked ns counted = counts-mark q first ps (depths f.outputs) (known pool f.outputs) ns result-arrives counted
+
     pub result-coming :
         (c : code.Event) → IsCodeOf result c
         → ((x : Piece) → least_whole q (arrive q (piece_value x) (tree_in (known pool f.outputs) first)) ≡ Some c.whole_from)
@@ -152,6 +161,7 @@ module _ (flows : List (Name × Flow)) (plan : FlowPlan) (pool : Nodes) (f : Fra
         → IsComing flows v n s result c
     result-coming c coded whole piece counted =
         let h = counts-of (length ps) q c.faults.now (λ i. arrive q (slice_index_or (piece_values ps) i no_value) (tree_in (known pool f.outputs) (first + i))) counted in
+        let marked = result-marked c.faults.now counted in
         is-coming flows plan pool f v n s k at result result-next refl c coded (result-turns c.whole_from whole) (h.0 ∙ result-many)
         (λ i lt. piece i (subst (λ m. i < m) (sym result-many) lt))
         (λ i lt.
@@ -159,6 +169,10 @@ module _ (flows : List (Name × Flow)) (plan : FlowPlan) (pool : Nodes) (f : Fra
         subst (λ x. HoldsFaults q (arrive q (unwrap_or (slice_get (piece_values ps) i) (list tt no_trees)) (tree_in (known pool f.outputs) (x + i))) (slice_index_or c.faults.now i 0)) is_first
         (subst (λ w. HoldsFaults q (arrive q w (tree_in (known pool f.outputs) (first + i))) (slice_index_or c.faults.now i 0))
         (value-of (piece_values ps) i (subst (λ m. i < m) (sym (length-map ps piece_value)) inside)) (h.1 i inside)))
+        (λ i lt few.
+        let among : i < length (piece_values ps) = subst (λ m. i < m) (sym (length-map ps piece_value ∙ result-many)) lt in
+        given-faultless s.0 q (piece_values ps) c.happened coded.happened i
+        (ap holds_fault (sym (value-of (piece_values ps) i among)) ∙ sym (marked.each i among) ∙ le-ltb (length q) (slice_index_or c.faults.now i 0) (subst (λ r. slice_index_or c.faults.now i 0 ≤ length r) coded.place few)))
 
 -- ---- before: a list closed
 
@@ -219,3 +233,4 @@ module _ (flows : List (Name × Flow)) (plan : FlowPlan) (pool : Nodes) (f : Fra
         let h = counts-of (length s.1.outputs) q c.faults.now (λ i. close_at q size (tree_in (known pool f.outputs) (first + i))) counted in
         is-coming flows plan pool f v n s k at closing close-next refl c coded (close-turns c.whole_from whole) h.0 (λ i lt. piece i)
         (λ i lt. subst (λ x. HoldsFaults q (close_at q size (tree_in (known pool f.outputs) (x + i))) (slice_index_or c.faults.now i 0)) is_first (h.1 i lt))
+        (λ i lt few. closing-faultless s.0 q size c.happened coded.happened i)

@@ -1,10 +1,10 @@
 -- A frame in which the thing that waits last is settled.
-use Rattle.std.specs.Prelude.{◌≡◌, refl, ℕ, ◌-◌, ◌<◌, ◌≤◌, true, List, [], ◌∷◌, ◌++◌, length, take, Some, slice_get, slice_index_or}
+use Rattle.std.specs.Prelude.{◌≡◌, refl, ℕ, ◌-◌, ◌<◌, ◌≤◌, true, List, [], ◌∷◌, ◌++◌, length, nat_lt, take, Some, slice_get, slice_index_or}
 use Rattle.std.proofs.Common.{sym, ap, subst, ◌∙◌, arith}
 use Rattle.std.proofs.lemmas.List.{length-map}
-use Rattle.std.proofs.lemmas.Option.{same_Some}
+use Rattle.std.proofs.lemmas.Option.{get_or_from_slice_get, same_Some}
 use Rattle.tv_value.specs.Nested.{Place}
-use Rattle.tv_value.specs.Values.{ErrorDoc, Name}
+use Rattle.tv_value.specs.Values.{ErrorDoc, Name, holds_fault}
 use Rattle.tv_flow.specs.Flows.{Flow, Step}
 use Rattle.tv_flow.specs.Views.{flow_view}
 use Rattle.tv_pool.specs.Pool.{number_of}
@@ -17,7 +17,7 @@ use Rattle.tv_matching.specs.Matchers.{Outcome}
 use Rattle.tv_match.specs.declared.kinds.Kind.{Kind}
 use Rattle.tv_match.specs.declared.kinds.Kind.TheVariants.{Job, Closed, Passed}
 use Rattle.tv_match.specs.Seen.{outcome_kind}
-use Rattle.tv_outputs.specs.Changes.{AllCanArrive, AllCanClose, Arrive, Close}
+use Rattle.tv_outputs.specs.Changes.{AllCanArrive, AllCanClose, AreMarked, Arrive, Close, no_value}
 use Rattle.tv_outputs.specs.Known.{Nodes, depths, known, needed}
 use Rattle.tv_outputs.specs.Kept.{Stand}
 use Rattle.tv_intake.specs.declared.intakes.Intakes.{Intakes}
@@ -29,7 +29,7 @@ use Rattle.tv_drawn.specs.Waiting.{outcome_place}
 use Rattle.tv_frame.specs.declared.frame.Frame.{Frame}
 use Rattle.tv_frame.specs.declared.events.Settled as settled
 use Rattle.tv_frame.specs.Calls.{ArePassed, GoesOn, HasPieces, IsReadyToSettle, Settles, Tells}
-use Rattle.tv_frame.specs.Prepared.{IsReadyFor}
+use Rattle.tv_frame.specs.Prepared.{AreCounted, IsReadyFor, event_value}
 use Rattle.tv_frame.specs.Shown.{CanTurnWhole, HasOtherTrees, IsShown, values_put}
 use Rattle.tv_frame.specs.Tables.{first_tree, levels_in, trees_of}
 use Rattle.tv_frame.proofs.OfKeeping.{first-is, kept-wired}
@@ -176,6 +176,20 @@ module _ (flows : List (Name × Flow)) (plan : FlowPlan) (pool : Nodes) (f : Fra
           subst (λ (x : ℕ × Place). AllCanArrive x.0 (length (values_put (piece_values ps))) x.1 (depths f.outputs) (known pool f.outputs)) (λ i. (sym first-so i, sym fault-place i))
           (arrive-so flows plan pool f v n s it ready-fault q (length (values_put (piece_values ps))) put-many (omega (arith, l))
           (can-put flows plan pool f v n s h.ready.keeps h.ready.at it ready-fault.next ready-fault.named))
+
+      -- each of them holds a fault, as was counted
+      pub fault-marked : AreMarked place (piece_values ps) f.ahead.faults.items
+      fault-marked =
+          let counts = f.ahead.faults.items in
+          let c : AreCounted s it counts = ready-fault.counted in
+          record {
+            many = subst (λ m. m ≤ length counts) (sym values-many) c.0;
+            each = λ k lt.
+                let among : k < trees_of s = subst (λ m. k < m) values-many lt in
+                ap (λ p. nat_lt (length p) (slice_index_or counts k 0)) fault-place
+                ∙ c.1 k among
+                ∙ sym (ap holds_fault (get_or_from_slice_get (piece_values ps) k (event_value v s it k) no_value (are-passed.each k among)));
+          }
 
       pub fault-room : needed (depths f.outputs) first (length (values_put (piece_values ps))) ≤ pool.spare
       fault-room = subst (λ i. needed (depths f.outputs) i (length (values_put (piece_values ps))) ≤ pool.spare) (sym first-so) (room-for flows plan pool f v n s e h.ready (length (values_put (piece_values ps))) put-many)

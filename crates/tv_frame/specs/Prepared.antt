@@ -1,6 +1,6 @@
 -- A frame that is ready to show an event: the event is worked ahead, and all room is taken.
 use Rattle.std.specs.List.{list_any}
-use Rattle.std.specs.Prelude.{◌≡◌, ℕ, ◌+◌, ◌≤◌, ◌<◌, ◌==◌, Bool, true, false, List, [], ◌∷◌, ◌++◌, length, Option, Some, None, slice_get, unwrap_or}
+use Rattle.std.specs.Prelude.{◌≡◌, ℕ, ◌+◌, ◌≤◌, ◌<◌, ◌==◌, Bool, true, false, List, [], ◌∷◌, ◌++◌, get_or, length, nat_lt, Option, Some, None, slice_get, slice_index_or, unwrap_or}
 use Rattle.tv_value.specs.Nested.{Place}
 use Rattle.tv_value.specs.Nested.{list, no_trees}
 use Rattle.tv_value.specs.Values.{Name, Value, fault_value}
@@ -15,7 +15,8 @@ use Rattle.tv_matching.specs.Told.{Told}
 use Rattle.tv_match.specs.declared.matchers.Matcher.{Matcher}
 use Rattle.tv_match.specs.Seen.{matching}
 use Rattle.tv_telling.specs.declared.ways.Event as code
-use Rattle.tv_telling.specs.Views.{HasPiece}
+use Rattle.tv_telling.specs.Views.{HasPiece, IsFaultless, happening}
+use Rattle.tv_outputs.specs.Changes.{AreMarked}
 use Rattle.tv_outputs.specs.Known.{Nodes, depths, needed}
 use Rattle.tv_intake.specs.Intaken.{matcher_at}
 use Rattle.tv_spread.specs.Spreads.{CanShowAll}
@@ -56,6 +57,15 @@ IsToldWith v e s holds None = ⊥
 IsToldWith v e s true (Some m) = IsToldThat v e s ((matching m).told ++ (matching m).held)
 IsToldWith v e s false (Some m) = IsToldThat v e s (matching m).told
 
+-- these counts say which of the values that the event brings to the trees of its step hold a fault; where it passes one, each does
+abbrev pub AreCounted : Name × Step → Event → List ℕ → Type 0
+AreCounted s (gave t q vs) ns = AreMarked q vs ns
+AreCounted s (events.closed t q m) ns = Unit {0}
+AreCounted s (fault_set t q d) ns =
+    (trees_of s ≤ length ns)
+    × ((k : ℕ) → k < trees_of s → nat_lt (length q) (slice_index_or ns k 0) ≡ true)
+AreCounted s (took t q) ns = Unit {0}
+
 -- event e of step n, which is s, may come next, and showing it needs nothing more
 pub record IsReadyFor (flows : List (Name × Flow)) (plan : FlowPlan) (pool : Nodes) (f : Frame)
     (v : View) (n : ℕ)
@@ -74,6 +84,7 @@ pub record IsReadyFor (flows : List (Name × Flow)) (plan : FlowPlan) (pool : No
   pub show : CanShowAll f.spread.touched.items f.intakes f.idle
   pub outs : AreOuts (with_event v e [])
       (has_ended_now (levels_in v.flow) (with_event v e [])) f.ahead.outs
+  pub counted : AreCounted s e f.ahead.faults.items
 
 -- the job at a place of a step may give these: it is known, gave nothing yet, and they have the declared depths
 pub record MayGive (v : View) (s : Name × Step) (q : Place) (vs : List Value) : Type 0 where
@@ -99,6 +110,9 @@ pub record IsComing (flows : List (Name × Flow)) (v : View) (n : ℕ) (s : Name
       (tree_of v.flow (levels_in v.flow) v.inputs (e ∷ v.events) (event_step e) o) (faults o)
   pub outputs : length c.faults.now ≡ length s.1.outputs
   pub pieces : (k : ℕ) → k < length s.1.outputs → HasPiece c.happened k
+  pub faultless :
+      (k : ℕ) → k < length s.1.outputs → get_or c.faults.now k 0 ≤ length c.place.now
+      → IsFaultless (happening c.happened k)
 
 -- the steps that are fed hold what they will be told of it, and there is room for what that brings
 pub record IsHeld (v : View) (e : Event) (f : Frame) : Type 0 where

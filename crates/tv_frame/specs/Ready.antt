@@ -2,9 +2,11 @@
 use Rattle.std.specs.Prelude.{◌≡◌, ℕ, Bool, true, false, Option, Some, None}
 use Rattle.tv_value.specs.Nested.{Place}
 use Rattle.tv_value.specs.Values.{Name}
+use Rattle.tv_flow.specs.Flows.{Step}
 use Rattle.tv_instance.specs.Events.{has_result, is_taken}
 use Rattle.tv_framing.specs.Answers.{IsReadyJob, numbered}
 use Rattle.tv_framing.specs.Views.{View}
+use Rattle.tv_drawn.specs.Steps.{IsStepAt}
 use Rattle.tv_order.specs.JobOrder.{place_before}
 
 -- the job of that number stands at this place of the step, and neither runs nor has a result
@@ -17,6 +19,16 @@ pub record IsIdleThere (v : View) (s : Name) (n : ℕ) (q : Place) : Type 0 wher
 abbrev pub HasIdle : View → Name → Bool → Type 0
 HasIdle v s true = (n : ℕ) × (q : Place) × IsIdleThere v s n q
 HasIdle v s false = (n : ℕ) (q : Place) → IsIdleThere v s n q → ⊥
+
+-- some idle job is one of which this is said, by the number of its step and its place
+pub record HasIdleWith (v : View) (says : ℕ × Place → Bool) : Type 0 where
+  pub number : ℕ
+  pub step : Name × Step
+  pub is : IsStepAt v number step
+  pub job : ℕ
+  pub place : Place
+  pub idle : IsIdleThere v step.0 job place
+  pub said : says (number, place) ≡ true
 
 -- the job of that number is a ready one at this place of the step, and so is said of what it binds
 pub record IsReadyWith (levels : Name → ℕ) (v : View) (says : Place → Bool) (s : Name) (b : Bool)

@@ -8,7 +8,7 @@ ghost use Rattle.tv_cell.specs.PieceValues.{piece_values};
 ghost use Rattle.tv_cell.specs.Soundness.{AreSound};
 ghost use Rattle.tv_outputs.specs.Known.{depths, known, needed};
 ghost use Rattle.tv_outputs.specs.Kept.{Stand};
-ghost use Rattle.tv_outputs.specs.Changes.{AllCanArrive, Arrive};
+ghost use Rattle.tv_outputs.specs.Changes.{AllCanArrive, AreMarked, Arrive};
 ghost use Rattle.tv_intake.specs.Intaken.{AreIntaken};
 ghost use Rattle.tv_spread.specs.Spreads.{CanShowAll};
 ghost use Rattle.tv_instance.specs.Events.{Event as TheEvent, gave, is_taken};
@@ -136,14 +136,15 @@ impl Frame {
         }
     }
 
-    /// Puts what came into the trees of a step, from this one on. A result of a step without outputs has no piece: its one tree
-    /// gets an empty list.
+    /// Puts what came into the trees of a step, from this one on, each marked as the room call counted faults. A result of a step
+    /// without outputs has no piece: its one tree gets an empty list.
     fn put(&mut self, pool: &mut Nodes, first: usize, place: &Place, pieces: Pieces)
         requires live { IsLive pool.old self.old.region }
         requires stand { Stand pool.old self.old.outputs self.old.region }
         requires can { AllCanArrive first (length (values_put (piece_values pieces))) place.now
             (depths self.old.outputs) (known pool.old self.old.outputs) }
         requires sound { AreSound pieces }
+        requires marked { AreMarked place.now (piece_values pieces) self.old.ahead.faults.items }
         requires room { needed (depths self.old.outputs) first
             (length (values_put (piece_values pieces))) ≤ pool.old.spare }
         ensures known { Arrive first place.now (values_put (piece_values pieces))
@@ -156,11 +157,12 @@ impl Frame {
         if pieces.as_slice().is_empty() {
             let nothing = Piece::List(Row::empty(self.alloc));
             self.outputs
-                .arrive_at(pool, &self.region, first, place, nothing);
+                .arrive_at(pool, &self.region, first, place, nothing, false);
             return;
         }
+        let faults = self.ahead.faults.as_slice();
         self.outputs
-            .arrive(pool, &self.region, first, place, pieces);
+            .arrive(pool, &self.region, first, place, pieces, faults);
     }
 
     /// What follows of the event is known from now on.

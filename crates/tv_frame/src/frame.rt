@@ -1,12 +1,12 @@
 //! The frame, its start and its end.
-ghost use Rattle.std.specs.Prelude.{◌≡◌, ◌≢◌, ℕ, List, [], true, IfOk, OnErr, OnOk, Some, None, length, map, option_map};
+ghost use Rattle.std.specs.Prelude.{◌≡◌, ◌≢◌, ◌≤◌, ℕ, List, [], true, IfOk, OnErr, OnOk, Some, None, length, map, option_map};
 ghost use Rattle.tv_value.specs.Values.{Name, holds_fault};
 ghost use Rattle.tv_flow.specs.Flows.{Flow};
 ghost use Rattle.tv_flow.specs.Views.{flow_view};
 ghost use Rattle.tv_parts.specs.Partials.{wanting};
 ghost use Rattle.tv_pool.specs.declared.handles.Region.{Region as TheRegion};
 ghost use Rattle.tv_pool.specs.Pool.{IsLive, number_of, region_at, regions_with};
-ghost use Rattle.tv_nodes.specs.Calls.{KeepsRegions};
+ghost use Rattle.tv_nodes.specs.Calls.{KeepsRegions, count_in};
 ghost use Rattle.tv_cell.specs.PieceValues.{piece_value, piece_values};
 ghost use Rattle.tv_cell.specs.Soundness.{AreSound};
 ghost use Rattle.tv_check.specs.declared.plans.FlowPlan.{FlowPlan as ThePlan};
@@ -30,7 +30,7 @@ use tv_check::FlowPlan;
 use tv_endings::Endings;
 use tv_idle::Idle;
 use tv_intake::Intakes;
-use tv_outputs::{Nodes, Outputs};
+use tv_outputs::{Faults, Nodes, Outputs};
 use tv_pool::Region;
 use tv_spread::Spread;
 use tv_value::{NoMemory, Place};
@@ -64,6 +64,8 @@ pub(crate) struct Ahead {
     // Where a list or fault is settled: its place, and the pieces of a fault.
     pub(crate) place: Option<Place>,
     pub(crate) pieces: Option<Pieces>,
+    // At how many prefixes of the event's place the outputs of its step will hold a fault.
+    pub(crate) faults: Faults,
 }
 
 impl Frame {
@@ -85,6 +87,7 @@ impl Frame {
                 outs: None,
                 place: None,
                 pieces: None,
+                faults: Faults::new(alloc),
             },
             outs: None,
         }
@@ -94,8 +97,8 @@ impl Frame {
     /// Takes the flow's tables, which it shares. Known jobs are numbered from 0 in the order in which they become known. An
     /// instance of a flow without steps has ended at once.
     ///
-    /// Its nodes stand in a region that is new in the pool. Linear in the flow, and in the inputs. Where it is refused the
-    /// frame is of no instance.
+    /// Its nodes stand in a region that is new in the pool. Linear in the flow, and in the inputs, each of which is asked whether it
+    /// holds a fault, and those that do once more by each port that walks some of their levels.
     pub fn start(
         &mut self,
         plan: &FlowPlan,
@@ -143,8 +146,9 @@ impl Frame {
         self.intakes.clear();
         self.idle.clear();
         let tables = self.tables.read();
+        let faulty = self.faulty_inputs.as_slice();
         let (intakes, idle) = (&mut self.intakes, &mut self.idle);
-        start_steps(self.alloc, plan, tables, inputs, intakes, idle)?;
+        start_steps(self.alloc, plan, tables, inputs, faulty, intakes, idle)?;
         self.endings.restart(plan.wiring.after.as_slice())?;
         Ok(())
     }
@@ -156,6 +160,7 @@ impl Frame {
         requires sound { AreSound self.old.inputs }
         requires parts { AreParts plan.now self.old }
         requires live { IsLive pool.old self.old.region }
+        requires empty { count_in pool.old (number_of self.old.region) ≡ 0 }
         ensures ok { OnOk result ((flows : List (Name × Flow))
             → CanStart flows plan.now (piece_values self.old.inputs)
             → Starts flows plan.now (piece_values self.old.inputs) pool.new self.new) }
@@ -205,6 +210,7 @@ impl Frame {
             → Keeps flows plan pool.old self.old v
             → AreSound result × AreOutputs v (piece_values result) }
         ensures gone { pool.new.regions ≡ regions_with pool.old (number_of self.old.region) None }
+        ensures spare { pool.old.spare ≤ pool.new.spare }
     {
         self.abandon(pool);
         match self.outs.take() {
@@ -217,6 +223,7 @@ impl Frame {
     pub fn abandon(&mut self, pool: &mut Nodes)
         requires { IsLive pool.old self.old.region }
         ensures gone { pool.new.regions ≡ regions_with pool.old (number_of self.old.region) None }
+        ensures spare { pool.old.spare ≤ pool.new.spare }
         ensures outs { self.new.outs ≡ self.old.outs }
     {
         let region = mem::replace(&mut self.region, Region::none());

@@ -23,7 +23,7 @@ ghost use Rattle.tv_turn.specs.Turns.{first_in_turn, may_settle};
 ghost use Rattle.tv_frame.specs.Calls.{HoldsError, IsJob};
 ghost use Rattle.tv_frame.specs.Kept.{Keeps, named_job};
 ghost use Rattle.tv_frame.specs.Prepared.{IsReadyFor};
-ghost use Rattle.tv_frame.specs.Ready.{HasIdle, IsFirstOfStep};
+ghost use Rattle.tv_frame.specs.Ready.{HasIdle, HasIdleWith, IsFirstOfStep};
 ghost use Rattle.tv_frame.specs.StepPorts.{ArePortsOf};
 ghost use Rattle.tv_frame.specs.Tables.{levels_in};
 
@@ -171,11 +171,14 @@ impl Frame {
 
     /// Whether some step has an idle job that binds a fault: where none has, no step has a ready one. Constant.
     pub fn has_faulty(&self) -> bool
-        ensures { result ≡ false → (flows : List (Name × Flow)) (plan : FlowPlan) (pool : Nodes)
+        ensures none { result ≡ false → (flows : List (Name × Flow)) (plan : FlowPlan) (pool : Nodes)
             (v : View) (n : ℕ) (s : Name × Step)
             → Keeps flows plan pool self.now v → IsStepAt v n s
             → IsFirstOfStep (levels_in v.flow) v (λ q. is_faulty_now self.now.intakes (n, q)) s.0
             true None }
+        ensures some { result ≡ true → (flows : List (Name × Flow)) (plan : FlowPlan) (pool : Nodes)
+            (v : View)
+            → Keeps flows plan pool self.now v → HasIdleWith v (is_faulty_now self.now.intakes) }
     {
         self.idle.has_faulty()
     }

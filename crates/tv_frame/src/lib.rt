@@ -4,12 +4,13 @@
 //! becomes tellings of the ports that it feeds, and the matchers of these steps bring new jobs, lists
 //! and faults. Nothing is worked out anew: an event costs the wires from its step into ports that walk
 //! some levels, its tellings and what comes out of them, with a logarithm. The one that makes its step
-//! whole costs all wires from the step, and the links of the ports of the steps that they feed.
+//! whole costs all wires from the step, and the links of the ports of the steps that they feed; the one
+//! that ends the instance, the pieces of the flow's outputs. A result is asked for faults.
 //!
 //! An event comes in two halves. `room_for_result` and `room_for_settle` take all memory that it needs, and tell how many
 //! jobs it will make known; they may be refused, and then nothing has changed but rooms. `result` and `settle` take no memory.
 //!
-//! A frame that has ended leaves a husk: its lists, of which the next one takes the memory, whatever flow it is of.
+//! A frame that has ended can start anew, for whatever flow: it keeps the memory of its lists.
 //!
 //! - `tables`: what the frames of a flow look up of it, made once and shared
 //! - `frame`: the frame, its start and its end

@@ -4,7 +4,7 @@ ghost use Rattle.tv_value.specs.Values.{Name};
 ghost use Rattle.tv_flow.specs.Flows.{Flow, Step};
 ghost use Rattle.tv_cell.specs.PieceValues.{piece_values};
 ghost use Rattle.tv_cell.specs.Soundness.{AreSound};
-ghost use Rattle.std.specs.Prelude.{◌+◌, ◌-◌, ◌<◌, Some, drop, length, map, slice_get};
+ghost use Rattle.std.specs.Prelude.{◌+◌, ◌-◌, ◌<◌, Some, drop, length, map, slice_get, take};
 ghost use Rattle.tv_value.specs.Values.{ErrorDoc, fault_value};
 ghost use Rattle.tv_flow.specs.Views.{flow_view};
 ghost use Rattle.tv_cell.specs.Found.{document_of, is_document, with_depth as of_depth};
@@ -46,8 +46,9 @@ use tv_wires::Port;
 impl Frame {
     /// Takes all the room that `result` with these arguments needs, and answers how many jobs it will
     /// make known. Of the values it reads as many levels as ports walk. Whether one holds a fault is
-    /// asked of its piece: a cell knows it, a list of pieces is looked through for one, and so is a
-    /// part of a value that holds some.
+    /// asked of its piece, once for the event: a cell knows it, a list of pieces is looked through for
+    /// one, and so is a part of a value that holds some. Where there is one, each port that walks some
+    /// levels of the piece asks for it at the end of its walk.
     pub fn room_for_result(
         &mut self,
         plan: &FlowPlan,
@@ -63,6 +64,7 @@ impl Frame {
         ensures same { (flows : List (Name × Flow)) (v : View)
             → Keeps flows plan.now pool.old self.old v → Keeps flows plan.now pool.new self.new v }
         ensures regions { pool.new.regions ≡ pool.old.regions }
+        ensures spare { pool.old.spare ≤ pool.new.spare }
         ensures region { self.new.region ≡ self.old.region }
         ensures ready { OnOk result ((flows : List (Name × Flow)) (v : View) (s : Name × Step)
             → Keeps flows plan.now pool.old self.old v → IsStepAt v step s
@@ -99,6 +101,7 @@ impl Frame {
             },
             whole_from,
         )?;
+        self.ahead.faults = faults;
         Ok(jobs)
     }
 
@@ -114,6 +117,7 @@ impl Frame {
         ensures same { (flows : List (Name × Flow)) (v : View)
             → Keeps flows plan.now pool.old self.old v → Keeps flows plan.now pool.new self.new v }
         ensures regions { pool.new.regions ≡ pool.old.regions }
+        ensures spare { pool.old.spare ≤ pool.new.spare }
         ensures region { self.new.region ≡ self.old.region }
         ensures none { IfOk result (λ r. IsNone r → (flows : List (Name × Flow)) (v : View)
             → Keeps flows plan.now pool.old self.old v → NothingSettles v) }
@@ -152,6 +156,7 @@ impl Frame {
         ensures same { (flows : List (Name × Flow)) (v : View)
             → Keeps flows plan.now pool.old self.old v → Keeps flows plan.now pool.new self.new v }
         ensures regions { pool.new.regions ≡ pool.old.regions }
+        ensures spare { pool.old.spare ≤ pool.new.spare }
         ensures kept { HasSameParts self.old self.new }
         ensures place { self.new.ahead.place ≡ self.old.ahead.place }
         ensures waiting { waiting_things self.new.intakes ≡ waiting_things self.old.intakes }
@@ -185,6 +190,7 @@ impl Frame {
             },
             whole_from,
         )?;
+        self.ahead.faults = faults;
         Ok(jobs)
     }
 
@@ -203,6 +209,7 @@ impl Frame {
         ensures same { (flows : List (Name × Flow)) (v : View)
             → Keeps flows plan.now pool.old self.old v → Keeps flows plan.now pool.new self.new v }
         ensures regions { pool.new.regions ≡ pool.old.regions }
+        ensures spare { pool.old.spare ≤ pool.new.spare }
         ensures kept { HasSameParts self.old self.new }
         ensures place { self.new.ahead.place ≡ self.old.ahead.place }
         ensures waiting { waiting_things self.new.intakes ≡ waiting_things self.old.intakes }
@@ -256,9 +263,13 @@ impl Frame {
         self.outputs
             .faults_by_arrival(pool, first, place, pieces, &mut faults)?;
         // A step without outputs has a tree, but no output.
-        faults.truncate(outputs_of(plan, step as usize));
+        let outputs = outputs_of(plan, step as usize);
         let whole_from = self.outputs.whole_by_arrival(pool, first, place);
-        let event = passed_at(place.as_slice(), whole_from, faults.as_slice());
+        let event = passed_at(
+            place.as_slice(),
+            whole_from,
+            first_counts(faults.as_slice(), outputs),
+        );
         let jobs = self.hold(plan, pool, step, &event)?;
         let change = Change::Arrive(pieces);
         self.find_outs(
@@ -271,6 +282,7 @@ impl Frame {
             },
             whole_from,
         )?;
+        self.ahead.faults = faults;
         Ok(jobs)
     }
 
@@ -454,6 +466,14 @@ fn passed_at<'a>(place: &'a [u32], whole_from: usize, faults: &'a [usize]) -> Ev
         faults,
         happened: Happened::Passed,
     }
+}
+
+/// So many of the counts, from the first on.
+fn first_counts(counts: &[usize], outputs: usize) -> &[usize]
+    requires { outputs ≤ length counts.now }
+    ensures { result.now ≡ take outputs counts.now }
+{
+    &counts[..outputs]
 }
 
 /// What is left of a place from an index on.

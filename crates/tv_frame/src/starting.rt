@@ -1,6 +1,6 @@
 //! What the steps are told at the start: all that is known of inputs and constants.
 ghost use Rattle.std.specs.Prelude.{◌≡◌, ◌+◌, ◌++◌, ℕ, List, Some, IfOk, OnOk, IsPermutation, length, map, slice_get};
-ghost use Rattle.tv_value.specs.Values.{Name};
+ghost use Rattle.tv_value.specs.Values.{Name, holds_fault};
 ghost use Rattle.tv_value.specs.Views.{strategy_view};
 ghost use Rattle.tv_flow.specs.Flows.{Flow, Step};
 ghost use Rattle.tv_flow.specs.Views.{flow_view};
@@ -34,12 +34,14 @@ use tv_spread::add_known;
 use tv_value::NoMemory;
 use tv_wires::Port;
 
-/// Adds a matcher for each step, tells it what is known of inputs and constants, and takes in the jobs that are known with that.
+/// Adds a matcher for each step, tells it what is known of inputs, each of which is said to hold a fault or none, and of constants,
+/// and takes in the jobs that are known with that.
 pub(crate) fn start_steps(
     alloc: Global,
     plan: &FlowPlan,
     tables: &Tables,
     inputs: &[Piece],
+    faulty: &[bool],
     intakes: &mut Intakes,
     idle: &mut Idle,
 ) -> Result<(), NoMemory>
@@ -47,6 +49,7 @@ pub(crate) fn start_steps(
         × CanStart flows plan.now (piece_values inputs.now) }
     requires constants { constants_view tables.now.constants
         ≡ flow_constants (flow_view plan.now.flow) }
+    requires faulty { faulty.now ≡ map holds_fault (piece_values inputs.now) }
     requires none { HaveBegun (flow_view plan.now.flow)
         (at_start (flow_view plan.now.flow) (given_values plan.now inputs.now)) 0 intakes.old
         idle.old }
@@ -56,7 +59,7 @@ pub(crate) fn start_steps(
 {
     for (number, step) in plan.steps.as_slice().iter().enumerate() {
         let ports = plan.wiring.ports.as_slice()[number].as_slice();
-        let told = step_start(alloc, &tables.constants, inputs, number, ports)?;
+        let told = step_start(alloc, &tables.constants, inputs, faulty, number, ports)?;
         start_step(alloc, number as u32, step, intakes, idle)?;
         tell(intakes, idle, number as u32, &told)?;
     }
@@ -83,7 +86,7 @@ fn start_step(
         → HaveBegun f (but_at number tells) (number + 1) intakes.new idle.new) }
 {
     let known = intakes.known();
-    intakes.add(alloc, &step.tree, &step.mismatch)?;
+    intakes.add(alloc, &step.tree, &step.mismatch, step.depth)?;
     idle.add_step(alloc, step.depth as usize)?;
     let jobs = intakes.known() - known;
     idle.reserve(number, jobs, jobs)?;
@@ -121,9 +124,11 @@ fn step_start(
     alloc: Global,
     constants: &Constants,
     inputs: &[Piece],
+    faulty: &[bool],
     step: usize,
     ports: &[Port],
 ) -> Result<Tolds, NoMemory>
+    requires faulty { faulty.now ≡ map holds_fault (piece_values inputs.now) }
     requires fed { AreFed (length inputs.now) (constant_of_port (constants_view constants.now) step)
         ports.now }
     ensures { IfOk result (λ ts. AreTellings ts (λ s. ports_start (piece_values inputs.now)
@@ -134,7 +139,7 @@ fn step_start(
     for back in 0..count {
         let number = count - 1 - back;
         let fixed = constants.of_port(step, number);
-        let told = port_start(alloc, inputs, &ports[number], fixed)?;
+        let told = port_start(alloc, inputs, faulty, &ports[number], fixed)?;
         tellings = joined(tellings, told)?;
     }
     Ok(Tolds::of(tellings))

@@ -1,5 +1,5 @@
 -- How many jobs that bind a fault stand in the queues.
-use Rattle.std.specs.Prelude.{◌≡◌, ℕ, zero, suc, ◌+◌, ◌-◌, ◌<◌, ◌≤◌, ◌==◌, not, Bool, true, false, cond, if◌then◌else◌, List, [], ◌∷◌, ◌++◌, length, slice_index_or, slice_set, refl}
+use Rattle.std.specs.Prelude.{◌≡◌, ℕ, zero, suc, ◌+◌, ◌-◌, ◌<◌, ◌≤◌, ◌==◌, not, Bool, true, false, cond, if◌then◌else◌, List, [], ◌∷◌, ◌++◌, length, slice_index_or, slice_set, Some, refl}
 use Rattle.std.specs.Cmp.Lexicographic.{slice_cmp}
 use Rattle.std.specs.Ordering.{is_lt, nat_cmp}
 use Rattle.std.proofs.Common.{arith, ap, sym, subst, ◌∙◌}
@@ -7,7 +7,8 @@ use Rattle.std.proofs.lemmas.Bool.{eqb-true, not-false}
 use Rattle.std.proofs.lemmas.List.Sums.{get_or-le-sum_by, sum_by-append, sum_by-cons, sum_by-set}
 use Rattle.tv_ready.specs.Listed.{Listed, with_job}
 use Rattle.tv_idle.specs.declared.queues.Queues.{Queues}
-use Rattle.tv_idle.specs.Kept.{IsGrown, IsSame, faulty_in, faulty_of, live, queue_for, queues_of, trimmed}
+use Rattle.tv_idle.specs.Idles.{first_number}
+use Rattle.tv_idle.specs.Kept.{AreAllKept, IsGrown, IsSame, faulty_in, faulty_of, live, queue_for, queues_of, starts_gone, trimmed}
 
 branch : (b : Bool) (xs ys : List (ℕ × List ℕ)) (n : ℕ) → length xs ≡ n → length ys ≡ n → length (if b then xs else ys) ≡ n
 branch true xs ys n h k = h
@@ -74,6 +75,37 @@ pub none-stands : (qs : List Queues) (k : ℕ) → faulty_in qs ≡ 0 → (queue
 none-stands [] k h = refl
 none-stands (q ∷ qs) zero h = no-job q.faulty.jobs (let a = sum_by-cons faulty_of q qs in omega (arith, a, h))
 none-stands (q ∷ qs) (suc k) h = none-stands qs k (let a = sum_by-cons faulty_of q qs in omega (arith, a, h))
+
+-- where some stand, a step has a first one
+abbrev FirstOf : List Queues → Type 0
+FirstOf qs = (k : ℕ) × (j : ℕ × List ℕ) × (js : List (ℕ × List ℕ)) × ((queues_of qs k).faulty.jobs ≡ j ∷ js)
+
+here-or-further : (q : Queues) (qs : List Queues) → (1 ≤ faulty_in qs → FirstOf qs) → 1 ≤ faulty_in (q ∷ qs) → (js : List (ℕ × List ℕ)) → q.faulty.jobs ≡ js → FirstOf (q ∷ qs)
+here-or-further q qs further h [] e =
+    let a = sum_by-cons faulty_of q qs in
+    let l = ap length e in
+    let i = further (omega (arith, a, l, h)) in
+    (suc i.0, i.1, i.2, i.3)
+here-or-further q qs further h (j ∷ js) e = (zero, j, js, e)
+
+some-stand : (qs : List Queues) → 1 ≤ faulty_in qs → FirstOf qs
+some-stand [] h = absurd (omega (arith, h))
+some-stand (q ∷ qs) h = here-or-further q qs (some-stand qs) h q.faulty.jobs refl
+
+-- it hasn't gone
+first-live : (gone : ℕ → Bool) (ks : List (ℕ × List ℕ)) (j : ℕ × List ℕ) (js : List (ℕ × List ℕ)) → ks ≡ j ∷ js → starts_gone gone ks ≡ false → first_number (live gone ks) ≡ Some j.0
+first-live gone ks j js e h =
+    ap (λ l. first_number (live gone l)) e
+    ∙ ap (λ b. first_number (if not b then j ∷ live gone js else live gone js)) (ap (starts_gone gone) (sym e) ∙ h)
+
+pub some-first : (gone : ℕ → Bool) (known : ℕ) (qs : List Queues) → AreAllKept gone known qs → 1 ≤ faulty_in qs → (k : ℕ) × (n : ℕ) × (first_number (live gone (queues_of qs k).faulty.jobs) ≡ Some n)
+some-first gone known qs kept h =
+    let f = some-stand qs h in
+    (f.0, f.1.0, first-live gone (queues_of qs f.0).faulty.jobs f.1 f.2 f.3 (kept.each f.0).faulty.front)
+
+pub some-counted : (f n : ℕ) → f ≡ n → not (f == 0) ≡ true → 1 ≤ n
+some-counted zero n e h = cc
+some-counted (suc f) n e h = omega (arith, e)
 
 pub none-live : (gone : ℕ → Bool) (js : List (ℕ × List ℕ)) → js ≡ [] → live gone js ≡ []
 none-live gone js e = ap (live gone) e

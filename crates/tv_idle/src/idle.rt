@@ -1,5 +1,5 @@
 //! The idle jobs of an instance.
-ghost use Rattle.std.specs.Prelude.{◌≡◌, ◌^◌, ◌+◌, ◌-◌, ◌<◌, ◌++◌, ◌∷◌, [], cond, false, length, true, slice_set, ℕ, OnErr, OnOk};
+ghost use Rattle.std.specs.Prelude.{◌≡◌, ◌^◌, ◌+◌, ◌-◌, ◌<◌, ◌++◌, ◌∷◌, [], cond, false, length, true, slice_set, ℕ, OnErr, OnOk, Some};
 ghost use Rattle.tv_idle.specs.Kept.{IsEmpty};
 ghost use Rattle.tv_idle.specs.Idles.{first_after, first_number, first_of, has_some, is_idle, is_idle_at, none_idle, of_step, room_for, with_idle, with_rooms_of, without};
 
@@ -45,10 +45,12 @@ fn empty_queues(alloc: Global, spare: Option<Queues>, levels: usize) -> Queues
     ensures good { IsEmpty levels result.good }
     ensures faulty { IsEmpty levels result.faulty }
 {
-    match spare {
-        Some(queues) => queues.emptied(levels),
+    let mut queues = match spare {
+        Some(queues) => queues,
         None => Queues::new(alloc, levels),
-    }
+    };
+    queues.restart(levels);
+    queues
 }
 
 impl Idle {
@@ -88,8 +90,9 @@ impl Idle {
         ensures known { self.new.known ≡ self.old.known }
         ensures room { self.new.room ≡ self.old.room }
     {
+        self.queues.reserve(1)?;
         let queues = empty_queues(alloc, self.spare.pop(), levels);
-        self.queues.push(queues)?;
+        self.queues.push_reserved(queues);
         Ok(())
     }
 
@@ -189,6 +192,8 @@ impl Idle {
     /// Whether any step has an idle job that binds a fault. Constant.
     pub fn has_faulty(&self) -> bool
         ensures none { result ≡ false → (step : ℕ) → (of_step self.now.steps step).faulty ≡ [] }
+        ensures some { result ≡ true → (step : ℕ) × (number : ℕ)
+            × (first_number (of_step self.now.steps step).faulty ≡ Some number) }
     {
         self.faulty != 0
     }

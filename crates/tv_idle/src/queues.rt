@@ -30,16 +30,13 @@ impl Queues {
         }
     }
 
-    /// The same memory without jobs, with places of so many indices. Takes no memory.
-    pub(crate) fn emptied(self, levels: usize) -> Queues
-        ensures good { IsEmpty levels result.good }
-        ensures faulty { IsEmpty levels result.faulty }
+    /// No jobs from now on, with places of so many indices, in the same memory. Takes no memory.
+    pub(crate) fn restart(&mut self, levels: usize)
+        ensures good { IsEmpty levels self.new.good }
+        ensures faulty { IsEmpty levels self.new.faulty }
     {
-        let Queues { good, faulty } = self;
-        Queues {
-            good: good.emptied(levels),
-            faulty: faulty.emptied(levels),
-        }
+        self.good.restart(levels);
+        self.faulty.restart(levels);
     }
 
     /// Takes the room for so many more of each.

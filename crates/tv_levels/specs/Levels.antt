@@ -1,5 +1,5 @@
 -- The lists and passed faults of an instance's steps: where they stand, how long a list is, and which leaf a fault came from.
-use Rattle.std.specs.Prelude.{◌≡◌, ◌<◌, ℕ, List, Option, Some, None, drop, length, slice_get}
+use Rattle.std.specs.Prelude.{◌≡◌, ◌<◌, ℕ, Bool, true, List, Option, Some, None, drop, length, slice_get}
 use Rattle.tv_value.specs.Nested.{Place, at, count, leaf, list}
 use Rattle.tv_value.specs.Values.{ErrorDoc, Name, fault}
 use Rattle.tv_flow.specs.Flows.{Flow, Step}
@@ -57,6 +57,18 @@ pub record Fit (flow : Flow) (fs : List StepMeaning) (ls : List Level) : Type 0 
       (l : Level) (s : Name × Step) (f : StepMeaning) → In l ls
       → slice_get flow.steps l.step ≡ Some s → In f fs
       → f.step ≡ s.0 → FitsThere s.1 f l.place l.what (at f.iteration l.place)
+
+-- a passed fault came from one that is known
+abbrev pub IsFromKnown : (Origin → Bool) → Step → StepMeaning → Place → What → Type 0
+IsFromKnown known s f q w =
+    (k : ℕ) → w ≡ came k → (m : Option Mark) (c : CameFrom s f q k m) → known c.origin ≡ true
+
+-- so it is of each passed fault among these levels
+abbrev pub FaultsAreKnown : (Origin → Bool) → Flow → List StepMeaning → List Level → Type 0
+FaultsAreKnown known flow fs ls =
+    (l : Level) (s : Name × Step) (f : StepMeaning) → In l ls
+    → slice_get flow.steps l.step ≡ Some s → In f fs
+    → f.step ≡ s.0 → IsFromKnown known s.1 f l.place l.what
 
 -- that one is there
 pub record IsAmong (ls : List Level) (n : ℕ) (q : Place) : Type 0 where

@@ -2,7 +2,7 @@
 use Rattle.std.specs.Prelude.{◌≡◌, refl, ℕ, ◌<◌, ◌&&◌, ◌||◌, ◌++◌, ◌∷◌, [], Bool, false, List, None, Option, Some, length, map, slice_get, true}
 use Rattle.std.specs.Cmp.Lexicographic.{bytes_decides}
 use Rattle.std.proofs.Common.{inl, sym, ap, subst, ◌∙◌}
-use Rattle.std.proofs.lemmas.Bool.{and_parts, true≢false}
+use Rattle.std.proofs.lemmas.Bool.{and_parts, or_right, true≢false}
 use Rattle.std.proofs.lemmas.Option.{same_Some, slice_get_within}
 use Rattle.tv_lemmas.proofs.Cases.{on_either}
 use Rattle.tv_value.specs.Nested.{Place, at, leaf, list}
@@ -26,7 +26,7 @@ use Rattle.tv_instance.specs.Events as events
 use Rattle.tv_instance.specs.Events.{Event, Events, Extends, event_place, event_step, fault_set, gave, has_level, known_by, levels_at, took}
 use Rattle.tv_instance.specs.Wholeness.{all_whole, is_whole, origin_at}
 use Rattle.tv_instance.proofs.OfRising.{whole-inside}
-use Rattle.tv_instances.proofs.OfEvents.{level-known}
+use Rattle.tv_instances.proofs.OfEvents.{hits, level-known, one-more as one-known}
 use Rattle.tv_framing.specs.Answers.{has_ended_now, is_settlement}
 use Rattle.tv_framing.specs.Frames.{Comes}
 use Rattle.tv_framing.specs.Views.{AreOfDepth, View, steps_with}
@@ -34,7 +34,7 @@ use Rattle.tv_framing.proofs.OfArriving.{extends-parts}
 use Rattle.tv_framing.proofs.OfEndings.{whole-in_all}
 use Rattle.tv_drawn.specs.Steps.{IsStepAt}
 use Rattle.tv_turn.proofs.OfRanks.{number-of}
-use Rattle.tv_levels.specs.Levels.{Fit, FitsThere, IsAmong, IsNoJob, Level}
+use Rattle.tv_levels.specs.Levels.{FaultsAreKnown, Fit, FitsThere, IsAmong, IsFromKnown, IsNoJob, Level}
 use Rattle.tv_frame.specs.declared.frame.Frame.{Frame}
 use Rattle.tv_frame.specs.Kept.{AreOuts, Keeps}
 use Rattle.tv_frame.specs.LastLevels.{IsLevelOf}
@@ -58,14 +58,15 @@ kept-so f g is js ds es ls a b c k =
 moved : (v w : View) (es : Events) (ls : List Level) → w.flow ≡ v.flow → w.inputs ≡ v.inputs → w.events ≡ es
     → AreKept (record v { events = es }) ls → AreKept w ls
 moved v w es ls flow inputs events k =
-    let x = kept-so v.flow w.flow v.inputs w.inputs es w.events ls flow inputs events (record { fit = k.fit; all = k.all }) in
-    record { fit = x.fit; all = x.all }
+    let x = kept-so v.flow w.flow v.inputs w.inputs es w.events ls flow inputs events (record { fit = k.fit; faults = k.faults; all = k.all }) in
+    record { fit = x.fit; faults = x.faults; all = x.all }
 
 -- ---- at the start
 
 pub none-kept : (v : View) → v.events ≡ [] → AreKept v []
 none-kept v untold = record {
   fit = λ instance results depth x. record { of_step = λ l i. absurd i; there = λ l s f i. absurd i };
+  faults = λ instance results depth x l s f i. absurd i;
   all = λ n s q at h. absurd (true≢false (sym h ∙ ap (λ es. has_level es s.0 q) untold));
 }
 
@@ -94,12 +95,17 @@ module _ (v : View) (ls : List Level) (k : AreKept v ls) (e : Event) where
   older : (results : Results) → Extends results es → Extends results v.events
   older results x = (extends-parts results e v.events x).1
 
+  later-known : (instance : JobName) (o : Origin) → known_by instance v.events o ≡ true → known_by instance es o ≡ true
+  later-known instance o h = one-known instance e v.events o ∙ or_right (hits instance e o) (known_by instance v.events o) h
+
   -- one that settles nothing
   pub still-kept : (w : View) (more : ℕ) → Comes v w e more → is_settlement e ≡ false → AreKept w ls
   still-kept w more c none =
       moved v w es ls c.flow c.inputs c.events
       (record {
         fit = λ instance results depth x. k.fit instance results depth (older results x);
+        faults = λ instance results depth x l s f i here among name a w m c.
+            later-known instance c.origin (k.faults instance results depth (older results x) l s f i here among name a w m c);
         all = λ n s q at h. k.all n s q at (untold e s.0 q (has_level v.events s.0 q) none h);
       })
 
@@ -138,6 +144,26 @@ module _ (v : View) (ls : List Level) (k : AreKept v ls) (e : Event) where
             (subst (λ (y : StepMeaning). FitsThere s.1 y l.place l.what (at y.iteration l.place)) (sym g.2)
             (fits g.0 g.1 (ap (λ (y : StepMeaning). y.step) (sym g.2) ∙ name ∙ ap (λ (y : Name × Step). y.0) own))))
 
+    faults-more : (instance : JobName) (results : Results) → AreOfDepth v instance results → Extends results es
+        → FaultsAreKnown (known_by instance es) v.flow (map step_of (steps_with v instance results)) one-more
+    faults-more instance results depth x m t f i here among name a w p c =
+        later-known instance c.origin
+        (on_either (in-append m ls (l ∷ []) i) (λ j. k.faults instance results depth (older results x) m t f j here among name a w p c)
+        (λ j. on_either j
+        (λ same. new (steps_with v instance results) (is.known instance results depth (older results x)) m same t here f among name a w p c) (λ z. absurd z)))
+      where
+        new : (fs : List InstanceStep)
+            → ((g : InstanceStep) → In g fs → g.step.step ≡ s.0 → IsFromKnown (known_by instance v.events) s.1 g.step l.place l.what)
+            → (m : Level) → m ≡ l → (t : Name × Step) → slice_get v.flow.steps m.step ≡ Some t → (f : StepMeaning)
+            → In f (map step_of fs) → f.step ≡ t.0 → IsFromKnown (known_by instance v.events) t.1 f m.place m.what
+        new fs knows m same t here f among name =
+            let own : t ≡ s = same_Some t s (sym here ∙ ap (slice_get v.flow.steps) (ap (λ (y : Level). y.step) same ∙ is.of_step) ∙ at_n) in
+            let g = of-map step_of f fs among in
+            subst (λ (u : Step). IsFromKnown (known_by instance v.events) u f m.place m.what) (sym (ap (λ (y : Name × Step). y.1) own))
+            (subst (λ (y : Level). IsFromKnown (known_by instance v.events) s.1 f y.place y.what) (sym same)
+            (subst (λ (y : StepMeaning). IsFromKnown (known_by instance v.events) s.1 y l.place l.what) (sym g.2)
+            (knows g.0 g.1 (ap (λ (y : StepMeaning). y.step) (sym g.2) ∙ name ∙ ap (λ (y : Name × Step). y.0) own))))
+
     among-more : (m : ℕ) (t : Name × Step) (q : Place) → IsStepAt v m t → has_level es t.0 q ≡ true → IsAmong one-more m q
     among-more m t q here h = by (levels_at t.0 q e) refl h
       where
@@ -155,7 +181,7 @@ module _ (v : View) (ls : List Level) (k : AreKept v ls) (e : Event) where
             record { level = o.level; among = in-left o.level ls (l ∷ []) o.among; of_step = o.of_step; place = o.place }
 
     pub kept-more : (w : View) (more : ℕ) → Comes v w e more → AreKept w one-more
-    kept-more w more c = moved v w es one-more c.flow c.inputs c.events (record { fit = fits-more; all = among-more })
+    kept-more w more c = moved v w es one-more c.flow c.inputs c.events (record { fit = fits-more; faults = faults-more; all = among-more })
 
 -- ---- at the end
 

@@ -66,6 +66,13 @@ impl Levels {
         }
     }
 
+    /// What was settled so far. Takes no memory.
+    pub(crate) fn settled(&self) -> &[Level]
+        ensures { map level_view result.now ≡ self.now.settled }
+    {
+        self.settled.as_slice()
+    }
+
     /// What was settled. Takes no memory.
     pub(crate) fn finish(self) -> Vec<Level>
         ensures { map level_view result.items ≡ self.settled }

@@ -12,6 +12,7 @@ ghost use Rattle.tv_framing.specs.Answers.{AreInputs, after_of};
 ghost use Rattle.tv_framing.specs.Views.{View};
 ghost use Rattle.tv_drawn.specs.Steps.{IsStepAt};
 ghost use Rattle.tv_frame.specs.Tables.{levels_in};
+ghost use Rattle.tv_levels.specs.Views.{level_view};
 ghost use Rattle.tv_seats.specs.Seats.{Seat, out_count, place_at, stage_at, step_at};
 ghost use Rattle.tv_seated.specs.Seated.{spot_of};
 ghost use Rattle.tv_open.specs.Standing.{IsOpen};
@@ -20,6 +21,7 @@ use crate::open::Open;
 use std::alloc::Global;
 use tv_cell::Pieces;
 use tv_check::FlowPlan;
+use tv_levels::Level;
 use tv_outputs::Nodes;
 use tv_seats::Stage;
 use tv_value::{Items, NoMemory, Value};
@@ -62,6 +64,13 @@ impl Open {
         self.seats.place(number)
     }
 
+    /// The lists that were closed and the faults that were passed so far. Constant. Takes no memory.
+    pub fn levels(&self) -> &[Level]
+        ensures { map level_view result.now ≡ self.now.levels.settled }
+    {
+        self.levels.settled()
+    }
+
     /// Whether the steps have ended that a step runs after.
     pub fn may_settle(&self, plan: &FlowPlan, pool: &Nodes, step: u32) -> bool
         requires { (d : Document) × (v : View)
@@ -75,7 +84,8 @@ impl Open {
         self.frame.may_settle(plan, pool, step)
     }
 
-    /// The values that a known job binds, as pieces, in byte order of the ports. Linear in the ports and the indices of its place.
+    /// The values that a known job binds, as pieces, in byte order of the ports. Linear in the ports and the indices of its place, and
+    /// in the pieces of lists that it binds.
     pub fn inputs(
         &self,
         alloc: Global,

@@ -31,7 +31,7 @@ use tv_check::FlowPlan;
 use tv_frame::{FlowTables, Frame};
 use tv_levels::Level;
 use tv_outputs::Nodes;
-use tv_seats::Seats;
+use tv_seats::{Seats, Table};
 use tv_value::NoMemory;
 
 /// An open instance of a flow.
@@ -91,7 +91,7 @@ impl Open {
 
     /// The instance of a plan's flow on its inputs, told nothing, in a region that is new in the pool, in the place and in the
     /// memory of one that has ended, or of none. Takes the flow's tables, which it shares. Linear in the flow and in the
-    /// inputs. A refusal leaves the pool's regions as they were, and it is of no instance then.
+    /// inputs. A refusal leaves the pool's regions as they were.
     pub fn start(
         &mut self,
         alloc: Global,
@@ -110,7 +110,7 @@ impl Open {
         ensures kept { OnOk result (KeepsRegions pool.old pool.new (number_of self.new.frame.region)) }
         ensures refused { OnErr result (SameRegions pool.old pool.new) }
     {
-        self.seats = Seats::start(alloc, tables.levels())?;
+        self.seats.start(alloc, tables.levels())?;
         self.levels = Levels::new(alloc);
         self.frame.start(plan, tables, inputs, pool)?;
         match self.seat_first(plan) {
@@ -161,7 +161,7 @@ impl Open {
 
     /// Gives the outputs of an instance that has ended with its jobs' seats and its levels, and releases its region: from then
     /// on it is of no instance. Takes no memory.
-    pub fn finish(&mut self, alloc: Global, pool: &mut Nodes) -> (Pieces, Seats, Vec<Level>)
+    pub fn finish(&mut self, alloc: Global, pool: &mut Nodes) -> (Pieces, Table, Vec<Level>)
         requires ended { (d : Document) × (plan : ThePlan) × (v : View)
             × IsOpen d plan pool.old self.old v × (has_ended_now (levels_in v.flow) v ≡ true) }
         ensures outputs { (d : Document) (plan : ThePlan) (v : View)
@@ -175,7 +175,7 @@ impl Open {
             ≡ regions_with pool.old (number_of self.old.frame.region) None }
     {
         let outs = self.frame.finish(pool);
-        let seats = mem::replace(&mut self.seats, Seats::none(alloc));
+        let seats = self.seats.finish(alloc);
         let levels = mem::replace(&mut self.levels, Levels::new(alloc));
         (outs, seats, levels.finish())
     }

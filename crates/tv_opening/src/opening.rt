@@ -1,7 +1,8 @@
 ghost use Rattle.std.specs.List.{list_all, list_any};
-ghost use Rattle.std.specs.Prelude.{◌≡◌, ◌<◌, [], IfOk, is_some, length, map};
+ghost use Rattle.std.specs.Prelude.{◌≡◌, ◌<◌, List, [], IfOk, is_some, length, map};
 ghost use Rattle.tv_value.specs.Nested.{list, no_trees};
 ghost use Rattle.tv_value.specs.Strategies.{Strategy};
+ghost use Rattle.tv_value.specs.Values.{Value, holds_fault};
 ghost use Rattle.tv_value.specs.Views.{view};
 ghost use Rattle.tv_cell.specs.PieceValues.{piece_value};
 ghost use Rattle.tv_strategy.specs.Sources.{Each};
@@ -21,25 +22,34 @@ use tv_telling::tellings_of;
 use tv_value::{NoMemory, Place};
 use tv_wires::{NumberedFeed, NumberedLink, Port};
 
-/// What a port is told when an instance opens on these inputs of its flow, in their order. `fixed` is the port's constant, where
-/// its feed is one.
+/// What a port is told when an instance opens on these inputs of its flow, in their order, each of which is said to hold a fault or
+/// none. `fixed` is the port's constant, where its feed is one.
 ///
-/// Linear in the levels of the values that the port walks, and in the links of a merge. Whether a value that it takes whole
-/// holds a fault is looked up once.
+/// Linear in the levels of the values that the port walks, and in the links of a merge. Where an input that it walks holds a fault,
+/// what stands at the end of the walk is asked for faults; no other value is.
 pub fn port_start(
     alloc: Global,
     inputs: &[Piece],
+    faulty: &[bool],
     port: &Port,
     fixed: Option<&Cell>,
 ) -> Result<Tolds, NoMemory>
-    requires { IsFedFrom (length inputs.now) (is_some fixed) port.now.feed }
+    requires fed { IsFedFrom (length inputs.now) (is_some fixed) port.now.feed }
+    requires faulty { faulty.now ≡ map holds_fault (map piece_value inputs.now) }
     ensures { IfOk result (λ ts. AreTellings ts (λ s. numbered_port_start (map piece_value inputs.now) (fixed_in fixed.entry) s port.now)) }
 {
     match &port.feed {
-        NumberedFeed::Link(link) => link_start(alloc, inputs, port.leaf, port.levels, None, link),
-        NumberedFeed::Merge(links) => {
-            merge_start(alloc, inputs, port.leaf, port.levels, links.as_slice())
+        NumberedFeed::Link(link) => {
+            link_start(alloc, inputs, faulty, port.leaf, port.levels, None, link)
         }
+        NumberedFeed::Merge(links) => merge_start(
+            alloc,
+            inputs,
+            faulty,
+            port.leaf,
+            port.levels,
+            links.as_slice(),
+        ),
         NumberedFeed::Constant => match fixed {
             Some(cell) => fixed_start(alloc, port.leaf, port.levels, cell),
             None => unreachable!(),
@@ -51,9 +61,10 @@ pub fn port_start(
 fn fixed_start(alloc: Global, leaf: u32, levels: u32, cell: &Cell) -> Result<Tolds, NoMemory>
     ensures { IfOk result (λ ts. AreTellings ts (λ s. value_told (leaf_name s leaf) levels [] (view cell.now))) }
 {
+    let faulty = cell.holds_fault();
     let cell = cell.share()?;
     let piece = Piece::Part(cell, Path::top(alloc));
-    tellings_of(alloc, leaf, levels, None, &piece)
+    tellings_of(alloc, leaf, levels, None, &piece, faulty)
 }
 
 /// What a port is told of a link, of which it walks so many levels: all of an input. Where the port merges links, the value stands at
@@ -61,17 +72,20 @@ fn fixed_start(alloc: Global, leaf: u32, levels: u32, cell: &Cell) -> Result<Tol
 fn link_start(
     alloc: Global,
     inputs: &[Piece],
+    faulty: &[bool],
     leaf: u32,
     levels: u32,
     item: Option<u32>,
     link: &NumberedLink,
 ) -> Result<Tolds, NoMemory>
-    requires { IsInput (length inputs.now) link.now }
+    requires input { IsInput (length inputs.now) link.now }
+    requires faulty { faulty.now ≡ map holds_fault (map piece_value inputs.now) }
     ensures { IfOk result (λ ts. AreTellings ts (λ s. numbered_link_start (map piece_value inputs.now) (list tt no_trees) (leaf_name s leaf) levels (place_of_item item) link.now)) }
 {
     match link {
         NumberedLink::Input(input) => {
-            tellings_of(alloc, leaf, levels, item, &inputs[*input as usize])
+            let piece = &inputs[*input as usize];
+            tellings_of(alloc, leaf, levels, item, piece, faulty[*input as usize])
         }
         NumberedLink::Output(_, _) => Ok(Tolds::of(Vec::new(alloc))),
     }
@@ -81,16 +95,18 @@ fn link_start(
 fn merge_start(
     alloc: Global,
     inputs: &[Piece],
+    faulty: &[bool],
     leaf: u32,
     levels: u32,
     links: &[NumberedLink],
 ) -> Result<Tolds, NoMemory>
     requires inputs { Each (IsInput (length inputs.now)) links.now }
     requires few { length links.now < 4294967296 }
+    requires faulty { faulty.now ≡ map holds_fault (map piece_value inputs.now) }
     ensures { IfOk result (λ ts. AreTellings ts (λ s. numbered_feed_start (map piece_value inputs.now) (list tt no_trees) (leaf_name s leaf) levels (Merge links.now))) }
 {
     if levels == 0 {
-        return whole_merge_start(alloc, inputs, leaf, links);
+        return whole_merge_start(alloc, faulty, leaf, links);
     }
     let mut tellings = Vec::new(alloc);
     tellings.push(Told::Close {
@@ -99,7 +115,8 @@ fn merge_start(
         length: links.len() as u32,
     })?;
     for (index, link) in links.iter().enumerate() {
-        let told = link_start(alloc, inputs, leaf, levels - 1, Some(index as u32), link)?;
+        let item = Some(index as u32);
+        let told = link_start(alloc, inputs, faulty, leaf, levels - 1, item, link)?;
         tellings.append(&mut told.into_vec())?;
     }
     Ok(Tolds::of(tellings))
@@ -108,16 +125,17 @@ fn merge_start(
 /// What a port is told of a merge that it takes whole: that it is there, where all links are inputs.
 fn whole_merge_start(
     alloc: Global,
-    inputs: &[Piece],
+    faulty: &[bool],
     leaf: u32,
     links: &[NumberedLink],
 ) -> Result<Tolds, NoMemory>
-    requires { Each (IsInput (length inputs.now)) links.now }
-    ensures { IfOk result (λ ts. AreTellings ts (λ s. numbered_feed_start (map piece_value inputs.now) (list tt no_trees) (leaf_name s leaf) 0 (Merge links.now))) }
+    requires { Each (IsInput (length faulty.now)) links.now }
+    ensures { (values : List Value) → faulty.now ≡ map holds_fault values
+        → IfOk result (λ ts. AreTellings ts (λ s. numbered_feed_start values (list tt no_trees) (leaf_name s leaf) 0 (Merge links.now))) }
 {
     let mut tellings = Vec::new(alloc);
     if are_inputs(links) {
-        tellings.push(bound(alloc, leaf, some_faulty(inputs, links)))?;
+        tellings.push(bound(alloc, leaf, some_faulty(faulty, links)))?;
     }
     Ok(Tolds::of(tellings))
 }
@@ -157,22 +175,25 @@ fn are_inputs(links: &[NumberedLink]) -> bool
     true
 }
 
-fn is_faulty(inputs: &[Piece], link: &NumberedLink) -> bool
-    requires { IsInput (length inputs.now) link.now }
-    ensures { result ≡ numbered_input_faulty (map piece_value inputs.now) (list tt no_trees) link.now }
+/// Whether a link is an input that holds a fault.
+fn is_faulty(faulty: &[bool], link: &NumberedLink) -> bool
+    requires { IsInput (length faulty.now) link.now }
+    ensures { (values : List Value) → faulty.now ≡ map holds_fault values
+        → result ≡ numbered_input_faulty values (list tt no_trees) link.now }
 {
     match link {
-        NumberedLink::Input(input) => inputs[*input as usize].holds_fault(),
+        NumberedLink::Input(input) => faulty[*input as usize],
         NumberedLink::Output(_, _) => false,
     }
 }
 
-fn some_faulty(inputs: &[Piece], links: &[NumberedLink]) -> bool
-    requires { Each (IsInput (length inputs.now)) links.now }
-    ensures { result ≡ list_any (numbered_input_faulty (map piece_value inputs.now) (list tt no_trees)) links.now }
+fn some_faulty(faulty: &[bool], links: &[NumberedLink]) -> bool
+    requires { Each (IsInput (length faulty.now)) links.now }
+    ensures { (values : List Value) → faulty.now ≡ map holds_fault values
+        → result ≡ list_any (numbered_input_faulty values (list tt no_trees)) links.now }
 {
     for link in links {
-        if is_faulty(inputs, link) {
+        if is_faulty(faulty, link) {
             return true;
         }
     }

@@ -1,8 +1,8 @@
 -- What is told with an event, output by output and way by way.
-use Rattle.std.specs.Prelude.{◌≡◌, ℕ, zero, suc, ◌+◌, ◌<◌, List, [], ◌∷◌, ◌++◌, flat_map, map, take, length, slice_get, unwrap_or, Some, refl}
+use Rattle.std.specs.Prelude.{◌≡◌, ℕ, zero, suc, ◌+◌, ◌<◌, List, [], ◌∷◌, ◌++◌, flat_map, map, take, length, slice_get, unwrap_or, false, Some, refl}
 use Rattle.std.proofs.Common.{arith, get_or, ap, sym, ◌∙◌, append_assoc, append-nil}
 use Rattle.tv_value.specs.Nested.{Place, list, no_trees}
-use Rattle.tv_value.specs.Values.{Name}
+use Rattle.tv_value.specs.Values.{Name, holds_fault}
 use Rattle.tv_strategy.specs.Sources.{Each}
 use Rattle.tv_cell.specs.PieceValues.{piece_value}
 use Rattle.tv_cell.specs.declared.piece.Piece.{Piece}
@@ -22,6 +22,10 @@ got f (y ∷ xs) (suc i) d h = got f xs i d (omega arith)
 -- of what a job gave at an output
 pub given-there : (p : Name) (k : ℕ) (q : Place) (ps : List Piece) (o : ℕ) (d : Piece) → o < length ps → value_told p k q (piece_value (get_or ps o d)) ≡ value_told p k q (unwrap_or (slice_get (map piece_value ps) o) (list tt no_trees))
 given-there p k q ps o d h = ap (λ v. value_told p k q (unwrap_or v (list tt no_trees))) (sym (got piece_value ps o d h))
+
+-- and that holds no fault where the event says so
+pub none-given : (ps : List Piece) (o : ℕ) (d : Piece) → o < length ps → holds_fault (unwrap_or (slice_get (map piece_value ps) o) (list tt no_trees)) ≡ false → holds_fault (piece_value (get_or ps o d)) ≡ false
+none-given ps o d h e = ap (λ v. holds_fault (unwrap_or v (list tt no_trees))) (sym (got piece_value ps o d h)) ∙ e
 
 -- one more of a list
 pub flat-step : {X T : Type 0} (f : X → List T) (xs : List X) (i : ℕ) (d : X) → i < length xs → flat_map f (take i xs) ++ f (get_or xs i d) ≡ flat_map f (take (i + 1) xs)

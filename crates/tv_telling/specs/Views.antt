@@ -1,7 +1,8 @@
 -- The ways and events of the code, as the definitions have them.
-use Rattle.std.specs.Prelude.{get_or, [], ◌≡◌, ℕ, ◌<◌, List, ◌++◌, length, map, slice_get, unwrap_or}
+use Rattle.std.specs.Prelude.{get_or, [], ◌≡◌, ℕ, ◌<◌, ◌≤◌, false, List, ◌++◌, length, map, slice_get, unwrap_or}
 use Rattle.tv_value.specs.Nested.{list, no_trees}
 use Rattle.tv_value.specs.Strategies.{Strategy}
+use Rattle.tv_value.specs.Values.{holds_fault}
 use Rattle.tv_matching.specs.Matchers.{leaf_name}
 use Rattle.tv_matching.specs.Told.{Told}
 use Rattle.tv_match.specs.declared.told.Told as code
@@ -21,14 +22,24 @@ HasPiece (Gave ps) k = k < length ps.now
 HasPiece (Closed n) k = Unit {0}
 HasPiece Passed k = Unit {0}
 
-abbrev pub HasOutput : Event → ℕ → Type 0
-HasOutput e k = (k < length e.faults.now) × HasPiece e.happened k
-
 -- as the k-th output has it
 abbrev pub happening : Happened → ℕ → Happening
 happening (Gave ps) k = gave (unwrap_or (slice_get (map piece_value ps.now) k) (list tt no_trees))
 happening (Closed n) k = closed n
 happening Passed k = passed
+
+-- no value came that holds a fault
+abbrev pub IsFaultless : Happening → Type 0
+IsFaultless (gave w) = holds_fault w ≡ false
+IsFaultless (closed n) = Unit {0}
+IsFaultless passed = Unit {0}
+
+-- there is such an output, and no value came at it that holds a fault where none is counted at the event's own place
+pub record HasOutput (e : Event) (k : ℕ) : Type 0 where
+  pub counted : k < length e.faults.now
+  pub piece : HasPiece e.happened k
+  pub faultless : get_or e.faults.now k 0 ≤ length e.place.now
+      → IsFaultless (happening e.happened k)
 
 -- what the port at the end of a way is told with an event
 abbrev pub way_tellings : Strategy → Event → Way → List Told

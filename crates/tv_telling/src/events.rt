@@ -1,8 +1,9 @@
-ghost use Rattle.std.specs.Prelude.{◌≡◌, ◌++◌, ◌-◌, ◌<◌, ◌∷◌, [], IfOk, OnOk, flat_map, map};
+ghost use Rattle.std.specs.Prelude.{◌≡◌, ◌++◌, ◌-◌, ◌<◌, ◌∷◌, [], IfOk, OnOk, false, flat_map, map};
+ghost use Rattle.tv_value.specs.Values.{holds_fault};
 ghost use Rattle.tv_cell.specs.PieceValues.{piece_value};
 ghost use Rattle.tv_strategy.specs.Sources.{Each};
 ghost use Rattle.tv_matching.specs.Matchers.{leaf_name};
-ghost use Rattle.tv_telling.specs.Views.{AddsTellings, AreTellings, HasOutput, HasPiece, happening, way_tellings, whole_telling};
+ghost use Rattle.tv_telling.specs.Views.{AddsTellings, AreTellings, HasOutput, HasPiece, IsFaultless, happening, way_tellings, whole_telling};
 ghost use Rattle.tv_telling.specs.ValueTellings.{value_told};
 ghost use Rattle.tv_telling.specs.WayTellings.{place_of_item, told_there};
 
@@ -17,8 +18,10 @@ use tv_value::NoMemory;
 /// What the ports at the ends of these ways are told with an event, way by way, and then that those ports, which take their
 /// values whole, have them.
 ///
-/// Linear in the ways and in the tellings. Of a value that a job gave, only the levels are looked at that are walked. What was
-/// told before goes, and its memory is room for these; so is that of the place.
+/// Linear in the ways and in the tellings. Of a value that a job gave, only the levels are looked at that are walked; where the
+/// event counts a fault at its place, for each way whose walk ends below it what stands at that end is asked for faults too, linear
+/// in its pieces, and in parts of values with faults. What was told before goes, and its memory is room for these; so is that of
+/// the place.
 pub fn tellings_with(
     alloc: Global,
     ways: &[Way],
@@ -41,15 +44,19 @@ pub fn tellings_with(
     Ok(Tolds::of(tellings))
 }
 
-/// What a port is told of a value that is known throughout, of which it walks so many levels. Where the port merges links,
-/// the value stands at the link's number.
+/// What a port is told of a value that is known throughout, of which it walks so many levels, and which is said to hold a fault or
+/// none. Where the port merges links, the value stands at the link's number.
+///
+/// Linear in the tellings; where a value with a fault is walked, what stands at the end of the walk is asked for faults.
 pub fn tellings_of(
     alloc: Global,
     leaf: u32,
     levels: u32,
     item: Option<u32>,
     piece: &Piece,
+    faulty: bool,
 ) -> Result<Tolds, NoMemory>
+    requires { faulty ≡ holds_fault (piece_value piece.now) }
     ensures { IfOk result (λ ts. AreTellings ts (λ s. value_told (leaf_name s leaf) levels (place_of_item item) (piece_value piece.now))) }
 {
     let mut tellings = Vec::new(alloc);
@@ -57,12 +64,17 @@ pub fn tellings_of(
     if let Some(index) = item {
         place.push(index)?;
     }
+    if levels == 0 {
+        tell_bound(alloc, leaf, place.as_slice(), faulty, &mut tellings)?;
+        return Ok(Tolds::of(tellings));
+    }
     tell_piece(
         alloc,
         leaf,
         levels as usize,
         &mut place,
         piece,
+        faulty,
         &mut tellings,
     )?;
     Ok(Tolds::of(tellings))
@@ -84,6 +96,7 @@ fn tell_way(
         place.push(index)?;
     }
     let levels = way.levels as usize;
+    let faults = event.faults[way.output as usize];
     if levels > event.place.len() {
         place.extend_from_slice(event.place)?;
         return tell_there(
@@ -92,6 +105,7 @@ fn tell_way(
             levels - event.place.len(),
             place,
             &event.happened,
+            event.place.len() < faults,
             tellings,
         );
     }
@@ -99,8 +113,7 @@ fn tell_way(
         return Ok(());
     }
     place.extend_from_slice(&event.place[..levels])?;
-    let faulty = levels < event.faults[way.output as usize];
-    tell_bound(alloc, way.leaf, place.as_slice(), faulty, tellings)
+    tell_bound(alloc, way.leaf, place.as_slice(), levels < faults, tellings)
 }
 
 /// Tells the port of what happened at a place of its value, of which it walks so many levels more.
@@ -110,15 +123,17 @@ fn tell_there(
     levels: usize,
     place: &mut Vec<u32>,
     happened: &Happened,
+    faulty: bool,
     tellings: &mut Vec<Told>,
 ) -> Result<(), NoMemory>
-    requires { HasPiece happened.now way.now.output }
+    requires piece { HasPiece happened.now way.now.output }
+    requires faulty { faulty ≡ false → IsFaultless (happening happened.now way.now.output) }
     ensures { OnOk result (AddsTellings tellings.old.items tellings.new.items (λ s. told_there (leaf_name s way.now.leaf) levels place.old.items (happening happened.now way.now.output))) }
 {
     match happened {
         Happened::Gave(pieces) => {
             let piece = &pieces[way.output as usize];
-            tell_piece(alloc, way.leaf, levels, place, piece, tellings)
+            tell_piece(alloc, way.leaf, levels, place, piece, faulty, tellings)
         }
         Happened::Closed(length) => tell_list(
             alloc,

@@ -1,3 +1,4 @@
+ghost use Rattle.std.specs.List.{list_any};
 ghost use Rattle.std.specs.Prelude.{◌≡◌, OnOk, false, map};
 ghost use Rattle.tv_value.specs.Nested.{list, trees_of};
 ghost use Rattle.tv_value.specs.Values.{holds_fault};
@@ -13,7 +14,9 @@ use tv_cell::Piece;
 use tv_match::Told;
 use tv_value::{Items, NoMemory, Value};
 
-/// Tells a leaf of what a piece stands for, at a place of the port's value, of which it walks so many levels more.
+/// Tells a leaf of what a piece stands for, at a place of the port's value, of which it walks so many levels more. Where it is
+/// known to hold no fault no piece is asked for any, and the cost is that of the tellings. Else each piece at the end of the walk is
+/// asked whether it is the one: linear besides in the pieces of lists there, and in parts of values with faults.
 #[cycle(piece)]
 pub(crate) fn tell_piece(
     alloc: Global,
@@ -21,18 +24,21 @@ pub(crate) fn tell_piece(
     levels: usize,
     place: &mut Vec<u32>,
     piece: &Piece,
+    faulty: bool,
     tellings: &mut Vec<Told>,
 ) -> Result<(), NoMemory>
+    requires faulty { faulty ≡ false → holds_fault (piece_value piece.now) ≡ false }
     ensures told { OnOk result (AddsTellings tellings.old.items tellings.new.items (λ s. value_told (leaf_name s leaf) levels place.old.items (piece_value piece.now))) }
     ensures place { OnOk result (place.new.items ≡ place.old.items) }
 {
     if levels == 0 {
-        return tell_bound(alloc, leaf, place.as_slice(), piece.holds_fault(), tellings);
+        let faulty = faulty && piece.holds_fault();
+        return tell_bound(alloc, leaf, place.as_slice(), faulty, tellings);
     }
     match piece {
         Piece::Part(cell, start) => match cell.at(start) {
             Some(value) => {
-                let faulty = cell.holds_fault();
+                let faulty = faulty && cell.holds_fault();
                 tell_value(alloc, leaf, levels, place, value, faulty, tellings)
             }
             None => Ok(()),
@@ -40,7 +46,7 @@ pub(crate) fn tell_piece(
         Piece::List(pieces) => {
             let pieces = pieces.as_slice();
             tell_list(alloc, leaf, place.as_slice(), pieces.len(), tellings)?;
-            tell_pieces(alloc, leaf, levels - 1, place, pieces, tellings)
+            tell_pieces(alloc, leaf, levels - 1, place, pieces, faulty, tellings)
         }
         Piece::Fault(_, _, _) => tell_fault(alloc, leaf, place.as_slice(), tellings),
     }
@@ -54,15 +60,17 @@ fn tell_pieces(
     levels: usize,
     place: &mut Vec<u32>,
     pieces: &[Piece],
+    faulty: bool,
     tellings: &mut Vec<Told>,
 ) -> Result<(), NoMemory>
+    requires faulty { faulty ≡ false → list_any (λ p. holds_fault (piece_value p)) pieces.now ≡ false }
     ensures told { OnOk result (AddsTellings tellings.old.items tellings.new.items (λ s. values_told (leaf_name s leaf) levels place.old.items 0 (trees_of (map piece_value pieces.now)))) }
     ensures place { OnOk result (place.new.items ≡ place.old.items) }
 {
     tellings.reserve(pieces.len())?;
     for (index, piece) in pieces.iter().enumerate() {
         place.push(index_of(index)?)?;
-        tell_piece(alloc, leaf, levels, place, piece, tellings)?;
+        tell_piece(alloc, leaf, levels, place, piece, faulty, tellings)?;
         let _ = place.pop();
     }
     Ok(())

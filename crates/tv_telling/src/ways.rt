@@ -43,7 +43,8 @@ pub struct Event<'a> {
     /// The length of the shortest prefix of the place at which all becomes known with the event. Where nothing does, more than
     /// the length of the place.
     pub whole_from: usize,
-    /// For each output at how many prefixes of the place, from the empty one on, it holds a fault now.
+    /// For each output at how many prefixes of the place, from the empty one on, it holds a fault now: at more than the place has
+    /// indices where what a job gave holds one.
     pub faults: &'a [usize],
     pub happened: Happened<'a>,
 }

@@ -1,4 +1,5 @@
-ghost use Rattle.std.specs.Prelude.{◌≡◌, ◌∷◌, []};
+ghost use Rattle.std.specs.Prelude.{◌≡◌, ◌∷◌, [], IfOk};
+ghost use Rattle.tv_seats.specs.Seats.{new_seat};
 
 use std::alloc::Global;
 use std::fmt::Write;
@@ -65,9 +66,19 @@ fn tell(seats: &mut Seats, text: &mut String) -> Result<(), Fail>
     push_all(text, seats)
 }
 
+/// No seats, of steps whose places have so many indices.
+fn started(alloc: Global, levels: &[u32]) -> Result<Seats, Fail>
+    ensures seats { IfOk result (λ s. s.seats ≡ []) }
+    ensures levels { IfOk result (λ s. s.levels ≡ levels.now) }
+{
+    let mut seats = Seats::none(alloc);
+    seats.start(alloc, levels)?;
+    Ok(seats)
+}
+
 fn told(alloc: Global) -> Result<String, Fail> {
     let mut text = String::new(alloc);
-    let mut seats = Seats::start(alloc, &[0, 0])?;
+    let mut seats = started(alloc, &[0, 0])?;
     tell(&mut seats, &mut text)?;
     Ok(text)
 }
@@ -90,14 +101,24 @@ fn push_nested(text: &mut String, numbers: &[u32]) -> Result<(), Fail> {
     Ok(())
 }
 
-/// Three jobs of one step: two with open flows, and one with a flow next.
-fn told_nested(alloc: Global) -> Result<String, Fail> {
-    let mut text = String::new(alloc);
-    let mut seats = Seats::start(alloc, [1].as_slice())?;
+/// Three jobs of one step, which wait.
+fn three_seats(alloc: Global) -> Result<Seats, Fail>
+    ensures seats { IfOk result (λ s. s.seats ≡ new_seat 0 (2 ∷ []) ∷ new_seat 0 (0 ∷ [])
+        ∷ new_seat 0 (1 ∷ []) ∷ []) }
+    ensures levels { IfOk result (λ s. s.levels ≡ 1 ∷ []) }
+{
+    let mut seats = started(alloc, [1].as_slice())?;
     seats.reserve(3)?;
     let _ = seats.sit(0, &[2]);
     let _ = seats.sit(0, &[0]);
     let _ = seats.sit(0, &[1]);
+    Ok(seats)
+}
+
+/// Three jobs of one step: two with open flows, and one with a flow next.
+fn told_nested(alloc: Global) -> Result<String, Fail> {
+    let mut text = String::new(alloc);
+    let mut seats = three_seats(alloc)?;
     seats.reserve_nested(0)?;
     seats.nest(0, 7);
     seats.reserve_nested(0)?;

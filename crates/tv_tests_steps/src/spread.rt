@@ -2,8 +2,9 @@
 ghost use Rattle.std.specs.Prelude.{◌≡◌, ◌∷◌, ◌<◌, [], length, IfOk, OnOk};
 ghost use Rattle.tv_value.specs.Strategies.{port};
 ghost use Rattle.tv_value.specs.Views.{strategy_view};
-ghost use Rattle.tv_pool.specs.Pool.{IsLive};
+ghost use Rattle.tv_pool.specs.Pool.{IsLive, number_of};
 ghost use Rattle.tv_pool.specs.declared.handles.Region.{Region as InRegion};
+ghost use Rattle.tv_nodes.specs.Calls.{count_in};
 ghost use Rattle.tv_outputs.specs.Known.{known};
 ghost use Rattle.tv_outputs.specs.Kept.{Stand};
 ghost use Rattle.tv_intake.specs.Intaken.{AreIntaken};
@@ -95,7 +96,7 @@ fn begun(alloc: Global, intakes: &mut Intakes, idle: &mut Idle) -> Result<(), No
     requires idle { idle.old.steps ≡ [] }
     ensures { OnOk result (AreBegun intakes.new idle.new) }
 {
-    intakes.add(alloc, &leaf(alloc)?, &none_walked(alloc)?)?;
+    intakes.add(alloc, &leaf(alloc)?, &none_walked(alloc)?, 0)?;
     idle.add_step(alloc, 0)?;
     idle.add_step(alloc, 0)
 }
@@ -147,7 +148,8 @@ fn shown(alloc: Global, intakes: &Intakes, idle: &Idle) -> Result<String, Fail>
 
 /// The trees of outputs, of the second step's one.
 fn trees(alloc: Global, pool: &mut Nodes, region: &Region) -> Result<Outputs, NoMemory>
-    requires { IsLive pool.old region.now }
+    requires live { IsLive pool.old region.now }
+    requires empty { count_in pool.old (number_of region.now) ≡ 0 }
     ensures tree { IfOk result (λ outputs. 0 < length (known pool.new outputs)) }
     ensures stand { IfOk result (λ outputs. Stand pool.new outputs region.now) }
 {

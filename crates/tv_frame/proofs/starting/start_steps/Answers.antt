@@ -15,7 +15,7 @@ pub step_start-requires : goal.step_start-requires
 step_start-requires c =
     let n = c.loop-number.number in
     let e = ports-there c.args.plan.now n c.as_slice-step-items.result.now c.as_slice-step-items.ensures c.loop-number-test.true c.as_slice.result.now c.as_slice.ensures c.index-as_slice-number.result c.index-as_slice-number.is in
-    record { fed = given-ports c.requires.can.0 c.args.plan.now c.args.inputs.now c.requires.can.1 n c.index-as_slice-number.result c.as_slice-ports.result.now e c.as_slice-ports.ensures (constants_view c.args.tables.now.constants) c.requires.constants }
+    record { faulty = c.requires.faulty; fed = given-ports c.requires.can.0 c.args.plan.now c.args.inputs.now c.requires.can.1 n c.index-as_slice-number.result c.as_slice-ports.result.now e c.as_slice-ports.ensures (constants_view c.args.tables.now.constants) c.requires.constants }
 
 pub overflow_cast-number : goal.overflow_cast-number
 overflow_cast-number c = omega (arith, c.loop-number-test.true, few-steps c.args.plan.now c.as_slice-step-items.result.now c.as_slice-step-items.ensures)

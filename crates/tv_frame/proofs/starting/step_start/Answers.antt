@@ -12,8 +12,12 @@ pub port_start-requires : goal.port_start-requires
 port_start-requires c =
     let constants = constant_of_port (constants_view c.args.constants.now) c.args.step in
     let number = length c.args.ports.now - 1 - c.loop-back.back in
-    fed-lent c.of_port-fixed.result (constants number) c.of_port-fixed.ensures (length c.args.inputs.now) c.index-ports-number.result.feed
-    (c.requires.fed number c.index-ports-number.result (got c.args.ports.now number c.index-ports-number.result (omega (arith, c.loop-back-test.true)) c.index-ports-number.is))
+    record {
+      fed =
+          fed-lent c.of_port-fixed.result (constants number) c.of_port-fixed.ensures (length c.args.inputs.now) c.index-ports-number.result.feed
+          (c.requires.fed number c.index-ports-number.result (got c.args.ports.now number c.index-ports-number.result (omega (arith, c.loop-back-test.true)) c.index-ports-number.is));
+      faulty = c.requires.faulty;
+    }
 
 pub loop-back-preserved : goal.loop-back-preserved
 loop-back-preserved c s =

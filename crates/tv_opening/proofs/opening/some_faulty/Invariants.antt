@@ -1,9 +1,11 @@
 use Rattle.std.specs.List.{list_any}
-use Rattle.std.proofs.Common.{◌≡◌, false, map, take}
+use Rattle.std.proofs.Common.{◌≡◌, false, List, map, take}
 use Rattle.tv_value.specs.Nested.{list, no_trees}
-use Rattle.tv_cell.specs.PieceValues.{piece_value}
+use Rattle.tv_value.specs.Values.{Value, holds_fault}
 use Rattle.tv_opening.specs.Openings.{numbered_input_faulty}
 use Rattle.tv_opening.proofs.opening.some_faulty.Given as goal
 
 abbrev pub invariant-loop-link : goal.invariant-loop-link
-invariant-loop-link l = list_any (numbered_input_faulty (map piece_value l.inputs) (list tt no_trees)) (take l.link-index l.links) ≡ false
+invariant-loop-link l =
+    (values : List Value) → l.faulty ≡ map holds_fault values
+    → list_any (numbered_input_faulty values (list tt no_trees)) (take l.link-index l.links) ≡ false

@@ -1,22 +1,47 @@
-use Rattle.std.proofs.Common.{◌≡◌, ◌++◌, ◌+◌, ◌∷◌, [], ◌<◌, map, ap, sym, ◌∙◌, vec_len, arith, length}
+use Rattle.std.proofs.Common.{subst, ◌≡◌, ◌++◌, ◌+◌, ◌∷◌, [], ◌<◌, map, ap, sym, ◌∙◌, vec_len, arith, length}
 use Rattle.tv_value.specs.Nested.{list, trees_of}
 use Rattle.tv_cell.specs.PieceValues.{piece_value, piece_values}
 use Rattle.tv_value.specs.Values.{holds_fault}
 use Rattle.tv_cell.specs.Found.{found_value}
 use Rattle.tv_cell.proofs.OfFaults.{no-fault-inside}
-use Rattle.tv_cell.proofs.OfPieces.{count-each, list-value}
+use Rattle.tv_cell.proofs.OfPieces.{count-each, list-holds, list-value, part-value}
 use Rattle.tv_matching.specs.Matchers.{leaf_name}
 use Rattle.tv_match.specs.Seen.{told_view}
 use Rattle.tv_telling.specs.ValueTellings.{value_told}
 use Rattle.tv_telling.proofs.Adding.{adds-both, ok-along}
-use Rattle.tv_telling.proofs.OfValues.{list-told, popped, rest-end, rest-step, told_rest}
+use Rattle.tv_telling.proofs.OfSizes.{item-smaller, size, sizes}
+use Rattle.tv_telling.proofs.OfValues.{list-told, none-at, popped, rest-end, rest-step, told_rest}
+use Rattle.tv_telling.proofs.walking.+piece.Goals.{tell_piece-then-faulty-2, tell_piece-else-faulty-2}
 use Rattle.tv_telling.proofs.walking.+piece.Goals as goal
 
 pub tell_piece-tell_value-requires : goal.tell_piece-tell_value-requires
 tell_piece-tell_value-requires t c = record {
   faulty = λ h. ap (λ o. holds_fault (found_value o)) c.in-Some.ensures
-      ∙ no-fault-inside _ c.in-Part.start (sym c.holds_fault-faulty.ensures ∙ h);
+      ∙ elim c.if-faulty-2.branch [
+        | tell_piece-then-faulty-2 w ↦ no-fault-inside _ c.in-Part.start (sym w.holds_fault-faulty-then-faulty-2.ensures ∙ sym w.faulty-is ∙ h)
+        | tell_piece-else-faulty-2 w ↦
+            sym (ap holds_fault (ap piece_value c.in-Part.is ∙ part-value c.in-Part.cell c.in-Part.start))
+            ∙ c.requires.faulty w.if-faulty-2.false
+      ];
 }
+
+pub tell_piece-tell_pieces-requires : goal.tell_piece-tell_pieces-requires
+tell_piece-tell_pieces-requires t c =
+    let ps = c.as_slice-pieces.result.now in
+    let is = ap piece_value c.in-List.is ∙ list-value c.in-List.pieces ∙ ap (λ xs. list tt (trees_of (piece_values xs))) (sym c.as_slice-pieces.ensures) in (
+      subst (λ n. sizes (trees_of (piece_values ps)) < n) (sym (ap size is) ∙ c.decreases) (omega arith),
+      λ h. list-holds c.args.piece.now c.in-List.pieces ps c.in-List.is c.as_slice-pieces.ensures ∙ c.requires.faulty h,
+    )
+
+pub tell_pieces-tell_piece-requires : goal.tell_pieces-tell_piece-requires
+tell_pieces-tell_piece-requires t c =
+    let xs = c.args.pieces.now in
+    let i = c.loop-index.index in
+    let x = c.index-pieces-index.result in
+    let within = c.loop-index-test.true in (
+      subst (λ n. size (piece_value x) < n) c.decreases (item-smaller piece_value xs i x within c.index-pieces-index.is),
+      λ h. none-at (λ p. holds_fault (piece_value p)) xs i x within c.index-pieces-index.is (c.requires.faulty h),
+    )
 
 pub tell_piece-returns-in_ok-tell_list-in-List-clause-told :
     goal.tell_piece-returns-in_ok-tell_list-in-List-clause-told

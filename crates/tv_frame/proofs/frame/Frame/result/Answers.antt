@@ -20,6 +20,9 @@ put-requires-clause-room c =
     let r = c.requires.ready in
     result-room r.0 c.args.plan.now c.args.pool.now c.args.self.now r.1 c.args.step r.2 c.args.place.now (piece_values c.args.outputs) r.3 c.first_tree-first.result c.first_tree-first.ensures
 
+pub put-requires-clause-marked : goal.put-requires-clause-marked
+put-requires-clause-marked c = c.requires.ready.3.counted
+
 pub show-requires-clause-ends : goal.show-requires-clause-ends
 show-requires-clause-ends c =
     let r = c.requires.ready in

@@ -7,7 +7,7 @@ use Rattle.tv_instance.specs.Events.{closed}
 use Rattle.tv_fed.specs.Seen.{Happens}
 use Rattle.tv_frame.specs.Tables.{first_tree, trees_of}
 use Rattle.tv_frame.proofs.OfComing.{counted-closings}
-use Rattle.tv_frame.proofs.OfKeeping.{first-is, firsts-within, keeps-room, step-there, step-within}
+use Rattle.tv_frame.proofs.OfKeeping.{first-is, firsts-within, keeps-ahead, keeps-room, step-there, step-within}
 use Rattle.tv_frame.proofs.OfPutting.{depths-there}
 use Rattle.tv_frame.proofs.OfRooms.{close-all, close-coming, close-first_can, close-first_short, close-next, close-there, close-turns, counts-new, worked-ready}
 use Rattle.tv_frame.proofs.frame.Frame.room_for_close.Goals as goal
@@ -132,6 +132,27 @@ returns-in_err-find_outs-clause-place c = c.find_outs.ensures.held.place ∙ c.h
 pub returns-clause-place : goal.returns-clause-place
 returns-clause-place c = c.find_outs.ensures.held.place ∙ c.hold.ensures.place
 
+pub returns-in_err-jobs-clause-same : goal.returns-in_err-jobs-clause-same
+returns-in_err-jobs-clause-same c = λ flows v k.
+    c.hold.ensures.same flows v
+    (keeps-room flows c.args.plan.now c.args.pool.now c.reserve.new.pool c.args.self.now v c.reserve.ensures.regions c.reserve.ensures.known c.reserve.ensures.stand k)
+
+pub returns-in_err-find_outs-clause-same : goal.returns-in_err-find_outs-clause-same
+returns-in_err-find_outs-clause-same c = λ flows v k.
+    c.find_outs.ensures.same flows v
+    (c.hold.ensures.same flows v
+    (keeps-room flows c.args.plan.now c.args.pool.now c.reserve.new.pool c.args.self.now v c.reserve.ensures.regions c.reserve.ensures.known c.reserve.ensures.stand k))
+
+pub returns-clause-same : goal.returns-clause-same
+returns-clause-same c = λ flows v k.
+    let h = c.find_outs.new.self in
+    let plan = c.args.plan.now in
+    let pool = c.reserve.new.pool in
+    keeps-ahead flows plan pool h v (record h.ahead { faults = c.faults_by_close.new.faults })
+    (c.find_outs.ensures.same flows v
+    (c.hold.ensures.same flows v
+    (keeps-room flows plan c.args.pool.now pool c.args.self.now v c.reserve.ensures.regions c.reserve.ensures.known c.reserve.ensures.stand k)))
+
 pub returns-clause-ready : goal.returns-clause-ready
 returns-clause-ready c = λ flows v s k at can.
     let f = c.args.self.now in
@@ -175,8 +196,10 @@ returns-clause-ready c = λ flows v s k at can.
           c.in_ok-find_outs.ensures.outs flows v s e held
           (record { next = next; at = at; named = refl; place = refl; change = refl; turns = turns });
     })
+    (record c.find_outs.new.self.ahead { faults = c.faults_by_close.new.faults }) refl refl
+    tt
 
 pub returns-clause-count : goal.returns-clause-count
 returns-clause-count c = λ flows v s k at can.
-    counts-new flows c.args.plan.now c.reserve.new.pool c.hold.new.self c.find_outs.new.self v c.args.step s (closed s.0 c.args.place.now c.args.length) c.find_outs.ensures.held
+    counts-new flows c.args.plan.now c.reserve.new.pool c.hold.new.self c.find_outs.new.self (record c.find_outs.new.self.ahead { faults = c.faults_by_close.new.faults }) v c.args.step s (closed s.0 c.args.place.now c.args.length) c.find_outs.ensures.held
     (returns-clause-ready c flows v s k at can) c.in_ok-jobs.jobs c.in_ok-jobs.ensures.count

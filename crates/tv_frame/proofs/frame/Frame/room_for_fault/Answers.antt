@@ -53,6 +53,11 @@ work_fault-requires c =
       );
     }
 
+pub returns-in_err-jobs-clause-same : goal.returns-in_err-jobs-clause-same
+returns-in_err-jobs-clause-same c = λ flows v k.
+    c.work_fault.ensures.same flows v
+    (keeps-room flows c.args.plan.now c.args.pool.now c.reserve.new.pool c.args.self.now v c.reserve.ensures.regions c.reserve.ensures.known c.reserve.ensures.stand k)
+
 pub returns-clause-same : goal.returns-clause-same
 returns-clause-same c = λ flows v k.
     keeps-aside flows c.args.plan.now c.reserve.new.pool c.work_fault.new.self v (Some c.in_ok-pieces.pieces)

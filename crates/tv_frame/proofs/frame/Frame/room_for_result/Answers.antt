@@ -6,9 +6,9 @@ use Rattle.tv_outputs.specs.Known.{depths, known, needed}
 use Rattle.tv_instance.specs.Events.{gave}
 use Rattle.tv_frame.specs.Tables.{first_tree, trees_of}
 use Rattle.tv_frame.proofs.OfComing.{counted-arrivals}
-use Rattle.tv_frame.proofs.OfKeeping.{first-is, firsts-within, keeps-room, step-there, step-within}
+use Rattle.tv_frame.proofs.OfKeeping.{first-is, firsts-within, keeps-ahead, keeps-room, step-there, step-within}
 use Rattle.tv_frame.proofs.OfPutting.{depths-there}
-use Rattle.tv_frame.proofs.OfRooms.{counts-new, result-arrives, result-coming, result-first_can, result-first_short, result-next, result-there, result-turns, worked-ready}
+use Rattle.tv_frame.proofs.OfRooms.{counts-new, result-arrives, result-coming, result-first_can, result-first_short, result-marked, result-next, result-there, result-turns, worked-ready}
 use Rattle.tv_frame.proofs.frame.Frame.room_for_result.Goals as goal
 
 pub first_tree-first-requires : goal.first_tree-first-requires
@@ -114,6 +114,27 @@ find_outs-requires c =
       },
     )
 
+pub returns-in_err-jobs-clause-same : goal.returns-in_err-jobs-clause-same
+returns-in_err-jobs-clause-same c = λ flows v k.
+    c.hold.ensures.same flows v
+    (keeps-room flows c.args.plan.now c.args.pool.now c.reserve.new.pool c.args.self.now v c.reserve.ensures.regions c.reserve.ensures.known c.reserve.ensures.stand k)
+
+pub returns-in_err-find_outs-clause-same : goal.returns-in_err-find_outs-clause-same
+returns-in_err-find_outs-clause-same c = λ flows v k.
+    c.find_outs.ensures.same flows v
+    (c.hold.ensures.same flows v
+    (keeps-room flows c.args.plan.now c.args.pool.now c.reserve.new.pool c.args.self.now v c.reserve.ensures.regions c.reserve.ensures.known c.reserve.ensures.stand k))
+
+pub returns-clause-same : goal.returns-clause-same
+returns-clause-same c = λ flows v k.
+    let h = c.find_outs.new.self in
+    let plan = c.args.plan.now in
+    let pool = c.reserve.new.pool in
+    keeps-ahead flows plan pool h v (record h.ahead { faults = c.faults_by_arrival.new.faults })
+    (c.find_outs.ensures.same flows v
+    (c.hold.ensures.same flows v
+    (keeps-room flows plan c.args.pool.now pool c.args.self.now v c.reserve.ensures.regions c.reserve.ensures.known c.reserve.ensures.stand k)))
+
 pub returns-clause-ready : goal.returns-clause-ready
 returns-clause-ready c = λ flows v s k at may.
     let f = c.args.self.now in
@@ -160,8 +181,11 @@ returns-clause-ready c = λ flows v s k at may.
             turns = turns;
           });
     })
+    (record c.find_outs.new.self.ahead { faults = c.faults_by_arrival.new.faults }) refl refl
+    (result-marked flows c.args.plan.now pool f v c.args.step s kept at q ps may x first c.faults_by_arrival.new.faults.items
+    (counted-arrivals ps c.as_slice.result.now c.as_slice.ensures c.new-faults.result.items c.faults_by_arrival.new.faults.items c.faults_by_arrival.new.faults.items c.new-faults.ensures.items refl q x (known pool f.outputs) c.in_ok-faults_by_arrival.ensures))
 
 pub returns-clause-count : goal.returns-clause-count
 returns-clause-count c = λ flows v s k at may.
-    counts-new flows c.args.plan.now c.reserve.new.pool c.hold.new.self c.find_outs.new.self v c.args.step s (gave s.0 c.args.place.now (piece_values c.args.outputs.now)) c.find_outs.ensures.held
+    counts-new flows c.args.plan.now c.reserve.new.pool c.hold.new.self c.find_outs.new.self (record c.find_outs.new.self.ahead { faults = c.faults_by_arrival.new.faults }) v c.args.step s (gave s.0 c.args.place.now (piece_values c.args.outputs.now)) c.find_outs.ensures.held
     (returns-clause-ready c flows v s k at may) c.in_ok-jobs.jobs c.in_ok-jobs.ensures.count

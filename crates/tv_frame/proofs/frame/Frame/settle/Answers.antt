@@ -1,7 +1,7 @@
 use Rattle.std.proofs.Common.{refl, sym, subst, ◌∙◌}
 use Rattle.tv_intake.specs.Intaken.{AreIntaken, HasRoom}
 use Rattle.tv_frame.proofs.OfEvents.{show-ready, turn-ready}
-use Rattle.tv_frame.proofs.OfSettling.{fault-arrives, fault-goes, fault-room, fault-sound, left, list-closes, list-goes, list-room, prepared-then, settle-reads, settle-turns}
+use Rattle.tv_frame.proofs.OfSettling.{fault-arrives, fault-goes, fault-marked, fault-room, fault-sound, left, list-closes, list-goes, list-room, prepared-then, settle-reads, settle-turns}
 use Rattle.tv_frame.proofs.frame.Frame.settle.Goals as goal
 
 pub first_tree-first-requires : goal.first_tree-first-requires
@@ -66,6 +66,7 @@ put-requires c =
       stand = r.5.ready.keeps.stand;
       can = fault-arrives r.0 c.args.plan.now c.args.pool.now f r.1 r.2 r.3 r.4 r.5 c.waiting.result w.0 w.1.now w.2 c.waiting.ensures c.waiting_at-step.ensures c.first_tree-first.result c.first_tree-first.ensures c.in_default-kind.not-Closed c.in-Some.place taken c.in-Some-take.pieces aside;
       sound = fault-sound r.0 c.args.plan.now c.args.pool.now f r.1 r.2 r.3 r.4 r.5 c.waiting.result w.0 w.1.now w.2 c.waiting.ensures c.waiting_at-step.ensures c.first_tree-first.result c.first_tree-first.ensures c.in_default-kind.not-Closed c.in-Some.place taken c.in-Some-take.pieces aside;
+      marked = fault-marked r.0 c.args.plan.now c.args.pool.now f r.1 r.2 r.3 r.4 r.5 c.waiting.result w.0 w.1.now w.2 c.waiting.ensures c.waiting_at-step.ensures c.first_tree-first.result c.first_tree-first.ensures c.in_default-kind.not-Closed c.in-Some.place taken c.in-Some-take.pieces aside;
       room = fault-room r.0 c.args.plan.now c.args.pool.now f r.1 r.2 r.3 r.4 r.5 c.waiting.result w.0 w.1.now w.2 c.waiting.ensures c.waiting_at-step.ensures c.first_tree-first.result c.first_tree-first.ensures c.in_default-kind.not-Closed c.in-Some.place taken c.in-Some-take.pieces aside;
     }
 

@@ -4,6 +4,7 @@ use Rattle.tv_cell.specs.PieceValues.{piece_values}
 use Rattle.tv_cell.specs.Soundness.{AreSound}
 use Rattle.tv_pool.specs.Pool.{IsLive, number_of, regions_with}
 use Rattle.tv_nodes.specs.Calls.{KeepsRegions}
+use Rattle.tv_nodes.proofs.Counts.{count-begun}
 use Rattle.tv_frame.specs.Calls.{CanStart}
 use Rattle.tv_frame.proofs.OfRegions.{begun-keeps, begun-live, released-same}
 use Rattle.tv_frame.proofs.frame.Frame.start.Goals as goal
@@ -26,6 +27,9 @@ start_trees-requires-clause-parts c =
       none_whole = p.none_whole;
       begun = p.begun;
     }
+
+pub start_trees-requires-clause-empty : goal.start_trees-requires-clause-empty
+start_trees-requires-clause-empty c = count-begun c.args.pool.now c.begin.new.self c.in-Ok.region c.in-Ok.ensures.ok
 
 pub abandon-requires : goal.abandon-requires
 abandon-requires c =

@@ -2,6 +2,7 @@ use Rattle.std.specs.Prelude.{map}
 use Rattle.std.proofs.Common.{ap, refl, subst, ◌∙◌}
 use Rattle.tv_parts.specs.Partials.{wanting}
 use Rattle.tv_cell.specs.PieceValues.{piece_values}
+use Rattle.tv_outputs.specs.Kept.{StandBeside}
 use Rattle.tv_frame.specs.Started.{AreFirstOuts}
 use Rattle.tv_frame.proofs.OfStarted.{starts}
 use Rattle.tv_frame.proofs.frame.Frame.start_trees.Goals as goal
@@ -20,7 +21,7 @@ returns-clause-ok c flows can =
       none_whole = c.requires.parts.none_whole;
       begun = c.requires.parts.begun;
       live = c.start.ensures.kept.live c.args.self.now.region c.requires.live;
-      stand = c.in_ok-start.ensures.stand;
+      stand = subst (λ n. StandBeside n c.start.new.pool c.start.new.self c.args.self.now.region) c.requires.empty c.in_ok-start.ensures.stand;
       depths = c.in_ok-start.ensures.depths ∙ deep;
       known = c.in_ok-start.ensures.known ∙ ap (map (λ d. wanting)) deep;
       outs = subst (λ ps. AreFirstOuts c.args.plan.now (piece_values ps) c.in_ok-outs.outs) c.as_slice-inputs.ensures c.in_ok-outs.ensures;

@@ -1,12 +1,13 @@
 use Rattle.std.specs.Prelude.{take}
-use Rattle.std.proofs.Common.{◌≡◌, ◌==◌, length, refl, ap, sym, subst, ◌∙◌, Some}
+use Rattle.std.proofs.Common.{◌≡◌, ◌==◌, ◌≤◌, arith, length, refl, ap, sym, subst, ◌∙◌, Some}
 use Rattle.tv_outputs.specs.Known.{known}
 use Rattle.tv_telling.specs.Views.{HasPiece}
 use Rattle.tv_instance.specs.Events.{fault_set}
 use Rattle.tv_fed.specs.Seen.{Happens}
 use Rattle.tv_frame.proofs.OfComing.{counted-arrivals}
-use Rattle.tv_frame.proofs.OfKeeping.{first-is, firsts-within, step-there, step-within}
-use Rattle.tv_frame.proofs.OfPassing.{fault-arrives, fault-coming, fault-first_can, fault-first_short, fault-next, fault-there, fault-turns, fault-values}
+use Rattle.tv_frame.proofs.OfKeeping.{first-is, firsts-within, keeps-ahead, step-there, step-within}
+use Rattle.tv_frame.proofs.OfPassing.{fault-arrives, fault-coming, fault-counted, fault-first_can, fault-first_short, fault-next, fault-there, fault-turns, fault-values}
+use Rattle.tv_frame.proofs.OfPutting.{outputs-few}
 use Rattle.tv_frame.proofs.OfRooms.{worked-ready}
 use Rattle.tv_frame.proofs.frame.Frame.work_fault.Goals as goal
 
@@ -18,8 +19,8 @@ first_tree-first-requires c =
     let pool = c.args.pool.now in
     firsts-within r.0 plan pool f r.1 c.args.step r.2 r.4 r.5
 
-pub outputs_of-requires : goal.outputs_of-requires
-outputs_of-requires c =
+pub outputs_of-outputs-requires : goal.outputs_of-outputs-requires
+outputs_of-outputs-requires c =
     let r = c.requires.next in
     let f = c.args.self.now in
     let plan = c.args.plan.now in
@@ -66,6 +67,21 @@ whole_by_arrival-whole_from-requires-clause-can c =
     let first = first-is r.0 plan pool f r.1 c.args.step r.2 r.4 r.5 x c.first_tree-first.ensures in
     fault-first_can r.0 plan pool f r.1 c.args.step r.2 r.4 r.5 c.args.place.now r.3 c.args.pieces.now r.6 r.7 x first
 
+pub first_counts-requires : goal.first_counts-requires
+first_counts-requires c =
+    let r = c.requires.next in
+    let f = c.args.self.now in
+    let plan = c.args.plan.now in
+    let pool = c.args.pool.now in
+    let x = c.first_tree-first.result in
+    let first = first-is r.0 plan pool f r.1 c.args.step r.2 r.4 r.5 x c.first_tree-first.ensures in
+    let outs : c.outputs_of-outputs.result ≡ length r.2.1.outputs = c.outputs_of-outputs.ensures r.2 (step-there r.0 plan pool f r.1 c.args.step r.2 r.4 r.5) in
+    let few = outputs-few (length r.2.1.outputs) in
+    let counts = fault-counted r.0 plan pool f r.1 c.args.step r.2 r.4 r.5 c.args.place.now r.3 c.args.pieces.now r.6 r.7 x first c.faults_by_arrival.new.faults.items
+    (counted-arrivals c.args.pieces.now c.args.pieces.now refl c.new-faults.result.items c.faults_by_arrival.new.faults.items c.faults_by_arrival.new.faults.items c.new-faults.ensures.items refl c.args.place.now x (known pool f.outputs) c.in_ok-faults_by_arrival.ensures) in
+    let enough = counts.0 in
+    subst (λ ns. c.outputs_of-outputs.result ≤ length ns) (sym c.as_slice-2.ensures) (omega (arith, outs, few, enough))
+
 pub hold-requires : goal.hold-requires
 hold-requires c =
     let r = c.requires.next in
@@ -75,7 +91,7 @@ hold-requires c =
     let x = c.first_tree-first.result in
     let first = first-is r.0 plan pool f r.1 c.args.step r.2 r.4 r.5 x c.first_tree-first.ensures in
     let e = fault_set r.2.0 c.args.place.now r.3 in
-    let outs : c.outputs_of.result ≡ length r.2.1.outputs = c.outputs_of.ensures r.2 (step-there r.0 plan pool f r.1 c.args.step r.2 r.4 r.5) in (
+    let outs : c.outputs_of-outputs.result ≡ length r.2.1.outputs = c.outputs_of-outputs.ensures r.2 (step-there r.0 plan pool f r.1 c.args.step r.2 r.4 r.5) in (
       r.0,
       r.1,
       r.2,
@@ -86,7 +102,7 @@ hold-requires c =
           (λ y. c.whole_by_arrival-whole_from.ensures y ∙ ap Some (sym c.passed_at-event.ensures.whole_from))
           (λ i. subst (λ h. HasPiece h i) (sym c.passed_at-event.ensures.happened) tt)
           c.faults_by_arrival.new.faults.items
-          (c.passed_at-event.ensures.faults ∙ c.as_slice-2.ensures ∙ c.truncate.ensures.items ∙ ap (λ m. take m c.faults_by_arrival.new.faults.items) outs)
+          (c.passed_at-event.ensures.faults ∙ c.first_counts.ensures ∙ ap (take c.outputs_of-outputs.result) c.as_slice-2.ensures ∙ ap (λ m. take m c.faults_by_arrival.new.faults.items) outs)
           (counted-arrivals c.args.pieces.now c.args.pieces.now refl c.new-faults.result.items c.faults_by_arrival.new.faults.items c.faults_by_arrival.new.faults.items c.new-faults.ensures.items refl c.args.place.now x (known pool f.outputs) c.in_ok-faults_by_arrival.ensures)),
     )
 
@@ -114,6 +130,12 @@ find_outs-requires c =
       },
     )
 
+pub returns-clause-same : goal.returns-clause-same
+returns-clause-same c = λ flows v k.
+    let h = c.find_outs.new.self in
+    keeps-ahead flows c.args.plan.now c.args.pool.now h v (record h.ahead { faults = c.faults_by_arrival.new.faults })
+    (c.find_outs.ensures.same flows v (c.hold.ensures.same flows v k))
+
 pub returns-clause-ready : goal.returns-clause-ready
 returns-clause-ready c = λ flows v s d k at can passed room.
     let f = c.args.self.now in
@@ -124,7 +146,7 @@ returns-clause-ready c = λ flows v s d k at can passed room.
     let e = fault_set s.0 q d in
     let x = c.first_tree-first.result in
     let first = first-is flows plan pool f v c.args.step s k at x c.first_tree-first.ensures in
-    let outs : c.outputs_of.result ≡ length s.1.outputs = c.outputs_of.ensures s (step-there flows plan pool f v c.args.step s k at) in
+    let outs : c.outputs_of-outputs.result ≡ length s.1.outputs = c.outputs_of-outputs.ensures s (step-there flows plan pool f v c.args.step s k at) in
     let next = fault-next flows plan pool f v c.args.step s k at q d ps can passed in
     let turns = fault-turns flows plan pool f v c.args.step s k at q d ps can passed x first c.whole_by_arrival-whole_from.result c.whole_by_arrival-whole_from.ensures in
     let held = c.hold.ensures.same flows v k in
@@ -144,7 +166,7 @@ returns-clause-ready c = λ flows v s d k at can passed room.
           (λ y. c.whole_by_arrival-whole_from.ensures y ∙ ap Some (sym c.passed_at-event.ensures.whole_from))
           (λ i. subst (λ h. HasPiece h i) (sym c.passed_at-event.ensures.happened) tt)
           c.faults_by_arrival.new.faults.items
-          (c.passed_at-event.ensures.faults ∙ c.as_slice-2.ensures ∙ c.truncate.ensures.items ∙ ap (λ m. take m c.faults_by_arrival.new.faults.items) outs)
+          (c.passed_at-event.ensures.faults ∙ c.first_counts.ensures ∙ ap (take c.outputs_of-outputs.result) c.as_slice-2.ensures ∙ ap (λ m. take m c.faults_by_arrival.new.faults.items) outs)
           (counted-arrivals c.args.pieces.now c.args.pieces.now refl c.new-faults.result.items c.faults_by_arrival.new.faults.items c.faults_by_arrival.new.faults.items c.new-faults.ensures.items refl c.args.place.now x (known pool f.outputs) c.in_ok-faults_by_arrival.ensures));
       whole = c.hold.ensures.whole ∙ ap (λ m. m == 0) c.passed_at-event.ensures.whole_from;
       later = c.find_outs.ensures.parts;
@@ -160,3 +182,6 @@ returns-clause-ready c = λ flows v s d k at can passed room.
             turns = turns;
           });
     })
+    (record c.find_outs.new.self.ahead { faults = c.faults_by_arrival.new.faults }) refl refl
+    (fault-counted flows plan pool f v c.args.step s k at q d ps can passed x first c.faults_by_arrival.new.faults.items
+    (counted-arrivals c.args.pieces.now c.args.pieces.now refl c.new-faults.result.items c.faults_by_arrival.new.faults.items c.faults_by_arrival.new.faults.items c.new-faults.ensures.items refl c.args.place.now x (known pool f.outputs) c.in_ok-faults_by_arrival.ensures))

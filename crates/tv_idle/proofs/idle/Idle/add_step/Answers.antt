@@ -1,4 +1,4 @@
-use Rattle.std.proofs.Common.{ap, sym, subst, ◌∙◌, length}
+use Rattle.std.proofs.Common.{ap, sym, subst, ◌∙◌, ◌++◌, ◌∷◌, [], length}
 use Rattle.tv_idle.specs.Kept.{AreAllKept, faulty_in, is_gone}
 use Rattle.tv_idle.proofs.AllSteps.{added-kept}
 use Rattle.tv_idle.proofs.OfFaulty.{more-faulty}
@@ -9,15 +9,17 @@ invariant_of-self-2 c =
     let r = c.self.inside in
     let i = c.self.invariant in
     let gs = r.gone.items in
+    let q = c.empty_queues-queues.result in
+    let items = c.push_reserved.ensures.items ∙ ap (λ l. l ++ q ∷ []) c.reserve.ensures.items in
     record {
       all =
-          subst (AreAllKept (is_gone gs) (length gs)) (sym c.in_ok-push.ensures.items)
-          (added-kept (is_gone gs) c.args.levels c.empty_queues-queues.result c.empty_queues-queues.ensures.good c.empty_queues-queues.ensures.faulty (length gs) r.queues.items i.all);
+          subst (AreAllKept (is_gone gs) (length gs)) (sym items)
+          (added-kept (is_gone gs) c.args.levels q c.empty_queues-queues.ensures.good c.empty_queues-queues.ensures.faulty (length gs) r.queues.items i.all);
       marks = i.marks;
       numbers = i.numbers;
       counted =
-          i.counted ∙ more-faulty r.queues.items c.empty_queues-queues.result
+          i.counted ∙ more-faulty r.queues.items q
           c.empty_queues-queues.ensures.faulty.jobs
-          ∙ ap faulty_in (sym c.in_ok-push.ensures.items);
+          ∙ ap faulty_in (sym items);
       few = i.few;
     }

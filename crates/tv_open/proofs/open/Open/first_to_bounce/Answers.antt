@@ -42,4 +42,4 @@ pub returns-then-not-has_faulty : goal.returns-then-not-has_faulty
 returns-then-not-has_faulty c d v io =
     none-faulty d c.args.plan.now c.args.pool.now c.args.self.now v io
     (λ k t at.
-    c.has_faulty.ensures c.if-not-has_faulty.true d.flows c.args.plan.now c.args.pool.now v k t io.keeps at)
+    c.has_faulty.ensures.none c.if-not-has_faulty.true d.flows c.args.plan.now c.args.pool.now v k t io.keeps at)
