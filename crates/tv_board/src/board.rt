@@ -6,9 +6,12 @@ ghost use Rattle.tv_gate.specs.Views.{outcome_view};
 ghost use Rattle.tv_flow.specs.Formed.{is_formed};
 ghost use Rattle.tv_strategy.specs.Origins.{plain};
 ghost use Rattle.tv_check.specs.RunViews.{run_view};
+ghost use Rattle.tv_lineage.specs.Kept.{records_of};
+ghost use Rattle.tv_lineage.specs.Members.{HaveSame};
+ghost use Rattle.tv_marked.specs.Settled.{settled_records};
 ghost use Rattle.tv_model.specs.Totals as model;
 ghost use Rattle.tv_model.specs.TotalsViews.{totals_view};
-ghost use Rattle.tv_history.specs.Histories.{is_done, kept};
+ghost use Rattle.tv_history.specs.Histories.{is_done, kept, room};
 ghost use Rattle.tv_entries.specs.Answers.{question};
 ghost use Rattle.tv_entries.specs.Calls.{IsNothingOffered, IsTask, IsTaskFault, hands_out, out_count, totals_so_far, try_if_out};
 ghost use Rattle.tv_entries.specs.Declarations.{declared_for};
@@ -29,6 +32,7 @@ use std::mem;
 use tv_check::CheckedRun;
 use tv_entries::{Accepted, Entry, Moved, Task, TaskFault, Tested, Ticket};
 use tv_gate::{Asker, Services};
+use tv_lineage::Records;
 use tv_model::Totals;
 use tv_run::OpenRun;
 use tv_value::{JobName, Name, NoMemory, Sequence, Value};
@@ -250,11 +254,23 @@ impl<V: Services> Board<V> {
         self.run.outputs()
     }
 
+    /// What each settled job of the main flow used, as far as the run has come, and no other job: that is
+    /// worked out at each call, from the lists and passed faults that were settled so far, and from the
+    /// plans. Near linear in the jobs of the main flow that are known, in what their steps bind, and in
+    /// those lists and faults.
+    pub fn records(&self) -> Result<Records, NoMemory>
+        ensures { IfOk result (λ rs. HaveSame (records_of rs)
+            (settled_records (past_of self.now) (meant V.gives self.now))) }
+    {
+        self.run.records()
+    }
+
     /// How many nodes the pool keeps for the open instances: at least one for each result that is kept, of
-    /// each output of each settled job in an open instance, and none once the run is done. Constant. Takes
-    /// no memory.
+    /// each output of each settled job in an open instance, at most those of the values and iterations of the
+    /// open instances, and none once the run is done. Constant. Takes no memory.
     pub fn live(&self) -> u64
         ensures kept { kept (meant V.gives self.now) (past_of self.now) ≤ result }
+        ensures room { result ≤ room (meant V.gives self.now) (past_of self.now) }
         ensures done { is_done (past_of self.now) ≡ true → result ≡ 0 }
     {
         self.run.live()

@@ -1,3 +1,4 @@
+pub mod OfSources
 pub mod OfShapes
 pub mod OfFeeds
 pub mod OfBound
@@ -9,3 +10,4 @@ pub mod OfOutputs
 pub mod OfBuilding
 pub mod OfAdding
 pub mod OfLaws
+pub mod OfKnown

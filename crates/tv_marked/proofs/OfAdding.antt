@@ -1,9 +1,9 @@
 -- One step after another: with what is worked out of the next one more is done, and in the end all is.
-use Rattle.std.specs.Prelude.{◌≡◌, refl, ◌⊎◌, ◌+◌, ℕ, zero, suc, List, [], ◌∷◌, ◌++◌, find, length, map, Option, Some, None, option_and_then, slice_get, slice_index_or, take}
-use Rattle.std.proofs.Common.{arith, sym, ap, ap₂, subst, ◌∙◌, inl, inr, append_assoc}
+use Rattle.std.specs.Prelude.{◌≡◌, refl, ◌⊎◌, ◌+◌, ℕ, zero, suc, Bool, true, List, [], ◌∷◌, ◌++◌, length, Option, Some, option_and_then, slice_get, slice_index_or}
+use Rattle.std.proofs.Common.{arith, sym, ap, ap₂, subst, ◌∙◌, inl, inr}
 use Rattle.std.proofs.lemmas.Option.{none-some, same_Some}
 use Rattle.tv_value.specs.Nested.{Place, at, item_at, leaf, list, no_trees, nodes, nodes_below, nodes_from, tree}
-use Rattle.tv_value.specs.Values.{Name}
+use Rattle.tv_value.specs.Values.{JobName, Name}
 use Rattle.tv_gate.specs.Outcomes.{Giving}
 use Rattle.tv_flow.specs.Flows.{Document, Flow, Step}
 use Rattle.tv_lineage.specs.Kept.{Kept, records_of}
@@ -22,17 +22,18 @@ use Rattle.tv_model.specs.Meanings.{meaning}
 use Rattle.tv_model.specs.Members as model
 use Rattle.tv_model.proofs.Members.{each_in, in-flat, of-flat}
 use Rattle.tv_model.proofs.Sound.{StandsAt, all-stand as nodes-all-stand, nodes-stand}
-use Rattle.tv_levels.specs.Levels.{AreLevels, Level, What}
+use Rattle.tv_levels.specs.Levels.{What}
 use Rattle.tv_levels.specs.MainSteps.{main_steps}
 use Rattle.tv_followed.specs.Recorded.{main_records}
 use Rattle.tv_marked.specs.Building.{IsBuilt, Telling, Tells}
 use Rattle.tv_marked.specs.Feeds.{job_at}
-use Rattle.tv_marked.specs.Shapes.{Shape, Shows, no_shape}
-use Rattle.tv_marked.specs.Staged.{HaveRecords, IsMainFlow, IsNoted, IsRecordOf, IsStage, steps_until}
-use Rattle.tv_marked.specs.Standing.{AreShapesOf}
-use Rattle.tv_marked.specs.Tables.{IsTableOf}
+use Rattle.tv_marked.specs.Seen.{AreSeen, IsSeen}
+use Rattle.tv_marked.specs.Settled.{records_of_settled}
+use Rattle.tv_marked.specs.Shapes.{Shape, ShowsKnown, no_shape}
+use Rattle.tv_marked.specs.Noted.{HaveRecords, IsNoted, IsRecordOf}
+use Rattle.tv_marked.specs.Staged.{IsMainFlow, IsStage, steps_until}
 use Rattle.tv_marked.specs.Walking.{begins_of}
-use Rattle.tv_marked.proofs.OfRecords.{have-same, main-placed, placed-main, placed_record, step-main}
+use Rattle.tv_marked.proofs.OfRecords.{have-same, main-placed, placed-main, step-main}
 use Rattle.tv_marked.proofs.OfStages.{at-rank, many, more-shown, new, new-in, new-levels, new-told, until-next}
 
 -- ---- what stands at a place is a node
@@ -81,18 +82,18 @@ mutual
 
 module _ (gives : Giving) (d : Document) (flow : Flow) (is : IsMainFlow d flow) where
   -- before any step is done
-  pub stage-start : (k : Kept) (us : List Shape) → records_of k ≡ [] → ((n : ℕ) → slice_index_or us n no_shape ≡ no_shape) → IsStage gives d flow 0 k us
-  stage-start k us e f = record {
+  pub stage-start : (known : Origin → Bool) (settled : JobName → Bool) (k : Kept) (us : List Shape) → records_of k ≡ [] → ((n : ℕ) → slice_index_or us n no_shape ≡ no_shape) → IsStage gives d flow known settled 0 k us
+  stage-start known settled k us e f = record {
     shapes = λ t. f (position t flow.steps);
     own = λ x i. absurd (subst (In x) e i);
     all = λ g i. absurd i;
   }
 
-  module _ (ls : List Level) (levels : AreLevels flow (main_steps (meaning gives d)) ls) (what : ℕ → Place → Option What) (table : IsTableOf ls what)
+  module _ (known : Origin → Bool) (settled : JobName → Bool) (what : ℕ → Place → Option What) (done : ℕ → Place → Bool) (all_seen : AreSeen known settled flow (main_steps (meaning gives d)) what done)
       (n r : ℕ) (s : Name × Step) (here : slice_get flow.steps n ≡ Some s) (of_rank : position s.0 (ranked flow.steps) ≡ r)
-      (old now : Kept) (us more : List Shape) (stage : IsStage gives d flow r old us) where
+      (old now : Kept) (us more : List Shape) (stage : IsStage gives d flow known settled r old us) where
     abbrev telling : Telling
-    telling = record { flow = flow; shapes = us; ports = ports_of flow s.1; begins = begins_of flow s.1; what = what n; name = s.0 }
+    telling = record { flow = flow; shapes = us; ports = ports_of flow s.1; begins = begins_of flow s.1; what = what n; settled = done n; name = s.0 }
 
     abbrev g : InstanceStep
     g = new gives d flow is n r s here of_rank
@@ -103,11 +104,11 @@ module _ (gives : Giving) (d : Document) (flow : Flow) (is : IsMainFlow d flow) 
     abbrev before : List Origin
     before = endings_of step_of (steps_until gives d flow r) s.1.after
 
-    tells : Tells telling s it
-    tells = record {
-      name = refl;
-      told = new-told gives d flow is n r s here of_rank us stage.shapes (main_steps (meaning gives d)) ls levels (step-main gives d flow is g (new-in gives d flow is n r s here of_rank)) what table;
-    }
+    seen : IsSeen known settled (what n) (done n) s g.step
+    seen = all_seen n s g.step here (step-main gives d flow is g (new-in gives d flow is n r s here of_rank)) refl
+
+    tells : Tells telling known s it
+    tells = record { name = refl; told = new-told gives d flow is n r s here of_rank known settled us stage.shapes (what n) (done n) seen }
 
     -- a job at a place
     placed : (q : Place) (src : List Origin) (b : Binding) → at it q ≡ Some (leaf src (job b)) → model.In (record { step = s.0; place = q; inputs = bound_values s.1 b; waits = src ++ before }) g.jobs
@@ -132,33 +133,35 @@ module _ (gives : Giving) (d : Document) (flow : Flow) (is : IsMainFlow d flow) 
         node-job k x.0 (each_in (λ (y : Place × Iteration). StandsAt it y.0 y.1) (nodes it) (nodes-stand (StandsAt it) it [] (nodes-all-stand it it [] refl)) x.0 x.1) x.2
 
     -- with its shape and records one more is done
-    pub stage-next : (levels_of : ℕ) → levels_of ≡ strategy_depth (number_of (mismatches flow s.1)) (strategy_of s.1) → (u : Shape) → IsBuilt telling levels_of [] old now u → slice_index_or more n no_shape ≡ u → ((k : ℕ) → (k ≡ n → ⊥) → slice_index_or more k no_shape ≡ slice_index_or us k no_shape) → IsStage gives d flow (suc r) now more
+    pub stage-next : (levels_of : ℕ) → levels_of ≡ strategy_depth (number_of (mismatches flow s.1)) (strategy_of s.1) → (u : Shape) → IsBuilt telling levels_of [] old now u → slice_index_or more n no_shape ≡ u → ((k : ℕ) → (k ≡ n → ⊥) → slice_index_or more k no_shape ≡ slice_index_or us k no_shape) → IsStage gives d flow known settled (suc r) now more
     stage-next m e u built at_n others = record {
-      shapes = more-shown gives d flow is n r s here of_rank us stage.shapes (main_steps (meaning gives d)) ls levels (step-main gives d flow is g (new-in gives d flow is n r s here of_rank)) what table more (subst (λ v. Shows v it) (sym at_n) told.0) others;
+      shapes = more-shown gives d flow is n r s here of_rank known settled us stage.shapes (what n) (done n) more (subst (λ v. ShowsKnown (job_at s.0) known [] v it) (sym at_n) told.0) others;
       own = λ x i. by x (told.1.only x i);
-      all = λ f i k j. each f (subst (model.In f) (until-next gives d flow is r s (at-rank gives d flow is n r s here of_rank)) i) k j;
+      all = λ f i k j z. each f (subst (model.In f) (until-next gives d flow is r s (at-rank gives d flow is n r s here of_rank)) i) k j z;
     }
       where
-        told : Shows u it × IsNoted s it (records_of old) (records_of now) × HaveRecords s.0 [] it (records_of now)
-        told = built.told s it tells it refl (subst (Rattle.tv_strategy.specs.Levels.HasLevels it) (sym e) (new-levels gives d flow is n r s here of_rank))
+        told : ShowsKnown (job_at s.0) known [] u it × IsNoted (done n) s it (records_of old) (records_of now) × HaveRecords (done n) s.0 [] it (records_of now)
+        told = built.told known s it tells it refl (subst (Rattle.tv_strategy.specs.Levels.HasLevels it) (sym e) (new-levels gives d flow is n r s here of_rank))
 
-        by : (x : Record) → In x (records_of old) ⊎ IsRecordOf s it x → In x (main_records (meaning gives d))
+        by : (x : Record) → In x (records_of old) ⊎ IsRecordOf (done n) s it x → In x (main_records (meaning gives d)) × (settled x.job ≡ true)
         by x (inl i) = stage.own x i
-        by x (inr h) =
-            subst (λ z. In z (main_records (meaning gives d))) (sym h.is)
-            (placed-main gives d flow is g (new-in gives d flow is n r s here of_rank) (record { step = s.0; place = h.place; inputs = bound_values s.1 h.binding; waits = h.sources ++ before }) (placed h.place h.sources h.binding h.stands))
+        by x (inr h) = (
+          subst (λ z. In z (main_records (meaning gives d))) (sym h.is)
+              (placed-main gives d flow is g (new-in gives d flow is n r s here of_rank) (record { step = s.0; place = h.place; inputs = bound_values s.1 h.binding; waits = h.sources ++ before }) (placed h.place h.sources h.binding h.stands)),
+          subst (λ (z : Record). settled z.job ≡ true) (sym h.is) (sym (seen.jobs h.place h.sources h.binding h.stands) ∙ h.is_settled),
+        )
 
-        each : (f : InstanceStep) → model.In f (g ∷ steps_until gives d flow r) → (k : PlacedJob) → model.In k f.jobs → (x : Record) × In x (records_of now) × (x.job ≡ job_at k.step k.place)
-        each f (inl p) k j =
-            let h = job-at k (subst (λ (z : InstanceStep). model.In k z.jobs) p j) in
-            let x = told.2 k.place h.sources h.binding h.stands in
-            (x.0, x.1, x.2 ∙ ap (λ z. job_at z k.place) (sym h.step))
-        each f (inr i) k j = let x = stage.all f i k j in (x.0, told.1.kept x.0 x.1, x.2)
+        each : (f : InstanceStep) → model.In f (g ∷ steps_until gives d flow r) → (k : PlacedJob) → model.In k f.jobs → settled (job_at k.step k.place) ≡ true → (x : Record) × In x (records_of now) × (x.job ≡ job_at k.step k.place)
+        each f (inl p) k j z =
+            let h = job-at k (subst (λ (y : InstanceStep). model.In k y.jobs) p j) in
+            let x = told.2 k.place h.sources h.binding h.stands (seen.jobs k.place h.sources h.binding h.stands ∙ subst (λ y. settled (job_at y k.place) ≡ true) h.step z) in
+            (x.0, x.1, x.2 ∙ ap (λ y. job_at y k.place) (sym h.step))
+        each f (inr i) k j z = let x = stage.all f i k j z in (x.0, told.1.kept x.0 x.1, x.2)
 
-  -- in the end the records are those of the main jobs
-  pub stage-end : (k : Kept) (us : List Shape) → IsStage gives d flow (length flow.steps) k us → HaveSame (records_of k) (main_records (meaning gives d))
-  stage-end k us h =
-      have-same gives d flow is (records_of k) h.own (λ r i.
+  -- in the end the records are those of the settled main jobs
+  pub stage-end : (known : Origin → Bool) (settled : JobName → Bool) (k : Kept) (us : List Shape) → IsStage gives d flow known settled (length flow.steps) k us → HaveSame (records_of k) (records_of_settled settled (meaning gives d))
+  stage-end known settled k us h =
+      have-same gives d flow is settled (records_of k) h.own (λ r i z.
       let p = main-placed gives d flow is r i in
-      let x = h.all p.step (subst (λ ss. model.In p.step (Rattle.tv_instance.specs.ByResults.steps_by [] (Rattle.tv_marked.specs.Staged.main_results gives d flow) (Rattle.tv_model.specs.Instances.given_of flow d.inputs) [] ss)) (sym (many gives d flow is)) p.there) p.placed p.among in
-      (x.0, x.1, x.2 ∙ ap (λ (z : Record). z.job) (sym p.same)))
+      let x = h.all p.step (subst (λ ss. model.In p.step (Rattle.tv_instance.specs.ByResults.steps_by [] (Rattle.tv_marked.specs.Staged.main_results gives d flow) (Rattle.tv_model.specs.Instances.given_of flow d.inputs) [] ss)) (sym (many gives d flow is)) p.there) p.placed p.among (sym (ap (λ (y : Record). settled y.job) p.same) ∙ z) in
+      (x.0, x.1, x.2 ∙ ap (λ (y : Record). y.job) (sym p.same)))

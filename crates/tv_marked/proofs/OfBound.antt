@@ -1,23 +1,24 @@
 -- What a job binds used what is told of its ports, and so did a passed fault.
 use Rattle.std.specs.List.{cons_option, list_all, list_any}
 use Rattle.std.specs.Option.{option_map_or}
-use Rattle.std.specs.Prelude.{◌≡◌, refl, ℕ, zero, suc, ◌+◌, ◌-◌, ◌≤◌, ◌<◌, ◌==◌, Bool, true, false, cond, drop, filter_map, find, flat_map, if◌then◌else◌, length, List, [], ◌∷◌, ◌++◌, map, Option, Some, None, option_and_then, option_map, slice_get, slice_index_or, take, unwrap_or}
+use Rattle.std.specs.Prelude.{◌≡◌, refl, ℕ, zero, suc, ◌+◌, ◌-◌, ◌≤◌, ◌<◌, ◌==◌, ◌&&◌, Bool, true, false, cond, drop, filter_map, find, flat_map, if◌then◌else◌, length, List, [], ◌∷◌, ◌++◌, map, Option, Some, None, option_and_then, option_map, slice_get, slice_index_or, take, unwrap_or}
 use Rattle.std.proofs.Common.{arith, sym, ap, ap₂, subst, ◌∙◌, inl, inr}
 use Rattle.std.proofs.Math.Path.{fun_ext}
 use Rattle.std.proofs.lemmas.Bool.{and_parts, eq-eqb, eqb-true, true≢false}
 use Rattle.std.proofs.lemmas.List.{map-append}
+use Rattle.std.proofs.lemmas.List.Folds.{list_all-append}
 use Rattle.std.proofs.lemmas.Option.{none-some, same_Some}
-use Rattle.tv_value.specs.Nested.{leaf, list, Place, at, item_at}
+use Rattle.tv_value.specs.Nested.{leaf, list, Place, at, item_at, notes}
 use Rattle.tv_value.specs.Orders.{named, same_name}
 use Rattle.tv_value.specs.Strategies.{Strategies, Strategy, cross, dot, no_strategies, port, strategy}
-use Rattle.tv_value.specs.Values.{ErrorDoc, Name, Value, fault}
+use Rattle.tv_value.specs.Values.{Name, fault}
 use Rattle.tv_flow.specs.Flows.{Feed, Flow, Step, StepInput}
 use Rattle.tv_lineage.specs.Touching as marks
 use Rattle.tv_strategy.specs.Conditions.{EachOnce, number_of, place_of, times}
-use Rattle.tv_strategy.specs.Iterations.{Binding, Iteration, Iterations, job, passed, walk}
-use Rattle.tv_strategy.specs.Levels.{AllHaveLevels, HasLevels, IsJob}
+use Rattle.tv_strategy.specs.Iterations.{Binding, Iteration, job, passed, walk}
+use Rattle.tv_strategy.specs.Levels.{HasLevels, IsJob}
 use Rattle.tv_strategy.specs.Measures.{all_leaf_names, leaf_names, strategy_depth}
-use Rattle.tv_strategy.specs.Origins.{Mark, Origin, Traced}
+use Rattle.tv_strategy.specs.Origins.{Mark, Origin, Traced, fixed}
 use Rattle.tv_strategy.specs.Sources.{Each}
 use Rattle.tv_strategy.specs.Splits.{split}
 use Rattle.tv_strategy.proofs.AtDepth.{iteration-levels}
@@ -25,7 +26,7 @@ use Rattle.tv_strategy.proofs.AtPlace.{ItemHasLevels, JobsAt, item-levels, split
 use Rattle.tv_strategy.proofs.OfEnds.{walk-at}
 use Rattle.tv_strategy.proofs.OfLaws.{split-names_leaves}
 use Rattle.tv_strategy.proofs.OfPlaces.{same-equal, same-itself}
-use Rattle.tv_depths.specs.Delivered.{Delivered, Ported, feed_delivers, ported, wrapped}
+use Rattle.tv_depths.specs.Delivered.{Delivered, Ported, ported, wrapped}
 use Rattle.tv_depths.specs.Steps.{bound_values, port_iteration, port_mismatch, strategy_of}
 use Rattle.tv_wires.specs.declared.ports.Port.{Port}
 use Rattle.tv_wires.specs.Feeds.{feed_numbered}
@@ -35,7 +36,7 @@ use Rattle.tv_matching.specs.Told.{Spot}
 use Rattle.tv_matching.proofs.OfMembers.{each-from}
 use Rattle.tv_starts.specs.Starts.{cross_starts, dot_starts, starts}
 use Rattle.tv_starts.proofs.OfStarts.{places-split}
-use Rattle.tv_instance.specs.ByResults.{InstanceStep, ports_on, step_of}
+use Rattle.tv_instance.specs.ByResults.{InstanceStep, ports_on}
 use Rattle.tv_model.specs.Agreeing.{FindThemselves}
 use Rattle.tv_model.specs.Lineages.{mark_or, used}
 use Rattle.tv_levels.specs.Levels.{CameFrom}
@@ -155,25 +156,30 @@ wrapped-used (suc k) v = none (used (wrapped k v)) ∙ wrapped-used k v
     none [] = refl
     none (x ∷ xs) = ap (λ l. x ∷ l) (none xs)
 
+wrapped-known : (known : Origin → Bool) (k : ℕ) (v : Traced) → list_all known (notes (wrapped k v)) ≡ true → list_all known (notes v) ≡ true
+wrapped-known known zero v h = h
+wrapped-known known (suc k) v h = wrapped-known known k v (and_parts (list_all known (notes (wrapped k v))) true (sym (list_all-append known (notes (wrapped k v)) []) ∙ (and_parts (known fixed) (list_all known (notes (wrapped k v) ++ [])) h).1)).0
+
 -- what stands in it used what is told of what is delivered: at the whole, or where nothing is wrapped
-ported-marks : (declared : ℕ) (d : Delivered) (told : Place → List marks.Mark) → ((q : Place) (w : Traced) → at d.value q ≡ Some w → told q ≡ marks_of w) → (q : Place) (w : Traced) → length q ≤ d.depth - declared → at (ported declared d).value q ≡ Some w → told q ≡ marks_of w
-ported-marks declared d told h q w le e = by (declared - d.depth) refl e
+ported-marks : (known : Origin → Bool) (declared : ℕ) (d : Delivered) (told : Place → List marks.Mark) → ((q : Place) (w : Traced) → list_all known (notes w) ≡ true → at d.value q ≡ Some w → told q ≡ marks_of w) → (q : Place) (w : Traced) → list_all known (notes w) ≡ true → length q ≤ d.depth - declared → at (ported declared d).value q ≡ Some w → told q ≡ marks_of w
+ported-marks known declared d told h q w whole le e = by (declared - d.depth) refl e
   where
     empty : (q : Place) (a b c : ℕ) → b - a ≡ suc c → length q ≤ a - b → q ≡ []
     empty [] a b c f g = refl
     empty (i ∷ q) a b c f g = absurd (omega (arith, f, g))
 
     by : (k : ℕ) → declared - d.depth ≡ k → at (wrapped k d.value) q ≡ Some w → told q ≡ marks_of w
-    by zero f k = h q w k
+    by zero f k = h q w whole k
     by (suc c) f k =
         let none : q ≡ [] = empty q d.depth declared c f le in
-        ap told none ∙ h [] d.value refl ∙ ap (map mark_of) (sym (wrapped-used (suc c) d.value))
-        ∙ ap marks_of (same_Some (wrapped (suc c) d.value) w (subst (λ p. at (wrapped (suc c) d.value) p ≡ Some w) none k))
+        let same = same_Some (wrapped (suc c) d.value) w (subst (λ p. at (wrapped (suc c) d.value) p ≡ Some w) none k) in
+        ap told none ∙ h [] d.value (wrapped-known known (suc c) d.value (subst (λ v. list_all known (notes v) ≡ true) (sym same) whole)) refl ∙ ap (map mark_of) (sym (wrapped-used (suc c) d.value))
+        ∙ ap marks_of same
 
 -- ---- one step, fed by these deliveries
 
-module _ (flow : Flow) (s : Name × Step) (f : InstanceStep) (made : IsMadeOf flow s f) (delivers : Feed → Delivered) (fed : f.step.inputs ≡ ports_on delivers s.1.inputs)
-    (shapes : List Shape) (told : (d : Feed) (q : Place) (w : Traced) → at (delivers d).value q ≡ Some w → feed_marks flow shapes (feed_numbered flow d) q ≡ marks_of w) where
+module _ (known : Origin → Bool) (flow : Flow) (s : Name × Step) (f : InstanceStep) (made : IsMadeOf flow s f) (delivers : Feed → Delivered) (fed : f.step.inputs ≡ ports_on delivers s.1.inputs)
+    (shapes : List Shape) (told : (d : Feed) (q : Place) (w : Traced) → list_all known (notes w) ≡ true → at (delivers d).value q ≡ Some w → feed_marks flow shapes (feed_numbered flow d) q ≡ marks_of w) where
   abbrev levels : Name → ℕ
   levels = port_mismatch f.step.inputs
 
@@ -210,7 +216,7 @@ module _ (flow : Flow) (s : Name × Step) (f : InstanceStep) (made : IsMadeOf fl
 
   -- ---- jobs
 
-  module _ (q : Place) (b : Binding) (stands : IsJob (at f.step.iteration q) b) where
+  module _ (q : Place) (b : Binding) (stands : IsJob (at f.step.iteration q) b) (whole : (p : Name) (w : Traced) → named p b ≡ Some w → list_all known (notes w) ≡ true) where
     abbrev parts : List Spot
     parts = split levels tree q
 
@@ -246,8 +252,8 @@ module _ (flow : Flow) (s : Name × Step) (f : InstanceStep) (made : IsMadeOf fl
         let there : at (takes i.1).value (part_in begins (port_among flow leaves i) q) ≡ Some w.0 = ap₂ (λ v r. at v r) (sym (ap value_in (input-is i.0 i.1 found))) (sym place) ∙ w.2 in (
           w.0,
           w.1,
-          ported-marks i.1.depth (delivers i.1.from) (feed_marks flow shapes (feed_numbered flow i.1.from)) (told i.1.from)
-              (part_in begins (port_among flow leaves i) q) w.0
+          ported-marks known i.1.depth (delivers i.1.from) (feed_marks flow shapes (feed_numbered flow i.1.from)) (told i.1.from)
+              (part_in begins (port_among flow leaves i) q) w.0 (whole i.0 w.0 w.1)
               (short (levels_of flow i.1) (drop (slice_index_or begins (leaf_number i.0 leaves) 0) q) ((delivers i.1.from).depth - i.1.depth) (walked-levels i found))
               there,
         )
@@ -356,8 +362,8 @@ module _ (flow : Flow) (s : Name × Step) (f : InstanceStep) (made : IsMadeOf fl
     name-at (y ∷ xs) zero x e = ap (λ (z : Name × ℕ). Some z.0) (same_Some y x e)
     name-at (y ∷ xs) (suc k) x e = name-at xs k x e
 
-    pub fault-marks : (q : Place) (k : ℕ) (m : Option Mark) → CameFrom s.1 f.step q k m → fault_marks flow shapes (ports_of flow s.1) begins k q ≡ map mark_of (mark_or m [])
-    fault-marks q k m c = by (named c.port s.1.inputs) refl (sym (ap (named c.port) fed ∙ named-on takes c.port s.1.inputs) ∙ c.is_port)
+    pub fault-marks : (q : Place) (k : ℕ) (m : Option Mark) (c : CameFrom s.1 f.step q k m) → known c.origin ≡ true → fault_marks flow shapes (ports_of flow s.1) begins k q ≡ map mark_of (mark_or m [])
+    fault-marks q k m c is_known = by (named c.port s.1.inputs) refl (sym (ap (named c.port) fed ∙ named-on takes c.port s.1.inputs) ∙ c.is_port)
       where
         start-is : slice_index_or begins k 0 ≡ c.start
         start-is = ap (λ (g : Name → ℕ). slice_index_or (map (λ (y : Name × ℕ). y.1) (starts g 0 tree)) k 0) numbers-are ∙ begins-at (starts levels 0 tree) k (c.port, c.start) c.begins
@@ -374,7 +380,7 @@ module _ (flow : Flow) (s : Name × Step) (f : InstanceStep) (made : IsMadeOf fl
             let same = same_Some (takes i) c.ported g in
             leaf-found k c.port leaf-is (drop (slice_index_or begins k 0) q) s.1.inputs i e
             ∙ ap (λ n. feed_marks flow shapes (feed_numbered flow i.from) (drop n q)) start-is
-            ∙ ported-marks i.depth (delivers i.from) (feed_marks flow shapes (feed_numbered flow i.from)) (told i.from) (drop c.start q) (leaf c.origin (fault c.document))
+            ∙ ported-marks known i.depth (delivers i.from) (feed_marks flow shapes (feed_numbered flow i.from)) (told i.from) (drop c.start q) (leaf c.origin (fault c.document)) (ap (λ b. b && true) is_known)
             (subst (λ (z : Ported). length (drop c.start q) ≤ z.mismatch) (sym same) (below (length (drop c.start q)) c.ported.mismatch c.above))
             (subst (λ (z : Ported). at z.value (drop c.start q) ≡ Some (leaf c.origin (fault c.document))) (sym same) c.stands)
             ∙ ap (λ n. map mark_of (mark_or n [])) c.mark

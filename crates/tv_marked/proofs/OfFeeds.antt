@@ -1,12 +1,15 @@
 -- What stands in what a feed delivers used what the shapes of the steps tell.
+use Rattle.std.specs.List.{list_all}
 use Rattle.std.specs.Option.{option_map_or}
 use Rattle.std.specs.Prelude.{◌≡◌, refl, ℕ, zero, suc, ◌+◌, Bool, true, false, cond, find, flat_map, if◌then◌else◌, List, [], ◌∷◌, ◌++◌, map, Option, Some, None, option_and_then, option_map, slice_get, slice_index_or, unwrap_or}
 use Rattle.std.proofs.Common.{arith, sym, ap, ap₂, subst, ◌∙◌, inl, inr}
+use Rattle.std.proofs.lemmas.Bool.{and_parts}
 use Rattle.std.proofs.lemmas.List.{map-append}
+use Rattle.std.proofs.lemmas.List.Folds.{list_all-append}
 use Rattle.std.proofs.lemmas.Option.{none-some, same_Some}
-use Rattle.tv_value.specs.Nested.{Place, Trees, at, item_at, leaf, list, map_trees, no_trees, tree, trees_of}
+use Rattle.tv_value.specs.Nested.{Place, Trees, all_notes, at, item_at, leaf, list, map_trees, no_trees, notes, tree, trees_of}
 use Rattle.tv_value.specs.Orders.{named, same_name}
-use Rattle.tv_value.specs.Values.{JobName, Name, Scalar, Value}
+use Rattle.tv_value.specs.Values.{Name, Scalar, Value}
 use Rattle.tv_flow.specs.Flows.{Feed, Flow, Link, Step, constant, input, link, merge, output}
 use Rattle.tv_lineage.specs.Touching as marks
 use Rattle.tv_strategy.specs.Iterations.{Iteration}
@@ -19,12 +22,13 @@ use Rattle.tv_depths.specs.Delivered.{Delivered, feed_delivers, link_delivers, m
 use Rattle.tv_depths.specs.Steps.{spot}
 use Rattle.tv_wires.specs.Feeds.{feed_numbered, link_numbered, outputs_of}
 use Rattle.tv_instance.specs.ByResults.{InstanceStep, outputs_by, step_of}
+use Rattle.tv_instance.proofs.OfWholeness.{output-at}
 use Rattle.tv_model.specs.Instances.{given_of, value_given}
 use Rattle.tv_model.specs.Lineages.{all_used, used}
 use Rattle.tv_model.specs.Members.{In}
 use Rattle.tv_followed.specs.Recorded.{mark_of, marks_of}
-use Rattle.tv_marked.specs.Feeds.{element_marks, feed_marks, feed_told, job_at, link_told, merge_told, node_marks, output_told}
-use Rattle.tv_marked.specs.Shapes.{Shape, Shows, no_shape, reached}
+use Rattle.tv_marked.specs.Feeds.{element_marks, feed_marks, job_at, link_told, merge_told, node_marks, output_told}
+use Rattle.tv_marked.specs.Shapes.{Shape, ShowsKnown, no_shape, reached}
 use Rattle.tv_marked.specs.Standing.{AreShapesOf, IsStepOf, ShapeOf}
 use Rattle.tv_marked.proofs.OfShapes.{UsedThere, used-at}
 
@@ -89,7 +93,11 @@ module _ (x : Name) where
 
 -- ---- links
 
-module _ (flow : Flow) (vs : List (Name × Value)) (fs : List InstanceStep) (shapes : List Shape) (stand : (g : InstanceStep) → In g fs → IsStepOf flow g) (shown : AreShapesOf flow fs shapes) where
+module _ (known : Origin → Bool) (flow : Flow) (vs : List (Name × Value)) (fs : List InstanceStep) (shapes : List Shape) (stand : (g : InstanceStep) → In g fs → IsStepOf flow g) (shown : AreShapesOf known flow fs shapes) where
+  -- all nodes of a value are known
+  abbrev pub IsWhole : Traced → Type 0
+  IsWhole w = list_all known (notes w) ≡ true
+
   abbrev pub given_here : List (Name × Delivered)
   given_here = given_of flow vs
 
@@ -150,8 +158,8 @@ module _ (flow : Flow) (vs : List (Name × Value)) (fs : List InstanceStep) (sha
       by true k rec = ap (λ z. Some z.1) (same_Some y (n, x) k)
       by false k rec = rec k
 
-  made-told : (t o : Name) (g : InstanceStep) → IsStepOf flow g → t ≡ g.step.step → Shows (slice_index_or shapes (position t flow.steps) no_shape) g.step.iteration → (q : Place) (w : Traced) → at (unwrap_or (named o g.step.outputs) nothing_delivered).value q ≡ Some w → told (output t o) q ≡ marks_of w
-  made-told t o g s same shows q w e =
+  made-told : (t o : Name) (g : InstanceStep) → IsStepOf flow g → t ≡ g.step.step → ShowsKnown (job_at g.step.step) known [] (slice_index_or shapes (position t flow.steps) no_shape) g.step.iteration → (q : Place) (w : Traced) → IsWhole w → at (unwrap_or (named o g.step.outputs) nothing_delivered).value q ≡ Some w → told (output t o) q ≡ marks_of w
+  made-told t o g s same shows q w whole e =
       let n = position t flow.steps in
       let u = slice_index_or shapes n no_shape in
       let here : slice_get flow.steps n ≡ Some (t, s.step) = subst (λ m. slice_get flow.steps (position m flow.steps) ≡ Some (m, s.step)) (sym same) s.here in
@@ -159,7 +167,8 @@ module _ (flow : Flow) (vs : List (Name × Value)) (fs : List InstanceStep) (sha
       ap (λ j. output_told element_marks node_marks flow shapes n j q) (ap (position o) outs)
       ∙ ap (λ p. option_map_or (λ (r : Name × Step). option_map_or (λ (p : Name × ℕ). option_map_or (λ (x : Place × Shape). node_marks r.0 x.0 x.1) (reached [] u q) []) (slice_get r.1.outputs (position o s.step.outputs)) []) p []) here
       ∙ outputs-told t s.gives s.levels g.step.iteration q w (option_map_or (λ (x : Place × Shape). node_marks t x.0 x.1) (reached [] u q) [])
-      (λ k d h. there-told t w (reached [] u q) (used-at (spot [] t) (s.gives k) d u g.step.iteration [] s.levels shows q w h))
+      (λ k d h. there-told t w (reached [] u q) (used-at (spot [] t) (s.gives k) d u g.step.iteration [] s.levels q
+      (subst (λ m. ShowsKnown (job_at m) known [] u g.step.iteration) (sym same) shows q (sym (output-at (spot [] t) known (s.gives k) d g.step.iteration [] s.levels q w h) ∙ whole)) w h))
       o 0 s.step.outputs
       (subst (λ m. at (unwrap_or (named o (outputs_by [] m s.gives s.levels g.step.iteration 0 s.step.outputs)) nothing_delivered).value q ≡ Some w) (sym same) (subst (λ os. at (unwrap_or (named o os) nothing_delivered).value q ≡ Some w) s.outputs e))
 
@@ -171,38 +180,44 @@ module _ (flow : Flow) (vs : List (Name × Value)) (fs : List InstanceStep) (sha
       by true k h rec = let p = same_Some y g h in (inl (sym p), same_name-is t y.step.step k ∙ ap (λ (z : InstanceStep). z.step.step) p)
       by false k h rec = let r = rec h in (inr r.0, r.1)
 
-  pub link-marks : (l : Link) (q : Place) (w : Traced) → at (link_delivers step_of given_here fs l).value q ≡ Some w → told l q ≡ marks_of w
-  link-marks (input x) q w e = input-told flow.inputs x q w e
-  link-marks (output t o) q w e = by (find (λ (g : InstanceStep). same_name t g.step.step) fs) refl e (shown t)
+  pub link-marks : (l : Link) (q : Place) (w : Traced) → IsWhole w → at (link_delivers step_of given_here fs l).value q ≡ Some w → told l q ≡ marks_of w
+  link-marks (input x) q w whole e = input-told flow.inputs x q w e
+  link-marks (output t o) q w whole e = by (find (λ (g : InstanceStep). same_name t g.step.step) fs) refl e (shown t)
     where
-      by : (f : Option InstanceStep) → find (λ (g : InstanceStep). same_name t g.step.step) fs ≡ f → at (option_map_or (λ (g : InstanceStep). unwrap_or (named o g.step.outputs) nothing_delivered) f nothing_delivered).value q ≡ Some w → ShapeOf f (slice_index_or shapes (position t flow.steps) no_shape) → told (output t o) q ≡ marks_of w
+      by : (f : Option InstanceStep) → find (λ (g : InstanceStep). same_name t g.step.step) fs ≡ f → at (option_map_or (λ (g : InstanceStep). unwrap_or (named o g.step.outputs) nothing_delivered) f nothing_delivered).value q ≡ Some w → ShapeOf known f (slice_index_or shapes (position t flow.steps) no_shape) → told (output t o) q ≡ marks_of w
       by None f h s = unmade-told (position t flow.steps) (position o (outputs_of flow t)) q w s h
-      by (Some g) f h s = let r = found-is t fs g f in made-told t o g (stand g r.0) r.1 s q w h
+      by (Some g) f h s = let r = found-is t fs g f in made-told t o g (stand g r.0) r.1 s q w whole h
 
   -- ---- feeds
 
   abbrev delivers : Link → Delivered
   delivers l = link_delivers step_of given_here fs l
 
-  links-marks : (ls : List Link) → map mark_of (all_used (trees_of (map (λ (d : Delivered). d.value) (map delivers ls)))) ≡ flat_map (λ l. link_told element_marks node_marks flow shapes l []) (map (link_numbered flow) ls)
-  links-marks [] = refl
-  links-marks (l ∷ ls) =
-      map-append mark_of (used (delivers l).value) (all_used (trees_of (map (λ (d : Delivered). d.value) (map delivers ls))))
-      ∙ ap₂ (λ a b. a ++ b) (sym (link-marks l [] (delivers l).value refl)) (links-marks ls)
+  abbrev values : List Link → Trees Origin Scalar
+  values ls = trees_of (map (λ (d : Delivered). d.value) (map delivers ls))
 
-  links-at : (ls : List Link) (i : ℕ) (q : Place) (w : Traced) → option_and_then (λ u. at u q) (item_at (trees_of (map (λ (d : Delivered). d.value) (map delivers ls))) i) ≡ Some w → option_map_or (λ l. link_told element_marks node_marks flow shapes l q) (slice_get (map (link_numbered flow) ls) i) [] ≡ marks_of w
-  links-at [] i q w e = absurd (none-some w e)
-  links-at (l ∷ ls) zero q w e = link-marks l q w e
-  links-at (l ∷ ls) (suc i) q w e = links-at ls i q w e
+  links-marks : (ls : List Link) → list_all known (all_notes (values ls)) ≡ true → map mark_of (all_used (values ls)) ≡ flat_map (λ l. link_told element_marks node_marks flow shapes l []) (map (link_numbered flow) ls)
+  links-marks [] whole = refl
+  links-marks (l ∷ ls) whole =
+      let parts = and_parts (list_all known (notes (delivers l).value)) (list_all known (all_notes (values ls))) (sym (list_all-append known (notes (delivers l).value) (all_notes (values ls))) ∙ whole) in
+      map-append mark_of (used (delivers l).value) (all_used (values ls))
+      ∙ ap₂ (λ a b. a ++ b) (sym (link-marks l [] (delivers l).value parts.0 refl)) (links-marks ls parts.1)
 
-  merge-marks : (ls : List Link) (q : Place) (w : Traced) → at (merged (map delivers ls)).value q ≡ Some w → merge_told element_marks node_marks flow shapes (map (link_numbered flow) ls) q ≡ marks_of w
-  merge-marks [] [] w e = sym (nothing-at [] w e)
-  merge-marks [] (i ∷ q) w e = absurd (none-some w e)
-  merge-marks (l ∷ ls) [] w e = sym (links-marks (l ∷ ls)) ∙ ap marks_of (same_Some (merged (map delivers (l ∷ ls))).value w e)
-  merge-marks (l ∷ ls) (i ∷ q) w e = links-at (l ∷ ls) i q w e
+  links-at : (ls : List Link) (i : ℕ) (q : Place) (w : Traced) → IsWhole w → option_and_then (λ u. at u q) (item_at (values ls) i) ≡ Some w → option_map_or (λ l. link_told element_marks node_marks flow shapes l q) (slice_get (map (link_numbered flow) ls) i) [] ≡ marks_of w
+  links-at [] i q w whole e = absurd (none-some w e)
+  links-at (l ∷ ls) zero q w whole e = link-marks l q w whole e
+  links-at (l ∷ ls) (suc i) q w whole e = links-at ls i q w whole e
 
-  -- what stands at a place of what a feed delivers used what is told there
-  pub feed-marks : (d : Feed) (q : Place) (w : Traced) → at (feed_delivers step_of given_here fs d).value q ≡ Some w → feed_marks flow shapes (feed_numbered flow d) q ≡ marks_of w
-  feed-marks (link l) q w e = link-marks l q w e
-  feed-marks (merge ls) q w e = merge-marks ls q w e
-  feed-marks (constant v) q w e = sym (ap (map mark_of) (fixed-at v q w e))
+  merge-marks : (ls : List Link) (q : Place) (w : Traced) → IsWhole w → at (merged (map delivers ls)).value q ≡ Some w → merge_told element_marks node_marks flow shapes (map (link_numbered flow) ls) q ≡ marks_of w
+  merge-marks [] [] w whole e = sym (nothing-at [] w e)
+  merge-marks [] (i ∷ q) w whole e = absurd (none-some w e)
+  merge-marks (l ∷ ls) [] w whole e =
+      let same = same_Some (merged (map delivers (l ∷ ls))).value w e in
+      sym (links-marks (l ∷ ls) (and_parts (known fixed) (list_all known (all_notes (values (l ∷ ls)))) (subst IsWhole (sym same) whole)).1) ∙ ap marks_of same
+  merge-marks (l ∷ ls) (i ∷ q) w whole e = links-at (l ∷ ls) i q w whole e
+
+  -- what stands at a place of what a feed delivers used what is told there, where all of it is known
+  pub feed-marks : (d : Feed) (q : Place) (w : Traced) → IsWhole w → at (feed_delivers step_of given_here fs d).value q ≡ Some w → feed_marks flow shapes (feed_numbered flow d) q ≡ marks_of w
+  feed-marks (link l) q w whole e = link-marks l q w whole e
+  feed-marks (merge ls) q w whole e = merge-marks ls q w whole e
+  feed-marks (constant v) q w whole e = sym (ap (map mark_of) (fixed-at v q w e))

@@ -1,13 +1,13 @@
 -- Parts of what feeds deliver stand for its marks, and still do when more groups are made.
 use Rattle.std.specs.Option.{option_map_or}
-use Rattle.std.specs.Prelude.{◌≡◌, refl, ℕ, zero, suc, ◌+◌, ◌≤◌, List, [], ◌∷◌, ◌++◌, flat_map, length, map, Option, Some, None, option_and_then, slice_get, slice_index_or}
-use Rattle.std.proofs.Common.{arith, sym, ap, ap₂, subst, ◌∙◌, append-nil}
+use Rattle.std.specs.Prelude.{◌≡◌, refl, ℕ, zero, suc, ◌+◌, ◌≤◌, List, [], ◌∷◌, ◌++◌, length, map, Option, Some, None, option_and_then, slice_get, slice_index_or}
+use Rattle.std.proofs.Common.{arith, ap, ap₂, subst, ◌∙◌, append-nil}
 use Rattle.std.proofs.lemmas.Grind.{flat_map-append}
 use Rattle.std.proofs.lemmas.Option.{none-some, same_Some}
 use Rattle.tv_value.specs.Nested.{Place, item_at, leaf, list, no_trees, tree}
 use Rattle.tv_value.specs.Values.{JobName, Name}
 use Rattle.tv_flow.specs.Flows.{Flow, Step}
-use Rattle.tv_lineage.specs.Kept.{Groups, IsBefore, Part, all_marks, element, group, group_marks, marks_of, result}
+use Rattle.tv_lineage.specs.Kept.{Groups, IsBefore, Part, all_marks, element, group, marks_of, result}
 use Rattle.tv_lineage.specs.Members.{Each}
 use Rattle.tv_lineage.specs.Touching.{Mark, given, made}
 use Rattle.tv_lineage.proofs.Keeping.{before-later, before-same}

@@ -1,13 +1,13 @@
 -- The outputs of a document: what stands in them used what the shapes of the main instance's steps tell.
 use Rattle.std.specs.List.{cons_option}
 use Rattle.std.specs.Option.{option_map_or}
-use Rattle.std.specs.Prelude.{◌≡◌, refl, ℕ, zero, suc, ◌+◌, ◌≤◌, Bool, true, false, filter_map, flat_map, if◌then◌else◌, is_some, length, List, [], ◌∷◌, ◌++◌, map, Option, Some, None, option_and_then, option_map, slice_get, take}
+use Rattle.std.specs.Prelude.{◌≡◌, refl, ℕ, suc, ◌+◌, Bool, true, false, filter_map, flat_map, if◌then◌else◌, is_some, length, List, [], ◌∷◌, ◌++◌, map, Option, Some, None, option_and_then, option_map, slice_get}
 use Rattle.std.proofs.Common.{arith, sym, ap, ap₂, subst, ◌∙◌}
-use Rattle.std.proofs.lemmas.List.{map-append, take_all}
+use Rattle.std.proofs.lemmas.List.{map-append}
 use Rattle.std.proofs.lemmas.Option.{none-some, same_Some}
-use Rattle.tv_value.specs.Nested.{Place, Tree, Trees, at, item_at, leaf, list, map_tree, map_trees, nodes, nodes_below, nodes_from, no_trees, tree}
+use Rattle.tv_value.specs.Nested.{Place, Trees, at, item_at, leaf, list, map_trees, nodes, nodes_below, nodes_from, no_trees, notes, tree}
 use Rattle.tv_value.specs.Orders.{named, same_name}
-use Rattle.tv_value.specs.Values.{JobName, Name, Scalar, Value}
+use Rattle.tv_value.specs.Values.{Name, Scalar}
 use Rattle.tv_gate.specs.Outcomes.{Giving}
 use Rattle.tv_flow.specs.Flows.{Document, Feed, Flow}
 use Rattle.tv_lineage.specs.Lineages as lineages
@@ -19,10 +19,9 @@ use Rattle.tv_depths.specs.Delivered.{feed_delivers}
 use Rattle.tv_depths.specs.Ranks.{ranked}
 use Rattle.tv_wires.specs.Feeds.{feed_numbered}
 use Rattle.tv_instance.specs.ByResults.{InstanceStep, step_of, steps_by}
-use Rattle.tv_instances.specs.OwnResults.{outside_by_results, outside_of_made}
 use Rattle.tv_instances.proofs.OfResults.{feed-map, itself, steps-by_results, steps-core}
 use Rattle.tv_model.specs.Instances.{given_of}
-use Rattle.tv_model.specs.Made.{Made, Meaning, feed_value, step_in}
+use Rattle.tv_model.specs.Made.{Meaning, feed_value, step_in}
 use Rattle.tv_model.specs.Meanings.{flow_meaning, instance_meaning, meaning, no_meaning}
 use Rattle.tv_followed.specs.Recorded.{leaf_of, leaves, marks_of, output_at}
 use Rattle.tv_marked.specs.Feeds.{feed_marks}
@@ -32,6 +31,7 @@ use Rattle.tv_marked.specs.Staged.{IsMainFlow, main_made, main_results, steps_un
 use Rattle.tv_marked.specs.Standing.{AreShapesOf}
 use Rattle.tv_marked.proofs.OfFeeds.{feed-marks}
 use Rattle.tv_marked.proofs.OfStages.{all-stand, many}
+use Rattle.tv_marked.proofs.OfTables.{all-so}
 
 -- ---- values and what they are made of
 
@@ -131,12 +131,12 @@ module _ (gives : Giving) (d : Document) (flow : Flow) (is : IsMainFlow d flow) 
       each [] = refl
       each (o ∷ os) = ap₂ (λ x l. (o.0, x) ∷ l) (ap (λ (y : Rattle.tv_depths.specs.Delivered.Delivered). y.value) (fed o.1)) (each os)
 
-  module _ (shapes : List Shape) (shown : AreShapesOf flow all shapes) where
+  module _ (shapes : List Shape) (shown : AreShapesOf (λ o. true) flow all shapes) where
     abbrev told : Feed → Place → List marks.Mark
     told f q = feed_marks flow shapes (feed_numbered flow f) q
 
     told-is : (f : Feed) (q : Place) (w : Traced) → at (value f) q ≡ Some w → told f q ≡ marks_of w
-    told-is = feed-marks flow d.inputs all shapes (all-stand gives d flow is (length flow.steps)) shown
+    told-is f q w e = feed-marks (λ o. true) flow d.inputs all shapes (all-stand gives d flow is (length flow.steps)) shown f q w (all-so (notes w)) e
 
     -- at a place of an output
     pub place-told : (f : Feed) (q : Place) (b : Bool) → b ≡ is_some (at (plain (value f)) q) → (if b then Some (told f q) else None) ≡ option_map marks_of (at (value f) q)

@@ -1,20 +1,15 @@
 -- The records of the main flow's jobs, by the steps of its instance.
 use Rattle.std.specs.Option.{option_map_or}
 use Rattle.std.specs.Prelude.{◌≡◌, refl, ℕ, Bool, true, false, ◌⊎◌, List, [], ◌∷◌, ◌++◌, filter, flat_map, length, map, Some, None, take}
-use Rattle.std.proofs.Common.{arith, sym, ap, ap₂, subst, ◌∙◌, inl, inr}
-use Rattle.tv_value.specs.Nested.{Place, at, leaf, list, nodes}
-use Rattle.tv_value.specs.Orders.{named}
-use Rattle.tv_value.specs.Values.{JobName, Name, Value}
+use Rattle.std.proofs.Common.{sym, ap, subst, ◌∙◌, inl, inr}
+use Rattle.tv_value.specs.Values.{JobName}
 use Rattle.tv_gate.specs.Outcomes.{Giving}
-use Rattle.tv_flow.specs.Flows.{Document, Flow, Step}
+use Rattle.tv_flow.specs.Flows.{Document, Flow}
 use Rattle.tv_lineage.specs.Lineages.{Record}
 use Rattle.tv_lineage.specs.Members.{HaveSame, In}
 use Rattle.tv_lineage.proofs.OfMembers.{in-map, of-map}
-use Rattle.tv_strategy.specs.Iterations.{Binding, Iteration, job, passed}
-use Rattle.tv_strategy.specs.Origins.{Origin}
 use Rattle.tv_depths.specs.Delivered.{StepMeaning}
 use Rattle.tv_depths.specs.Ranks.{ranked}
-use Rattle.tv_depths.specs.Steps.{spot}
 use Rattle.tv_instance.specs.ByResults.{InstanceStep, PlacedJob, jobs_at_node, step_of}
 use Rattle.tv_instances.specs.OwnResults.{JobOutside, outside_by_results, outside_of_made, outside_of_opened, outside_of_placed}
 use Rattle.tv_instances.proofs.OfResults.{steps-by_results}
@@ -35,7 +30,8 @@ use Rattle.tv_model.specs.Instances.{given_of}
 use Rattle.tv_model.proofs.Formed.{AreFormed}
 use Rattle.tv_model.proofs.Instances.{given-free, instance-formed}
 use Rattle.tv_marked.proofs.OfStages.{by-each}
-use Rattle.tv_marked.specs.Staged.{IsMainFlow, main_made, main_results, steps_until}
+use Rattle.tv_marked.specs.Settled.{records_of_settled}
+use Rattle.tv_marked.specs.Staged.{IsMainFlow, main_made, main_results}
 
 to-model : {A : Type 0} (x : A) (xs : List A) → In x xs → model.In x xs
 to-model x [] i = i
@@ -64,7 +60,7 @@ in-filter {A = A} p x (y ∷ xs) (inr i) e = by (p y) (in-filter p x xs i e)
     by true k = inr k
     by false k = k
 
-of-filter : {A : Type 0} (p : A → Bool) (x : A) (xs : List A) → In x (filter p xs) → model.In x xs × (p x ≡ true)
+pub of-filter : {A : Type 0} (p : A → Bool) (x : A) (xs : List A) → In x (filter p xs) → model.In x xs × (p x ≡ true)
 of-filter p x [] i = absurd i
 of-filter {A = A} p x (y ∷ xs) i = by (p y) refl i (of-filter p x xs)
   where
@@ -73,7 +69,7 @@ of-filter {A = A} p x (y ∷ xs) i = by (p y) refl i (of-filter p x xs)
     by true g (inr j) rec = let r = rec j in (inr r.0, r.1)
     by false g j rec = let r = rec j in (inr r.0, r.1)
 
-outermost : (n : JobName) → is_outermost n ≡ true → n ≡ []
+pub outermost : (n : JobName) → is_outermost n ≡ true → n ≡ []
 outermost [] e = refl
 outermost (k ∷ n) e = absurd (true-not_false (sym e))
 
@@ -164,9 +160,16 @@ module _ (gives : Giving) (d : Document) (flow : Flow) (is : IsMainFlow d flow) 
       let nr = of-filter (λ (y : Job). is_outermost y.instance) n.0 m.jobs n.1 in
       n.2 ∙ ap record_of (once-of_apart (λ (y : Job). y.name) m.jobs whole.jobs_apart n.0 j.0 nr.0 jr.0 (sym (ap (λ (y : Record). y.job) n.2) ∙ e ∙ ap (λ (y : Record). y.job) j.2)) ∙ sym j.2
 
-  -- records of main jobs alone, with one of each name, are those of the main jobs
-  pub have-same : (rs : List Record) → ((r : Record) → In r rs → In r (main_records m)) → ((r : Record) → In r (main_records m) → (x : Record) × In x rs × (x.job ≡ r.job)) → HaveSame rs (main_records m)
-  have-same rs own all_there r = (own r, λ i. let x = all_there r i in subst (λ z. In z rs) (one-record r x.0 i (own x.0 x.1) x.2) x.1)
+  -- records of settled main jobs alone, with one of each name, are those of the settled main jobs
+  pub have-same : (settled : JobName → Bool) (rs : List Record) → ((r : Record) → In r rs → In r (main_records m) × (settled r.job ≡ true)) → ((r : Record) → In r (main_records m) → settled r.job ≡ true → (x : Record) × In x rs × (x.job ≡ r.job)) → HaveSame rs (records_of_settled settled m)
+  have-same settled rs own all_there r = (
+    λ i. let o = own r i in in-filter (λ (x : Record). settled x.job) r (main_records m) (to-model r (main_records m) o.0) o.1,
+    λ i.
+        let f = of-filter (λ (x : Record). settled x.job) r (main_records m) i in
+        let here : In r (main_records m) = from-model r (main_records m) f.0 in
+        let x = all_there r here f.1 in
+        subst (λ z. In z rs) (one-record r x.0 here (own x.0 x.1).0 x.2) x.1,
+  )
 
   formed : AreFormed gives (flow_meaning gives d.flows 7) [] (λ n j. Unit {0}) (λ f n us. tt) (λ k. Unit {0}) (given_of flow d.inputs) (given-free flow d.inputs) made
   formed = instance-formed gives (flow_meaning gives d.flows 7) [] flow d.inputs (λ n j. Unit {0}) (λ f n us. tt) (λ k. Unit {0}) (each-all (λ s. Unit {0}) (λ s. tt) (ranked flow.steps))

@@ -3,16 +3,15 @@ use Rattle.std.specs.Prelude.{◌≡◌, refl, ℕ, zero, suc, pred, ◌+◌, Li
 use Rattle.std.proofs.Common.{arith, sym, ap, ap₂, subst, ◌∙◌}
 use Rattle.std.proofs.lemmas.List.{map-append}
 use Rattle.std.proofs.lemmas.Option.{none-some, same_Some}
-use Rattle.tv_value.specs.Nested.{Place, Trees, at, item_at, leaf, list, map_trees, no_trees, tree}
-use Rattle.tv_value.specs.Values.{JobName, Scalar, Value}
-use Rattle.tv_lineage.specs.Touching as marks
+use Rattle.tv_value.specs.Nested.{Place, at, item_at, leaf, list, map_trees, no_trees, tree}
+use Rattle.tv_value.specs.Values.{JobName, Value}
 use Rattle.tv_strategy.specs.Iterations.{Iteration, Iterations, job, passed}
 use Rattle.tv_strategy.specs.Origins.{Mark, Origin, Traced, from_job, traced}
 use Rattle.tv_strategy.specs.Outputs.{output_below, outputs_from}
 use Rattle.tv_strategy.proofs.AtPlace.{item_at-map}
 use Rattle.tv_model.specs.Lineages.{all_used, mark_or, used}
 use Rattle.tv_followed.specs.Recorded.{mark_of, marks_of}
-use Rattle.tv_marked.specs.Shapes.{Shape, Shapes, ShowAll, Shows, job_here, passed_by, reached, shape_used, shapes_used}
+use Rattle.tv_marked.specs.Shapes.{BothHave, Shape, Shapes, ShowAll, Shows, ShowsAt, job_here, passed_by, reached, shape_used, shapes_used}
 
 -- ---- values of one origin
 
@@ -61,33 +60,37 @@ module _ (name : Place → JobName) (made : Place → Value) (d : ℕ) where
         map-append mark_of (used (output (q ++ i ∷ []) levels t)) (all_used (outputs_from name made d q levels (suc i) ts))
         ∙ ap₂ (λ a b. a ++ b) (used-shown u t (q ++ i ∷ []) levels h.0) (all_used-shown us ts q levels (suc i) h.1)
 
-  mutual
-    pub used-at : (u : Shape) (t : Iteration) (q : Place) (levels : ℕ) → Shows u t → (r : Place) (w : Traced) → at (output q levels t) r ≡ Some w → UsedThere name w (reached q u r)
-    used-at u t q levels h [] w e = ap marks_of (sym (same_Some (output q levels t) w e)) ∙ used-shown u t q levels h
-    used-at (leaf g job_here) (leaf s (job b)) q levels h (i ∷ r) w e =
-        ap (map mark_of) (traced-at (from_job (name q)) (Rattle.tv_strategy.specs.Origins.made (name q) ∷ []) (λ ns. refl) (made q) (i ∷ r) w e)
-    used-at (leaf g job_here) (leaf s (passed m x)) q levels h (i ∷ r) w e = absurd h
-    used-at (leaf g (passed_by ms)) (leaf s (job b)) q levels h (i ∷ r) w e = absurd h
-    used-at (leaf g (passed_by ms)) (leaf s (passed m x)) q levels h (i ∷ r) w e = absurd (none-some w e)
-    used-at (leaf g k) (list s ts) q levels h (i ∷ r) w e = absurd h
-    used-at (list g us) (leaf s x) q levels h (i ∷ r) w e = absurd h
-    used-at (list g us) (list s ts) q levels h (i ∷ r) w e =
-        subst (λ j. UsedThere name w (option_and_then (λ u. reached (q ++ j ∷ []) u r) (item_at us i))) (from-none i) (used-from us ts q (pred levels) 0 h i r w e)
-      where
-        from-none : (i : ℕ) → 0 + i ≡ i
-        from-none i = omega arith
+  -- the items of an output
+  outputs-item : (ts : Iterations) (q : Place) (levels j i : ℕ) → item_at (outputs_from name made d q levels j ts) i ≡ option_map (λ t. output (q ++ (j + i) ∷ []) levels t) (item_at ts i)
+  outputs-item no_trees q levels j i = refl
+  outputs-item (tree t ts) q levels j zero = ap (λ k. Some (output (q ++ k ∷ []) levels t)) (same j)
+    where
+      same : (j : ℕ) → j ≡ j + 0
+      same j = omega arith
+  outputs-item (tree t ts) q levels j (suc i) = outputs-item ts q levels (suc j) i ∙ ap (λ k. option_map (λ t. output (q ++ k ∷ []) levels t) (item_at ts i)) (later j i)
+    where
+      later : (j i : ℕ) → suc j + i ≡ j + suc i
+      later j i = omega arith
 
-    used-from : (us : Shapes) (ts : Iterations) (q : Place) (levels j : ℕ) → ShowAll us ts → (i : ℕ) (r : Place) (w : Traced) → option_and_then (λ v. at v r) (item_at (outputs_from name made d q levels j ts) i) ≡ Some w → UsedThere name w (option_and_then (λ u. reached (q ++ (j + i) ∷ []) u r) (item_at us i))
-    used-from no_trees no_trees q levels j h i r w e = absurd (none-some w e)
-    used-from no_trees (tree t ts) q levels j h i r w e = absurd h
-    used-from (tree u us) no_trees q levels j h i r w e = absurd h
-    used-from (tree u us) (tree t ts) q levels j h zero r w e =
-        subst (λ k. UsedThere name w (reached (q ++ k ∷ []) u r)) (same j) (used-at u t (q ++ j ∷ []) levels h.0 r w e)
-      where
-        same : (j : ℕ) → j ≡ j + 0
-        same j = omega arith
-    used-from (tree u us) (tree t ts) q levels j h (suc i) r w e =
-        subst (λ k. UsedThere name w (option_and_then (λ v. reached (q ++ k ∷ []) v r) (item_at us i))) (later j i) (used-from us ts q levels (suc j) h.1 i r w e)
-      where
-        later : (j i : ℕ) → suc j + i ≡ j + suc i
-        later j i = omega arith
+  item-used : (us : Option Shape) (ts : Option Iteration) (q : Place) (levels : ℕ) (r : Place) (w : Traced) → BothHave (λ u t. ShowsAt u t r) us ts → ((u : Shape) (t : Iteration) → ShowsAt u t r → at (output q levels t) r ≡ Some w → UsedThere name w (reached q u r)) → option_and_then (λ v. at v r) (option_map (output q levels) ts) ≡ Some w → UsedThere name w (option_and_then (λ u. reached q u r) us)
+  item-used None ts q levels r w h rec e = absurd h
+  item-used (Some u) None q levels r w h rec e = absurd h
+  item-used (Some u) (Some t) q levels r w h rec e = rec u t h e
+
+  -- where the way to a place ends at what the shape shows, it tells what stands there
+  pub used-at : (u : Shape) (t : Iteration) (q : Place) (levels : ℕ) (r : Place) → ShowsAt u t r → (w : Traced) → at (output q levels t) r ≡ Some w → UsedThere name w (reached q u r)
+  used-at u t q levels [] h w e = ap marks_of (sym (same_Some (output q levels t) w e)) ∙ used-shown u t q levels h
+  used-at (leaf g job_here) (leaf s (job b)) q levels (i ∷ r) h w e =
+      ap (map mark_of) (traced-at (from_job (name q)) (Rattle.tv_strategy.specs.Origins.made (name q) ∷ []) (λ ns. refl) (made q) (i ∷ r) w e)
+  used-at (leaf g job_here) (leaf s (passed m x)) q levels (i ∷ r) h w e = absurd h
+  used-at (leaf g (passed_by ms)) (leaf s (job b)) q levels (i ∷ r) h w e = absurd h
+  used-at (leaf g (passed_by ms)) (leaf s (passed m x)) q levels (i ∷ r) h w e = absurd (none-some w e)
+  used-at (leaf g k) (list s ts) q levels (i ∷ r) h w e = absurd h
+  used-at (list g us) (leaf s x) q levels (i ∷ r) h w e = absurd h
+  used-at (list g us) (list s ts) q levels (i ∷ r) h w e =
+      item-used (item_at us i) (item_at ts i) (q ++ i ∷ []) (pred levels) r w h (λ u t k f. used-at u t (q ++ i ∷ []) (pred levels) r k w f)
+      (subst (λ j. option_and_then (λ v. at v r) (option_map (output (q ++ j ∷ []) (pred levels)) (item_at ts i)) ≡ Some w) (from-none i)
+      (ap (option_and_then (λ v. at v r)) (sym (outputs-item ts q (pred levels) 0 i)) ∙ e))
+    where
+      from-none : (i : ℕ) → 0 + i ≡ i
+      from-none i = omega arith

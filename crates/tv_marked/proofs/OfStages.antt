@@ -1,19 +1,20 @@
 -- The steps of the main instance, one after another by rank: each is told by the shapes of those before.
-use Rattle.std.specs.Option.{option_map_or}
-use Rattle.std.specs.Prelude.{◌≡◌, refl, ℕ, zero, suc, ◌≤◌, Bool, true, false, cond, find, List, [], ◌∷◌, ◌++◌, drop, length, map, Option, Some, None, slice_get, slice_index_or, take}
-use Rattle.std.proofs.Common.{arith, sym, ap, ap₂, subst, ◌∙◌, inl, inr}
+use Rattle.std.specs.List.{list_all}
+use Rattle.std.specs.Prelude.{◌≡◌, refl, ℕ, zero, suc, ◌≤◌, Bool, true, false, cond, find, List, [], ◌∷◌, ◌++◌, drop, length, Option, Some, slice_get, slice_index_or, take}
+use Rattle.std.proofs.Common.{arith, sym, ap, subst, ◌∙◌, inl, inr}
 use Rattle.std.proofs.Math.Path.{fun_ext}
 use Rattle.std.proofs.lemmas.List.{take_all}
 use Rattle.std.proofs.lemmas.Option.{none-some, same_Some}
 use Rattle.std.proofs.lemmas.List.Sorted.{IsPermutation-sym}
-use Rattle.tv_value.specs.Nested.{Place, at, count, leaf, list}
-use Rattle.tv_value.specs.Orders.{named, same_name}
-use Rattle.tv_value.specs.Values.{JobName, Name, Value}
+use Rattle.tv_value.specs.Nested.{Place, at, leaf, notes}
+use Rattle.tv_value.specs.Orders.{same_name}
+use Rattle.tv_value.specs.Values.{JobName, Name}
 use Rattle.tv_gate.specs.Outcomes.{Giving}
 use Rattle.tv_flow.specs.Flows.{Document, Feed, Flow, Step}
-use Rattle.tv_strategy.specs.Iterations.{Iteration, job}
-use Rattle.tv_strategy.specs.Levels.{HasLevels}
-use Rattle.tv_strategy.specs.Measures.{leaf_names, strategy_depth}
+use Rattle.tv_strategy.specs.Iterations.{Binding, job}
+use Rattle.tv_strategy.specs.Levels.{HasLevels, IsJob}
+use Rattle.tv_strategy.specs.Origins.{Origin, Traced, from_job}
+use Rattle.tv_strategy.specs.Measures.{strategy_depth}
 use Rattle.tv_strategy.specs.Conditions.{number_of}
 use Rattle.tv_strategy.proofs.AtDepth.{iteration-levels}
 use Rattle.tv_naming.specs.Numbers.{position}
@@ -22,17 +23,18 @@ use Rattle.tv_naming.proofs.OfForms.{steps-named}
 use Rattle.tv_depths.specs.Delivered.{StepMeaning, feed_delivers}
 use Rattle.tv_depths.specs.Ranks.{ranked}
 use Rattle.tv_depths.specs.Steps.{port_iteration, port_mismatch, strategy_of}
+use Rattle.tv_wires.specs.Feeds.{feed_numbered}
 use Rattle.tv_wires.specs.Ports.{mismatches, ports_of}
 use Rattle.tv_matching.specs.Members as matching
 use Rattle.tv_matching.proofs.OfMembers.{in-permutes}
 use Rattle.tv_instance.specs.ByResults.{InstanceStep, Results, step_by, step_of, steps_by}
-use Rattle.tv_instances.specs.OwnResults.{results_of}
 use Rattle.tv_instances.proofs.OfMeant.{own_results-are_of_depth}
 use Rattle.tv_model.specs.Agreeing.{Agrees, NestsWithin, StepsNest}
 use Rattle.tv_model.specs.Instances.{given_of}
 use Rattle.tv_model.specs.Meanings.{flow_meaning}
 use Rattle.tv_model.specs.Members.{In}
-use Rattle.tv_levels.specs.Levels.{AreLevels, Level, What}
+use Rattle.tv_levels.specs.Levels.{What}
+use Rattle.tv_followed.specs.Recorded.{marks_of}
 use Rattle.tv_check.specs.PlanViews.{IsOfDocument}
 use Rattle.tv_agreed.proofs.Accepted.{accepted-agrees}
 use Rattle.tv_viewed.proofs.OwnDepths.{jobs-give}
@@ -40,19 +42,20 @@ use Rattle.tv_joined.specs.WiredFlows.{IsWired}
 use Rattle.tv_joined.proofs.OfAccepted.{accepted-wired}
 use Rattle.tv_framing.specs.Views.{AreOfDepth, View}
 use Rattle.tv_drawn.specs.Steps.{IsOfRankedFlow}
-use Rattle.tv_drawn.proofs.OfRanks.{AreApart, at-in, in-at, position-at_number, ranked-permutes, steps-apart}
+use Rattle.tv_drawn.proofs.OfRanks.{AreApart, at-in, in-at, position-at_number, ranked-permutes}
 use Rattle.tv_drawn.proofs.OfSteps.{ArePaired, IsMadeOf, made-step, rising, steps-paired}
 use Rattle.tv_frame.specs.Tables.{levels_in}
 use Rattle.tv_frame.proofs.OfOrder.{rank-is}
 use Rattle.tv_frame.proofs.OfPlans.{leaves-differ, levels-are, rank-of}
-use Rattle.tv_marked.specs.Shapes.{Shape, Shows, no_shape}
-use Rattle.tv_marked.specs.Staged.{IsMainFlow, main_made, main_results, steps_until}
+use Rattle.tv_marked.specs.Feeds.{feed_marks, job_at}
+use Rattle.tv_marked.specs.Seen.{IsSeen}
+use Rattle.tv_marked.specs.Shapes.{Shape, ShowsKnown, no_shape}
+use Rattle.tv_marked.specs.Staged.{IsMainFlow, main_results, steps_until}
 use Rattle.tv_marked.specs.Standing.{AreShapesOf, IsStepOf, ShapeOf}
-use Rattle.tv_marked.specs.Tables.{IsTableOf}
 use Rattle.tv_marked.specs.Walking.{IsToldOf, begins_of}
 use Rattle.tv_marked.proofs.OfBound.{fault-marks, job-marks}
 use Rattle.tv_marked.proofs.OfFeeds.{feed-marks}
-use Rattle.tv_marked.proofs.OfTables.{fault-told, list-told}
+use Rattle.tv_marked.proofs.OfSources.{bound-known}
 
 -- ---- lists
 
@@ -201,24 +204,35 @@ module _ (gives : Giving) (d : Document) (flow : Flow) (is : IsMainFlow d flow) 
         (subst (λ t. HasLevels t (strategy_depth (port_mismatch new.step.inputs) (strategy_of s.1))) (sym made.iterates)
         (iteration-levels (port_iteration new.step.inputs) (port_mismatch new.step.inputs) made.levels (strategy_of s.1) made.dots))
 
-    module _ (shapes : List Shape) (shown : AreShapesOf flow (until r) shapes) (fs : List StepMeaning) (ls : List Level) (levels : AreLevels flow fs ls) (among : In new.step fs)
-        (what : ℕ → Place → Option What) (table : IsTableOf ls what) where
-      -- it is told by the shapes of the steps before, and by the levels
-      pub new-told : IsToldOf flow shapes (ports_of flow s.1) (begins_of flow s.1) (what n) s.1 new.step.iteration
-      new-told = record {
-        jobs = λ q r' b e. job-marks flow s new made (feed_delivers step_of given (until r)) refl shapes (feed-marks flow d.inputs (until r) shapes (all-stand r) shown) q b (is-job q r' b e);
-        lists = list-told flow fs ls levels what table n s new.step here among refl;
-        faults = λ q r' m e h.
-            let t = fault-told flow fs ls levels what table n s new.step here among refl q r' m e h in
-            (t.0, t.1, fault-marks flow s new made (feed_delivers step_of given (until r)) refl shapes (feed-marks flow d.inputs (until r) shapes (all-stand r) shown) (leaves-differ flow of-document n s here) q t.0 m t.2);
+    module _ (known : Origin → Bool) (settled : JobName → Bool) (shapes : List Shape) (shown : AreShapesOf known flow (until r) shapes) (what : Place → Option What) (done : Place → Bool) where
+      told-marks : (f : Feed) (q : Place) (w : Traced) → list_all known (notes w) ≡ true → at (feed_delivers step_of given (until r) f).value q ≡ Some w → feed_marks flow shapes (feed_numbered flow f) q ≡ marks_of w
+      told-marks = feed-marks known flow d.inputs (until r) shapes (all-stand r) shown
+
+      -- it is told by the shapes of the steps before, and by what is seen of it
+      pub new-told : IsSeen known settled what done s new.step → IsToldOf known done flow shapes (ports_of flow s.1) (begins_of flow s.1) what s new.step.iteration
+      new-told seen = record {
+        jobs = λ q r' b e z.
+            job-marks known flow s new made (feed_delivers step_of given (until r)) refl shapes told-marks q b (is-job q r' b e)
+            (bound-known known new.step.inputs (strategy_of s.1) q r' b (ap (λ t. at t q) (sym made.iterates) ∙ e) (bind q r' b e z).1);
+        lists = seen.lists;
+        faults = λ q r' m e h k.
+            let t = seen.faults q r' m e h k in
+            (t.0, t.1, fault-marks known flow s new made (feed_delivers step_of given (until r)) refl shapes told-marks (leaves-differ flow of-document n s here) q t.0 m t.2.from t.2.is_known);
+        around = seen.around;
+        long = seen.long;
+        came_there = seen.came_there;
+        settled_known = λ q r' b e z. (bind q r' b e z).0;
       }
         where
-          is-job : (q : Place) (r' : List Rattle.tv_strategy.specs.Origins.Origin) (b : Rattle.tv_strategy.specs.Iterations.Binding) → at new.step.iteration q ≡ Some (leaf r' (job b)) → Rattle.tv_strategy.specs.Levels.IsJob (at new.step.iteration q) b
-          is-job q r' b e = subst (λ o. Rattle.tv_strategy.specs.Levels.IsJob o b) (sym e) refl
+          is-job : (q : Place) (r' : List Origin) (b : Binding) → at new.step.iteration q ≡ Some (leaf r' (job b)) → IsJob (at new.step.iteration q) b
+          is-job q r' b e = subst (λ o. IsJob o b) (sym e) refl
+
+          bind : (q : Place) (r' : List Origin) (b : Binding) → at new.step.iteration q ≡ Some (leaf r' (job b)) → done q ≡ true → (known (from_job (job_at s.0 q)) ≡ true) × (list_all known r' ≡ true)
+          bind q r' b e z = seen.bind q r' b e (sym (seen.jobs q r' b e) ∙ z)
 
       -- with its shape the shapes are those of one step more
-      pub more-shown : (more : List Shape) → Shows (slice_index_or more n no_shape) new.step.iteration → ((k : ℕ) → (k ≡ n → ⊥) → slice_index_or more k no_shape ≡ slice_index_or shapes k no_shape) → AreShapesOf flow (until (suc r)) more
-      more-shown more h same t = subst (λ gs. ShapeOf (find (λ (g : InstanceStep). same_name t g.step.step) gs) (slice_index_or more (position t flow.steps) no_shape)) (sym (until-next r s at-rank)) (by (same_name t s.0) refl)
+      pub more-shown : (more : List Shape) → ShowsKnown (job_at s.0) known [] (slice_index_or more n no_shape) new.step.iteration → ((k : ℕ) → (k ≡ n → ⊥) → slice_index_or more k no_shape ≡ slice_index_or shapes k no_shape) → AreShapesOf known flow (until (suc r)) more
+      more-shown more h same t = subst (λ gs. ShapeOf known (find (λ (g : InstanceStep). same_name t g.step.step) gs) (slice_index_or more (position t flow.steps) no_shape)) (sym (until-next r s at-rank)) (by (same_name t s.0) refl)
         where
           number : position s.0 flow.steps ≡ n
           number = position-at_number flow.steps apart n s here
@@ -240,6 +254,6 @@ module _ (gives : Giving) (d : Document) (flow : Flow) (is : IsMainFlow d flow) 
                   no : true ≡ false → ⊥
                   no h = cc
 
-          by : (b : Bool) → same_name t s.0 ≡ b → ShapeOf (cond b (Some new) (find (λ (g : InstanceStep). same_name t g.step.step) (until r))) (slice_index_or more (position t flow.steps) no_shape)
-          by true e = subst (λ k. Shows (slice_index_or more k no_shape) new.step.iteration) (sym (ap (λ m. position m flow.steps) (same_name-is t s.0 e) ∙ number)) h
-          by false e = subst (ShapeOf (find (λ (g : InstanceStep). same_name t g.step.step) (until r))) (sym (same (position t flow.steps) (other e))) (shown t)
+          by : (b : Bool) → same_name t s.0 ≡ b → ShapeOf known (cond b (Some new) (find (λ (g : InstanceStep). same_name t g.step.step) (until r))) (slice_index_or more (position t flow.steps) no_shape)
+          by true e = subst (λ k. ShowsKnown (job_at s.0) known [] (slice_index_or more k no_shape) new.step.iteration) (sym (ap (λ m. position m flow.steps) (same_name-is t s.0 e) ∙ number)) h
+          by false e = subst (ShapeOf known (find (λ (g : InstanceStep). same_name t g.step.step) (until r))) (sym (same (position t flow.steps) (other e))) (shown t)

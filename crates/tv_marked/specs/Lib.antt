@@ -2,9 +2,13 @@ pub mod Shapes
 pub mod Feeds
 pub mod Walking
 pub mod Tables
+pub mod Seen
+pub mod KnownInRun
 pub mod Standing
+pub mod Noted
 pub mod Staged
 pub mod Leaves
+pub mod Settled
 pub mod Grouped
 pub mod Building
 pub mod Stated

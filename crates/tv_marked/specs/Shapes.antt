@@ -1,11 +1,13 @@
 -- The shape of a step's iteration as far as marks go: where its jobs stand, and which marks its passed faults have. It tells which
 -- marks the outputs of the step used, whatever their values are.
-use Rattle.std.specs.Prelude.{◌≡◌, ℕ, suc, List, [], ◌∷◌, ◌++◌, map, Option, Some, option_and_then}
+use Rattle.std.specs.Prelude.{◌≡◌, ℕ, suc, Bool, true, List, [], ◌∷◌, ◌++◌, map, Option, Some, None, option_and_then}
 use Rattle.tv_value.specs.Nested.{Place, Tree, Trees, item_at, leaf, list, no_trees, tree}
 use Rattle.tv_value.specs.Values.{JobName}
 use Rattle.tv_lineage.specs.Kept.{Part, result}
 use Rattle.tv_lineage.specs.Touching.{Mark, made}
 use Rattle.tv_strategy.specs.Iterations.{Iteration, Iterations, job, passed}
+use Rattle.tv_strategy.specs.Origins.{Origin}
+use Rattle.tv_instance.specs.Wholeness.{is_whole_at}
 use Rattle.tv_model.specs.Lineages.{mark_or}
 use Rattle.tv_followed.specs.Recorded.{mark_of}
 
@@ -42,6 +44,24 @@ abbrev mutual
   ShowAll no_trees (tree t ts) = ⊥
   ShowAll (tree u us) no_trees = ⊥
   ShowAll (tree u us) (tree t ts) = Shows u t × ShowAll us ts
+
+-- ---- the shape of what is known of an iteration
+
+abbrev pub BothHave : {A B : Type 0} → (A → B → Type 0) → Option A → Option B → Type 0
+BothHave P None b = ⊥
+BothHave P (Some a) None = ⊥
+BothHave P (Some a) (Some b) = P a b
+
+-- where the way to a place ends
+abbrev pub ShowsAt : Shape → Iteration → Place → Type 0
+ShowsAt u t [] = Shows u t
+ShowsAt u (leaf s e) (i ∷ r) = Shows u (leaf s e)
+ShowsAt (leaf g k) (list s ts) (i ∷ r) = ⊥
+ShowsAt (list g us) (list s ts) (i ∷ r) = BothHave (λ u t. ShowsAt u t r) (item_at us i) (item_at ts i)
+
+-- wherever all of t, which stands at q, is known
+abbrev pub ShowsKnown : (Place → JobName) → (Origin → Bool) → Place → Shape → Iteration → Type 0
+ShowsKnown name known q u t = (r : Place) → is_whole_at name known q t r ≡ true → ShowsAt u t r
 
 -- ---- the marks that what stands at a node used; `name` names the job at a place
 

@@ -1,26 +1,22 @@
--- The steps of the main instance of a document, as far as they were made by rank; and which records were noted of them.
-use Rattle.std.specs.Prelude.{◌≡◌, ◌⊎◌, ◌++◌, ℕ, true, List, [], flat_map, map, Some, take}
-use Rattle.tv_value.specs.Nested.{Place, at, leaf}
+-- The steps of the main instance of a document, as far as they were made by rank; and what was worked out of them.
+use Rattle.std.specs.Prelude.{◌≡◌, ℕ, Bool, true, List, [], Some, take}
 use Rattle.tv_value.specs.Orders.{named}
-use Rattle.tv_value.specs.Values.{Name}
+use Rattle.tv_value.specs.Values.{JobName}
 use Rattle.tv_gate.specs.Outcomes.{Giving}
-use Rattle.tv_flow.specs.Flows.{Document, Flow, Step}
+use Rattle.tv_flow.specs.Flows.{Document, Flow}
 use Rattle.tv_flow.specs.Formed.{is_formed}
 use Rattle.tv_lineage.specs.Lineages.{Record}
-use Rattle.tv_strategy.specs.Iterations.{Binding, Iteration, job}
 use Rattle.tv_strategy.specs.Origins.{Origin}
 use Rattle.tv_depths.specs.Ranks.{ranked}
-use Rattle.tv_depths.specs.Steps.{bound_values}
 use Rattle.tv_check.specs.Plans.{IsAccepted}
 use Rattle.tv_instance.specs.ByResults.{InstanceStep, PlacedJob, Results, steps_by}
 use Rattle.tv_instances.specs.OwnResults.{results_of}
 use Rattle.tv_model.specs.Instances.{given_of, steps_made}
-use Rattle.tv_model.specs.Lineages.{used}
 use Rattle.tv_model.specs.Made.{Made}
 use Rattle.tv_model.specs.Meanings.{flow_meaning, meaning}
 use Rattle.tv_model.specs.Members as model
 use Rattle.tv_lineage.specs.Members.{In}
-use Rattle.tv_followed.specs.Recorded.{main_records, mark_of}
+use Rattle.tv_followed.specs.Recorded.{main_records}
 use Rattle.tv_lineage.specs.Kept.{Kept, records_of}
 use Rattle.tv_marked.specs.Feeds.{job_at}
 use Rattle.tv_marked.specs.Shapes.{Shape}
@@ -47,31 +43,16 @@ module _ (gives : Giving) (d : Document) (flow : Flow) where
 
 -- ---- records
 
--- the record of a job of the step
-pub record IsRecordOf (s : Name × Step) (it : Iteration) (r : Record) : Type 0 where
-  pub place : Place
-  pub sources : List Origin
-  pub binding : Binding
-  pub stands : at it place ≡ Some (leaf sources (job binding))
-  pub is : r ≡ record { job = job_at s.0 place; used = map mark_of (flat_map used (bound_values s.1 binding)) }
-
--- from old to new records of jobs of the step were noted, and nothing else
-pub record IsNoted (s : Name × Step) (it : Iteration) (old new : List Record) : Type 0 where
-  pub only : (r : Record) → In r new → In r old ⊎ IsRecordOf s it r
-  pub kept : (r : Record) → In r old → In r new
-
--- each job of t, which stands at place q of the step's iteration, has a record
-abbrev pub HaveRecords : Name → Place → Iteration → List Record → Type 0
-HaveRecords s q t rs =
-    (p : Place) (sources : List Origin) (b : Binding) → at t p ≡ Some (leaf sources (job b))
-    → (r : Record) × In r rs × (r.job ≡ job_at s (q ++ p))
-
--- so many steps by rank are done: these are their shapes, and the records are of main jobs, with one for each job of theirs
-pub record IsStage (gives : Giving) (d : Document) (flow : Flow) (r : ℕ) (k : Kept)
+-- so many steps by rank are done: these are the shapes of what is known of them, and the records are of settled main jobs, with one for
+-- each settled job of theirs
+pub record IsStage (gives : Giving) (d : Document) (flow : Flow) (known : Origin → Bool)
+    (settled : JobName → Bool) (r : ℕ) (k : Kept)
     (us : List Shape) : Type 0 where
-  pub shapes : AreShapesOf flow (steps_until gives d flow r) us
-  pub own : (x : Record) → In x (records_of k) → In x (main_records (meaning gives d))
+  pub shapes : AreShapesOf known flow (steps_until gives d flow r) us
+  pub own :
+      (x : Record) → In x (records_of k)
+      → In x (main_records (meaning gives d)) × (settled x.job ≡ true)
   pub all :
       (f : InstanceStep) → model.In f (steps_until gives d flow r) → (j : PlacedJob)
-      → model.In j f.jobs
+      → model.In j f.jobs → settled (job_at j.step j.place) ≡ true
       → (x : Record) × In x (records_of k) × (x.job ≡ job_at j.step j.place)

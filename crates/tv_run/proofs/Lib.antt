@@ -93,3 +93,4 @@ pub mod OfWalkOwn
 pub mod OfWalkPlaces
 pub mod OfWalkSteps
 pub mod OfWalkTickets
+pub mod OfRecording

@@ -14,7 +14,8 @@ use Rattle.tv_frame.proofs.OfHoldAround.{within-get}
 use Rattle.tv_frame.specs.Kept.{Keeps}
 use Rattle.tv_frame.specs.declared.frame.Frame.{Frame}
 use Rattle.tv_beside.specs.Theirs.{AreTheirs}
-use Rattle.tv_seats.specs.Seats.{Seat, Seated}
+use Rattle.tv_seats.specs.Seats.{Seat}
+use Rattle.tv_seats.specs.Tables.{Rows}
 use Rattle.tv_forest.specs.Forest.{Instance, Instances}
 use Rattle.tv_forest.proofs.OfLists.{same-number}
 use Rattle.tv_open.specs.Standing.{IsOpen, job_of}
@@ -30,8 +31,8 @@ use Rattle.tv_run.specs.declared.run.OpenRun.{OpenRun}
 use Rattle.tv_run.proofs.OfAlike.{AreAlike, alike-there, fits-alike, names-alike}
 use Rattle.tv_run.proofs.OfRooms.{theirs-as}
 
-abbrev seats_by : Option Seated → List Open → List Seat
-seats_by ended [] = option_map_or (λ (s : Seated). s.seats) ended []
+abbrev seats_by : Option Rows → List Open → List Seat
+seats_by ended [] = option_map_or (λ (s : Rows). s.seats) ended []
 seats_by ended (o ∷ os) = o.seats.seats
 
 -- ---- two lists of one length

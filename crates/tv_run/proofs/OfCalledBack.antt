@@ -23,7 +23,8 @@ use Rattle.tv_frame.specs.Kept.{Keeps}
 use Rattle.tv_frame.specs.Tables.{levels_in}
 use Rattle.tv_frame.specs.declared.frame.Frame.{Frame}
 use Rattle.tv_beside.specs.Theirs.{AreTheirs}
-use Rattle.tv_seats.specs.Seats.{Seat, Seated, back, out_count, staged}
+use Rattle.tv_seats.specs.Seats.{Seat, back, out_count, staged}
+use Rattle.tv_seats.specs.Tables.{Rows}
 use Rattle.tv_seats.specs.Stages as stages
 use Rattle.tv_seats.specs.Stages.{is_waiting}
 use Rattle.tv_seats.specs.declared.stage.Stage.{Stage}
@@ -142,8 +143,8 @@ at-spot steps ss n =
 
 -- ---- one instance of the code
 
-abbrev seats_by : Option Seated → List Open → List Seat
-seats_by ended [] = option_map_or (λ (s : Seated). s.seats) ended []
+abbrev seats_by : Option Rows → List Open → List Seat
+seats_by ended [] = option_map_or (λ (s : Rows). s.seats) ended []
 seats_by ended (o ∷ os) = o.seats.seats
 
 -- it has ended, or is open

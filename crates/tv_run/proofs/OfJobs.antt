@@ -8,7 +8,8 @@ use Rattle.tv_flow.specs.Flows.{Flow, Step}
 use Rattle.tv_check.specs.RunViews.{run_view}
 use Rattle.tv_framing.specs.Views.{View}
 use Rattle.tv_frame.proofs.OfHoldAround.{within-get}
-use Rattle.tv_seats.specs.Seats.{Seat, Seated}
+use Rattle.tv_seats.specs.Seats.{Seat}
+use Rattle.tv_seats.specs.Tables.{Rows}
 use Rattle.tv_seats.specs.declared.stage.Stage.{Stage}
 use Rattle.tv_seats.specs.declared.stage.Stage.TheVariants as stage
 use Rattle.tv_seated.specs.Seated.{spot_of}
@@ -25,8 +26,8 @@ use Rattle.tv_run.specs.declared.run.OpenRun.{OpenRun}
 -- ---- one instance by the code
 
 -- the seats while it is open, and after
-abbrev pub seats_by : Option Seated → List Open → List Seat
-seats_by ended [] = option_map_or (λ (s : Seated). s.seats) ended []
+abbrev pub seats_by : Option Rows → List Open → List Seat
+seats_by ended [] = option_map_or (λ (s : Rows). s.seats) ended []
 seats_by ended (o ∷ os) = o.seats.seats
 
 abbrev stage_by : ℕ → List Open → Option Stage

@@ -27,6 +27,7 @@ ready-for_plan flows plan other pool f v n s e h k = record {
   from = k.from;
   turns = k.turns;
   whole = k.whole;
+  counted = k.counted;
   told = k.told;
   show = k.show;
   outs = k.outs;

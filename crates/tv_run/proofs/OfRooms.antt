@@ -20,7 +20,8 @@ use Rattle.tv_frame.specs.Tables.{levels_in}
 use Rattle.tv_frame.specs.declared.frame.Frame.{Frame}
 use Rattle.tv_beside.specs.Theirs.{AreTheirs, Frames}
 use Rattle.tv_beside.proofs.OfTheirs.{theirs-refused}
-use Rattle.tv_seats.specs.Seats.{Seat, Seated}
+use Rattle.tv_seats.specs.Seats.{Seat}
+use Rattle.tv_seats.specs.Tables.{Rows}
 use Rattle.tv_forest.specs.Forest.{Instance, Instances, Stand}
 use Rattle.tv_entries.specs.Runs.{IsLegalRun, Run, instances_of, past_of}
 use Rattle.tv_open.specs.Standing.{IsOpen}
@@ -89,8 +90,8 @@ module _ (gives : Giving) (r s : OpenRun) (b : IsAsBefore r s) where
 -- ---- the same but for rooms
 
 -- the seats while it is open, and after
-abbrev pub seats_by : Option Seated → List Open → List Seat
-seats_by ended [] = option_map_or (λ (s : Seated). s.seats) ended []
+abbrev pub seats_by : Option Rows → List Open → List Seat
+seats_by ended [] = option_map_or (λ (s : Rows). s.seats) ended []
 seats_by ended (o ∷ os) = o.seats.seats
 
 abbrev frame_of : Option code.Instance → Option Frame

@@ -15,7 +15,7 @@ use Rattle.tv_frame.specs.declared.frame.Frame.{Frame}
 use Rattle.tv_beside.specs.Theirs.{AreTheirs, OthersStay}
 use Rattle.tv_beside.proofs.OfFrames.{releases-keep}
 use Rattle.tv_beside.proofs.OfTheirs.{theirs-released}
-use Rattle.tv_seats.specs.Seats.{Seated}
+use Rattle.tv_seats.specs.Tables.{Rows}
 use Rattle.tv_seats.proofs.Staging.{set-other}
 use Rattle.tv_forest.specs.Entries.{shut, with_instance}
 use Rattle.tv_forest.specs.Forest.{Instance, Instances, IsAt}
@@ -54,7 +54,7 @@ pub record IsShut (r s : OpenRun) (i : ℕ) (itself : Open) : Type 0 where
   pub is_busy : after.is_busy ≡ before.is_busy
   pub opened : before.open.items ≡ itself ∷ []
   pub closed : after.open.items ≡ []
-  pub left : Seated
+  pub left : Rows
   pub is_left : after.seats ≡ Some left
   pub seats : left.seats ≡ itself.seats.seats
   pub gone : s.pool.regions ≡ regions_with r.pool (number_of itself.frame.region) None
@@ -129,7 +129,7 @@ module _ (r s : OpenRun) (xs : Instances) (i : ℕ) (x : Instance) (v : View) (i
   seats-left : seats_of w.after ≡ x.seats
   seats-left =
       ap (seats_by w.after.seats) w.closed
-      ∙ ap (λ q. option_map_or (λ (a : Seated). a.seats) q []) w.is_left
+      ∙ ap (λ q. option_map_or (λ (a : Rows). a.seats) q []) w.is_left
       ∙ w.seats
       ∙ sym (ap (seats_by w.before.seats) w.opened)
       ∙ kept.seats
@@ -283,13 +283,13 @@ pub record IsClosed (r s : OpenRun) (i : ℕ) (c : code.Instance) (p : Open) : T
   pub numbers : then_is.jobs ≡ c.jobs
   pub is_busy : then_is.is_busy ≡ c.is_busy
   pub closed : then_is.open.items ≡ []
-  pub left : Seated
+  pub left : Rows
   pub is_left : then_is.seats ≡ Some left
   pub seats : left.seats ≡ p.seats.seats
   pub gone : s.pool.regions ≡ regions_with r.pool (number_of p.frame.region) None
 
 -- the run with this instance closed
-abbrev pub with_closed : OpenRun → ℕ → code.Instance → Vec Open Global → Seated → Nodes → Vec (Vec Open Global) Global → OpenRun
+abbrev pub with_closed : OpenRun → ℕ → code.Instance → Vec Open Global → Rows → Nodes → Vec (Vec Open Global) Global → OpenRun
 with_closed r i c none left pool husks =
     record r {
       pool = pool;
@@ -307,7 +307,7 @@ with_closed r i c none left pool husks =
     }
 
 pub closes : (r : OpenRun) (i : ℕ) (c : code.Instance) (p : Open) (none : Vec Open Global) → none.items ≡ []
-    → (left : Seated) → left.seats ≡ p.seats.seats → (pool : Nodes)
+    → (left : Rows) → left.seats ≡ p.seats.seats → (pool : Nodes)
     → pool.regions ≡ regions_with r.pool (number_of p.frame.region) None → (husks : Vec (Vec Open Global) Global)
     → IsClosed r (with_closed r i c none left pool husks) i c p
 closes r i c p none empty left seats pool gone husks = record {

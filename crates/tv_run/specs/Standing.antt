@@ -21,7 +21,8 @@ use Rattle.tv_framing.specs.Views.{View}
 use Rattle.tv_frame.specs.Tables.{levels_in}
 use Rattle.tv_frame.specs.declared.frame.Frame.{Frame}
 use Rattle.tv_beside.specs.Theirs.{AreTheirs}
-use Rattle.tv_seats.specs.Seats.{Seat, Seated}
+use Rattle.tv_seats.specs.Seats.{Seat}
+use Rattle.tv_seats.specs.Tables.{Rows}
 use Rattle.tv_seats.specs.Stages.{is_aside, is_idle, is_waiting}
 use Rattle.tv_seats.specs.declared.stage.Stage.{Stage}
 use Rattle.tv_seated.specs.Seated.{AreAtSteps, spot_of}
@@ -53,7 +54,7 @@ abbrev pub seats_of : code.Instance → List Seat
 seats_of c = by c.open.items
   where
     by : List Open → List Seat
-    by [] = option_map_or (λ (s : Seated). s.seats) c.seats []
+    by [] = option_map_or (λ (s : Rows). s.seats) c.seats []
     by (o ∷ os) = o.seats.seats
 
 abbrev pub steps_of : Document → code.Instance → List (Name × Step)

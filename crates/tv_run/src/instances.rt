@@ -4,7 +4,7 @@ ghost use Rattle.tv_seats.specs.Seats.{place_at, step_at};
 ghost use Rattle.tv_run.specs.Standing.{seats_of};
 
 use tv_open::Open;
-use tv_seats::Seats;
+use tv_seats::Table;
 
 /// An instance that was opened.
 #[derive(Drop)]
@@ -20,7 +20,7 @@ pub(crate) struct Instance {
     // Itself, while it is open.
     pub(crate) open: Vec<Open>,
     // The seats of its jobs, once it has ended.
-    pub(crate) seats: Option<Seats>,
+    pub(crate) seats: Option<Table>,
 }
 
 /// A job: its instance, and its number there.
@@ -47,7 +47,7 @@ impl Instance {
         match self.opened() {
             Some(open) => open.step(number),
             None => match &self.seats {
-                Some(seats) => seats.step(number),
+                Some(seats) => seats.step(number as usize),
                 None => unreachable!(),
             },
         }
@@ -61,7 +61,7 @@ impl Instance {
         match self.opened() {
             Some(open) => open.place(number),
             None => match &self.seats {
-                Some(seats) => seats.place(number),
+                Some(seats) => seats.place(number as usize),
                 None => unreachable!(),
             },
         }

@@ -22,7 +22,7 @@
 //! - `accepting`: an outcome accepted
 //! - `ended`: what is left of the main instance once it has ended
 //! - `outputs`: what a run gives once it is done, and its totals so far
-//! - `tracing`: what was made of what in a run that is done
+//! - `tracing`: what was made of what in a run that is done, and by the settled jobs of one that goes on
 //! - `over`: what holds of every run, and of one that is done
 #![tactic(auto)]
 

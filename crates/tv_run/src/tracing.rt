@@ -1,19 +1,74 @@
-//! What was made of what in a run that is done.
-ghost use Rattle.std.specs.Prelude.{◌≡◌, IfOk, map, option_map, true};
+//! What was made of what: of a run that is done all of it, and of one that goes on what its settled jobs used.
+ghost use Rattle.std.specs.Option.{option_map_or};
+ghost use Rattle.std.specs.Prelude.{◌≡◌, IfOk, false, map, option_map, true};
 ghost use Rattle.tv_gate.specs.Outcomes.{Giving};
 ghost use Rattle.tv_followed.specs.Recorded.{leaves, marks_of, output_at};
 ghost use Rattle.tv_history.specs.Histories.{is_done};
 ghost use Rattle.tv_entries.specs.Runs.{meant, past_of};
+ghost use Rattle.tv_lineage.specs.Kept.{records_of};
+ghost use Rattle.tv_lineage.specs.Members.{HaveSame};
 ghost use Rattle.tv_lineage.specs.Views.{leaf_view, mark_view};
+ghost use Rattle.tv_marked.specs.Settled.{settled_records};
 ghost use Rattle.tv_run.specs.Standing.{StandsStill, run_of};
-ghost use Rattle.tv_run.specs.Tracing.{IsTracedBy};
+ghost use Rattle.tv_run.specs.Tracing.{IsTracedBy, is_settled_stage, settled_spots};
+ghost use Rattle.tv_traces.specs.Sights.{job_view};
 
 use crate::run::OpenRun;
-use tv_lineage::{Leaves, Marks};
-use tv_traces::Traces;
+use std::alloc::Global;
+use tv_lineage::{Leaves, Marks, Records};
+use tv_open::Open;
+use tv_path::Path;
+use tv_seats::Stage;
+use tv_traces::{SettledJob, Traces};
 use tv_value::{Name, NoMemory, Place};
 
+/// Whether a job that stands there is settled.
+fn is_settled(stage: Option<Stage>) -> bool
+    ensures { result ≡ option_map_or is_settled_stage stage false }
+{
+    match stage {
+        Some(stage) => matches!(stage, Stage::Settled),
+        None => false,
+    }
+}
+
+/// The settled jobs of an open instance. Linear in the jobs that it knows.
+fn settled_jobs(alloc: Global, open: &Open) -> Result<Vec<SettledJob>, NoMemory>
+    ensures { IfOk result (λ js. map job_view js.items ≡ settled_spots open.now.seats.seats) }
+{
+    let mut jobs = Vec::new(alloc);
+    for number in 0..open.known() {
+        if is_settled(open.stage(number)) {
+            let step = open.step(number);
+            let place = Path::of(alloc, open.place(number))?;
+            jobs.push(SettledJob { step, place })?;
+        }
+    }
+    Ok(jobs)
+}
+
 impl OpenRun {
+    /// What each settled job of the main flow used, as far as the run has come: worked out from the lists and passed faults of the
+    /// main instance so far. Costs what `Traces::start` does.
+    pub fn records(&self) -> Result<Records, NoMemory>
+        requires { (gives : Giving) × StandsStill gives self.now }
+        ensures { (gives : Giving) → StandsStill gives self.now → IfOk result (λ rs. HaveSame (records_of rs)
+            (settled_records (past_of (run_of self.now)) (meant gives (run_of self.now)))) }
+    {
+        let plan = self.run.flow(self.run.main());
+        match &self.outs {
+            Some(ended) => {
+                let traces = Traces::start(self.alloc, plan, ended.levels.as_slice())?;
+                Ok(traces.into_records())
+            }
+            None => {
+                let open = self.opened(0);
+                let jobs = settled_jobs(self.alloc, open)?;
+                Traces::so_far(self.alloc, plan, open.levels(), jobs.as_slice())
+            }
+        }
+    }
+
     /// What each job of the main flow used, of a run that is done: worked out from the lists and passed faults of the main
     /// instance. Costs what `Traces::start` does.
     pub fn traces(&self) -> Result<Traces, NoMemory>

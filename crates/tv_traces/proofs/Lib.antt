@@ -6,3 +6,5 @@ pub mod Noting
 pub mod Tabling
 pub mod OfPlan
 pub mod OfStart
+pub mod OfGrowing
+pub mod OfSights

@@ -1,9 +1,8 @@
 -- What the calls that note jobs and share parts give.
-use Rattle.std.specs.Prelude.{◌≡◌, ℕ, ◌-◌, ◌+◌, ◌≤◌, suc, List, [], ◌∷◌, ◌++◌, false, true, length, map, Option, Some, None, option_map, Result, Ok, Err, IfOk, OnOk}
+use Rattle.std.specs.Prelude.{◌≡◌, ℕ, ◌-◌, suc, Option, Some, None, option_map, Result, Ok, Err, IfOk, OnOk}
 use Rattle.std.proofs.Common.{arith, sym, ap, subst, ◌∙◌}
-use Rattle.tv_value.specs.Nested.{Place, trees_of}
-use Rattle.tv_lineage.specs.Kept.{Groups, IsBefore, Kept, Part, all_marks, marks_of, records_of}
-use Rattle.tv_lineage.specs.Members.{Each}
+use Rattle.tv_value.specs.Nested.{Place}
+use Rattle.tv_lineage.specs.Kept.{Kept}
 use Rattle.tv_levels.specs.Levels as levels
 use Rattle.tv_levels.specs.Levels.{came, closed}
 use Rattle.tv_levels.specs.Views.{what_view}

@@ -1,8 +1,7 @@
 -- The shapes that nodes stand for, and the way to a place.
-use Rattle.std.specs.Prelude.{◌≡◌, refl, ℕ, zero, suc, ◌+◌, ◌≤◌, ◌<◌, List, [], ◌∷◌, ◌++◌, drop, length, map, take, Option, Some, None, option_and_then, option_map, slice_get}
+use Rattle.std.specs.Prelude.{◌≡◌, refl, ℕ, zero, suc, ◌+◌, ◌≤◌, ◌<◌, List, [], ◌∷◌, ◌++◌, drop, length, map, take, Some, None, option_and_then}
 use Rattle.std.proofs.Common.{arith, sym, ap, subst, ◌∙◌, get_or}
-use Rattle.std.proofs.lemmas.Option.{none-some, same_Some}
-use Rattle.tv_value.specs.Nested.{Place, item_at, leaf, list, trees_of}
+use Rattle.tv_value.specs.Nested.{Place, item_at, leaf, list}
 use Rattle.tv_lineage.specs.Kept.{result}
 use Rattle.tv_lineage.specs.Views.{mark_view, part_view}
 use Rattle.tv_lineage.specs.declared.mark.Mark.{Mark}

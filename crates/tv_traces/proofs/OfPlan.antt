@@ -1,6 +1,6 @@
 -- What a plan has for the step of a number.
-use Rattle.std.specs.Prelude.{◌≡◌, refl, ℕ, zero, suc, ◌<◌, List, [], ◌∷◌, length, map, Some, slice_get}
-use Rattle.std.proofs.Common.{arith, sym, ap, ap₂, subst, ◌∙◌, get_or}
+use Rattle.std.specs.Prelude.{◌≡◌, ℕ, zero, suc, ◌<◌, List, [], ◌∷◌, length, map, Some, slice_get}
+use Rattle.std.proofs.Common.{sym, ap, ap₂, subst, ◌∙◌, get_or}
 use Rattle.std.proofs.lemmas.List.{length-map}
 use Rattle.std.proofs.lemmas.Option.{same_Some}
 use Rattle.tv_value.specs.Values.{Name}

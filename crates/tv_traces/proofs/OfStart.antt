@@ -1,10 +1,9 @@
 -- The loop over the steps by rank.
-use Rattle.std.specs.Prelude.{◌≡◌, refl, ◌⊎◌, ℕ, zero, suc, ◌+◌, ◌≤◌, ◌<◌, List, [], ◌∷◌, length, map, replicate, Option, Some, None, slice_get, slice_index_or}
-use Rattle.std.proofs.Common.{arith, sym, ap, ap₂, subst, ◌∙◌, get_or, set, inl, inr}
-use Rattle.std.proofs.lemmas.List.{length-map}
+use Rattle.std.specs.Prelude.{◌≡◌, refl, ◌⊎◌, ℕ, zero, suc, ◌<◌, List, [], ◌∷◌, length, replicate, filter, Bool, true, Option, Some, slice_get, slice_index_or, Result, Ok, Err, IfOk}
+use Rattle.std.proofs.Common.{arith, sym, ap, subst, ◌∙◌, set, inl, inr}
 use Rattle.std.proofs.lemmas.Option.{none-some, same_Some}
 use Rattle.tv_value.specs.Nested.{Place}
-use Rattle.tv_value.specs.Values.{Name}
+use Rattle.tv_value.specs.Values.{JobName, Name}
 use Rattle.tv_gate.specs.Outcomes.{Giving}
 use Rattle.tv_flow.specs.Flows as spec
 use Rattle.tv_flow.specs.Flows.{Document}
@@ -18,10 +17,13 @@ use Rattle.tv_depths.proofs.OfRanked.{same-or-not}
 use Rattle.tv_depths.specs.Steps.{strategy_of}
 use Rattle.tv_wires.specs.Ports.{mismatches}
 use Rattle.tv_check.specs.Plans as plan
-use Rattle.tv_check.specs.PlanViews.{step_plan_view}
 use Rattle.tv_check.specs.declared.plans.FlowPlan.{FlowPlan}
 use Rattle.tv_check.specs.declared.plans.StepPlan.{StepPlan}
-use Rattle.tv_levels.specs.Levels.{Level, What}
+use Rattle.tv_levels.specs.Levels.{What}
+use Rattle.tv_levels.specs.MainSteps.{main_steps}
+use Rattle.tv_lineage.specs.Members.{HaveSame}
+use Rattle.tv_strategy.specs.Origins.{Origin}
+use Rattle.tv_followed.specs.Recorded.{main_records}
 use Rattle.tv_model.specs.Meanings.{meaning}
 use Rattle.std.proofs.lemmas.List.Sorted.{IsPermutation-sym}
 use Rattle.tv_naming.proofs.OfForms.{steps-named}
@@ -35,12 +37,12 @@ use Rattle.tv_marked.specs.Building.{IsBuilt}
 use Rattle.tv_marked.specs.Feeds.{job_at}
 use Rattle.tv_marked.specs.Grouped.{AllAreGrouped, Grows, IsGrouped}
 use Rattle.tv_marked.specs.Shapes.{Shape, no_shape}
-use Rattle.tv_marked.specs.Staged.{IsStage}
-use Rattle.tv_marked.specs.Tables.{IsTableOf}
+use Rattle.tv_marked.specs.Seen.{AreSeen}
+use Rattle.tv_marked.specs.Staged.{IsMainFlow, IsStage}
 use Rattle.tv_marked.proofs.OfAdding.{stage-end, stage-next, stage-start}
 use Rattle.tv_marked.proofs.OfGroups.{all-grow}
 use Rattle.tv_traces.specs.Stepping.{telling_of}
-use Rattle.tv_traces.specs.Traced.{AreTraces, IsTraced}
+use Rattle.tv_traces.specs.Traced.{AreTraces, AreTracesBy}
 use Rattle.tv_traces.specs.Views.{node_view, shapes_view}
 use Rattle.tv_traces.specs.declared.node.Node.{Node}
 use Rattle.tv_traces.specs.declared.traces.Traces.{Traces}
@@ -59,8 +61,8 @@ none-at us count n e = ap (λ l. slice_index_or l n no_shape) e ∙ by count n
 pub none-grouped : (flow : spec.Flow) (gs : Groups) (us : List Shape) (count : ℕ) → us ≡ replicate count no_shape → AllAreGrouped flow gs us
 none-grouped flow gs us count e n s h = subst (IsGrouped (job_at s.0) gs []) (sym (none-at us count n e)) tt
 
-pub none-staged : (gives : Giving) (d : Document) (flow : spec.Flow) (ls : List Level) → IsTraced gives d flow ls → (k : Kept) (us : List Shape) (count : ℕ) → records_of k ≡ [] → us ≡ replicate count no_shape → IsStage gives d flow 0 k us
-none-staged gives d flow ls w k us count e f = stage-start gives d flow w.flow_is k us e (λ n. none-at us count n f)
+pub none-staged : (known : Origin → Bool) (settled : JobName → Bool) (gives : Giving) (d : Document) (flow : spec.Flow) → IsMainFlow d flow → (k : Kept) (us : List Shape) (count : ℕ) → records_of k ≡ [] → us ≡ replicate count no_shape → IsStage gives d flow known settled 0 k us
+none-staged known settled gives d flow is k us count e f = stage-start gives d flow is known settled k us e (λ n. none-at us count n f)
 
 -- ---- one more
 
@@ -87,8 +89,8 @@ set-there (v ∷ us) zero (suc k) u h = refl
 set-there (v ∷ us) (suc n) zero u h = refl
 set-there (v ∷ us) (suc n) (suc k) u h = set-there us n k u (λ e. h (ap suc e))
 
-module _ (p : FlowPlan) (n r : ℕ) (lt : n < length p.steps) (rank : (q : StepPlan) → slice_get p.steps n ≡ Some q → q.rank ≡ r) (what : ℕ → Place → Option What) (old now : Kept) (us vs : List Node) (u : Node) (long : length us ≡ length p.steps) (is : vs ≡ set us n u)
-    (built : (s : Name × spec.Step) → slice_get (flow_view p.flow).steps n ≡ Some s → IsBuilt (telling_of (flow_view p.flow) (shapes_view us) (what n) s) (strategy_depth (number_of (mismatches (flow_view p.flow) s.1)) (strategy_of s.1)) [] old now (node_view u)) where
+module _ (p : FlowPlan) (n r : ℕ) (lt : n < length p.steps) (rank : (q : StepPlan) → slice_get p.steps n ≡ Some q → q.rank ≡ r) (what : ℕ → Place → Option What) (done : ℕ → Place → Bool) (old now : Kept) (us vs : List Node) (u : Node) (long : length us ≡ length p.steps) (is : vs ≡ set us n u)
+    (built : (s : Name × spec.Step) → slice_get (flow_view p.flow).steps n ≡ Some s → IsBuilt (telling_of (flow_view p.flow) (shapes_view us) (what n) (done n) s) (strategy_depth (number_of (mismatches (flow_view p.flow) s.1)) (strategy_of s.1)) [] old now (node_view u)) where
   abbrev flow : spec.Flow
   flow = flow_view p.flow
 
@@ -108,9 +110,9 @@ module _ (p : FlowPlan) (n r : ℕ) (lt : n < length p.steps) (rank : (q : StepP
   others : (k : ℕ) → (k ≡ n → ⊥) → slice_index_or (shapes_view vs) k no_shape ≡ slice_index_or (shapes_view us) k no_shape
   others k h = ap (λ l. slice_index_or (shapes_view l) k no_shape) is ∙ set-there us n k u h
 
-  pub more-staged : (gives : Giving) (d : Document) (ls : List Level) → IsTraced gives d flow ls → IsTableOf ls what → IsStage gives d flow r old (shapes_view us) → IsStage gives d flow (suc r) now (shapes_view vs)
-  more-staged gives d ls w table stage =
-      stage-next gives d flow w.flow_is ls w.levels_are what table n r here.0 here.1 of-rank old now (shapes_view us) (shapes_view vs) stage
+  pub more-staged : (known : Origin → Bool) (settled : JobName → Bool) (gives : Giving) (d : Document) → IsMainFlow d flow → AreSeen known settled flow (main_steps (meaning gives d)) what done → IsStage gives d flow known settled r old (shapes_view us) → IsStage gives d flow known settled (suc r) now (shapes_view vs)
+  more-staged known settled gives d is seen stage =
+      stage-next gives d flow is known settled what done seen n r here.0 here.1 of-rank old now (shapes_view us) (shapes_view vs) stage
       (strategy_depth (number_of (mismatches flow here.0.1)) (strategy_of here.0.1)) refl (node_view u) (built here.0 here.1) at-n others
 
   pub more-grouped : AllAreGrouped flow old.groups (shapes_view us) → AllAreGrouped flow now.groups (shapes_view vs)
@@ -166,7 +168,16 @@ rank-there p r lt none =
 
 -- ---- in the end
 
-pub all-staged : (gives : Giving) (d : Document) (p : FlowPlan) (ls : List Level) (r : ℕ) (t : Traces) → IsTraced gives d (flow_view p.flow) ls → r ≡ length p.steps → IsStage gives d (flow_view p.flow) r t.records (shapes_view t.shapes.items) → AreTraces gives d (flow_view p.flow) t
-all-staged gives d p ls r t w e h =
-    let stage = subst (λ n. IsStage gives d (flow_view p.flow) n t.records (shapes_view t.shapes.items)) (e ∙ as-many-steps p) h in
-    record { flow_is = w.flow_is; records = stage-end gives d (flow_view p.flow) w.flow_is t.records (shapes_view t.shapes.items) stage; shapes = stage.shapes }
+pub all-staged : (known : Origin → Bool) (settled : JobName → Bool) (gives : Giving) (d : Document) (p : FlowPlan) (r : ℕ) (t : Traces) → IsMainFlow d (flow_view p.flow) → r ≡ length p.steps → IsStage gives d (flow_view p.flow) known settled r t.records (shapes_view t.shapes.items) → AreTracesBy known settled gives d (flow_view p.flow) t
+all-staged known settled gives d p r t is e h =
+    let stage = subst (λ n. IsStage gives d (flow_view p.flow) known settled n t.records (shapes_view t.shapes.items)) (e ∙ as-many-steps p) h in
+    record { flow_is = is; records = stage-end gives d (flow_view p.flow) is known settled t.records (shapes_view t.shapes.items) stage; shapes = stage.shapes }
+
+-- where all jobs are settled, the records are those of all
+all-pass : {A : Type 0} (xs : List A) → filter (λ x. true) xs ≡ xs
+all-pass [] = refl
+all-pass (x ∷ xs) = ap (λ l. x ∷ l) (all-pass xs)
+
+pub all-traced : {E : Type 0} (gives : Giving) (d : Document) (p : FlowPlan) (o : Result Traces E) → IsMainFlow d (flow_view p.flow) → IfOk o (AreTracesBy (λ o. true) (λ n. true) gives d (flow_view p.flow)) → IfOk o (AreTraces gives d (flow_view p.flow))
+all-traced gives d p (Ok t) is h = record { flow_is = is; records = subst (HaveSame (records_of t.records)) (all-pass (main_records (meaning gives d))) h.records; shapes = h.shapes }
+all-traced gives d p (Err e) is h = tt

@@ -1,5 +1,5 @@
 -- What stands in the outputs used what the traces tell.
-use Rattle.std.specs.Prelude.{◌≡◌, refl, ℕ, zero, suc, ◌≤◌, ◌<◌, Bool, true, false, if◌then◌else◌, is_some, length, flat_map, List, [], ◌∷◌, ◌++◌, map, take, ◌+◌, Option, Some, None, option_map, slice_get}
+use Rattle.std.specs.Prelude.{◌≡◌, refl, ℕ, zero, suc, ◌≤◌, ◌<◌, Bool, true, false, if◌then◌else◌, is_some, length, flat_map, List, [], ◌∷◌, ◌++◌, map, take, ◌+◌, Some, None, option_map, slice_get}
 use Rattle.std.proofs.Common.{arith, sym, ap, ap₂, subst, ◌∙◌, get_or}
 use Rattle.std.proofs.lemmas.List.{length-map, take_all}
 use Rattle.std.proofs.lemmas.Option.{none-some, same_Some}

@@ -1,17 +1,17 @@
 -- What the flow and the shapes of its steps tell, case by case.
 use Rattle.std.specs.Option.{option_map_or}
-use Rattle.std.specs.Prelude.{◌≡◌, refl, ℕ, zero, suc, ◌≤◌, ◌<◌, List, [], ◌∷◌, ◌++◌, length, map, Option, Some, None, Result, slice_get, slice_index_or, OnOk, Ok, Err}
+use Rattle.std.specs.Prelude.{◌≡◌, refl, ℕ, zero, suc, ◌≤◌, ◌<◌, List, [], ◌∷◌, ◌++◌, length, map, Option, Some, None, Result, slice_get, slice_index_or, OnOk}
 use Rattle.std.proofs.Common.{arith, sym, ap, subst, ◌∙◌, append-nil, get_or}
 use Rattle.tv_value.specs.Nested.{Place}
 use Rattle.tv_value.specs.Values.{Name}
 use Rattle.tv_flow.specs.Flows as spec
-use Rattle.tv_flow.specs.Views.{each, flow_view, step_view}
+use Rattle.tv_flow.specs.Views.{flow_view, step_view}
 use Rattle.tv_flow.specs.declared.document.Flow.{Flow}
 use Rattle.tv_flow.specs.declared.document.Step.{Step}
 use Rattle.tv_wires.specs.declared.feeds.NumberedLink.{NumberedLink}
 use Rattle.tv_wires.specs.declared.feeds.NumberedFeed.{NumberedFeed}
 use Rattle.tv_wires.specs.declared.feeds.NumberedFeed.TheVariants.{Merge}
-use Rattle.tv_marked.specs.Feeds.{feed_told, input_told, link_told, merge_told, output_told}
+use Rattle.tv_marked.specs.Feeds.{feed_told, input_told, link_told, output_told}
 use Rattle.tv_marked.specs.Shapes.{Shape, no_shape, reached}
 use Rattle.tv_traces.specs.Views.{node_view, shapes_view}
 use Rattle.tv_traces.specs.declared.node.Node.{Node}

@@ -1,11 +1,9 @@
 -- What is known of a step whose iteration is gone through.
-use Rattle.std.specs.BTreeMap.{get}
-use Rattle.tv_value.specs.Orders.{place_cmp}
 use Rattle.tv_flow.specs.Views.{flow_view}
 use Rattle.tv_lineage.specs.Kept.{Groups}
 use Rattle.tv_marked.specs.Building.{Telling}
 use Rattle.tv_marked.specs.Grouped.{AllAreGrouped}
-use Rattle.tv_traces.specs.Tabled.{told_in}
+use Rattle.tv_traces.specs.Sights.{done_in, what_in}
 use Rattle.tv_traces.specs.Views.{shapes_view}
 use Rattle.tv_traces.specs.declared.building.Walk.{Walk}
 
@@ -16,7 +14,8 @@ telling w =
       shapes = shapes_view w.shown.shapes.now;
       ports = w.ports.now;
       begins = w.starts.now;
-      what = told_in (get place_cmp w.table.now) w.step;
+      what = what_in w.sight.now w.step;
+      settled = done_in w.sight.now w.step;
       name = w.name.now;
     }
 

@@ -1,5 +1,5 @@
 -- What is known of a step of the flow, once the shapes of the steps before it are.
-use Rattle.std.specs.Prelude.{List, Option}
+use Rattle.std.specs.Prelude.{Bool, List, Option}
 use Rattle.tv_value.specs.Nested.{Place}
 use Rattle.tv_value.specs.Values.{Name}
 use Rattle.tv_flow.specs.Flows.{Flow, Step}
@@ -9,6 +9,7 @@ use Rattle.tv_marked.specs.Building.{Telling}
 use Rattle.tv_marked.specs.Shapes.{Shape}
 use Rattle.tv_marked.specs.Walking.{begins_of}
 
-abbrev pub telling_of : Flow → List Shape → (Place → Option What) → Name × Step → Telling
-telling_of flow us what s =
-    record { flow = flow; shapes = us; ports = ports_of flow s.1; begins = begins_of flow s.1; what = what; name = s.0 }
+abbrev pub telling_of : Flow → List Shape → (Place → Option What) → (Place → Bool) → Name × Step
+    → Telling
+telling_of flow us what done s =
+    record { flow = flow; shapes = us; ports = ports_of flow s.1; begins = begins_of flow s.1; what = what; settled = done; name = s.0 }

@@ -1,23 +1,20 @@
 //! The shape of a step's iteration, and the records of its jobs, worked out from the shapes of the steps that feed it.
-ghost use Rattle.std.specs.BTreeMap.{get};
 ghost use Rattle.std.specs.Prelude.{◌≡◌, ◌+◌, ◌==◌, IfOk, OnOk, Some, drop, find, length, map, option_map, slice_index_or, take};
-ghost use Rattle.tv_value.specs.Orders.{place_cmp};
 ghost use Rattle.tv_flow.specs.Views.{flow_view};
 ghost use Rattle.tv_lineage.specs.Views.{mark_view, part_view};
 ghost use Rattle.tv_marked.specs.Walking.{bound_parts, fault_marks, part_in};
 ghost use Rattle.tv_marked.specs.Building.{IsBuilt, IsJobNoted};
 ghost use Rattle.tv_levels.specs.Levels.{closed};
 ghost use Rattle.tv_traces.specs.Building.{AreGrouped, telling};
-ghost use Rattle.tv_traces.specs.Tabled.{told_in};
+ghost use Rattle.tv_traces.specs.Sights.{what_in};
 ghost use Rattle.tv_traces.specs.Views.{node_view, shapes_view};
 
 use crate::copies::{item_place, job_name};
 use crate::feeds::{Shown, push_feed_parts, push_node_parts};
 use crate::node::Node;
-use crate::table::told_at;
+use crate::sight::Sight;
 use crate::used::push_feed_marks;
 use std::alloc::Global;
-use std::collections::BTreeMap;
 use tv_cell::Row;
 use tv_levels::What;
 use tv_lineage::{Marks, Parts, Records};
@@ -29,8 +26,8 @@ use tv_wires::Port;
 pub(crate) struct Walk<'a> {
     /// The flow, and the shapes of the steps before.
     pub(crate) shown: Shown<'a>,
-    /// The levels of all steps.
-    pub(crate) table: &'a BTreeMap<Place, What>,
+    /// What is known of all steps.
+    pub(crate) sight: &'a Sight,
     /// The number of the step, and its name.
     pub(crate) step: u32,
     pub(crate) name: &'a Name,
@@ -111,7 +108,7 @@ fn fault_marks(alloc: Global, walk: &Walk<'_>, leaf: u32, place: &[u32]) -> Resu
     Ok(Sequence::of(marks))
 }
 
-/// Notes what the job at a place used, unless it is noted.
+/// Notes what the job at a place used, where it is settled, and unless it is noted.
 fn note_job(
     alloc: Global,
     walk: &Walk<'_>,
@@ -121,6 +118,10 @@ fn note_job(
     requires { AreGrouped records.old.groups walk.now }
     ensures { OnOk result (IsJobNoted (telling walk.now) place.now records.old records.new) }
 {
+    let is_settled = walk.sight.is_settled(alloc, walk.step, place)?;
+    if !is_settled {
+        return Ok(());
+    }
     let name = job_name(alloc, walk.name, place)?;
     if records.has(&name) {
         return Ok(());
@@ -146,7 +147,7 @@ pub(crate) fn node_below(
         note_job(alloc, walk, records, place.as_slice())?;
         return Ok(Node::Job);
     }
-    match told_at(alloc, walk.table, walk.step, place.as_slice())? {
+    match walk.sight.seen_at(alloc, walk.step, place.as_slice())? {
         Some(What::Closed(count)) => list_below(alloc, walk, records, levels - 1, place, count),
         Some(What::Passed(leaf)) => {
             Ok(Node::Passed(fault_marks(alloc, walk, leaf, place.as_slice())?))
@@ -166,8 +167,7 @@ fn list_below(
     count: u32,
 ) -> Result<Node, NoMemory>
     requires grouped { AreGrouped records.old.groups walk.now }
-    requires told { told_in (get place_cmp walk.now.table.now) walk.now.step place.now
-        ≡ Some (closed count) }
+    requires told { what_in walk.now.sight.now walk.now.step place.now ≡ Some (closed count) }
     ensures { IfOk result (λ u. IsBuilt (telling walk.now)
         (levels + 1) place.now records.old records.new (node_view u)) }
 {

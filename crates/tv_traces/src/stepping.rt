@@ -1,8 +1,6 @@
 //! The steps of a flow, one after another by rank.
-ghost use Rattle.std.specs.BTreeMap.{get};
 ghost use Rattle.std.specs.Prelude.{◌≡◌, ◌<◌, ℕ, [], IfOk, IfSome, None, Some, length, map, replicate, slice_get};
 ghost use Rattle.std.proofs.Common.{set};
-ghost use Rattle.tv_value.specs.Orders.{place_cmp};
 ghost use Rattle.tv_value.specs.Values.{Name as AName};
 ghost use Rattle.tv_flow.specs.Flows.{Step};
 ghost use Rattle.tv_flow.specs.Views.{flow_view};
@@ -15,16 +13,15 @@ ghost use Rattle.tv_marked.specs.Building.{IsBuilt};
 ghost use Rattle.tv_marked.specs.Grouped.{AllAreGrouped};
 ghost use Rattle.tv_marked.specs.Shapes.{no_shape};
 ghost use Rattle.tv_traces.specs.Stepping.{telling_of};
-ghost use Rattle.tv_traces.specs.Tabled.{told_in};
+ghost use Rattle.tv_traces.specs.Sights.{done_in, what_in};
 ghost use Rattle.tv_traces.specs.Views.{node_view, shapes_view};
 
 use crate::building::{Walk, node_below};
 use crate::feeds::Shown;
 use crate::node::Node;
+use crate::sight::Sight;
 use std::alloc::Global;
-use std::collections::BTreeMap;
 use tv_check::FlowPlan;
-use tv_levels::What;
 use tv_lineage::Records;
 use tv_starts::leaf_starts;
 use tv_value::{NoMemory, Place, Sequence};
@@ -69,7 +66,7 @@ pub(crate) fn step_at(plan: &FlowPlan, rank: usize) -> Option<usize>
 pub(crate) fn step_node(
     alloc: Global,
     plan: &FlowPlan,
-    table: &BTreeMap<Place, What>,
+    sight: &Sight,
     shapes: &[Node],
     records: &mut Records,
     number: usize,
@@ -79,7 +76,7 @@ pub(crate) fn step_node(
     ensures { IfOk result (λ u. (s : AName × Step)
         → slice_get (flow_view plan.now.flow).steps number ≡ Some s
         → IsBuilt (telling_of (flow_view plan.now.flow) (shapes_view shapes.now)
-        (told_in (get place_cmp table.now) number) s)
+        (what_in sight.now number) (done_in sight.now number) s)
         (strategy_depth (number_of (mismatches (flow_view plan.now.flow) s.1)) (strategy_of s.1)) [] records.old records.new (node_view u)) }
 {
     let step = &plan.steps.as_slice()[number];
@@ -90,7 +87,7 @@ pub(crate) fn step_node(
             flow: &plan.flow,
             shapes,
         },
-        table,
+        sight,
         step: number as u32,
         name: &entry.0,
         ports: plan.wiring.ports.as_slice()[number].as_slice(),

@@ -40,7 +40,7 @@ pub(crate) fn told_at(
     }
 }
 
-fn key_of(alloc: Global, step: u32, place: &[u32]) -> Result<Place, NoMemory>
+pub(crate) fn key_of(alloc: Global, step: u32, place: &[u32]) -> Result<Place, NoMemory>
     ensures { IfOk result (λ k. k ≡ step ∷ place.now) }
 {
     Place::of(alloc, place)?.below(step)

@@ -1,23 +1,32 @@
-ghost use Rattle.std.specs.Prelude.{◌≡◌, ◌++◌, IfOk, IfSome, OnOk, Some, map, option_map};
+ghost use Rattle.std.specs.Prelude.{◌≡◌, ◌++◌, Bool, IfOk, IfSome, OnOk, Some, map, option_map};
+ghost use Rattle.tv_value.specs.Values.{JobName};
 ghost use Rattle.tv_naming.specs.Numbers.{position};
 ghost use Rattle.tv_gate.specs.Outcomes.{Giving};
 ghost use Rattle.tv_flow.specs.Flows.{Document};
 ghost use Rattle.tv_flow.specs.Views.{flow_view};
-ghost use Rattle.tv_strategy.specs.Origins.{plain};
+ghost use Rattle.tv_strategy.specs.Origins.{Origin, plain};
 ghost use Rattle.tv_cell.specs.PieceValues.{piece_values};
+ghost use Rattle.tv_lineage.specs.Kept.{records_of};
+ghost use Rattle.tv_lineage.specs.Members.{HaveSame};
 ghost use Rattle.tv_lineage.specs.Views.{leaf_view, mark_view};
 ghost use Rattle.tv_model.specs.Meanings.{meaning};
 ghost use Rattle.tv_followed.specs.Recorded.{leaves, marks_of, output_at};
+ghost use Rattle.tv_levels.specs.MainSteps.{main_steps};
 ghost use Rattle.tv_levels.specs.Views.{level_view};
 ghost use Rattle.tv_marked.specs.Feeds.{feed_marks};
+ghost use Rattle.tv_marked.specs.Seen.{AreSeen};
+ghost use Rattle.tv_marked.specs.Settled.{records_of_settled};
+ghost use Rattle.tv_marked.specs.Staged.{IsMainFlow};
+ghost use Rattle.tv_traces.specs.Sights.{done_in, job_view, what_in};
 ghost use Rattle.tv_traces.specs.Views.{shapes_view};
-ghost use Rattle.tv_traces.specs.Traced.{AreTraces, IsTraced};
+ghost use Rattle.tv_traces.specs.Traced.{AreTraces, AreTracesBy, IsTraced, IsTracedSoFar};
 
 use crate::feeds::Shown;
 use crate::node::Node;
 use crate::places::push_piece_places;
+use crate::settled::SettledJob;
+use crate::sight::Sight;
 use crate::stepping::{no_shapes, put, step_at, step_node};
-use crate::table::table_of;
 use crate::used::push_feed_marks;
 use std::alloc::Global;
 use tv_cell::Piece;
@@ -42,17 +51,32 @@ impl Traces {
             → IsTraced gives d (flow_view plan.now.flow) (map level_view levels.now)
             → IfOk result (AreTraces gives d (flow_view plan.now.flow)) }
     {
-        let table = table_of(alloc, levels)?;
-        let mut records = Records::start(alloc)?;
-        let mut shapes = no_shapes(alloc, plan.steps.as_slice().len())?;
-        for rank in 0..plan.steps.as_slice().len() {
-            let Some(number) = step_at(plan, rank) else {
-                unreachable!();
-            };
-            let node = step_node(alloc, plan, &table, shapes.as_slice(), &mut records, number)?;
-            put(&mut shapes, number, node);
-        }
-        Ok(Traces { records, shapes })
+        let sight = Sight::whole(alloc, levels)?;
+        traces_by(alloc, plan, &sight)
+    }
+
+    /// The records of an instance's settled jobs while it is open, by the lists and passed faults that were settled so far, and these
+    /// jobs, in any order. Costs what `start` does.
+    pub fn so_far(
+        alloc: Global,
+        plan: &FlowPlan,
+        levels: &[Level],
+        jobs: &[SettledJob],
+    ) -> Result<Records, NoMemory>
+        ensures { (known : Origin → Bool) (settled : JobName → Bool) (gives : Giving) (d : Document)
+            → IsTracedSoFar known settled gives d (flow_view plan.now.flow) (map level_view levels.now) (map job_view jobs.now)
+            → IfOk result (λ rs. HaveSame (records_of rs) (records_of_settled settled (meaning gives d))) }
+    {
+        let sight = Sight::so_far(alloc, levels, jobs)?;
+        let traces = traces_by(alloc, plan, &sight)?;
+        Ok(traces.records)
+    }
+
+    /// The records alone. Takes no memory, and the cost is constant.
+    pub fn into_records(self) -> Records
+        ensures { result ≡ self.records }
+    {
+        self.records
     }
 
     /// The records of the jobs. Takes no memory, and the cost is constant.
@@ -132,6 +156,25 @@ impl Traces {
             shapes: self.shapes.as_slice(),
         }
     }
+}
+
+/// The records and shapes of all steps, one after another by rank.
+fn traces_by(alloc: Global, plan: &FlowPlan, sight: &Sight) -> Result<Traces, NoMemory>
+    ensures { (known : Origin → Bool) (settled : JobName → Bool) (gives : Giving) (d : Document)
+        → IsMainFlow d (flow_view plan.now.flow)
+        → AreSeen known settled (flow_view plan.now.flow) (main_steps (meaning gives d)) (what_in sight.now) (done_in sight.now)
+        → IfOk result (AreTracesBy known settled gives d (flow_view plan.now.flow)) }
+{
+    let mut records = Records::start(alloc)?;
+    let mut shapes = no_shapes(alloc, plan.steps.as_slice().len())?;
+    for rank in 0..plan.steps.as_slice().len() {
+        let Some(number) = step_at(plan, rank) else {
+            unreachable!();
+        };
+        let node = step_node(alloc, plan, sight, shapes.as_slice(), &mut records, number)?;
+        put(&mut shapes, number, node);
+    }
+    Ok(Traces { records, shapes })
 }
 
 /// The position of a name, or the number of names where it isn't there. Linear in the list.

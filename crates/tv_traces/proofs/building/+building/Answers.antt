@@ -5,7 +5,7 @@ use Rattle.tv_flow.specs.Views.{flow_view}
 use Rattle.tv_lineage.specs.Kept.{IsBefore}
 use Rattle.tv_lineage.specs.Members.{Each}
 use Rattle.tv_lineage.specs.Views.{mark_view, part_view}
-use Rattle.tv_marked.specs.Building.{AreBuilt, IsBuilt, IsJobNoted}
+use Rattle.tv_marked.specs.Building.{AreBuilt, IsBuilt}
 use Rattle.tv_marked.specs.Feeds.{node_parts}
 use Rattle.tv_marked.proofs.OfBuilding.{fault-built, job-built, list-built, none-built, none-of_list, one-more}
 use Rattle.tv_marked.proofs.OfGroups.{all-grow}

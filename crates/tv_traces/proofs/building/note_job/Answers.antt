@@ -22,7 +22,7 @@ note_parts-requires-clause-before c =
 pub returns : goal.returns
 returns c =
     both-ok c.note_parts.result
-    (λ e f. job-noted (telling c.args.walk.now) c.args.place.now c.args.records.now c.note_parts.new.self (map part_view c.in_ok-parts.parts) c.requires c.in_ok-parts.ensures
+    (λ e f. job-noted (telling c.args.walk.now) c.args.place.now c.args.records.now c.note_parts.new.self (map part_view c.in_ok-parts.parts) (sym c.in_ok-is_settled.ensures ∙ c.if-not-is_settled.false) c.requires c.in_ok-parts.ensures
     (e ∙ ap (λ n. with_job n (map part_view c.in_ok-parts.parts) c.args.records.now) c.in_ok-name.ensures)
     (f ∙ ap (λ n. records_of c.args.records.now ++ record { job = n; used = all_marks c.args.records.now.groups (map part_view c.in_ok-parts.parts) } ∷ []) c.in_ok-name.ensures))
     c.note_parts.ensures.ok c.note_parts.ensures.records

@@ -1,7 +1,6 @@
-use Rattle.std.proofs.Common.{refl, sym, ap, ◌∙◌}
+use Rattle.std.proofs.Common.{ap, ◌∙◌}
 use Rattle.tv_lineage.specs.Kept.{element}
 use Rattle.tv_lineage.specs.Views.{part_view}
-use Rattle.tv_lineage.specs.declared.mark.Part.TheVariants.{Single}
 use Rattle.tv_marked.specs.Feeds.{as_part, element_parts}
 use Rattle.tv_traces.proofs.OfNodes.{single}
 use Rattle.tv_traces.proofs.Telling.{no-input, none-pushed, pushed-one, some-input}

@@ -1,5 +1,4 @@
-use Rattle.std.proofs.Common.{arith, length, refl, sym, ap, ◌∙◌, ◌++◌, ◌≤◌, ◌<◌, map, None, Some, take}
-use Rattle.tv_lineage.specs.Views.{part_view}
+use Rattle.std.proofs.Common.{arith, length, refl, ◌≤◌, ◌<◌, None, Some, take}
 use Rattle.tv_marked.specs.Feeds.{element_parts, node_parts}
 use Rattle.tv_traces.specs.Views.{node_view}
 use Rattle.tv_traces.proofs.Telling.{at-node, no-node, no-out, no-step, none-pushed, on-told}

@@ -1,11 +1,9 @@
 use Rattle.std.proofs.Common.{arith, sym, ap, ap₂, subst, ◌∙◌, ◌≡◌, length, ◌<◌, get_or, [], ℕ}
-use Rattle.std.specs.BTreeMap.{get}
-use Rattle.tv_value.specs.Orders.{place_cmp}
 use Rattle.tv_flow.specs.Views.{flow_view}
 use Rattle.tv_frame.proofs.OfOrder.{few-steps}
 use Rattle.tv_frame.proofs.OfTables.{levels-small}
 use Rattle.tv_marked.specs.Building.{IsBuilt, Telling}
-use Rattle.tv_traces.specs.Tabled.{told_in}
+use Rattle.tv_traces.specs.Sights.{done_in, what_in}
 use Rattle.tv_traces.specs.Views.{node_view, shapes_view}
 use Rattle.tv_traces.proofs.Noting.{at-level, if-told}
 use Rattle.tv_traces.proofs.OfPlan.{step-name, step-plan, step-ports}
@@ -24,6 +22,6 @@ returns c = if-told c.node_below.result (λ u h s e.
     let name = step-name c.args.plan.now c.args.number c.requires.number s e c.as_slice-2.result.now c.as_slice-2.ensures c.index-as_slice-number-2.result c.index-as_slice-number-2.is in
     let ports = c.as_slice-4.ensures ∙ step-ports c.args.plan.now c.args.number c.requires.number s e c.as_slice-3.result.now c.as_slice-3.ensures c.index-as_slice-number-3.result c.index-as_slice-number-3.is in
     let begins = c.as_slice-5.ensures.value ∙ c.in_ok-starts.ensures ∙ q.begins in
-    let telling : Rattle.tv_value.specs.Values.Name → Rattle.std.proofs.Common.List Rattle.tv_wires.specs.declared.ports.Port.Port → Rattle.std.proofs.Common.List ℕ → Telling = λ m ps bs. record { flow = flow_view c.args.plan.now.flow; shapes = shapes_view c.args.shapes.now; ports = ps; begins = bs; what = told_in (get place_cmp c.args.table.now) c.args.number; name = m } in
+    let telling : Rattle.tv_value.specs.Values.Name → Rattle.std.proofs.Common.List Rattle.tv_wires.specs.declared.ports.Port.Port → Rattle.std.proofs.Common.List ℕ → Telling = λ m ps bs. record { flow = flow_view c.args.plan.now.flow; shapes = shapes_view c.args.shapes.now; ports = ps; begins = bs; what = what_in c.args.sight.now c.args.number; settled = done_in c.args.sight.now c.args.number; name = m } in
     at-level (telling s.0 _ _) c.index-as_slice-number.result.depth _ [] c.top-top.result c.args.records.now c.node_below.new.records (node_view u) q.depth c.top-top.ensures
     (subst (λ t. IsBuilt t c.index-as_slice-number.result.depth c.top-top.result c.args.records.now c.node_below.new.records (node_view u)) (λ i. telling (name i) (ports i) (begins i)) h)) c.node_below.ensures

@@ -1,7 +1,6 @@
-use Rattle.std.proofs.Common.{ap, subst, map, take}
+use Rattle.std.proofs.Common.{subst, map}
 use Rattle.std.proofs.lemmas.List.{take_all}
 use Rattle.std.specs.BTreeMap.{get}
-use Rattle.std.specs.Prelude.{refl}
 use Rattle.tv_value.specs.Orders.{place_cmp}
 use Rattle.tv_levels.specs.Views.{level_view}
 use Rattle.tv_marked.specs.Tables.{IsTableOf}

@@ -1,4 +1,4 @@
-use Rattle.std.proofs.Common.{sym, ap, ap₂, ◌∙◌, ◌++◌, ◌≤◌, [], map, length, subst}
+use Rattle.std.proofs.Common.{ap, ap₂, ◌∙◌, ◌++◌, ◌≤◌, [], map, length, subst}
 use Rattle.tv_flow.specs.Views.{flow_view}
 use Rattle.tv_cell.specs.PieceValues.{piece_value}
 use Rattle.tv_lineage.specs.Views.{leaf_view}

@@ -1,11 +1,9 @@
-use Rattle.std.proofs.Common.{◌≡◌, map, take, length}
-use Rattle.std.specs.Prelude.{flat_map}
+use Rattle.std.proofs.Common.{◌≡◌, map}
 use Rattle.tv_gate.specs.Outcomes.{Giving}
 use Rattle.tv_flow.specs.Flows.{Document}
 use Rattle.tv_flow.specs.Views.{flow_view}
 use Rattle.tv_cell.specs.PieceValues.{piece_values}
 use Rattle.tv_lineage.specs.Views.{leaf_view}
-use Rattle.tv_model.specs.Meanings.{meaning}
 use Rattle.tv_traces.specs.Traced.{AreTraces}
 use Rattle.tv_traces.proofs.OfUsed.{leaves_until, plain_values}
 use Rattle.tv_traces.proofs.traces.Traces.leaves.Given as goal

@@ -1,4 +1,4 @@
-use Rattle.std.proofs.Common.{sym, ap, ap₂, ◌∙◌, ◌++◌, [], Some, map, subst, ◌≡◌}
+use Rattle.std.proofs.Common.{sym, ap, ap₂, ◌∙◌, ◌++◌, Some, map}
 use Rattle.std.specs.Prelude.{option_map, is_some}
 use Rattle.tv_value.specs.Nested.{at}
 use Rattle.tv_flow.specs.Views.{flow_view}
