@@ -6,9 +6,11 @@
 //! - `orders`: outcomes accepted in any order, with the same line each time
 //! - `nested`: boards of nested flows
 //! - `elsewhere`: answers that were made for another board
+//! - `noted`: what boards that go on tell of their settled jobs
 //! - `traced`: what boards that are done tell of lineage
 mod elsewhere;
 mod nested;
+mod noted;
 mod one_by_one;
 mod orders;
 mod play;

@@ -7,7 +7,7 @@ use std::test::Fail;
 use tv_worked::document;
 
 /// Capitals of a text.
-const CAPITALS: &str =
+pub(crate) const CAPITALS: &str =
     r#""s":{"inputs":{"a":0},"steps":{"u":{"inputs":{"a":{"depth":0,"from":{"input":"a"}}},"outputs":{"o":0},"activities":[{"service":"upper"}]}},"outputs":{"o":{"step":"u","port":"o"}}},"#;
 
 /// A text, and a failure where it is true.
@@ -19,7 +19,7 @@ const DEEP: &str =
     r#""s":{"inputs":{"a":0},"steps":{"n":{"inputs":{"a":{"depth":0,"from":{"input":"a"}}},"outputs":{"o":0},"activities":[{"flow":"t"}]}},"outputs":{"o":{"step":"n","port":"o"}}},"t":{"inputs":{"a":0},"steps":{"f":{"inputs":{"a":{"depth":0,"from":{"input":"a"}},"n":{"depth":0,"from":{"constant":"1"}}},"outputs":{"o":0},"retries":1,"activities":[{"service":"flaky"}]}},"outputs":{"o":{"step":"f","port":"o"}}},"#;
 
 /// The flow s over x, with two jobs at once.
-const TWO_AT_ONCE: &str =
+pub(crate) const TWO_AT_ONCE: &str =
     r#"{"n":{"inputs":{"a":{"depth":0,"from":{"input":"x"}}},"outputs":{"o":0},"jobs":2,"activities":[{"flow":"s"}]}}"#;
 
 /// The flow s over x, one job after another.
@@ -62,7 +62,7 @@ fn nests(
 }
 
 /// A document with more flows.
-fn with_flows(rt: &impl Abort, alloc: Global, text: &str, flows: &str) -> Result<String, Fail> {
+pub(crate) fn with_flows(rt: &impl Abort, alloc: Global, text: &str, flows: &str) -> Result<String, Fail> {
     let flows = format!(in alloc; "\"flows\":{{{flows}")?;
     replaced(rt, alloc, text, "\"flows\":{", flows.as_str())
 }

@@ -17,8 +17,9 @@
 //! | `name:0` | | the name of the job, or `none` |
 //! | `ask:0/0/0` | has the ticket's task answered by a gate | |
 //! | `alone:0/0/0` | the same by an asker | |
+//! | `noted:u` | | the jobs of a step that are settled, each with the elements of inputs that it leads to |
 //! | `accept:0` | has an answer accepted; one that is refused may be tried again | `again`, `good` or `failed`; if refused, where its job stands, or `other` for other inputs |
-use crate::tests::telling::{push_history, push_state, push_task, push_ticket};
+use crate::tests::telling::{push_history, push_noted, push_state, push_task, push_ticket};
 use std::alloc::Global;
 use std::fmt::Write;
 use tv_board::{Accepted, Answer, Board, Moved, Refused, Ticket, ask, ask_alone};
@@ -94,12 +95,12 @@ impl Play {
         }
     }
 
-    /// An act on a ticket, an answer or a job.
+    /// An act on a ticket, an answer, a job or a step.
     fn act_of(&mut self, act: &str, of: &str) -> Result<(), NoMemory> {
         match (ticket_of(of), of.parse::<u64>().ok()) {
             (Some(ticket), _) => self.act_of_ticket(act, &ticket),
             (_, Some(number)) => self.act_of_number(act, number),
-            _ => self.unknown(),
+            _ => self.act_of_step(act, of),
         }
     }
 
@@ -116,6 +117,13 @@ impl Play {
         match act {
             "accept" => self.accept(number),
             "name" => self.tell_name(number),
+            _ => self.unknown(),
+        }
+    }
+
+    fn act_of_step(&mut self, act: &str, step: &str) -> Result<(), NoMemory> {
+        match act {
+            "noted" => self.tell_noted(step),
             _ => self.unknown(),
         }
     }
@@ -178,6 +186,11 @@ impl Play {
             }
             None => Ok(self.said.push_str("none ")?),
         }
+    }
+
+    fn tell_noted(&mut self, step: &str) -> Result<(), NoMemory> {
+        let records = self.board.records()?;
+        push_noted(self.alloc, &mut self.said, &records, step)
     }
 
     fn ask(&mut self, ticket: &Ticket) -> Result<(), NoMemory> {

@@ -2,8 +2,9 @@
 use std::alloc::{AllocError, Global};
 use std::fmt::Write;
 use tv_board::{Entry, JobState, Task, TaskFault, Ticket};
-use tv_json::{compact, json_of_value};
-use tv_value::{NoMemory, Value};
+use tv_json::{compact, element_text, job_text, json_of_value};
+use tv_lineage::{Mark, Records};
+use tv_value::{Copied, JobName, NoMemory, Sequence, Text, Value};
 
 /// The number of a job, its activity and its attempt.
 pub(crate) fn push_ticket(said: &mut String, ticket: Ticket) -> Result<(), AllocError> {
@@ -97,4 +98,37 @@ pub(crate) fn push_history(said: &mut String, history: &[Entry]) -> Result<(), A
         push_entry(said, entry)?;
     }
     said.push(' ')
+}
+
+/// The jobs of a step that are noted, in order of place, each with the elements of inputs that it leads to.
+pub(crate) fn push_noted(
+    alloc: Global,
+    said: &mut String,
+    records: &Records,
+    step: &str,
+) -> Result<(), NoMemory> {
+    let step = Text::from_str(alloc, step)?;
+    let jobs = records.by_step(alloc, &step)?;
+    for job in jobs.as_slice() {
+        push_traced(alloc, said, records, job)?;
+    }
+    Ok(said.push_str("; ")?)
+}
+
+fn push_traced(
+    alloc: Global,
+    said: &mut String,
+    records: &Records,
+    job: &JobName,
+) -> Result<(), NoMemory> {
+    said.push_str(job_text(alloc, job)?.as_str())?;
+    let mut marks = Vec::new(alloc);
+    marks.push(Mark::Made(job.copy(alloc)?))?;
+    let labels = records.backward(alloc, &Sequence::of(marks))?;
+    for (port, place) in labels.as_slice() {
+        let element = element_text(alloc, port, place)?;
+        said.push_str("<")?;
+        said.push_str(element.as_str())?;
+    }
+    Ok(said.push_str(" ")?)
 }
