@@ -62,7 +62,12 @@ fn nests(
 }
 
 /// A document with more flows.
-pub(crate) fn with_flows(rt: &impl Abort, alloc: Global, text: &str, flows: &str) -> Result<String, Fail> {
+pub(crate) fn with_flows(
+    rt: &impl Abort,
+    alloc: Global,
+    text: &str,
+    flows: &str,
+) -> Result<String, Fail> {
     let flows = format!(in alloc; "\"flows\":{{{flows}")?;
     replaced(rt, alloc, text, "\"flows\":{", flows.as_str())
 }

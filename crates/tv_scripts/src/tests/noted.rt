@@ -41,7 +41,13 @@ fn items_that_are_ahead_are_noted(rt: HostRuntime) -> Result<(), Fail> {
 #[test]
 fn failed_and_bounced_jobs_are_noted(rt: HostRuntime) -> Result<(), Fail> {
     let alloc = rt.alloc();
-    let text = document(alloc, "{\"x\":1}", FAILURES, "u", "{\"x\":[\"true\",\"no\"]}")?;
+    let text = document(
+        alloc,
+        "{\"x\":1}",
+        FAILURES,
+        "u",
+        "{\"x\":[\"true\",\"no\"]}",
+    )?;
     let _play = says(
         &rt,
         alloc,
@@ -80,7 +86,13 @@ fn merged_inputs_are_noted(rt: HostRuntime) -> Result<(), Fail> {
 #[test]
 fn jobs_of_instances_are_not_noted(rt: HostRuntime) -> Result<(), Fail> {
     let alloc = rt.alloc();
-    let main = document(alloc, "{\"x\":1}", TWO_AT_ONCE, "n", "{\"x\":[\"a\",\"b\"]}")?;
+    let main = document(
+        alloc,
+        "{\"x\":1}",
+        TWO_AT_ONCE,
+        "n",
+        "{\"x\":[\"a\",\"b\"]}",
+    )?;
     let text = with_flows(&rt, alloc, main.as_str(), NESTED)?;
     let _play = says(
         &rt,

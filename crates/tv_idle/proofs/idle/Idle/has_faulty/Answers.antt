@@ -17,12 +17,11 @@ returns c =
           ∙ ap (λ (t : StepIdle). t.faulty) (of-shown gone qs k)
           ∙ none-live gone (queues_of qs k).faulty.jobs (none-stands qs k (sym c.self.invariant.counted ∙ none-of r.faulty no));
       some = λ yes.
-          let f = some-first gone (length r.gone.items) qs c.self.invariant.all (some-counted r.faulty (faulty_in qs) c.self.invariant.counted yes) in
-          (
+          let f = some-first gone (length r.gone.items) qs c.self.invariant.all (some-counted r.faulty (faulty_in qs) c.self.invariant.counted yes) in (
             f.0,
             f.1,
             ap (λ (v : Idles). first_number (of_step v.steps f.0).faulty) (sym c.self.view_is)
-            ∙ ap (λ (t : StepIdle). first_number t.faulty) (of-shown gone qs f.0)
-            ∙ f.2,
+                ∙ ap (λ (t : StepIdle). first_number t.faulty) (of-shown gone qs f.0)
+                ∙ f.2,
           );
     }
