@@ -80,7 +80,21 @@ impl Ready {
     }
 
     /// Takes the room for so many more jobs.
+    #[inline(always)]
     pub fn reserve(&mut self, count: usize) -> Result<(), NoMemory>
+        ensures jobs { self.new.jobs ≡ self.old.jobs }
+        ensures levels { self.new.levels ≡ self.old.levels }
+        ensures ok { OnOk result (self.new.room ≡ count) }
+        ensures refused { OnErr result (self.new.room ≡ self.old.room) }
+    {
+        if count == self.table.room() {
+            return Ok(());
+        }
+        self.reserve_other(count)
+    }
+
+    #[inline(never)]
+    fn reserve_other(&mut self, count: usize) -> Result<(), NoMemory>
         ensures jobs { self.new.jobs ≡ self.old.jobs }
         ensures levels { self.new.levels ≡ self.old.levels }
         ensures ok { OnOk result (self.new.room ≡ count) }
@@ -92,7 +106,19 @@ impl Ready {
     }
 
     /// The number of the first job. Takes no memory.
+    #[inline(always)]
     pub fn first(&self) -> Option<u32>
+        ensures { result ≡ option_map (λ j. j.0) (slice_get self.now.jobs 0) }
+    {
+        if self.is_empty() {
+            return None;
+        }
+        self.first_of_some()
+    }
+
+    /// The same where there may be some.
+    #[inline(never)]
+    fn first_of_some(&self) -> Option<u32>
         ensures { result ≡ option_map (λ j. j.0) (slice_get self.now.jobs 0) }
     {
         if is_late_first(&self.table, &self.queue, self.late.as_slice()) {

@@ -73,6 +73,13 @@ impl Table {
         self.slots.len()
     }
 
+    /// How many more jobs there is room for.
+    pub fn room(&self) -> usize
+        ensures { result ≡ self.now.room }
+    {
+        self.room
+    }
+
     /// Takes the room for so many more jobs.
     pub fn reserve(&mut self, count: usize) -> Result<(), NoMemory>
         ensures jobs { self.new.jobs ≡ self.old.jobs }

@@ -4,7 +4,7 @@ use Rattle.tv_ready.specs.Laid.{is_late_first}
 use Rattle.tv_ready.specs.Listed.{Listed}
 use Rattle.tv_ready.specs.Orders.{number_at}
 use Rattle.tv_ready.proofs.Keeping.{get-same, late-head, late-some, queue-head}
-use Rattle.tv_ready.proofs.ready.Ready.first.Goals as goal
+use Rattle.tv_ready.proofs.ready.Ready.first_of_some.Goals as goal
 
 abbrev head : Listed → Option ℕ
 head v = option_map (λ (j : ℕ × List ℕ). j.0) (slice_get v.jobs 0)
