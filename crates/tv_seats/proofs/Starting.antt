@@ -1,10 +1,11 @@
 -- Steps of which no job is known.
-use Rattle.std.specs.Prelude.{◌≡◌, ℕ, zero, suc, ◌≤◌, ◌++◌, Bool, List, [], ◌∷◌, Some, length, slice_get, refl}
-use Rattle.std.proofs.Common.{arith, ap, subst, sym, ◌∙◌}
+use Rattle.std.specs.Prelude.{◌≡◌, ℕ, zero, suc, ◌+◌, ◌<◌, ◌≤◌, ◌++◌, Bool, List, [], ◌∷◌, Some, length, slice_get, slice_set, take, refl}
+use Rattle.std.proofs.Common.{arith, ap, subst, sym, ◌∙◌, length-append, length-set, take_all}
+use Rattle.std.proofs.lemmas.List.{take_more_set}
 use Rattle.tv_seats.specs.declared.stage.Stage.{Stage}
 use Rattle.tv_seats.specs.declared.steps.StepSeats.{StepSeats}
 use Rattle.tv_seats.specs.Kept.{AreJobsAt, AreKept, all_levels}
-use Rattle.tv_seats.specs.Starts.{AreEmpty, AreWithin, IsEmptyStep}
+use Rattle.tv_seats.specs.Starts.{AreEmpty, AreEmptySteps, AreWithin, EmptiesStep, IsEmptyStep}
 use Rattle.tv_seats.specs.Stages.{is_aside, is_idle, is_nested}
 use Rattle.tv_seats.specs.Tables.{Rows}
 
@@ -68,3 +69,68 @@ kept-at-start t steps seats room fresh wide =
 
     same : t ≡ record { seats = []; widest = t.widest; room = t.room }
     same = ap (λ ss. record { seats = ss; widest = t.widest; room = t.room }) seats
+
+-- a step put where one stands, and one put behind all
+pub set-empties : (n levels : ℕ) (xs : List StepSeats) (x : StepSeats) → IsEmptyStep levels x → n < length xs → EmptiesStep n levels xs (slice_set xs n x)
+set-empties n levels xs x e lt =
+    let same = length-set {A = StepSeats} xs n x in
+    record {
+      step = x;
+      empty = e;
+      front = take_more_set xs n x lt;
+      there = omega (arith, same, lt);
+      no_more = λ m h k. omega (arith, same, h);
+    }
+
+pub end-empties : (n levels : ℕ) (xs : List StepSeats) (x : StepSeats) → IsEmptyStep levels x → n ≡ length xs → EmptiesStep n levels xs (xs ++ x ∷ [])
+end-empties n levels xs x e at =
+    let more : length (xs ++ x ∷ []) ≡ length xs + 1 = length-append xs (x ∷ []) in
+    record {
+      step = x;
+      empty = e;
+      front =
+          take_all (n + 1) (xs ++ x ∷ []) (omega (arith, more, at))
+          ∙ ap (λ l. l ++ x ∷ []) (sym (take_all n xs (omega (arith, at))));
+      there = omega (arith, more, at);
+      no_more = λ m h k. omega (arith, more, at, k);
+    }
+
+-- so many steps in front are empty, with these indices, and there may be more
+pub record HasEmptyFront (n widest : ℕ) (levels : List ℕ) (xs : List StepSeats) : Type 0 where
+  pub levels_are : all_levels (take n xs) ≡ take n levels
+  pub each : AreEmpty (take n xs)
+  pub within : AreWithin (all_levels (take n xs)) widest
+  pub long : n ≤ length xs
+  pub short : length xs ≤ length levels
+
+pub front-more : (n w v l : ℕ) (levels : List ℕ) (xs ys : List StepSeats) → HasEmptyFront n w levels xs → EmptiesStep n l xs ys → n < length levels → take n levels ++ l ∷ [] ≡ take (n + 1) levels → w ≤ v → l ≤ v → HasEmptyFront (n + 1) v levels ys
+front-more n w v l levels xs ys h e low take_l wide own =
+    let x = e.step in
+    let more = ap all_levels e.front ∙ levels-more (take n xs) x in
+    let there = e.there in
+    let short = h.short in
+    record {
+      levels_are =
+          more
+          ∙ ap (λ ls. ls ++ x.idle.levels ∷ []) h.levels_are
+          ∙ ap (λ m. take n levels ++ m ∷ []) e.empty.levels_are
+          ∙ take_l;
+      each = subst AreEmpty (sym e.front) (fresh-more (take n xs) x h.each (empty-own _ x e.empty));
+      within =
+          subst (λ ls. AreWithin ls v) (sym more)
+          (within-more (all_levels (take n xs)) x.idle.levels w v h.within wide
+          (let s = e.empty.levels_are in omega (arith, s, own)));
+      long = omega (arith, there);
+      short = e.no_more (length levels) short low;
+    }
+
+pub front-whole : (n w : ℕ) (levels : List ℕ) (xs : List StepSeats) → HasEmptyFront n w levels xs → length levels ≤ n → AreEmptySteps levels w xs
+front-whole n w levels xs h all =
+    let long = h.long in
+    let short = h.short in
+    let whole : take n xs ≡ xs = take_all n xs (omega (arith, long, short, all)) in
+    record {
+      levels_are = ap all_levels (sym whole) ∙ h.levels_are ∙ take_all n levels all;
+      each = subst AreEmpty whole h.each;
+      within = subst (λ ys. AreWithin (all_levels ys) w) whole h.within;
+    }

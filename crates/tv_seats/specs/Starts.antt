@@ -1,5 +1,5 @@
 -- Steps of which no job is known.
-use Rattle.std.specs.Prelude.{◌≡◌, ℕ, ◌≤◌, List, [], ◌∷◌}
+use Rattle.std.specs.Prelude.{◌≡◌, ℕ, ◌+◌, ◌<◌, ◌≤◌, List, [], ◌∷◌, ◌++◌, length, take}
 use Rattle.tv_seats.specs.declared.steps.StepSeats.{StepSeats}
 use Rattle.tv_seats.specs.Kept.{all_levels}
 use Rattle.tv_seats.specs.Seats.{levels_of}
@@ -28,3 +28,11 @@ pub record AreEmptySteps (levels : List ℕ) (widest : ℕ) (xs : List StepSeats
   pub levels_are : all_levels xs ≡ levels
   pub each : AreEmpty xs
   pub within : AreWithin (all_levels xs) widest
+
+-- the step of that number is empty, those before it stay, and no step is added behind it
+pub record EmptiesStep (number levels : ℕ) (old new : List StepSeats) : Type 0 where
+  pub step : StepSeats
+  pub empty : IsEmptyStep levels step
+  pub front : take (number + 1) new ≡ take number old ++ step ∷ []
+  pub there : number < length new
+  pub no_more : (n : ℕ) → length old ≤ n → number < n → length new ≤ n

@@ -5,7 +5,7 @@ ghost use Rattle.tv_seats.specs.declared.stage.Stage.TheVariants.{Aside as AnAsi
 ghost use Rattle.tv_seats.specs.Firsts.{IsFirstAsideOf, IsFirstOf, MayGoOut, MayNest};
 ghost use Rattle.tv_seats.specs.Nested.{AreNested, StandsBehind};
 ghost use Rattle.tv_seats.specs.Seats.{HasBackRooms, HasRoomsOrAsBefore, IsFree, back, back_room, count_at, levels_of, new_seat, one_less, out_count, place_at, room_at, running_count, stage_at, stands, step_at, with_back, with_stage};
-ghost use Rattle.tv_seats.specs.Starts.{AreEmptySteps, IsEmptyStep};
+ghost use Rattle.tv_seats.specs.Starts.{AreEmptySteps, EmptiesStep};
 ghost use Rattle.tv_seats.specs.Stages.{is_nested, is_out, may_settle, may_settle_alone};
 
 use crate::stage::Stage;
@@ -71,19 +71,19 @@ impl Seats {
         ensures seats { self.new.seats ≡ [] }
         ensures levels { OnOk result (self.new.levels ≡ levels.now) }
     {
-        let Seats {
-            mut steps,
-            mut spare,
-            ..
-        } = mem::replace(self, Seats::none(alloc));
-        let widest = empty_steps(alloc, &mut steps, &mut spare, levels)?;
-        *self = Seats {
-            table: Table::new(alloc, widest),
-            steps,
-            spare,
-            out: 0,
-        };
-        Ok(())
+        self.out = 0;
+        self.table = Table::new(alloc, 0);
+        mem::swap(&mut self.steps, &mut self.spare);
+        match empty_steps(alloc, &mut self.steps, levels) {
+            Ok(widest) => {
+                self.table = Table::new(alloc, widest);
+                Ok(())
+            }
+            Err(error) => {
+                self.steps.clear();
+                Err(error)
+            }
+        }
     }
 
     /// Gives the seats by number: from then on there are none, of no step. Takes no memory.
@@ -464,36 +464,40 @@ impl Seats {
     }
 }
 
-/// Steps with no jobs, whose places have so many indices, in the memory of these and of others. Answers the most indices of a place.
+/// Steps with no jobs, whose places have so many indices, in the place and the memory of these. Answers the most indices of a place.
 fn empty_steps(
     alloc: Global,
     steps: &mut Vec<StepSeats>,
-    spare: &mut Vec<StepSeats>,
     levels: &[u32],
 ) -> Result<usize, NoMemory>
     ensures { IfOk result (λ widest. AreEmptySteps levels.now widest steps.new.items) }
 {
-    steps.clear();
-    steps.reserve(levels.len())?;
+    steps.truncate(levels.len());
     let mut widest = 0;
-    for count in levels {
-        let step = empty_step(alloc, spare.pop(), *count as usize);
-        steps.push(step)?;
-        widest = wider(widest, *count as usize);
+    for number in 0..levels.len() {
+        let count = levels[number] as usize;
+        empty_step(alloc, steps, number, count)?;
+        widest = wider(widest, count);
     }
     Ok(widest)
 }
 
-/// A step with no jobs, in the memory of another where there is one. Takes no memory.
-fn empty_step(alloc: Global, spare: Option<StepSeats>, levels: usize) -> StepSeats
-    ensures { IsEmptyStep levels result }
+/// The step of that number has no jobs from now on, in the memory of the one that stands there, or is one more.
+fn empty_step(
+    alloc: Global,
+    steps: &mut Vec<StepSeats>,
+    number: usize,
+    levels: usize,
+) -> Result<(), NoMemory>
+    requires { number ≤ length steps.old.items }
+    ensures { OnOk result (EmptiesStep number levels steps.old.items steps.new.items) }
 {
-    let mut step = match spare {
-        Some(step) => step,
-        None => StepSeats::new(alloc, levels),
-    };
-    step.restart(levels);
-    step
+    if number < steps.len() {
+        steps[number].restart(levels);
+    } else {
+        steps.push(StepSeats::new(alloc, levels))?;
+    }
+    Ok(())
 }
 
 /// How many of some jobs in order of place stand before a job: its position, where it is one of them. Linear.

@@ -1,11 +1,5 @@
-use Rattle.std.proofs.Common.{◌≡◌, take}
-use Rattle.tv_seats.specs.Kept.{all_levels}
-use Rattle.tv_seats.specs.Starts.{AreEmpty, AreWithin}
+use Rattle.tv_seats.proofs.Starting.{HasEmptyFront}
 use Rattle.tv_seats.proofs.seats.empty_steps.Given as goal
 
-abbrev pub invariant-loop-count : goal.invariant-loop-count
-invariant-loop-count l = record {
-  levels : all_levels l.steps.items ≡ take l.count-index l.levels;
-  fresh : AreEmpty l.steps.items;
-  within : AreWithin (all_levels l.steps.items) l.widest;
-}
+abbrev pub invariant-loop-number : goal.invariant-loop-number
+invariant-loop-number l = HasEmptyFront l.number l.widest l.levels l.steps.items
