@@ -1,9 +1,9 @@
 //! The idle jobs of an instance.
-ghost use Rattle.std.specs.Prelude.{◌≡◌, ◌^◌, ◌+◌, ◌-◌, ◌<◌, ◌++◌, ◌∷◌, [], cond, false, length, true, slice_set, ℕ, OnErr, OnOk, Some};
+ghost use Rattle.std.specs.Prelude.{◌≡◌, ◌^◌, ◌+◌, ◌-◌, ◌<◌, ◌++◌, ◌∷◌, [], cond, false, length, true, slice_set, ℕ, IfOk, OnErr, OnOk, Some};
 ghost use Rattle.tv_idle.specs.Kept.{IsEmpty};
 ghost use Rattle.tv_idle.specs.Idles.{first_after, first_number, first_of, has_some, is_idle, is_idle_at, none_idle, of_step, room_for, with_idle, with_rooms_of, without};
 
-use crate::queues::Queues;
+use crate::boxed::Boxed;
 use std::alloc::Global;
 use std::marker::Model;
 use std::mem;
@@ -16,7 +16,7 @@ use tv_value::NoMemory;
 #[derive(Debug, Drop)]
 pub struct Idle {
     // By step.
-    queues: Vec<Queues>,
+    queues: Vec<Boxed>,
     // By number: whether the job has gone.
     gone: Vec<bool>,
     // How many more numbers can be given out.
@@ -24,7 +24,7 @@ pub struct Idle {
     // How many jobs that bind a fault stand in the queues.
     faulty: usize,
     // Queues whose memory steps that are added take.
-    spare: Vec<Queues>,
+    spare: Vec<Boxed>,
 }
 
 impl Model for Idle {
@@ -40,17 +40,19 @@ impl Model for Idle {
     ghost invariant = { λ i. IsLaid i.queues.items i.gone.items (vec_capacity i.gone) i.room i.faulty };
 }
 
-/// Queues with no jobs, in the memory of others where there are some. Takes no memory.
-fn empty_queues(alloc: Global, spare: Option<Queues>, levels: usize) -> Queues
-    ensures good { IsEmpty levels result.good }
-    ensures faulty { IsEmpty levels result.faulty }
+/// Queues with no jobs, in the memory of others where there are some.
+fn empty_queues(alloc: Global, spare: Option<Boxed>, levels: usize) -> Result<Boxed, NoMemory>
+    ensures good { IfOk result (λ q. IsEmpty levels q.good) }
+    ensures faulty { IfOk result (λ q. IsEmpty levels q.faulty) }
 {
-    let mut queues = match spare {
-        Some(queues) => queues,
-        None => Queues::new(alloc, levels),
-    };
-    queues.restart(levels);
-    queues
+    match spare {
+        Some(queues) => {
+            let mut queues = queues;
+            queues.restart(levels);
+            Ok(queues)
+        }
+        None => Boxed::new(alloc, levels),
+    }
 }
 
 impl Idle {
@@ -91,7 +93,7 @@ impl Idle {
         ensures room { self.new.room ≡ self.old.room }
     {
         self.queues.reserve(1)?;
-        let queues = empty_queues(alloc, self.spare.pop(), levels);
+        let queues = empty_queues(alloc, self.spare.pop(), levels)?;
         self.queues.push_reserved(queues);
         Ok(())
     }
@@ -186,7 +188,7 @@ impl Idle {
         requires { step < length self.now.steps }
         ensures { result ≡ has_some (of_step self.now.steps step) }
     {
-        self.queues[step as usize].has_some()
+        self.queues[step as usize].read().has_some()
     }
 
     /// Whether any step has an idle job that binds a fault. Constant.
@@ -204,7 +206,7 @@ impl Idle {
         requires { step < length self.now.steps }
         ensures { result ≡ first_of (of_step self.now.steps step).good (of_step self.now.steps step).faulty }
     {
-        self.queues[step as usize].first()
+        self.queues[step as usize].read().first()
     }
 
     /// The number of a step's first idle job that stands after a place, whether or not it binds a fault. Places compare index by
@@ -216,7 +218,7 @@ impl Idle {
         requires { step < length self.now.steps }
         ensures { result ≡ first_after place.now (of_step self.now.steps step) }
     {
-        self.queues[step as usize].first_after(place, self.gone.as_slice())
+        self.queues[step as usize].read().first_after(place, self.gone.as_slice())
     }
 
     /// The number of a step's first idle job that binds no fault.
@@ -224,7 +226,7 @@ impl Idle {
         requires { step < length self.now.steps }
         ensures { result ≡ first_number (of_step self.now.steps step).good }
     {
-        self.queues[step as usize].first_good()
+        self.queues[step as usize].read().first_good()
     }
 
     /// The number of a step's first idle job that binds a fault.
@@ -232,7 +234,7 @@ impl Idle {
         requires { step < length self.now.steps }
         ensures { result ≡ first_number (of_step self.now.steps step).faulty }
     {
-        self.queues[step as usize].first_faulty()
+        self.queues[step as usize].read().first_faulty()
     }
 }
 

@@ -10,9 +10,11 @@
 //! queue once. The first after a place is searched for.
 //!
 //! - `queues`: those of one step
+//! - `boxed`: these, moved in one word
 //! - `idle`: the calls
 #![tactic(auto)]
 
+mod boxed;
 mod idle;
 mod queues;
 

@@ -17,7 +17,8 @@ returns c =
     let inside : s < length qs = subst (λ m. s < m) (ap (λ (v : Idles). length v.steps) (sym c.self.view_is) ∙ map-longer (shown (is_gone gs)) qs) c.requires in
     let q = queues_of qs s in
     c.first_after.ensures
-    ∙ ap (λ m. first_of (sought p m c.index.result.now.good.jobs) (sought p m c.index.result.now.faulty.jobs)) c.as_slice.ensures.value
+    ∙ ap (λ m. first_of (sought p m c.read.result.now.good.jobs) (sought p m c.read.result.now.faulty.jobs)) c.as_slice.ensures.value
+    ∙ ap (λ (x : Queues). first_of (sought p gs x.good.jobs) (sought p gs x.faulty.jobs)) c.read.ensures
     ∙ ap (λ (x : Queues). first_of (sought p gs x.good.jobs) (sought p gs x.faulty.jobs)) (read-same qs s c.index.result.now no_queues inside c.index.ensures)
     ∙ ap (λ js. first_of js (sought p gs q.faulty.jobs)) (sought-live p gs q.good.jobs)
     ∙ ap (first_of (standing_after p (live (is_gone gs) q.good.jobs))) (sought-live p gs q.faulty.jobs)
