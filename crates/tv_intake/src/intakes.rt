@@ -3,23 +3,24 @@ ghost use Rattle.tv_strategy.specs.Conditions.{Suits, number_of};
 ghost use Rattle.tv_strategy.specs.Measures.{DotsAgree, strategy_depth};
 ghost use Rattle.tv_match.specs.Seen.{is_faulty};
 
+use crate::boxed::Boxed;
 use crate::found::Found;
 use crate::sorting::{count_each, count_jobs, put, sort_from};
 use std::alloc::Global;
 use std::mem;
-use tv_match::{Kind, Matcher, Tolds};
+use tv_match::{Kind, Tolds};
 use tv_value::{Depths, NoMemory, Tree};
 
 /// The matchers of an instance's steps, with what they have matched.
 #[derive(Drop)]
 pub struct Intakes {
-    matchers: Vec<Matcher>,
+    matchers: Vec<Boxed>,
     // By their numbers.
     jobs: Vec<Found>,
     // Lists and passed faults that aren't settled.
     waiting: Vec<Found>,
     // Matchers whose memory steps that are added take.
-    spare: Vec<Matcher>,
+    spare: Vec<Boxed>,
 }
 
 impl Intakes {
@@ -83,14 +84,14 @@ impl Intakes {
     {
         let mut matcher = match self.spare.pop() {
             Some(spare) => spare,
-            None => Matcher::unused(alloc),
+            None => Boxed::unused(alloc)?,
         };
         matcher.restart(tree, mismatch, depth)?;
         self.take_in(matcher)
     }
 
     /// Adds a step with its matcher, which holds no tellings.
-    fn take_in(&mut self, matcher: Matcher) -> Result<(), NoMemory>
+    fn take_in(&mut self, matcher: Boxed) -> Result<(), NoMemory>
         requires sound { AreIntaken self.old }
         requires own { IsSound matcher }
         requires none { (matching matcher).held ≡ [] }
@@ -101,8 +102,8 @@ impl Intakes {
         ensures waiting { OnOk result (waiting_things self.new ≡ waiting_things self.old ++ map (λ o. (length self.old.matchers.items, o)) (others_among (in_order matcher))) }
         ensures sound { AreIntaken self.new }
     {
-        let step = self.room_for_step(matcher.ahead())?;
-        sort_from(&matcher, step, 0, &mut self.jobs, &mut self.waiting);
+        let step = self.room_for_step(matcher.read().ahead())?;
+        sort_from(matcher.read(), step, 0, &mut self.jobs, &mut self.waiting);
         put(&mut self.matchers, matcher);
         Ok(())
     }
@@ -168,7 +169,7 @@ impl Intakes {
         ensures jobs { result.1 ≡ jobs_among (brought_at self.now step) }
         ensures within { result.1 ≤ result.0 }
     {
-        let matcher = &self.matchers[step as usize];
+        let matcher = self.matchers[step as usize].read();
         let shown = matcher.shown();
         (matcher.ahead() - shown, count_jobs(matcher, shown))
     }
@@ -181,7 +182,7 @@ impl Intakes {
         ensures good { result.0 ≡ count_by (λ q. not (faulty_ahead_at (matcher_at self.now step) q)) (job_places (brought_at self.now step)) }
         ensures faulty { result.1 ≡ count_by (faulty_ahead_at (matcher_at self.now step)) (job_places (brought_at self.now step)) }
     {
-        let matcher = &self.matchers[step as usize];
+        let matcher = self.matchers[step as usize].read();
         count_each(matcher, matcher.shown())
     }
 
@@ -209,9 +210,9 @@ impl Intakes {
         ensures sound { AreIntaken self.new }
     {
         let matcher = &mut self.matchers[step as usize];
-        let shown = matcher.shown();
+        let shown = matcher.read().shown();
         matcher.tell_held();
-        let matcher = &self.matchers[step as usize];
+        let matcher = self.matchers[step as usize].read();
         sort_from(matcher, step, shown, &mut self.jobs, &mut self.waiting);
     }
 
@@ -231,7 +232,7 @@ impl Intakes {
         ensures faulty { IsFaultyAt (matcher_at self.now result.0) result.1.now result.2 }
     {
         let found = self.jobs[number];
-        let (place, kind) = self.matchers[found.step as usize].item(found.at);
+        let (place, kind) = self.matchers[found.step as usize].read().item(found.at);
         (found.step, place, binds_fault(kind))
     }
 
@@ -249,7 +250,7 @@ impl Intakes {
         ensures { slice_get (waiting_things self.now) at ≡ Some (result.0, outcome_kind result.1.now result.2) }
     {
         let found = self.waiting[at];
-        let (place, kind) = self.matchers[found.step as usize].item(found.at);
+        let (place, kind) = self.matchers[found.step as usize].read().item(found.at);
         (found.step, place, kind)
     }
 

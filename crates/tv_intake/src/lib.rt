@@ -8,11 +8,13 @@
 //! No place is copied: a job is its step and its position among what follows there (`specs/Sorting.antt`), which its matcher
 //! lends. `specs/Intaken.antt` says what is so of all of them, and what each call changes.
 //!
+//! - `boxed`: a matcher that is moved in one word
 //! - `found`: where a job, list or fault stands
 //! - `sorting`: what is new of a matcher, sorted
 //! - `intakes`: the calls
 #![tactic(auto)]
 
+mod boxed;
 mod found;
 mod intakes;
 mod sorting;

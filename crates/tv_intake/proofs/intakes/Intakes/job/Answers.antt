@@ -1,4 +1,4 @@
-use Rattle.std.proofs.Common.{◌<◌, length, ap, arith, ◌∙◌, Some, subst}
+use Rattle.std.proofs.Common.{◌≡◌, ◌<◌, length, ap, arith, sym, ◌∙◌, Some, get_or, subst}
 use Rattle.std.proofs.lemmas.List.{length-map}
 use Rattle.tv_intake.specs.declared.found.Found.{Found}
 use Rattle.tv_intake.specs.Intaken.{followed_in, placed, thing_in}
@@ -21,7 +21,9 @@ item-kind-requires-clause-sound c =
     let f = c.index-found.result.now in
     let n : c.args.number < length i.jobs.items = subst (λ k. c.args.number < k) (length-map i.jobs.items (λ f. placed (thing_in ms f))) c.requires.number in
     let here = each-get (λ (f : Found). f.at < length (followed_in ms f.step)) i.jobs.items c.args.number f (jobs-there ms i.jobs.items i.waiting.items c.requires.sound) n c.index-found.ensures in
-    sound-there ms f c.index.result.now (step-within ms f.step f.at here) c.index.ensures here c.requires.sound.sound
+    let x = c.read.result.now in
+    let at : x ≡ get_or ms f.step x = c.read.ensures ∙ c.index.ensures ∙ ap (get_or ms f.step) (sym c.read.ensures) in
+    sound-there ms f x (step-within ms f.step f.at here) at here c.requires.sound.sound
 
 pub item-kind-requires-clause-within : goal.item-kind-requires-clause-within
 item-kind-requires-clause-within c =
@@ -30,7 +32,9 @@ item-kind-requires-clause-within c =
     let f = c.index-found.result.now in
     let n : c.args.number < length i.jobs.items = subst (λ k. c.args.number < k) (length-map i.jobs.items (λ f. placed (thing_in ms f))) c.requires.number in
     let here = each-get (λ (f : Found). f.at < length (followed_in ms f.step)) i.jobs.items c.args.number f (jobs-there ms i.jobs.items i.waiting.items c.requires.sound) n c.index-found.ensures in
-    item-there ms f c.index.result.now (step-within ms f.step f.at here) c.index.ensures here
+    let x = c.read.result.now in
+    let at : x ≡ get_or ms f.step x = c.read.ensures ∙ c.index.ensures ∙ ap (get_or ms f.step) (sym c.read.ensures) in
+    item-there ms f x (step-within ms f.step f.at here) at here
 
 pub returns-clause-job : goal.returns-clause-job
 returns-clause-job c =
@@ -39,8 +43,10 @@ returns-clause-job c =
     let f = c.index-found.result.now in
     let n : c.args.number < length i.jobs.items = subst (λ k. c.args.number < k) (length-map i.jobs.items (λ f. placed (thing_in ms f))) c.requires.number in
     let here = each-get (λ (f : Found). f.at < length (followed_in ms f.step)) i.jobs.items c.args.number f (jobs-there ms i.jobs.items i.waiting.items c.requires.sound) n c.index-found.ensures in
+    let x = c.read.result.now in
+    let at : x ≡ get_or ms f.step x = c.read.ensures ∙ c.index.ensures ∙ ap (get_or ms f.step) (sym c.read.ensures) in
     map-get (λ f. placed (thing_in ms f)) i.jobs.items c.args.number f n c.index-found.ensures
-    ∙ ap (λ x. Some (placed x)) (thing-is ms f c.index.result.now (step-within ms f.step f.at here) c.index.ensures here _ c.item-kind.ensures.item)
+    ∙ ap (λ x. Some (placed x)) (thing-is ms f x (step-within ms f.step f.at here) at here _ c.item-kind.ensures.item)
     ∙ ap (λ q. Some (f.step, q)) (place-kept c.item-kind.result.0.now c.item-kind.result.1)
 
 pub returns-clause-faulty : goal.returns-clause-faulty
@@ -50,4 +56,6 @@ returns-clause-faulty c =
     let f = c.index-found.result.now in
     let n : c.args.number < length i.jobs.items = subst (λ k. c.args.number < k) (length-map i.jobs.items (λ f. placed (thing_in ms f))) c.requires.number in
     let here = each-get (λ (f : Found). f.at < length (followed_in ms f.step)) i.jobs.items c.args.number f (jobs-there ms i.jobs.items i.waiting.items c.requires.sound) n c.index-found.ensures in
-    faulty-there ms f c.index.result.now (step-within ms f.step f.at here) c.index.ensures here c.item-kind.result.0.now c.binds_fault.result (c.binds_fault.ensures ∙ c.item-kind.ensures.faulty)
+    let x = c.read.result.now in
+    let at : x ≡ get_or ms f.step x = c.read.ensures ∙ c.index.ensures ∙ ap (get_or ms f.step) (sym c.read.ensures) in
+    faulty-there ms f x (step-within ms f.step f.at here) at here c.item-kind.result.0.now c.binds_fault.result (c.binds_fault.ensures ∙ c.item-kind.ensures.faulty)

@@ -1,4 +1,4 @@
-use Rattle.std.proofs.Common.{◌<◌, length, ap, arith, ◌∙◌, Some, subst}
+use Rattle.std.proofs.Common.{◌≡◌, ◌<◌, length, ap, arith, sym, ◌∙◌, Some, get_or, subst}
 use Rattle.std.proofs.lemmas.List.{length-map}
 use Rattle.tv_intake.specs.declared.found.Found.{Found}
 use Rattle.tv_intake.specs.Intaken.{followed_in, thing_in}
@@ -21,7 +21,9 @@ item-kind-requires-clause-sound c =
     let f = c.index-found.result.now in
     let n : c.args.at < length i.waiting.items = subst (λ k. c.args.at < k) (length-map i.waiting.items (thing_in ms)) c.requires.at in
     let here = each-get (λ (f : Found). f.at < length (followed_in ms f.step)) i.waiting.items c.args.at f (waiting-there ms i.jobs.items i.waiting.items c.requires.sound) n c.index-found.ensures in
-    sound-there ms f c.index.result.now (step-within ms f.step f.at here) c.index.ensures here c.requires.sound.sound
+    let x = c.read.result.now in
+    let at : x ≡ get_or ms f.step x = c.read.ensures ∙ c.index.ensures ∙ ap (get_or ms f.step) (sym c.read.ensures) in
+    sound-there ms f x (step-within ms f.step f.at here) at here c.requires.sound.sound
 
 pub item-kind-requires-clause-within : goal.item-kind-requires-clause-within
 item-kind-requires-clause-within c =
@@ -30,7 +32,9 @@ item-kind-requires-clause-within c =
     let f = c.index-found.result.now in
     let n : c.args.at < length i.waiting.items = subst (λ k. c.args.at < k) (length-map i.waiting.items (thing_in ms)) c.requires.at in
     let here = each-get (λ (f : Found). f.at < length (followed_in ms f.step)) i.waiting.items c.args.at f (waiting-there ms i.jobs.items i.waiting.items c.requires.sound) n c.index-found.ensures in
-    item-there ms f c.index.result.now (step-within ms f.step f.at here) c.index.ensures here
+    let x = c.read.result.now in
+    let at : x ≡ get_or ms f.step x = c.read.ensures ∙ c.index.ensures ∙ ap (get_or ms f.step) (sym c.read.ensures) in
+    item-there ms f x (step-within ms f.step f.at here) at here
 
 pub returns : goal.returns
 returns c =
@@ -39,5 +43,7 @@ returns c =
     let f = c.index-found.result.now in
     let n : c.args.at < length i.waiting.items = subst (λ k. c.args.at < k) (length-map i.waiting.items (thing_in ms)) c.requires.at in
     let here = each-get (λ (f : Found). f.at < length (followed_in ms f.step)) i.waiting.items c.args.at f (waiting-there ms i.jobs.items i.waiting.items c.requires.sound) n c.index-found.ensures in
+    let x = c.read.result.now in
+    let at : x ≡ get_or ms f.step x = c.read.ensures ∙ c.index.ensures ∙ ap (get_or ms f.step) (sym c.read.ensures) in
     map-get (thing_in ms) i.waiting.items c.args.at f n c.index-found.ensures
-    ∙ ap Some (thing-is ms f c.index.result.now (step-within ms f.step f.at here) c.index.ensures here _ c.item-kind.ensures.item)
+    ∙ ap Some (thing-is ms f x (step-within ms f.step f.at here) at here _ c.item-kind.ensures.item)
