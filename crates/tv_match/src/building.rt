@@ -1,10 +1,10 @@
-ghost use Rattle.std.specs.Prelude.{◌≡◌, ◌+◌, [], length, true, IfOk, OnOk};
+ghost use Rattle.std.specs.Prelude.{◌≡◌, ◌+◌, [], length, true, IfOk, OnOk, Some};
 ghost use Rattle.tv_value.specs.Views.{strategy_view};
 ghost use Rattle.tv_strategy.specs.Measures.{leaf_names, all_leaf_names};
 ghost use Rattle.tv_strategy.specs.Views.{children_view};
 ghost use Rattle.tv_matching.specs.Stores.{store_for, store_for_cross, store_for_dot, crossed_with};
 ghost use Rattle.tv_match.specs.Entries.{kepts};
-ghost use Rattle.tv_match.specs.Filed.{filed, filed_cross, filed_dot, kept_store};
+ghost use Rattle.tv_match.specs.Filed.{filed, filed_cross, filed_dot, filed_leaf, kept_store};
 ghost use Rattle.tv_match.specs.OneLeaf.{IsOneLeaf, IsOnlyLeaf};
 ghost use Rattle.tv_match.specs.Working.{IsFull};
 
@@ -28,11 +28,39 @@ pub fn rebuild(alloc: Global, store: &mut Store, tree: &Tree) -> Result<(), NoMe
     ensures full { OnOk result (IsFull 0 (filed store.new)) }
 {
     if is_one_leaf(tree) {
-        *store = Store::Leaf(Some(0));
+        if !is_first_leaf(store) {
+            put_leaf(store);
+        }
+        Ok(())
     } else {
-        *store = build(alloc, tree, 0)?.store;
+        rebuild_whole(alloc, store, tree)
     }
+}
+
+#[inline(never)]
+fn put_leaf(store: &mut Store)
+    ensures { filed store.new ≡ filed_leaf (Some 0) }
+{
+    *store = Store::Leaf(Some(0));
+}
+
+#[inline(never)]
+fn rebuild_whole(alloc: Global, store: &mut Store, tree: &Tree) -> Result<(), NoMemory>
+    ensures store { OnOk result (kept_store kepts (filed store.new) ≡ store_for 0 (strategy_view tree.now)) }
+    ensures full { OnOk result (IsFull 0 (filed store.new)) }
+{
+    *store = build(alloc, tree, 0)?.store;
     Ok(())
+}
+
+/// Whether a store is that of a first leaf.
+fn is_first_leaf(store: &Store) -> bool
+    ensures { result ≡ true → filed store.now ≡ filed_leaf (Some 0) }
+{
+    match store {
+        Store::Leaf(Some(leaf)) => *leaf == 0,
+        _ => false,
+    }
 }
 
 /// Whether a strategy is one leaf, or has one child, which is.
