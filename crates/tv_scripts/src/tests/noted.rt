@@ -61,7 +61,7 @@ fn failed_and_bounced_jobs_are_noted(rt: HostRuntime) -> Result<(), Fail> {
         alloc,
         text.as_str(),
         "hand ask:0/0/0 accept:0 noted:r noted:u settles noted:u done",
-        "0/0/0 failed r[] ; ; 3 ; true ",
+        "0/0/0 failed r[] ; ; 2 ; true ",
     )?;
     Ok(())
 }
