@@ -218,7 +218,9 @@ impl Idle {
         requires { step < length self.now.steps }
         ensures { result ≡ first_after place.now (of_step self.now.steps step) }
     {
-        self.queues[step as usize].read().first_after(place, self.gone.as_slice())
+        self.queues[step as usize]
+            .read()
+            .first_after(place, self.gone.as_slice())
     }
 
     /// The number of a step's first idle job that binds no fault.

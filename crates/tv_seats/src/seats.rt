@@ -465,11 +465,7 @@ impl Seats {
 }
 
 /// Steps with no jobs, whose places have so many indices, in the place and the memory of these. Answers the most indices of a place.
-fn empty_steps(
-    alloc: Global,
-    steps: &mut Vec<StepSeats>,
-    levels: &[u32],
-) -> Result<usize, NoMemory>
+fn empty_steps(alloc: Global, steps: &mut Vec<StepSeats>, levels: &[u32]) -> Result<usize, NoMemory>
     ensures { IfOk result (λ widest. AreEmptySteps levels.now widest steps.new.items) }
 {
     steps.truncate(levels.len());
