@@ -1,8 +1,11 @@
 -- An accepted document agrees in its depths.
-use Rattle.std.specs.Prelude.{◌≡◌, refl, ℕ, ◌<◌, ◌≤◌, ◌^◌, List, [], ◌∷◌, length, flat_map, Bool, true, not, ◌&&◌, Option, Some, None, unwrap_or}
+use Rattle.std.specs.Prelude.{◌≡◌, ℕ, ◌<◌, ◌≤◌, ◌^◌, List, [], ◌∷◌, length, flat_map, Bool, true, not, ◌&&◌, Some, unwrap_or}
 use Rattle.std.specs.List.{list_all}
-use Rattle.std.specs.Option.{option_map_or, is_none}
+use Rattle.std.specs.Option.{option_map_or}
 use Rattle.std.proofs.Common.{arith, sym, ap, subst, ◌∙◌}
+use Rattle.std.proofs.lemmas.Bool.{and_parts}
+use Rattle.tv_lemmas.proofs.Options.{is_none-none, is_some-some}
+use Rattle.tv_lemmas.proofs.Lists.{append-none}
 use Rattle.tv_value.specs.Nested.{list, no_trees}
 use Rattle.tv_value.specs.Values.{Name, Value, HasDepth, has_depth}
 use Rattle.tv_value.specs.DepthSets.{least_depth}
@@ -14,7 +17,7 @@ use Rattle.tv_flow.specs.Formed.{is_depth, is_flow, is_formed}
 use Rattle.tv_naming.specs.Faulty.{plainly, with_numbers, no_such_flow, at_main, input_depth, at_given, first_of}
 use Rattle.tv_naming.specs.Naming.{has_name, complain_if, naming_complaints}
 use Rattle.tv_naming.specs.Inputs.{missing_against, unknown_against, depth_against, given_against, given_complaints}
-use Rattle.tv_naming.proofs.OfLists.{both, Each}
+use Rattle.tv_naming.proofs.OfLists.{Each}
 use Rattle.tv_naming.proofs.OfForms.{flows-named}
 use Rattle.tv_naming.proofs.FormedParts.{all-pass, ascending, document-flows, flow-inputs}
 use Rattle.tv_depths.specs.Cycles.{opened_flows, cycle_complaints, nesting_complaints, link_cycle_complaints}
@@ -25,12 +28,12 @@ use Rattle.tv_check.specs.Passes.{complaints, checked}
 use Rattle.tv_check.specs.Plans.{IsAccepted}
 use Rattle.tv_check.specs.NamedGraphs.{leads_inside, links_inside}
 use Rattle.tv_check.proofs.Accepting.{first-none}
-use Rattle.tv_check.proofs.Inside.{nil-parts, nil-each, each-by, silent, names-inside}
+use Rattle.tv_check.proofs.Inside.{nil-each, each-by, silent, names-inside}
 use Rattle.tv_check.proofs.OfCycles.{IsThere, each-there}
 use Rattle.tv_check.proofs.Prepared.{all-fit, all-lower}
 use Rattle.tv_model.specs.Agreeing.{InputsHave, Agrees}
 use Rattle.tv_model.specs.Meanings.{nesting_limit}
-use Rattle.tv_agreed.proofs.Lists.{all-each, named-each, some-of}
+use Rattle.tv_agreed.proofs.Lists.{all-each, named-each}
 use Rattle.tv_agreed.proofs.FlowsAgree.{flow-agrees}
 use Rattle.tv_agreed.proofs.Nests.{Silent, all-silent, deep_told, nest, nests, not-more}
 
@@ -42,7 +45,7 @@ DepthTold inputs v = depth_against inputs v ≡ []
 inputs-have : (inputs : List (Name × ℕ)) (vs : List (Name × Value)) (xs : List (Name × ℕ)) → Each (IsThere inputs) xs → Each (λ x. missing_against vs x ≡ []) xs → Each (DepthTold inputs) vs → InputsHave xs vs
 inputs-have inputs vs [] t m h = tt
 inputs-have inputs vs (x ∷ xs) t m h =
-    let found = some-of (named x.0 vs) (silent (has_name vs x.0) _ m.0) in
+    let found = is_some-some (named x.0 vs) (silent (has_name vs x.0) _ m.0) in
     (subst (λ o. HasDepth (unwrap_or o (list tt no_trees)) x.1) (sym found.1) (deep found.0 (named-each (DepthTold inputs) x.0 vs found.0 h found.1)), inputs-have inputs vs xs t.1 m.1 h)
   where
     deep : (v : Value) → depth_against inputs (x.0, v) ≡ [] → HasDepth v x.1
@@ -51,34 +54,30 @@ inputs-have inputs vs (x ∷ xs) t m h =
 given-have : (d : Document) → is_formed d ≡ true → given_complaints d ≡ [] → (flow : Flow) → is_flow flow ≡ true → named d.main d.flows ≡ Some flow → InputsHave flow.inputs d.inputs
 given-have d formed h flow fl e =
     let g : given_against flow.inputs d.inputs ≡ [] = ap (λ o. given_against (option_map_or (λ (f : Flow). f.inputs) o []) d.inputs) (sym e) ∙ h in
-    let p = nil-parts _ (flat_map (depth_against flow.inputs) d.inputs) g in
-    let q = nil-parts (flat_map (missing_against d.inputs) flow.inputs) (flat_map (unknown_against flow.inputs) d.inputs) p.0 in
+    let p = append-none _ (flat_map (depth_against flow.inputs) d.inputs) g in
+    let q = append-none (flat_map (missing_against d.inputs) flow.inputs) (flat_map (unknown_against flow.inputs) d.inputs) p.0 in
     inputs-have flow.inputs d.inputs flow.inputs (each-there flow.inputs (ascending is_depth 0 16 flow.inputs (flow-inputs flow fl))) (nil-each (missing_against d.inputs) flow.inputs q.0) (nil-each (depth_against flow.inputs) d.inputs p.1)
 
 -- ---- all passes
 
-is-none : {X : Type 0} (o : Option X) → is_none o ≡ true → o ≡ None
-is-none None h = refl
-is-none (Some x) h = cc
-
 pub accepted-agrees : (d : Document) → is_formed d ≡ true → IsAccepted d → Agrees d
 accepted-agrees d formed accepted =
     let knows : Name → Bool = λ n. true in
-    let all = first-none (complaints knows d) (is-none (checked knows d) accepted) in
-    let a = nil-parts _ (given_complaints d) all in
-    let b = nil-parts _ (depth_complaints d) a.0 in
-    let c = nil-parts _ (link_cycle_complaints d) b.0 in
-    let e = nil-parts _ (nesting_complaints d) c.0 in
-    let n = nil-parts (naming_complaints knows d) (cycle_complaints d) e.0 in
+    let all = first-none (complaints knows d) (is_none-none (checked knows d) accepted) in
+    let a = append-none _ (given_complaints d) all in
+    let b = append-none _ (depth_complaints d) a.0 in
+    let c = append-none _ (link_cycle_complaints d) b.0 in
+    let e = append-none _ (nesting_complaints d) c.0 in
+    let n = append-none (naming_complaints knows d) (cycle_complaints d) e.0 in
     let flows = flows-named d formed in
-    let forms = each-by _ (λ f. is_flow f.1 ≡ true) d.flows (λ f b. (both (is_name f.0) (is_flow f.1) b).1) (all-each (λ f. is_name f.0 && is_flow f.1) d.flows (all-pass is_flow 1 256 d.flows (document-flows d formed))) in
+    let forms = each-by _ (λ f. is_flow f.1 ≡ true) d.flows (λ f b. (and_parts (is_name f.0) (is_flow f.1) b).1) (all-each (λ f. is_name f.0 && is_flow f.1) d.flows (all-pass is_flow 1 256 d.flows (document-flows d formed))) in
     let fits = all-each (λ f. list_all (λ s. has_fitting s.1) f.1.steps) d.flows (all-fit knows d n.0) in
     let silent_all = all-silent d e.1 b.1 in
-    let inside = both (leads_inside opened_flows d.flows) (list_all (λ f. links_inside f.1) d.flows) (names-inside knows d n.0) in
+    let inside = and_parts (leads_inside opened_flows d.flows) (list_all (λ f. links_inside f.1) d.flows) (names-inside knows d n.0) in
     let lower = all-each (λ f. list_all (λ s. list_all (opens_lower d (flow_nesting d f.0)) s.1.activities) f.1.steps) d.flows (all-lower d flows.rise (small (length d.flows) flows.few) inside.0 (ap first_of n.1)) in
     let opens = all-each (λ f. list_all (has_name d.flows) (opened_flows f.1)) d.flows inside.0 in
-    let main_there = silent (has_name d.flows d.main) (plainly no_such_flow at_main) (nil-parts (complain_if (not (has_name d.flows d.main)) (plainly no_such_flow at_main)) _ n.0).0 in
-    let main = some-of (named d.main d.flows) main_there in
+    let main_there = silent (has_name d.flows d.main) (plainly no_such_flow at_main) (append-none (complain_if (not (has_name d.flows d.main)) (plainly no_such_flow at_main)) _ n.0).0 in
+    let main = is_some-some (named d.main d.flows) main_there in
     let few = named-each (λ f. deep_told d f ≡ []) d.main d.flows main.0 (nil-each (deep_told d) d.flows e.1) main.1 in
     record {
       flows = λ f flow is. flow-agrees d f flow (named-each (λ f. is_flow f.1 ≡ true) f d.flows flow forms is) (named-each (λ f. list_all (λ s. has_fitting s.1) f.1.steps ≡ true) f d.flows flow fits is) (named-each (Silent d) f d.flows flow silent_all is);

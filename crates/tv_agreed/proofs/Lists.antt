@@ -1,26 +1,22 @@
 -- What holds of all things of a list, and of names in it.
-use Rattle.std.specs.Prelude.{◌≡◌, refl, ◌+◌, ◌≤◌, List, [], ◌∷◌, ◌++◌, map, filter, flat_map, Bool, true, false, ◌||◌, ◌==◌, count_by, Option, Some, None, is_some, if◌then◌else◌}
+use Rattle.std.specs.Prelude.{◌≡◌, refl, List, [], ◌∷◌, ◌++◌, map, filter, flat_map, Bool, true, false, ◌||◌, Some, is_some, if◌then◌else◌}
 use Rattle.std.specs.List.{list_all, list_any}
-use Rattle.std.proofs.Common.{arith, sym, subst, ◌∙◌, cond, eqb-true}
-use Rattle.std.proofs.lemmas.List.Sums.{sum_by-cons}
+use Rattle.std.proofs.Common.{sym, subst, ◌∙◌, cond}
+use Rattle.std.proofs.lemmas.Bool.{and_parts}
 use Rattle.tv_value.specs.Values.{Name}
 use Rattle.tv_value.specs.Orders.{same_name, named}
-use Rattle.tv_naming.proofs.OfLists.{both, Each}
+use Rattle.tv_naming.proofs.OfLists.{Each}
 use Rattle.tv_naming.proofs.ByPosition.{same_name-is}
 
 -- ---- lists
 
 pub all-each : {X : Type 0} (p : X → Bool) (xs : List X) → list_all p xs ≡ true → Each (λ x. p x ≡ true) xs
 all-each p [] h = tt
-all-each p (x ∷ xs) h = let b = both (p x) (list_all p xs) h in (b.0, all-each p xs b.1)
+all-each p (x ∷ xs) h = let b = and_parts (p x) (list_all p xs) h in (b.0, all-each p xs b.1)
 
 pub two-each : {X : Type 0} (P Q : X → Type 0) (xs : List X) → Each P xs → Each Q xs → Each (λ x. P x × Q x) xs
 two-each P Q [] g h = tt
 two-each P Q (x ∷ xs) g h = ((g.0, h.0), two-each P Q xs g.1 h.1)
-
-pub some-of : {X : Type 0} (o : Option X) → is_some o ≡ true → (x : X) × (o ≡ Some x)
-some-of None h = cc
-some-of (Some x) h = (x, refl)
 
 -- what holds of each thing holds of the one that a name finds
 pub named-each : {A : Type 0} (P : Name × A → Type 0) (n : Name) (xs : List (Name × A)) (a : A) → Each P xs → named n xs ≡ Some a → P (n, a)
@@ -64,14 +60,3 @@ named-any n (x ∷ xs) h = cases (same_name n x.0) h (named-any n xs)
     cases : (b : Bool) → (b || list_any (same_name n) (map (λ x. x.0) xs)) ≡ true → (list_any (same_name n) (map (λ x. x.0) xs) ≡ true → is_some (named n xs) ≡ true) → is_some (if b then Some x.1 else named n xs) ≡ true
     cases true k rec = refl
     cases false k rec = rec k
-
-pub any-counted : (p : Name → Bool) (ms : List Name) → 1 ≤ count_by p ms → list_any p ms ≡ true
-any-counted p [] h = absurd (omega arith)
-any-counted p (m ∷ ms) h = cases (p m) (subst (λ n. 1 ≤ n) (sum_by-cons (λ x. cond (p x) 1 0) m ms) h) (any-counted p ms)
-  where
-    cases : (b : Bool) → 1 ≤ cond b 1 0 + count_by p ms → (1 ≤ count_by p ms → list_any p ms ≡ true) → (b || list_any p ms) ≡ true
-    cases true k rec = refl
-    cases false k rec = rec (omega (arith, k))
-
-pub once-any : (n : Name) (ms : List Name) → (count_by (same_name n) ms == 1) ≡ true → list_any (same_name n) ms ≡ true
-once-any n ms h = any-counted (same_name n) ms (let e = eqb-true (count_by (same_name n) ms) 1 h in omega (arith, e))

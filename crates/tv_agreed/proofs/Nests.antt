@@ -2,22 +2,23 @@
 use Rattle.std.specs.Prelude.{◌≡◌, refl, ℕ, zero, suc, ◌<◌, ◌≤◌, List, [], ◌∷◌, length, filter, flat_map, filter_map, Bool, true, false, not, ◌||◌, ◌==◌, nat_lt}
 use Rattle.std.specs.List.{list_all}
 use Rattle.std.proofs.Common.{arith, sym, ◌∙◌}
-use Rattle.std.proofs.lemmas.Bool.{eq-eqb, ltb-true}
+use Rattle.std.proofs.lemmas.Bool.{eq-eqb, ltb-true, and_parts}
 use Rattle.std.proofs.lemmas.Bool.Decides.{nat_tests}
 use Rattle.std.proofs.lemmas.List.Folds.{list_all-append}
+use Rattle.tv_lemmas.proofs.Options.{is_some-some}
 use Rattle.tv_value.specs.Values.{Name}
 use Rattle.tv_value.specs.Orders.{named}
 use Rattle.tv_value.specs.Activities.{Activity, service, nested}
 use Rattle.tv_flow.specs.Flows.{Step, Flow, Document}
 use Rattle.tv_naming.specs.Faulty.{Complaint, with_numbers, too_deep, at_flow}
 use Rattle.tv_naming.specs.Naming.{has_name, complain_if}
-use Rattle.tv_naming.proofs.OfLists.{both, Each}
+use Rattle.tv_naming.proofs.OfLists.{Each}
 use Rattle.tv_depths.specs.Cycles.{nesting, opened_flow, opened_flows, nesting_complaints, nesting_limit}
 use Rattle.tv_depths.specs.Depthwise.{flow_complaints, by_nesting, depth_complaints}
 use Rattle.tv_depths.specs.Measured.{flow_nesting, opens_lower}
 use Rattle.tv_check.proofs.Inside.{nil-each}
 use Rattle.tv_model.specs.Agreeing.{ActivitiesNest, StepsNest, NestsWithin}
-use Rattle.tv_agreed.proofs.Lists.{named-each, of-filter, some-of, split-each}
+use Rattle.tv_agreed.proofs.Lists.{named-each, of-filter, split-each}
 
 -- ---- how deep flows nest
 
@@ -81,8 +82,8 @@ module _ (d : Document) (k : ℕ) (deeper : (g : Name) → has_name d.flows g �
   activities-nest [] l h = tt
   activities-nest (service m ∷ acts) l h = activities-nest acts l h
   activities-nest (nested g ∷ acts) l h =
-      let a = both (opens_lower d n (nested g)) (list_all (opens_lower d n) acts) l in
-      let b = both (has_name d.flows g) (list_all (has_name d.flows) (filter_map opened_flow acts)) h in
+      let a = and_parts (opens_lower d n (nested g)) (list_all (opens_lower d n) acts) l in
+      let b = and_parts (has_name d.flows g) (list_all (has_name d.flows) (filter_map opened_flow acts)) h in
       (deeper g b.0 (less g (has_name d.flows g) b.0 a.0), activities-nest acts a.1 b.1)
     where
       less : (g : Name) (c : Bool) → c ≡ true → (not c || nat_lt (flow_nesting d g) n) ≡ true → flow_nesting d g ≤ k
@@ -92,8 +93,8 @@ module _ (d : Document) (k : ℕ) (deeper : (g : Name) → has_name d.flows g �
   steps-nest : (ss : List (Name × Step)) → list_all (λ s. list_all (opens_lower d n) s.1.activities) ss ≡ true → list_all (has_name d.flows) (flat_map (λ s. filter_map opened_flow s.1.activities) ss) ≡ true → StepsNest (NestsWithin d.flows k) ss
   steps-nest [] l h = tt
   steps-nest (s ∷ ss) l h =
-      let a = both (list_all (opens_lower d n) s.1.activities) _ l in
-      let b = both (list_all (has_name d.flows) (filter_map opened_flow s.1.activities)) (list_all (has_name d.flows) (flat_map (λ (s : Name × Step). filter_map opened_flow s.1.activities) ss)) (sym (list_all-append (has_name d.flows) (filter_map opened_flow s.1.activities) (flat_map (λ (s : Name × Step). filter_map opened_flow s.1.activities) ss)) ∙ h) in
+      let a = and_parts (list_all (opens_lower d n) s.1.activities) _ l in
+      let b = and_parts (list_all (has_name d.flows) (filter_map opened_flow s.1.activities)) (list_all (has_name d.flows) (flat_map (λ (s : Name × Step). filter_map opened_flow s.1.activities) ss)) (sym (list_all-append (has_name d.flows) (filter_map opened_flow s.1.activities) (flat_map (λ (s : Name × Step). filter_map opened_flow s.1.activities) ss)) ∙ h) in
       (activities-nest s.1.activities a.0 b.0, steps-nest ss a.1 b.1)
 
 abbrev pub Lower : Document → Name × Flow → Type 0
@@ -108,5 +109,5 @@ nests d l o zero f h few = absurd (none (flow_nesting d f) (at-least-one d (leng
     none : (n : ℕ) → 1 ≤ n → n ≤ 0 → ⊥
     none n a b = omega (arith, a, b)
 nests d l o (suc k) f h few =
-    let found = some-of (named f d.flows) h in
+    let found = is_some-some (named f d.flows) h in
     (found.0, found.1, steps-nest d k (nests d l o k) (flow_nesting d f) few found.0.steps (named-each (Lower d) f d.flows found.0 l found.1) (named-each (OpensThere d) f d.flows found.0 o found.1))

@@ -2,13 +2,13 @@
 use Rattle.std.specs.Prelude.{◌≡◌, refl, ℕ, zero, suc, List, [], ◌∷◌, ◌++◌, map, length, Some, unwrap_or}
 use Rattle.std.specs.Option.{option_map_or}
 use Rattle.std.proofs.Common.{sym, ap, subst, ◌∙◌}
+use Rattle.std.proofs.lemmas.Simd.{map-map}
 use Rattle.tv_value.specs.Nested.{leaf, list, no_trees, tree, Place, Trees}
 use Rattle.tv_value.specs.Orders.{named}
 use Rattle.tv_value.specs.Values.{AllHaveDepth, HasDepth, JobName, Name, Scalar, Value}
 use Rattle.tv_flow.specs.Flows.{Feed, Flow, Step}
 use Rattle.tv_strategy.specs.Origins.{Traced, input_value, input_values}
 use Rattle.tv_gate.specs.Outcomes.{Giving}
-use Rattle.tv_naming.proofs.OfLists.{map-map}
 use Rattle.tv_depths.specs.CheckedDepths.{StepDepths, feed_depth, flow_depths, measured_outputs, output_depths, steps_depths}
 use Rattle.tv_depths.specs.Delivered.{Delivered}
 use Rattle.tv_depths.specs.Ranks.{ranked}
@@ -30,7 +30,7 @@ use Rattle.tv_agreed.proofs.Settled.{none-feed}
 
 -- ---- what is delivered
 
-gives-right : (levels : ℕ) (os : List (Name × ℕ)) (ds : List (Name × Delivered)) → OutputsGive levels os ds → AreRight ds
+pub gives-right : (levels : ℕ) (os : List (Name × ℕ)) (ds : List (Name × Delivered)) → OutputsGive levels os ds → AreRight ds
 gives-right levels [] [] h = tt
 gives-right levels [] (d ∷ ds) h = absurd h
 gives-right levels (o ∷ os) [] h = absurd h

@@ -2,13 +2,14 @@
 use Rattle.std.specs.Prelude.{◌≡◌, refl, ℕ, zero, suc, ◌⊎◌, ◌&&◌, List, [], ◌∷◌, Bool, true, false, map, flat_map, find, Option, Some, None, option_and_then, if◌then◌else◌}
 use Rattle.std.specs.Option.{option_map_or}
 use Rattle.std.proofs.Common.{sym, ap, subst, ◌∙◌, inl, inr}
+use Rattle.std.proofs.lemmas.Bool.{and_parts}
 use Rattle.tv_value.specs.Orders.{named, same_job}
 use Rattle.tv_value.specs.Values.{JobName, Name, Value}
+use Rattle.tv_value.proofs.OfJobNames.{same_job_decides}
 use Rattle.tv_flow.specs.Flows.{Document, Flow, Step}
 use Rattle.tv_flow.specs.Formed.{is_flow, is_formed}
 use Rattle.tv_flow.specs.Forms.{is_name}
 use Rattle.tv_naming.proofs.FormedParts.{all-pass, document-flows, steps-ascend}
-use Rattle.tv_naming.proofs.OfLists.{both}
 use Rattle.tv_gate.specs.Outcomes.{Giving}
 use Rattle.tv_depths.specs.CheckedDepths.{flow_depths, measured_outputs}
 use Rattle.tv_depths.specs.Delivered.{StepMeaning}
@@ -24,7 +25,7 @@ use Rattle.tv_model.specs.Jobs.{Job}
 use Rattle.tv_model.specs.Made.{Made, Meaning, Opened}
 use Rattle.tv_model.specs.Meanings.{flow_meaning, instance_meaning, jobs_with_inside, meaning, nesting_limit, no_meaning, steps_inside}
 use Rattle.tv_model.specs.Members.{In}
-use Rattle.tv_model.proofs.Tests.{Each, same_job_decides}
+use Rattle.tv_model.proofs.Tests.{Each}
 use Rattle.tv_model.proofs.Fed.{each-all}
 use Rattle.tv_model.proofs.Members.{Apart, each_in, in-flat, in_each, no-nil, of-flat}
 use Rattle.tv_model.proofs.Order.{in-append, of-map}
@@ -221,7 +222,7 @@ all-sound : (d : Document) → is_formed d ≡ true → Agrees d → AllSound d.
 all-sound d formed a f flow e = (a.flows f flow e, each-by (IsThere flow.steps) (λ s. named s.0 flow.steps ≡ Some s.1) flow.steps (λ s t. t.1) (each-there flow.steps (steps-ascend flow (form f flow e))))
   where
     forms : Each (λ (f : Name × Flow). is_flow f.1 ≡ true) d.flows
-    forms = each-by _ (λ (f : Name × Flow). is_flow f.1 ≡ true) d.flows (λ f b. (both (is_name f.0) (is_flow f.1) b).1) (all-each (λ f. is_name f.0 && is_flow f.1) d.flows (all-pass is_flow 1 256 d.flows (document-flows d formed)))
+    forms = each-by _ (λ (f : Name × Flow). is_flow f.1 ≡ true) d.flows (λ f b. (and_parts (is_name f.0) (is_flow f.1) b).1) (all-each (λ f. is_name f.0 && is_flow f.1) d.flows (all-pass is_flow 1 256 d.flows (document-flows d formed)))
 
     form : (f : Name) (flow : Flow) → named f d.flows ≡ Some flow → is_flow flow ≡ true
     form f flow e = named-each (λ f. is_flow f.1 ≡ true) f d.flows flow forms e

@@ -1,6 +1,6 @@
 -- The depths that a step sees when it is taken by rank are those that it sees once all steps are taken.
-use Rattle.std.specs.Prelude.{◌≡◌, refl, ℕ, suc, ◌-◌, ◌≤◌, List, [], ◌∷◌, ◌++◌, flat_map, false, ◌||◌, None, Some, slice_get}
-use Rattle.std.proofs.Common.{arith, sym, ap, subst, ◌∙◌, inl, inr, append-nil}
+use Rattle.std.specs.Prelude.{◌≡◌, refl, ℕ, ◌-◌, ◌≤◌, List, [], ◌∷◌, ◌++◌, flat_map, false, ◌||◌, None}
+use Rattle.std.proofs.Common.{arith, sym, ap, subst, ◌∙◌, append-nil}
 use Rattle.std.proofs.lemmas.Bool.{or_parts}
 use Rattle.tv_value.specs.Values.{Name}
 use Rattle.tv_flow.specs.Flows.{Feed, Step, StepInput}
@@ -8,14 +8,9 @@ use Rattle.tv_depths.specs.CheckedDepths.{StepDepths, feed_depth, port_depth, st
 use Rattle.tv_depths.specs.Ranks.{earlier_steps, feed_steps, is_among}
 use Rattle.tv_depths.proofs.OfRanked.{IsOrdered, feeds-none, port-stays}
 use Rattle.tv_value.specs.Orders.{same_name}
-use Rattle.tv_model.specs.Members.{In}
 use Rattle.tv_model.proofs.Tests.{Each}
 use Rattle.tv_model.proofs.Members.{in_each}
-
-place-of : {A : Type 0} (x : A) (xs : List A) → In x xs → (i : ℕ) × (slice_get xs i ≡ Some x)
-place-of x [] h = absurd h
-place-of x (y ∷ ys) (inl e) = (0, ap Some (sym e))
-place-of x (y ∷ ys) (inr h) = let r = place-of x ys h in (suc r.0, r.1)
+use Rattle.tv_model.proofs.OfMembers.{get-in}
 
 -- none of the steps from s on is among those that come before s
 abbrev pub Feeds : Step → List (Name × Step) → Type 0
@@ -23,7 +18,7 @@ Feeds s ss = Each (λ r. is_among (earlier_steps s) r.0 ≡ false) ss
 
 pub none-feed : (done : List Name) (s : Name × Step) (ss : List (Name × Step)) → IsOrdered done (s ∷ ss) → Feeds s.1 (s ∷ ss)
 none-feed done s ss h =
-    in_each (λ r. is_among (earlier_steps s.1) r.0 ≡ false) (s ∷ ss) (λ r i. let p = place-of r (s ∷ ss) i in feeds-none done (s ∷ ss) 0 p.0 s r h refl p.1 (least p.0))
+    in_each (λ r. is_among (earlier_steps s.1) r.0 ≡ false) (s ∷ ss) (λ r i. let p = get-in r (s ∷ ss) i in feeds-none done (s ∷ ss) 0 p.0 s r h refl p.1 (least p.0))
   where
     least : (n : ℕ) → 0 ≤ n
     least n = omega arith

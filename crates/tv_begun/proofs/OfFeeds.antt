@@ -5,6 +5,7 @@ use Rattle.std.proofs.Common.{arith, sym, ap, ap₂, subst, ◌∙◌}
 use Rattle.std.proofs.lemmas.List.Folds.{list_all-append}
 use Rattle.std.proofs.lemmas.Bool.{and_left}
 use Rattle.std.proofs.lemmas.Option.{same_Some}
+use Rattle.std.proofs.lemmas.List.{map-append}
 use Rattle.tv_value.specs.Nested.{Place, Trees, all_notes, at, count, item_at, list, leaf, no_trees, notes, tree}
 use Rattle.tv_value.specs.Values.{AllHaveDepth, HasDepth, Name, Scalar, Value}
 use Rattle.tv_flow.specs.Flows.{Feed, Link, constant, input, link, merge, output}
@@ -15,7 +16,6 @@ use Rattle.tv_strategy.proofs.OfSources.{notes-have, traced-have}
 use Rattle.tv_model.specs.Instances.{value_given}
 use Rattle.tv_matching.specs.Items.{Bound, Item, Stopped, all_known, closes, here, item, known_from, known_items, within}
 use Rattle.tv_matching.specs.Told.{Told, seen, tellings}
-use Rattle.tv_matching.proofs.Lists.{map-append}
 use Rattle.tv_telling.specs.ValueTellings.{value_told}
 use Rattle.tv_framing.specs.PortTellings as framing
 use Rattle.tv_framing.specs.PortTellings.{placed, seen_told}
@@ -30,11 +30,6 @@ use Rattle.tv_begun.specs.Starts.{feed_start, is_given, is_input, link_start, li
 seen-tellings : (values : Name → Traced) (ts : List Told) → map (seen_told values) ts ≡ map (λ y. seen values y.item) (tellings ts)
 seen-tellings values [] = refl
 seen-tellings values (t ∷ ts) = ap (λ l. seen_told values t ∷ l) (seen-tellings values ts)
-
--- placed below the top is where it is
-pub placed-all : (xs : List (Item Bound Stopped)) → map (placed []) xs ≡ xs
-placed-all [] = refl
-placed-all (x ∷ xs) = ap (λ l. x ∷ l) (placed-all xs)
 
 module _ (known : Origin → Bool) (fresh : known fixed ≡ true) (inputs : List (Name × Value)) where
   -- v is what the link delivers: an input, which is known, or an output, of which nothing is

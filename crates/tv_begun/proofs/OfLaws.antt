@@ -2,6 +2,7 @@
 use Rattle.std.specs.Prelude.{◌≡◌, refl, ℕ, ◌≤◌, List, [], ◌++◌, map, IsPermutation, Some, slice_get, unwrap_or}
 use Rattle.std.proofs.Common.{arith, sym, ap, subst, ◌∙◌, append_assoc}
 use Rattle.std.proofs.lemmas.List.Sorted.{IsPermutation-map, IsPermutation-sym}
+use Rattle.std.proofs.lemmas.List.{map-append}
 use Rattle.tv_value.specs.Values.{JobName, Name}
 use Rattle.tv_flow.specs.Flows.{Flow, Step, StepInput}
 use Rattle.tv_strategy.specs.Conditions.{number_of}
@@ -17,7 +18,7 @@ use Rattle.tv_matching.specs.Matchers.{CanTellAll, Matching}
 use Rattle.tv_matching.specs.Members.{Once}
 use Rattle.tv_matching.specs.Tellings.{Telling}
 use Rattle.tv_matching.specs.Told.{Spot, Told, seen, telling, tellings, told_to}
-use Rattle.tv_matching.proofs.Lists.{each-map, map-append}
+use Rattle.tv_matching.proofs.Lists.{each-map}
 use Rattle.tv_matching.proofs.OfMembers.{each-from, each-permutes}
 use Rattle.tv_matching.proofs.Onces.{each-flat, known-once, once-permutes}
 use Rattle.tv_wires.specs.Ports.{levels_of, mismatches}

@@ -7,6 +7,7 @@ use Rattle.tv_flow.specs.Flows.{Feed, Flow, Link, constant, input, link, merge, 
 use Rattle.tv_strategy.specs.Iterations.{Iteration, Iterations, walk}
 use Rattle.tv_strategy.specs.Origins.{Origin, Traced, fixed, input_value, input_values, plain}
 use Rattle.tv_strategy.specs.Sources.{AtAllNodes, AtNodes, Each}
+use Rattle.tv_strategy.proofs.OfSources.{each-append}
 use Rattle.tv_naming.specs.Naming.{feed_links}
 use Rattle.tv_depths.specs.Delivered.{Delivered, feed_delivers, link_delivers, ported, wrapped}
 use Rattle.tv_depths.specs.Steps.{spot}
@@ -14,7 +15,7 @@ use Rattle.tv_model.specs.Instances.{given_of, value_given}
 use Rattle.tv_model.proofs.Sound.{AllStand, AllStandFrom, output-gives}
 use Rattle.tv_matching.specs.Items.{all_known, ends, here, if_so, item, known_items}
 use Rattle.tv_matching.specs.Told.{Told, seen, told_leaf, told_to}
-use Rattle.tv_matching.proofs.Lists.{each-append, each-if}
+use Rattle.tv_matching.proofs.Lists.{each-if}
 use Rattle.tv_telling.specs.ValueTellings.{bound_told}
 use Rattle.tv_instance.specs.ByResults.{InstanceStep, Results, result_at, step_of}
 use Rattle.tv_instance.specs.Events.{known_by}
@@ -22,12 +23,14 @@ use Rattle.tv_framing.specs.Gaining.{IsOutputOf}
 use Rattle.tv_framing.specs.PortTellings.{placed, seen_told}
 use Rattle.tv_framing.proofs.OfGaining.{all-forms}
 use Rattle.tv_framing.proofs.OfLaws.{wrapping-is_known}
-use Rattle.tv_begun.proofs.OfFeeds.{FeedStarts, LinkStarts, LinksStart, feed-known, placed-all, walked-told}
-use Rattle.tv_begun.proofs.OfLeaves.{IsTo, bound-to, own-told, value-to}
+use Rattle.tv_framing.proofs.OfPlaced.{placed-all}
+use Rattle.tv_begun.proofs.OfFeeds.{FeedStarts, LinkStarts, LinksStart, feed-known, walked-told}
+use Rattle.tv_begun.proofs.OfLeaves.{IsTo, own-told, value-to}
 use Rattle.tv_begun.proofs.OfPlain.{plain-input}
 use Rattle.tv_begun.proofs.OfPorts.{LinkIsFound, LinksAreFound}
 use Rattle.tv_begun.proofs.OfSteps.{IsMade}
 use Rattle.tv_begun.specs.Starts.{feed_start, given_faulty, is_given, link_start, links_start}
+use Rattle.tv_joined.proofs.OfTold.{bound-to}
 
 -- ---- nothing is known of an output, and all of an input
 

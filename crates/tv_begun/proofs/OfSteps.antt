@@ -1,14 +1,12 @@
 -- The steps of an instance: each is a step of the flow, made after those that feed it, and the depths that it is fed with are those of
 -- the whole flow.
 use Rattle.std.specs.List.{list_all}
-use Rattle.std.specs.Prelude.{◌≡◌, refl, ℕ, suc, ◌+◌, true, List, [], ◌∷◌, length, map, Some, slice_get}
+use Rattle.std.specs.Prelude.{◌≡◌, refl, ℕ, ◌+◌, true, List, [], ◌∷◌, length, map, Some, slice_get}
 use Rattle.std.proofs.Common.{sym, ap, subst, ◌∙◌, inr}
-use Rattle.std.proofs.lemmas.Option.{get_or_from_slice_get}
-use Rattle.tv_value.specs.Nested.{Place}
+use Rattle.std.proofs.lemmas.Option.{get_or_from_slice_get, slice_get_within}
 use Rattle.tv_value.specs.Orders.{named}
-use Rattle.tv_value.specs.Values.{JobName, Name, Value}
+use Rattle.tv_value.specs.Values.{JobName, Name}
 use Rattle.tv_flow.specs.Flows.{Feed, Flow, Step, StepInput}
-use Rattle.tv_strategy.specs.Iterations.{Iteration}
 use Rattle.tv_strategy.specs.Measures.{strategy_depth}
 use Rattle.tv_strategy.specs.Sources.{Each}
 use Rattle.tv_gate.specs.Outcomes.{Giving, bad}
@@ -19,7 +17,7 @@ use Rattle.tv_depths.specs.CheckedDepths.{StepDepths, feed_depth, flow_depths, p
 use Rattle.tv_depths.specs.Delivered.{Delivered, feed_delivers}
 use Rattle.tv_depths.specs.Ranks.{earlier_steps, is_among, ranked}
 use Rattle.tv_depths.specs.Steps.{port_mismatch, strategy_of}
-use Rattle.tv_depths.proofs.OfRanked.{IsOrdered, inside, ranked-ordered}
+use Rattle.tv_depths.proofs.OfRanked.{IsOrdered, ranked-ordered}
 use Rattle.tv_model.specs.Agreeing.{StepAgrees, StepsAgree}
 use Rattle.tv_model.specs.Instances.{given_of}
 use Rattle.tv_model.specs.Made.{feed_value, step_in}
@@ -28,10 +26,11 @@ use Rattle.tv_model.specs.RightDepths.{AreRight}
 use Rattle.tv_model.proofs.Delivers.{depths_of, feed-depth, forget, given-depths, given-right, mismatches}
 use Rattle.tv_model.proofs.Whole.{rank-each}
 use Rattle.tv_agreed.proofs.Settled.{none-feed, step-settled}
-use Rattle.tv_instance.specs.ByResults.{InstanceStep, Results, iteration_on, levels_on, outputs_by, ports_on, result_at, step_by, step_of, steps_by}
+use Rattle.tv_instance.specs.ByResults.{InstanceStep, Results, iteration_on, levels_on, ports_on, result_at, step_by, step_of, steps_by}
 use Rattle.tv_instance.specs.OwnDepths.{AllJobsGive, AreLevels}
-use Rattle.tv_instances.proofs.InDepth.{as_made, step-right}
+use Rattle.tv_instances.proofs.InDepth.{as_made, step-right, steps-all}
 use Rattle.tv_instances.proofs.OfResults.{feed-map, itself}
+use Rattle.tv_instances.proofs.OfOutputs.{outputs-depths}
 use Rattle.tv_framing.specs.Stated.{IsOfDepths}
 use Rattle.tv_framing.specs.Views.{AreOfDepth, View, steps_with}
 use Rattle.tv_joined.specs.WiredFlows.{IsWired}
@@ -43,14 +42,6 @@ names_in (f ∷ fs) = f.step.step ∷ names_in fs
 -- the depths alone of the steps so far
 abbrev pub depths_in : List InstanceStep → List StepDepths
 depths_in fs = map forget (map as_made fs)
-
-steps-all : (fs : List InstanceStep) → map step_in (map as_made fs) ≡ map step_of fs
-steps-all [] = refl
-steps-all (f ∷ fs) = ap (λ l. f.step ∷ l) (steps-all fs)
-
-outputs-depths : (instance : JobName) (n : Name) (made : ℕ → Place → Value) (levels : ℕ) (it : Iteration) (k : ℕ) (ps : List (Name × ℕ)) → depths_of (outputs_by instance n made levels it k ps) ≡ map (λ p. (p.0, levels + p.1)) ps
-outputs-depths instance n made levels it k [] = refl
-outputs-depths instance n made levels it k (p ∷ ps) = ap (λ l. (p.0, levels + p.1) ∷ l) (outputs-depths instance n made levels it (suc k) ps)
 
 module _ (given : List (Name × Delivered)) (fs : List InstanceStep) where
   -- a feed delivers the same from the steps as a meaning makes them
@@ -129,7 +120,7 @@ ranked-stand f wired = rank-each any_giving (λ n. Unit {0}) (λ s. named s.0 f.
 
 pub stands-at : (f : Flow) → IsWired f → (n : ℕ) (s : Name × Step) → slice_get f.steps n ≡ Some s → named s.0 f.steps ≡ Some s.1
 stands-at f wired n s e =
-    subst (λ (t : Name × Step). named t.0 f.steps ≡ Some t.1) (get_or_from_slice_get f.steps n s s e) (named-at f.steps n s (steps-ascend f wired.formed) (inside f.steps n s e))
+    subst (λ (t : Name × Step). named t.0 f.steps ≡ Some t.1) (get_or_from_slice_get f.steps n s s e) (named-at f.steps n s (steps-ascend f wired.formed) (slice_get_within f.steps n s e))
 
 -- ---- of every instance of a view
 

@@ -3,23 +3,24 @@ use Rattle.std.specs.Prelude.{◌≡◌, refl, ℕ, zero, suc, ◌+◌, ◌<◌,
 use Rattle.std.proofs.Common.{arith, sym, ap, subst, ◌∙◌, append_assoc, length-append}
 use Rattle.tv_value.specs.Nested.{Place, Tree, Trees, leaf, list, no_trees, tree}
 use Rattle.tv_value.specs.Values.{Name, Scalar, Value, fault, holds_fault, text}
+use Rattle.tv_value.proofs.OfNames.{same_name-refl}
 use Rattle.tv_flow.specs.Flows.{Feed, Link, constant, input, link, merge, output}
 use Rattle.tv_strategy.specs.Conditions.{number_of}
 use Rattle.tv_strategy.specs.Origins.{Traced}
 use Rattle.tv_strategy.specs.Sources.{Each}
 use Rattle.tv_strategy.specs.Splits.{same_place}
 use Rattle.tv_strategy.proofs.OfPlaces.{same-itself}
+use Rattle.tv_strategy.proofs.OfSources.{each-append}
 use Rattle.tv_model.specs.Instances.{value_given}
-use Rattle.tv_naming.proofs.ByPosition.{same_name-refl}
 use Rattle.tv_matching.specs.Items.{Item, if_so, item}
 use Rattle.tv_matching.specs.Levels.{KindAt}
 use Rattle.tv_matching.specs.Matchers.{CanTellAll, Matching}
 use Rattle.tv_matching.specs.Members.{Once, at_place}
 use Rattle.tv_matching.specs.Tellings.{Telling}
 use Rattle.tv_matching.specs.Told.{IsFit, Spot, Told, arrival, close, faulty, seen, telling, tellings, told_kind, told_leaf, told_place, told_to}
-use Rattle.tv_matching.proofs.Lists.{each-append, each-if, flat-append}
+use Rattle.tv_matching.proofs.Lists.{each-if, flat-append}
+use Rattle.tv_matching.proofs.OfLaws.{told-more}
 use Rattle.tv_telling.specs.ValueTellings.{bound_told, value_told, values_told}
-use Rattle.tv_begun.proofs.OfLeaves.{told-both}
 use Rattle.tv_begun.specs.Starts.{feed_start, given_faulty, is_given, link_start, links_start}
 
 -- ---- fits
@@ -140,11 +141,11 @@ can-tell m [] fit once = tt
 can-tell m (t ∷ ts) fit once =
     let p = told_leaf t in
     let split : told_to (m.told ++ t ∷ ts) p ≡ told_to m.told p ++ item (told_place t) (told_kind t) ∷ told_to ts p =
-    told-both m.told (t ∷ ts) p
+    told-more m.told (t ∷ ts) p
     ∙ ap (λ b. told_to m.told p ++ (if_so b (item (told_place t) (told_kind t)) ++ told_to ts p)) (same_name-refl p) in (
       (fit.0, first-free (told_to m.told p) (told_to ts p) (item (told_place t) (told_kind t)) (subst Once split (once p))),
       can-tell (record m { told = m.told ++ t ∷ [] }) ts fit.1 (λ n. subst (λ l. Once (told_to l n)) (sym (append_assoc m.told (t ∷ []) ts)) (once n)),
     )
 
 pub once-part : (ts us : List Told) → ((p : Name) → Once (told_to (ts ++ us) p)) → (p : Name) → Once (told_to ts p)
-once-part ts us h p = once-first (told_to ts p) (told_to us p) (subst Once (told-both ts us p) (h p))
+once-part ts us h p = once-first (told_to ts p) (told_to us p) (subst Once (told-more ts us p) (h p))

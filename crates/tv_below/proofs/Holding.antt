@@ -2,6 +2,7 @@
 use Rattle.std.specs.Option.{option_map_or}
 use Rattle.std.specs.Prelude.{◌≡◌, ℕ, ◌<◌, true, List, [], length, map, Option, slice_index_or, unwrap_or}
 use Rattle.std.proofs.Common.{sym, ap, subst, ◌∙◌}
+use Rattle.tv_lemmas.proofs.Lists.{index-map}
 use Rattle.tv_value.specs.Values.{Name}
 use Rattle.tv_flow.specs.Flows.{Flow, Step, output}
 use Rattle.tv_strategy.specs.Origins.{plain}
@@ -19,12 +20,12 @@ use Rattle.tv_framing.specs.Arriving.{part_so_far}
 use Rattle.tv_framing.specs.Views.{View, steps_with}
 use Rattle.tv_fed.proofs.OfNames.{is-named}
 use Rattle.tv_truly.specs.Known as truly
+use Rattle.tv_truly.proofs.OfNumbers.{step-there}
 use Rattle.tv_frame.specs.declared.frame.Frame.{Frame}
 use Rattle.tv_frame.specs.Kept.{Keeps, declared_at}
 use Rattle.tv_frame.specs.Tables.{levels_in}
 use Rattle.tv_frame.proofs.OfFeeds.{output-below}
-use Rattle.tv_frame.proofs.OfHoldAround.{fewer-trees, output-there}
-use Rattle.tv_frame.proofs.OfHoldTold.{at-mapped}
+use Rattle.tv_frame.proofs.OfHoldAround.{fewer-trees}
 use Rattle.tv_frame.proofs.OfKeeping.{kept-wired}
 use Rattle.tv_below.specs.Known.{tree_of}
 use Rattle.tv_below.specs.Stated.{OutputsAreBelow}
@@ -36,14 +37,14 @@ module _ (flows : List (Name × Flow)) (plan : FlowPlan) (pool : Nodes) (f : Fra
 
   pub tree-is : tree_of pool f v.flow t o ≡ truly.tree_of v.flow levels v.inputs v.events t o
   tree-is =
-      let b = output-there v.flow t o there_is in
+      let b = step-there v.flow t o there_is in
       let st = is-named t v.flow.steps b.0 in
       let n = position t v.flow.steps in
       let its = ap (λ (r : Option Step). option_map_or (λ (u : Step). u.outputs) r []) st.named_so in
       let out = is-named o (outputs_of v.flow t) b.1 in
       let k = position o (outputs_of v.flow t) in
       let few : k < length st.thing.outputs = subst (λ (ps : List (Name × ℕ)). k < length ps) its (there o (outputs_of v.flow t) b.1).below in
-      let declared : declared_at (t, st.thing) k ≡ out.thing = ap (λ (ps : List (Name × ℕ)). slice_index_or (map (λ (p : Name × ℕ). p.1) ps) k 0) (sym its) ∙ at-mapped (λ (p : Name × ℕ). p.1) (outputs_of v.flow t) k (o, out.thing) 0 out.here in
+      let declared : declared_at (t, st.thing) k ≡ out.thing = ap (λ (ps : List (Name × ℕ)). slice_index_or (map (λ (p : Name × ℕ). p.1) ps) k 0) (sym its) ∙ index-map (λ (p : Name × ℕ). p.1) (outputs_of v.flow t) k (o, out.thing) 0 out.here in
       keeps.trees_are n (t, st.thing) st.here k (fewer-trees (t, st.thing) k few)
       ∙ ap (λ d. part_so_far t k (levels t) d v.events) (declared ∙ ap (λ r. unwrap_or r 0) (sym out.named_so))
 

@@ -1,9 +1,9 @@
 -- The known part of a value that is put together of inputs, constants and outputs shows exactly the
 -- nodes that are known.
-use Rattle.std.specs.Prelude.{◌≡◌, refl, ℕ, zero, suc, ◌+◌, pred, Bool, true, false, ◌||◌, if◌then◌else◌, is_some, List, [], ◌∷◌, ◌++◌, Option, Some, None, option_and_then}
+use Rattle.std.specs.Prelude.{◌≡◌, refl, ℕ, zero, suc, ◌+◌, pred, Bool, true, false, ◌||◌, is_some, List, [], ◌∷◌, ◌++◌, Option, Some, None, option_and_then}
 use Rattle.std.proofs.Common.{arith, sym, ap, subst, ◌∙◌, append_assoc, append-nil}
-use Rattle.std.proofs.lemmas.Bool.{or_right}
 use Rattle.std.proofs.lemmas.Option.{none-some, same_Some}
+use Rattle.std.proofs.Math.Bool.{or-false}
 use Rattle.tv_value.specs.Nested.{Place, Trees, at, count, item_at, leaf, list, map_trees, no_trees, note, tree}
 use Rattle.tv_value.specs.Values.{JobName, Name, Scalar, Value}
 use Rattle.tv_strategy.specs.Iterations.{Iteration, Iterations, job, passed}
@@ -12,12 +12,12 @@ use Rattle.tv_strategy.specs.Outputs.{output_below, outputs_from}
 use Rattle.tv_depths.specs.Delivered.{wrapped}
 use Rattle.tv_depths.specs.Steps.{spot}
 use Rattle.tv_parts.specs.Partials.{Partial, closed, growing, item, part_at, known_at, shows, wanting}
-use Rattle.tv_instance.specs.Events as events
-use Rattle.tv_instance.specs.Events.{Events, closed_with, fault_set, gave, has_fault, has_level, has_result, is_spot, known_by, took}
+use Rattle.tv_instance.specs.Events.{Events, closed_with, has_fault, has_result, known_by}
 use Rattle.tv_instances.proofs.OfEvents.{level-known, result-known}
 use Rattle.tv_joined.proofs.OfPieces.{ShowsFrom}
 use Rattle.tv_joined.proofs.OfShowing.{IsItemIf, IsListIf, StandsBy, told}
 use Rattle.tv_below.specs.Parts.{wrapped_part}
+use Rattle.tv_frame.proofs.OfKnownFeeds.{level-parts}
 
 -- the tree shows exactly the nodes of the value that are known
 abbrev pub IsShown : (Origin → Bool) → Partial Value → Traced → Type 0
@@ -87,25 +87,6 @@ part-shown None c (item w) h i y = absurd h
 part-shown (Some n) c (item w) h i y = absurd h
 part-shown o c (growing ps) h i y = refl
 part-shown o c (closed ps) h i y = refl
-
-level-parts : (es : Events) (s : Name) (q : Place) → has_level es s q ≡ (has_fault es s q || is_some (closed_with es s q))
-level-parts [] s q = refl
-level-parts (gave t r vs ∷ es) s q = level-parts es s q
-level-parts (events.closed t r n ∷ es) s q = by (is_spot s q t r) (level-parts es s q)
-  where
-    by : (b : Bool) → has_level es s q ≡ (has_fault es s q || is_some (closed_with es s q)) → (b || has_level es s q) ≡ (has_fault es s q || is_some (if b then Some n else closed_with es s q))
-    by true h = sym (or_right (has_fault es s q) true refl)
-    by false h = h
-level-parts (fault_set t r d ∷ es) s q = by (is_spot s q t r) (level-parts es s q)
-  where
-    by : (b : Bool) → has_level es s q ≡ (has_fault es s q || is_some (closed_with es s q)) → (b || has_level es s q) ≡ ((b || has_fault es s q) || is_some (closed_with es s q))
-    by true h = refl
-    by false h = h
-level-parts (took t r ∷ es) s q = level-parts es s q
-
-or-false : (b : Bool) → (b || false) ≡ b
-or-false true = refl
-or-false false = refl
 
 -- ---- outputs
 

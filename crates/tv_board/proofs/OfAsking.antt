@@ -1,11 +1,11 @@
 -- A board asks for a try that is out itself: its run is x.
-use Rattle.std.specs.Prelude.{◌≡◌, refl, ℕ, ◌∷◌, Err, IfOk, List, None, Ok, OnErr, Option, Result, Some, [], is_some, map, true}
-use Rattle.std.proofs.Common.{ap, inl, inr, subst, sym, ◌∙◌}
+use Rattle.std.specs.Prelude.{◌≡◌, refl, ℕ, ◌∷◌, Err, IfOk, List, Ok, OnErr, Option, Result, Some, [], is_some, map, true}
+use Rattle.std.proofs.Common.{ap, inl, inr, subst, ◌∙◌}
+use Rattle.tv_lemmas.proofs.Options.{is_some-some}
 use Rattle.tv_value.specs.Values.{Name, Value}
 use Rattle.tv_gate.specs.Calls.{Call, IsCalled, IsSameCalls}
 use Rattle.tv_gate.specs.Outcomes.{Giving, Outcome}
 use Rattle.tv_dispatch.specs.Jobs.{Ask}
-use Rattle.tv_model.proofs.Tests.{true≠false}
 use Rattle.tv_entries.specs.Answers.{Question}
 use Rattle.tv_entries.specs.Calls.{IsTask, try_if_out}
 use Rattle.tv_entries.specs.Refusals.{IsAccepting}
@@ -18,10 +18,6 @@ use Rattle.tv_run.specs.declared.run.OpenRun.{OpenRun}
 use Rattle.tv_board.specs.Asked.{AsksAndAccepts, AsksOnceAtMost, IsSameOrCalled, call_for}
 use Rattle.tv_board.proofs.OfAnswers.{Accepts, Stays, stands-open}
 
-some-there : {A : Type 0} (o : Option A) → is_some o ≡ true → (x : A) × (o ≡ Some x)
-some-there None h = absurd (true≠false (sym h))
-some-there (Some x) h = (x, refl)
-
 abbrev unnamed : List ℕ → List (Name × ℕ)
 unnamed ds = map (λ d. ([], d)) ds
 
@@ -29,17 +25,13 @@ depths-of : (ds : List ℕ) → map (λ o. o.1) (unnamed ds) ≡ ds
 depths-of [] = refl
 depths-of (d ∷ ds) = ap (λ l. d ∷ l) (depths-of ds)
 
-pub on-err : {A E : Type 0} {P : Type 0} (d : Result A E) → P → OnErr d P
-on-err (Ok a) p = tt
-on-err (Err m) p = p
-
 module _ (gives : Giving) (r : OpenRun) (x : Run) (e : run_of r ≡ x) (st : StandsStill gives r) (t : Ticket)
     (out : is_some (try_if_out gives x t) ≡ true) where
   pub is-out : is_some (try_if_out gives (run_of r) t) ≡ true
   is-out = ap (λ y. is_some (try_if_out gives y t)) e ∙ out
 
   pub found : (a : Ask) × (try_if_out gives (run_of r) t ≡ Some a)
-  found = some-there (try_if_out gives (run_of r) t) is-out
+  found = is_some-some (try_if_out gives (run_of r) t) is-out
 
   -- what the try asks, with no names of outputs
   abbrev pub its : Question

@@ -8,11 +8,12 @@ use Rattle.tv_value.specs.Nested.{Place, children, item_at, items, no_trees, tre
 use Rattle.tv_value.specs.Values.{Name, Value, list_value}
 use Rattle.tv_value.specs.Views.{strategy_view, view}
 use Rattle.tv_value.specs.declared.value.Value.{Value as CodeValue}
+use Rattle.tv_value.proofs.OfItems.{items-trees_of}
 use Rattle.tv_strategy.specs.Conditions.{number_of}
 use Rattle.tv_strategy.specs.Sources.{Each}
 use Rattle.tv_strategy.specs.Splits.{split}
 use Rattle.tv_wires.specs.declared.ports.Port.{Port}
-use Rattle.tv_outputs.proofs.Comparing.{items-of, same-items, told-no}
+use Rattle.tv_outputs.proofs.Comparing.{same-items, told-no}
 use Rattle.tv_bound.specs.Delivered.{wrapped_value}
 use Rattle.tv_bound.specs.Constants.{FlowConstants, constant_of_port}
 use Rattle.tv_bound.specs.Found.{Known, all_found, feed_found}
@@ -118,7 +119,7 @@ once-unwrapped k x v e =
 
 pub others-unwrapped : (k : ℕ) (x : Value) (vs : List Value) → (length vs ≡ 1 → ⊥) → wrapped_value (k + 1) x ≡ list_value (trees_of vs) → ⊥
 others-unwrapped k x vs never e =
-    never (ap length (sym (items-of vs) ∙ ap (λ t. items (children t)) (sym e ∙ ap (λ n. wrapped_value n x) (one k))))
+    never (ap length (sym (items-trees_of vs) ∙ ap (λ t. items (children t)) (sym e ∙ ap (λ n. wrapped_value n x) (one k))))
   where
     one : (k : ℕ) → k + 1 ≡ suc k
     one k = omega arith

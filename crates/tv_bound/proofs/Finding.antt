@@ -2,12 +2,13 @@
 use Rattle.std.specs.Prelude.{◌≡◌, refl, ℕ, zero, suc, true, false, [], ◌∷◌, ◌++◌, Some, None, is_some, option_and_then}
 use Rattle.std.proofs.Common.{sym, ap, ◌∙◌, true≢false}
 use Rattle.std.proofs.lemmas.Option.{same_Some}
+use Rattle.std.specs.Cmp.{first_so, second_so}
+use Rattle.std.proofs.lemmas.Bool.{and_from}
 use Rattle.tv_value.specs.Nested.{leaf, list, no_trees, tree, Place, at, item_at}
 use Rattle.tv_value.specs.Values.{Value}
 use Rattle.tv_parts.specs.Partials.{Partial, wanting, item, growing, closed, Parts, no_parts, part, part_of, shows, whole, all_whole}
 use Rattle.tv_parts.specs.Below.{Values, Below, FirstBelow, EachBelow, value_in, values_in}
 use Rattle.tv_parts.proofs.Wholeness.{whole-is}
-use Rattle.tv_cell.proofs.OfSameness.{left, right, both}
 use Rattle.tv_outputs.specs.FoundIn.{found_in}
 use Rattle.tv_outputs.proofs.Comparing.{found-none, found-whole, whole-found}
 
@@ -51,7 +52,7 @@ mutual
   all-shown : (ps : Parts Value) (vs : Values) → EachBelow ps vs → ((i : ℕ) (s : Place) → is_some (option_and_then (λ u. at u s) (item_at vs i)) ≡ true → shows (part_of ps i) s ≡ true) → all_whole ps ≡ true
   all-shown no_parts vs b k = refl
   all-shown (part p ps) no_trees b k = absurd b
-  all-shown (part p ps) (tree u us) b k = both (whole p) (all_whole ps) (shown-whole p u b.0 (λ s h. k zero s h)) (all-shown ps us b.1 (λ i s h. k (suc i) s h))
+  all-shown (part p ps) (tree u us) b k = and_from (whole p) (all_whole ps) (shown-whole p u b.0 (λ s h. k zero s h)) (all-shown ps us b.1 (λ i s h. k (suc i) s h))
 
 mutual
   pub known-found : (q : Place) (r : Partial Value) (v w : Value) → Below r v → at v q ≡ Some w → ((s : Place) → is_some (at w s) ≡ true → shows r (q ++ s) ≡ true) → found_in q r ≡ Some w
@@ -91,8 +92,8 @@ mutual
 
   part-shows : (ps : Parts Value) (i : ℕ) (s : Place) → all_whole ps ≡ true → is_some (option_and_then (λ u. at u s) (item_at (values_in ps) i)) ≡ true → shows (part_of ps i) s ≡ true
   part-shows no_parts i s e h = absurd (true≢false (sym h))
-  part-shows (part p ps) zero s e h = whole-shows p s (left (whole p) (all_whole ps) e) h
-  part-shows (part p ps) (suc i) s e h = part-shows ps i s (right (whole p) (all_whole ps) e) h
+  part-shows (part p ps) zero s e h = whole-shows p s (first_so (whole p) (all_whole ps) e) h
+  part-shows (part p ps) (suc i) s e h = part-shows ps i s (second_so (whole p) (all_whole ps) e) h
 
 pub found-known : (q : Place) (r : Partial Value) (w : Value) (s : Place) → found_in q r ≡ Some w → is_some (at w s) ≡ true → shows r (q ++ s) ≡ true
 found-known [] r w s h k = let f = found-whole r w h in whole-shows r s f.0 (ap (λ x. is_some (at x s)) f.1 ∙ k)
@@ -117,8 +118,8 @@ mutual
 
   part-inside : (i : ℕ) (q : Place) (ps : Parts Value) → all_whole ps ≡ true → found_in q (part_of ps i) ≡ option_and_then (λ u. at u q) (item_at (values_in ps) i)
   part-inside i q no_parts e = nothing-in q
-  part-inside zero q (part p ps) e = whole-inside q p (left (whole p) (all_whole ps) e)
-  part-inside (suc i) q (part p ps) e = part-inside i q ps (right (whole p) (all_whole ps) e)
+  part-inside zero q (part p ps) e = whole-inside q p (first_so (whole p) (all_whole ps) e)
+  part-inside (suc i) q (part p ps) e = part-inside i q ps (second_so (whole p) (all_whole ps) e)
 
 pub found-in : (q : Place) (r : Partial Value) (w : Value) → found_in [] r ≡ Some w → found_in q r ≡ at w q
 found-in q r w h = let f = found-whole r w h in whole-inside q r f.0 ∙ ap (λ x. at x q) f.1

@@ -1,11 +1,13 @@
 -- Where what a feed delivers lies among the sources.
-use Rattle.std.proofs.Common.{◌≡◌, ◌≤◌, ◌<◌, ℕ, zero, suc, ◌+◌, true, false, List, [], ◌∷◌, ◌++◌, length, map, take, get_or, Option, Some, None, refl, sym, ap, ◌∙◌, subst, true≢false, arith}
+use Rattle.std.proofs.Common.{◌≡◌, ◌≤◌, ◌<◌, ℕ, zero, suc, ◌+◌, true, List, [], ◌∷◌, ◌++◌, length, map, take, get_or, Option, Some, None, refl, sym, ap, ◌∙◌, subst, zero-lt-suc}
 use Rattle.std.specs.Prelude.{is_some, option_map, option_and_then, slice_get, slice_index_or}
 use Rattle.std.proofs.lemmas.List.{length-map, take_all, take_more}
 use Rattle.std.proofs.lemmas.Option.{same_Some, slice_get_read}
+use Rattle.tv_lemmas.proofs.Numbers.{none-below, less-back, suc-less}
+use Rattle.tv_lemmas.proofs.Tests.{from-false_true}
 use Rattle.tv_value.specs.Nested.{Place, at}
 use Rattle.tv_value.specs.Values.{Value}
-use Rattle.tv_parts.specs.Partials.{Partial, wanting}
+use Rattle.tv_parts.specs.Partials.{Partial}
 use Rattle.tv_cell.specs.declared.piece.Piece.{Piece}
 use Rattle.tv_cell.specs.PieceValues.{piece_value, piece_values}
 use Rattle.tv_naming.specs.Naming.{numbered}
@@ -15,50 +17,28 @@ use Rattle.tv_wires.specs.declared.feeds.NumberedFeed.TheVariants.{Merge}
 use Rattle.tv_wires.specs.Turned.{links_of}
 use Rattle.tv_outputs.specs.FoundIn.{found_in}
 use Rattle.tv_outputs.specs.Known.{tree_in}
+use Rattle.tv_outputs.proofs.OfPieces.{nothing-found}
 use Rattle.tv_bound.specs.Found.{all_found}
 use Rattle.tv_bound.specs.Sourced.{tree_from}
-
-never : {C : Type 0} → false ≡ true → C
-never h = absurd (true≢false (sym h))
-
-none-below : {C : Type 0} → (n : ℕ) → n < 0 → C
-none-below n h = absurd (no n h)
-  where
-    no : (n : ℕ) → n < 0 → ⊥
-    no n h = omega arith
-
-down : (i n : ℕ) → suc i < suc n → i < n
-down i n h = omega arith
-
-up : (i n : ℕ) → i < n → suc i < suc n
-up i n h = omega arith
-
-first-below : (n : ℕ) → 0 < suc n
-first-below n = omega arith
 
 -- ---- inputs
 
 pub input-within : (ps : List Piece) (x : ℕ) (q : Place) → is_some (option_and_then (λ v. at v q) (slice_get (piece_values ps) x)) ≡ true → x < length ps
-input-within [] x q h = never h
-input-within (p ∷ ps) zero q h = first-below (length ps)
-input-within (p ∷ ps) (suc x) q h = up x (length ps) (input-within ps x q h)
+input-within [] x q h = from-false_true h
+input-within (p ∷ ps) zero q h = zero-lt-suc (length ps)
+input-within (p ∷ ps) (suc x) q h = suc-less x (length ps) (input-within ps x q h)
 
 pub input-is : (ps : List Piece) (x : ℕ) (q : Place) (p : Piece) → x < length ps → p ≡ get_or ps x p → option_and_then (λ v. at v q) (slice_get (piece_values ps) x) ≡ at (piece_value p) q
 input-is [] x q p lt e = none-below x lt
 input-is (r ∷ ps) zero q p lt e = ap (λ y. at (piece_value y) q) (sym e)
-input-is (r ∷ ps) (suc x) q p lt e = input-is ps x q p (down x (length ps) lt) e
+input-is (r ∷ ps) (suc x) q p lt e = input-is ps x q p (less-back x (length ps) lt) e
 
 -- ---- outputs
 
--- of nothing nothing is found
-nothing-found : (q : Place) → is_some (found_in q wanting) ≡ true → ⊥
-nothing-found [] h = true≢false (sym h)
-nothing-found (i ∷ q) h = true≢false (sym h)
-
 tree-within : (trees : List (Partial Value)) (n : ℕ) (q : Place) → is_some (found_in q (tree_in trees n)) ≡ true → n < length trees
 tree-within [] n q h = absurd (nothing-found q h)
-tree-within (t ∷ ts) zero q h = first-below (length ts)
-tree-within (t ∷ ts) (suc n) q h = up n (length ts) (tree-within ts n q h)
+tree-within (t ∷ ts) zero q h = zero-lt-suc (length ts)
+tree-within (t ∷ ts) (suc n) q h = suc-less n (length ts) (tree-within ts n q h)
 
 -- the output is there, and this is its tree
 pub record OutputThere (trees : List (Partial Value)) (firsts : List ℕ) (s o : ℕ) (q : Place) : Type 0 where
@@ -68,18 +48,18 @@ pub record OutputThere (trees : List (Partial Value)) (firsts : List ℕ) (s o :
 
 pub output-there : (trees : List (Partial Value)) (firsts : List ℕ) (s o : ℕ) (q : Place) → is_some (found_in q (tree_from trees (slice_get firsts s) o)) ≡ true → OutputThere trees firsts s o q
 output-there trees [] s o q h = absurd (nothing-found q h)
-output-there trees (f ∷ fs) zero o q h = record { step = first-below (length fs); tree = tree-within trees (f + o) q h; is = refl }
+output-there trees (f ∷ fs) zero o q h = record { step = zero-lt-suc (length fs); tree = tree-within trees (f + o) q h; is = refl }
 output-there trees (f ∷ fs) (suc s) o q h =
     let r = output-there trees fs s o q h in
-    record { step = up s (length fs) r.step; tree = r.tree; is = r.is }
+    record { step = suc-less s (length fs) r.step; tree = r.tree; is = r.is }
 
 -- ---- all of some
 
 pub each-found : (os : List (Option Value)) (i : ℕ) → is_some (all_found os) ≡ true → i < length os → is_some (slice_index_or os i None) ≡ true
 each-found [] i h lt = none-below i lt
-each-found (None ∷ os) i h lt = never h
+each-found (None ∷ os) i h lt = from-false_true h
 each-found (Some v ∷ os) zero h lt = refl
-each-found (Some v ∷ os) (suc i) h lt = each-found os i (others (all_found os) h) (down i (length os) lt)
+each-found (Some v ∷ os) (suc i) h lt = each-found os i (others (all_found os) h) (less-back i (length os) lt)
   where
     others : (o : Option (List Value)) → is_some (option_map (λ vs. v ∷ vs) o) ≡ true → is_some o ≡ true
     others None h = h
@@ -116,12 +96,12 @@ found-more = one-more piece_value
 pub mapped-index : {A B : Type 0} (f : A → B) (xs : List A) (i : ℕ) (d : B) (x : A) → i < length xs → slice_get xs i ≡ Some x → slice_index_or (map f xs) i d ≡ f x
 mapped-index f [] i d x lt e = none-below i lt
 mapped-index f (y ∷ xs) zero d x lt e = ap f (same_Some y x e)
-mapped-index f (y ∷ xs) (suc i) d x lt e = mapped-index f xs i d x (down i (length xs) lt) e
+mapped-index f (y ∷ xs) (suc i) d x lt e = mapped-index f xs i d x (less-back i (length xs) lt) e
 
 pub map-index : {A B : Type 0} (f : A → B) (xs : List A) (i : ℕ) (d : B) (e : A) → i < length xs → slice_index_or (map f xs) i d ≡ f (slice_index_or xs i e)
 map-index f [] i d e lt = none-below i lt
 map-index f (y ∷ xs) zero d e lt = refl
-map-index f (y ∷ xs) (suc i) d e lt = map-index f xs i d e (down i (length xs) lt)
+map-index f (y ∷ xs) (suc i) d e lt = map-index f xs i d e (less-back i (length xs) lt)
 
 -- as many as are found
 pub as-many : (ps : List Piece) (os : List (Option Value)) → map Some (piece_values ps) ≡ os → length ps ≡ length os

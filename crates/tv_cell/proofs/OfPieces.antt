@@ -5,6 +5,7 @@ use Rattle.std.specs.List.{list_all, list_any}
 use Rattle.std.proofs.Common.{arith, ap, sym, ◌∙◌, get_or}
 use Rattle.std.proofs.lemmas.List.{length-map}
 use Rattle.std.proofs.lemmas.List.Folds.{list_all-map, list_any-append}
+use Rattle.std.specs.Cmp.{first_so, second_so}
 use Rattle.tv_value.specs.Nested.{Place, at, count, trees_of, leaves, all_leaves}
 use Rattle.tv_value.specs.Readings.{length_limit}
 use Rattle.tv_value.specs.Values as spec
@@ -24,7 +25,6 @@ use Rattle.tv_cell.specs.Found.{found_value, document_of, with_depth}
 use Rattle.tv_cell.specs.PieceValues as meant
 use Rattle.tv_cell.specs.PieceValues.{piece_value, piece_values, list_length}
 use Rattle.tv_cell.specs.Soundness.{AreSound, IsSound, is_sound, is_yes, sound_step}
-use Rattle.tv_cell.proofs.OfSameness.{left, right}
 
 -- ---- values
 
@@ -58,20 +58,20 @@ list-told p ps qs e f = ap (λ xs. nat_lt (length xs) length_limit && list_all i
 pub pieces-sound : (p : Piece) (ps qs : List Piece) → p ≡ code.List ps → qs ≡ ps → IsSound p → AreSound qs
 pieces-sound p ps qs e f h =
     ap (list_all is_sound) f
-    ∙ right (nat_lt (length ps) length_limit) (list_all is_sound ps) (sym (list-sound ps) ∙ ap is_sound (sym e) ∙ h)
+    ∙ second_so (nat_lt (length ps) length_limit) (list_all is_sound ps) (sym (list-sound ps) ∙ ap is_sound (sym e) ∙ h)
 
 each-sound : (ps : List Piece) (i : ℕ) (d : Piece) → i < length ps → AreSound ps → IsSound (get_or ps i d)
 each-sound [] i d h k = absurd (omega arith)
-each-sound (p ∷ ps) zero d h k = left (is_sound p) (list_all is_sound ps) k
-each-sound (p ∷ ps) (suc i) d h k = each-sound ps i d (omega arith) (right (is_sound p) (list_all is_sound ps) k)
+each-sound (p ∷ ps) zero d h k = first_so (is_sound p) (list_all is_sound ps) k
+each-sound (p ∷ ps) (suc i) d h k = each-sound ps i d (omega arith) (second_so (is_sound p) (list_all is_sound ps) k)
 
 pub piece-sound : (ps : List Piece) (i : ℕ) (x : Piece) → i < length ps → x ≡ get_or ps i x → AreSound ps → IsSound x
 piece-sound ps i x h e k = ap is_sound e ∙ each-sound ps i x h k
 
 got-all : (ps : List Piece) (i : ℕ) → AreSound ps → option_map_or is_sound (slice_get ps i) true ≡ true
 got-all [] i k = refl
-got-all (p ∷ ps) zero k = left (is_sound p) (list_all is_sound ps) k
-got-all (p ∷ ps) (suc i) k = got-all ps i (right (is_sound p) (list_all is_sound ps) k)
+got-all (p ∷ ps) zero k = first_so (is_sound p) (list_all is_sound ps) k
+got-all (p ∷ ps) (suc i) k = got-all ps i (second_so (is_sound p) (list_all is_sound ps) k)
 
 pub got-sound : (ps : List Piece) (i : ℕ) (x : Piece) → AreSound ps → Some x ≡ slice_get ps i → IsSound x
 got-sound ps i x k e = ap (λ o. option_map_or is_sound o true) e ∙ got-all ps i k

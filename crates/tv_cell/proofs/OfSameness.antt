@@ -1,24 +1,16 @@
 -- The test of sameness: item by item, that it decides, and that it has no order.
-use Rattle.std.specs.Prelude.{◌≡◌, refl, List, [], ◌∷◌, Bool, true, false, ◌&&◌, ◌==◌}
+use Rattle.std.specs.Prelude.{◌≡◌, refl, List, [], ◌∷◌, true, ◌&&◌, ◌==◌}
 use Rattle.std.specs.Cmp.Lexicographic.{pointwise, pointwise_decides, bytes_decides}
 use Rattle.std.proofs.Common.{ap, sym, ◌∙◌, eqb-true, eq-eqb, true≢false}
-use Rattle.tv_value.specs.Nested.{leaf, list, Trees, no_trees, tree, trees_of, items, Place}
-use Rattle.tv_value.specs.Values.{ErrorDoc, JobName, Name, Scalar, Value, fault, text}
+use Rattle.std.specs.Cmp.{first_so, second_so}
+use Rattle.std.proofs.lemmas.Bool.{and_from}
+use Rattle.std.specs.Cmp.Derive.{one_truth}
+use Rattle.tv_value.specs.Nested.{leaf, list, Trees, no_trees, tree, trees_of, items}
+use Rattle.tv_value.specs.Values.{ErrorDoc, Scalar, Value, fault, text}
 use Rattle.tv_value.specs.Orders.{same_job, same_name}
+use Rattle.tv_value.proofs.OfJobNames.{same_job_decides}
 use Rattle.tv_cell.specs.Laws.{TestDecidesSameness}
 use Rattle.tv_cell.specs.Sameness.{same_document, same_scalar, same_trees, same_value, same_values}
-
-pub left : (a b : Bool) → (a && b) ≡ true → a ≡ true
-left true b h = refl
-left false b h = absurd (true≢false (sym h))
-
-pub right : (a b : Bool) → (a && b) ≡ true → b ≡ true
-right true b h = h
-right false b h = absurd (true≢false (sym h))
-
-pub both : (a b : Bool) → a ≡ true → b ≡ true → (a && b) ≡ true
-both true b h k = k
-both false b h k = h
 
 pub same_trees-items : (ts us : Trees (Unit {0}) Scalar) → same_trees ts us ≡ same_values (items ts) (items us)
 same_trees-items no_trees no_trees = refl
@@ -32,27 +24,19 @@ same_trees-each [] (w ∷ ws) = refl
 same_trees-each (v ∷ vs) [] = refl
 same_trees-each (v ∷ vs) (w ∷ ws) = ap (λ b. same_value v w && b) (same_trees-each vs ws)
 
-same_level : (a b : Name × Place) → ((same_name a.0 b.0 && same_name a.1 b.1) ≡ true → a ≡ b) × (a ≡ b → (same_name a.0 b.0 && same_name a.1 b.1) ≡ true)
-same_level a b = (
-  λ h. let e = (bytes_decides a.0 b.0).0 (left (same_name a.0 b.0) (same_name a.1 b.1) h) in
-      let f = (bytes_decides a.1 b.1).0 (right (same_name a.0 b.0) (same_name a.1 b.1) h) in λ i. (e i, f i),
-  λ e. both (same_name a.0 b.0) (same_name a.1 b.1) ((bytes_decides a.0 b.0).1 (ap (λ k. k.0) e)) ((bytes_decides a.1 b.1).1 (ap (λ k. k.1) e)),
 )
-
-same_job_decides : (m n : JobName) → (same_job m n ≡ true → m ≡ n) × (m ≡ n → same_job m n ≡ true)
-same_job_decides m n = pointwise_decides same_level m n
 
 -- ---- what is told to be the same is equal
 
 error-equal : (e f : ErrorDoc) → (e.depth == f.depth && same_document e f) ≡ true → e ≡ f
 error-equal e f h =
     let last = pointwise same_job e.from f.from in
-    let depth : e.depth ≡ f.depth = eqb-true e.depth f.depth (left (e.depth == f.depth) (same_document e f) h) in
-    let h1 = right (e.depth == f.depth) (same_document e f) h in
-    let at = (same_job_decides e.at f.at).0 (left (same_job e.at f.at) (same_name e.why f.why && last) h1) in
-    let h2 = right (same_job e.at f.at) (same_name e.why f.why && last) h1 in
-    let why = (bytes_decides e.why f.why).0 (left (same_name e.why f.why) last h2) in
-    let from = (pointwise_decides same_job_decides e.from f.from).0 (right (same_name e.why f.why) last h2) in
+    let depth : e.depth ≡ f.depth = eqb-true e.depth f.depth (first_so (e.depth == f.depth) (same_document e f) h) in
+    let h1 = second_so (e.depth == f.depth) (same_document e f) h in
+    let at = (same_job_decides e.at f.at).0 (first_so (same_job e.at f.at) (same_name e.why f.why && last) h1) in
+    let h2 = second_so (same_job e.at f.at) (same_name e.why f.why && last) h1 in
+    let why = (bytes_decides e.why f.why).0 (first_so (same_name e.why f.why) last h2) in
+    let from = (pointwise_decides same_job_decides e.from f.from).0 (second_so (same_name e.why f.why) last h2) in
     λ i. record { at = at i; depth = depth i; why = why i; from = from i }
 
 scalar-equal : (a b : Scalar) → same_scalar a b ≡ true → a ≡ b
@@ -72,24 +56,24 @@ mutual
   trees-equal no_trees no_trees h = refl
   trees-equal no_trees (tree u us) h = absurd (true≢false (sym h))
   trees-equal (tree t ts) no_trees h = absurd (true≢false (sym h))
-  trees-equal (tree t ts) (tree u us) h = λ i. tree (value-equal t u (left (same_value t u) (same_trees ts us) h) i) (trees-equal ts us (right (same_value t u) (same_trees ts us) h) i)
+  trees-equal (tree t ts) (tree u us) h = λ i. tree (value-equal t u (first_so (same_value t u) (same_trees ts us) h) i) (trees-equal ts us (second_so (same_value t u) (same_trees ts us) h) i)
 
 -- ---- each is the same as itself
 
 document-own : (e : ErrorDoc) → same_document e e ≡ true
 document-own e =
-    both (same_job e.at e.at) _ ((same_job_decides e.at e.at).1 refl)
-    (both (same_name e.why e.why) _ ((bytes_decides e.why e.why).1 refl) ((pointwise_decides same_job_decides e.from e.from).1 refl))
+    and_from (same_job e.at e.at) _ ((same_job_decides e.at e.at).1 refl)
+    (and_from (same_name e.why e.why) _ ((bytes_decides e.why e.why).1 refl) ((pointwise_decides same_job_decides e.from e.from).1 refl))
 
 mutual
   value-own : (v : Value) → same_value v v ≡ true
   value-own (leaf n (text t)) = (bytes_decides t t).1 refl
-  value-own (leaf n (fault e)) = both (e.depth == e.depth) (same_document e e) (eq-eqb e.depth e.depth refl) (document-own e)
+  value-own (leaf n (fault e)) = and_from (e.depth == e.depth) (same_document e e) (eq-eqb e.depth e.depth refl) (document-own e)
   value-own (list n ts) = trees-own ts
 
   trees-own : (ts : Trees (Unit {0}) Scalar) → same_trees ts ts ≡ true
   trees-own no_trees = refl
-  trees-own (tree t ts) = both (same_value t t) (same_trees ts ts) (value-own t) (trees-own ts)
+  trees-own (tree t ts) = and_from (same_value t t) (same_trees ts ts) (value-own t) (trees-own ts)
 
 same-equal : (v w : Value) → v ≡ w → same_value v w ≡ true
 same-equal v w e = ap (same_value v) (sym e) ∙ value-own v
@@ -99,10 +83,5 @@ test-decides v w = (value-equal v w, same-equal v w)
 
 -- ---- it has no order
 
-alike : (a b : Bool) → (a ≡ true → b ≡ true) → (b ≡ true → a ≡ true) → a ≡ b
-alike true b f g = sym (f refl)
-alike false true f g = g refl
-alike false false f g = refl
-
 pub same_value-turned : (v w : Value) → same_value v w ≡ same_value w v
-same_value-turned v w = alike (same_value v w) (same_value w v) (λ h. same-equal w v (sym (value-equal v w h))) (λ h. same-equal v w (sym (value-equal w v h)))
+same_value-turned v w = one_truth (same_value v w) (same_value w v) (λ h. same-equal w v (sym (value-equal v w h))) (λ h. same-equal v w (sym (value-equal w v h)))

@@ -1,9 +1,11 @@
 -- Where no name is complained of, what comes before a step and what a flow opens is there.
-use Rattle.std.specs.Prelude.{◌≡◌, ◌<◌, ℕ, suc, List, [], ◌∷◌, ◌++◌, length, Bool, true, false, not, ◌&&◌, Option, Some, None, refl, is_some, flat_map, filter_map}
+use Rattle.std.specs.Prelude.{◌≡◌, ◌<◌, ℕ, suc, List, [], ◌∷◌, length, Bool, true, false, not, ◌&&◌, Option, Some, None, refl, is_some, flat_map, filter_map}
 use Rattle.std.specs.List.{list_all}
 use Rattle.std.specs.Option.{option_map_or}
 use Rattle.std.proofs.Common.{get_or, ap, ◌∙◌}
 use Rattle.std.proofs.lemmas.List.Folds.{list_all-append}
+use Rattle.std.proofs.lemmas.Bool.{and_parts}
+use Rattle.tv_lemmas.proofs.Lists.{append-none}
 use Rattle.tv_value.specs.Values.{Name}
 use Rattle.tv_value.specs.Orders.{named}
 use Rattle.tv_value.specs.Activities.{Activity, service, nested}
@@ -13,15 +15,11 @@ use Rattle.tv_naming.specs.Naming.{has_name, is_there, complain_if, link_complai
 use Rattle.tv_depths.specs.Ranks.{link_step, feed_steps, earlier_steps}
 use Rattle.tv_depths.specs.Cycles.{opened_flow, opened_flows}
 use Rattle.tv_check.specs.NamedGraphs.{leads_inside, links_inside, names_inside}
-use Rattle.tv_naming.proofs.OfLists.{both, list_all-at, Each}
-
-pub nil-parts : {X : Type 0} (xs ys : List X) → xs ++ ys ≡ [] → (xs ≡ []) × (ys ≡ [])
-nil-parts [] ys e = (refl, e)
-nil-parts (x ∷ xs) ys e = cc
+use Rattle.tv_naming.proofs.OfLists.{list_all-at, Each}
 
 pub nil-each : {X Y : Type 0} (f : X → List Y) (xs : List X) → flat_map f xs ≡ [] → Each (λ x. f x ≡ []) xs
 nil-each f [] e = tt
-nil-each f (x ∷ xs) e = let p = nil-parts (f x) (flat_map f xs) e in (p.0, nil-each f xs p.1)
+nil-each f (x ∷ xs) e = let p = append-none (f x) (flat_map f xs) e in (p.0, nil-each f xs p.1)
 
 all-flat : {X Y : Type 0} (p : Y → Bool) (g : X → List Y) (xs : List X) → Each (λ x. list_all p (g x) ≡ true) xs → list_all p (flat_map g xs) ≡ true
 all-flat p g [] e = refl
@@ -56,22 +54,22 @@ module _ (flow : Flow) where
       (each-by _ (λ l. list_all (has_name flow.steps) (link_step l) ≡ true) ls (λ l h. link-inside l (silent (is_there flow l) (plainly no_such_port w) h)) (nil-each (λ l. complain_if (not (is_there flow l)) (plainly no_such_port w)) ls e))
 
   feed-inside : (w : Where) (feed : Feed) → link_complaints flow w feed ≡ [] → list_all (has_name flow.steps) (feed_steps feed) ≡ true
-  feed-inside w (link l) e = link-inside l (silent (is_there flow l) (plainly no_such_port w) (nil-parts (complain_if (not (is_there flow l)) (plainly no_such_port w)) [] e).0)
+  feed-inside w (link l) e = link-inside l (silent (is_there flow l) (plainly no_such_port w) (append-none (complain_if (not (is_there flow l)) (plainly no_such_port w)) [] e).0)
   feed-inside w (merge ls) e = links-inside w ls e
   feed-inside w (constant v) e = refl
 
   after-inside : (f n : Name) (k : ℕ) (names : List Name) → flat_map (λ a. complain_if (not (has_name flow.steps a.1)) (plainly no_such_port (at_after f n a.0))) (numbered k names) ≡ [] → list_all (has_name flow.steps) names ≡ true
   after-inside f n k [] e = refl
   after-inside f n k (m ∷ names) e =
-      let p = nil-parts (complain_if (not (has_name flow.steps m)) (plainly no_such_port (at_after f n k))) _ e in
+      let p = append-none (complain_if (not (has_name flow.steps m)) (plainly no_such_port (at_after f n k))) _ e in
       ap (λ b. b && list_all (has_name flow.steps) names) (silent (has_name flow.steps m) _ p.0) ∙ after-inside f n (suc k) names p.1
 
 module _ (knows : Name → Bool) (d : Document) where
   activities-inside : (f n : Name) (k : ℕ) (acts : List Activity) → flat_map (activity_complaints knows d f n) (numbered k acts) ≡ [] → list_all (has_name d.flows) (filter_map opened_flow acts) ≡ true
   activities-inside f n k [] e = refl
-  activities-inside f n k (service m ∷ acts) e = activities-inside f n (suc k) acts (nil-parts (activity_complaints knows d f n (k, service m)) _ e).1
+  activities-inside f n k (service m ∷ acts) e = activities-inside f n (suc k) acts (append-none (activity_complaints knows d f n (k, service m)) _ e).1
   activities-inside f n k (nested g ∷ acts) e =
-      let p = nil-parts (activity_complaints knows d f n (k, nested g)) _ e in
+      let p = append-none (activity_complaints knows d f n (k, nested g)) _ e in
       ap (λ b. b && list_all (has_name d.flows) (filter_map opened_flow acts)) (silent (has_name d.flows g) _ p.0) ∙ activities-inside f n (suc k) acts p.1
 
   pub record IsInside (flow : Flow) (s : Step) : Type 0 where
@@ -80,9 +78,9 @@ module _ (knows : Name → Bool) (d : Document) where
 
   step-inside : (f : Name) (flow : Flow) (x : Name × Step) → step_naming knows d f flow x ≡ [] → IsInside flow x.1
   step-inside f flow x e =
-      let p = nil-parts _ _ e in
-      let q = nil-parts _ _ p.0 in
-      let r = nil-parts _ _ q.0 in
+      let p = append-none _ _ e in
+      let q = append-none _ _ p.0 in
+      let r = append-none _ _ q.0 in
       record {
         earlier =
             list_all-append (has_name flow.steps) (flat_map (λ i. feed_steps i.1.from) x.1.inputs) x.1.after
@@ -93,16 +91,16 @@ module _ (knows : Name → Bool) (d : Document) where
       }
 
   flow-inside : (f : Name × Flow) → flow_naming knows d f ≡ [] → Each (λ x. IsInside f.1 x.1) f.1.steps
-  flow-inside f e = each-by _ (λ x. IsInside f.1 x.1) f.1.steps (step-inside f.0 f.1) (nil-each (step_naming knows d f.0 f.1) f.1.steps (nil-parts _ _ e).0)
+  flow-inside f e = each-by _ (λ x. IsInside f.1 x.1) f.1.steps (step-inside f.0 f.1) (nil-each (step_naming knows d f.0 f.1) f.1.steps (append-none _ _ e).0)
 
   -- all that is named is there
   pub names-inside : naming_complaints knows d ≡ [] → names_inside d ≡ true
   names-inside e =
-      let flows = each-by _ (λ f. Each (λ x. IsInside f.1 x.1) f.1.steps) d.flows flow-inside (nil-each (flow_naming knows d) d.flows (nil-parts (complain_if (not (has_name d.flows d.main)) (plainly no_such_flow at_main)) _ e).1) in
+      let flows = each-by _ (λ f. Each (λ x. IsInside f.1 x.1) f.1.steps) d.flows flow-inside (nil-each (flow_naming knows d) d.flows (append-none (complain_if (not (has_name d.flows d.main)) (plainly no_such_flow at_main)) _ e).1) in
       ap (λ b. b && list_all (λ f. links_inside f.1) d.flows)
       (each-all (λ f. list_all (has_name d.flows) (opened_flows f.1)) d.flows
       (each-by _ _ d.flows (λ f h. all-flat (has_name d.flows) (λ s. filter_map opened_flow s.1.activities) f.1.steps (each-by _ _ f.1.steps (λ x i. i.opened) h)) flows))
       ∙ each-all (λ f. links_inside f.1) d.flows (each-by _ _ d.flows (λ f h. each-all (λ x. list_all (has_name f.1.steps) (earlier_steps x.1)) f.1.steps (each-by _ _ f.1.steps (λ x i. i.earlier) h)) flows)
 
 pub flow-links-inside : (d : Document) → names_inside d ≡ true → (k : ℕ) (x : Name × Flow) → k < length d.flows → links_inside (get_or d.flows k x).1 ≡ true
-flow-links-inside d e k x lt = list_all-at (λ f. links_inside f.1) d.flows k x (both (leads_inside opened_flows d.flows) (list_all (λ f. links_inside f.1) d.flows) e).1 lt
+flow-links-inside d e k x lt = list_all-at (λ f. links_inside f.1) d.flows k x (and_parts (leads_inside opened_flows d.flows) (list_all (λ f. links_inside f.1) d.flows) e).1 lt

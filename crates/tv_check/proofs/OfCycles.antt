@@ -5,8 +5,11 @@ use Rattle.std.specs.Ordering.{is_lt}
 use Rattle.std.specs.Option.{option_map_or}
 use Rattle.std.proofs.Common.{arith, get_or, ap, sym, subst, ◌∙◌, cond}
 use Rattle.std.proofs.lemmas.List.{length-map, drop_more, drop_all}
+use Rattle.std.proofs.lemmas.Bool.{and_parts}
+use Rattle.tv_lemmas.proofs.Orderings.{is_lt-less}
 use Rattle.tv_value.specs.Values.{Name}
 use Rattle.tv_value.specs.Orders.{same_name, name_cmp, named}
+use Rattle.tv_value.proofs.OfNames.{same_name-refl}
 use Rattle.tv_flow.specs.Formed.{is_ascending}
 use Rattle.tv_graph.specs.Graphs.{vertices, comes_before, is_on_cycle, first_on_cycle}
 use Rattle.tv_naming.specs.Naming.{has_name, complain_if}
@@ -14,10 +17,11 @@ use Rattle.tv_naming.specs.Numbers.{position}
 use Rattle.tv_depths.specs.Cycles.{reaches}
 use Rattle.tv_naming.specs.Faulty.{Complaint, first_of}
 use Rattle.tv_check.specs.NamedGraphs.{numbers_of}
-use Rattle.tv_naming.proofs.OfLists.{both, Each, each-at, find-same, find-map, find-each}
-use Rattle.tv_naming.proofs.ByPosition.{names_of, same_name-is, same_name-refl, below-differs, less, there, named-at}
+use Rattle.tv_naming.proofs.OfLists.{Each, each-at, find-same, find-map, find-each}
+use Rattle.tv_naming.proofs.ByPosition.{names_of, same_name-is, below-differs, there, named-at}
 use Rattle.tv_flow.specs.Views.{each}
 use Rattle.tv_naming.proofs.OfForms.{length-each, entry-each}
+use Rattle.tv_naming.proofs.OfTold.{first-left}
 use Rattle.tv_check.proofs.OfGraphs.{next, graph, at, before-next, any-numbers, position-apart}
 
 -- ---- the numbers of the things, in their order
@@ -32,14 +36,14 @@ module _ {A : Type 0} where
   shifted : (x : Name × A) (ys zs : List (Name × A)) → list_all (λ m. is_lt (name_cmp x.0 m)) (names_of ys) ≡ true → map (λ y. position y.0 (x ∷ zs)) ys ≡ map suc (map (λ y. position y.0 zs) ys)
   shifted x [] zs h = refl
   shifted x (y ∷ ys) zs h =
-      let b = both (is_lt (name_cmp x.0 y.0)) (list_all (λ m. is_lt (name_cmp x.0 m)) (names_of ys)) h in
-      ap (λ c. (if c then 0 else suc (position y.0 zs)) ∷ map (λ y. position y.0 (x ∷ zs)) ys) (below-differs x.0 y.0 (less (name_cmp x.0 y.0) b.0))
+      let b = and_parts (is_lt (name_cmp x.0 y.0)) (list_all (λ m. is_lt (name_cmp x.0 m)) (names_of ys)) h in
+      ap (λ c. (if c then 0 else suc (position y.0 zs)) ∷ map (λ y. position y.0 (x ∷ zs)) ys) (below-differs x.0 y.0 (is_lt-less (name_cmp x.0 y.0) b.0))
       ∙ ap (λ ks. suc (position y.0 zs) ∷ ks) (shifted x ys zs b.1)
 
   pub positions : (xs : List (Name × A)) → is_ascending (names_of xs) ≡ true → map (λ x. position x.0 xs) xs ≡ range_with_len 0 (length xs)
   positions [] h = refl
   positions (x ∷ xs) h =
-      let b = both (list_all (λ m. is_lt (name_cmp x.0 m)) (names_of xs)) (is_ascending (names_of xs)) h in
+      let b = and_parts (list_all (λ m. is_lt (name_cmp x.0 m)) (names_of xs)) (is_ascending (names_of xs)) h in
       ap (λ c. (if c then 0 else suc (position x.0 xs)) ∷ map (λ y. position y.0 (x ∷ xs)) xs) (same_name-refl x.0)
       ∙ ap (λ ks. 0 ∷ ks) (shifted x xs xs b.0 ∙ ap (map suc) (positions xs b.1) ∙ range-suc 0 (length xs))
 
@@ -148,10 +152,6 @@ pub first-passed : (cs ds : List Complaint) → first_of cs ≡ None → first_o
 first-passed [] ds e = refl
 first-passed (c ∷ cs) ds e = cc
 
-pub first-stays : (cs ds : List Complaint) (c : Complaint) → first_of cs ≡ Some c → first_of (cs ++ ds) ≡ Some c
-first-stays [] ds c e = cc
-first-stays (b ∷ cs) ds c e = e
-
 module _ {X : Type 0} (G : X → List Complaint) (xs : List X) (i : ℕ) (x : X) (lt : i < length xs) (is : x ≡ get_or xs i x) where
   rest : flat_map G (drop i xs) ≡ G x ++ flat_map G (drop (i + 1) xs)
   rest = ap (flat_map G) (drop_more xs i x lt ∙ ap (λ y. y ∷ drop (i + 1) xs) (sym is))
@@ -160,7 +160,7 @@ module _ {X : Type 0} (G : X → List Complaint) (xs : List X) (i : ℕ) (x : X)
   passed none so_far = so_far ∙ ap first_of rest ∙ first-passed (G x) (flat_map G (drop (i + 1) xs)) none
 
   pub stopped : (c : Complaint) → first_of (G x) ≡ Some c → first_of (flat_map G xs) ≡ first_of (flat_map G (drop i xs)) → first_of (flat_map G xs) ≡ Some c
-  stopped c some so_far = so_far ∙ ap first_of rest ∙ first-stays (G x) (flat_map G (drop (i + 1) xs)) c some
+  stopped c some so_far = so_far ∙ ap first_of rest ∙ first-left (G x) (flat_map G (drop (i + 1) xs)) c some
 
 pub passed-all : {X : Type 0} (G : X → List Complaint) (xs : List X) (i : ℕ) → length xs ≤ i → first_of (flat_map G xs) ≡ first_of (flat_map G (drop i xs)) → first_of (flat_map G xs) ≡ None
 passed-all G xs i past so_far = so_far ∙ ap (λ ys. first_of (flat_map G ys)) (drop_all i xs past)

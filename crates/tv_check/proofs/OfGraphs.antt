@@ -5,15 +5,17 @@ use Rattle.std.specs.Option.{option_map_or}
 use Rattle.std.proofs.Common.{get_or, ap, sym, subst, ◌∙◌}
 use Rattle.std.proofs.lemmas.Bool.{lt-ltb, eq-eqb, eqb-true}
 use Rattle.std.proofs.lemmas.List.{length-map}
+use Rattle.std.proofs.lemmas.Simd.{map-map}
 use Rattle.tv_value.specs.Values.{Name}
 use Rattle.tv_value.specs.Orders.{same_name, named}
+use Rattle.tv_value.proofs.OfNames.{same_name-refl}
 use Rattle.tv_flow.specs.Views.{each}
 use Rattle.tv_graph.specs.Graphs.{Graph, is_graph, before}
 use Rattle.tv_naming.specs.Naming.{has_name}
 use Rattle.tv_naming.specs.Numbers.{number_in, position}
 use Rattle.tv_check.specs.NamedGraphs.{numbers_of, graph_of}
-use Rattle.tv_naming.proofs.ByPosition.{same_name-is, same_name-refl, there, number-found}
-use Rattle.tv_naming.proofs.OfLists.{map-same, map-map, filter_map-same}
+use Rattle.tv_naming.proofs.ByPosition.{same_name-is, there, number-found}
+use Rattle.tv_naming.proofs.OfLists.{map-same, filter_map-same}
 
 -- ---- the numbers are vertices
 

@@ -7,6 +7,8 @@ use Rattle.std.proofs.Common.{arith, get_or, ap, sym, subst, ◌∙◌}
 use Rattle.std.proofs.lemmas.List.{length-map}
 use Rattle.tv_value.specs.Values.{Name}
 use Rattle.std.proofs.lemmas.Iterator.Adapters.{position_from-zero}
+use Rattle.std.proofs.lemmas.Bool.{and_parts}
+use Rattle.std.proofs.lemmas.Simd.{map-map}
 use Rattle.tv_value.specs.Orders.{named, same_name}
 use Rattle.tv_flow.specs.Flows.{Flow, Document}
 use Rattle.tv_flow.specs.Formed.{is_ascending}
@@ -16,7 +18,7 @@ use Rattle.tv_naming.specs.Faulty.{Complaint, first_of}
 use Rattle.tv_depths.specs.Cycles.{opened_flows, flows_in, nesting, nestings, cycle_complaints}
 use Rattle.tv_naming.specs.Faulty.{at_flow, flow_cycle, plainly}
 use Rattle.tv_check.specs.NamedGraphs.{numbers_of, leads_inside}
-use Rattle.tv_naming.proofs.OfLists.{both, map-map, map-same}
+use Rattle.tv_naming.proofs.OfLists.{map-same}
 use Rattle.tv_naming.proofs.ByPosition.{names_of}
 use Rattle.tv_check.proofs.OfGraphs.{graph, at, before-next}
 use Rattle.tv_check.proofs.OfCycles.{vertices-are, first-reaching, first-told, on_cycle}
@@ -37,7 +39,7 @@ module _ (d : Document) (rises : is_ascending (names_of d.flows) ≡ true) (insi
       go : (fs : List (Name × Flow)) → list_all (λ f. all_there d.flows (opened_flows f.1)) fs ≡ true → all_there d.flows (option_map_or opened_flows (named n fs) []) ≡ true
       go [] h = refl
       go (f ∷ fs) h =
-          let b = both (all_there d.flows (opened_flows f.1)) (list_all (λ f. all_there d.flows (opened_flows f.1)) fs) h in
+          let b = and_parts (all_there d.flows (opened_flows f.1)) (list_all (λ f. all_there d.flows (opened_flows f.1)) fs) h in
           step f fs (same_name n f.0) b.0 (go fs b.1)
 
   pub nest : (k : ℕ) (n : Name) → height g k (at opened_flows d.flows n) ≡ nesting d k n

@@ -1,7 +1,8 @@
 -- The plans of flows that were measured.
 use Rattle.std.proofs.Common.{◌≡◌, ◌∙◌, refl, sym, ap, subst, ℕ, zero, suc, ◌+◌, ◌-◌, List, [], ◌∷◌, ◌++◌, length, map, take, Option, Some, None, arith, get_or, slice_get}
-use Rattle.std.proofs.lemmas.List.{map_push}
+use Rattle.std.proofs.lemmas.List.{map_push, length-map}
 use Rattle.std.proofs.lemmas.Option.{get_or_from_slice_get}
+use Rattle.tv_lemmas.proofs.Lists.{get-map, same-lists, of-get_map}
 use Rattle.tv_value.specs.Values.{Name}
 use Rattle.tv_value.specs.Strategies.{port, strategy}
 use Rattle.tv_value.specs.Views.{strategies_of}
@@ -21,7 +22,6 @@ use Rattle.tv_depths.specs.Tables.{known, IsMeasured, step_level, Agree}
 use Rattle.tv_depths.proofs.OfDepths.{feed-agree}
 use Rattle.tv_naming.proofs.FormedParts.{steps-ascend}
 use Rattle.tv_depths.proofs.OfRanked.{all-ranked}
-use Rattle.tv_naming.proofs.OfTold.{get-map}
 
 -- the ports of a cross, one by one
 pub ports-listed : (is : List (Name × CodeInput)) → strategies_of (map (λ i. port i.0) is) ≡ ports_of (each step_input_view is)
@@ -67,31 +67,12 @@ plan-made f g ps os w e p o h =
 
 -- ---- a measured flow all of whose steps have a rank
 
-same-lists : {A : Type 0} (xs ys : List A) → length xs ≡ length ys → ((k : ℕ) (y : A) → slice_get ys k ≡ Some y → slice_get xs k ≡ Some y) → xs ≡ ys
-same-lists [] [] e h = refl
-same-lists [] (y ∷ ys) e h = cc
-same-lists (x ∷ xs) [] e h = cc
-same-lists (x ∷ xs) (y ∷ ys) e h =
-    let p : Some x ≡ Some y = h 0 y refl in
-    let q : xs ≡ ys = same-lists xs ys (omega (arith, e)) (λ k z g. h (suc k) z g) in
-    cc
-
-long-map : {A B : Type 0} (g : A → B) (xs : List A) → length (map g xs) ≡ length xs
-long-map g [] = refl
-long-map g (x ∷ xs) = ap suc (long-map g xs)
-
--- what stands in a list of images is the image of what stands there
-from-map : {A B : Type 0} (g : A → B) (xs : List A) (k : ℕ) (y : B) → slice_get (map g xs) k ≡ Some y → (x : A) × ((slice_get xs k ≡ Some x) × (y ≡ g x))
-from-map g [] k y e = cc
-from-map g (x ∷ xs) zero y e = let p : g x ≡ y = cc in (x, (refl, sym p))
-from-map g (x ∷ xs) (suc k) y e = from-map g xs k y e
-
 -- the table has the depth of each step's strategy
 pub levels-are : (f : Flow) (ls : List (Option ℕ)) (os : List (Name × ℕ)) → IsMeasured f ls os → length (ranked f.steps) ≡ length f.steps → ls ≡ map (λ s. Some (step_level f s.1)) f.steps
 levels-are f ls os m e =
     let level : Name × Step → Option ℕ = λ s. Some (step_level f s.1) in
-    same-lists ls (map level f.steps) (m.table.entries ∙ sym (long-map level f.steps)) (λ k y g.
-    let at = from-map level f.steps k y g in
+    same-lists ls (map level f.steps) (m.table.entries ∙ sym (length-map f.steps level)) (λ k y g.
+    let at = of-get_map level f.steps k y g in
     let rank = all-ranked f.steps (steps-ascend f m.table.formed) e at.0 (k, at.1.0) in
     m.levels rank.0 k at.0 rank.1 at.1.0 ∙ ap Some (sym at.1.1))
 

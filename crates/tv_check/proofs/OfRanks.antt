@@ -1,10 +1,12 @@
 -- Steps by rank, by the order of their numbers.
-use Rattle.std.proofs.lemmas.Bool.{lt-ltb}
+use Rattle.std.proofs.lemmas.Bool.{lt-ltb, and_parts}
 use Rattle.std.specs.Prelude.{nat_lt, ◌≡◌, ℕ, zero, suc, ◌≤◌, List, [], ◌∷◌, length, map, Bool, true, false, not, ◌&&◌, ◌||◌, Option, Some, None, option_map, refl, is_some, find, filter, if◌then◌else◌}
 use Rattle.std.specs.List.{list_all, cons_option, range_with_len}
 use Rattle.std.specs.Option.{option_map_or}
 use Rattle.std.proofs.Common.{arith, get_or, ap, sym, ◌∙◌, cond}
 use Rattle.std.proofs.lemmas.List.{length-map}
+use Rattle.std.proofs.lemmas.Simd.{map-map}
+use Rattle.tv_lemmas.proofs.Lists.{filter-all}
 use Rattle.tv_value.specs.Values.{Name}
 use Rattle.tv_value.specs.Orders.{same_name}
 use Rattle.tv_flow.specs.Flows.{Step}
@@ -15,7 +17,7 @@ use Rattle.tv_naming.specs.Numbers.{position}
 use Rattle.tv_depths.specs.Ranks.{earlier_steps, is_among, by_rank, ranked}
 use Rattle.tv_check.specs.RankNumbers.{place, numbers_by_rank, ranks_by_number}
 use Rattle.tv_check.specs.NamedGraphs.{numbers_of, leads_inside}
-use Rattle.tv_naming.proofs.OfLists.{both, Each, each-at, list_all-at, find-same, find-map, find-each, find-filter, filter-filter, filter-same, filter-all, map-map, map-each}
+use Rattle.tv_naming.proofs.OfLists.{Each, each-at, list_all-at, find-same, find-map, find-each, find-filter, filter-filter, filter-same, map-each}
 use Rattle.tv_naming.proofs.ByPosition.{names_of, same_name-sym, there, named-at, number-there}
 use Rattle.tv_check.proofs.OfGraphs.{graph, at, before-next, position-apart}
 use Rattle.tv_check.proofs.OfCycles.{IsThere, each-there, positions, vertices-are}
@@ -29,19 +31,19 @@ module _ {A : Type 0} (xs : List (Name × A)) where
   pub numbers-all : (ns : List Name) → all_there ns ≡ true → numbers_of xs ns ≡ map (λ n. position n xs) ns
   numbers-all [] h = refl
   numbers-all (n ∷ ns) h =
-      let b = both (has_name xs n) (all_there ns) h in
+      let b = and_parts (has_name xs n) (all_there ns) h in
       ap (λ o. cons_option o (numbers_of xs ns)) (number-there xs n b.0) ∙ ap (λ ks. position n xs ∷ ks) (numbers-all ns b.1)
 
   among : (n : Name) (done : List Name) → has_name xs n ≡ true → all_there done ≡ true → is_one_of (map (λ m. position m xs) done) (position n xs) ≡ is_among done n
   among n [] h g = refl
   among n (m ∷ done) h g =
-      let b = both (has_name xs m) (all_there done) g in
+      let b = and_parts (has_name xs m) (all_there done) g in
       ap (λ c. c || is_one_of (map (λ m. position m xs) done) (position n xs)) (position-apart xs n m h b.0) ∙ ap (λ c. same_name n m || c) (among n done h b.1)
 
   all-among : (ns done : List Name) → all_there ns ≡ true → all_there done ≡ true → list_all (is_one_of (map (λ m. position m xs) done)) (map (λ n. position n xs) ns) ≡ list_all (is_among done) ns
   all-among [] done h g = refl
   all-among (n ∷ ns) done h g =
-      let b = both (has_name xs n) (all_there ns) h in
+      let b = and_parts (has_name xs n) (all_there ns) h in
       ap (λ c. c && list_all (is_one_of (map (λ m. position m xs) done)) (map (λ n. position n xs) ns)) (among n done b.0 g) ∙ ap (λ c. is_among done n && c) (all-among ns done b.1 g)
 
   module _ (f : A → List Name) where

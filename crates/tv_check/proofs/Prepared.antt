@@ -5,10 +5,12 @@ use Rattle.std.specs.List.{list_all}
 use Rattle.std.specs.Option.{option_map_or}
 use Rattle.std.proofs.Common.{arith, get_or, ap, sym, subst, ◌∙◌}
 use Rattle.std.proofs.Math.Bool.{or-true}
-use Rattle.std.proofs.lemmas.Bool.{lt-ltb}
+use Rattle.std.proofs.lemmas.Bool.{lt-ltb, and_parts}
 use Rattle.std.proofs.lemmas.List.{length-map}
 use Rattle.std.proofs.lemmas.List.Folds.{list_all-append}
 use Rattle.std.proofs.lemmas.Option.{slice_get-get_or}
+use Rattle.std.proofs.lemmas.Simd.{map-map}
+use Rattle.tv_lemmas.proofs.Lists.{append-none}
 use Rattle.tv_value.specs.Values.{Name}
 use Rattle.tv_value.specs.Strategies.{Strategy}
 use Rattle.tv_value.specs.Activities.{Activity, service, nested}
@@ -26,14 +28,14 @@ use Rattle.tv_check.specs.NamedGraphs.{numbers_of, leads_inside}
 use Rattle.tv_depths.specs.Tables.{AreAt, has_fitting}
 use Rattle.tv_check.specs.Plannable.{AreByRank}
 use Rattle.tv_depths.specs.Measured.{flow_nesting, opens_lower, AreOrders, IsPrepared}
-use Rattle.tv_naming.proofs.OfLists.{both, Each, each-at, map-map, map-same, map-each, pair-same}
+use Rattle.tv_naming.proofs.OfLists.{Each, each-at, map-same, map-each, pair-same}
 use Rattle.tv_naming.proofs.ByPosition.{names_of, there}
 use Rattle.tv_check.proofs.OfCycles.{IsThere, each-there}
 use Rattle.tv_check.proofs.OfGraphs.{graph, at, before-next, graph_of-is}
 use Rattle.tv_check.proofs.OfRanks.{ranked-there, numbers-all}
 use Rattle.tv_check.proofs.OfNestings.{opened-there, nest, cycle-free}
 use Rattle.tv_naming.proofs.OfForms.{flows-named, steps-named}
-use Rattle.tv_check.proofs.Inside.{nil-parts, nil-each, each-all, each-by, names-inside}
+use Rattle.tv_check.proofs.Inside.{nil-each, each-all, each-by, names-inside}
 
 -- ---- the steps of a flow by rank, by their numbers
 
@@ -72,15 +74,15 @@ fits s c (Some t) e = cases (fits_ports s t) e
 
 module _ (knows : Name → Bool) (d : Document) where
   step-fits : (f : Name) (flow : Flow) (x : Name × Step) → step_naming knows d f flow x ≡ [] → has_fitting x.1 ≡ true
-  step-fits f flow x e = fits x.1 (plainly strategy_ports (at_step f x.0)) x.1.strategy (nil-parts _ _ (nil-parts _ _ (nil-parts _ _ e).0).0).1
+  step-fits f flow x e = fits x.1 (plainly strategy_ports (at_step f x.0)) x.1.strategy (append-none _ _ (append-none _ _ (append-none _ _ e).0).0).1
 
   flow-fits : (f : Name × Flow) → flow_naming knows d f ≡ [] → list_all (λ s. has_fitting s.1) f.1.steps ≡ true
-  flow-fits f e = each-all (λ s. has_fitting s.1) f.1.steps (each-by (λ x. step_naming knows d f.0 f.1 x ≡ []) (λ s. has_fitting s.1 ≡ true) f.1.steps (step-fits f.0 f.1) (nil-each (step_naming knows d f.0 f.1) f.1.steps (nil-parts _ _ e).0))
+  flow-fits f e = each-all (λ s. has_fitting s.1) f.1.steps (each-by (λ x. step_naming knows d f.0 f.1 x ≡ []) (λ s. has_fitting s.1 ≡ true) f.1.steps (step-fits f.0 f.1) (nil-each (step_naming knows d f.0 f.1) f.1.steps (append-none _ _ e).0))
 
   pub all-fit : naming_complaints knows d ≡ [] → list_all (λ f. list_all (λ s. has_fitting s.1) f.1.steps) d.flows ≡ true
   all-fit e =
       each-all (λ f. list_all (λ s. has_fitting s.1) f.1.steps) d.flows
-      (each-by (λ f. flow_naming knows d f ≡ []) (λ f. list_all (λ s. has_fitting s.1) f.1.steps ≡ true) d.flows flow-fits (nil-each (flow_naming knows d) d.flows (nil-parts (complain_if (not (has_name d.flows d.main)) (plainly no_such_flow at_main)) _ e).1))
+      (each-by (λ f. flow_naming knows d f ≡ []) (λ f. list_all (λ s. has_fitting s.1) f.1.steps ≡ true) d.flows flow-fits (nil-each (flow_naming knows d) d.flows (append-none (complain_if (not (has_name d.flows d.main)) (plainly no_such_flow at_main)) _ e).1))
 
 -- ---- a flow nests deeper than those that it opens
 
@@ -104,7 +106,7 @@ module _ (d : Document) (n : ℕ) where
   lower-activities [] h = refl
   lower-activities (service a ∷ acts) h = lower-activities acts h
   lower-activities (nested g ∷ acts) h =
-      let b = both (lesser g) (list_all lesser (filter_map opened_flow acts)) h in
+      let b = and_parts (lesser g) (list_all lesser (filter_map opened_flow acts)) h in
       ap (λ c. (not (has_name d.flows g) || c) && list_all (opens_lower d n) acts) b.0
       ∙ ap (λ c. c && list_all (opens_lower d n) acts) (or-true (not (has_name d.flows g)))
       ∙ lower-activities acts b.1
@@ -113,7 +115,7 @@ module _ (d : Document) (n : ℕ) where
   lower-steps [] h = refl
   lower-steps (s ∷ steps) h =
       let rest = flat_map (λ (s : Name × Step). filter_map opened_flow s.1.activities) steps in
-      let b = both (list_all lesser (filter_map opened_flow s.1.activities)) (list_all lesser rest) (sym (list_all-append lesser (filter_map opened_flow s.1.activities) rest) ∙ h) in
+      let b = and_parts (list_all lesser (filter_map opened_flow s.1.activities)) (list_all lesser rest) (sym (list_all-append lesser (filter_map opened_flow s.1.activities) rest) ∙ h) in
       ap (λ c. c && list_all (λ s. list_all (opens_lower d n) s.1.activities) steps) (lower-activities s.1.activities b.0) ∙ lower-steps steps b.1
 
 module _ (d : Document) (rises : is_ascending (names_of d.flows) ≡ true) (few : length d.flows < 2 ^ 32) (inside : leads_inside opened_flows d.flows ≡ true) (free : first_of (cycle_complaints d) ≡ None) where
@@ -157,7 +159,7 @@ small n le = omega arith
 pub prepared : (knows : Name → Bool) (d : Document) (orders : List (Vec ℕ Global)) (levels : List ℕ) → is_formed d ≡ true → naming_complaints knows d ≡ [] → first_of (cycle_complaints d) ≡ None → AreByRank d.flows orders → levels ≡ nestings d → IsPrepared d orders levels
 prepared knows d orders levels formed named free ordered nested_so =
     let flows = flows-named d formed in
-    let inside = both _ _ (names-inside knows d named) in
+    let inside = and_parts _ _ (names-inside knows d named) in
     record {
       orders_are = orders-are d.flows orders (each-at (λ f. is_ascending (names_of f.1.steps) ≡ true) d.flows (λ k x lt. (steps-named (get_or d.flows k x).1 (flows.pass k x lt)).rise)) ordered;
       nestings_are = nested_so;

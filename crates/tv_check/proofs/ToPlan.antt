@@ -2,9 +2,11 @@
 use Rattle.std.specs.Prelude.{◌≡◌, ℕ, ◌<◌, ◌≤◌, List, [], ◌∷◌, length, flat_map, Bool, true, false, not, nat_lt, Vec, Option, Some, None, is_some, refl, option_map, slice_get}
 use Rattle.std.specs.Global.{Global}
 use Rattle.std.proofs.Common.{arith, get_or, ap, sym, subst, ◌∙◌, inl}
-use Rattle.std.proofs.lemmas.Bool.{eq-eqb, ltb-false}
+use Rattle.std.proofs.lemmas.Bool.{eq-eqb, ltb-false, and_parts}
 use Rattle.std.proofs.lemmas.List.{length-map}
 use Rattle.std.proofs.lemmas.Option.{slice_get-get_or, slice_get_within, slice_get-map, get_or_from_slice_get, unwrap_or-slice_get}
+use Rattle.tv_lemmas.proofs.Numbers.{none-below}
+use Rattle.tv_lemmas.proofs.Lists.{append-none}
 use Rattle.tv_value.specs.Values.{Name}
 use Rattle.tv_value.specs.Orders.{named}
 use Rattle.tv_flow.specs.Flows.{Flow, Document}
@@ -20,11 +22,11 @@ use Rattle.tv_depths.specs.Measured.{IsProgress, flow_nesting}
 use Rattle.tv_check.specs.Plannable.{AreByRank, is_ranked, IsToPlan, IsPlannable}
 use Rattle.tv_depths.specs.declared.measured.Measured.{Measured}
 use Rattle.tv_check.proofs.AllRanked.{all-ranked-formed, flow-acyclic}
-use Rattle.tv_naming.proofs.ByPosition.{none, named-at}
-use Rattle.tv_check.proofs.Inside.{nil-parts, nil-each, each-all, silent, names-inside}
+use Rattle.tv_naming.proofs.ByPosition.{named-at}
+use Rattle.tv_check.proofs.Inside.{nil-each, each-all, silent, names-inside}
 use Rattle.tv_depths.proofs.OfNested.{worked-at, worked-length}
 use Rattle.tv_naming.proofs.OfForms.{flows-named}
-use Rattle.tv_naming.proofs.OfLists.{both, each-get, each-at, list_all-at}
+use Rattle.tv_naming.proofs.OfLists.{each-get, each-at, list_all-at}
 
 -- ---- a flow of a document
 
@@ -65,12 +67,12 @@ module _ (d : Document) (orders : List (Vec ℕ Global)) (ws : List (Option Meas
 
 module _ (knows : Name → Bool) (d : Document) (formed : is_formed d ≡ true) (named_so : naming_complaints knows d ≡ []) where
   main-there : has_name d.flows d.main ≡ true
-  main-there = silent (has_name d.flows d.main) (plainly no_such_flow at_main) (nil-parts (complain_if (not (has_name d.flows d.main)) (plainly no_such_flow at_main)) (flat_map (flow_naming knows d) d.flows) named_so).0
+  main-there = silent (has_name d.flows d.main) (plainly no_such_flow at_main) (append-none (complain_if (not (has_name d.flows d.main)) (plainly no_such_flow at_main)) (flat_map (flow_naming knows d) d.flows) named_so).0
 
   whole-at : link_cycle_complaints d ≡ [] → (k : ℕ) (x : Name × Flow) → k < length d.flows → is_ranked (get_or d.flows k x).1 ≡ true
   whole-at free k x lt =
       let f = get_or d.flows k x in
-      let inside = list_all-at (λ f. links_inside f.1) d.flows k x (both _ _ (names-inside knows d named_so)).1 lt in
+      let inside = list_all-at (λ f. links_inside f.1) d.flows k x (and_parts _ _ (names-inside knows d named_so)).1 lt in
       eq-eqb _ _ (all-ranked-formed f.1 ((flows-named d formed).pass k x lt) inside (flow-acyclic d (ap first_of free) k x lt))
 
   shallow : (b : Bool) (c : Complaint) → complain_if b c ≡ [] → b ≡ false
@@ -95,7 +97,7 @@ module _ (knows : Name → Bool) (d : Document) (formed : is_formed d ≡ true) 
       ap is_some (sym same) ∙ ap is_some (sym (unwrap_or-slice_get ws k None)) ∙ done
     where
       first-of : (fs : List (Name × Flow)) (k : ℕ) → k < length fs → Name × Flow
-      first-of [] k h = none k h
+      first-of [] k h = none-below k h
       first-of (f ∷ fs) k h = f
 
       first-flow : (k : ℕ) → k < length d.flows → Name × Flow

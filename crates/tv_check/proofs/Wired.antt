@@ -1,12 +1,13 @@
 -- What the plans of a flow's steps have for its wiring.
 use Rattle.std.specs.Prelude.{◌≡◌, ℕ, zero, suc, ◌<◌, ◌≤◌, ◌^◌, List, [], ◌∷◌, length, map, Bool, true, false, if◌then◌else◌, Option, Some, None, unwrap_or, slice_get, refl}
 use Rattle.std.specs.List.{list_all}
-use Rattle.std.specs.Option.{is_none, option_map_or}
+use Rattle.std.specs.Option.{option_map_or}
 use Rattle.std.specs.Coded.{Coded-set, coded_bool}
 use Rattle.std.proofs.Common.{arith, get_or, ap, sym, ◌∙◌}
 use Rattle.std.proofs.Math.Logic.{∥∥₁_elim}
-use Rattle.std.proofs.lemmas.Bool.{eqb-true}
+use Rattle.std.proofs.lemmas.Bool.{eqb-true, and_parts}
 use Rattle.std.proofs.lemmas.List.{length-map}
+use Rattle.tv_lemmas.proofs.Options.{is_none-none}
 use Rattle.tv_value.specs.Values.{Name}
 use Rattle.tv_value.specs.Orders.{named, same_name}
 use Rattle.tv_value.specs.Strategies.{Strategy, cross}
@@ -16,7 +17,6 @@ use Rattle.tv_strategy.specs.Measures.{all_leaf_names, leaf_names}
 use Rattle.tv_naming.specs.Naming.{fits_ports, naming_complaints}
 use Rattle.tv_naming.specs.Inputs.{given_complaints}
 use Rattle.tv_naming.proofs.FormedParts.{few, passes, step-at, step-inputs}
-use Rattle.tv_naming.proofs.OfLists.{both}
 use Rattle.tv_depths.specs.Cycles.{cycle_complaints, link_cycle_complaints, nesting_complaints}
 use Rattle.tv_depths.specs.Depthwise.{depth_complaints}
 use Rattle.tv_depths.specs.Steps.{ports_of, strategy_of}
@@ -30,14 +30,10 @@ use Rattle.tv_check.proofs.Prepared.{all-fit}
 
 -- ---- the strategies of a flow in an accepted document fit their ports
 
-is-none : {A : Type 0} (o : Option A) → is_none o ≡ true → o ≡ None
-is-none None e = refl
-is-none (Some x) e = cc
-
 named-all : {A : Type 0} (test : A → Bool) (n : Name) (xs : List (Name × A)) (x : A) → list_all (λ e. test e.1) xs ≡ true → named n xs ≡ Some x → test x ≡ true
 named-all test n [] x h e = cc
 named-all test n (y ∷ ys) x h e =
-    let b = both (test y.1) (list_all (λ e. test e.1) ys) h in
+    let b = and_parts (test y.1) (list_all (λ e. test e.1) ys) h in
     cases (same_name n y.0) b.0 (named-all test n ys x b.1) e
   where
     cases : (b : Bool) → test y.1 ≡ true → (named n ys ≡ Some x → test x ≡ true) → (if b then Some y.1 else named n ys) ≡ Some x → test x ≡ true
@@ -51,7 +47,7 @@ named-silent d h =
     let n = nesting_complaints d in
     let l = link_cycle_complaints d in
     let p = depth_complaints d in
-    left-nil ns c (left-nil _ n (left-nil _ l (left-nil _ p (left-nil _ (given_complaints d) (first-none (complaints (λ n. true) d) (is-none (checked (λ n. true) d) h))))))
+    left-nil ns c (left-nil _ n (left-nil _ l (left-nil _ p (left-nil _ (given_complaints d) (first-none (complaints (λ n. true) d) (is_none-none (checked (λ n. true) d) h))))))
 
 pub fitting : (f : Flow) → IsOfDocument f → list_all (λ s. has_fitting s.1) f.steps ≡ true
 fitting f h =
@@ -67,7 +63,7 @@ ports-leaves (i ∷ is) = ap suc (ports-leaves is)
 leaves-by : (s : Step) (o : Option Strategy) → length s.inputs ≤ 16 → option_map_or (fits_ports s) o true ≡ true → length (leaf_names (unwrap_or o (cross (ports_of s.inputs)))) ≤ 16
 leaves-by s None le h = let e = ports-leaves s.inputs in omega (arith, le, e)
 leaves-by s (Some t) le h =
-    let e : length (map (λ (i : Name × StepInput). i.0) s.inputs) ≡ length (leaf_names t) = eqb-true _ _ (both _ _ (both _ _ h).0).0 in
+    let e : length (map (λ (i : Name × StepInput). i.0) s.inputs) ≡ length (leaf_names t) = eqb-true _ _ (and_parts _ _ (and_parts _ _ h).0).0 in
     let many : length (map (λ (i : Name × StepInput). i.0) s.inputs) ≡ length s.inputs = length-map s.inputs (λ (i : Name × StepInput). i.0) in
     omega (arith, le, e, many)
 

@@ -1,33 +1,28 @@
 -- Things that lead to numbers of their own, each of them a number of a list, are at most as many as the list has.
 use Rattle.std.specs.List.{All, AllByRecursion, AllPairs, IsDistinct}
-use Rattle.std.specs.Prelude.{◌≡◌, ◌≢◌, refl, ℕ, suc, ◌<◌, ◌≤◌, Bool, true, false, ◌||◌, eqb, List, [], ◌∷◌, length, map}
+use Rattle.std.specs.Prelude.{◌≡◌, ◌≢◌, refl, ℕ, suc, ◌≤◌, Bool, true, false, ◌||◌, eqb, List, [], ◌∷◌, length, map}
 use Rattle.std.specs.Set.{is_member}
-use Rattle.std.proofs.Common.{arith, sym, subst}
+use Rattle.std.proofs.Common.{sym, subst, zero-lt-suc}
 use Rattle.std.proofs.lemmas.Bool.{eqb-true, ne_eqb, true≢false}
 use Rattle.std.proofs.lemmas.Cmp.{nat_eq_equiv}
 use Rattle.std.proofs.lemmas.List.{length-map}
 use Rattle.std.proofs.lemmas.Map.Made.{length-le_from_is_member}
-
-positive : (n : ℕ) → 0 < suc n
-positive n = omega arith
-
-up : (m n : ℕ) → m < n → suc m < suc n
-up m n h = omega arith
+use Rattle.tv_lemmas.proofs.Numbers.{suc-less}
 
 -- ---- item by item
 
 module _ {A : Type 0} where
   pub all-first : (P : A → Type 0) (x : A) (xs : List A) → All P (x ∷ xs) → P x
-  all-first P x xs h = h 0 x (positive (length xs))
+  all-first P x xs h = h 0 x (zero-lt-suc (length xs))
 
   pub all-rest : (P : A → Type 0) (x : A) (xs : List A) → All P (x ∷ xs) → All P xs
-  all-rest P x xs h k d l = h (suc k) d (up k (length xs) l)
+  all-rest P x xs h k d l = h (suc k) d (suc-less k (length xs) l)
 
   pub pairs-first : (R : A → A → Type 0) (x : A) (xs : List A) → AllPairs R (x ∷ xs) → All (R x) xs
-  pairs-first R x xs h k d l = h 0 (suc k) d (positive k) (up k (length xs) l)
+  pairs-first R x xs h k d l = h 0 (suc k) d (zero-lt-suc k) (suc-less k (length xs) l)
 
   pub pairs-rest : (R : A → A → Type 0) (x : A) (xs : List A) → AllPairs R (x ∷ xs) → AllPairs R xs
-  pairs-rest R x xs h i j d l m = h (suc i) (suc j) d (up i j l) (up j (length xs) m)
+  pairs-rest R x xs h i j d l m = h (suc i) (suc j) d (suc-less i j l) (suc-less j (length xs) m)
 
 -- ---- their numbers
 

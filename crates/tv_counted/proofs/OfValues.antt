@@ -1,6 +1,6 @@
 -- A region has no more nodes than its trees, and a tree no more than a value that it is below.
 use Rattle.std.specs.Prelude.{◌≡◌, ℕ, suc, ◌+◌, ◌≤◌, max, ◌++◌, length}
-use Rattle.std.proofs.Common.{arith}
+use Rattle.std.proofs.Common.{arith, zero-le, suc-le-suc}
 use Rattle.std.proofs.lemmas.List.{length-append}
 use Rattle.tv_value.specs.Nested.{leaf, list, no_trees, tree, notes, all_notes}
 use Rattle.tv_value.specs.Values.{Value}
@@ -24,31 +24,25 @@ has-one (list n vs) = one (length (all_notes vs))
     one : (n : ℕ) → 1 ≤ suc n
     one n = omega arith
 
-none : (n : ℕ) → 0 ≤ n
-none n = omega arith
-
-up : (a b : ℕ) → a ≤ b → suc a ≤ suc b
-up a b h = omega arith
-
 both : (a b c d n : ℕ) → a ≤ b → c ≤ d → n ≡ b + d → a + c ≤ n
 both a b c d n h k e = omega arith
 
 mutual
   known-few : (r : Partial Value) (v : Value) → Below r v → known_nodes r ≤ length (notes v)
-  known-few wanting v h = none (length (notes v))
+  known-few wanting v h = zero-le
   known-few (item w) v h = has-one v
   known-few (growing ps) (leaf n a) h = absurd h
-  known-few (growing ps) (list n vs) h = up (known_nodes_of ps) (length (all_notes vs)) (first-few ps vs h)
+  known-few (growing ps) (list n vs) h = suc-le-suc {m = (known_nodes_of ps)} (first-few ps vs h)
   known-few (closed ps) (leaf n a) h = absurd h
-  known-few (closed ps) (list n vs) h = up (known_nodes_of ps) (length (all_notes vs)) (each-few ps vs h)
+  known-few (closed ps) (list n vs) h = suc-le-suc {m = (known_nodes_of ps)} (each-few ps vs h)
 
   first-few : (ps : Parts Value) (vs : Values) → FirstBelow ps vs → known_nodes_of ps ≤ length (all_notes vs)
-  first-few no_parts vs h = none (length (all_notes vs))
+  first-few no_parts vs h = zero-le
   first-few (part p ps) no_trees h = absurd h
   first-few (part p ps) (tree v vs) h = both (known_nodes p) (length (notes v)) (known_nodes_of ps) (length (all_notes vs)) (length (notes v ++ all_notes vs)) (known-few p v h.0) (first-few ps vs h.1) (length-append (notes v) (all_notes vs))
 
   each-few : (ps : Parts Value) (vs : Values) → EachBelow ps vs → known_nodes_of ps ≤ length (all_notes vs)
-  each-few no_parts vs h = none (length (all_notes vs))
+  each-few no_parts vs h = zero-le
   each-few (part p ps) no_trees h = absurd h
   each-few (part p ps) (tree v vs) h = both (known_nodes p) (length (notes v)) (known_nodes_of ps) (length (all_notes vs)) (length (notes v ++ all_notes vs)) (known-few p v h.0) (each-few ps vs h.1) (length-append (notes v) (all_notes vs))
 

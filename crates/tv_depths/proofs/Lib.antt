@@ -5,3 +5,4 @@ pub mod OfNested
 pub mod OfProgress
 pub mod OfRanked
 pub mod OfTables
+pub mod OfPorts

@@ -1,13 +1,17 @@
 -- The steps of a flow, one after another, with a table of their depths.
 use Rattle.std.proofs.Common.{◌≡◌, ◌∙◌, refl, sym, ap, subst, ℕ, zero, suc, ◌<◌, ◌≤◌, ◌+◌, ◌-◌, List, [], ◌∷◌, ◌++◌, length, map, flat_map, take, drop, true, false, ◌&&◌, Option, Some, None, option_map, unwrap_or, arith, get_or, set, slice_get, replicate, inl, inr, ◌⊎◌}
 use Rattle.std.proofs.Math.Path.{fun_ext}
-use Rattle.std.proofs.lemmas.Bool.{le-leb}
-use Rattle.std.proofs.lemmas.Option.{slice_get-get_or}
+use Rattle.std.proofs.lemmas.Bool.{le-leb, and_parts, cases_eq}
+use Rattle.std.proofs.lemmas.Option.{slice_get-get_or, slice_get_within}
 use Rattle.std.proofs.lemmas.List.{length-set, length-replicate}
 use Rattle.std.specs.List.{list_all}
 use Rattle.std.specs.Option.{option_map_or}
+use Rattle.tv_lemmas.proofs.Lists.{get-map}
+use Rattle.tv_lemmas.proofs.Numbers.{none-below, none-after}
+use Rattle.tv_lemmas.proofs.Tests.{from-true_false}
 use Rattle.tv_value.specs.Values.{Name}
 use Rattle.tv_value.specs.Orders.{same_name, named}
+use Rattle.tv_value.proofs.OfNames.{same_name-refl}
 use Rattle.tv_flow.specs.Flows.{Link, input, output, Feed, link, merge, constant, Step, Flow, Document}
 use Rattle.tv_flow.specs.Formed.{is_flow}
 use Rattle.tv_flow.specs.Views.{each, step_view, flow_view}
@@ -25,15 +29,11 @@ use Rattle.tv_depths.specs.Depthwise.{past_limit, fed_complaints, nested_complai
 use Rattle.tv_depths.specs.Tables.{with_level, known, IsTable, IsSound, IsMeasured, is_level, level_most, has_fitting, table_depth, Agree, AreAt}
 use Rattle.tv_naming.specs.Told.{StopsAt}
 use Rattle.tv_naming.specs.declared.faults.CheckRefused.{CheckRefused}
-use Rattle.tv_naming.proofs.ByPosition.{both, none, same_name-refl, true-false}
-use Rattle.tv_depths.proofs.OfRanked.{IsOrdered, port-stays, feeds-none, ranks-apart, one-place, get-set-same, get-set-other, same-or-not}
+use Rattle.tv_depths.proofs.OfRanked.{IsOrdered, port-stays, feeds-none, ranks-apart, one-place, get-set-same, get-set-other}
 use Rattle.tv_naming.proofs.FormedParts.{steps-ascend, step-at, passes}
 use Rattle.tv_depths.proofs.OfLinks.{length-each, each-get}
 use Rattle.tv_depths.proofs.OfTables.{agree-set, found-empty}
-use Rattle.tv_naming.proofs.OfTold.{stops-left, stops-right, got-in, get-map}
-
-short : {A : Type 0} (n : ℕ) → suc n ≤ 0 → A
-short n p = absurd (omega arith)
+use Rattle.tv_naming.proofs.OfTold.{stops-left, stops-right, got-in}
 
 -- ---- lists of steps so far in which each name finds the same give the same depths
 
@@ -89,24 +89,19 @@ module _ (given : List (Name × ℕ)) where
   pub rest-none : (d : Document) (f : Name) (so : List StepDepths) (rs : List (Name × Step)) (i : ℕ) → length rs ≤ i → steps_complaints d f given so (drop i rs) ≡ []
   rest-none d f so [] zero h = refl
   rest-none d f so [] (suc i) h = refl
-  rest-none d f so (x ∷ rs) zero h = short (length rs) h
+  rest-none d f so (x ∷ rs) zero h = none-after (length rs) h
   rest-none d f so (x ∷ rs) (suc i) h = rest-none d f so rs i (omega arith)
 
 -- ---- tables
 
 small-set : (ls : List (Option ℕ)) (i v : ℕ) → v ≤ level_most → list_all is_level ls ≡ true → list_all is_level (set ls i (Some v)) ≡ true
 small-set [] i v le h = h
-small-set (l ∷ ls) zero v le h = ap (λ b. b && list_all is_level ls) (le-leb v level_most le) ∙ (both _ _ h).1
-small-set (l ∷ ls) (suc i) v le h = ap (λ b. b && list_all is_level (set ls i (Some v))) (both _ _ h).0 ∙ small-set ls i v le (both _ _ h).1
+small-set (l ∷ ls) zero v le h = ap (λ b. b && list_all is_level ls) (le-leb v level_most le) ∙ (and_parts _ _ h).1
+small-set (l ∷ ls) (suc i) v le h = ap (λ b. b && list_all is_level (set ls i (Some v))) (and_parts _ _ h).0 ∙ small-set ls i v le (and_parts _ _ h).1
 
 small-none : (k : ℕ) → list_all is_level (replicate k None) ≡ true
 small-none zero = refl
 small-none (suc k) = small-none k
-
-pub below : {A : Type 0} (xs : List A) (i : ℕ) (x : A) → slice_get xs i ≡ Some x → i < length xs
-below [] i x e = cc
-below (y ∷ ys) zero x e = omega arith
-below (y ∷ ys) (suc i) x e = omega (arith, below ys i x e)
 
 -- the entry of an order and the step that it names
 pub record Named {A : Type 0} (xs ys : List A) (i k : ℕ) : Type 0 where
@@ -147,7 +142,7 @@ module _ (d : Document) (n : Name) (f : Flow) (rs : List (Name × Step)) where
         table = record { formed = h; entries = length-replicate (length f.steps) None; small = small-none (length f.steps) };
         agree = λ s. sym (found-empty s f.steps (length f.steps));
         rest = refl;
-        kept = λ j k t lt. none j lt;
+        kept = λ j k t lt. none-below j lt;
       })
 
   module _ (ordered : IsOrdered [] rs) (ls : List (Option ℕ)) (i k : ℕ) (r : Name × Step) (so : StepsSo d n f rs ls i) (there : slice_get f.steps k ≡ Some r) (here : slice_get rs i ≡ Some r) where
@@ -182,11 +177,11 @@ module _ (d : Document) (n : Name) (f : Flow) (rs : List (Name × Step)) where
               next-is
               ∙ ap (λ cs. cs ++ steps_complaints d n f.inputs (step_depths f.inputs made r ∷ made) (drop (suc i) rs)) silent
               ∙ ap (λ ms. steps_complaints d n f.inputs ms (drop (suc i) rs)) (sym (taken-suc f.inputs [] rs i r here));
-          kept = λ m l t lt e g. by_place m l t lt e g (same-or-not m i);
+          kept = λ m l t lt e g. by_place m l t lt e g (cases_eq m i);
         })
       where
         k-below : k < length ls
-        k-below = omega (arith, below f.steps k r there, so.table.entries)
+        k-below = omega (arith, slice_get_within f.steps k r there, so.table.entries)
 
         by_place : (m l : ℕ) (t : Name × Step) → m < suc i → slice_get rs m ≡ Some t → slice_get f.steps l ≡ Some t → (m ≡ i) ⊎ (m ≡ i → ⊥) → slice_get (set ls k (Some v)) l ≡ Some (Some (level_after f (take (suc i) rs) t.1))
         by_place m l t lt e g (inl q) =
@@ -203,7 +198,7 @@ module _ (d : Document) (n : Name) (f : Flow) (rs : List (Name × Step)) where
             let s : Some r ≡ Some t = sym there ∙ (ap (slice_get f.steps) p ∙ g) in
             let w : r ≡ t = cc in
             let x : true ≡ false = sym (same_name-refl r.0) ∙ (ap (λ (u : Name × Step). same_name r.0 u.0) w ∙ apart) in
-            true-false x
+            from-true_false x
             in
             get-set-other ls k l (Some v) other ∙ so.kept m l t before e g ∙ ap (λ w. Some (Some w)) (sym (level-stays m t (omega (arith, before)) e))
           where
@@ -216,7 +211,7 @@ module _ (d : Document) (n : Name) (f : Flow) (rs : List (Name × Step)) where
 pub take-whole : {A : Type 0} (xs : List A) (i : ℕ) → length xs ≤ i → take i xs ≡ xs
 take-whole [] zero h = refl
 take-whole [] (suc i) h = refl
-take-whole (x ∷ xs) zero h = short (length xs) h
+take-whole (x ∷ xs) zero h = none-after (length xs) h
 take-whole (x ∷ xs) (suc i) h = ap (λ ys. x ∷ ys) (take-whole xs i (omega arith))
 
 -- once all are taken
@@ -227,7 +222,7 @@ steps-end d n f ls i h so =
     record {
       table = so.table;
       agree = subst (λ xs. Agree (steps_depths f.inputs [] xs) (known f.steps ls)) whole so.agree;
-      levels = λ j k s e g. subst (λ xs. slice_get ls k ≡ Some (Some (level_after f xs s.1))) whole (so.kept j k s (omega (arith, below rs j s e, h)) e g);
+      levels = λ j k s e g. subst (λ xs. slice_get ls k ≡ Some (Some (level_after f xs s.1))) whole (so.kept j k s (omega (arith, slice_get_within rs j s e, h)) e g);
       outputs_are = refl;
     }
 
@@ -248,7 +243,7 @@ module _ (f : CodeFlow) (xs : List (Name × CodeStep)) (order : List ℕ) (i : �
   entry = named-by (flow_view f).steps (ranked (flow_view f).steps) order i number at (slice_get-get_or order i 0 lt)
 
   pub number-below : number < length f.steps
-  number-below = omega (arith, below (flow_view f).steps number entry.thing entry.there, length-each step_view f.steps)
+  number-below = omega (arith, slice_get_within (flow_view f).steps number entry.thing entry.there, length-each step_view f.steps)
 
   pub number-in : number < length xs
   number-in = omega (arith, number-below, ap length is)

@@ -1,7 +1,7 @@
 -- The mismatches of a step's ports, and the depth of its strategy.
 use Rattle.std.proofs.Common.{◌≡◌, ◌∙◌, refl, sym, ap, subst, ℕ, zero, suc, ◌<◌, ◌≤◌, ◌+◌, ◌*◌, List, [], ◌∷◌, ◌++◌, length, map, flat_map, drop, Result, Bool, true, false, ◌&&◌, Option, Some, None, option_map, unwrap_or, arith, get_or, slice_get, if◌then◌else◌, cond}
 use Rattle.std.proofs.Math.Path.{fun_ext}
-use Rattle.std.proofs.lemmas.Bool.{eqb-true, leb-true}
+use Rattle.std.proofs.lemmas.Bool.{eqb-true, leb-true, and_parts}
 use Rattle.std.proofs.lemmas.Bool.Decides.{nat_tests}
 use Rattle.std.proofs.lemmas.List.{length-append}
 use Rattle.std.proofs.lemmas.List.Recursion.{is_count_by}
@@ -25,9 +25,9 @@ use Rattle.tv_depths.specs.Steps.{ports_of, strategy_of}
 use Rattle.tv_naming.specs.declared.faults.CheckRefused.{CheckRefused}
 use Rattle.tv_naming.specs.Told.{IsToldOf}
 use Rattle.tv_depths.specs.Tables.{known, table_depth, table_mismatch, are_within, IsSound}
-use Rattle.tv_naming.proofs.ByPosition.{both, names_of, same_name-is, named-at}
+use Rattle.tv_naming.proofs.ByPosition.{names_of, same_name-is, named-at}
 use Rattle.tv_naming.proofs.FormedParts.{each-names, few, step-inputs}
-use Rattle.tv_depths.proofs.OfLinks.{named-each}
+use Rattle.tv_naming.proofs.Kept.{named-each}
 
 -- ---- mismatches
 
@@ -52,9 +52,9 @@ module _ (g : StepInput → ℕ) where
   pub number-small : (d : Feed → ℕ) → ((i : StepInput) → g i ≤ d i.from) → (is : List (Name × StepInput)) → list_all (λ i. nat_le (d i.1.from) 32) is ≡ true → (p : Name) → number_of (each g is) p ≤ 32
   number-small d below [] h p = omega arith
   number-small d below (i ∷ is) h p =
-      let test : nat_le (d i.1.from) 32 ≡ true = (both _ _ h).0 in
+      let test : nat_le (d i.1.from) 32 ≡ true = (and_parts _ _ h).0 in
       let small : d i.1.from ≤ 32 = leb-true _ _ test in
-      or-small (same_name p i.0) (g i.1) 32 (named p (each g is)) (omega (arith, below i.1)) (number-small d below is (both _ _ h).1 p)
+      or-small (same_name p i.0) (g i.1) 32 (named p (each g is)) (omega (arith, below i.1)) (number-small d below is (and_parts _ _ h).1 p)
 
 -- ---- depths of strategies
 
@@ -100,7 +100,7 @@ once n ms h = times-is n ms ∙ eqb-true _ _ h
 
 each-once : (ks others : List Name) → list_all (λ m. count_by (same_name m) others == 1) ks ≡ true → EachOnce ks others
 each-once [] others h = tt
-each-once (k ∷ ks) others h = (once k others (both _ _ h).0, each-once ks others (both _ _ h).1)
+each-once (k ∷ ks) others h = (once k others (and_parts _ _ h).0, each-once ks others (and_parts _ _ h).1)
 
 -- what stands once among names that stand once elsewhere stands there once
 back-once : (m : Name) (ns ms : List Name) → times m ns ≡ 1 → list_all (λ n. count_by (same_name n) ms == 1) ns ≡ true → times m ms ≡ 1
@@ -108,27 +108,27 @@ back-once m [] ms e h = cc
 back-once m (n ∷ ns) ms e h = by_cases m n ns ms (same_name m n) refl e h (back-once m ns ms)
   where
     by_cases : (m n : Name) (ns ms : List Name) (b : Bool) → same_name m n ≡ b → (if b then suc (times m ns) else times m ns) ≡ 1 → list_all (λ n. count_by (same_name n) ms == 1) (n ∷ ns) ≡ true → (times m ns ≡ 1 → list_all (λ n. count_by (same_name n) ms == 1) ns ≡ true → times m ms ≡ 1) → times m ms ≡ 1
-    by_cases m n ns ms true f e h k = subst (λ l. times l ms ≡ 1) (sym (same_name-is m n f)) (once n ms (both _ _ h).0)
-    by_cases m n ns ms false f e h k = k e (both _ _ h).1
+    by_cases m n ns ms true f e h k = subst (λ l. times l ms ≡ 1) (sym (same_name-is m n f)) (once n ms (and_parts _ _ h).0)
+    by_cases m n ns ms false f e h k = k e (and_parts _ _ h).1
 
 leaves-once : (ks ns ms : List Name) → list_all (λ m. count_by (same_name m) ns == 1) ks ≡ true → list_all (λ n. count_by (same_name n) ms == 1) ns ≡ true → EachOnce ks ms
 leaves-once [] ns ms c b = tt
-leaves-once (k ∷ ks) ns ms c b = (back-once k ns ms (once k ns (both _ _ c).0) b, leaves-once ks ns ms (both _ _ c).1 b)
+leaves-once (k ∷ ks) ns ms c b = (back-once k ns ms (once k ns (and_parts _ _ c).0) b, leaves-once ks ns ms (and_parts _ _ c).1 b)
 
 mutual
   filled : (s : Strategy) → is_tree s ≡ true → DotsAreFilled s
   filled (port p) h = tt
-  filled (cross ss) h = all-filled ss (both _ _ h).1
+  filled (cross ss) h = all-filled ss (and_parts _ _ h).1
   filled (dot no_strategies) h = cc
-  filled (dot (strategy s ss)) h = let t = both _ _ (both (is_between 1 16 (strategy_count (strategy s ss))) _ h).1 in (filled s t.0, all-filled ss t.1)
+  filled (dot (strategy s ss)) h = let t = and_parts _ _ (and_parts (is_between 1 16 (strategy_count (strategy s ss))) _ h).1 in (filled s t.0, all-filled ss t.1)
 
   all-filled : (ss : Strategies) → are_trees ss ≡ true → AllDotsAreFilled ss
   all-filled no_strategies h = tt
-  all-filled (strategy s ss) h = (filled s (both _ _ h).0, all-filled ss (both _ _ h).1)
+  all-filled (strategy s ss) h = (filled s (and_parts _ _ h).0, all-filled ss (and_parts _ _ h).1)
 
 module _ (g : StepInput → ℕ) (d : Feed → ℕ) (below : (i : StepInput) → g i ≤ d i.from) (is : List (Name × StepInput)) (few : length is ≤ 16) (within : list_all (λ i. nat_le (d i.1.from) 32) is ≡ true) (t : Strategy) (same : are_the_same (map (λ i. i.0) is) (leaf_names t) ≡ true) where
   parts : ((length (map (λ (i : Name × StepInput). i.0) is) == length (leaf_names t)) ≡ true) × (list_all (λ n. count_by (same_name n) (leaf_names t) == 1) (map (λ (i : Name × StepInput). i.0) is) ≡ true) × (list_all (λ m. count_by (same_name m) (map (λ (i : Name × StepInput). i.0) is) == 1) (leaf_names t) ≡ true)
-  parts = let p = both _ _ same in let q = both _ _ p.0 in (q.0, q.1, p.1)
+  parts = let p = and_parts _ _ same in let q = and_parts _ _ p.0 in (q.0, q.1, p.1)
 
   length-names : (xs : List (Name × StepInput)) → length (names_of xs) ≡ length xs
   length-names [] = refl
@@ -154,7 +154,7 @@ no-dots f (i ∷ is) = no-dots f is
 -- ---- a step
 
 -- nothing is said of a depth within the limit
-within-one : (w : Where) (d : ℕ) → past_limit w d ≡ [] → nat_le d depth_most ≡ true
+pub within-one : (w : Where) (d : ℕ) → past_limit w d ≡ [] → nat_le d depth_most ≡ true
 within-one w d h = by_cases (nat_lt depth_most d) refl h
   where
     by_cases : (b : Bool) → nat_lt depth_most d ≡ b → complain_if b (with_numbers too_deep w d depth_most) ≡ [] → nat_le d depth_most ≡ true
@@ -202,7 +202,7 @@ module _ (f : Flow) (ls : List (Option ℕ)) where
       fitting = subst (λ o. option_map_or (fits_ports s) o true ≡ true) given sound.fitting
 
       tree : is_tree t ≡ true
-      tree = subst (λ o. is_given_tree o ≡ true) given (both _ _ (both _ _ (both _ _ (both _ _ (both _ _ sound.formed).0).0).0).0).1
+      tree = subst (λ o. is_given_tree o ≡ true) given (and_parts _ _ (and_parts _ _ (and_parts _ _ (and_parts _ _ (and_parts _ _ sound.formed).0).0).0).0).1
 
       pub given-suits : Suits (each (table_mismatch f ls) s.inputs) t
       given-suits = suits (table_mismatch f ls) (table_depth f ls) below s.inputs few-inputs fed t fitting tree

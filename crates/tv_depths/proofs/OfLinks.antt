@@ -5,9 +5,10 @@ use Rattle.std.proofs.lemmas.Bool.Decides.{nat_tests}
 use Rattle.std.specs.Prelude.{◌==◌}
 use Rattle.std.specs.List.{find}
 use Rattle.std.specs.Option.{option_map_or}
+use Rattle.tv_lemmas.proofs.Lists.{get-map}
 use Rattle.tv_value.specs.Values.{Name}
-use Rattle.tv_value.specs.Orders.{same_name, named}
-use Rattle.tv_flow.specs.Formed.{is_ascending, is_step, is_flow}
+use Rattle.tv_value.specs.Orders.{named}
+use Rattle.tv_flow.specs.Formed.{is_step, is_flow}
 use Rattle.tv_flow.specs.Views.{each, step_view, flow_view}
 use Rattle.tv_flow.specs.declared.document.Step.{Step}
 use Rattle.tv_flow.specs.declared.document.Flow.{Flow}
@@ -17,18 +18,10 @@ use Rattle.tv_naming.specs.declared.faults.CheckRefused.{CheckRefused}
 use Rattle.tv_naming.specs.Told.{StopsAt}
 use Rattle.tv_naming.specs.Numbers.{number_in}
 use Rattle.tv_depths.specs.Tables.{with_level, known, IsTable, is_level, depth_of_output}
-use Rattle.tv_naming.proofs.ByPosition.{IsAt, names_of, number-found, number-absent}
-use Rattle.tv_naming.proofs.FormedParts.{each-names, steps-ascend, step-at, passes}
+use Rattle.tv_naming.proofs.ByPosition.{IsAt, number-found, number-absent}
+use Rattle.tv_naming.proofs.FormedParts.{steps-ascend, step-at, passes}
+use Rattle.tv_naming.proofs.Kept.{named-each}
 use Rattle.tv_depths.proofs.OfTables.{found, found-at, found-none}
-use Rattle.tv_naming.proofs.OfTold.{get-map}
-
-pub named-each : {A B : Type 0} (g : A → B) (n : Name) (xs : List (Name × A)) → named n (each g xs) ≡ option_map g (named n xs)
-named-each g n [] = refl
-named-each {A = A} {B = B} g n (x ∷ xs) = by_cases (same_name n x.0) (named n xs) (named n (each g xs)) (named-each g n xs)
-  where
-    by_cases : (b : Bool) (o : Option A) (r : Option B) → r ≡ option_map g o → (if b then Some (g x.1) else r) ≡ option_map g (if b then Some x.1 else o)
-    by_cases true o r e = refl
-    by_cases false o r e = e
 
 pub length-each : {A B : Type 0} (g : A → B) (xs : List (Name × A)) → length (each g xs) ≡ length xs
 length-each g [] = refl
@@ -36,10 +29,6 @@ length-each g (x ∷ xs) = ap suc (length-each g xs)
 
 pub each-get : {A B : Type 0} (g : A → B) (xs : List (Name × A)) (i : ℕ) (x : Name × A) → slice_get xs i ≡ Some x → slice_get (each g xs) i ≡ Some (x.0, g x.1)
 each-get {A = A} {B = B} g xs i x e = let v : Name × A → Name × B = λ y. (y.0, g y.1) in get-map v xs i x e
-
--- the code's steps, in the order of names
-pub code-ascend : (f : Flow) → is_flow (flow_view f) ≡ true → is_ascending (names_of f.steps) ≡ true
-code-ascend f h = subst (λ ns. is_ascending ns ≡ true) (each-names step_view f.steps) (steps-ascend (flow_view f) h)
 
 -- the step of a number, as it is seen
 pub seen-at : (f : Flow) (i : ℕ) (d : Name × Step) → i < length f.steps → slice_get (flow_view f).steps i ≡ Some ((get_or f.steps i d).0, step_view (get_or f.steps i d).1)

@@ -4,11 +4,13 @@ use Rattle.std.proofs.lemmas.Option.{slice_get-get_or}
 use Rattle.std.specs.Prelude.{◌==◌, is_some}
 use Rattle.std.specs.Option.{option_map_or}
 use Rattle.std.specs.Cmp.Lexicographic.{pointwise}
+use Rattle.std.proofs.lemmas.Bool.{false_from_ne_true}
+use Rattle.tv_lemmas.proofs.Options.{is_some-map}
+use Rattle.tv_lemmas.proofs.Lists.{get-read}
 use Rattle.tv_value.specs.Values.{Name}
 use Rattle.tv_value.specs.Orders.{same_name, named}
 use Rattle.tv_value.specs.Activities.{Activity, service, nested}
 use Rattle.tv_flow.specs.Flows.{StepInput, Step, Flow, Document}
-use Rattle.tv_flow.specs.Formed.{is_ascending, is_flow}
 use Rattle.tv_flow.specs.Views.{each, flow_view, step_input_view}
 use Rattle.tv_flow.specs.DocumentViews.{document_view}
 use Rattle.tv_flow.specs.declared.document.Document.{Document as Code}
@@ -22,10 +24,9 @@ use Rattle.tv_depths.specs.Measured.{IsWorked, AreWorked, is_measured, opens_mea
 use Rattle.tv_naming.specs.Told.{StopsAt}
 use Rattle.tv_naming.specs.declared.faults.CheckRefused.{CheckRefused}
 use Rattle.tv_depths.specs.declared.measured.Measured.{Measured}
-use Rattle.tv_naming.proofs.ByPosition.{IsAt, names_of, number-found, number-absent}
-use Rattle.tv_naming.proofs.FormedParts.{each-names, ascending, document-flows}
-use Rattle.tv_depths.proofs.OfLinks.{named-each, length-each, each-get}
-use Rattle.tv_naming.proofs.OfTold.{got}
+use Rattle.tv_naming.proofs.ByPosition.{IsAt, number-found, number-absent}
+use Rattle.tv_depths.proofs.OfLinks.{length-each, each-get}
+use Rattle.tv_naming.proofs.Kept.{named-each}
 
 -- ---- the same ports
 
@@ -41,10 +42,6 @@ ports-next ps qs i p q e f = let n : suc i ≡ i + 1 = omega arith in subst (λ 
         subst (λ (u : Name × ℕ). same_ports (x ∷ xs) (y ∷ ys) ≡ (same_name u.0 q.0 && u.1 == q.1 && same_ports xs ys)) a (subst (λ (u : Name × ℕ). same_ports (x ∷ xs) (y ∷ ys) ≡ (same_name x.0 u.0 && x.1 == u.1 && same_ports xs ys)) b refl)
     by_suc (x ∷ xs) (y ∷ ys) (suc k) e f = by_suc xs ys k e f
 
-differ : (b : Bool) → (b ≡ true → ⊥) → b ≡ false
-differ true h = absurd (h refl)
-differ false h = refl
-
 same-length : (ps qs : List (Name × ℕ)) → same_ports ps qs ≡ true → length ps ≡ length qs
 same-length [] [] e = refl
 same-length [] (q ∷ qs) e = cc
@@ -56,7 +53,7 @@ same-length (p ∷ ps) (q ∷ qs) e = ap suc (same-length ps qs (right _ _ e))
     right false b h = cc
 
 pub ports-lengths : (ps qs : List (Name × ℕ)) → (length ps ≡ length qs → ⊥) → same_ports ps qs ≡ false
-ports-lengths ps qs h = differ (same_ports ps qs) (λ e. h (same-length ps qs e))
+ports-lengths ps qs h = false_from_ne_true (same_ports ps qs) (λ e. h (same-length ps qs e))
 
 pub ports-pointwise : (ps qs : List (Name × ℕ)) → pointwise (λ a b. same_name a.0 b.0 && a.1 == b.1) ps qs ≡ same_ports ps qs
 ports-pointwise [] [] = refl
@@ -83,21 +80,14 @@ worked-at (x ∷ fs) (y ∷ ws) (suc i) f w h e g = worked-at fs ws i f w h.1 e 
 
 -- ---- numbers of flows
 
-has-some : {A B : Type 0} (g : A → B) (o : Option A) → is_some (option_map g o) ≡ is_some o
-has-some g None = refl
-has-some g (Some x) = refl
-
-position-each : {A B : Type 0} (g : A → B) (n : Name) (xs : List (Name × A)) → position n (each g xs) ≡ position n xs
+pub position-each : {A B : Type 0} (g : A → B) (n : Name) (xs : List (Name × A)) → position n (each g xs) ≡ position n xs
 position-each g n [] = refl
 position-each g n (x ∷ xs) = ap (λ k. if same_name n x.0 then 0 else suc k) (position-each g n xs)
 
 pub number-each : {A B : Type 0} (g : A → B) (n : Name) (xs : List (Name × A)) → number_in (each g xs) n ≡ number_in xs n
 number-each g n xs =
-    ap (λ b. if b then Some (position n (each g xs)) else None) (ap is_some (named-each g n xs) ∙ has-some g (named n xs))
+    ap (λ b. if b then Some (position n (each g xs)) else None) (ap is_some (named-each g n xs) ∙ is_some-map g (named n xs))
     ∙ ap (λ k. if has_name xs n then Some k else None) (position-each g n xs)
-
-pub flows-ascend : (d : Code) → is_ascending (names_of d.flows) ≡ true
-flows-ascend d = subst (λ ns. is_ascending ns ≡ true) (each-names flow_view d.flows) (ascending is_flow 1 256 (document_view d).flows (document-flows (document_view d) d.formed))
 
 module _ (d : Code) (ws : List (Option Measured)) (h : AreWorked (document_view d).flows ws) where
   pub entry-there : (k : ℕ) → k < length d.flows → k < length ws
@@ -107,12 +97,12 @@ module _ (d : Code) (ws : List (Option Measured)) (h : AreWorked (document_view 
   entry-worked xs k e w is lt at =
       let x = get_or d.flows k e in
       subst (λ ys. IsWorked (flow_view (get_or ys k e).1) w) (sym is)
-      (worked-at (document_view d).flows ws k (x.0, flow_view x.1) w h (each-get flow_view d.flows k x (slice_get-get_or d.flows k e lt)) (got ws k w (entry-there k lt) at))
+      (worked-at (document_view d).flows ws k (x.0, flow_view x.1) w h (each-get flow_view d.flows k x (slice_get-get_or d.flows k e lt)) (get-read ws k w (entry-there k lt) at))
 
   pub entry-measured : (n : Name) (k : ℕ) (w : Option Measured) → opens_measured (document_view d) ws (nested n) ≡ true → number_in d.flows n ≡ Some k → k < length d.flows → w ≡ get_or ws k w → is_some w ≡ true
   entry-measured n k w o e lt at =
       let there : is_measured ws k ≡ true = subst (λ i. option_map_or (is_measured ws) i true ≡ true) (number-each flow_view n d.flows ∙ e) o in
-      subst (λ v. is_some (unwrap_or v None) ≡ true) (got ws k w (entry-there k lt) at) there
+      subst (λ v. is_some (unwrap_or v None) ≡ true) (get-read ws k w (entry-there k lt) at) there
 
 -- the flow of a name that has a number
 pub flow-there : (d : Code) (s : Step) (xs : List (Name × CodeFlow)) (n : Name) (k : ℕ) (e : Name × CodeFlow) → xs ≡ d.flows → number_in d.flows n ≡ Some k → fits_flow s (flow_view (get_or xs k e).1) ≡ fits_activity (document_view d) s (nested n)

@@ -1,12 +1,14 @@
 -- The flows of a document, by nesting, each with what was measured of it.
-use Rattle.std.proofs.Common.{◌≡◌, ◌∙◌, refl, sym, ap, subst, ℕ, zero, suc, ◌<◌, ◌≤◌, ◌+◌, ◌-◌, List, [], ◌∷◌, ◌++◌, length, map, flat_map, Bool, true, false, not, ◌||◌, ◌&&◌, Option, Some, None, unwrap_or, arith, get_or, set, slice_get, replicate, if◌then◌else◌, ◌⊎◌, inl, inr, Vec, Global}
-use Rattle.std.proofs.lemmas.Bool.{ltb-true}
+use Rattle.std.proofs.Common.{◌≡◌, ◌∙◌, refl, sym, ap, subst, ℕ, zero, suc, ◌<◌, ◌≤◌, ◌+◌, ◌-◌, List, [], ◌∷◌, ◌++◌, length, flat_map, Bool, true, false, not, ◌||◌, Option, Some, None, unwrap_or, arith, get_or, set, slice_get, replicate, if◌then◌else◌, ◌⊎◌, inl, inr, Vec, Global}
+use Rattle.std.proofs.lemmas.Bool.{ltb-true, cases_eq}
 use Rattle.std.proofs.lemmas.Bool.Decides.{nat_tests}
-use Rattle.std.proofs.lemmas.Grind.{flat_map-append}
-use Rattle.std.proofs.lemmas.Option.{slice_get-get_or}
+use Rattle.std.proofs.lemmas.Option.{slice_get-get_or, slice_get_within}
 use Rattle.std.specs.Prelude.{◌==◌, nat_lt, filter, is_some}
 use Rattle.std.specs.List.{list_all}
 use Rattle.std.specs.Option.{option_map_or}
+use Rattle.std.proofs.lemmas.List.{length-map}
+use Rattle.tv_lemmas.proofs.Lists.{get-map, flat-flat, all-weaken}
+use Rattle.tv_lemmas.proofs.Numbers.{none-below}
 use Rattle.tv_value.specs.Values.{Name}
 use Rattle.tv_value.specs.Orders.{named}
 use Rattle.tv_value.specs.Activities.{Activity, service, nested}
@@ -20,12 +22,10 @@ use Rattle.tv_depths.specs.Depthwise.{flow_complaints, depth_complaints}
 use Rattle.tv_depths.specs.Tables.{IsMeasured, AreAt, has_fitting}
 use Rattle.tv_depths.specs.Measured.{AreWorked, IsReady, IsPrepared, IsProgress, AreOrders, is_measured, opens_measured, opens_lower, step_opens, flow_nesting, nesting_told}
 use Rattle.tv_depths.specs.declared.measured.Measured.{Measured}
-use Rattle.tv_naming.proofs.ByPosition.{IsAt, both, none, number-found}
+use Rattle.tv_naming.proofs.ByPosition.{IsAt, number-found}
 use Rattle.tv_naming.proofs.FormedParts.{passes, entries-passes, all-pass, document-flows}
-use Rattle.tv_depths.proofs.OfDepths.{below}
 use Rattle.tv_depths.proofs.OfNested.{worked-length}
-use Rattle.tv_depths.proofs.OfRanked.{get-set-same, get-set-other, same-or-not}
-use Rattle.tv_naming.proofs.OfTold.{get-map}
+use Rattle.tv_depths.proofs.OfRanked.{get-set-same, get-set-other}
 
 -- ---- what is said, flow by flow
 
@@ -47,10 +47,6 @@ module _ {A B : Type 0} (p : A → Bool) (g : A → List B) where
 
   pub only-is : (x : A) → p x ≡ true → g x ≡ only x
   only-is x e = sym (ap (λ b. if b then g x else []) e)
-
-flat-flat : {A B C : Type 0} (g : B → List C) (h : A → List B) (xs : List A) → flat_map g (flat_map h xs) ≡ flat_map (λ x. flat_map g (h x)) xs
-flat-flat g h [] = refl
-flat-flat g h (x ∷ xs) = flat_map-append g (h x) (flat_map h xs) ∙ ap (λ ys. flat_map g (h x) ++ ys) (flat-flat g h xs)
 
 -- the nestings, least first
 abbrev pub all_nestings : List ℕ
@@ -96,7 +92,7 @@ module _ (d : Document) where
   progress-start ws e =
       record {
         worked = subst (AreWorked d.flows) (sym e) (worked-none d.flows);
-        done = λ i f g h. elim h [ inl p ↦ absurd (omega (arith, p, nesting-positive (length d.flows) f.0)) | inr q ↦ none i q.1 ];
+        done = λ i f g h. elim h [ inl p ↦ absurd (omega (arith, p, nesting-positive (length d.flows) f.0)) | inr q ↦ none-below i q.1 ];
       }
 
   module _ (ws : List (Option Measured)) (n j : ℕ) (so : IsProgress d ws n j) where
@@ -104,12 +100,12 @@ module _ (d : Document) where
     progress-put f w e m =
         record {
           worked = worked-set d.flows ws j f w so.worked e m;
-          done = λ i g h b. by_place i g h b (same-or-not j i);
+          done = λ i g h b. by_place i g h b (cases_eq j i);
         }
       where
         by_place : (i : ℕ) (g : Name × Flow) → slice_get d.flows i ≡ Some g → (flow_nesting d g.0 < n) ⊎ ((flow_nesting d g.0 ≡ n) × (i < j + 1)) → (j ≡ i) ⊎ (j ≡ i → ⊥) → is_measured (set ws j (Some w)) i ≡ true
         by_place i g h b (inl q) =
-            let lt : j < length ws = omega (arith, below d.flows j f e, worked-length d.flows ws so.worked) in
+            let lt : j < length ws = omega (arith, slice_get_within d.flows j f e, worked-length d.flows ws so.worked) in
             subst (λ k. is_measured (set ws j (Some w)) k ≡ true) q (ap (λ o. is_some (unwrap_or o None)) (get-set-same ws j (Some w) lt))
         by_place i g h b (inr q) =
             let before : (flow_nesting d g.0 < n) ⊎ ((flow_nesting d g.0 ≡ n) × (i < j)) = elim b [ inl p ↦ inl p | inr p ↦ inr (p.0, let lt : i < j + 1 = p.1 in apart i lt q) ] in
@@ -123,7 +119,7 @@ module _ (d : Document) where
       where
         before : (i : ℕ) (g : Name × Flow) → slice_get d.flows i ≡ Some g → (flow_nesting d g.0 < n) ⊎ ((flow_nesting d g.0 ≡ n) × (i < j + 1)) → (flow_nesting d g.0 < n) ⊎ ((flow_nesting d g.0 ≡ n) × (i < j))
         before i g k (inl p) = inl p
-        before i g k (inr p) = inr (p.0, nearer (same-or-not j i))
+        before i g k (inr p) = inr (p.0, nearer (cases_eq j i))
           where
             nearer : (j ≡ i) ⊎ (j ≡ i → ⊥) → i < j
             nearer (inl q) =
@@ -136,7 +132,7 @@ module _ (d : Document) where
     progress-next all =
         record {
           worked = so.worked;
-          done = λ i g k b. so.done i g k (elim b [ inl p ↦ earlier i g k p | inr q ↦ none i q.1 ]);
+          done = λ i g k b. so.done i g k (elim b [ inl p ↦ earlier i g k p | inr q ↦ none-below i q.1 ]);
         }
       where
         earlier : (i : ℕ) (g : Name × Flow) → slice_get d.flows i ≡ Some g → flow_nesting d g.0 < n + 1 → (flow_nesting d g.0 < n) ⊎ ((flow_nesting d g.0 ≡ n) × (i < j))
@@ -144,16 +140,12 @@ module _ (d : Document) where
           where
             by_test : (b : Bool) → nat_lt (flow_nesting d g.0) n ≡ b → (flow_nesting d g.0 < n) ⊎ ((flow_nesting d g.0 ≡ n) × (i < j))
             by_test true e = inl (ltb-true _ _ e)
-            by_test false e = inr (at-most (flow_nesting d g.0) n p e, omega (arith, below d.flows i g k, all))
+            by_test false e = inr (at-most (flow_nesting d g.0) n p e, omega (arith, slice_get_within d.flows i g k, all))
               where
                 at-most : (a b : ℕ) → a < b + 1 → nat_lt a b ≡ false → a ≡ b
                 at-most a b lt f = grind (arith, nat_tests)
 
 -- ---- what is ready
-
-weaker : {A : Type 0} (p q : A → Bool) → ((x : A) → p x ≡ true → q x ≡ true) → (xs : List A) → list_all p xs ≡ true → list_all q xs ≡ true
-weaker p q h [] e = refl
-weaker p q h (x ∷ xs) e = ap (λ b. b && list_all q xs) (h x (both _ _ e).0) ∙ weaker p q h xs (both _ _ e).1
 
 module _ (d : Document) (ws : List (Option Measured)) (n j : ℕ) (so : IsProgress d ws n j) (e : Name × Flow) where
   -- a flow that nests less deep is measured
@@ -180,7 +172,7 @@ module _ (d : Document) (ws : List (Option Measured)) (n j : ℕ) (so : IsProgre
       record {
         formed = entries-passes is_flow d.flows j f (all-pass is_flow 1 256 d.flows flows) at;
         fitting = passes (λ (g : Name × Flow). list_all (λ s. has_fitting s.1) g.1.steps) d.flows j f prepared.fitting at;
-        opening = weaker (λ (s : Name × Step). list_all (opens_lower d (flow_nesting d f.0)) s.1.activities) (λ (s : Name × Step). step_opens d ws s.1) (λ s h. weaker (opens_lower d (flow_nesting d f.0)) (opens_measured d ws) (λ a p. lower-measured a (subst (λ m. opens_lower d m a ≡ true) level p)) s.1.activities h) f.1.steps low;
+        opening = all-weaken (λ (s : Name × Step). list_all (opens_lower d (flow_nesting d f.0)) s.1.activities) (λ (s : Name × Step). step_opens d ws s.1) (λ s h. all-weaken (opens_lower d (flow_nesting d f.0)) (opens_measured d ws) (λ a p. lower-measured a (subst (λ m. opens_lower d m a ≡ true) level p)) s.1.activities h) f.1.steps low;
       }
 
 pub orders-at : (fs : List (Name × Flow)) (os : List (Vec ℕ Global)) (j : ℕ) (f : Name × Flow) (o : Vec ℕ Global) → AreOrders fs os → slice_get fs j ≡ Some f → slice_get os j ≡ Some o → AreAt f.1.steps o.items (ranked f.1.steps)
@@ -198,19 +190,12 @@ orders-length [] (o ∷ os) h = absurd h
 orders-length (f ∷ fs) [] h = absurd h
 orders-length (f ∷ fs) (o ∷ os) h = ap suc (orders-length fs os h.1)
 
-long-map : {A B : Type 0} (g : A → B) (xs : List A) → length (map g xs) ≡ length xs
-long-map g [] = refl
-long-map g (x ∷ xs) = ap suc (long-map g xs)
-
 module _ (d : Document) (orders : List (Vec ℕ Global)) (ns : List ℕ) (prepared : IsPrepared d orders ns) where
   pub nestings-length : length ns ≡ length d.flows
-  nestings-length = ap length prepared.nestings_are ∙ long-map (λ (f : Name × Flow). flow_nesting d f.0) d.flows
+  nestings-length = ap length prepared.nestings_are ∙ length-map d.flows (λ (f : Name × Flow). flow_nesting d f.0)
 
   pub nesting-is : (j : ℕ) (f : Name × Flow) → slice_get d.flows j ≡ Some f → get_or ns j 0 ≡ flow_nesting d f.0
   nesting-is j f e =
-      let lt : j < length ns = omega (arith, below d.flows j f e, nestings-length) in
+      let lt : j < length ns = omega (arith, slice_get_within d.flows j f e, nestings-length) in
       let p : Some (get_or ns j 0) ≡ Some (flow_nesting d f.0) = sym (slice_get-get_or ns j 0 lt) ∙ (ap (λ xs. slice_get xs j) prepared.nestings_are ∙ get-map (λ (g : Name × Flow). flow_nesting d g.0) d.flows j f e) in
       cc
-
-pub not-same : (a b : ℕ) → (a ≡ b → ⊥) → (a == b) ≡ false
-not-same a b h = grind (arith, nat_tests)

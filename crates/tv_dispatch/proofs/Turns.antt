@@ -1,8 +1,8 @@
 -- What is left of the list of turns after an attempt.
-use Rattle.std.specs.Prelude.{◌≡◌, ℕ, zero, suc, ◌+◌, ◌-◌, ◌≤◌, ◌<◌, ◌≢◌, ◌⊎◌, List, [], ◌∷◌, ◌++◌, map, drop, refl, Bool, true, false, ◌&&◌, ◌==◌, if◌then◌else◌, Some}
+use Rattle.std.specs.Prelude.{◌≡◌, ℕ, zero, suc, ◌+◌, ◌-◌, ◌≤◌, ◌<◌, ◌≢◌, ◌⊎◌, List, [], ◌∷◌, ◌++◌, map, drop, refl, true, false, ◌&&◌, ◌==◌, Some}
 use Rattle.std.specs.List.{range_with_len, slice_get}
 use Rattle.std.proofs.Common.{arith, ap, ◌∙◌, inl, inr}
-use Rattle.std.proofs.lemmas.Bool.{eq-eqb}
+use Rattle.std.proofs.lemmas.Bool.{eq-eqb, cond-true, cond-false}
 use Rattle.std.proofs.lemmas.Bool.Decides.{eqb_tells}
 use Rattle.tv_dispatch.specs.declared.plan.Kind.{Kind}
 use Rattle.tv_dispatch.specs.declared.plan.Kind.TheVariants.{Service, Nested}
@@ -16,12 +16,6 @@ attempts k n m = map (asks k) (range_with_len n m)
 abbrev pub rest : ℕ → List Kind → ℕ → ℕ → List Turn
 rest retries ks k n = attempts k (n + 1) (retries - n) ++ turns retries (k + 1) (drop (k + 1) ks)
 
-pub taken_if : {A : Type 0} (b : Bool) (x y : A) → b ≡ true → (if b then x else y) ≡ x
-taken_if b x y e = ap (λ c. if c then x else y) e
-
-pub left_if : {A : Type 0} (b : Bool) (x y : A) → b ≡ false → (if b then x else y) ≡ y
-left_if b x y e = ap (λ c. if c then x else y) e
-
 other : (m n : ℕ) → m < n → (m == n) ≡ false
 other m n h = by (eqb_tells m n)
   where
@@ -33,7 +27,7 @@ other m n h = by (eqb_tells m n)
 past_block : (k n j a m : ℕ) (ts : List Turn) → (j == k) ≡ false → left_after k n (attempts j a m ++ ts) ≡ left_after k n ts
 past_block k n j a zero ts e = refl
 past_block k n j a (suc m) ts e =
-    left_if (j == k && a == n) (attempts j (a + 1) m ++ ts) (left_after k n (attempts j (a + 1) m ++ ts)) (ap (λ b. b && a == n) e)
+    cond-false (j == k && a == n) (attempts j (a + 1) m ++ ts) (left_after k n (attempts j (a + 1) m ++ ts)) (ap (λ b. b && a == n) e)
     ∙ past_block k n j (a + 1) m ts e
 
 -- of the attempts at this activity those from the next on are left
@@ -53,10 +47,10 @@ in_block k n a (suc m) d ts h e = by (eqb_tells a n) (λ p q. in_block k n (a + 
     by : ((a == n) ≡ true) × (a ≡ n) ⊎ ((a == n) ≡ false) × (a ≢ n) → (a + 1 ≤ n → n + 1 + d ≡ a + 1 + m → left_after k n later ≡ attempts k (n + 1) d ++ ts) → left_after k n (attempts k a (suc m) ++ ts) ≡ attempts k (n + 1) d ++ ts
     by (inl q) more =
         let same : m ≡ d = omega (arith, q.1) in
-        taken_if (k == k && a == n) later (left_after k n later) (here ∙ q.0)
+        cond-true (k == k && a == n) later (left_after k n later) (here ∙ q.0)
         ∙ ap (λ i. attempts k (i + 1) m ++ ts) q.1
         ∙ ap (λ i. attempts k (n + 1) i ++ ts) same
-    by (inr q) more = left_if (k == k && a == n) later (left_after k n later) (here ∙ q.0) ∙ more (omega (arith, q.1)) (omega arith)
+    by (inr q) more = cond-false (k == k && a == n) later (left_after k n later) (here ∙ q.0) ∙ more (omega (arith, q.1)) (omega arith)
 
 -- what is left after attempt n at a service, the activities numbered from j
 left_from : (retries j i n k : ℕ) (ks : List Kind) → slice_get ks i ≡ Some Service → n ≤ retries → k ≡ j + i → left_after k n (turns retries j ks) ≡ attempts k (n + 1) (retries - n) ++ turns retries (k + 1) (drop (suc i) ks)

@@ -5,6 +5,7 @@ use Rattle.std.proofs.Common.{sym, ap, ap₂, subst, ◌∙◌, inl, inr}
 use Rattle.std.proofs.Math.Path.{fun_ext}
 use Rattle.std.proofs.lemmas.Bool.{and_parts, true≢false}
 use Rattle.std.proofs.lemmas.Option.{same_Some}
+use Rattle.std.proofs.lemmas.Simd.{map-map}
 use Rattle.tv_value.specs.Nested.{leaf, list, Place, at, nodes}
 use Rattle.tv_value.specs.Orders.{named, same_name}
 use Rattle.tv_value.specs.Values.{Name, Value}
@@ -24,7 +25,7 @@ use Rattle.tv_depths.specs.Delivered.{Ported}
 use Rattle.tv_depths.specs.Steps.{bound_values, port_iteration, port_mismatch, strategy_of}
 use Rattle.tv_matching.specs.Members.{In}
 use Rattle.tv_matching.specs.Told.{Spot}
-use Rattle.tv_matching.proofs.Lists.{map-both, map-same}
+use Rattle.tv_matching.proofs.Lists.{map-same}
 use Rattle.tv_matching.proofs.OfMembers.{each-from, each-in, of-flat}
 use Rattle.tv_model.specs.Agreeing.{FindThemselves}
 use Rattle.tv_model.proofs.OfDepths.{taken_by}
@@ -101,13 +102,13 @@ bound-list b value place (i ∷ is) h =
     ap (λ o. map {B = Option Traced} (λ w. Some w) (cons_option o (filter_map (λ (j : Name × StepInput). named j.0 b) is))) h.0.1
     ∙ ap₂ (λ a l. a ∷ l) (sym h.0.2) (bound-list b value place is h.1)
 
-each-both : (p : Name × StepInput → Bool) (P : Name × StepInput → Type 0) (Q : Name × StepInput → Type 0) (is : List (Name × StepInput)) → ((i : Name × StepInput) → p i ≡ true → P i → Q i) → list_all p is ≡ true → Each P is → Each Q is
+pub each-both : (p : Name × StepInput → Bool) (P : Name × StepInput → Type 0) (Q : Name × StepInput → Type 0) (is : List (Name × StepInput)) → ((i : Name × StepInput) → p i ≡ true → P i → Q i) → list_all p is ≡ true → Each P is → Each Q is
 each-both p P Q [] f h k = tt
 each-both p P Q (i ∷ is) f h k =
     let e = and_parts (p i) (list_all p is) h in
     (f i e.0 k.0, each-both p P Q is f e.1 k.1)
 
-each-finds : (all is : List (Name × StepInput)) → FindThemselves all is → Each (λ (i : Name × StepInput). named i.0 all ≡ Some i.1) is
+pub each-finds : (all is : List (Name × StepInput)) → FindThemselves all is → Each (λ (i : Name × StepInput). named i.0 all ≡ Some i.1) is
 each-finds all [] h = tt
 each-finds all (i ∷ is) h = (h.0, each-finds all is h.1)
 
@@ -148,14 +149,14 @@ module _ (flow : Flow) (s : Name × Step) (f : InstanceStep) (made : IsMadeOf fl
     -- the bound values are what stands at the parts of the place
     pub binds-parts : StandAtParts flow s.1 f q (map plain (bound_values s.1 b))
     binds-parts =
-        map-both {B = Value} (λ v. Some v) plain (bound_values s.1 b)
-        ∙ sym (map-both (option_map plain) (λ (w : Traced). Some w) (bound_values s.1 b))
+        map-map {B = Value} (λ v. Some v) plain (bound_values s.1 b)
+        ∙ sym (map-map (option_map plain) (λ (w : Traced). Some w) (bound_values s.1 b))
         ∙ ap (map (option_map plain)) (bound-list b (λ (j : StepInput). (made.ports j).value) (place_of (parts q)) s.1.inputs
         (each-both (λ (i : Name × StepInput). list_any (same_name i.0) (leaf_names (strategy_of s.1))) (λ (i : Name × StepInput). named i.0 s.1.inputs ≡ Some i.1) (Binds b (λ (j : StepInput). (made.ports j).value) (place_of (parts q))) s.1.inputs one-binds made.bound (each-finds s.1.inputs s.1.inputs made.once)))
-        ∙ map-both (option_map plain) (λ (i : Name × StepInput). at (made.ports i.1).value (place_of (parts q) i.0)) s.1.inputs
+        ∙ map-map (option_map plain) (λ (i : Name × StepInput). at (made.ports i.1).value (place_of (parts q) i.0)) s.1.inputs
         ∙ map-same (λ (i : Name × StepInput). option_map plain (at (made.ports i.1).value (place_of (parts q) i.0))) (λ (i : Name × StepInput). at (plain (made.ports i.1).value) (part_of_port flow s.1 q i.0))
         (λ i. sym (at-plain (place_of (parts q) i.0) (made.ports i.1).value) ∙ ap (λ (m : Name → ℕ). at (plain (made.ports i.1).value) (place_of (split m (strategy_of s.1) q) i.0)) (sym (fun_ext made.numbers))) s.1.inputs
-        ∙ sym (map-both (λ (d : Name × Ported). at (plain d.1.value) (part_of_port flow s.1 q d.0)) (λ (i : Name × StepInput). (i.0, made.ports i.1)) s.1.inputs)
+        ∙ sym (map-map (λ (d : Name × Ported). at (plain d.1.value) (part_of_port flow s.1 q d.0)) (λ (i : Name × StepInput). (i.0, made.ports i.1)) s.1.inputs)
         ∙ ap (map (λ (d : Name × Ported). at (plain d.1.value) (part_of_port flow s.1 q d.0))) (sym made.inputs)
 
   -- ---- the jobs of the step

@@ -2,6 +2,8 @@
 use Rattle.std.specs.Prelude.{◌≡◌, refl, ℕ, ◌+◌, Bool, true, flat_map, List, [], ◌∷◌, ◌++◌, map, IsPermutation}
 use Rattle.std.proofs.Common.{arith, sym, ap, ap₂, subst, ◌∙◌}
 use Rattle.std.proofs.lemmas.List.Sorted.{IsPermutation-sym, IsPermutation-trans, IsPermutation-map}
+use Rattle.std.proofs.lemmas.List.{map-append}
+use Rattle.std.proofs.lemmas.List.Folds.{flat_map-map}
 use Rattle.tv_value.specs.Nested.{Place}
 use Rattle.tv_value.specs.Values.{Name}
 use Rattle.tv_flow.specs.Flows.{Flow, Step}
@@ -13,7 +15,7 @@ use Rattle.tv_matching.specs.Items.{Bound, Item, Kind, Stopped, closes, ends, it
 use Rattle.tv_matching.specs.Matchers.{Outcome, fault_at, job_at, list_at}
 use Rattle.tv_matching.specs.Members.{In}
 use Rattle.tv_matching.proofs.FromScratch.{WalkItem}
-use Rattle.tv_matching.proofs.Lists.{flat-append, flat-map, flat-same, map-append}
+use Rattle.tv_matching.proofs.Lists.{flat-append, flat-same}
 use Rattle.tv_matching.proofs.OfMembers.{each-in, in-map, in-permutes}
 use Rattle.tv_matching.proofs.Permutes.{flat-permutes, perm-from}
 use Rattle.tv_drawn.specs.Sorting as sorting
@@ -53,7 +55,7 @@ module _ {X F : Type 0} where
   end_places xs = flat_map (λ x. job_place (standing x)) xs
 
   places-standing : (xs : List (Item X F)) → flat_map job_place (map standing xs) ≡ end_places xs
-  places-standing xs = flat-map job_place standing xs
+  places-standing xs = flat_map-map job_place standing xs
 
 -- what stands as these outcomes has its jobs at their places
 pub ends-permute : {X F : Type 0} (os : List Outcome) (xs : List (Item X F)) → IsPermutation (map unnamed os) (map standing xs) → IsPermutation (end_places xs) (sorting.job_places os)
@@ -108,13 +110,13 @@ module _ (flow : Flow) (fs : List InstanceStep) (w : ArePaired flow fs flow.step
   pub all-steps : IsPermutation (flat_map (λ (f : InstanceStep). flat_map (job_places f.step.step) (items f)) fs) (all_jobs flow os)
   all-steps =
       IsPermutation-trans _ _ _
-      (perm-from _ _ (ap (flat_map (λ (f : InstanceStep). flat_map (job_places f.step.step) (items f))) (sym w.steps) ∙ flat-map (λ (f : InstanceStep). flat_map (job_places f.step.step) (items f)) (λ (x : Pair). x.1) w.pairs))
+      (perm-from _ _ (ap (flat_map (λ (f : InstanceStep). flat_map (job_places f.step.step) (items f))) (sym w.steps) ∙ flat_map-map (λ (f : InstanceStep). flat_map (job_places f.step.step) (items f)) (λ (x : Pair). x.1) w.pairs))
       (IsPermutation-trans _ _ _ (flat-permuted (λ (x : Pair). flat_map (job_places x.1.step.step) (items x.1)) of_pair w.pairs one-pair)
-      (IsPermutation-trans _ _ _ (perm-from _ _ (sym (flat-map of_step (λ (x : Pair). x.0) w.pairs)))
+      (IsPermutation-trans _ _ _ (perm-from _ _ (sym (flat_map-map of_step (λ (x : Pair). x.0) w.pairs)))
       (IsPermutation-trans _ _ _ (flat-permutes of_step (map (λ (x : Pair). x.0) w.pairs) flow.steps w.names)
       (perm-from _ _
       (flat-same of_step (λ (s : Name × Step). jobs_of s.0 (os (0 + position s.0 flow.steps))) (λ s. ap (λ n. jobs_of s.0 (os n)) (from_zero (position s.0 flow.steps))) flow.steps
-      ∙ sym (flat-map (λ (x : ℕ × (Name × Step)). jobs_of x.1.0 (os x.0)) (λ (s : Name × Step). (0 + position s.0 flow.steps, s)) flow.steps)
+      ∙ sym (flat_map-map (λ (x : ℕ × (Name × Step)). jobs_of x.1.0 (os x.0)) (λ (s : Name × Step). (0 + position s.0 flow.steps, s)) flow.steps)
       ∙ ap (flat_map (λ (x : ℕ × (Name × Step)). jobs_of x.1.0 (os x.0))) (sym (numbered-by_position 0 flow.steps apart)))))))
     where
       from_zero : (n : ℕ) → n ≡ 0 + n

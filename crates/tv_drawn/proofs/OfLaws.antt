@@ -32,7 +32,7 @@ use Rattle.tv_instance.specs.Events.{Event, Events, Extends, known_by}
 use Rattle.tv_instance.specs.Legality.{AreLegal}
 use Rattle.tv_model.specs.RightDepths.{HaveTheseDepths}
 use Rattle.tv_framing.proofs.OfArriving.{extends-parts}
-use Rattle.tv_framing.proofs.OfFrames.{frame-comes, in-finds, steps-distinct}
+use Rattle.tv_framing.proofs.OfFrames.{frame-comes, in-finds, steps-distinct, after-more}
 use Rattle.tv_framing.proofs.OfPossible.{some-possible}
 use Rattle.tv_framing.specs.Answers.{AreInputsOf}
 use Rattle.tv_framing.specs.Frames.{new_jobs, with_event}
@@ -49,7 +49,7 @@ use Rattle.tv_drawn.proofs.OfRanks.{at-in, in-at, one-named, position-at_number,
 use Rattle.tv_drawn.proofs.OfSettling.{event-step, fault-legal, list-legal, none-legal}
 use Rattle.tv_drawn.proofs.OfSteps.{ArePaired, IsMadeOf, made-of, made-step, rising, steps-paired, there-is}
 use Rattle.tv_drawn.proofs.OfTelling.{all-tell, fit-of_level, in-told}
-use Rattle.tv_drawn.proofs.OfWaiting.{IsUntold, after-more, all-wait, brought-untold, left-waits, outcomes-once, taking-leaves, waiting-permutes, waits-more}
+use Rattle.tv_drawn.proofs.OfWaiting.{IsUntold, all-wait, brought-untold, left-waits, outcomes-once, taking-leaves, waiting-permutes, waits-more}
 
 -- ---- the steps of an instance
 

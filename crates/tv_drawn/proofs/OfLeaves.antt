@@ -207,7 +207,7 @@ module _ (mismatch : Name → ℕ) (ts : List Told) (s : Strategy) (leveled : (p
 
 -- ---- the part of a leaf
 
-each-once : (ns ms : List Name) → EachOnce ns ms → (p : Name) → In p ns → times p ms ≡ 1
+pub each-once : (ns ms : List Name) → EachOnce ns ms → (p : Name) → In p ns → times p ms ≡ 1
 each-once [] ms e p i = absurd i
 each-once (n ∷ ns) ms e p (inl h) = ap (λ m. times m ms) h ∙ e.0
 each-once (n ∷ ns) ms e p (inr h) = each-once ns ms e.1 p h

@@ -4,6 +4,7 @@ use Rattle.std.proofs.Common.{sym, ap, ap₂, subst, ◌∙◌, inl, inr}
 use Rattle.std.proofs.Math.Path.{fun_ext}
 use Rattle.std.proofs.lemmas.List.Sorted.{IsPermutation-sym, IsPermutation-trans, IsPermutation-map}
 use Rattle.std.proofs.lemmas.Option.{none-some, same_Some}
+use Rattle.std.proofs.lemmas.Simd.{map-map}
 use Rattle.tv_value.specs.Nested.{leaf, list, Place, at, item_at}
 use Rattle.tv_value.specs.Orders.{named, same_name}
 use Rattle.tv_value.specs.Strategies.{Strategy}
@@ -28,7 +29,7 @@ use Rattle.tv_matching.specs.Members.{In, Once}
 use Rattle.tv_matching.specs.Told.{Spot, Told, arrival, bound_there, close, faulty, map_kind, matched_after, seen, stop_of, stop_there, telling, told_leaf, told_to}
 use Rattle.tv_matching.proofs.FromScratch.{iteration-known}
 use Rattle.tv_matching.proofs.Heard.{walk-comes}
-use Rattle.tv_matching.proofs.Lists.{map-both, map-same}
+use Rattle.tv_matching.proofs.Lists.{map-same}
 use Rattle.tv_matching.proofs.Natural.{matched-maps}
 use Rattle.tv_matching.proofs.OfMatchers.{PassesHave, matched-have}
 use Rattle.tv_matching.proofs.OfMembers.{each-from, each-in, in-map, in-permutes, of-map}
@@ -45,7 +46,7 @@ use Rattle.tv_drawn.proofs.OfTelling.{seen-leveled, seen-once}
 -- ---- places and kinds
 
 standing-seen : (values : Name → Traced) (xs : List (Item Spot Spot)) → map standing (map (seen values) xs) ≡ map standing xs
-standing-seen values xs = map-both standing (seen values) xs ∙ map-same (λ (x : Item Spot Spot). standing (seen values x)) standing (λ x. by x.place x.kind) xs
+standing-seen values xs = map-map standing (seen values) xs ∙ map-same (λ (x : Item Spot Spot). standing (seen values x)) standing (λ x. by x.place x.kind) xs
   where
     by : (q : Place) (k : Kind Spot Spot) → standing_kind q (map_kind (bound_there values) (stop_there values) k) ≡ standing_kind q k
     by q (ends b) = refl
@@ -53,7 +54,7 @@ standing-seen values xs = map-both standing (seen values) xs ∙ map-same (λ (x
     by q (passes r) = refl
 
 unnamed-out : (s : Strategy) (xs : List (Item Spot Spot)) → map unnamed (map (out s) xs) ≡ map standing xs
-unnamed-out s xs = map-both unnamed (out s) xs ∙ map-same (λ (x : Item Spot Spot). unnamed (out s x)) standing (λ x. by x.place x.kind) xs
+unnamed-out s xs = map-map unnamed (out s) xs ∙ map-same (λ (x : Item Spot Spot). unnamed (out s x)) standing (λ x. by x.place x.kind) xs
   where
     by : (q : Place) (k : Kind Spot Spot) → unnamed (kind_out s q k) ≡ standing_kind q k
     by q (ends b) = refl
@@ -62,7 +63,7 @@ unnamed-out s xs = map-both unnamed (out s) xs ∙ map-same (λ (x : Item Spot S
 
 -- ---- values
 
-named-in : {A : Type 0} (p : Name) (xs : List (Name × A)) (a : A) → named p xs ≡ Some a → In (p, a) xs
+pub named-in : {A : Type 0} (p : Name) (xs : List (Name × A)) (a : A) → named p xs ≡ Some a → In (p, a) xs
 named-in p [] a e = absurd (none-some a e)
 named-in {A} p (x ∷ xs) a e = by (same_name p x.0) refl e (named-in p xs a)
   where

@@ -7,18 +7,21 @@ use Rattle.std.proofs.Common.{arith, sym, ap, ap₂, subst, ◌∙◌, inl, inr}
 use Rattle.std.proofs.lemmas.Bool.{and_parts, true≢false}
 use Rattle.std.proofs.lemmas.List.Sorted.{IsPermutation-refl, IsPermutation-sym, IsPermutation-trans, IsPermutation-cons, IsPermutation-middle, length_permutation}
 use Rattle.std.proofs.lemmas.Option.{none-some, same_Some}
+use Rattle.tv_lemmas.proofs.Orderings.{is_lt-less as less}
 use Rattle.tv_value.specs.Orders.{name_cmp, same_name}
 use Rattle.tv_value.specs.Values.{Name}
+use Rattle.tv_value.proofs.OfNames.{same_name-refl}
 use Rattle.tv_flow.specs.Flows.{Step}
 use Rattle.tv_flow.specs.Formed.{is_ascending}
 use Rattle.tv_strategy.specs.Sources.{Each}
 use Rattle.tv_naming.specs.Naming.{numbered}
 use Rattle.tv_naming.specs.Numbers.{position}
-use Rattle.tv_naming.proofs.ByPosition.{below-differs, less, names_of, same_name-refl, same_name-sym}
+use Rattle.tv_naming.proofs.ByPosition.{below-differs, names_of, same_name-sym}
 use Rattle.tv_depths.specs.Ranks.{by_rank, earlier_steps, is_among, ranked}
 use Rattle.tv_matching.specs.Members.{In}
 use Rattle.tv_matching.proofs.Lists.{each-weaken}
 use Rattle.tv_matching.proofs.OfMembers.{each-in}
+use Rattle.tv_matching.proofs.OfMatchers.{map-each}
 
 -- ---- names that differ
 
@@ -145,10 +148,6 @@ pub in-at : {A : Type 0} (x : A) (xs : List A) → In x xs → (n : ℕ) × (sli
 in-at x [] h = absurd h
 in-at x (y ∷ xs) (inl e) = (0, ap (λ z. Some z) (sym e))
 in-at x (y ∷ xs) (inr h) = let r = in-at x xs h in (suc r.0, r.1)
-
-map-each : {A B : Type 0} (f g : A → B) (xs : List A) → Each (λ x. f x ≡ g x) xs → map f xs ≡ map g xs
-map-each f g [] h = refl
-map-each f g (x ∷ xs) h = ap₂ (λ a b. a ∷ b) h.0 (map-each f g xs h.1)
 
 -- the number of each is the position of its name
 pub numbered-by_position : (k : ℕ) (ss : List (Name × Step)) → AreApart ss → numbered k ss ≡ map (λ (s : Name × Step). (k + position s.0 ss, s)) ss

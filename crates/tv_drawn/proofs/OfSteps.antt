@@ -35,7 +35,7 @@ use Rattle.tv_model.proofs.OfDepths.{Takes, taken_by}
 use Rattle.tv_drawn.proofs.Settled.{Feeds, none-feed, ports-settled}
 use Rattle.tv_instance.specs.ByResults.{InstanceStep, Results, jobs_at_node, outputs_by, ports_on, result_at, step_by, step_of, steps_by}
 use Rattle.tv_instance.specs.OwnDepths.{AllJobsGive}
-use Rattle.tv_instances.proofs.InDepth.{as_made, forgotten, step-right}
+use Rattle.tv_instances.proofs.InDepth.{as_made, forgotten, step-right, steps-all, right-all}
 use Rattle.tv_instances.proofs.OfResults.{feed-map, itself}
 use Rattle.tv_framing.specs.Views.{AreOfDepth, View, steps_with}
 use Rattle.tv_drawn.specs.Steps.{IsOfRankedFlow}
@@ -98,7 +98,7 @@ all-in test (n ∷ ns) h p (inl e) = ap test e ∙ (and_parts (test n) (list_all
 all-in test (n ∷ ns) h p (inr i) = all-in test ns ((and_parts (test n) (list_all test ns) h).1) p i
 
 -- the number of a port by the depths of the flow
-number-is : (flow : Flow) (is : List (Name × StepInput)) (p : Name) → unwrap_or (named p (map (λ (i : Name × StepInput). (i.0, levels_of flow i.1)) is)) 0 ≡ option_map_or (λ (i : StepInput). feed_depth flow.inputs (flow_depths flow) i.from - i.depth) (named p is) 0
+pub number-is : (flow : Flow) (is : List (Name × StepInput)) (p : Name) → unwrap_or (named p (map (λ (i : Name × StepInput). (i.0, levels_of flow i.1)) is)) 0 ≡ option_map_or (λ (i : StepInput). feed_depth flow.inputs (flow_depths flow) i.from - i.depth) (named p is) 0
 number-is flow [] p = refl
 number-is flow (i ∷ is) p = by (same_name p i.0) (number-is flow is p)
   where
@@ -107,14 +107,6 @@ number-is flow (i ∷ is) p = by (same_name p i.0) (number-is flow is p)
     by false h = h
 
 -- ---- one step after those of less rank
-
-steps-same : (fs : List InstanceStep) → map step_in (map as_made fs) ≡ map step_of fs
-steps-same [] = refl
-steps-same (f ∷ fs) = ap (λ l. f.step ∷ l) (steps-same fs)
-
-made-right : (fs : List InstanceStep) → Each (λ (f : InstanceStep). AreRight f.step.outputs) fs → Each (λ (m : Made). AreRight m.step.outputs) (map as_made fs)
-made-right [] h = tt
-made-right (f ∷ fs) h = (h.0, made-right fs h.1)
 
 measured-outputs : (instance : JobName) (n : Name) (made : ℕ → Place → Value) (levels : ℕ) (it : Iteration) (k : ℕ) (ps : List (Name × ℕ)) → depths_of (outputs_by instance n made levels it k ps) ≡ map (λ (p : Name × ℕ). (p.0, levels + p.1)) ps
 measured-outputs instance n made levels it k [] = refl
@@ -129,11 +121,11 @@ module _ (flows : List (Name × Flow)) (flow : Flow) (instance : JobName) (resul
     taken = feed_delivers step_of given fs
 
     fed : feed_value given ms ≡ taken
-    fed = λ i d. (feed-map step_in given ms d ∙ ap (λ l. feed_delivers itself given l d) (steps-same fs) ∙ sym (feed-map step_of given fs d)) i
+    fed = λ i d. (feed-map step_in given ms d ∙ ap (λ l. feed_delivers itself given l d) (steps-all fs) ∙ sym (feed-map step_of given fs d)) i
 
     takes-each : (is : List (Name × StepInput)) → InputsAgree (depths_of given) (map forget ms) is → Each (Takes (λ (i : StepInput). ported i.depth (feed_value given ms i.from))) is
     takes-each [] h = tt
-    takes-each (i ∷ is) h = (ported-depth i.1.depth (feed_value given ms i.1.from) (feed-right given right ms (made-right fs fs_right) i.1.from h.0), takes-each is h.1)
+    takes-each (i ∷ is) h = (ported-depth i.1.depth (feed_value given ms i.1.from) (feed-right given right ms (right-all fs fs_right) i.1.from h.0), takes-each is h.1)
 
     module _ (n : Name) (s : Step) (agree : StepAgrees flows (depths_of given) (map forget ms) s) where
       abbrev new : InstanceStep

@@ -1,8 +1,9 @@
 -- What a port is told fits the levels that it walks, and no place of it is told twice.
 use Rattle.std.specs.Prelude.{◌≡◌, refl, ℕ, zero, suc, ◌+◌, ◌≤◌, ◌<◌, Bool, true, false, flat_map, List, [], ◌∷◌, ◌++◌, length, map, IsPermutation}
 use Rattle.std.proofs.Common.{arith, sym, ap, subst, ◌∙◌, append_assoc, inl, length-append}
-use Rattle.std.proofs.lemmas.List.{length-map}
+use Rattle.std.proofs.lemmas.List.{length-map, map-append}
 use Rattle.std.proofs.lemmas.List.Sorted.{IsPermutation-sym}
+use Rattle.std.proofs.lemmas.List.Folds.{flat_map-map}
 use Rattle.tv_value.specs.Nested.{leaf, list, no_trees, tree, Place, count}
 use Rattle.tv_value.specs.Orders.{same_name}
 use Rattle.tv_value.specs.Values.{Name}
@@ -13,6 +14,7 @@ use Rattle.tv_strategy.specs.Origins.{Origin, Traced}
 use Rattle.tv_strategy.specs.Sources.{Each}
 use Rattle.tv_strategy.specs.Splits.{same_place}
 use Rattle.tv_strategy.proofs.OfPlaces.{same-itself}
+use Rattle.tv_strategy.proofs.OfSources.{each-append}
 use Rattle.tv_matching.specs.Items.{Bound, Item, Kind, Stopped, all_known, closes, end_kind, ends, here, if_so, known_from, known_items, passes, within}
 use Rattle.tv_matching.specs.Levels.{AreLeveled, KindAt}
 use Rattle.tv_matching.specs.Matchers.{CanTellAll, Matching}
@@ -20,9 +22,10 @@ use Rattle.tv_matching.specs.Members.{In, Once, at_place}
 use Rattle.tv_matching.specs.Tellings.{Telling}
 use Rattle.tv_matching.specs.Told.{IsFit, IsNew, Spot, Told, arrival, bound_there, close, faulty, map_kind, seen, stop_there, telling, tellings, told_kind, told_leaf, told_place, told_to}
 use Rattle.tv_matching.proofs.Gains.{told-append}
-use Rattle.tv_matching.proofs.Lists.{each-append, each-if, each-map, each-weaken, flat-append, flat-map, flat-same, map-append, map-flat, map-if}
+use Rattle.tv_matching.proofs.Lists.{each-if, each-map, each-weaken, flat-append, flat-same, map-flat, map-if}
 use Rattle.tv_matching.proofs.OfMembers.{each-from, each-in, each-permutes, in-flat, in-if, in-map}
 use Rattle.tv_matching.proofs.Onces.{known-once, once-permutes}
+use Rattle.tv_matching.proofs.Heard.{some-long}
 
 -- ---- known items stand at the levels of their iteration
 
@@ -75,7 +78,7 @@ seen-level f g d q (passes e) h = h
 module _ (values : Name → Traced) where
   at-seen : (q : Place) (xs : List (Item Spot Spot)) → at_place q (map (seen values) xs) ≡ map (seen values) (at_place q xs)
   at-seen q xs =
-      flat-map (λ x. if_so (same_place q x.place) x) (seen values) xs
+      flat_map-map (λ x. if_so (same_place q x.place) x) (seen values) xs
       ∙ flat-same (λ x. if_so (same_place q x.place) (seen values x)) (λ x. map (seen values) (if_so (same_place q x.place) x)) (λ x. sym (map-if (seen values) (same_place q x.place) x)) xs
       ∙ sym (map-flat (seen values) (λ x. if_so (same_place q x.place) x) xs)
 
@@ -106,10 +109,6 @@ fit-of_level mismatch (arrival p q false) h = h
 fit-of_level mismatch (arrival p q true) h = h
 fit-of_level mismatch (faulty p q) h = h
 fit-of_level mismatch (close p q n) h = h
-
-some-long : {A : Type 0} (x : A) (xs : List A) → In x xs → 1 ≤ length xs
-some-long x [] h = absurd h
-some-long x (y ∷ xs) h = omega arith
 
 -- nothing of the place was told before, where it isn't told twice
 new-of_once : (ts : List Told) (t : Told) (rest : List Told) → Once (told_to (ts ++ t ∷ rest) (told_leaf t)) → IsNew ts t

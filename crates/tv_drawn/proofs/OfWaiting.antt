@@ -2,13 +2,13 @@
 use Rattle.std.specs.List.{sum_by}
 use Rattle.std.specs.Prelude.{◌≡◌, refl, ℕ, ◌+◌, ◌≤◌, ◌&&◌, ◌||◌, Bool, true, false, cond, not, filter, if◌then◌else◌, flat_map, List, [], ◌∷◌, ◌++◌, length, map, IsPermutation}
 use Rattle.std.proofs.Common.{arith, sym, ap, ap₂, subst, ◌∙◌, inl, inr, length-append}
-use Rattle.std.proofs.lemmas.Bool.{and_parts, or_right, true≢false}
+use Rattle.std.proofs.lemmas.Bool.{and_parts, true≢false}
 use Rattle.std.proofs.lemmas.List.Sorted.{IsPermutation-sym, IsPermutation-trans, IsPermutation-append_left, sum_by-IsPermutation}
 use Rattle.std.proofs.lemmas.List.Sums.{sum_by-append, sum_by-cons}
+use Rattle.std.proofs.lemmas.List.Elements.{filter-append}
 use Rattle.tv_value.specs.Nested.{Place}
 use Rattle.tv_value.specs.Orders.{same_name}
 use Rattle.tv_value.specs.Values.{JobName, Name}
-use Rattle.tv_strategy.specs.Origins.{Origin}
 use Rattle.tv_strategy.specs.Sources.{Each}
 use Rattle.tv_strategy.specs.Splits.{same_place}
 use Rattle.tv_strategy.proofs.OfPlaces.{same-equal, same-itself}
@@ -24,8 +24,7 @@ use Rattle.tv_instance.specs.Events as events
 use Rattle.tv_instance.specs.Events.{Event, Events, fault_set, gave, has_level, is_spot, known_by, levels_at, took}
 use Rattle.tv_instance.specs.Legality.{AreLegal, IsLegalNext}
 use Rattle.tv_instances.specs.InHistory.{Finds}
-use Rattle.tv_instances.proofs.OfEvents.{hits, one-more}
-use Rattle.tv_framing.proofs.OfFrames.{legal-known}
+use Rattle.tv_framing.proofs.OfFrames.{legal-known, after-more}
 use Rattle.tv_framing.proofs.OfPorts.{known-or_gained}
 use Rattle.tv_framing.specs.Gaining.{gained_items}
 use Rattle.tv_drawn.specs.Items.{standing, standing_kind, unnamed}
@@ -49,14 +48,6 @@ filter-permutes p xs ys h =
 filter-same : {A : Type 0} (p r : A → Bool) → ((x : A) → p x ≡ r x) → (xs : List A) → filter p xs ≡ filter r xs
 filter-same p r h [] = refl
 filter-same p r h (x ∷ xs) = ap (λ b. if b then x ∷ filter p xs else filter p xs) (h x) ∙ ap (λ l. if r x then x ∷ l else l) (filter-same p r h xs)
-
-filter-append : {A : Type 0} (p : A → Bool) (xs ys : List A) → filter p (xs ++ ys) ≡ filter p xs ++ filter p ys
-filter-append p [] ys = refl
-filter-append p (x ∷ xs) ys = by (p x) (filter-append p xs ys)
-  where
-    by : (b : Bool) → filter p (xs ++ ys) ≡ filter p xs ++ filter p ys → (if b then x ∷ filter p (xs ++ ys) else filter p (xs ++ ys)) ≡ (if b then x ∷ filter p xs else filter p xs) ++ filter p ys
-    by true e = ap (λ zs. x ∷ zs) e
-    by false e = e
 
 filter-filter : {A : Type 0} (p r : A → Bool) (xs : List A) → filter p (filter r xs) ≡ filter (λ x. p x && r x) xs
 filter-filter p r [] = refl
@@ -251,9 +242,6 @@ waits-more es e s os brought left h k =
     (perm-from _ _ (ap (λ l. waiting_of (e ∷ es) s os ++ l) (sym (untold-waits (e ∷ es) s brought k)) ∙ sym (filter-append (is_waiting (e ∷ es) s) os brought)))
 
 -- ---- of what was told something is known
-
-pub after-more : (instance : JobName) (e : Event) (es : Events) (o : Origin) → known_by instance es o ≡ true → known_by instance (e ∷ es) o ≡ true
-after-more instance e es o h = one-more instance e es o ∙ or_right (hits instance e o) (known_by instance es o) h
 
 module _ (instance : JobName) (fs : List InstanceStep) (f : InstanceStep) (self : Finds fs f) where
   abbrev pub KnownAt : Events → Place → Type 0

@@ -7,6 +7,8 @@ use Rattle.std.specs.Str.{all_ascii_digits}
 use Rattle.std.proofs.Common.{ap, append_assoc, arith, subst, sym, ◌∙◌}
 use Rattle.std.proofs.lemmas.Fmt.{decimal_nonempty, digits_decimal}
 use Rattle.std.proofs.lemmas.List.Splits.{join_with_byte-slice_split}
+use Rattle.std.proofs.lemmas.Bool.{and_parts}
+use Rattle.tv_lemmas.proofs.Numbers.{digits-model}
 use Rattle.tv_value.specs.Nested.{Place}
 use Rattle.tv_value.specs.Printed.{element_text}
 use Rattle.tv_value.specs.Values.{Name, Text}
@@ -15,13 +17,8 @@ use Rattle.tv_lineage.specs.Members.{Each}
 use Rattle.tv_elements.specs.Elements.{at_place, closed, element_of, index_of, indices_of, opened, place_of}
 use Rattle.tv_elements.specs.Stated.{IsElement, ReadsPrinted}
 use Rattle.tv_elements.proofs.OfBrackets.{Lacks, closed-at, closed-is, opened-at, opened-is}
-use Rattle.tv_elements.proofs.OfIndices.{index-decimal, index-is, own}
+use Rattle.tv_elements.proofs.OfIndices.{index-decimal, index-is}
 use Rattle.tv_elements.proofs.OfPlaces.{cut, parts, whole}
-
-both : (a b : Bool) → (a && b) ≡ true → (a ≡ true) × (b ≡ true)
-both true true e = (refl, refl)
-both true false e = absurd cc
-both false b e = absurd cc
 
 abbrev AreIndices : Place → Type 0
 AreIndices q = Each (λ i. i < 2 ^ 32) q
@@ -38,22 +35,22 @@ lacks test c (b ∷ bs) f h zero p = differs
   where
     differs : b ≢ c
     differs e =
-        let g : test b ≡ true = (both (test b) (list_all test bs) h).0 in
+        let g : test b ≡ true = (and_parts (test b) (list_all test bs) h).0 in
         let k : test c ≡ true = ap test (sym e) ∙ g in
         absurd cc
-lacks test c (b ∷ bs) f h (suc i) p = lacks test c bs f (both (test b) (list_all test bs) h).1 i (omega arith)
+lacks test c (b ∷ bs) f h (suc i) p = lacks test c bs f (and_parts (test b) (list_all test bs) h).1 i (omega arith)
 
 digits-all : (t : Text) → all_ascii_digits t ≡ true → list_all is_ascii_digit t ≡ true
 digits-all [] h = refl
 digits-all (b ∷ bs) h =
-    let p = both (is_ascii_digit b) (all_ascii_digits bs) h in
+    let p = and_parts (is_ascii_digit b) (all_ascii_digits bs) h in
     ap (λ v. v && list_all is_ascii_digit bs) p.0 ∙ digits-all bs p.1
 
 no-comma : (n : ℕ) → n < 2 ^ 32 → Lacks 44 (decimal n)
-no-comma n h = lacks is_ascii_digit 44 (decimal n) refl (digits-all (decimal n) (digits_decimal own n (omega (arith, h))))
+no-comma n h = lacks is_ascii_digit 44 (decimal n) refl (digits-all (decimal n) (digits_decimal digits-model n (omega (arith, h))))
 
 no-bracket : (n : Name) → is_name n ≡ true → Lacks 91 n
-no-bracket n h = lacks is_name_byte 91 n refl (both (nat_le 1 (length n) && nat_le (length n) 64) (list_all is_name_byte n) h).1
+no-bracket n h = lacks is_name_byte 91 n refl (and_parts (nat_le 1 (length n) && nat_le (length n) 64) (list_all is_name_byte n) h).1
 
 -- ---- places
 

@@ -3,11 +3,10 @@ use Rattle.std.specs.Prelude.{◌≡◌, ℕ, suc, ◌+◌, ◌-◌, ◌<◌, �
 use Rattle.std.specs.List.{list_all}
 use Rattle.std.proofs.Common.{arith, get_or, ap, sym, subst, ◌∙◌, inl, inr, append_assoc}
 use Rattle.std.proofs.Math.Seq.{drop-cons}
-use Rattle.std.proofs.lemmas.Bool.{cases_eq, eq-eqb, lt-ltb, ltb-true, ne_eqb}
+use Rattle.std.proofs.lemmas.Bool.{cases_eq, eq-eqb, lt-ltb, ltb-true, ne_eqb, and_parts, false_from_ne_true}
 use Rattle.std.proofs.lemmas.List.{append-nil, drop-append-le, get_or-set_other, get_or-set_same, length-append, length-set}
 use Rattle.std.proofs.lemmas.List.Folds.{list_all-append}
 use Rattle.std.proofs.lemmas.Grind.{flat_map-append}
-use Rattle.tv_naming.proofs.OfLists.{both}
 use Rattle.tv_endings.specs.declared.endings.Endings.{Endings}
 use Rattle.tv_endings.specs.Ends.{after_of, ended_now, has_ended, is_one_of, is_whole, AreTurned}
 use Rattle.tv_endings.specs.Counting.{to_lower, IsCounting}
@@ -106,10 +105,6 @@ pub record Lowers (e e2 : Endings) (d : ℕ) : Type 0 where
   pub room : vec_capacity e.fresh ≤ vec_capacity e2.fresh
   pub whole : e2.whole ≡ e.whole
   pub growing : e2.growing ≡ e.growing
-
-pub not-true : (b : Bool) → (b ≡ true → ⊥) → b ≡ false
-not-true true h = absurd (h refl)
-not-true false h = refl
 
 pub and-false : (a b : Bool) → b ≡ false → (a && b) ≡ false
 and-false true b h = h
@@ -254,7 +249,7 @@ module _ (after dependents : List (List ℕ)) (was : ℕ → Bool) (e e2 : Endin
       whole_each = whole-each;
       ended_each = ap length same-ended ∙ c.ended_each;
       left_each = left-each;
-      first_inside = (both (nat_lt d (length after)) (list_all (λ s. nat_lt s (length after)) first) c.first_inside).1;
+      first_inside = (and_parts (nat_lt d (length after)) (list_all (λ s. nat_lt s (length after)) first) c.first_inside).1;
       inside = ap (list_all (λ s. nat_lt s (length after))) same-fresh ∙ c.inside;
       room = let a = ap (count_by not) same-ended in let b = ap length same-fresh in let r = c.room in omega (arith, a, b, r);
       capacity = capacity-now;
@@ -280,13 +275,13 @@ module _ (after dependents : List (List ℕ)) (was : ℕ → Bool) (e e2 : Endin
         | inl p ↦ ap (has_ended e2) p ∙ ended-itself e e2 d single at-ended ∙ sym (ap (λ t. is_whole e2 t && get_or e2.left.items t 0 == 0) p ∙ ends-is ∙ yes)
         | inr ne ↦ ended-elsewhere s lt ne (ended-other e e2 d single at-ended s ne)
       ];
-      now = now-more e e2 d single at-ended not-ended was (not-true (was d) (λ h. let f : false ≡ true = sym not-ended ∙ c.kept d h in cc)) c.now;
+      now = now-more e e2 d single at-ended not-ended was (false_from_ne_true (was d) (λ h. let f : false ≡ true = sym not-ended ∙ c.kept d h in cc)) c.now;
       kept = λ s h. ended-more e e2 d single at-ended s (c.kept s h);
       growing = growing-now;
       whole_each = whole-each;
       ended_each = ap length single.ended ∙ length-set e.ended.items d true ∙ c.ended_each;
       left_each = left-each;
-      first_inside = (both (nat_lt d (length after)) (list_all (λ s. nat_lt s (length after)) first) c.first_inside).1;
+      first_inside = (and_parts (nat_lt d (length after)) (list_all (λ s. nat_lt s (length after)) first) c.first_inside).1;
       inside =
           ap (list_all (λ s. nat_lt s (length after))) single.fresh
           ∙ list_all-append (λ s. nat_lt s (length after)) e.fresh.items (d ∷ [])
@@ -316,4 +311,4 @@ module _ (after dependents : List (List ℕ)) (was : ℕ → Bool) (e : Endings)
   at-next = subst (λ ns. IsCounting after dependents was e ns k) (drop-cons steps i 0 lt) c
 
   pub next-inside : get_or steps i 0 < length after
-  next-inside = ltb-true (get_or steps i 0) (length after) (both _ _ at-next.first_inside).0
+  next-inside = ltb-true (get_or steps i 0) (length after) (and_parts _ _ at-next.first_inside).0

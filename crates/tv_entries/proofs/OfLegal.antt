@@ -2,7 +2,7 @@
 use Rattle.std.specs.List.{list_all, list_any, range_with_len}
 use Rattle.std.specs.Prelude.{List, Some, [], filter_map, length, refl, suc, true, zero, ℕ, ◌++◌, ◌+◌, ◌∷◌, ◌≡◌, ◌≤◌, ◌⊎◌}
 use Rattle.std.proofs.Common.{ap, arith, inl, inr, subst, sym, ◌∙◌}
-use Rattle.std.proofs.lemmas.List.{length-append}
+use Rattle.std.proofs.lemmas.List.{length-append, append-nil}
 use Rattle.std.proofs.lemmas.List.Elements.{filter_map-append}
 use Rattle.tv_value.specs.Orders.{same_job}
 use Rattle.tv_value.specs.Values.{JobName}
@@ -19,7 +19,7 @@ use Rattle.tv_entries.specs.Runs.{Appends, IsLegalRun, Run, all_distinct, all_ha
 use Rattle.tv_entries.specs.declared.entry.Entry.{Entry}
 use Rattle.tv_entries.specs.declared.entry.Entry.TheVariants as entry
 use Rattle.tv_entries.proofs.OfNumbers.{as-many_opened, instance_count, instances-counted, numbers-appended, numbers-more}
-use Rattle.tv_entries.proofs.OfTold.{IsTold, nothing-more, past-told}
+use Rattle.tv_entries.proofs.OfTold.{IsTold, past-told}
 
 -- after a history these are distinct names of jobs, and those of all ready ones are among them
 pub record HasNames (gives : Giving) (d : Document) (past : History) (ns : List JobName) : Type 0 where
@@ -63,7 +63,7 @@ instances-in_order es e h next =
     by : (filter_map opened_number (e ∷ []) ≡ []) ⊎ (filter_map opened_number (e ∷ []) ≡ suc (length (filter_map opened_number es)) ∷ [])
         → InOrder (filter_map opened_number es ++ filter_map opened_number (e ∷ []))
     by (inl none) =
-        subst InOrder (sym (ap (λ ks. filter_map opened_number es ++ ks) none ∙ nothing-more (filter_map opened_number es))) h
+        subst InOrder (sym (ap (λ ks. filter_map opened_number es ++ ks) none ∙ append-nil (filter_map opened_number es))) h
     by (inr one) =
         subst InOrder (sym (ap (λ ks. filter_map opened_number es ++ ks) one))
         (in-order_more (filter_map opened_number es) (suc (length (filter_map opened_number es))) h refl)

@@ -3,10 +3,8 @@ use Rattle.std.specs.Prelude.{Bool, false, refl, true, ◌≡◌}
 use Rattle.std.proofs.Common.{sym, ◌∙◌}
 use Rattle.tv_value.specs.Orders.{same_job}
 use Rattle.tv_value.specs.Values.{JobName}
-use Rattle.tv_model.proofs.Tests.{same_job_decides, true≠false}
-
-pub same_job-self : (n : JobName) → same_job n n ≡ true
-same_job-self n = (same_job_decides n n).1 refl
+use Rattle.tv_value.proofs.OfJobNames.{same_job_decides}
+use Rattle.tv_model.proofs.Tests.{true≠false}
 
 pub same_job-turned : (n m : JobName) → same_job n m ≡ same_job m n
 same_job-turned n m = by (same_job n m) (same_job m n) refl refl

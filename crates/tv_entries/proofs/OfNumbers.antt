@@ -3,9 +3,10 @@ use Rattle.std.specs.List.{list_all}
 use Rattle.std.specs.Prelude.{List, [], filter_map, if◌then◌else◌, is_some, length, nat_lt, refl, suc, true, ℕ, ◌++◌, ◌+◌, ◌∷◌, ◌≡◌, ◌≤◌}
 use Rattle.std.proofs.Common.{ap, arith, subst, ◌∙◌}
 use Rattle.std.proofs.lemmas.Bool.{lt-ltb, ltb-true}
+use Rattle.std.specs.Cmp.{first_so, second_so}
 use Rattle.tv_value.specs.Values.{JobName}
 use Rattle.tv_gate.specs.Outcomes.{Giving}
-use Rattle.tv_model.proofs.Tests.{both_true, left_true, right_true}
+use Rattle.tv_model.proofs.Tests.{both_true}
 use Rattle.tv_entries.specs.Runs.{IsLegalRun, Run, all_have_numbers, has_numbers, instances_of, opened_by, opened_number}
 use Rattle.tv_entries.specs.declared.entry.Entry.{Entry}
 use Rattle.tv_entries.specs.declared.entry.Entry.TheVariants as entry
@@ -81,8 +82,8 @@ after-all_more m (e ∷ es) = let one = after-more m e in let all = after-all_mo
 numbers-below : (n m : ℕ) (es : List Entry) → all_have_numbers n m es ≡ true → list_all (has_numbers n (count_after_all m es)) es ≡ true
 numbers-below n m [] h = refl
 numbers-below n m (e ∷ es) h =
-    let one = left_true (has_numbers n m e) (all_have_numbers n (count_after m e) es) h in
-    let rest = right_true (has_numbers n m e) (all_have_numbers n (count_after m e) es) h in
+    let one = first_so (has_numbers n m e) (all_have_numbers n (count_after m e) es) h in
+    let rest = second_so (has_numbers n m e) (all_have_numbers n (count_after m e) es) h in
     let wide : m ≤ count_after_all m (e ∷ es) = omega (arith, after-more m e, after-all_more (count_after m e) es) in
     both_true (has_numbers n (count_after_all m (e ∷ es)) e) (list_all (has_numbers n (count_after_all m (e ∷ es))) es)
     (numbers-more n m n (count_after_all m (e ∷ es)) (omega arith) wide e one)
@@ -108,8 +109,8 @@ pub numbers-appended : (n k m : ℕ) → n ≤ k → (es : List Entry) (e : Entr
     → has_numbers k (count_after_all m es) e ≡ true → all_have_numbers k m (es ++ e ∷ []) ≡ true
 numbers-appended n k m l [] e h w = both_true (has_numbers k m e) true w refl
 numbers-appended n k m l (x ∷ es) e h w =
-    let one = left_true (has_numbers n m x) (all_have_numbers n (count_after m x) es) h in
-    let rest = right_true (has_numbers n m x) (all_have_numbers n (count_after m x) es) h in
+    let one = first_so (has_numbers n m x) (all_have_numbers n (count_after m x) es) h in
+    let rest = second_so (has_numbers n m x) (all_have_numbers n (count_after m x) es) h in
     both_true (has_numbers k m x) (all_have_numbers k (count_after m x) (es ++ e ∷ []))
     (numbers-more n m k m l (omega arith) x one)
     (numbers-appended n k (count_after m x) l es e rest w)

@@ -5,11 +5,11 @@ use Rattle.std.specs.Prelude.{List, [], filter_map, length, map, refl, reverse, 
 use Rattle.std.proofs.Common.{ap, sym, ◌∙◌}
 use Rattle.std.proofs.lemmas.List.{map-append, reverse-append}
 use Rattle.std.proofs.lemmas.List.Elements.{filter_map-append}
+use Rattle.std.specs.Cmp.{first_so, second_so}
 use Rattle.tv_value.specs.Values.{JobName}
 use Rattle.tv_gate.specs.Outcomes.{Giving}
 use Rattle.tv_flow.specs.Flows.{Document}
 use Rattle.tv_check.specs.Steps.{spot}
-use Rattle.tv_model.proofs.Tests.{left_true, right_true}
 use Rattle.tv_history.specs.Entries as history
 use Rattle.tv_history.specs.Entries.{History}
 use Rattle.tv_entries.specs.Runs.{Appends, IsLegalRun, Run, has_numbers, instances_of, opened_by, past_of, step_name, with_names}
@@ -61,13 +61,13 @@ module _ (d : Document) (ns more is js : List JobName) where
   all-named : (es : List Entry) → list_all (has_numbers (length ns) (length is)) es ≡ true → map (with_names d (ns ++ more) (is ++ js)) es ≡ map (with_names d ns is) es
   all-named [] h = refl
   all-named (e ∷ es) h =
-      let one = one-named e (left_true (has_numbers (length ns) (length is) e) (list_all (has_numbers (length ns) (length is)) es) h) in
-      let rest = all-named es (right_true (has_numbers (length ns) (length is) e) (list_all (has_numbers (length ns) (length is)) es) h) in
+      let one = one-named e (first_so (has_numbers (length ns) (length is) e) (list_all (has_numbers (length ns) (length is)) es) h) in
+      let rest = all-named es (second_so (has_numbers (length ns) (length is) e) (list_all (has_numbers (length ns) (length is)) es) h) in
       λ i. one i ∷ rest i
 
 opened-kept : (ns more : List JobName) (m : ℕ) (es : List Entry) → list_all (has_numbers (length ns) m) es ≡ true → filter_map (opened_by (ns ++ more)) es ≡ filter_map (opened_by ns) es
 opened-kept ns more m [] h = refl
-opened-kept ns more m (e ∷ es) h = by e (left_true (has_numbers (length ns) m e) (list_all (has_numbers (length ns) m) es) h) (opened-kept ns more m es (right_true (has_numbers (length ns) m e) (list_all (has_numbers (length ns) m) es) h))
+opened-kept ns more m (e ∷ es) h = by e (first_so (has_numbers (length ns) m e) (list_all (has_numbers (length ns) m) es) h) (opened-kept ns more m es (second_so (has_numbers (length ns) m e) (list_all (has_numbers (length ns) m) es) h))
   where
     by : (e : Entry) → has_numbers (length ns) m e ≡ true → filter_map (opened_by (ns ++ more)) es ≡ filter_map (opened_by ns) es → filter_map (opened_by (ns ++ more)) (e ∷ es) ≡ filter_map (opened_by ns) (e ∷ es)
     by (entry.Opened k i) w p = λ x. name-more ns more k w x ∷ p x

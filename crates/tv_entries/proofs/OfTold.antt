@@ -1,8 +1,10 @@
 -- What each kind of entry adds to the history of a run, of however many instances.
-use Rattle.std.specs.Prelude.{Box, Bool, List, None, Some, [], filter_map, is_some, length, nat_lt, refl, slice_get, suc, true, unwrap_or, zero, ℕ, ◌++◌, ◌<◌, ◌∷◌, ◌≡◌}
+use Rattle.std.specs.Prelude.{Box, Bool, List, None, Some, [], filter_map, is_some, length, nat_lt, refl, slice_get, true, unwrap_or, ℕ, ◌++◌, ◌∷◌, ◌≡◌}
 use Rattle.std.specs.declared.alloc.Global.{Global}
-use Rattle.std.proofs.Common.{ap, arith, sym, ◌∙◌}
+use Rattle.std.proofs.Common.{ap, ◌∙◌}
 use Rattle.std.proofs.lemmas.Bool.{lt-ltb}
+use Rattle.std.proofs.lemmas.Option.{slice_get_within}
+use Rattle.std.proofs.lemmas.List.{append-nil}
 use Rattle.tv_value.specs.declared.place.Place.{Place}
 use Rattle.tv_value.specs.Values.{JobName, Name}
 use Rattle.tv_gate.specs.Outcomes.{Giving}
@@ -25,13 +27,8 @@ pub record IsTold (r : Run) (e : Entry) (h : history.Entry) : Type 0 where
   pub given : has_numbers (length r.names) (instance_count r) e ≡ true
   pub is : named r e ≡ h
 
-there-below : {A : Type 0} (xs : List A) (k : ℕ) (x : A) → slice_get xs k ≡ Some x → k < length xs
-there-below [] k x h = absurd (true≠false (sym (ap is_some h)))
-there-below (y ∷ ys) zero x h = omega arith
-there-below (y ∷ ys) (suc k) x h = let b = there-below ys k x h in omega (arith, b)
-
 there : {A : Type 0} (xs : List A) (k : ℕ) (x : A) → slice_get xs k ≡ Some x → nat_lt k (length xs) ≡ true
-there xs k x h = lt-ltb k (length xs) (there-below xs k x h)
+there xs k x h = lt-ltb k (length xs) (slice_get_within xs k x h)
 
 name-there : (ns : List JobName) (k : ℕ) (n : JobName) → slice_get ns k ≡ Some n → name_at ns k ≡ n
 name-there ns k n h = ap (λ o. unwrap_or o []) h
@@ -90,10 +87,6 @@ tells-recalled r c = record { given = refl; is = refl }
 
 -- ---- after it
 
-pub nothing-more : {A : Type 0} (xs : List A) → xs ++ [] ≡ xs
-nothing-more [] = refl
-nothing-more (x ∷ xs) = ap (λ ys. x ∷ ys) (nothing-more xs)
-
 opens-none : (ns : List JobName) (e : Entry) → opened_number e ≡ None → filter_map (opened_by ns) (e ∷ []) ≡ []
 opens-none ns (entry.Opened k i) h = absurd (true≠false (ap is_some h))
 opens-none ns e h = refl
@@ -109,7 +102,7 @@ module _ (gives : Giving) (r s : Run) (l : IsLegalRun gives r) where
   instances-same e a none =
       instances-grown gives r s e l a
       ∙ ap (λ ns. instances_of r.names r.entries ++ ns) (opens-none (r.names ++ a.more) e none)
-      ∙ nothing-more (instances_of r.names r.entries)
+      ∙ append-nil (instances_of r.names r.entries)
 
   -- or one more, with the name of the job that opened it
   pub instances-opened : (k i : ℕ) (n : JobName) → Appends r s (entry.Opened k i) → slice_get r.names k ≡ Some n

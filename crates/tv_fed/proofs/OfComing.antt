@@ -33,12 +33,13 @@ use Rattle.tv_told.specs.Stated.{IsFrom}
 use Rattle.tv_joined.specs.TurningTrees.{CanPut, HasRightLength, IsNextOf, whole_from}
 use Rattle.tv_joined.proofs.OfTrees.{events-put, trees-turn, trees-whole}
 use Rattle.tv_joined.proofs.OfWires.{position-same}
+use Rattle.tv_joined.proofs.OfEndings.{position-of}
 use Rattle.tv_fed.specs.Fed.{event_number}
 use Rattle.tv_fed.specs.Coming.{EventsAreInTrees, NextMakesFrame, TakingMakesFrame, TreesAreWholeWithSteps, TreesGoOn, put_here}
 use Rattle.tv_framing.specs.PortTellings.{newly_by}
 use Rattle.tv_fed.proofs.OfNext.{first, fit, fs, legal, leveled, of-event}
 use Rattle.tv_fed.proofs.OfStanding.{stands}
-use Rattle.tv_fed.proofs.OfWholeSteps.{named-there, position-of}
+use Rattle.tv_fed.proofs.OfWholeSteps.{named-there}
 
 -- ---- what a frame is after one
 

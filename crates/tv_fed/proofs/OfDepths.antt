@@ -1,31 +1,26 @@
 -- The delivered depths of an instance are those of the check, step by step.
-use Rattle.std.specs.Prelude.{◌≡◌, refl, ℕ, suc, ◌+◌, ◌∷◌, List, [], map}
+use Rattle.std.specs.Prelude.{◌≡◌, refl, ◌+◌, ◌∷◌, List, [], map}
 use Rattle.std.proofs.Common.{sym, ap, ◌∙◌}
-use Rattle.tv_value.specs.Nested.{Place}
-use Rattle.tv_value.specs.Values.{JobName, Name, Value}
+use Rattle.tv_value.specs.Values.{JobName, Name}
 use Rattle.tv_flow.specs.Flows.{Feed, Step}
-use Rattle.tv_strategy.specs.Iterations.{Iteration}
 use Rattle.tv_strategy.specs.Measures.{strategy_depth}
 use Rattle.tv_depths.specs.CheckedDepths.{StepDepths, feed_depth, port_depth, step_depths, steps_depths}
 use Rattle.tv_depths.specs.Delivered.{Delivered, feed_delivers}
 use Rattle.tv_depths.specs.Steps.{strategy_of}
 use Rattle.tv_model.specs.Made.{feed_value, step_in}
 use Rattle.tv_model.proofs.Delivers.{depths_of, feed-depth, forget, mismatches}
-use Rattle.tv_instance.specs.ByResults.{InstanceStep, Results, levels_on, outputs_by, result_at, step_by, step_of, steps_by}
-use Rattle.tv_instances.proofs.InDepth.{as_made}
+use Rattle.tv_instance.specs.ByResults.{InstanceStep, Results, levels_on, result_at, step_by, step_of, steps_by}
+use Rattle.tv_instances.proofs.InDepth.{as_made, steps-all}
 use Rattle.tv_instances.proofs.OfResults.{feed-map, itself}
+use Rattle.tv_instances.proofs.OfOutputs.{outputs-depths}
 
 -- the depths of the steps that were made
 abbrev pub so_far : List InstanceStep → List StepDepths
 so_far fs = map forget (map as_made fs)
 
-as-they_are : (fs : List InstanceStep) → map step_in (map as_made fs) ≡ map step_of fs
-as-they_are [] = refl
-as-they_are (f ∷ fs) = ap (λ l. f.step ∷ l) (as-they_are fs)
-
 module _ (given : List (Name × Delivered)) (fs : List InstanceStep) where
   same-feed : (d : Feed) → feed_value given (map as_made fs) d ≡ feed_delivers step_of given fs d
-  same-feed d = feed-map step_in given (map as_made fs) d ∙ ap (λ l. feed_delivers itself given l d) (as-they_are fs) ∙ sym (feed-map step_of given fs d)
+  same-feed d = feed-map step_in given (map as_made fs) d ∙ ap (λ l. feed_delivers itself given l d) (steps-all fs) ∙ sym (feed-map step_of given fs d)
 
   pub delivered-depth : (d : Feed) → (feed_delivers step_of given fs d).depth ≡ feed_depth (depths_of given) (so_far fs) d
   delivered-depth d = ap (λ (x : Delivered). x.depth) (sym (same-feed d)) ∙ feed-depth given (map as_made fs) d
@@ -34,10 +29,6 @@ module _ (given : List (Name × Delivered)) (fs : List InstanceStep) where
   step-levels s =
       sym (ap (λ g. levels_on g s) (λ i d. same-feed d i))
       ∙ ap (λ f. strategy_depth f (strategy_of s)) (mismatches given (map as_made fs) s)
-
-outputs-depths : (instance : JobName) (n : Name) (made : ℕ → Place → Value) (levels : ℕ) (it : Iteration) (k : ℕ) (ps : List (Name × ℕ)) → depths_of (outputs_by instance n made levels it k ps) ≡ map (λ p. (p.0, levels + p.1)) ps
-outputs-depths instance n made levels it k [] = refl
-outputs-depths instance n made levels it k (p ∷ ps) = ap (λ l. (p.0, levels + p.1) ∷ l) (outputs-depths instance n made levels it (suc k) ps)
 
 -- one step more
 pub more-so_far : (instance : JobName) (results : Results) (given : List (Name × Delivered)) (fs : List InstanceStep) (n : Name) (s : Step) → so_far (step_by instance results given fs (n, s) ∷ fs) ≡ step_depths (depths_of given) (so_far fs) (n, s) ∷ so_far fs

@@ -1,14 +1,12 @@
 -- What stands at a name, and members of lists by their numbers.
-use Rattle.std.specs.Prelude.{◌≡◌, refl, ℕ, zero, suc, Bool, true, false, if◌then◌else◌, is_some, find, List, [], ◌∷◌, Some, slice_get}
-use Rattle.std.proofs.Common.{sym, ap, subst, ◌∙◌, inl, inr}
+use Rattle.std.specs.Prelude.{◌≡◌, refl, suc, Bool, true, false, if◌then◌else◌, is_some, List, [], ◌∷◌, Some, slice_get}
+use Rattle.std.proofs.Common.{sym, ap, ◌∙◌}
 use Rattle.std.proofs.lemmas.Bool.{true≢false}
-use Rattle.std.proofs.lemmas.Option.{none-some, same_Some}
 use Rattle.tv_value.specs.Orders.{named, same_name}
 use Rattle.tv_value.specs.Values.{Name}
 use Rattle.tv_naming.specs.Naming.{has_name}
 use Rattle.tv_naming.specs.Numbers.{position}
 use Rattle.tv_naming.proofs.ByPosition.{same_name-is}
-use Rattle.tv_model.specs.Members.{In}
 
 -- what has a name stands at its position
 pub record IsNamed {A : Type 0} (n : Name) (xs : List (Name × A)) : Type 0 where
@@ -31,17 +29,3 @@ is-named {A = A} n (x ∷ xs) h = by (same_name n x.0) refl h (λ k. is-named n 
       here = ap (λ b. slice_get (x ∷ xs) (if b then 0 else suc (position n xs))) e ∙ r.here;
       named_so = ap (λ b. if b then Some x.1 else named n xs) e ∙ r.named_so;
     }
-
-pub in-slice : {A : Type 0} (xs : List A) (k : ℕ) (x : A) → slice_get xs k ≡ Some x → In x xs
-in-slice [] k x e = absurd (none-some x e)
-in-slice (y ∷ xs) zero x e = inl (sym (same_Some y x e))
-in-slice (y ∷ xs) (suc k) x e = inr (in-slice xs k x e)
-
--- what is found is a member, and passes the test
-pub found-in : {A : Type 0} (p : A → Bool) (xs : List A) (x : A) → find p xs ≡ Some x → In x xs × (p x ≡ true)
-found-in p [] x e = absurd (none-some x e)
-found-in p (y ∷ xs) x e = by (p y) refl e (λ k. found-in p xs x k)
-  where
-    by : (b : Bool) → p y ≡ b → (if b then Some y else find p xs) ≡ Some x → (find p xs ≡ Some x → In x xs × (p x ≡ true)) → In x (y ∷ xs) × (p x ≡ true)
-    by true g k rec = let same : y ≡ x = same_Some y x k in (inl (sym same), subst (λ z. p z ≡ true) same g)
-    by false g k rec = let r = rec k in (inr r.0, r.1)

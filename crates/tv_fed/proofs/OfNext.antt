@@ -28,6 +28,7 @@ use Rattle.tv_instances.proofs.OfLegal.{legal-fit}
 use Rattle.tv_matching.proofs.OfMembers.{each-in}
 use Rattle.tv_model.specs.Instances.{given_of}
 use Rattle.tv_model.specs.Members.{In}
+use Rattle.tv_model.proofs.OfMembers.{found-in}
 use Rattle.tv_framing.specs.Gaining.{step_whole}
 use Rattle.tv_framing.specs.Views.{AreOfDepth, View, steps_with}
 use Rattle.tv_framing.proofs.OfArriving.{extends-parts}
@@ -37,7 +38,7 @@ use Rattle.tv_joined.specs.WiredFlows.{IsWired}
 use Rattle.tv_joined.proofs.OfWires.{position-same}
 use Rattle.tv_kept.specs.NextEvents.{IsNextEvent, is_whole_step}
 use Rattle.tv_fed.specs.Fed.{event_number, newly}
-use Rattle.tv_fed.proofs.OfNames.{found-in, is-named}
+use Rattle.tv_fed.proofs.OfNames.{is-named}
 use Rattle.tv_fed.proofs.OfOthers.{whole-same}
 use Rattle.tv_fed.proofs.OfStays.{made-from, ranked-named}
 

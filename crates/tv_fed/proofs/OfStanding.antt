@@ -13,13 +13,13 @@ use Rattle.tv_model.specs.Agreeing.{FeedAgrees, InputsAgree, OneDepth, StepsAgre
 use Rattle.tv_model.specs.Instances.{given_of}
 use Rattle.tv_model.specs.Members.{In}
 use Rattle.tv_model.proofs.Delivers.{depths_of, given-depths}
+use Rattle.tv_model.proofs.OfMembers.{in-slice}
 use Rattle.tv_instance.specs.ByResults.{InstanceStep, Results, outputs_by, ports_on, result_at, step_by, step_of, steps_by}
 use Rattle.tv_instance.specs.OwnDepths.{AreLevels}
 use Rattle.tv_framing.specs.Stated.{IsOfDepths}
 use Rattle.tv_framing.specs.Views.{View, steps_with}
 use Rattle.tv_joined.specs.WiredFlows.{IsWired}
 use Rattle.tv_fed.proofs.OfDepths.{all-so_far, delivered-depth, more-so_far, so_far, step-levels}
-use Rattle.tv_fed.proofs.OfNames.{in-slice}
 use Rattle.tv_fed.proofs.OfStays.{AreAmong, among-left, among-right, fed-before, in-more, link-stays, names, ports-stay}
 
 module _ (flows : List (Name × Flow)) (levels : Name → ℕ) (instance : JobName) (results : Results) (given : List (Name × Delivered)) where

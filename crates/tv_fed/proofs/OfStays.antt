@@ -1,23 +1,24 @@
 -- What a feed delivers to a step comes from steps that were made before it, and stays the same when more are made.
 use Rattle.std.specs.List.{list_all}
-use Rattle.std.specs.Prelude.{◌≡◌, refl, ◌⊎◌, ℕ, zero, suc, ◌++◌, ◌∷◌, ◌||◌, Bool, true, false, not, if◌then◌else◌, filter, find, flat_map, is_some, length, List, [], map, Option, Some, None, unwrap_or}
+use Rattle.std.specs.Prelude.{◌≡◌, refl, ◌⊎◌, ◌++◌, ◌∷◌, ◌||◌, Bool, true, false, if◌then◌else◌, find, flat_map, is_some, length, List, [], map, Some, unwrap_or}
 use Rattle.std.specs.Option.{option_map_or}
 use Rattle.std.proofs.Common.{sym, ap, ap₂, ◌∙◌, inl, inr}
 use Rattle.std.proofs.lemmas.Bool.{and_parts, or_right, true≢false}
 use Rattle.std.proofs.lemmas.List.Folds.{list_all-append}
 use Rattle.tv_value.specs.Orders.{named, same_name}
 use Rattle.tv_value.specs.Values.{JobName, Name}
+use Rattle.tv_value.proofs.OfNames.{same_name-refl}
 use Rattle.tv_flow.specs.Flows.{Feed, Link, Step, StepInput, constant, input, link, merge, output}
 use Rattle.tv_strategy.specs.Sources.{Each}
 use Rattle.tv_naming.specs.Naming.{has_name}
-use Rattle.tv_naming.proofs.ByPosition.{names_of, same_name-is, same_name-refl}
+use Rattle.tv_naming.proofs.ByPosition.{names_of, same_name-is}
 use Rattle.tv_depths.specs.Delivered.{Delivered, feed_delivers, link_delivers, merged, nothing_delivered, ported}
-use Rattle.tv_depths.specs.Ranks.{by_rank, earlier_steps, feed_steps, is_among, link_step, ranked}
+use Rattle.tv_depths.specs.Ranks.{earlier_steps, feed_steps, is_among, link_step, ranked}
 use Rattle.tv_depths.proofs.OfRanked.{IsOrdered}
 use Rattle.tv_instance.specs.ByResults.{InstanceStep, Results, ports_on, step_by, step_of, steps_by}
-use Rattle.tv_matching.proofs.OfMembers.{each-from, each-in}
+use Rattle.tv_matching.proofs.OfMembers.{each-from}
 use Rattle.tv_model.specs.Members.{In}
-use Rattle.tv_fed.proofs.OfNames.{found-in}
+use Rattle.tv_joined.proofs.OfEndings.{each-by_rank}
 
 abbrev pub names : List InstanceStep → List Name
 names fs = map (λ (f : InstanceStep). f.step.step) fs
@@ -95,25 +96,6 @@ module _ (instance : JobName) (results : Results) (given : List (Name × Deliver
       by (inr k) = inr (or_right (same_name f.step.step m) (is_among (names_of ss) f.step.step) k)
 
 -- ---- steps by rank are steps of the flow
-
-each-found : (P : Name × Step → Type 0) (p : Name × Step → Bool) (xs : List (Name × Step)) (x : Name × Step) → Each P xs → find p xs ≡ Some x → P x
-each-found P p xs x h e = each-in P x xs h (found-in p xs x e).0
-
-each-filtered : (P : Name × Step → Type 0) (p : Name × Step → Bool) (xs : List (Name × Step)) → Each P xs → Each P (filter p xs)
-each-filtered P p [] h = tt
-each-filtered P p (x ∷ xs) h = by (p x) (each-filtered P p xs h.1)
-  where
-    by : (b : Bool) → Each P (filter p xs) → Each P (if b then x ∷ filter p xs else filter p xs)
-    by true k = (h.0, k)
-    by false k = k
-
-each-by_rank : (P : Name × Step → Type 0) (n : ℕ) (done : List Name) (xs : List (Name × Step)) → Each P xs → Each P (by_rank n done xs)
-each-by_rank P zero done xs h = tt
-each-by_rank P (suc n) done xs h = by (find (λ s. list_all (is_among done) (earlier_steps s.1)) xs) refl (λ s. each-by_rank P n (s.0 ∷ done) (filter (λ t. not (same_name s.0 t.0)) xs) (each-filtered P (λ t. not (same_name s.0 t.0)) xs h))
-  where
-    by : (o : Option (Name × Step)) → find (λ s. list_all (is_among done) (earlier_steps s.1)) xs ≡ o → ((s : Name × Step) → Each P (by_rank n (s.0 ∷ done) (filter (λ t. not (same_name s.0 t.0)) xs))) → Each P (option_map_or (λ s. s ∷ by_rank n (s.0 ∷ done) (filter (λ t. not (same_name s.0 t.0)) xs)) o [])
-    by None e rec = tt
-    by (Some s) e rec = (each-found P (λ s. list_all (is_among done) (earlier_steps s.1)) xs s h e, rec s)
 
 own-names : (xs : List (Name × Step)) → Each (λ (s : Name × Step). has_name xs s.0 ≡ true) xs
 own-names xs = each-from (λ (s : Name × Step). has_name xs s.0 ≡ true) xs (λ s i. there s xs i)

@@ -5,6 +5,7 @@ use Rattle.std.proofs.lemmas.Bool.{eq-eqb, eqb-true, leb-true, or_right, le-leb}
 use Rattle.std.proofs.lemmas.Grind.{flat_map-append}
 use Rattle.std.proofs.lemmas.List.{map-append}
 use Rattle.std.proofs.lemmas.List.Sorted.{IsPermutation-append_left, IsPermutation-map, IsPermutation-sym, IsPermutation-trans}
+use Rattle.std.specs.Cmp.Derive.{one_truth}
 use Rattle.tv_value.specs.Orders.{same_name}
 use Rattle.tv_value.specs.Values.{JobName, Name}
 use Rattle.tv_flow.specs.Flows.{Flow, Step, StepInput}
@@ -12,7 +13,7 @@ use Rattle.tv_strategy.specs.Iterations.{walk}
 use Rattle.tv_strategy.specs.Origins.{Origin, Traced}
 use Rattle.tv_strategy.specs.Sources.{Each}
 use Rattle.tv_depths.specs.Steps.{strategy_of}
-use Rattle.tv_matching.specs.Items.{Bound, Item, Stopped, if_so, known_items}
+use Rattle.tv_matching.specs.Items.{if_so, known_items}
 use Rattle.tv_matching.specs.Tellings.{Telling}
 use Rattle.tv_matching.specs.Told.{Spot, Told, seen, telling, tellings, told_to}
 use Rattle.tv_matching.proofs.Permutes.{flat-permutes, perm-from}
@@ -20,13 +21,13 @@ use Rattle.tv_telling.specs.Views.{whole_telling}
 use Rattle.tv_wires.specs.Ports.{levels_of}
 use Rattle.tv_instance.specs.ByResults.{InstanceStep, Results}
 use Rattle.tv_instance.specs.Events.{Event, Events, Extends, event_place, event_step, known_by}
-use Rattle.tv_instance.proofs.OfWholeness.{same_tests}
 use Rattle.tv_instances.proofs.OfEvents.{hits, one-more}
 use Rattle.tv_model.specs.Members.{In}
 use Rattle.tv_framing.specs.Gaining.{gained_items}
 use Rattle.tv_framing.specs.PortTellings.{placed, port_told, seen_told}
 use Rattle.tv_framing.specs.Views.{AreOfDepth, View}
 use Rattle.tv_framing.proofs.OfLaws.{known-is_before_and_gained, ports-are_told}
+use Rattle.tv_framing.proofs.OfPlaced.{placed-all}
 use Rattle.tv_told.specs.Stated.{IsFrom}
 use Rattle.tv_joined.specs.AlongWires.{IsPortOf, takes_whole_with, told_along}
 use Rattle.tv_joined.specs.WiredFlows.{IsWired}
@@ -49,10 +50,6 @@ module _ (p : Name) where
   told-permutes : (ts us : List Told) → IsPermutation ts us → IsPermutation (told_to ts p) (told_to us p)
   told-permutes ts us h = flat-permutes (λ (t : Telling Spot Spot). if_so (same_name p t.leaf) t.item) (tellings ts) (tellings us) (IsPermutation-map telling ts us h)
 
-placed-here : (xs : List (Item Bound Stopped)) → map (placed []) xs ≡ xs
-placed-here [] = refl
-placed-here (x ∷ xs) = ap (λ ys. x ∷ ys) (placed-here xs)
-
 -- ---- one port
 
 -- with what it gains, a port was told what is known after
@@ -67,13 +64,13 @@ module _ (instance : JobName) (e : Event) (es : Events) (values : Name → Trace
       IsPermutation-trans _ _ _ (IsPermutation-map (seen values) _ _ (told-permutes p after (ts ++ more) order))
       (IsPermutation-trans _ _ _ (perm-from _ _ (ap (map (seen values)) (told-more p ts more) ∙ map-append (seen values) (told_to ts p) (told_to more p)))
       (IsPermutation-trans _ _ _ (IsPermutation-append_left (map (seen values) (told_to more p)) (map (seen values) (told_to ts p)) before was)
-      (IsPermutation-trans _ _ _ (perm-from _ _ (ap (λ xs. before ++ xs) (gains ∙ placed-here gained)))
+      (IsPermutation-trans _ _ _ (perm-from _ _ (ap (λ xs. before ++ xs) (gains ∙ placed-all gained)))
       (IsPermutation-sym _ _ (known-is_before_and_gained (known_by instance es) (known_by instance (e ∷ es)) known-more (walk p k v))))))
 
 -- ---- all ports of a step
 
 none-below : (n : ℕ) → nat_le n 0 ≡ (n == 0)
-none-below n = same_tests (nat_le n 0) (n == 0) (λ h. eq-eqb n 0 (least n (leb-true n 0 h))) (λ h. le-leb n 0 (at-most n (eqb-true n 0 h)))
+none-below n = one_truth (nat_le n 0) (n == 0) (λ h. eq-eqb n 0 (least n (leb-true n 0 h))) (λ h. le-leb n 0 (at-most n (eqb-true n 0 h)))
   where
     least : (m : ℕ) → m ≤ 0 → m ≡ 0
     least m h = omega arith

@@ -5,6 +5,7 @@ use Rattle.std.specs.Prelude.{◌≡◌, refl, ℕ, zero, suc, ◌+◌, ◌<◌,
 use Rattle.std.proofs.Common.{arith, sym, ap, ap₂, subst, ◌∙◌, append-nil, inl, inr}
 use Rattle.std.proofs.lemmas.Bool.{and_parts, eq-eqb, true≢false}
 use Rattle.std.proofs.lemmas.Option.{none-some, same_Some}
+use Rattle.tv_lemmas.proofs.Lists.{get-map}
 use Rattle.tv_value.specs.Nested.{Place}
 use Rattle.tv_value.specs.Orders.{named}
 use Rattle.tv_value.specs.Values.{Name, Value}
@@ -14,7 +15,6 @@ use Rattle.tv_strategy.specs.Sources.{Each}
 use Rattle.tv_naming.specs.Naming.{feed_links, has_name, is_there, numbered}
 use Rattle.tv_naming.specs.Numbers.{position}
 use Rattle.tv_naming.proofs.ByPosition.{there}
-use Rattle.tv_naming.proofs.OfTold.{get-map}
 use Rattle.tv_depths.specs.Steps.{strategy_of}
 use Rattle.tv_matching.specs.Items.{if_so}
 use Rattle.tv_matching.specs.Told.{arrival}
@@ -31,6 +31,7 @@ use Rattle.tv_wires.specs.Wirings.{all_ports, wiring}
 use Rattle.tv_feeds.specs.Feeds.{feed_from, feed_whole, link_from, with_step}
 use Rattle.tv_instance.specs.Events.{Event, event_place, event_step}
 use Rattle.tv_model.specs.Members.{In}
+use Rattle.tv_model.proofs.OfMembers.{in-filter}
 use Rattle.tv_framing.specs.PortTellings.{link_told, links_told, port_told, seen_told, way_told}
 use Rattle.tv_joined.specs.AlongWires.{IsPortOf, wires_from}
 use Rattle.tv_joined.proofs.OfLists.{at-range}
@@ -61,15 +62,6 @@ in-numbers {A = A} xs k x e = subst (λ n. In (n, x) (numbered 0 xs)) (none-plus
   where
     none-plus : (n : ℕ) → 0 + n ≡ n
     none-plus n = omega arith
-
-in-filtered : {A : Type 0} (p : A → Bool) (x : A) (xs : List A) → In x xs → p x ≡ true → In x (filter p xs)
-in-filtered p x [] i h = absurd i
-in-filtered p x (y ∷ xs) (inl q) h = subst (λ b. In x (if b then y ∷ filter p xs else filter p xs)) (sym (ap p (sym q) ∙ h)) (inl q)
-in-filtered p x (y ∷ xs) (inr i) h = by (p y) (in-filtered p x xs i h)
-  where
-    by : (b : Bool) → In x (filter p xs) → In x (if b then y ∷ filter p xs else filter p xs)
-    by true k = inr k
-    by false k = k
 
 none-of : {A : Type 0} (p : A → Bool) (x : A) (xs : List A) → list_any p xs ≡ false → In x xs → p x ≡ false
 none-of p x [] h i = absurd i
@@ -109,7 +101,7 @@ module _ (f : Flow) (n : ℕ) (s : Name × Step) (i : Name × StepInput) (port :
       led g =
           subst (In (wire at o)) (sym (at-range (λ k. from_number k (all_wires (all_ports f))) (length f.steps) t few))
           (in-map (λ (x : ℕ × Wire). x.1) (m, wire at o) (filter (λ (x : ℕ × Wire). x.0 == t) (all_wires (all_ports f)))
-          (in-filtered (λ (x : ℕ × Wire). x.0 == t) (m, wire at o) (all_wires (all_ports f)) (from-port (m, wire at o) (at, Output m o) a (inl refl)) g))
+          (in-filter (λ (x : ℕ × Wire). x.0 == t) (m, wire at o) (all_wires (all_ports f)) (from-port (m, wire at o) (at, Output m o) a (inl refl)) g))
 
       by : (b : Bool) → (m == t) ≡ b → (m == t) ≡ false
       by true g = absurd (true≢false (sym (eq-eqb n n refl) ∙ none-of (λ (x : Wire). x.step == n) (wire at o) (wires_from (wiring f) t) none (led g)))

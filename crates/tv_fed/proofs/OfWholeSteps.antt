@@ -5,17 +5,15 @@ use Rattle.std.proofs.Common.{sym, ap, subst, ◌∙◌, arith}
 use Rattle.std.proofs.lemmas.Bool.{eq-eqb, eqb-true, true≢false}
 use Rattle.std.proofs.lemmas.Grind.{get_or-set_at}
 use Rattle.std.proofs.lemmas.List.{get_or-set_other, length-map}
-use Rattle.std.proofs.lemmas.Option.{get_or_from_slice_get, none-some, same_Some}
+use Rattle.std.proofs.lemmas.Option.{none-some, same_Some}
 use Rattle.tv_value.specs.Nested.{Place}
 use Rattle.tv_value.specs.Orders.{named, same_name}
 use Rattle.tv_value.specs.Values.{Name}
+use Rattle.tv_value.proofs.OfNames.{same_name-refl}
 use Rattle.tv_flow.specs.Flows.{Step}
-use Rattle.tv_flow.specs.Formed.{is_ascending}
 use Rattle.tv_naming.specs.Naming.{has_name}
-use Rattle.tv_naming.specs.Numbers.{position}
-use Rattle.tv_naming.proofs.ByPosition.{names_of, position-at, same_name-refl, there}
+use Rattle.tv_naming.proofs.ByPosition.{there}
 use Rattle.tv_naming.proofs.FormedParts.{steps-ascend}
-use Rattle.tv_depths.proofs.OfRanked.{inside}
 use Rattle.tv_wires.specs.Wirings.{after_of, all_after}
 use Rattle.tv_endings.specs.Ends.{is_whole}
 use Rattle.tv_instance.specs.Counting.{count_whole, whole_by}
@@ -29,9 +27,7 @@ use Rattle.tv_fed.proofs.OfNames.{is-named}
 use Rattle.tv_fed.proofs.OfNext.{of-event, marked-later, marks, not-yet_whole}
 use Rattle.tv_fed.proofs.OfStanding.{stands}
 use Rattle.tv_fed.proofs.OfTold.{turned-is}
-
-pub position-of : (xs : List (Name × Step)) (k : ℕ) (s : Name × Step) → is_ascending (names_of xs) ≡ true → slice_get xs k ≡ Some s → position s.0 xs ≡ k
-position-of xs k s rise e = ap (λ (t : Name × Step). position t.0 xs) (sym (get_or_from_slice_get xs k s s e)) ∙ position-at xs k s rise (inside xs k s e)
+use Rattle.tv_joined.proofs.OfEndings.{position-of}
 
 pub named-there : (xs : List (Name × Step)) (k : ℕ) (s : Name × Step) → slice_get xs k ≡ Some s → has_name xs s.0 ≡ true
 named-there [] k s e = absurd (none-some s e)

@@ -4,6 +4,7 @@ use Rattle.std.specs.List.{list_any}
 use Rattle.std.proofs.Common.{ap, arith, eqb-true, inl, inr, subst, sym, ◌∙◌}
 use Rattle.std.proofs.lemmas.Bool.{false_from_ne_true, ltb-true, not-true}
 use Rattle.std.proofs.lemmas.Option.{same_Some}
+use Rattle.std.specs.Cmp.{first_so, second_so}
 use Rattle.tv_value.specs.Values.{JobName}
 use Rattle.tv_gate.specs.Outcomes.{Giving}
 use Rattle.tv_flow.specs.Flows.{Document}
@@ -14,7 +15,7 @@ use Rattle.tv_model.specs.Made.{Meaning}
 use Rattle.tv_model.specs.Meanings.{meaning}
 use Rattle.tv_model.specs.Members.{In}
 use Rattle.tv_model.specs.Turns.{is_bounced}
-use Rattle.tv_model.proofs.Tests.{left_true, right_true, true≠false}
+use Rattle.tv_model.proofs.Tests.{true≠false}
 use Rattle.tv_model.proofs.Whole.{IsWhole}
 use Rattle.tv_history.specs.Entries.{Entry, History, accepted, bounced, closed, ended, fault_passed, handed_out, is_begun_entry, is_ended_entry, is_opened_entry, is_out, opened, recalled}
 use Rattle.tv_history.specs.Histories.{all_known, can_settle, has_entry, is_done, is_legal, is_legal_after, is_open, is_ready, is_running, is_settled, may_go_on, next_ask, out_count}
@@ -37,7 +38,7 @@ no-number : (k n : ℕ) → n ≡ 0 → (nat_lt 0 k && k == n) ≡ false
 no-number k n e =
     false_from_ne_true (nat_lt 0 k && k == n)
     (λ h.
-    omega (arith, ltb-true 0 k (left_true (nat_lt 0 k) (k == n) h), eqb-true k n (right_true (nat_lt 0 k) (k == n) h), e))
+    omega (arith, ltb-true 0 k (first_so (nat_lt 0 k) (k == n) h), eqb-true k n (second_so (nat_lt 0 k) (k == n) h), e))
 
 module _ (gives : Giving) (d : Document) (past : History) (legal : is_legal gives (meaning gives d) past ≡ true)
     (done : is_done past ≡ true) where
@@ -77,29 +78,29 @@ module _ (gives : Giving) (d : Document) (past : History) (legal : is_legal give
   ready-unsettled : (j : Job) → is_ready m past j ≡ true → is_settled past j ≡ false
   ready-unsettled j h =
       not-true (is_settled past j)
-      (right_true (is_open past j.instance && not (is_running past j)) (not (is_settled past j))
-      (left_true (is_open past j.instance && not (is_running past j) && not (is_settled past j)) (all_known m past j.waits) h))
+      (second_so (is_open past j.instance && not (is_running past j)) (not (is_settled past j))
+      (first_so (is_open past j.instance && not (is_running past j) && not (is_settled past j)) (all_known m past j.waits) h))
 
   none-settles : (l : Level) → can_settle m past l ≡ true → ⊥
   none-settles l h =
       none-open l.instance
-      (left_true (is_open past l.instance) (not (has_entry past l.name))
-      (left_true (is_open past l.instance && not (has_entry past l.name)) (all_known m past l.sources) h))
+      (first_so (is_open past l.instance) (not (has_entry past l.name))
+      (first_so (is_open past l.instance && not (has_entry past l.name)) (all_known m past l.sources) h))
 
   abbrev is_recalling : Entry → Bool
   is_recalling (recalled k) = true
   is_recalling e = false
 
   none-legal : {e : Entry} → Legal gives m past e → is_recalling e ≡ false → ⊥
-  none-legal (hands j a i o q) r = none-goes j i (right_true (is_some (next_ask past j)) (may_go_on m past j) o)
+  none-legal (hands j a i o q) r = none-goes j i (second_so (is_some (next_ask past j)) (may_go_on m past j) o)
   none-legal (accepts j a i o q) r = true≠false (sym (ap is_some q) ∙ ap is_some (none-asks j i))
   none-legal (bounces j i c) r =
-      true≠false (sym (settled j i) ∙ ready-unsettled j (left_true (is_ready m past j) (is_bounced j.ending) c))
+      true≠false (sym (settled j i) ∙ ready-unsettled j (first_so (is_ready m past j) (is_bounced j.ending) c))
   none-legal (closes l k i c e) r = none-settles l c
   none-legal (passes l i c e) r = none-settles l c
   none-legal (opens j i q c) r =
-      none-goes j i (right_true (is_none (next_ask past j) && is_some j.opens) (may_go_on m past j) c)
-  none-legal (ends n c) r = none-open n (left_true (is_open past n) _ c)
+      none-goes j i (second_so (is_none (next_ask past j) && is_some j.opens) (may_go_on m past j) c)
+  none-legal (ends n c) r = none-open n (first_so (is_open past n) _ c)
   none-legal w r = absurd (true≠false r)
 
   none : (e : Entry) → is_recalling e ≡ false → is_legal_after gives m past e ≡ false

@@ -3,6 +3,7 @@ use Rattle.std.specs.Prelude.{◌≡◌, refl, ℕ, ◌<◌, ◌≤◌, ◌⊎�
 use Rattle.std.proofs.Common.{ap, append-nil, append_assoc, arith, inl, inr, length-append, subst, sym, ◌∙◌}
 use Rattle.std.proofs.lemmas.Bool.{false_from_ne_true}
 use Rattle.std.proofs.lemmas.Option.{none-some, same_Some}
+use Rattle.std.specs.Cmp.{first_so, second_so}
 use Rattle.tv_lemmas.proofs.Cases.{on_either}
 use Rattle.tv_value.specs.Nested.{Place}
 use Rattle.tv_value.specs.Values.{JobName, Name}
@@ -13,7 +14,7 @@ use Rattle.tv_model.specs.Jobs.{Job}
 use Rattle.tv_model.specs.Made.{Meaning}
 use Rattle.tv_model.specs.Meanings.{meaning, nesting_limit}
 use Rattle.tv_model.specs.Members.{In}
-use Rattle.tv_model.proofs.Tests.{left_true, right_true, true≠false}
+use Rattle.tv_model.proofs.Tests.{true≠false}
 use Rattle.tv_history.specs.Entries.{History, is_out}
 use Rattle.tv_history.specs.Histories.{has_open_instance, is_open, is_running, may_go_on, next_ask}
 use Rattle.tv_history.proofs.OneWorker.{Before}
@@ -23,7 +24,7 @@ use Rattle.tv_order.specs.Chains.{is_inside}
 use Rattle.tv_order.specs.JobOrder.{steps_at}
 use Rattle.tv_order.proofs.OfDocuments.{any-first, any-laid, goes-going, name-length, shut}
 use Rattle.tv_order.proofs.OfFirst.{HasOwn, before-trans, going-open, has-own, open-running}
-use Rattle.tv_order.proofs.OfStrict.{same-spots, spot-itself}
+use Rattle.tv_order.proofs.OfStill.{inside-parts, inside-of}
 use Rattle.tv_framing.specs.Views.{View}
 use Rattle.tv_seats.specs.Seats.{Seat}
 use Rattle.tv_viewed.specs.InRun.{IsJobThere}
@@ -38,20 +39,6 @@ use Rattle.tv_firsts.proofs.OfFlows.{flows-by_names, steps-led}
 use Rattle.tv_firsts.proofs.OfInstances.{one-seat, ready-anywhere, running-anywhere, seat-job, stays-so}
 
 -- ---- inside
-
--- what is inside has the instance's name in front
-pub inside-parts : (I n : JobName) → is_inside I n ≡ true → (c : Name × Place) × (r : JobName) × (n ≡ I ++ c ∷ r)
-inside-parts [] [] h = absurd (true≠false (sym h))
-inside-parts [] (c ∷ n) h = (c, n, refl)
-inside-parts (x ∷ I) [] h = absurd (true≠false (sym h))
-inside-parts (x ∷ I) (y ∷ n) h =
-    let e = same-spots x y (left_true _ (is_inside I n) h) in
-    let p = inside-parts I n (right_true _ (is_inside I n) h) in
-    (p.0, p.1, ap (λ l. y ∷ l) p.2 ∙ ap (λ z. z ∷ (I ++ p.0 ∷ p.1)) (sym e))
-
-pub inside-of : (I : JobName) (c : Name × Place) (r : JobName) → is_inside I (I ++ c ∷ r) ≡ true
-inside-of [] c r = refl
-inside-of (x ∷ I) c r = ap (λ b. b && is_inside I (I ++ c ∷ r)) (spot-itself x) ∙ inside-of I c r
 
 module _ (gives : Giving) (d : Document) (levels : Flow → Name → ℕ) (past : History) (xs : Instances)
     (stand : Stand gives d levels past xs) where
@@ -86,7 +73,7 @@ module _ (gives : Giving) (d : Document) (levels : Flow → Name → ℕ) (past 
     passes-going : (j : Job) → passes j ≡ true → may_go_on m past j ≡ true
     passes-going j h =
         on_either passing
-        (λ e. right_true (is_some (next_ask past j)) (may_go_on m past j) (ap (λ f. f j) (sym e) ∙ h))
+        (λ e. second_so (is_some (next_ask past j)) (may_go_on m past j) (ap (λ f. f j) (sym e) ∙ h))
         (λ e. goes-going gives d past stand.legal j (ap (λ f. f j) (sym e) ∙ h))
 
     module _ (i : ℕ) (x : Instance) (v : View) (there : IsAt xs i x) (told : x.view ≡ Some v) (found : ℕ → Option Job)
@@ -121,8 +108,8 @@ module _ (gives : Giving) (d : Document) (levels : Flow → Name → ℕ) (past 
             (going_on gives m (all-sound gives AnyNumber m [] (document-whole gives d)) (are-jobs gives AnyNumber m [] (document-whole gives d)) past j g)
             (λ k.
             running-anywhere m past j
-            (left_true (is_running past j) (not (is_out past j.name))
-            (left_true (is_running past j && not (is_out past j.name)) (not (has_open_instance past j)) k)))
+            (first_so (is_running past j) (not (is_out past j.name))
+            (first_so (is_running past j && not (is_out past j.name)) (not (has_open_instance past j)) k)))
             (λ k. ready-anywhere m past j k)
 
         -- ---- where the first inside is found

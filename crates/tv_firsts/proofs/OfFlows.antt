@@ -7,6 +7,7 @@ use Rattle.std.proofs.lemmas.Option.{none-some, same_Some}
 use Rattle.tv_value.specs.Activities.{Activity, nested, service}
 use Rattle.tv_value.specs.Orders.{named, same_job, same_name}
 use Rattle.tv_value.specs.Values.{JobName, Name}
+use Rattle.tv_value.proofs.OfJobNames.{same_job_decides}
 use Rattle.tv_gate.specs.Outcomes.{Giving}
 use Rattle.tv_flow.specs.Flows.{Document, Flow, Step}
 use Rattle.tv_flow.specs.Formed.{is_formed}
@@ -25,8 +26,9 @@ use Rattle.tv_model.specs.Made.{Meaning}
 use Rattle.tv_model.specs.Meanings.{meaning}
 use Rattle.tv_model.specs.Members.{In}
 use Rattle.tv_model.proofs.Members.{each_in, no-nil, once-of_apart}
-use Rattle.tv_model.proofs.Tests.{same_job_decides, true≠false}
+use Rattle.tv_model.proofs.Tests.{true≠false}
 use Rattle.tv_model.proofs.Whole.{rank-each}
+use Rattle.tv_model.proofs.OfMembers.{named-in}
 use Rattle.tv_history.specs.Entries.{History}
 use Rattle.tv_history.proofs.Ready.{document-whole}
 use Rattle.tv_history.proofs.Tests.{same-itself}
@@ -43,21 +45,12 @@ use Rattle.tv_forest.specs.Forest.{Instance, Instances, IsAt, IsOpened, Stand}
 use Rattle.tv_firsts.specs.Told.{FlowsByNames}
 
 -- the two words for the flow that a step opens
-same-first : (as' : List Activity) → first_flow as' ≡ first_nested as'
+pub same-first : (as' : List Activity) → first_flow as' ≡ first_nested as'
 same-first [] = refl
 same-first (service s ∷ as') = same-first as'
 same-first (nested f ∷ as') = refl
 
 -- ---- names in a list
-
-named-in : (n : Name) (xs : List (Name × Step)) (s : Step) → named n xs ≡ Some s → In (n, s) xs
-named-in n [] s e = absurd (none-some s e)
-named-in n (x ∷ xs) s e = by (same_name n x.0) refl e (named-in n xs s)
-  where
-    by : (b : Bool) → same_name n x.0 ≡ b → (if b then Some x.1 else named n xs) ≡ Some s
-        → (named n xs ≡ Some s → In (n, s) xs) → In (n, s) (x ∷ xs)
-    by true h g rec = let first = (bytes_decides n x.0).0 h in inl (λ i. (first i, sym (same_Some x.1 s g) i))
-    by false h g rec = inr (rec g)
 
 not-none : (n : Name) (xs : List (Name × Step)) (s : Step) → In (n, s) xs → named n xs ≡ None → ⊥
 not-none n [] s i e = i

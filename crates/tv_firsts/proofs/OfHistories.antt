@@ -3,6 +3,8 @@ use Rattle.std.specs.Prelude.{◌≡◌, refl, ℕ, ◌++◌, List, [], ◌∷�
 use Rattle.std.specs.Option.{option_map_or}
 use Rattle.std.proofs.Common.{ap, subst, sym, ◌∙◌}
 use Rattle.std.proofs.lemmas.Bool.{false_from_ne_true}
+use Rattle.std.specs.Cmp.{first_so, second_so}
+use Rattle.std.proofs.Math.Bool.{and-false}
 use Rattle.tv_lemmas.proofs.Cases.{on_or}
 use Rattle.tv_value.specs.Values.{JobName, Name}
 use Rattle.tv_gate.specs.Outcomes.{Giving}
@@ -10,7 +12,7 @@ use Rattle.tv_flow.specs.Flows.{Document}
 use Rattle.tv_model.specs.Jobs.{Job}
 use Rattle.tv_model.specs.Made.{Meaning}
 use Rattle.tv_model.specs.Meanings.{meaning}
-use Rattle.tv_model.proofs.Tests.{both_true, left_true, right_true, true≠false}
+use Rattle.tv_model.proofs.Tests.{both_true, true≠false}
 use Rattle.tv_model.proofs.Turns.{In}
 use Rattle.tv_history.specs.Entries.{Entry, History, bounced, closed, ended, fault_passed, opened}
 use Rattle.tv_history.specs.Histories.{can_open, can_settle_more, is_at, is_legal, is_legal_after, is_offered, is_open, may_go_on, next_ask}
@@ -22,7 +24,7 @@ use Rattle.tv_order.specs.Moments.{goes_on}
 use Rattle.tv_order.proofs.OfFirst.{find-first, find-none}
 use Rattle.tv_firsts.specs.FirstWithin.{FirstOfAll, IsFirstWithin}
 use Rattle.tv_firsts.specs.Opening.{NothingLeft, OpeningIsLegal, SettlesNothing}
-use Rattle.tv_firsts.proofs.OfOpened.{and-false, is-instance}
+use Rattle.tv_firsts.proofs.OfOpened.{is-instance}
 
 not-both : {A : Type 0} (o : Option A) → is_some o ≡ true → is_none o ≡ true → ⊥
 not-both None h k = true≠false (sym h)
@@ -74,7 +76,7 @@ module _ (gives : Giving) (d : Document) where
         opens-now : can_open m past j ≡ true
         opens-now =
             on_or (is_offered m past j) (can_open m past j) goes
-            (λ h. absurd (true≠false (sym (left_true (is_some (next_ask past j)) (may_go_on m past j) h) ∙ ap is_some none)))
+            (λ h. absurd (true≠false (sym (first_so (is_some (next_ask past j)) (may_go_on m past j) h) ∙ ap is_some none)))
             (λ h. h)
 
     -- ---- nothing left
@@ -91,7 +93,7 @@ module _ (gives : Giving) (d : Document) where
           true≠false
           (sym c
           ∙ no-ending gives AnyNumber m [] (document-whole gives d) past quiet n
-          (is-instance gives d past legal n (left_true (is_open past n) _ c)))
+          (is-instance gives d past legal n (first_so (is_open past n) _ c)))
       none-settles l h = absurd (true≠false (sym h))
 
       none-legal : (e : Entry) → is_settling e ≡ true → is_legal_after gives m past e ≡ false
@@ -105,9 +107,9 @@ module _ (gives : Giving) (d : Document) where
           shut j h =
               false_from_ne_true (is_at j n && can_open m past j)
               (λ k.
-              let opens = right_true (is_at j n) (can_open m past j) k in
-              let both = left_true (is_none (next_ask past j) && is_some j.opens) (may_go_on m past j) opens in
-              not-both (next_ask past j) h (left_true (is_none (next_ask past j)) (is_some j.opens) both))
+              let opens = second_so (is_at j n) (can_open m past j) k in
+              let both = first_so (is_none (next_ask past j) && is_some j.opens) (may_go_on m past j) opens in
+              not-both (next_ask past j) h (first_so (is_none (next_ask past j)) (is_some j.opens) both))
 
           by : (o : Option Job) → find (goes_on gives d past) m.jobs ≡ o
               → (not (can_settle_more m past) && option_map_or (λ k. is_at k n && can_open m past k) o false) ≡ false

@@ -4,6 +4,7 @@ use Rattle.std.specs.Option.{option_map_or}
 use Rattle.std.proofs.Common.{ap, ap₂, inl, inr, subst, sym, ◌∙◌}
 use Rattle.tv_value.specs.Orders.{same_job}
 use Rattle.tv_value.specs.Values.{JobName, Name}
+use Rattle.tv_value.proofs.OfJobNames.{same_job_decides}
 use Rattle.tv_gate.specs.Outcomes.{Giving}
 use Rattle.tv_flow.specs.Flows.{Document, Flow}
 use Rattle.tv_model.specs.Jobs.{Job}
@@ -12,7 +13,6 @@ use Rattle.tv_model.specs.Meanings.{meaning}
 use Rattle.tv_model.specs.Members.{In}
 use Rattle.tv_model.proofs.Members.{Apart as KeysApart, once-of_apart}
 use Rattle.tv_model.proofs.Order.{in-map, of-map}
-use Rattle.tv_model.proofs.Tests.{same_job_decides}
 use Rattle.tv_history.specs.Entries.{History}
 use Rattle.tv_history.specs.Histories.{is_ready}
 use Rattle.tv_history.proofs.Ready.{document-whole}

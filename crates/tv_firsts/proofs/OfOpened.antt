@@ -2,8 +2,11 @@
 use Rattle.std.specs.Prelude.{◌≡◌, refl, ◌⊎◌, [], ◌∷◌, Bool, true, false, not, ◌&&◌, if◌then◌else◌, Some, None, is_none, is_some}
 use Rattle.std.specs.List.{list_any}
 use Rattle.std.proofs.Common.{ap, inl, inr, subst, sym, ◌∙◌}
+use Rattle.std.specs.Cmp.{first_so}
+use Rattle.std.proofs.Math.Bool.{and-false}
 use Rattle.tv_lemmas.proofs.Cases.{on_or}
 use Rattle.tv_value.specs.Values.{JobName}
+use Rattle.tv_value.proofs.OfJobNames.{same_job_decides}
 use Rattle.tv_gate.specs.Outcomes.{Giving}
 use Rattle.tv_flow.specs.Flows.{Document}
 use Rattle.tv_flow.specs.Formed.{is_formed}
@@ -13,7 +16,7 @@ use Rattle.tv_model.specs.Made.{Meaning}
 use Rattle.tv_model.specs.Meanings.{meaning}
 use Rattle.tv_model.specs.Turns.{is_bounced}
 use Rattle.tv_model.proofs.Members.{in-options}
-use Rattle.tv_model.proofs.Tests.{left_true, or_right, same_job_decides, true≠false}
+use Rattle.tv_model.proofs.Tests.{or_right, true≠false}
 use Rattle.tv_model.proofs.Turns.{In}
 use Rattle.tv_model.proofs.Whole.{IsWhole}
 use Rattle.tv_history.specs.Alone.{HaveTries}
@@ -27,10 +30,6 @@ use Rattle.tv_history.proofs.Tests.{any_weaken}
 use Rattle.tv_order.proofs.OfFirst.{going-open}
 use Rattle.tv_outcomes.proofs.Read.{documents-have_activities}
 use Rattle.tv_outcomes.proofs.Tried.{document-tried}
-
-pub and-false : (b : Bool) → (b && false) ≡ false
-and-false true = refl
-and-false false = refl
 
 -- one that has ended isn't open
 pub ended-shut : (past : History) (n : JobName) → list_any (is_ended_entry n) past ≡ true → is_open past n ≡ false
@@ -49,7 +48,7 @@ module _ (gives : Giving) (d : Document) where
   IsLegal past = is_legal gives m past ≡ true
 
   old : (past : History) (e : Entry) → IsLegal (e ∷ past) → IsLegal past
-  old past e l = left_true (is_legal gives m past) (is_legal_after gives m past e) l
+  old past e l = first_so (is_legal gives m past) (is_legal_after gives m past e) l
 
   -- it is the main one, or this job opened it
   abbrev pub WasOpened : History → JobName → Type 0
@@ -75,7 +74,7 @@ module _ (gives : Giving) (d : Document) where
   pub open-was : (past : History) → IsLegal past → (n : JobName) → is_open past n ≡ true → WasOpened past n
   open-was past l [] h = inl refl
   open-was past l (k ∷ n) h =
-      let o = left_true (list_any (is_opened_entry (k ∷ n)) past) (not (list_any (is_ended_entry (k ∷ n)) past)) h in
+      let o = first_so (list_any (is_opened_entry (k ∷ n)) past) (not (list_any (is_ended_entry (k ∷ n)) past)) h in
       let j = opener-of past l (k ∷ n) o in
       inr (j.0, j.1, j.2, subst (λ x. list_any (is_opened_entry x) past ≡ true) (sym j.2) o)
 
@@ -110,16 +109,16 @@ module _ (gives : Giving) (d : Document) where
 
   pub ready-open : (past : History) (j : Job) → is_ready m past j ≡ true → is_open past j.instance ≡ true
   ready-open past j h =
-      left_true (is_open past j.instance) (not (is_running past j))
-      (left_true (is_open past j.instance && not (is_running past j)) (not (is_settled past j))
-      (left_true (is_open past j.instance && not (is_running past j) && not (is_settled past j)) (all_known m past j.waits) h))
+      first_so (is_open past j.instance) (not (is_running past j))
+      (first_so (is_open past j.instance && not (is_running past j)) (not (is_settled past j))
+      (first_so (is_open past j.instance && not (is_running past j) && not (is_settled past j)) (all_known m past j.waits) h))
 
   bounced-now : (past : History) {e : Entry} → IsLegal past → (j : Job) → In j m.jobs → Legal gives m past e
       → is_bounced_entry j.name e ≡ true → WasOpened past j.instance
   bounced-now past l j i (bounces k ki c) h =
       open-was past l j.instance
       (ready-open past j
-      (left_true (is_ready m past j) (is_bounced j.ending)
+      (first_so (is_ready m past j) (is_bounced j.ending)
       (subst (λ x. (is_ready m past x && is_bounced x.ending) ≡ true) (same-job gives m (are-jobs gives AnyNumber m [] whole) k j ki i h) c)))
   bounced-now past l j i w h = absurd (true≠false (sym h))
 

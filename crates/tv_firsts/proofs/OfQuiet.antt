@@ -2,6 +2,7 @@
 use Rattle.std.specs.Prelude.{◌≡◌, refl, ℕ, true, false, not, ◌&&◌, ◌||◌, Some}
 use Rattle.std.proofs.Common.{ap, sym, ◌∙◌}
 use Rattle.std.proofs.lemmas.Bool.{false_from_ne_true, not-true}
+use Rattle.std.specs.Cmp.{first_so, second_so}
 use Rattle.tv_value.specs.Nested.{Place}
 use Rattle.tv_value.specs.Values.{JobName, Name}
 use Rattle.tv_gate.specs.Outcomes.{Giving}
@@ -12,7 +13,7 @@ use Rattle.tv_model.specs.Made.{Meaning}
 use Rattle.tv_model.specs.Meanings.{meaning}
 use Rattle.tv_model.specs.Members.{In}
 use Rattle.tv_model.specs.Turns.{is_bounced}
-use Rattle.tv_model.proofs.Tests.{left_true, right_true, true≠false}
+use Rattle.tv_model.proofs.Tests.{true≠false}
 use Rattle.tv_history.specs.Entries.{History}
 use Rattle.tv_history.specs.Histories.{all_known, can_bounce, can_end, can_settle, can_settle_more, has_entry, instances, is_open, is_ready, is_running, is_settled, may_go_on}
 use Rattle.tv_order.proofs.OfDocuments.{going-plain}
@@ -79,27 +80,27 @@ module _ (gives : Giving) (d : Document) (levels : Flow → Name → ℕ) (past 
 
       waits : is_waiting w.seat.stage ≡ true
       waits =
-          let a = left_true (is_open past j.instance && not (is_running past j) && not (is_settled past j)) (all_known m past j.waits) r in
-          let b = left_true (is_open past j.instance && not (is_running past j)) (not (is_settled past j)) a in
+          let a = first_so (is_open past j.instance && not (is_running past j) && not (is_settled past j)) (all_known m past j.waits) r in
+          let b = first_so (is_open past j.instance && not (is_running past j)) (not (is_settled past j)) a in
           waiting-is past j w.seat.stage (its.stages w.number w.seat j w.there w.is_its)
-          (not-true (is_running past j) (right_true (is_open past j.instance) (not (is_running past j)) b))
-          (not-true (is_settled past j) (right_true (is_open past j.instance && not (is_running past j)) (not (is_settled past j)) a))
+          (not-true (is_running past j) (second_so (is_open past j.instance) (not (is_running past j)) b))
+          (not-true (is_settled past j) (second_so (is_open past j.instance && not (is_running past j)) (not (is_settled past j)) a))
 
   none-bounces : (j : Job) → In j m.jobs → can_bounce m past j ≡ false
   none-bounces j i =
       false_from_ne_true (can_bounce m past j)
       (λ h.
-      let r = left_true (is_ready m past j) (is_bounced j.ending) h in
+      let r = first_so (is_ready m past j) (is_bounced j.ending) h in
       let t = open-there gives d levels past xs stand j.instance (ready-open gives d past j r) in
-      true≠false (sym (right_true (is_ready m past j) (is_bounced j.ending) h) ∙ tried-at j i r t))
+      true≠false (sym (second_so (is_ready m past j) (is_bounced j.ending) h) ∙ tried-at j i r t))
 
   none-settles : (l : Level) → In l (levels_of m.steps) → can_settle m past l ≡ false
   none-settles l i =
       false_from_ne_true (can_settle m past l)
       (λ h.
       let o =
-      left_true (is_open past l.instance) (not (has_entry past l.name))
-      (left_true (is_open past l.instance && not (has_entry past l.name)) (all_known m past l.sources) h)
+      first_so (is_open past l.instance) (not (has_entry past l.name))
+      (first_so (is_open past l.instance && not (has_entry past l.name)) (all_known m past l.sources) h)
       in
       let t = open-there gives d levels past xs stand l.instance o in
       let so = levels-settle_as_told gives d past t.instance.name (levels t.instance.flow) t.view t.sit.in_run in
@@ -109,7 +110,7 @@ module _ (gives : Giving) (d : Document) (levels : Flow → Name → ℕ) (past 
   none-ends n =
       false_from_ne_true (can_end m past n)
       (λ h.
-      let t = open-there gives d levels past xs stand n (left_true (is_open past n) _ h) in
+      let t = open-there gives d levels past xs stand n (first_so (is_open past n) _ h) in
       let so = instances-end_as_told gives d past t.instance.name (levels t.instance.flow) t.view t.sit.in_run in
       true≠false
       (sym h ∙ ap (can_end m past) (sym t.named) ∙ so ∙ (still t.number t.instance t.view t.there t.told).ends))

@@ -4,7 +4,8 @@ use Rattle.std.specs.declared.cmp.Ordering.{Ordering}
 use Rattle.std.specs.List.{list_any}
 use Rattle.std.specs.Ordering.{nat_cmp, match_ordering}
 use Rattle.std.specs.Cmp.Lexicographic.{slice_cmp}
-use Rattle.std.proofs.Common.{ap, sym, subst, ◌∙◌, append_assoc, append-nil, Less, Equal, Greater}
+use Rattle.std.proofs.Common.{ap, sym, ◌∙◌, append_assoc, append-nil, Less, Equal, Greater}
+use Rattle.std.proofs.lemmas.Bool.{true≢false}
 use Rattle.tv_value.specs.Activities.{service, nested}
 use Rattle.serde_json.specs.Data.{Data, Num, unsigned, negative, float, null, boolean, number, string, array, object, Items, no_items, item, Members, no_members, member}
 use Rattle.serde_json.specs.Find.{get, as_str, as_number, as_array, as_object}
@@ -29,15 +30,8 @@ Leads r cs = complaint_of r ≡ first_of cs
 
 -- ---- one after the other
 
-true-false : true ≡ false → ⊥
-true-false e = subst Holds e tt
-  where
-    Holds : Bool → Type 0
-    Holds true = Unit {0}
-    Holds false = ⊥
-
 some-none : {A : Type 0} (a : A) → Some a ≡ None → ⊥
-some-none a e = true-false (ap is_some e)
+some-none a e = true≢false (ap is_some e)
 
 and-first : (c : Complaint) (cs ds : List Complaint) → Some c ≡ first_of cs → Some c ≡ first_of (cs ++ ds)
 and-first c [] ds e = absurd (some-none c e)

@@ -1,15 +1,16 @@
 -- Reading a list entry by entry: the entries so far, before what the rest gives.
-use Rattle.std.specs.Prelude.{◌≡◌, ℕ, zero, suc, ◌+◌, ◌<◌, List, [], ◌∷◌, ◌++◌, length, drop, Bool, true, false, ◌&&◌, Result, Ok, Err, String, string_bytes, refl}
+use Rattle.std.specs.Prelude.{◌≡◌, ℕ, suc, ◌+◌, ◌<◌, List, [], ◌∷◌, ◌++◌, length, drop, Bool, true, false, ◌&&◌, Result, Ok, Err, String, string_bytes, refl}
 use Rattle.std.specs.declared.alloc.Global.{Global}
 use Rattle.std.specs.List.{list_all}
-use Rattle.std.proofs.Common.{ap, sym, ◌∙◌, arith, get_or, append_assoc}
-use Rattle.serde_json.specs.Data.{Data, item}
+use Rattle.std.proofs.Common.{ap, sym, ◌∙◌, get_or, append_assoc, add-one as next}
+use Rattle.serde_json.specs.Data.{Data}
 use Rattle.serde_json.specs.View.{view as json_view, items_view as json_items, members_view}
 use Rattle.serde_json.specs.declared.value.Value.{Value as Json}
 use Rattle.tv_value.specs.Values.{Text, Name}
 use Rattle.tv_flow.specs.declared.faults.FormFault.{FormFault}
 use Rattle.tv_flow.specs.declared.faults.FormFault.TheVariants.{Form, NoMemory}
 use Rattle.tv_value.specs.Readings.{item_count}
+use Rattle.tv_value.proofs.OfReading.{item-at}
 use Rattle.tv_flow.specs.Complaints.{Path, Complaint, key, index, given}
 use Rattle.tv_flow.specs.Answers.{told}
 use Rattle.tv_flow.specs.Forms.{name_or_not, entries_form, items_form, member_count}
@@ -26,17 +27,6 @@ module _ {A : Type 0} where
   pub stopped : {B : Type 0} (f : FormFault) (xs : List A) (a : Result B Complaint) (k : B → Result (List A) Complaint) → a ≡ told f a → put_before xs (given a k) ≡ told f (put_before xs (given a k))
   stopped (Form k p) xs a next e = ap (λ r. put_before xs (given r next)) e
   stopped NoMemory xs a next e = refl
-
-next : (i : ℕ) → i + 1 ≡ suc i
-next i = omega arith
-
-none : (i : ℕ) → i < 0 → ⊥
-none i p = omega arith
-
-item-at : (xs : List Json) (i : ℕ) (d : Json) → i < length xs → json_items (drop i xs) ≡ item (json_view (get_or xs i d)) (json_items (drop (suc i) xs))
-item-at [] i d h = absurd (none i h)
-item-at (x ∷ xs) zero d h = refl
-item-at (x ∷ xs) (suc i) d h = item-at xs i d (omega arith)
 
 -- ---- items of an array
 module _ {A : Type 0} (form : Path → Data → Result A Complaint) (here : Path) (xs : List Json) where

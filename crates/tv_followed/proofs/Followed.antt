@@ -1,13 +1,15 @@
 -- Labels by the list of jobs are what the records of these jobs lead to.
 use Rattle.std.specs.Prelude.{◌≡◌, refl, ℕ, zero, suc, ◌≤◌, List, [], ◌∷◌, map, flat_map, Bool, true, false, if◌then◌else◌}
 use Rattle.std.proofs.Common.{arith, sym, ap, subst, ◌∙◌, inl, inr}
+use Rattle.std.proofs.lemmas.Bool.{true≢false}
 use Rattle.tv_value.specs.Orders.{same_job, in_order}
+use Rattle.tv_value.proofs.OfJobNames.{same_job_decides}
 use Rattle.tv_lineage.specs.Touching as marks
 use Rattle.tv_lineage.specs.Touching.{Label, label_cmp}
 use Rattle.tv_lineage.specs.Members.{In}
 use Rattle.tv_lineage.specs.Lineages.{Record, LeadsIn, Leads, IsReached, backward}
-use Rattle.tv_lineage.proofs.OfMembers.{in-map, of-map, in-flat, of-flat, true≠false}
-use Rattle.tv_lineage.proofs.Closing.{same_job_decides, leads-more, backward-is}
+use Rattle.tv_lineage.proofs.OfMembers.{in-map, of-map, in-flat, of-flat}
+use Rattle.tv_lineage.proofs.Closing.{leads-more, backward-is}
 use Rattle.tv_strategy.specs.Origins.{Mark, given, made, Traced}
 use Rattle.tv_model.specs.Jobs.{Job}
 use Rattle.tv_model.specs.Lineages.{labels, used}
@@ -105,7 +107,7 @@ in-labels (j ∷ js) a u (suc k) (made n) l h = by (same_job n j.name) refl (λ 
         absurd (a.0 r.0 r.1 (sym (ap (λ (x : Record). x.job) r.2) ∙ h.2 ∙ e))
 
     rest : same_job n j.name ≡ false → In h.0 (recorded (j ∷ js)) → IsOf js (made n)
-    rest e (inl p) = absurd (true≠false (sym ((same_job_decides n j.name).1 (sym h.2 ∙ ap (λ (x : Record). x.job) p)) ∙ e))
+    rest e (inl p) = absurd (true≢false (sym ((same_job_decides n j.name).1 (sym h.2 ∙ ap (λ (x : Record). x.job) p)) ∙ e))
     rest e (inr i) = let r = of-map record_of h.0 js i in (r.0, r.1, sym (ap (λ (x : Record). x.job) r.2) ∙ h.2)
 
     by : (b : Bool) → same_job n j.name ≡ b → ((d : ℕ) (m : Mark) → LeadsIn (recorded js) d (mark_of m) l → In l (labels js m)) → In l (if b then flat_map (labels js) (flat_map used j.inputs) else labels js (made n))

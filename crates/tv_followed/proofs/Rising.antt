@@ -12,8 +12,8 @@ use Rattle.tv_value.specs.Nested.{Place, Tree, Trees, leaf, list, no_trees, node
 use Rattle.tv_value.specs.Orders.{name_cmp, place_cmp}
 use Rattle.tv_value.specs.Values.{JobName, Name, Value}
 use Rattle.tv_gate.specs.Outcomes.{Giving}
-use Rattle.tv_flow.specs.Flows.{Document, Feed, Flow}
-use Rattle.tv_flow.specs.Formed.{are_entries, are_named, is_ascending, is_between, is_depth, is_feed, is_flow, is_formed, is_step, is_value}
+use Rattle.tv_flow.specs.Flows.{Feed, Flow}
+use Rattle.tv_flow.specs.Formed.{are_named, is_ascending, is_depth, is_feed, is_flow, is_step}
 use Rattle.tv_flow.specs.Forms.{is_name}
 use Rattle.tv_lineage.specs.Members.{Each, In, Rises}
 use Rattle.tv_lineage.proofs.OfMembers.{each_in, in-append, in_each, of-flat, of-options}
@@ -27,6 +27,7 @@ use Rattle.tv_model.specs.Meanings.{flow_meaning, instance_meaning, meaning, nes
 use Rattle.tv_model.proofs.Fed.{named_map_or}
 use Rattle.tv_model.proofs.Instances.{steps_of}
 use Rattle.tv_followed.specs.Stated.{ForwardRises}
+use Rattle.tv_naming.proofs.FormedParts.{document-flows}
 
 -- ---- lists that rise
 
@@ -197,12 +198,6 @@ outputs-formed : (flow : Flow) → is_flow flow ≡ true → are_named is_feed 0
 outputs-formed flow h =
     (and_parts (are_named is_depth 0 16 flow.inputs && are_named is_step 0 1000 flow.steps) (are_named is_feed 0 16 flow.outputs) h).1
 
-flows-formed : (d : Document) → is_formed d ≡ true → are_named is_flow 1 256 d.flows ≡ true
-flows-formed d h =
-    let first = is_between 1 1 d.format && is_name d.main in
-    let flows = are_named is_flow 1 256 d.flows in
-    (and_parts first flows (and_parts (first && flows) (are_entries is_value d.inputs) h).0).1
-
 flow-rises : (gives : Giving) (inside : Name → JobName → List (Name × Value) → Meaning) (flow : Flow) (vs : List (Name × Value))
     → is_flow flow ≡ true → Rises output_cmp (instance_meaning gives inside [] flow vs).outputs
 flow-rises gives inside flow vs h =
@@ -219,4 +214,4 @@ meaning-rises gives gs (suc depth) f vs h =
 pub forward-rises : ForwardRises
 forward-rises gives d h x q =
     all-rise (meaning gives d) x q
-    (meaning-rises gives d.flows nesting_limit d.main d.inputs (entries-ascend is_flow 1 256 d.flows (flows-formed d h)).1)
+    (meaning-rises gives d.flows nesting_limit d.main d.inputs (entries-ascend is_flow 1 256 d.flows (document-flows d h)).1)

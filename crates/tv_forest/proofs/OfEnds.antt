@@ -3,9 +3,11 @@ use Rattle.std.specs.Prelude.{◌≡◌, ◌≢◌, refl, ℕ, ◌∷◌, ◌++�
 use Rattle.std.proofs.Common.{ap, subst, sym, ◌∙◌}
 use Rattle.std.proofs.lemmas.Bool.{false_from_ne_true}
 use Rattle.std.proofs.lemmas.Option.{none-some, same_Some}
+use Rattle.tv_lemmas.proofs.Options.{is_some-some}
 use Rattle.tv_value.specs.Nested.{Place}
 use Rattle.tv_value.specs.Orders.{same_job}
 use Rattle.tv_value.specs.Values.{Name}
+use Rattle.tv_value.proofs.OfJobNames.{same_job_decides}
 use Rattle.tv_gate.specs.Outcomes.{Giving}
 use Rattle.tv_flow.specs.Flows.{Document, Flow}
 use Rattle.tv_instance.specs.Events.{gave}
@@ -13,7 +15,6 @@ use Rattle.tv_model.specs.Jobs.{Job}
 use Rattle.tv_model.specs.Made.{Meaning}
 use Rattle.tv_model.specs.Meanings.{meaning}
 use Rattle.tv_model.proofs.Sound.{spot-step}
-use Rattle.tv_model.proofs.Tests.{same_job_decides}
 use Rattle.tv_history.specs.Entries.{Entry, History, ended}
 use Rattle.tv_history.specs.Histories.{can_end}
 use Rattle.tv_framing.specs.Views.{View}
@@ -32,7 +33,7 @@ use Rattle.tv_forest.specs.Entries.{Ending, shut, told, with_instance}
 use Rattle.tv_forest.specs.Forest.{Instance, Instances, IsAt, IsJobAt, IsOpenAt, Stand}
 use Rattle.tv_forest.proofs.OfEntries.{On, by-view, its-seat, same-flow, sit}
 use Rattle.tv_forest.proofs.OfInstances.{Becomes, IsOpenNumber, Later, StaysThen, job-was, later-itself, later-shut, one-job, sits, stand-then}
-use Rattle.tv_forest.proofs.OfLists.{at-each, at-set, is-some, no-longer, of-set, one-at, same-number, set-swap, to-set}
+use Rattle.tv_forest.proofs.OfLists.{at-each, at-set, no-longer, of-set, one-at, same-number, set-swap, to-set}
 use Rattle.tv_forest.proofs.OfOne.{stays-elsewhere}
 use Rattle.tv_forest.proofs.OfSeats.{Spots, WereNested, not-nested, number_of, spots-behind, spots-staged, was-here, were-behind, were-same, were-staged}
 
@@ -183,7 +184,7 @@ module _ (gives : Giving) (d : Document) (levels : Flow → Name → ℕ) (past 
 
   y-ends : HasEnded gives d (e ∷ past) y.name y.flow y.seats
   y-ends =
-      let f = is-some opened.instance.view opened.is_open in
+      let f = is_some-some opened.instance.view opened.is_open in
       let u = f.0 in
       let q = one-at xs k opened.instance y opened.there y_at in
       let h = sits gives d levels past xs stand k y u y_at (subst (λ (z : Instance). z.view ≡ Some u) q f.1) in

@@ -1,5 +1,5 @@
 -- Lists by number: with one member in another's place, and with one more.
-use Rattle.std.specs.Prelude.{◌≡◌, ◌≢◌, refl, ℕ, zero, suc, ◌+◌, ◌==◌, ◌⊎◌, Bool, true, false, List, [], ◌∷◌, ◌++◌, Option, None, Some, is_some, length, slice_get, slice_set}
+use Rattle.std.specs.Prelude.{◌≡◌, ◌≢◌, refl, ℕ, zero, suc, ◌+◌, ◌==◌, ◌⊎◌, Bool, true, false, List, [], ◌∷◌, ◌++◌, Some, length, slice_get, slice_set}
 use Rattle.std.proofs.Common.{ap, arith, inl, inr, length-append, subst, sym, ◌∙◌}
 use Rattle.std.proofs.lemmas.Bool.{eq-eqb, eqb-true}
 use Rattle.std.proofs.lemmas.Option.{none-some, same_Some}
@@ -12,10 +12,6 @@ same-number {R} m n same other = by (m == n) refl
     by : (b : Bool) → (m == n) ≡ b → R
     by true e = same (eqb-true m n e)
     by false e = other (λ is. true≠false (sym (eq-eqb m n is) ∙ e))
-
-pub is-some : {A : Type 0} (o : Option A) → is_some o ≡ true → (x : A) × (o ≡ Some x)
-is-some None e = absurd (true≠false (sym e))
-is-some (Some x) e = (x, refl)
 
 module _ {A : Type 0} where
   -- ---- names

@@ -3,6 +3,7 @@ use Rattle.std.specs.List.{list_all, list_any}
 use Rattle.std.specs.Prelude.{◌≡◌, refl, ℕ, zero, suc, ◌<◌, ◌∷◌, [], Option, None, Some, Bool, true, if◌then◌else◌, is_some, slice_get}
 use Rattle.std.proofs.Common.{ap, arith, subst, sym, ◌∙◌}
 use Rattle.std.proofs.lemmas.Bool.{not-true}
+use Rattle.std.specs.Cmp.{first_so}
 use Rattle.tv_value.specs.Nested.{Place}
 use Rattle.tv_value.specs.Orders.{same_job}
 use Rattle.tv_value.specs.Values.{JobName, Name}
@@ -12,7 +13,7 @@ use Rattle.tv_depths.specs.Delivered.{StepMeaning}
 use Rattle.tv_model.specs.Jobs.{Job}
 use Rattle.tv_model.specs.Made.{Meaning}
 use Rattle.tv_model.specs.Meanings.{meaning}
-use Rattle.tv_model.proofs.Tests.{left_true, true≠false}
+use Rattle.tv_model.proofs.Tests.{true≠false}
 use Rattle.tv_history.specs.Entries.{Entry, History, ended, is_ended_entry}
 use Rattle.tv_history.specs.Histories as histories
 use Rattle.tv_history.specs.Histories.{can_end}
@@ -79,7 +80,7 @@ module _ (gives : Giving) (d : Document) (levels : Flow → Name → ℕ) (past 
         subst (λ J. HasEnded gives d (ended J ∷ past) x.name x.flow x.seats) named
         (subst (λ g. HasEnded gives d (ended x.name ∷ past) x.name g x.seats) h.0 last)
     main-ends None h =
-        let was_open = left_true (histories.is_open past []) have_ended can in
+        let was_open = first_so (histories.is_open past []) have_ended can in
         let not_ended = not-true (list_any (is_ended_entry []) past) was_open in
         absurd
         (true≠false (sym (subst (λ J. list_any (is_ended_entry J) past ≡ true) named h.ended) ∙ not_ended))

@@ -2,6 +2,7 @@
 use Rattle.std.specs.Prelude.{◌≡◌, ℕ, List, ◌∷◌, true, false, Option, None, Some, is_some, option_map}
 use Rattle.std.proofs.Common.{ap, sym, ◌∙◌}
 use Rattle.std.proofs.lemmas.Option.{same_Some}
+use Rattle.tv_lemmas.proofs.Options.{is_some-some}
 use Rattle.tv_value.specs.Nested.{Place}
 use Rattle.tv_value.specs.Values.{JobName, Name, Value}
 use Rattle.tv_gate.specs.Outcomes.{Giving}
@@ -18,7 +19,7 @@ use Rattle.tv_seated.proofs.OfEnds.{ended_stays}
 use Rattle.tv_forest.specs.Entries.{GoesOnAs, OneGoesOn, with_instance}
 use Rattle.tv_forest.specs.Forest.{Instance, Instances, IsAt, IsOpenAt, Stand, Stays}
 use Rattle.tv_forest.proofs.OfInstances.{Becomes, Later, StaysThen, later-itself, stand-then}
-use Rattle.tv_forest.proofs.OfLists.{at-each, at-set, is-some, of-set, to-set}
+use Rattle.tv_forest.proofs.OfLists.{at-each, at-set, of-set, to-set}
 use Rattle.tv_forest.proofs.OfSeats.{WereNested, were-same}
 
 -- ---- an instance of which the entry isn't
@@ -42,7 +43,7 @@ later-on ys x y g = record {
   name = g.name;
   flow = g.flow;
   views = λ w e.
-      let v = is-some x.view (sym g.as_open ∙ ap is_some e) in (
+      let v = is_some-some x.view (sym g.as_open ∙ ap is_some e) in (
         v.0,
         v.1,
         same_Some w.inputs v.0.inputs (sym (ap inputs_of e) ∙ g.inputs ∙ ap inputs_of v.1),

@@ -37,7 +37,7 @@ nested-back (stage.Nested i) k e = e
 nested-back stage.Settled k e = e
 
 -- settled seats are what they were
-settled-back : (ss : List Seat) → ((n : ℕ) (s : Seat) → slice_get ss n ≡ Some s → s.stage ≡ stage.Settled)
+pub settled-back : (ss : List Seat) → ((n : ℕ) (s : Seat) → slice_get ss n ≡ Some s → s.stage ≡ stage.Settled)
     → map back ss ≡ ss
 settled-back [] h = refl
 settled-back (s ∷ ss) h =

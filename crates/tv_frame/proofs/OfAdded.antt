@@ -43,7 +43,7 @@ grown-in x j (k ∷ ks) i = by (is_lt (slice_cmp nat_cmp j.1 k.1)) i (λ h. grow
 
 -- ---- one step of all
 
-at-set : (steps : List StepIdle) (x c : ℕ) (s : StepIdle) → ((c ≡ x) × (of_step (slice_set steps x s) c ≡ s)) ⊎ (of_step (slice_set steps x s) c ≡ of_step steps c)
+pub at-set : (steps : List StepIdle) (x c : ℕ) (s : StepIdle) → ((c ≡ x) × (of_step (slice_set steps x s) c ≡ s)) ⊎ (of_step (slice_set steps x s) c ≡ of_step steps c)
 at-set [] x c s = inr refl
 at-set (t ∷ ts) zero zero s = inl (refl, refl)
 at-set (t ∷ ts) zero (suc c) s = inr refl
@@ -55,7 +55,7 @@ set-there [] x s l = absurd (omega arith)
 set-there (t ∷ ts) zero s l = refl
 set-there (t ∷ ts) (suc x) s l = set-there ts x s (omega arith)
 
-set-many : (steps : List StepIdle) (x : ℕ) (s : StepIdle) → length (slice_set steps x s) ≡ length steps
+pub set-many : (steps : List StepIdle) (x : ℕ) (s : StepIdle) → length (slice_set steps x s) ≡ length steps
 set-many [] x s = refl
 set-many (t ∷ ts) zero s = refl
 set-many (t ∷ ts) (suc x) s = ap suc (set-many ts x s)

@@ -2,9 +2,10 @@
 use Rattle.std.specs.List.{range_with_len}
 use Rattle.std.specs.Option.{option_map_or}
 use Rattle.std.specs.Prelude.{◌≡◌, ◌⊎◌, refl, ℕ, zero, suc, ◌+◌, ◌<◌, ◌≤◌, ◌==◌, Bool, true, false, List, [], ◌∷◌, ◌++◌, IsPermutation, drop, flat_map, if◌then◌else◌, length, map, Option, Some, None, slice_get}
-use Rattle.std.proofs.Common.{arith, sym, ap, subst, ◌∙◌, append-nil, append_assoc, eq-eqb, eqb-true, inl, inr, length-append}
+use Rattle.std.proofs.Common.{arith, sym, ap, subst, ◌∙◌, append-nil, append_assoc, eq-eqb, eqb-true, inl, inr, length-append, ne_of_lt}
 use Rattle.std.proofs.Math.Seq.{drop-append_seam}
 use Rattle.std.proofs.lemmas.List.Sorted.{IsPermutation-refl}
+use Rattle.std.proofs.lemmas.Option.{slice_get_past}
 use Rattle.tv_value.specs.Nested.{Place}
 use Rattle.tv_value.specs.Strategies.{Strategy}
 use Rattle.tv_value.specs.Values.{Name}
@@ -172,21 +173,13 @@ own-steps count qs n lt p x e =
     let m = mapped-there (λ (q : Place). (count, q)) qs p x e in
     subst (λ k. k < n) (sym (ap (λ (y : ℕ × Place). y.0) m.1)) lt
 
-pub not-last : (k count : ℕ) → k < count → k ≡ count → ⊥
-not-last k count lt e = omega (arith, lt, e)
-
 one-longer : {A : Type 0} (xs : List A) (n : ℕ) (x : A) → slice_get xs n ≡ Some x → slice_get xs (suc n) ≡ None → length xs ≡ suc n
 one-longer [] n x e g = cc
 one-longer (y ∷ []) zero x e g = refl
 one-longer (y ∷ z ∷ xs) zero x e g = cc
 one-longer (y ∷ xs) (suc n) x e g = ap suc (one-longer xs n x e g)
 
-past-none : {A : Type 0} (xs : List A) (n : ℕ) → length xs ≤ n → slice_get xs n ≡ None
-past-none [] n le = refl
-past-none (x ∷ xs) zero le = absurd (omega (arith, le))
-past-none (x ∷ xs) (suc n) le = past-none xs n (omega (arith, le))
-
-idle-within : (ss : List StepIdle) (k : ℕ) (j : ℕ × List ℕ) → IsIdle ss k j → k < length ss
+pub idle-within : (ss : List StepIdle) (k : ℕ) (j : ℕ × List ℕ) → IsIdle ss k j → k < length ss
 idle-within [] k j (inl h) = absurd h
 idle-within [] k j (inr h) = absurd h
 idle-within (s ∷ ss) zero j h = omega arith
@@ -212,7 +205,7 @@ module _ (f : Flow) (tells : ℕ → Step → List Told) (count : ℕ) (i j : In
 
   there : (o : Option Matcher) → IsStartedAt st mm o → matcher_at j count ≡ o → length j.matchers.items ≡ count + 1
   there None w e = absurd w
-  there (Some m) w e = one-longer j.matchers.items count m e (a.others (suc count) (next count) ∙ past-none i.matchers.items (suc count) (let n = h.as_many in omega (arith, n))) ∙ plus count
+  there (Some m) w e = one-longer j.matchers.items count m e (a.others (suc count) (next count) ∙ slice_get_past i.matchers.items (suc count) (let n = h.as_many in omega (arith, n))) ∙ plus count
     where
       next : (c : ℕ) → suc c ≡ c → ⊥
       next c p = omega (arith, p)
@@ -223,7 +216,7 @@ module _ (f : Flow) (tells : ℕ → Step → List Told) (count : ℕ) (i j : In
   flags-stay : (p n : ℕ) (q : Place) → slice_get (known_jobs i) p ≡ Some (n, q) → is_faulty_now j (n, q) ≡ is_faulty_now i (n, q)
   flags-stay p n q e =
       let lt : n < count = subst (λ m. n < m) h.steps (idle-within idle.steps n (p, q) (h.idle_are.all p (n, q) e)) in
-      ap (λ o. faulty_now_at o q) (a.others n (not-last n count lt))
+      ap (λ o. faulty_now_at o q) (a.others n (ne_of_lt {a = n} {b = count} lt))
 
   pub step-begun : (now : Idles) → now ≡ with_all_new (is_faulty_now j) (drop (length (known_jobs i)) (known_jobs j)) mid → HaveBegun f (but_at count tells) (count + 1) j now
   step-begun now is = subst (HaveBegun f (but_at count tells) (count + 1) j) (sym (is ∙ ap (λ l. with_all_new (is_faulty_now j) l mid) (ap (drop (length (known_jobs i))) a.jobs ∙ drop-append_seam (known_jobs i) (jobs_at j count)))) begun
@@ -255,10 +248,10 @@ module _ (f : Flow) (tells : ℕ → Step → List Told) (count : ℕ) (i j : In
         matchers = matchers;
         jobs_are =
             lists-more (jobs_at i) (jobs_at j) count (known_jobs i) [] (jobs_at j count) (known_jobs j) (h.jobs_are ∙ sym (append-nil (flat_map (jobs_at i) (range_with_len 0 count))))
-            (λ k low. ap (λ os. map (λ q. (k, q)) (job_places os)) (followed-same i j count a.others k (not-last k count low))) refl a.jobs;
+            (λ k low. ap (λ os. map (λ q. (k, q)) (job_places os)) (followed-same i j count a.others k (ne_of_lt {a = k} {b = count} low))) refl a.jobs;
         waiting_are =
             lists-more (things_at i) (things_at j) count (waiting_things i) [] (things_at j count) (waiting_things j) (h.waiting_are ∙ sym (append-nil (flat_map (things_at i) (range_with_len 0 count))))
-            (λ k low. ap (λ os. map (λ o. (k, o)) (others_among os)) (followed-same i j count a.others k (not-last k count low))) refl a.waiting;
+            (λ k low. ap (λ os. map (λ o. (k, o)) (others_among os)) (followed-same i j count a.others k (ne_of_lt {a = k} {b = count} low))) refl a.waiting;
         steps = all-many (is_faulty_now j) (jobs_at j count) mid ∙ many;
         levels = λ n t low e. all-levels (is_faulty_now j) (jobs_at j count) mid n ∙ level n t low e;
         idle_are = added-idle i j idle mid (jobs_at j count) h.idle_are same a.jobs (own-steps count (job_places (followed_at j count)) (length mid.steps) lt) flags-stay;

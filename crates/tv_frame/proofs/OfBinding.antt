@@ -3,7 +3,8 @@ use Rattle.std.specs.List.{list_any}
 use Rattle.std.specs.Prelude.{◌≡◌, refl, ℕ, suc, ◌+◌, ◌≤◌, Bool, true, false, if◌then◌else◌, List, [], ◌∷◌, ◌++◌, drop, length, map, take, Some, slice_get, unwrap_or}
 use Rattle.std.proofs.Common.{arith, inl, sym, ap, ap₂, subst, ◌∙◌}
 use Rattle.std.proofs.lemmas.List.Sorted.{IsPermutation-sym}
-use Rattle.std.proofs.lemmas.Option.{get_or_from_slice_get, none-some, same_Some}
+use Rattle.std.proofs.lemmas.Option.{get_or_from_slice_get, none-some, same_Some, slice_get_within}
+use Rattle.tv_lemmas.proofs.Lists.{get-map, of-get_map}
 use Rattle.tv_value.specs.Nested.{Place, at, leaf, list, nodes}
 use Rattle.tv_value.specs.Orders.{named, same_name}
 use Rattle.tv_value.specs.Strategies.{Strategy, port, cross, dot, Strategies, no_strategies, strategy}
@@ -17,14 +18,12 @@ use Rattle.tv_strategy.specs.Origins.{Origin, plain}
 use Rattle.tv_strategy.specs.Sources.{Each}
 use Rattle.tv_strategy.specs.Splits.{split}
 use Rattle.tv_strategy.proofs.OfLaws.{split-names_leaves}
+use Rattle.tv_strategy.proofs.OfSources.{each-append}
 use Rattle.tv_naming.proofs.ByPosition.{named-at, names_of}
-use Rattle.tv_naming.proofs.OfTold.{get-map}
 use Rattle.tv_flow.specs.Formed.{is_ascending}
 use Rattle.tv_depths.specs.Steps.{bound_values, strategy_of}
-use Rattle.tv_depths.proofs.OfRanked.{inside}
 use Rattle.tv_matching.specs.Items.{Bound, Item, Stopped, kind_of, known_items}
 use Rattle.tv_matching.specs.Told.{Spot}
-use Rattle.tv_matching.proofs.Lists.{each-append}
 use Rattle.tv_matching.proofs.OfMembers.{each-from, each-in, in-flat, in-permutes}
 use Rattle.tv_model.specs.Members.{In}
 use Rattle.tv_wires.specs.Ports.{leaf_number, levels_of, mismatches, port_among}
@@ -44,7 +43,6 @@ use Rattle.tv_drawn.specs.Steps.{IsOfRankedFlow}
 use Rattle.tv_drawn.proofs.OfSteps.{IsMadeOf, made-of, steps-paired}
 use Rattle.tv_frame.proofs.OfJobPorts.{leaf-at}
 use Rattle.tv_frame.proofs.OfPlans.{each-there}
-use Rattle.tv_frame.proofs.OfTables.{got-map}
 
 -- ---- a known job binds one list of values
 
@@ -125,7 +123,7 @@ module _ (ports : Name → ℕ) where
 pub named-there : {A : Type 0} (xs : List (Name × A)) (k : ℕ) (x : Name × A) → is_ascending (names_of xs) ≡ true → slice_get xs k ≡ Some x → named x.0 xs ≡ Some x.1
 named-there {A = A} xs k x rise e =
     let same = get_or_from_slice_get xs k x x e in
-    ap (λ (y : Name × A). named y.0 xs) (sym same) ∙ named-at xs k x rise (inside xs k x e) ∙ ap (λ (y : Name × A). Some y.1) same
+    ap (λ (y : Name × A). named y.0 xs) (sym same) ∙ named-at xs k x rise (slice_get_within xs k x e) ∙ ap (λ (y : Name × A). Some y.1) same
 
 pub named-mapped : {A B : Type 0} (g : A → B) (n : Name) (xs : List (Name × A)) (x : A) → named n xs ≡ Some x → named n (map (λ (y : Name × A). (y.0, g y.1)) xs) ≡ Some (g x)
 named-mapped g n [] x e = absurd (none-some x e)
@@ -160,7 +158,7 @@ module _ (f : Flow) (s : Name × Step) (agree : DotsAgree (number_of (mismatches
       let l = leaf-at (λ r. Unit {0}) i.0 rs (subst (λ ns. list_any (same_name i.0) ns ≡ true) (sym names) here_so) (each-from (λ r. Unit {0}) rs (λ r h. tt)) in
       let here : slice_get rs n ≡ Some (i.0, l.place) = ap (λ ns. slice_get rs (leaf_number i.0 ns)) (sym names) ∙ l.here in
       let places = places-split levels (strategy_of s.1) agree q deep in
-      let x = got-map part begins n (i.0, l.place) (ap (λ ts. slice_get ts n) (sym places) ∙ here) in
+      let x = of-get_map part begins n (i.0, l.place) (ap (λ ts. slice_get ts n) (sym places) ∙ here) in
       let name : i.0 ≡ x.0.0 = ap (λ (r : Spot). r.0) x.1.1 in
       let own : levels x.0.0 ≡ levels_of f i.1 =
       ap levels (sym name) ∙ ap (λ o. unwrap_or o 0) (named-mapped (levels_of f) i.0 s.1.inputs i.1 (named-there s.1.inputs k i rise e)) in

@@ -6,6 +6,7 @@ use Rattle.std.proofs.lemmas.Bool.Decides.{nat_tests}
 use Rattle.std.proofs.lemmas.List.{length-map}
 use Rattle.std.proofs.lemmas.List.Sorted.{IsPermutation-refl, length_permutation}
 use Rattle.std.proofs.lemmas.List.Sums.{sum_by-cons}
+use Rattle.std.proofs.lemmas.Bool.{eqb-true}
 use Rattle.tv_lemmas.proofs.Cases.{on_test}
 use Rattle.tv_value.specs.Strategies.{Strategy}
 use Rattle.tv_value.specs.Values.{Name}
@@ -115,9 +116,6 @@ if_one g cs c = if is_one_of cs c then g c else 0
 unlike : (a b : ℕ) → b < a → (a == b) ≡ false
 unlike a b h = grind (arith, nat_tests)
 
-alike : (a b : ℕ) → (a == b) ≡ true → a ≡ b
-alike a b h = grind (arith, nat_tests)
-
 apart : (a b : ℕ) → (a == b) ≡ false → a ≡ b → ⊥
 apart a b h e = grind (arith, nat_tests)
 
@@ -132,7 +130,7 @@ sum-ones g (suc m) k [] up low high = let r = sum-ones g m (suc k) [] tt tt tt i
 sum-ones g (suc m) k (c ∷ cs) up low high =
     on_test (c == k)
     (λ same.
-    let e : c ≡ k = alike c k same in
+    let e : c ≡ k = eqb-true c k same in
     let above : Each (λ d. k < d) cs = subst (λ x. Each (λ d. x < d) cs) e up.0 in
     let r = sum-ones g m (suc k) cs up.1 (each-weaken (λ d. k < d) (λ d. suc k ≤ d) (λ d lt. omega (arith, lt)) cs above) (each-weaken (λ d. d < k + suc m) (λ d. d < suc k + m) (λ d lt. omega (arith, lt)) cs high.1) in
     let first : if_one g (c ∷ cs) k ≡ g c = ap (λ b. if b || is_one_of cs k then g k else 0) same ∙ ap g (sym e) in

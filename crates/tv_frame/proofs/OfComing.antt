@@ -44,7 +44,8 @@ use Rattle.tv_frame.specs.Prepared.{IsComing}
 use Rattle.tv_frame.specs.Tables.{first_tree, levels_in, trees_of}
 use Rattle.tv_frame.proofs.OfKeeping.{kept-wired}
 use Rattle.tv_frame.proofs.OfPutting.{outputs-few, tree-after}
-use Rattle.tv_frame.proofs.OfTrees.{declared-named, position-within}
+use Rattle.tv_frame.proofs.OfTrees.{declared-named}
+use Rattle.tv_joined.proofs.OfTold.{few-there}
 
 -- ---- any event
 
@@ -73,7 +74,7 @@ module _ (flows : List (Name × Flow)) (plan : FlowPlan) (pool : Nodes) (f : Fra
     own-holds : (o : Name) → has_name s.1.outputs o ≡ true → Holds o s.0 s.1.outputs
     own-holds o h =
         let i = position o s.1.outputs in
-        let lt : i < length s.1.outputs = position-within o s.1.outputs h in
+        let lt : i < length s.1.outputs = few-there o s.1.outputs h in
         let few = outputs-few (length s.1.outputs) in
         subst (λ d. HoldsFaults (event_place e) (part_so_far s.0 i (levels s.0) d (e ∷ v.events)) (slice_index_or faults i 0)) (declared-named o s.1.outputs)
         (subst (λ p. HoldsFaults (event_place e) p (slice_index_or faults i 0)) (own-tree i (omega (arith, lt, few))) (each i lt))

@@ -1,9 +1,10 @@
 -- The fault that waits last at a step: it is found in what is known of the feed of its port, and may be passed.
 use Rattle.std.specs.List.{list_all, list_any}
-use Rattle.std.specs.Prelude.{◌≡◌, refl, ℕ, zero, suc, ◌<◌, Bool, true, false, drop, get_or, if◌then◌else◌, not, List, [], ◌∷◌, map, Option, Some, None, slice_get}
+use Rattle.std.specs.Prelude.{◌≡◌, refl, ℕ, zero, suc, ◌<◌, true, drop, get_or, if◌then◌else◌, List, [], ◌∷◌, map, Option, Some, None, slice_get}
 use Rattle.std.proofs.Common.{sym, ap, subst, ◌∙◌}
-use Rattle.std.proofs.lemmas.Bool.{true≢false}
+use Rattle.std.proofs.lemmas.Bool.{not-true}
 use Rattle.std.proofs.lemmas.Option.{none-some, same_Some}
+use Rattle.tv_lemmas.proofs.Lists.{get-map}
 use Rattle.tv_value.specs.Nested.{Place, at}
 use Rattle.tv_value.specs.Orders.{named, same_name}
 use Rattle.tv_value.specs.Values.{ErrorDoc, JobName, Name, Value, fault_value}
@@ -31,6 +32,7 @@ use Rattle.tv_outputs.specs.Known.{Nodes}
 use Rattle.tv_intake.specs.Intaken.{IsSoundAt, matcher_at}
 use Rattle.tv_model.specs.Instances.{given_of}
 use Rattle.tv_model.specs.Members.{In}
+use Rattle.tv_model.proofs.OfMembers.{in-slice}
 use Rattle.tv_instance.specs.ByResults.{InstanceStep, Results, step_of}
 use Rattle.tv_instance.specs.Events.{Extends, fault_set, has_level, known_by}
 use Rattle.tv_framing.specs.Answers.{CanSettle}
@@ -45,7 +47,6 @@ use Rattle.tv_drawn.specs.Waiting.{is_waiting, waiting_of}
 use Rattle.tv_drawn.proofs.OfLaws.{waiting_faults-can_settle}
 use Rattle.tv_drawn.proofs.OfRanks.{at-in}
 use Rattle.tv_drawn.proofs.OfSteps.{IsMadeOf, made-step, rising, steps-paired}
-use Rattle.tv_fed.proofs.OfNames.{in-slice}
 use Rattle.tv_truly.proofs.OfWires.{of-filter}
 use Rattle.tv_frame.specs.declared.frame.Frame.{Frame}
 use Rattle.tv_frame.specs.Kept.{HasMatcher, Keeps, followed_by}
@@ -57,11 +58,6 @@ use Rattle.tv_frame.proofs.OfKeeping.{kept-ranked, kept-wired}
 use Rattle.tv_frame.proofs.OfPlans.{dots-agree, leaves-differ}
 
 -- ---- lists
-
-get-mapped : {A B : Type 0} (g : A → B) (xs : List A) (k : ℕ) (x : A) → slice_get xs k ≡ Some x → slice_get (map g xs) k ≡ Some (g x)
-get-mapped g [] k x e = absurd (none-some x e)
-get-mapped g (y ∷ xs) zero x e = ap (λ z. Some (g z)) (same_Some y x e)
-get-mapped g (y ∷ xs) (suc k) x e = get-mapped g xs k x e
 
 -- what a mapped list has comes from what the list has
 pub record IsMappedFrom {A B : Type 0} (g : A → B) (xs : List A) (k : ℕ) (y : B) : Type 0 where
@@ -77,10 +73,6 @@ mapped-from g (x ∷ xs) (suc k) y e = let r = mapped-from g xs k y e in record 
 same-number : (n : Name) (ns : List Name) → leaf_number n ns ≡ matchers.leaf_number ns n
 same-number n [] = refl
 same-number n (m ∷ ns) = ap (λ k. if same_name n m then 0 else suc k) (same-number n ns)
-
-not-false : (b : Bool) → not b ≡ true → b ≡ false
-not-false true e = absurd (true≢false (sym e))
-not-false false e = refl
 
 fit-by : (v : View) (s : Name × Step) (o : Option Matcher) → HasMatcher v s o → IsSoundAt o → Each (IsFit (number_of (mismatches v.flow s.1))) (told_by o)
 fit-by v s None h sound = absurd h
@@ -144,7 +136,7 @@ module _ (flows : List (Name × Flow)) (plan : FlowPlan) (pool : Nodes) (f : Fra
       let known = one.6 in
       let delivers = feed_delivers step_of (given_of v.flow v.inputs) w.before in
       let p = port-at delivers s.1.inputs known.name known.port (ap (named known.name) (sym (ports-are v.flow levels one.0 one.1 v.inputs flows (steps_with v one.0 one.1) one.3 s w)) ∙ known.input) in
-      (p.number, port_among v.flow leaves (known.name, p.takes), get-mapped (port_among v.flow leaves) s.1.inputs p.number (known.name, p.takes) p.stands, same-number known.name leaves ∙ sym known.number)
+      (p.number, port_among v.flow leaves (known.name, p.takes), get-map (port_among v.flow leaves) s.1.inputs p.number (known.name, p.takes) p.stands, same-number known.name leaves ∙ sym known.number)
 
   -- a port that is the leaf
   module _ (j : ℕ) (p : Port) (there : slice_get (ports_of v.flow s.1) j ≡ Some p) (of_leaf : p.leaf ≡ l) (k : Known) (all : KnowsAll levels v k) where
@@ -198,7 +190,7 @@ module _ (flows : List (Name × Flow)) (plan : FlowPlan) (pool : Nodes) (f : Fra
           let found = found-from [] r.0 r.1 r.2 h.0 h.1 h.2 known in (
             d,
             found,
-            waiting_faults-can_settle flows levels v (kept-ranked flows plan pool f v keeps) n s stands once ts os told q l follows.0 (not-false (has_level v.events s.0 q) follows.1) d
+            waiting_faults-can_settle flows levels v (kept-ranked flows plan pool f v keeps) n s stands once ts os told q l follows.0 (not-true (has_level v.events s.0 q) follows.1) d
                 (λ instance results depth x g i e.
                 let other = known-at instance results depth x g i e in
                 let same : fault_value other.fault.document ≡ fault_value d = same_Some _ _ (sym (found-from instance results depth x g i e other) ∙ found) in

@@ -1,10 +1,9 @@
 -- What a frame's sources tell is all that is known of inputs and outputs, the feeds of ports are counted, and tables are read.
-use Rattle.std.specs.List.{range_with_len}
 use Rattle.std.specs.Option.{option_map_or}
 use Rattle.std.specs.Prelude.{◌≡◌, refl, ℕ, zero, suc, ◌+◌, ◌<◌, true, List, [], ◌∷◌, length, map, Option, Some, slice_get, slice_index_or, unwrap_or}
-use Rattle.std.proofs.Common.{arith, sym, ap, subst, ◌∙◌}
-use Rattle.std.proofs.lemmas.List.FromFn.{get_or-map-range_with_len, length-map-range_with_len}
-use Rattle.std.proofs.lemmas.Option.{get_or_from_slice_get, none-some, same_Some}
+use Rattle.std.proofs.Common.{sym, ap, subst, ◌∙◌}
+use Rattle.std.proofs.lemmas.Option.{get_or_from_slice_get, slice_get_within}
+use Rattle.tv_lemmas.proofs.Lists.{get-map, get-map_range, index-map}
 use Rattle.tv_value.specs.Nested.{list, no_trees}
 use Rattle.tv_value.specs.Values.{Name, Value}
 use Rattle.tv_flow.specs.Flows.{Flow, Step, output}
@@ -17,29 +16,18 @@ use Rattle.tv_cell.specs.PieceValues.{piece_values}
 use Rattle.tv_bound.specs.declared.sources.Sources.{Sources}
 use Rattle.tv_bound.specs.Sourced.{known_by, tree_from}
 use Rattle.tv_check.specs.declared.plans.FlowPlan.{FlowPlan}
-use Rattle.tv_depths.proofs.OfRanked.{inside}
 use Rattle.tv_model.specs.Instances.{value_given}
 use Rattle.tv_framing.specs.Arriving.{part_so_far}
 use Rattle.tv_framing.specs.Views.{View}
 use Rattle.tv_fed.proofs.OfNames.{is-named}
 use Rattle.tv_truly.specs.Known.{tree_of}
+use Rattle.tv_truly.proofs.OfNumbers.{step-there}
 use Rattle.tv_frame.specs.declared.frame.Frame.{Frame}
 use Rattle.tv_frame.specs.Kept.{Keeps, declared_at}
 use Rattle.tv_frame.specs.Tables.{first_tree, levels_in}
 use Rattle.tv_frame.proofs.OfFaultingFeeds.{KnowsAll}
-use Rattle.tv_frame.proofs.OfHoldAround.{fewer-trees, output-there, within-get}
-use Rattle.tv_frame.proofs.OfHoldTold.{at-mapped, same-names-has, same-names-position}
-
-get-mapped : {A B : Type 0} (g : A → B) (xs : List A) (k : ℕ) (x : A) → slice_get xs k ≡ Some x → slice_get (map g xs) k ≡ Some (g x)
-get-mapped g [] k x e = absurd (none-some x e)
-get-mapped g (y ∷ xs) zero x e = ap (λ z. Some (g z)) (same_Some y x e)
-get-mapped g (y ∷ xs) (suc k) x e = get-mapped g xs k x e
-
-at-range : (g : ℕ → ℕ) (m n : ℕ) → n < m → slice_get (map g (range_with_len 0 m)) n ≡ Some (g n)
-at-range g m n l =
-    let many = length-map-range_with_len g 0 m in
-    let x = within-get (map g (range_with_len 0 m)) n (subst (λ k. n < k) (sym many) l) in
-    x.1 ∙ ap (λ y. Some y) (sym (get_or_from_slice_get (map g (range_with_len 0 m)) n x.0 0 x.1) ∙ get_or-map-range_with_len g 0 m n n 0 l (omega arith))
+use Rattle.tv_frame.proofs.OfHoldAround.{fewer-trees}
+use Rattle.tv_frame.proofs.OfHoldTold.{same-names-has, same-names-position}
 
 module _ (flows : List (Name × Flow)) (plan : FlowPlan) (pool : Nodes) (f : Frame) (v : View) (keeps : Keeps flows plan pool f v) (a : Sources) (inputs_are : a.inputs.now ≡ f.inputs) (outputs_are : a.outputs.now ≡ f.outputs) (nodes_are : a.pool.now ≡ pool) (firsts_are : a.firsts.now ≡ f.tables.firsts.items) where
   abbrev levels : Name → ℕ
@@ -51,21 +39,21 @@ module _ (flows : List (Name × Flow)) (plan : FlowPlan) (pool : Nodes) (f : Fra
       ap (λ ps. slice_get (piece_values ps) (position y v.flow.inputs)) inputs_are
       ∙ ap (λ vs. slice_get vs (position y v.flow.inputs)) (sym keeps.inputs_are.values)
       ∙ ap (slice_get (map (λ (z : Name × Value). z.1) v.inputs)) (sym (same-names-position y v.inputs v.flow.inputs keeps.inputs_are.names))
-      ∙ get-mapped (λ (z : Name × Value). z.1) v.inputs (position y v.inputs) (y, st.thing) st.here
+      ∙ get-map (λ (z : Name × Value). z.1) v.inputs (position y v.inputs) (y, st.thing) st.here
       ∙ ap (λ o. Some (unwrap_or o (list tt no_trees))) (sym st.named_so)
 
   tree-so : (t o : Name) → is_there v.flow (output t o) ≡ true → tree_from (known a.pool.now a.outputs.now) (slice_get a.firsts.now (position t v.flow.steps)) (position o (outputs_of v.flow t)) ≡ tree_of v.flow levels v.inputs v.events t o
   tree-so t o h =
-      let b = output-there v.flow t o h in
+      let b = step-there v.flow t o h in
       let st = is-named t v.flow.steps b.0 in
       let n = position t v.flow.steps in
       let its = ap (λ (r : Option Step). option_map_or (λ (u : Step). u.outputs) r []) st.named_so in
       let out = is-named o (outputs_of v.flow t) b.1 in
       let k = position o (outputs_of v.flow t) in
       let few : k < length st.thing.outputs = subst (λ (ps : List (Name × ℕ)). k < length ps) its (there o (outputs_of v.flow t) b.1).below in
-      let declared : declared_at (t, st.thing) k ≡ out.thing = ap (λ (ps : List (Name × ℕ)). slice_index_or (map (λ (p : Name × ℕ). p.1) ps) k 0) (sym its) ∙ at-mapped (λ (p : Name × ℕ). p.1) (outputs_of v.flow t) k (o, out.thing) 0 out.here in
+      let declared : declared_at (t, st.thing) k ≡ out.thing = ap (λ (ps : List (Name × ℕ)). slice_index_or (map (λ (p : Name × ℕ). p.1) ps) k 0) (sym its) ∙ index-map (λ (p : Name × ℕ). p.1) (outputs_of v.flow t) k (o, out.thing) 0 out.here in
       ap (λ ns. tree_from (known a.pool.now a.outputs.now) (slice_get ns n) k) (firsts_are ∙ keeps.tables_are.firsts_are)
-      ∙ ap (λ r. tree_from (known a.pool.now a.outputs.now) r k) (at-range (first_tree v.flow.steps) (length v.flow.steps) n (inside v.flow.steps n (t, st.thing) st.here))
+      ∙ ap (λ r. tree_from (known a.pool.now a.outputs.now) r k) (get-map_range (first_tree v.flow.steps) (length v.flow.steps) n (slice_get_within v.flow.steps n (t, st.thing) st.here))
       ∙ ap (λ p. tree_in (known p a.outputs.now) (first_tree v.flow.steps n + k)) nodes_are
       ∙ ap (λ q. tree_in (known pool q) (first_tree v.flow.steps n + k)) outputs_are
       ∙ keeps.trees_are n (t, st.thing) st.here k (fewer-trees (t, st.thing) k few)

@@ -1,7 +1,9 @@
 -- The pieces of a passed fault: the document once for each tree of its step, with the depth that the output has there.
-use Rattle.std.specs.Prelude.{◌≡◌, refl, ℕ, zero, suc, pred, ◌+◌, ◌-◌, ◌<◌, ◌&&◌, Bool, true, false, IfOk, IsTrue, List, [], ◌∷◌, length, map, Some, Result, Ok, Err, slice_get, slice_index_or}
+use Rattle.std.specs.Prelude.{◌≡◌, refl, ℕ, zero, suc, ◌+◌, ◌-◌, ◌<◌, ◌&&◌, Bool, true, false, IfOk, IsTrue, List, [], ◌∷◌, length, map, Some, Result, Ok, Err, slice_get, slice_index_or}
 use Rattle.std.proofs.Common.{arith, sym, ap, subst, ◌∙◌}
-use Rattle.std.proofs.lemmas.Option.{get_or_from_slice_get, none-some, same_Some}
+use Rattle.std.proofs.lemmas.Option.{get_or_from_slice_get}
+use Rattle.std.proofs.lemmas.List.{length-map}
+use Rattle.tv_lemmas.proofs.Lists.{get-map, get-within, index-map}
 use Rattle.tv_value.specs.Nested.{Place}
 use Rattle.tv_value.specs.Values.{ErrorDoc, Name, Value, fault_value}
 use Rattle.tv_flow.specs.Flows.{Flow, Step}
@@ -22,34 +24,16 @@ use Rattle.tv_frame.specs.Calls.{ArePassed}
 use Rattle.tv_frame.specs.Kept.{Keeps, declared_at}
 use Rattle.tv_frame.specs.Prepared.{event_value}
 use Rattle.tv_frame.specs.Tables.{at_least_one, levels_at, levels_in}
-use Rattle.tv_frame.proofs.OfHoldAround.{within-get}
-use Rattle.tv_frame.proofs.OfHoldTold.{at-mapped}
 use Rattle.tv_frame.proofs.OfFaultingKnown.{index-mapped}
 use Rattle.tv_frame.proofs.OfKeeping.{kept-wired, levels-are, step-there}
+use Rattle.tv_joined.proofs.OfTurning.{left-below as less-below}
 
 -- what a viewed list has at a number
 pub at-view : {A B : Type 0} (g : A → B) (xs : List A) (n : ℕ) (d : A) (s : B) → slice_get (map g xs) n ≡ Some s → g (slice_index_or xs n d) ≡ s
 at-view g xs n d s e = sym (index-mapped g xs n d) ∙ get_or_from_slice_get (map g xs) n s (g d) e
 
-less-below : (d : ℕ) (q : Place) → levels_below d q ≡ d - length q
-less-below d [] = omega arith
-less-below d (i ∷ q) = less-below (pred d) q ∙ one d (length q)
-  where
-    one : (m k : ℕ) → pred m - k ≡ m - suc k
-    one zero k = omega arith
-    one (suc m) k = omega arith
-
 values-get : (vs : List Piece) (ws : List Value) (k : ℕ) (w : Value) → piece_values vs ≡ ws → slice_get ws k ≡ Some w → slice_get (piece_values vs) k ≡ Some w
 values-get vs ws k w e h = ap (λ us. slice_get us k) e ∙ h
-
-mapped-at : {A B : Type 0} (g : A → B) (xs : List A) (k : ℕ) (x : A) → slice_get xs k ≡ Some x → slice_get (map g xs) k ≡ Some (g x)
-mapped-at g [] k x e = absurd (none-some x e)
-mapped-at g (y ∷ xs) zero x e = ap (λ z. Some (g z)) (same_Some y x e)
-mapped-at g (y ∷ xs) (suc k) x e = mapped-at g xs k x e
-
-as-many : {A B : Type 0} (g : A → B) (xs : List A) → length (map g xs) ≡ length xs
-as-many g [] = refl
-as-many g (x ∷ xs) = ap suc (as-many g xs)
 
 some-trees : (n : ℕ) → 0 < n → at_least_one n ≡ n
 some-trees zero h = omega (arith, h)
@@ -66,13 +50,13 @@ module _ (v : View) (s : Name × Step) (q : Place) (d : ErrorDoc) (left : ℕ) (
   each-passed ps sound outs same some values = record {
     sound = sound;
     many =
-        sym (as-many piece_value ps) ∙ ap length values ∙ as-many (λ (o : Name × ℕ). with (left + o.1)) outs
+        sym (length-map ps piece_value) ∙ ap length values ∙ length-map outs (λ (o : Name × ℕ). with (left + o.1))
         ∙ sym (some-trees (length outs) some) ∙ ap (λ (os : List (Name × ℕ)). at_least_one (length os)) same;
     each = λ k lt.
         let within : k < length outs = subst (λ m. k < m) (ap (λ (os : List (Name × ℕ)). at_least_one (length os)) (sym same) ∙ some-trees (length outs) some) lt in
-        let o = within-get outs k within in
-        let declared : declared_at s k ≡ o.0.1 = ap (λ (os : List (Name × ℕ)). slice_index_or (map (λ (x : Name × ℕ). x.1) os) k 0) (sym same) ∙ at-mapped (λ (x : Name × ℕ). x.1) outs k o.0 0 o.1 in
-        values-get ps (map (λ (x : Name × ℕ). with (left + x.1)) outs) k (with (left + o.0.1)) values (mapped-at (λ (x : Name × ℕ). with (left + x.1)) outs k o.0 o.1)
+        let o = get-within outs k within in
+        let declared : declared_at s k ≡ o.0.1 = ap (λ (os : List (Name × ℕ)). slice_index_or (map (λ (x : Name × ℕ). x.1) os) k 0) (sym same) ∙ index-map (λ (x : Name × ℕ). x.1) outs k o.0 0 o.1 in
+        values-get ps (map (λ (x : Name × ℕ). with (left + x.1)) outs) k (with (left + o.0.1)) values (get-map (λ (x : Name × ℕ). with (left + x.1)) outs k o.0 o.1)
         ∙ ap (λ m. Some (with m)) (ap (λ m. m + o.0.1) (sym left-below) ∙ ap (λ m. levels_below (levels_in v.flow s.0) q + m) (sym declared));
   }
 
@@ -118,17 +102,6 @@ and-true false h = h
 
 pub one-sound : (p : Piece) (ps : List Piece) → ps ≡ p ∷ [] → IsSound p → AreSound ps
 one-sound p ps e h = subst AreSound (sym e) (and-true (is_sound p) h)
-
-pub none-there : {A : Type 0} (xs : List A) → length xs ≡ 0 → xs ≡ []
-none-there [] e = refl
-none-there (x ∷ xs) e = absurd (past (length xs) e)
-  where
-    past : (m : ℕ) → suc m ≡ 0 → ⊥
-    past m h = omega (arith, h)
-
-pub some-there : (n : ℕ) → (n ≡ 0 → ⊥) → 0 < n
-some-there zero h = absurd (h refl)
-some-there (suc n) h = omega arith
 
 pub ok-both : {T E : Type 0} (P Q : T → Type 0) (r : Result T E) → IfOk r P → IfOk r Q → IfOk r (λ x. P x × Q x)
 ok-both P Q (Ok x) h k = (h, k)

@@ -1,15 +1,16 @@
 -- What a call that seeks a passed fault reads: where its leaf begins, its port, and what the port's feed is found to deliver.
 use Rattle.std.specs.Global.{Global}
-use Rattle.std.specs.Prelude.{◌≡◌, refl, ℕ, zero, suc, ◌*◌, ◌<◌, Vec, List, [], ◌∷◌, drop, length, map, Option, Some, option_and_then, slice_get, slice_index_or, IfOk, Result, Ok, Err}
+use Rattle.std.specs.Prelude.{◌≡◌, refl, ℕ, ◌*◌, ◌<◌, Vec, List, drop, length, map, Option, Some, option_and_then, slice_get, slice_index_or, IfOk, Result, Ok, Err}
 use Rattle.std.proofs.Common.{Fits, arith, w64, sym, ap, subst, ◌∙◌}
 use Rattle.std.proofs.lemmas.List.{length-map}
-use Rattle.std.proofs.lemmas.Option.{none-some, same_Some, slice_get_within}
+use Rattle.std.proofs.lemmas.Option.{slice_get_within}
+use Rattle.std.proofs.lemmas.Bool.{and_parts}
+use Rattle.tv_lemmas.proofs.Lists.{get-map, index-map}
 use Rattle.tv_value.specs.Nested.{Place}
 use Rattle.tv_value.specs.Values.{ErrorDoc, Name, Value, fault_value}
 use Rattle.tv_flow.specs.Flows.{Flow, Step, StepInput}
 use Rattle.tv_flow.specs.Formed.{is_depth, is_feed, is_step, is_step_input}
 use Rattle.tv_flow.specs.Views.{flow_view}
-use Rattle.tv_naming.proofs.ByPosition.{both}
 use Rattle.tv_naming.proofs.FormedParts.{all-pass, entries-passes, few, flow-steps, step-at, step-inputs}
 use Rattle.tv_matching.specs.Matchers.{fault_at}
 use Rattle.tv_wires.specs.declared.ports.Port.{Port}
@@ -39,7 +40,6 @@ use Rattle.tv_frame.proofs.OfFaulting.{begins, fault-found, from, port-there, ta
 use Rattle.tv_frame.proofs.OfFaultingKnown.{index-mapped, knows-all, read-there}
 use Rattle.tv_frame.proofs.OfGiven.{feed-counted}
 use Rattle.tv_frame.proofs.OfHoldAround.{wiring-kept}
-use Rattle.tv_frame.proofs.OfHoldTold.{at-mapped}
 use Rattle.tv_frame.proofs.OfKeeping.{kept-wired}
 
 pub ok-weaken : {T E : Type 0} (P Q : T → Type 0) (r : Result T E) → ((x : T) → P x → Q x) → IfOk r P → IfOk r Q
@@ -55,13 +55,8 @@ planned p n d s e =
     ap (λ (y : plans.StepPlan). y.depth)
     (sym (index-mapped step_plan_view p.steps n d)
     ∙ ap (λ (y : plans.FlowPlan). slice_index_or y.steps n (step_plan_view d)) p.kept.0
-    ∙ at-mapped (plans.step_plan (flow_view p.flow)) (flow_view p.flow).steps n s (step_plan_view d) e)
+    ∙ index-map (plans.step_plan (flow_view p.flow)) (flow_view p.flow).steps n s (step_plan_view d) e)
     ∙ plan-levels (flow_view p.flow) s
-
-get-mapped : {A B : Type 0} (g : A → B) (xs : List A) (k : ℕ) (x : A) → slice_get xs k ≡ Some x → slice_get (map g xs) k ≡ Some (g x)
-get-mapped g [] k x e = absurd (none-some x e)
-get-mapped g (y ∷ xs) zero x e = ap (λ z. Some (g z)) (same_Some y x e)
-get-mapped g (y ∷ xs) (suc k) x e = get-mapped g xs k x e
 
 module _ (flows : List (Name × Flow)) (plan : FlowPlan) (pool : Nodes) (f : Frame) (v : View) (n : ℕ) (s : Name × Step) (keeps : Keeps flows plan pool f v) (at : IsStepAt v n s) (q : Place) (l : ℕ) (waits : In (fault_at q l) (waiting_of v.events s.0 (followed_by (matcher_at f.intakes n)))) where
   abbrev row_of : Name × Step → List ℕ
@@ -72,7 +67,7 @@ module _ (flows : List (Name × Flow)) (plan : FlowPlan) (pool : Nodes) (f : Fra
       ap (λ (y : Vec ℕ Global). y.items) e
       ∙ sym (index-mapped (λ (y : Vec ℕ Global). y.items) f.tables.starts.items n a)
       ∙ ap (λ xs. slice_index_or xs n a.items) keeps.tables_are.starts_are
-      ∙ at-mapped row_of v.flow.steps n s a.items at
+      ∙ index-map row_of v.flow.steps n s a.items at
 
   pub leaf-within : (a : Vec ℕ Global) → a ≡ slice_index_or f.tables.starts.items n a → l < length a.items
   leaf-within a e =
@@ -97,7 +92,7 @@ module _ (flows : List (Name × Flow)) (plan : FlowPlan) (pool : Nodes) (f : Fra
       omega (arith, b, c)
 
   pub ports-read : (xs : List (List Port)) (row ports : List Port) → xs ≡ plan.wiring.ports → ports ≡ slice_index_or xs n row → ports ≡ ports_of v.flow s.1
-  ports-read xs row ports e h = h ∙ ap (λ ys. slice_index_or ys n row) (e ∙ all-ports) ∙ at-mapped (λ (t : Name × Step). ports_of v.flow t.1) v.flow.steps n s row at
+  ports-read xs row ports e h = h ∙ ap (λ ys. slice_index_or ys n row) (e ∙ all-ports) ∙ index-map (λ (t : Name × Step). ports_of v.flow t.1) v.flow.steps n s row at
 
   module _ (ports : List Port) (ports_are : ports ≡ ports_of v.flow s.1) (j : ℕ) (found : (k : ℕ) (p : Port) → slice_get ports k ≡ Some p → p.leaf ≡ l → (r : Port) × (slice_get ports j ≡ Some r) × (r.leaf ≡ l)) where
     here : (r : Port) × (slice_get ports j ≡ Some r) × (r.leaf ≡ l)
@@ -128,14 +123,14 @@ module _ (flows : List (Name × Flow)) (plan : FlowPlan) (pool : Nodes) (f : Fra
       feed-few d =
           subst IsCounted (sym (feed-is d))
           (feed-counted v.flow input.1.from
-          (both (is_depth input.1.depth) (is_feed input.1.from)
+          (and_parts (is_depth input.1.depth) (is_feed input.1.from)
           (entries-passes is_step_input s.1.inputs j input (all-pass is_step_input 0 16 s.1.inputs (step-inputs s.1 (step-at v.flow (kept-wired flows plan pool f v keeps).formed n s at))) stands)).1)
 
       constant-is : constant_of_port (constants_view f.tables.constants) n j ≡ constant_in input.1.from
       constant-is =
           ap (λ (k : FlowConstants). constant_of_port k n j) keeps.tables_are.constants_are
-          ∙ ap (option_and_then (λ (os : List (Option Value)). there os j)) (get-mapped port_constants v.flow.steps n s at)
-          ∙ ap (option_and_then (λ (o : Option Value). o)) (get-mapped (λ (i : Name × StepInput). constant_in i.1.from) s.1.inputs j input stands)
+          ∙ ap (option_and_then (λ (os : List (Option Value)). there os j)) (get-map port_constants v.flow.steps n s at)
+          ∙ ap (option_and_then (λ (o : Option Value). o)) (get-map (λ (i : Name × StepInput). constant_in i.1.from) s.1.inputs j input stands)
 
       -- THE FAULT
       pub fault-read : (d : Port) (c : Option Value) → c ≡ constant_of_port (constants_view f.tables.constants) n j → (start : ℕ) → slice_get (row_of s) l ≡ Some start → (inside : Place) → inside ≡ drop start q → (e : ErrorDoc) × (feed_found (known_by a) (slice_index_or ports j d).feed c inside ≡ Some (fault_value e)) × CanSettle v (fault_set s.0 q e)

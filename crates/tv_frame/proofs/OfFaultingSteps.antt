@@ -6,11 +6,11 @@ use Rattle.std.proofs.Math.Path.{fun_ext}
 use Rattle.std.proofs.lemmas.Bool.{and_parts, true≢false}
 use Rattle.std.proofs.lemmas.List.{map-append}
 use Rattle.std.proofs.lemmas.List.Sorted.{IsPermutation-sym}
-use Rattle.std.proofs.lemmas.Option.{none-some, same_Some}
 use Rattle.tv_value.specs.Nested.{leaf, list, note, Place, at}
 use Rattle.tv_value.specs.Orders.{named, same_name}
 use Rattle.tv_value.specs.Strategies.{Strategy, Strategies, cross, dot, no_strategies, port, strategy}
 use Rattle.tv_value.specs.Values.{ErrorDoc, JobName, Name, fault, text}
+use Rattle.tv_value.proofs.OfNames.{same_name-refl}
 use Rattle.tv_flow.specs.Flows.{Flow, Step}
 use Rattle.tv_strategy.specs.Conditions.{EachOnce, number_of, place_of, times}
 use Rattle.tv_strategy.specs.Iterations.{Iteration, walk}
@@ -18,8 +18,6 @@ use Rattle.tv_strategy.specs.Measures.{DotsAgree, all_leaf_names, leaf_names, st
 use Rattle.tv_strategy.specs.Origins.{Origin, Traced, plain}
 use Rattle.tv_strategy.specs.Sources.{Each}
 use Rattle.tv_strategy.specs.Splits.{split}
-use Rattle.tv_strategy.proofs.OfPlaces.{same-equal}
-use Rattle.tv_naming.proofs.ByPosition.{same_name-refl}
 use Rattle.tv_depths.specs.Delivered.{Ported}
 use Rattle.tv_depths.specs.Ranks.{is_among}
 use Rattle.tv_depths.specs.Steps.{port_mismatch, strategy_of}
@@ -40,20 +38,12 @@ use Rattle.tv_kept.specs.Told.{PortIsTold}
 use Rattle.tv_starts.specs.Starts.{cross_starts, dot_starts, starts}
 use Rattle.tv_starts.proofs.OfFaults.{faults-stand}
 use Rattle.tv_drawn.specs.Items.{IsFaultOf, part_at}
-use Rattle.tv_drawn.proofs.OfLeaves.{among-in, at_leaves, in-among, leaf-in, leaves-permute, number-names, of-told, part-is, told-parted, PassesAt}
-use Rattle.tv_drawn.proofs.OfMatched.{at-plain, leaf-leveled, matched-known}
+use Rattle.tv_drawn.proofs.OfLeaves.{among-in, at_leaves, in-among, leaf-in, leaves-permute, number-names, of-told, part-is, told-parted, PassesAt, each-once}
+use Rattle.tv_drawn.proofs.OfMatched.{at-plain, leaf-leveled, matched-known, named-in}
 use Rattle.tv_drawn.proofs.OfSteps.{IsMadeOf, value_in}
 use Rattle.tv_frame.specs.Tables.{step_starts}
 
 -- ---- values
-
-named-in : {A : Type 0} (p : Name) (xs : List (Name × A)) (a : A) → named p xs ≡ Some a → In (p, a) xs
-named-in p [] a e = absurd (none-some a e)
-named-in {A} p (x ∷ xs) a e = by (same_name p x.0) refl e (named-in p xs a)
-  where
-    by : (b : Bool) → same_name p x.0 ≡ b → (if b then Some x.1 else named p xs) ≡ Some a → (named p xs ≡ Some a → In (p, a) xs) → In (p, a) (x ∷ xs)
-    by true t f rec = inl (ap₂ (λ (n : Name) (z : A). (n, z)) (same-equal p x.0 t) (sym (same_Some x.1 a f)))
-    by false t f rec = inr (rec f)
 
 -- a fault stands there, and its origin is known
 pub record IsKnownFault (known : Origin → Bool) (o : Option Traced) : Type 0 where
@@ -130,11 +120,6 @@ at-number n a (x ∷ xs) t i = by (same_name n x.0) refl t i (λ g j. at-number 
     by : (b : Bool) → same_name n x.0 ≡ b → (if b then suc (times n ns) else times n ns) ≡ 1 → In (n, a) (x ∷ xs) → (times n ns ≡ 1 → In (n, a) xs → slice_get (map (λ (y : Name × ℕ). y.1) xs) (leaf_number ns n) ≡ Some a) → slice_get (x.1 ∷ map (λ (y : Name × ℕ). y.1) xs) (if b then 0 else suc (leaf_number ns n)) ≡ Some a
     by true f g j rec = ap (λ y. Some y) (here j (λ k. none-more n a xs (one (times n ns) g) k))
     by false f g j rec = rec g (later f j)
-
-times-one : (ns ms : List Name) → EachOnce ns ms → (n : Name) → In n ns → times n ms ≡ 1
-times-one [] ms h n i = absurd i
-times-one (m ∷ ns) ms h n (inl e) = ap (λ k. times k ms) e ∙ h.0
-times-one (m ∷ ns) ms h n (inr i) = times-one ns ms h.1 n i
 
 -- ---- one step whose ports were told what is known of their walks
 
@@ -246,7 +231,7 @@ module _ (flow : Flow) (s : Name × Step) (f : InstanceStep) (made : IsMadeOf fl
           start = from.0;
           start_is =
               ap (slice_get (map (λ (y : Name × ℕ). y.1) (step_starts flow s))) (number ∙ ap (λ ns. leaf_number ns r.0) (sym names))
-              ∙ at-number r.0 from.0 (step_starts flow s) (ap (times r.0) names ∙ times-one leaves leaves once r.0 own) from.1;
+              ∙ at-number r.0 from.0 (step_starts flow s) (ap (times r.0) names ∙ each-once leaves leaves once r.0 own) from.1;
           fault = record {
             origin = h.fault.origin;
             document = h.fault.document;

@@ -2,11 +2,11 @@
 use Rattle.std.specs.Prelude.{◌≡◌, refl, ℕ, zero, suc, pred, ◌+◌, true, if◌then◌else◌, List, [], ◌∷◌, ◌++◌, Option, Some, None, option_and_then}
 use Rattle.std.proofs.Common.{arith, sym, ap, subst, ◌∙◌, append_assoc, append-nil}
 use Rattle.std.proofs.lemmas.Bool.{true≢false}
-use Rattle.std.proofs.lemmas.Option.{none-some, same_Some}
+use Rattle.std.proofs.lemmas.Option.{none-some}
 use Rattle.tv_value.specs.Nested.{Place, Trees, at, children, item_at, leaf, list, map_trees, no_trees, tree}
 use Rattle.tv_value.specs.Values.{ErrorDoc, JobName, Scalar, Value, fault, fault_value}
 use Rattle.tv_strategy.specs.Iterations.{End, Iteration, Iterations, job, passed}
-use Rattle.tv_strategy.specs.Levels.{AllHaveLevels, HasLevels}
+use Rattle.tv_strategy.specs.Levels.{HasLevels}
 use Rattle.tv_strategy.specs.Origins.{Origin, from_job, plain, traced}
 use Rattle.tv_strategy.specs.Outputs.{output_below, outputs_from}
 use Rattle.tv_depths.specs.Delivered.{Delivered}
@@ -25,7 +25,7 @@ use Rattle.tv_framing.specs.Arriving.{levels_below, part_so_far}
 use Rattle.tv_framing.specs.Gaining.{IsOutputOf}
 use Rattle.tv_framing.proofs.OfLaws.{parts-are_below}
 use Rattle.tv_joined.proofs.OfChanges.{known-wanting}
-use Rattle.tv_joined.proofs.OfTurning.{whole-there}
+use Rattle.tv_joined.proofs.OfTurning.{whole-there, levels-at}
 use Rattle.tv_truly.proofs.OfParts.{known-below}
 use Rattle.tv_truly.proofs.OfPlaces.{mapped-at}
 
@@ -132,23 +132,6 @@ whole-part (i ∷ y) z (closed ps) v w b e h = by (item_at (children v) i) refl 
     by None g k rec = absurd (none-some w k)
     by (Some u) g k rec = rec u (known-below (i ∷ []) (closed ps) v u b (ap (option_and_then (λ x. at x [])) g)) k
 
--- ---- levels
-
-left-at : (t : Iteration) (d : ℕ) → HasLevels t d → (x : Place) (u : Iteration) → at t x ≡ Some u → HasLevels u (levels_below d x)
-left-at t d l [] u e = subst (λ y. HasLevels y d) (same_Some t u e) l
-left-at (leaf s x) d l (i ∷ q) u e = absurd (none-some u e)
-left-at (list s ts) zero l (i ∷ q) u e = absurd l
-left-at (list s ts) (suc d) l (i ∷ q) u e = by (item_at ts i) refl e (λ y a b. left-at y d a q u b)
-  where
-    item-has : (ts : Iterations) (j : ℕ) (y : Iteration) → AllHaveLevels ts d → item_at ts j ≡ Some y → HasLevels y d
-    item-has no_trees j y h g = absurd (none-some y g)
-    item-has (tree t ts) zero y h g = subst (λ z. HasLevels z d) (same_Some t y g) h.0
-    item-has (tree t ts) (suc j) y h g = item-has ts j y h.1 g
-
-    by : (o : Option Iteration) → item_at ts i ≡ o → option_and_then (λ (y : Iteration). at y q) o ≡ Some u → ((y : Iteration) → HasLevels y d → at y q ≡ Some u → HasLevels u (levels_below d q)) → HasLevels u (levels_below d q)
-    by None f g rec = absurd (none-some u g)
-    by (Some y) f g rec = rec y (item-has ts i y l f) g
-
 -- ---- an output of a step of an instance
 
 module _ (instance : JobName) (results : Results) (g : InstanceStep) (d : Delivered) (out : IsOutputOf instance results g d) (leveled : HasLevels g.step.iteration out.2) (es : Events) (extends : Extends results es) (fit : FitStep g es) where
@@ -160,7 +143,7 @@ module _ (instance : JobName) (results : Results) (g : InstanceStep) (d : Delive
   leaf-found x o e h known =
       let l = output-leaf (spot instance g.step.step) (result_at results g.step.step out.0) out.1 g.step.iteration [] x out.2 o (fault e) (ap (λ v. at v x) (sym out.3) ∙ h) in
       let node : Iteration = leaf l.sources l.end in
-      let counted = whole-by_events g instance es fit node l.above (levels_below out.2 l.above) (left-at g.step.iteration out.2 leveled l.above node l.node) l.node in
+      let counted = whole-by_events g instance es fit node l.above (levels_below out.2 l.above) (levels-at g.step.iteration out.2 leveled l.above node l.node) l.node in
       let all : whole (known_at l.above told_tree) ≡ true = whole-there g out.0 out.2 out.1 es fit leveled l.above node l.node ∙ sym counted ∙ ap (known_by instance es) (sym l.origin) ∙ known in
       subst (λ q. found_in q told_tree ≡ Some (fault_value e)) (sym l.split)
       (whole-part l.above l.inside told_tree (plain d.value) (fault_value e) (parts-are_below instance results g d out es extends fit) all

@@ -3,16 +3,17 @@ use Rattle.std.specs.List.{list_all}
 use Rattle.std.specs.Prelude.{◌≡◌, refl, ℕ, true, ◌&&◌, ◌||◌, List, [], ◌∷◌, map, Some, slice_index_or, unwrap_or}
 use Rattle.std.proofs.Common.{sym, ap, ap₂, subst, ◌∙◌, inl, inr}
 use Rattle.std.proofs.lemmas.Bool.{and_parts, or_right}
+use Rattle.tv_lemmas.proofs.Lists.{index-map}
 use Rattle.tv_value.specs.Nested.{map_trees, tree, trees_of}
 use Rattle.tv_value.specs.Orders.{named, same_name}
 use Rattle.tv_value.specs.Values.{JobName, Name, Value, list_value}
+use Rattle.tv_value.proofs.OfNames.{same_name-refl}
 use Rattle.tv_flow.specs.Flows.{Feed, Flow, Link, constant, input, link, merge, output}
 use Rattle.tv_strategy.specs.Levels.{HasLevels}
 use Rattle.tv_strategy.specs.Origins.{fixed, plain}
 use Rattle.tv_strategy.specs.Sources.{Each}
 use Rattle.tv_naming.specs.Naming.{feed_links, has_name, is_there}
 use Rattle.tv_naming.specs.Numbers.{position}
-use Rattle.tv_naming.proofs.ByPosition.{same_name-refl}
 use Rattle.tv_depths.specs.Delivered.{Delivered, feed_delivers, link_delivers}
 use Rattle.tv_depths.specs.Ranks.{is_among}
 use Rattle.tv_matching.proofs.Lists.{each-weaken}
@@ -45,8 +46,8 @@ use Rattle.tv_begun.proofs.OfPlain.{plain-input, plain-traced}
 use Rattle.tv_begun.proofs.OfPorts.{IsFound, link-found}
 use Rattle.tv_begun.proofs.OfSteps.{IsMade, IsPlaced, all_depths, names_in, steps-placed}
 use Rattle.tv_truly.specs.Known.{tree_of}
-use Rattle.tv_frame.proofs.OfHoldAround.{output-there}
-use Rattle.tv_frame.proofs.OfHoldTold.{at-mapped, same-names-has, same-names-position}
+use Rattle.tv_truly.proofs.OfNumbers.{step-there as output-there}
+use Rattle.tv_frame.proofs.OfHoldTold.{same-names-has, same-names-position}
 
 -- ---- by names and by numbers
 
@@ -144,5 +145,5 @@ pub input-numbered : (w : View) → map (λ (y : Name × Value). y.0) w.inputs �
 input-numbered w names y there =
     let st = is-named y w.inputs (same-names-has y w.inputs w.flow.inputs names ∙ there) in
     ap (λ k. slice_index_or (map (λ (z : Name × Value). z.1) w.inputs) k no_items) (sym (same-names-position y w.inputs w.flow.inputs names))
-    ∙ at-mapped (λ (z : Name × Value). z.1) w.inputs (position y w.inputs) (y, st.thing) no_items st.here
+    ∙ index-map (λ (z : Name × Value). z.1) w.inputs (position y w.inputs) (y, st.thing) no_items st.here
     ∙ ap (λ o. unwrap_or o no_items) (sym st.named_so)

@@ -3,6 +3,8 @@ use Rattle.std.specs.Prelude.{◌≡◌, refl, ℕ, zero, suc, ◌+◌, ◌<◌,
 use Rattle.std.proofs.Common.{arith, sym, ap, subst, ◌∙◌, append-nil, eq-eqb, get_or}
 use Rattle.std.proofs.lemmas.List.{length-map}
 use Rattle.std.proofs.lemmas.List.Sorted.{IsPermutation-append, IsPermutation-map, IsPermutation-sym}
+use Rattle.std.proofs.lemmas.Bool.{and_parts}
+use Rattle.tv_lemmas.proofs.Lists.{get-map}
 use Rattle.tv_value.specs.Strategies.{Strategy}
 use Rattle.tv_value.specs.Values.{Name, Value}
 use Rattle.tv_value.specs.Views.{strategy_view}
@@ -14,8 +16,7 @@ use Rattle.tv_strategy.specs.Conditions.{Suits, number_of}
 use Rattle.tv_strategy.specs.Measures.{DotsAgree, leaf_names, strategy_depth}
 use Rattle.tv_strategy.specs.Sources.{Each}
 use Rattle.tv_naming.proofs.FormedParts.{all-pass, passes, step-at, step-inputs}
-use Rattle.tv_naming.proofs.OfLists.{both}
-use Rattle.tv_naming.proofs.OfTold.{get-map, got-in}
+use Rattle.tv_naming.proofs.OfTold.{got-in}
 use Rattle.tv_depths.specs.Steps.{strategy_of}
 use Rattle.tv_cell.specs.declared.piece.Piece.{Piece}
 use Rattle.tv_cell.specs.PieceValues.{piece_value, piece_values}
@@ -77,7 +78,7 @@ names-leaves g (t ∷ ts) h = (named-below (leaf_names g) (leaf_of t) (told_leaf
 
 module _ (flows : List (Name × Flow)) (p : FlowPlan) (vs : List Value) (can : CanStart flows p vs) (n : ℕ) (s : Name × Step) (at : slice_get (flow_view p.flow).steps n ≡ Some s) where
   ins-named : (k : ℕ) (i : Name × StepInput) → slice_get s.1.inputs k ≡ Some i → is_name i.0 ≡ true
-  ins-named k i e = (both _ _ (passes (λ (y : Name × StepInput). is_name y.0 && is_step_input y.1) s.1.inputs k i (all-pass is_step_input 0 16 s.1.inputs (step-inputs s.1 (step-at (flow_view p.flow) (plan-wired p).formed n s at))) e)).0
+  ins-named k i e = (and_parts _ _ (passes (λ (y : Name × StepInput). is_name y.0 && is_step_input y.1) s.1.inputs k i (all-pass is_step_input 0 16 s.1.inputs (step-inputs s.1 (step-at (flow_view p.flow) (plan-wired p).formed n s at))) e)).0
 
   start-named : Each (λ t. is_name (told_leaf t) ≡ true) (step_start (flow_view p.flow) (named_values (flow_view p.flow).inputs vs) s.1)
   start-named =

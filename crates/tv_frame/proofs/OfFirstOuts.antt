@@ -6,6 +6,7 @@ use Rattle.std.proofs.Common.{arith, sym, ap, ap₂, subst, ◌∙◌, true≢fa
 use Rattle.std.proofs.lemmas.Bool.{and_parts}
 use Rattle.std.proofs.lemmas.List.{length-map}
 use Rattle.std.proofs.lemmas.Option.{same_Some}
+use Rattle.tv_lemmas.proofs.Lists.{get-map, get-within}
 use Rattle.tv_value.specs.Orders.{named}
 use Rattle.tv_value.specs.Values.{Name, Value}
 use Rattle.tv_flow.specs.Flows.{Feed, Flow, Step, input, output}
@@ -18,7 +19,6 @@ use Rattle.tv_naming.specs.Naming.{feed_links, has_name, is_there}
 use Rattle.tv_naming.specs.Numbers.{position}
 use Rattle.tv_naming.proofs.ByPosition.{there}
 use Rattle.tv_naming.proofs.FormedParts.{all-pass, flow-outputs}
-use Rattle.tv_naming.proofs.OfTold.{get-map}
 use Rattle.tv_depths.specs.Delivered.{Delivered, feed_delivers}
 use Rattle.tv_cell.specs.declared.piece.Piece.{Piece}
 use Rattle.tv_cell.specs.PieceValues.{piece_values}
@@ -43,7 +43,6 @@ use Rattle.tv_frame.specs.Started.{AreFirstOuts}
 use Rattle.tv_frame.proofs.OfComing.{as-declared}
 use Rattle.tv_frame.proofs.OfFeeds.{AreLinkValues, feed-numbered, input-numbered}
 use Rattle.tv_frame.proofs.OfGiven.{feed-counted}
-use Rattle.tv_frame.proofs.OfHoldAround.{within-get}
 use Rattle.tv_frame.proofs.OfOutputLinks.{has_output_links, output-links}
 use Rattle.tv_frame.proofs.OfOutsFound.{IsAllWhole, constant_or, outputs-whole, whole_values}
 use Rattle.tv_frame.proofs.OfTables.{plan-wired, wiring-is}
@@ -90,7 +89,7 @@ delivered k f = map (λ (o : Name × Feed). feed_value (whole_values k) (feed_nu
 module _ (f : Flow) (links : has_output_links f ≡ true) (none : length f.steps ≡ 0) (k : Known) where
   all-whole : length k.inputs ≡ length f.inputs → IsAllWhole f k
   all-whole many = record {
-    inputs = λ x h. within-get k.inputs (position x f.inputs) (subst (λ n. position x f.inputs < n) (sym many) (there x f.inputs h).below);
+    inputs = λ x h. get-within k.inputs (position x f.inputs) (subst (λ n. position x f.inputs < n) (sym many) (there x f.inputs h).below);
     outputs = λ t o h. absurd (no-output f.steps none t o h);
   }
 

@@ -37,12 +37,10 @@ use Rattle.tv_match.specs.Filed.{filed}
 use Rattle.tv_match.specs.Seen.{IsSound, in_order, matching}
 use Rattle.tv_match.proofs.Faults.{all-in_order}
 use Rattle.tv_intake.specs.declared.intakes.Intakes.{Intakes}
-use Rattle.tv_intake.specs.Intaken.{AreIntaken, HoldsThese, IsMadeAt, IsSoundAt, IsStartedAt, OthersStay, brought_at, brought_in, followed_at, known_jobs, matcher_at, waiting_things}
-use Rattle.tv_intake.specs.Sorting.{brought, job_places, jobs_among, others_among}
-use Rattle.tv_intake.proofs.OfIntakes.{ahead-parts}
+use Rattle.tv_intake.specs.Intaken.{AreIntaken, HoldsThese, IsSoundAt, IsStartedAt, OthersStay, brought_at, brought_in, followed_at, known_jobs, matcher_at, waiting_things}
+use Rattle.tv_intake.specs.Sorting.{job_places, jobs_among, others_among}
 use Rattle.tv_spread.specs.Spreads.{IsLevelled, new_places}
-use Rattle.tv_spread.proofs.Lists.{each-behind}
-use Rattle.tv_spread.proofs.OfShowing.{Shows, new-there}
+use Rattle.tv_spread.proofs.OfShowing.{Shows, new-there, new-at, made-levels}
 use Rattle.tv_match.specs.declared.told.Told as code
 use Rattle.std.proofs.lemmas.List.Sums.{sum_by-cons}
 use Rattle.tv_idle.specs.Idles.{Idles, StepIdle, none_idle, of_step, with_rooms_of}
@@ -52,20 +50,9 @@ use Rattle.tv_joined.specs.EndedSteps.{AreEndingsOf}
 use Rattle.tv_frame.specs.Tables.{levels_at, levels_in}
 use Rattle.tv_frame.proofs.OfBeginning.{HasSameJobs, IsAdded}
 use Rattle.tv_frame.proofs.OfTables.{wiring-is}
+use Rattle.tv_frame.proofs.OfAdded.{set-many, at-set}
 
 -- ---- one step of all
-
-set-at : (steps : List StepIdle) (x c : ℕ) (s : StepIdle) → ((c ≡ x) × (of_step (slice_set steps x s) c ≡ s)) ⊎ (of_step (slice_set steps x s) c ≡ of_step steps c)
-set-at [] x c s = inr refl
-set-at (t ∷ ts) zero zero s = inl (refl, refl)
-set-at (t ∷ ts) zero (suc c) s = inr refl
-set-at (t ∷ ts) (suc x) zero s = inr refl
-set-at (t ∷ ts) (suc x) (suc c) s = on_either (set-at ts x c s) (λ h. inl (ap suc h.0, h.1)) (λ h. inr h)
-
-set-many : (steps : List StepIdle) (x : ℕ) (s : StepIdle) → length (slice_set steps x s) ≡ length steps
-set-many [] x s = refl
-set-many (t ∷ ts) zero s = refl
-set-many (t ∷ ts) (suc x) s = ap suc (set-many ts x s)
 
 push-at : (steps : List StepIdle) (s : StepIdle) (c : ℕ) → ((c ≡ length steps) × (of_step (steps ++ s ∷ []) c ≡ s)) ⊎ ((of_step (steps ++ s ∷ []) c ≡ of_step steps c) × (c ≡ length steps → ⊥))
 push-at [] s zero = inl (refl, refl)
@@ -105,7 +92,7 @@ module _ (idle a r m : Idles) (count depth : ℕ) (many : length idle.steps ≡ 
   parts : {B : Type 0} (g : StepIdle → B) → ((x y : StepIdle) → g (with_rooms_of x y) ≡ g y) → (c : ℕ) → g (of_step m.steps c) ≡ g (of_step (idle.steps ++ none_idle depth ∷ []) c)
   parts g free c =
       ap (λ l. g (of_step l c)) (m_steps ∙ rooms)
-      ∙ on_either (set-at a.steps count c (with_rooms_of (of_step r.steps count) (of_step a.steps count)))
+      ∙ on_either (at-set a.steps count c (with_rooms_of (of_step r.steps count) (of_step a.steps count)))
       (λ h. ap g h.1 ∙ free (of_step r.steps count) (of_step a.steps count) ∙ ap (λ k. g (of_step a.steps k)) (sym h.0))
       (λ h. ap g h)
       ∙ ap (λ l. g (of_step l c)) added
@@ -164,10 +151,6 @@ ordered-at m a =
     one d q (closes n) h = tt
     one d q (passes f) h = tt
 
-new-at : (c levels : ℕ) (qs : List Place) → Each (λ q. length q ≡ levels) qs → Each (IsAt c levels) (map (λ q. (c, q)) qs)
-new-at c levels [] h = tt
-new-at c levels (q ∷ qs) h = ((refl, h.0), new-at c levels qs h.1)
-
 -- the jobs that a step has from the start
 pub first-jobs : (j : Intakes) (c d levels : ℕ) (st : Strategy) (mm : List (Name × ℕ)) (before : List (ℕ × Place)) → AreIntaken j → IsStartedAt st mm (matcher_at j c) → d ≡ strategy_depth (number_of mm) st → levels ≡ d → known_jobs j ≡ before ++ map (λ q. (c, q)) (job_places (followed_at j c)) → (known : ℕ) → known ≡ length before → Each (IsAt c levels) (drop known (known_jobs j))
 first-jobs j c d levels st mm before a started deep e jobs known k =
@@ -205,7 +188,7 @@ module _ (idle r m : Idles) (count : ℕ) (rooms : r.steps ≡ slice_set idle.st
   own-parts : {B : Type 0} (g : StepIdle → B) → ((x y : StepIdle) → g (with_rooms_of x y) ≡ g y) → (c : ℕ) → g (of_step m.steps c) ≡ g (of_step idle.steps c)
   own-parts g free c =
       ap (λ l. g (of_step l c)) (m_steps ∙ rooms)
-      ∙ on_either (set-at idle.steps count c (with_rooms_of (of_step r.steps count) (of_step idle.steps count)))
+      ∙ on_either (at-set idle.steps count c (with_rooms_of (of_step r.steps count) (of_step idle.steps count)))
       (λ h. ap g h.1 ∙ free (of_step r.steps count) (of_step idle.steps count) ∙ ap (λ k. g (of_step idle.steps k)) (sym h.0))
       (λ h. ap g h)
 
@@ -224,15 +207,6 @@ module _ (idle r m : Idles) (count : ℕ) (rooms : r.steps ≡ slice_set idle.st
 
 -- ---- what a step brings with what it holds
 
-brought-places : (o p : Option Matcher) → IsMadeAt o p → IsSoundAt p → (s : StepIdle) → IsLevelled o s → Each (λ q. length q ≡ s.levels) (job_places (option_map_or brought o []))
-brought-places None p h a s l = absurd h
-brought-places (Some m) None h a s l = absurd h
-brought-places (Some m) (Some n) h a s l =
-    let same : strategy_depth (number_of (matching n).mismatch) (matching n).strategy ≡ s.levels = (λ i. strategy_depth (number_of (h.mismatch i)) (h.strategy i)) ∙ sym l in
-    places-at s.levels (brought m)
-    (each-behind (OutAt s.levels) (in_order m) (brought m)
-    (subst (Each (OutAt s.levels)) (h.follows ∙ sym (ahead-parts m)) (subst (λ k. Each (OutAt k) (in_order n)) same (ordered-at n a))))
-
 held-levels : (o p : Option Matcher) (ts : List code.Told) (s t : StepIdle) → HoldsThese ts o p → t.levels ≡ s.levels → IsLevelled o s → IsLevelled p t
 held-levels None p ts s t h e l = absurd h
 held-levels (Some m) None ts s t h e l = absurd h
@@ -245,7 +219,7 @@ module _ (c : ℕ) (i r k : Intakes) (ts : List code.Told) (holds : HoldsThese t
   pub new-places-at : (s t : StepIdle) → t.levels ≡ s.levels → IsLevelled (matcher_at i c) s → Each (IsAt c t.levels) (drop known (known_jobs k))
   new-places-at s t e l =
       subst (Each (IsAt c t.levels)) (sym there)
-      (new-at c t.levels (new_places r c) (brought-places (matcher_at r c) (matcher_at k c) shows.made (shows.intaken.sound c) t (held-levels (matcher_at i c) (matcher_at r c) ts s t holds e l)))
+      (new-at c t.levels (new_places r c) (made-levels (matcher_at r c) (matcher_at k c) shows.made (shows.intaken.sound c) t (held-levels (matcher_at i c) (matcher_at r c) ts s t holds e l)))
 
   places-many : (os : List Outcome) → length (job_places os) ≡ jobs_among os
   places-many [] = refl

@@ -1,8 +1,9 @@
 -- A step that is told what is known at the start.
 use Rattle.std.specs.Option.{option_map_or}
 use Rattle.std.specs.Prelude.{◌≡◌, refl, ℕ, suc, ◌+◌, ◌<◌, ◌==◌, Bool, true, false, List, [], ◌∷◌, ◌++◌, IsPermutation, drop, if◌then◌else◌, length, map, Option, Some, None, slice_get}
-use Rattle.std.proofs.Common.{arith, sym, ap, subst, ◌∙◌, eq-eqb, eqb-true}
+use Rattle.std.proofs.Common.{arith, sym, ap, subst, ◌∙◌, eq-eqb, eqb-true, ne_of_lt}
 use Rattle.std.proofs.lemmas.List.Sorted.{IsPermutation-append}
+use Rattle.std.proofs.lemmas.List.{map-append}
 use Rattle.tv_value.specs.Nested.{Place}
 use Rattle.tv_value.specs.Values.{Name}
 use Rattle.tv_flow.specs.Flows.{Flow, Step}
@@ -10,7 +11,6 @@ use Rattle.tv_strategy.specs.Conditions.{number_of}
 use Rattle.tv_depths.specs.Steps.{strategy_of}
 use Rattle.tv_matching.specs.Matchers.{CanTellAll, Matching}
 use Rattle.tv_matching.specs.Told.{IsFit, IsNew, Told, faulty_at}
-use Rattle.tv_matching.proofs.Lists.{map-append}
 use Rattle.tv_match.specs.declared.told.Told as code
 use Rattle.tv_match.specs.declared.matchers.Matcher.{Matcher}
 use Rattle.tv_match.specs.Seen.{in_order, matching, told_view}
@@ -25,7 +25,7 @@ use Rattle.tv_spread.proofs.OfShowing.{Shows, new-there}
 use Rattle.tv_frame.specs.Started.{HasBegun, HaveBegun, but_at}
 use Rattle.tv_frame.proofs.OfAdded.{all-levels}
 use Rattle.tv_frame.proofs.OfFlags.{flag-kept}
-use Rattle.tv_frame.proofs.OfBeginning.{HasSameJobs, added-idle, jobs_at, lists-more, not-last, others-both, own-steps, places-both, range-next, things_at}
+use Rattle.tv_frame.proofs.OfBeginning.{HasSameJobs, added-idle, jobs_at, lists-more, others-both, own-steps, places-both, range-next, things_at}
 
 can-tell-same : (m n : Matching) (ts : List Told) → n.mismatch ≡ m.mismatch → n.told ≡ m.told → CanTellAll m ts → CanTellAll n ts
 can-tell-same m n [] e t h = tt
@@ -92,7 +92,7 @@ module _ (f : Flow) (tells : ℕ → Step → List Told) (count : ℕ) (i r k : 
       by false g = ap (λ o. faulty_now_at o q) (others n (other n g))
 
   followed-before : (n : ℕ) → n < count → followed_at i n ≡ followed_at k n
-  followed-before n lt = ap (λ m. option_map_or in_order m []) (sym (shows.others n (not-last n count lt) ∙ others n (not-last n count lt)))
+  followed-before n lt = ap (λ m. option_map_or in_order m []) (sym (shows.others n (ne_of_lt {a = n} {b = count} lt) ∙ others n (ne_of_lt {a = n} {b = count} lt)))
 
   followed-last : followed_at k count ≡ followed_at i count ++ brought_at r count
   followed-last = made-follows (matcher_at r count) (matcher_at k count) shows.made ∙ ap (λ l. l ++ brought_at r count) (held-follows (matcher_at i count) (matcher_at r count) ts holds)

@@ -18,10 +18,11 @@ use Rattle.tv_match.proofs.Faults.{in-order_within, item-faulty, item-out}
 use Rattle.tv_match.proofs.FaultsAhead.{ahead-faulty}
 use Rattle.tv_intake.specs.declared.found.Found.{Found}
 use Rattle.tv_intake.specs.declared.intakes.Intakes.{Intakes}
-use Rattle.tv_intake.specs.Intaken.{AreIntaken, CanShow, IsMadeAt, IsSoundAt, faulty_ahead_at, followed_in, known_jobs, matcher_at, outcome_place, placed, thing_in}
+use Rattle.tv_intake.specs.Intaken.{AreIntaken, CanShow, IsMadeAt, IsSoundAt, followed_in, known_jobs, matcher_at, outcome_place, placed, thing_in}
 use Rattle.tv_intake.specs.Sorting.{faulty_ahead}
 use Rattle.tv_intake.proofs.OfIntakes.{ahead-longer, jobs-there, place-kept, step-within}
 use Rattle.tv_spread.specs.Spreads.{MakeAll, faulty_now_at}
+use Rattle.tv_spread.proofs.OfShowing.{made-faulty}
 use Rattle.tv_drawn.proofs.OfRanks.{at-in}
 use Rattle.tv_frame.specs.Kept.{followed_by}
 use Rattle.tv_frame.specs.Prepared.{is_one_of}
@@ -48,14 +49,9 @@ flag-stays m a can i l q e =
     sym (ahead-faulty m a can i (omega (arith, l, longer)) x.kind q refl place)
     ∙ item-faulty s m.mismatch (filed m.root) m.log m.out m.told m.given a.keeps i w.0 x.kind q refl place
 
-pub made-flag : (o p : Option Matcher) → IsMadeAt o p → (q : Place) → faulty_now_at p q ≡ faulty_ahead_at o q
-made-flag None p h q = absurd h
-made-flag (Some m) None h q = absurd h
-made-flag (Some m) (Some n) h q = λ i. faulty_at (h.strategy i) (h.told i) q
-
 stays-at : (o p : Option Matcher) → IsMadeAt o p → IsSoundAt o → CanShow o → (at : ℕ) (q : Place) → at < length (followed_by o) → outcome_place (get_or (followed_by o) at (job_at [])) ≡ q → faulty_now_at p q ≡ faulty_now_at o q
 stays-at None p h a can at q l e = absurd h
-stays-at (Some m) p h a can at q l e = made-flag (Some m) p h q ∙ flag-stays m a can at l q e
+stays-at (Some m) p h a can at q l e = made-faulty (Some m) p h q ∙ flag-stays m a can at l q e
 
 -- ---- all steps
 

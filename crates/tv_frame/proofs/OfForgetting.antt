@@ -5,7 +5,7 @@ use Rattle.std.proofs.Common.{sym, ap, subst, ◌∙◌, append-nil, true≢fals
 use Rattle.tv_value.specs.Nested.{Place}
 use Rattle.tv_value.specs.Orders.{same_name}
 use Rattle.tv_value.specs.Values.{JobName, Name, Value}
-use Rattle.tv_naming.proofs.ByPosition.{same_name-refl}
+use Rattle.tv_value.proofs.OfNames.{same_name-refl}
 use Rattle.tv_flow.specs.Flows.{Flow, Step}
 use Rattle.tv_strategy.specs.Iterations.{walk}
 use Rattle.tv_strategy.specs.Origins.{Known, Origin, Traced, at_start, by_job, by_level}

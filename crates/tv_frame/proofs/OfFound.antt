@@ -5,14 +5,16 @@ use Rattle.std.proofs.Common.{◌⊎◌, inl, inr, sym, ap, subst, ◌∙◌, eq
 use Rattle.std.proofs.lemmas.Bool.{and_parts, or_right, true≢false}
 use Rattle.std.proofs.lemmas.Grind.{get_or-set_at}
 use Rattle.std.proofs.lemmas.List.{get_or-set_other, length-map, length-set}
+use Rattle.std.proofs.lemmas.Option.{slice_get_within}
+use Rattle.tv_lemmas.proofs.Lists.{get-within}
 use Rattle.tv_value.specs.Orders.{same_name}
 use Rattle.tv_value.specs.Values.{Name, Value}
+use Rattle.tv_value.proofs.OfNames.{same_name-refl}
 use Rattle.tv_flow.specs.Flows.{Flow, Step}
 use Rattle.tv_naming.specs.Numbers.{position}
-use Rattle.tv_naming.proofs.ByPosition.{same_name-refl}
 use Rattle.tv_naming.proofs.FormedParts.{steps-ascend}
 use Rattle.tv_depths.specs.Ranks.{is_among, ranked}
-use Rattle.tv_depths.proofs.OfRanked.{all-ranked, inside}
+use Rattle.tv_depths.proofs.OfRanked.{all-ranked}
 use Rattle.tv_parts.specs.Partials.{Partial, whole}
 use Rattle.tv_parts.proofs.Changes.{arrive-not_whole, close-not_whole}
 use Rattle.tv_pool.specs.Pool.{IsLive}
@@ -25,6 +27,7 @@ use Rattle.tv_outputs.specs.Kept.{Stand}
 use Rattle.tv_intake.specs.Intaken.{AreIntaken, known_jobs, matcher_at, waiting_things}
 use Rattle.tv_feeds.specs.Feeds.{with_step}
 use Rattle.tv_model.specs.Members.{In}
+use Rattle.tv_model.proofs.OfMembers.{in-slice}
 use Rattle.tv_instance.specs.ByResults.{last_first}
 use Rattle.tv_instance.specs.Counting.{have_ended_by, whole_by}
 use Rattle.tv_instance.specs.Events as events
@@ -36,12 +39,11 @@ use Rattle.tv_framing.specs.Views.{View}
 use Rattle.tv_joined.specs.EndedSteps.{AreEndingsOf}
 use Rattle.tv_joined.specs.TurningTrees.{CanPut}
 use Rattle.tv_joined.specs.WiredFlows.{IsWired}
-use Rattle.tv_joined.proofs.OfEndings.{all-true, all-whole, true-all}
+use Rattle.tv_joined.proofs.OfEndings.{all-true, all-whole, true-all, position-of}
 use Rattle.tv_kept.specs.NextEvents.{is_whole_step}
 use Rattle.tv_fed.specs.Fed.{event_number}
 use Rattle.tv_fed.proofs.OfComing.{events-are_in_trees, trees-are_whole_with_steps}
-use Rattle.tv_fed.proofs.OfNames.{in-slice}
-use Rattle.tv_fed.proofs.OfWholeSteps.{marks-are_whole_steps, position-of, whole-steps_go_on}
+use Rattle.tv_fed.proofs.OfWholeSteps.{marks-are_whole_steps, whole-steps_go_on}
 use Rattle.tv_drawn.specs.Steps.{IsStepAt}
 use Rattle.tv_frame.specs.declared.frame.Frame.{Frame}
 use Rattle.tv_frame.specs.declared.outs.Over.{Over}
@@ -49,7 +51,7 @@ use Rattle.tv_frame.specs.Kept.{AreIdle, AreInputsOf, AreMatchers, AreOuts, AreT
 use Rattle.tv_frame.specs.Outs.{AllAreWhole}
 use Rattle.tv_frame.specs.Prepared.{HasSameHeld, HasSameParts, IsLaidOver}
 use Rattle.tv_frame.specs.Tables.{AreTables, levels_in}
-use Rattle.tv_frame.proofs.OfHoldAround.{wired-flow, wiring-kept, within-get}
+use Rattle.tv_frame.proofs.OfHoldAround.{wired-flow, wiring-kept}
 
 -- ---- a frame that is otherwise the same
 
@@ -158,7 +160,7 @@ module _ (flows : List (Name × Flow)) (plan : FlowPlan) (pool : Nodes) (f : Fra
   pub step-after : (after : List (List ℕ)) → after ≡ plan.wiring.after → over.step < length after
   step-after after same =
       subst (λ l. over.step < l) (sym (ap length (same ∙ ap (λ (x : Wiring). x.after) (wiring-kept flows plan pool f v keeps)) ∙ length-map v.flow.steps (λ (t : Name × Step). after_of v.flow.steps t.1)))
-      (inside v.flow.steps over.step s laid.at)
+      (slice_get_within v.flow.steps over.step s laid.at)
 
   abbrev w : View
   w = with_event v e []
@@ -170,7 +172,7 @@ module _ (flows : List (Name × Flow)) (plan : FlowPlan) (pool : Nodes) (f : Fra
   marked-one n = by (n == over.step) refl
     where
       by : (b : Bool) → (n == over.step) ≡ b → slice_index_or (slice_set f.endings.whole.items over.step true) n false ≡ (b || is_whole f.endings n)
-      by true g = get_or-set_at f.endings.whole.items over.step n true false (eqb-true n over.step g) (subst (λ m. over.step < m) (sym as-many) (inside v.flow.steps over.step s laid.at))
+      by true g = get_or-set_at f.endings.whole.items over.step n true false (eqb-true n over.step g) (subst (λ m. over.step < m) (sym as-many) (slice_get_within v.flow.steps over.step s laid.at))
       by false g = get_or-set_other f.endings.whole.items over.step n true false (λ k. true≢false (sym (eq-eqb n over.step k) ∙ g))
 
   whole-after : (n : ℕ) (t : Name × Step) → IsStepAt v n t → whole_by (e ∷ v.events) t.0 (levels t.0) [] ≡ (if from == 0 then slice_index_or (slice_set f.endings.whole.items over.step true) n false else is_whole f.endings n)
@@ -184,12 +186,12 @@ module _ (flows : List (Name × Flow)) (plan : FlowPlan) (pool : Nodes) (f : Fra
   all-whole_now z h n t at =
       whole-after n t at
       ∙ ap (λ b. if b then slice_index_or (slice_set f.endings.whole.items over.step true) n false else is_whole f.endings n) z
-      ∙ all-true (slice_set f.endings.whole.items over.step true) h n (subst (λ m. n < m) (sym (length-set f.endings.whole.items over.step true ∙ as-many)) (inside v.flow.steps n t at))
+      ∙ all-true (slice_set f.endings.whole.items over.step true) h n (subst (λ m. n < m) (sym (length-set f.endings.whole.items over.step true ∙ as-many)) (slice_get_within v.flow.steps n t at))
 
   whole-then : AllAreWhole w → (from == 0) ≡ true → all_marked ≡ true
   whole-then all z =
       true-all (slice_set f.endings.whole.items over.step true)
-      (λ n l. let t = within-get v.flow.steps n (subst (λ m. n < m) (length-set f.endings.whole.items over.step true ∙ as-many) l) in
+      (λ n l. let t = get-within v.flow.steps n (subst (λ m. n < m) (length-set f.endings.whole.items over.step true ∙ as-many) l) in
       ap (λ b. if b then slice_index_or (slice_set f.endings.whole.items over.step true) n false else is_whole f.endings n) (sym z)
       ∙ sym (whole-after n t.0 t.1)
       ∙ all n t.0 t.1)

@@ -3,13 +3,14 @@ use Rattle.std.specs.List.{list_all}
 use Rattle.std.specs.Prelude.{◌≡◌, refl, ℕ, zero, suc, ◌<◌, ◌==◌, Bool, true, false, if◌then◌else◌, List, [], ◌∷◌, ◌++◌, length, map, IsPermutation, Option, Some, None, slice_set}
 use Rattle.std.proofs.Common.{sym, ap, subst, ◌∙◌}
 use Rattle.std.proofs.lemmas.List.Sorted.{IsPermutation-refl, length_permutation}
+use Rattle.std.proofs.lemmas.Bool.{true≢false}
+use Rattle.std.proofs.lemmas.List.{map-append}
 use Rattle.tv_value.specs.Nested.{Place}
 use Rattle.tv_value.specs.Values.{Name, holds_fault}
 use Rattle.tv_flow.specs.Flows.{Flow, Step}
 use Rattle.tv_strategy.specs.Sources.{Each}
 use Rattle.tv_matching.specs.Matchers.{Outcome}
 use Rattle.tv_matching.specs.Told.{Told}
-use Rattle.tv_matching.proofs.Lists.{map-append}
 use Rattle.tv_pool.specs.Pool.{IsLive, number_of}
 use Rattle.tv_nodes.specs.Calls.{KeepsRegions}
 use Rattle.tv_cell.specs.declared.piece.Piece.{Piece}
@@ -83,9 +84,6 @@ set-all (true ∷ bs) zero h = h
 set-all (false ∷ bs) zero h = absurd (cc)
 set-all (true ∷ bs) (suc n) h = set-all bs n h
 set-all (false ∷ bs) (suc n) h = absurd (cc)
-
-clash : true ≡ false → ⊥
-clash e = cc
 
 module _ (flows : List (Name × Flow)) (plan : FlowPlan) (pool after : Nodes) (f g : Frame) (v : View) (n : ℕ) (s : Name × Step) (e : Event) (left : List (ℕ × Outcome)) (r : IsReadyFor flows plan pool f v n s e) (a : IsAfter plan pool after f g v n s e left) where
   k : Keeps flows plan pool f v
@@ -190,7 +188,7 @@ module _ (flows : List (Name × Flow)) (plan : FlowPlan) (pool after : Nodes) (f
     where
       still : (o : Option (List Piece)) → AreOuts v (has_ended_now levels v) o → has_ended_now levels view ≡ false → AreOuts view (has_ended_now levels view) o
       still None h going = going
-      still (Some ps) h going = absurd (clash (sym (ended-stays h.0) ∙ going))
+      still (Some ps) h going = absurd (true≢false (sym (ended-stays h.0) ∙ going))
 
       by : (o : Option (List Piece)) → AreOuts (with_event v e []) (has_ended_now levels (with_event v e [])) o → AreOuts view (has_ended_now levels view) (outs_after o f.outs)
       by None h = still f.outs k.outs_are h

@@ -3,11 +3,11 @@ use Rattle.std.specs.List.{range_with_len}
 use Rattle.std.specs.Prelude.{◌≡◌, refl, ℕ, zero, suc, ◌+◌, ◌<◌, ◌≤◌, ◌==◌, ◌||◌, Bool, true, false, filter, if◌then◌else◌, not, List, [], ◌∷◌, ◌++◌, length, Option, Some, None, Result, Ok, Err, OnOk}
 use Rattle.std.proofs.Common.{arith, sym, ap, ap₂, subst, ◌∙◌, append-nil}
 use Rattle.std.proofs.lemmas.Bool.{eq-eqb, ne_eqb, true≢false}
+use Rattle.std.proofs.lemmas.Option.{slice_get_within}
 use Rattle.tv_value.specs.Strategies.{Strategy}
 use Rattle.tv_value.specs.Values.{Name}
 use Rattle.tv_flow.specs.Flows.{Flow, Step}
 use Rattle.tv_depths.specs.Steps.{strategy_of}
-use Rattle.tv_depths.proofs.OfRanked.{inside}
 use Rattle.tv_matching.specs.Told.{Told}
 use Rattle.tv_match.specs.declared.matchers.Matcher.{Matcher}
 use Rattle.tv_match.specs.Seen.{matching}
@@ -95,7 +95,7 @@ module _ (v : View) (e : Event) (t : Name × Step) (ts : Strategy → List Told)
 module _ (flows : List (Name × Flow)) (plan : FlowPlan) (pool : Nodes) (f : Frame) (v : View) (keeps : Keeps flows plan pool f v) (a : Around) (of : IsAroundOf plan pool f a) (n : ℕ) (s : Name × Step) (e : Event) (c : code.Event) (coming : IsComing flows v n s e c) (g : Frame) (touched : g.spread.touched.items ≡ told_steps a n c) (held : HoldTold a n c f.intakes g.intakes) (ready : CanShowAll (told_steps a n c) g.intakes g.idle) where
   told-step : (k : ℕ) (t : Name × Step) → IsStepAt v k t → IsToldWith v e t (is_one_of g.spread.touched.items k) (matcher_at g.intakes k)
   told-step k t at =
-      let below : k < length a.wiring.now.ports = subst (λ m. k < m) (sym (ports-many flows plan pool f v keeps a of)) (inside v.flow.steps k t at) in
+      let below : k < length a.wiring.now.ports = subst (λ m. k < m) (sym (ports-many flows plan pool f v keeps a of)) (slice_get_within v.flow.steps k t at) in
       let same : is_one_of g.spread.touched.items k ≡ is_told a n c k = ap (λ ms. is_one_of ms k) touched ∙ one-of (is_told a n c) k (length a.wiring.now.ports) 0 (omega arith) (omega (arith, below)) in
       subst (λ b. IsToldWith v e t b (matcher_at g.intakes k)) (sym same)
       (told-either v e t (told_at a n c k) (told-with flows plan pool f v keeps a of n s e c coming k t at) (is_told a n c k) (matcher_at f.intakes k) (matcher_at g.intakes k) (keeps.matchers_are k t at)

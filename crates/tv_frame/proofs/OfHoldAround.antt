@@ -1,26 +1,23 @@
 -- What a frame has around an event that its steps are asked to hold: each feed is of what is there.
 use Rattle.std.specs.List.{list_all, range_with_len}
 use Rattle.std.specs.Option.{option_map_or}
-use Rattle.std.specs.Prelude.{◌≡◌, refl, ℕ, zero, suc, ◌+◌, ◌-◌, ◌<◌, Bool, true, false, filter, flat_map, if◌then◌else◌, is_some, List, [], ◌∷◌, length, map, Option, Some, None, replicate, slice_get, slice_index_or, unwrap_or}
+use Rattle.std.specs.Prelude.{◌≡◌, refl, ℕ, zero, suc, ◌+◌, ◌<◌, Bool, true, filter, flat_map, List, [], ◌∷◌, length, map, Option, Some, None, replicate, slice_get, slice_index_or}
 use Rattle.std.proofs.Common.{arith, sym, ap, subst, ◌∙◌}
-use Rattle.std.proofs.lemmas.Bool.{and_parts, true≢false}
+use Rattle.std.proofs.lemmas.Bool.{and_parts}
 use Rattle.std.proofs.lemmas.List.{length-append, length-map, length-replicate}
 use Rattle.std.proofs.lemmas.List.FromFn.{get_or-map-range_with_len, length-map-range_with_len}
-use Rattle.std.proofs.lemmas.Option.{none-some, same_Some}
-use Rattle.tv_value.specs.Orders.{named, same_name}
+use Rattle.std.proofs.lemmas.Option.{none-some, same_Some, slice_get_within}
 use Rattle.tv_value.specs.Values.{Name, holds_fault}
 use Rattle.tv_flow.specs.Flows.{Feed, Flow, Link, Step, StepInput, constant, input, link, merge, output}
 use Rattle.tv_flow.specs.Views.{flow_view}
 use Rattle.tv_strategy.specs.Conditions.{number_of}
 use Rattle.tv_strategy.specs.Measures.{leaf_names, strategy_depth}
 use Rattle.tv_strategy.specs.Sources.{Each}
-use Rattle.tv_naming.specs.Naming.{feed_links, has_name, is_there}
+use Rattle.tv_naming.specs.Naming.{feed_links, is_there}
 use Rattle.tv_naming.specs.Numbers.{position}
 use Rattle.tv_naming.proofs.ByPosition.{there}
 use Rattle.tv_naming.proofs.FormedParts.{steps-ascend}
-use Rattle.tv_depths.specs.CheckedDepths.{feed_depth, flow_depths}
 use Rattle.tv_depths.specs.Steps.{strategy_of}
-use Rattle.tv_depths.proofs.OfRanked.{inside}
 use Rattle.tv_matching.proofs.Lists.{each-map, each-weaken}
 use Rattle.tv_cell.specs.PieceValues.{piece_values}
 use Rattle.tv_check.specs.declared.plans.FlowPlan.{FlowPlan}
@@ -31,7 +28,7 @@ use Rattle.tv_telling.specs.declared.ways.Event as code
 use Rattle.tv_wires.specs.declared.ports.Port.{Port}
 use Rattle.tv_wires.specs.declared.wiring.Wiring.{Wiring}
 use Rattle.tv_wires.specs.Feeds.{feed_numbered, link_numbered, outputs_of}
-use Rattle.tv_wires.specs.Ports.{levels_of, mismatches, port_among, ports_of}
+use Rattle.tv_wires.specs.Ports.{mismatches, port_among, ports_of}
 use Rattle.tv_wires.specs.Turned.{all_wires, from_each}
 use Rattle.tv_wires.specs.Wirings.{after_of, all_ports, wiring}
 use Rattle.tv_outputs.specs.Known.{Nodes, known}
@@ -46,13 +43,16 @@ use Rattle.tv_instance.specs.Events.{Event}
 use Rattle.tv_framing.specs.Views.{View}
 use Rattle.tv_joined.specs.WiredFlows.{IsWired}
 use Rattle.tv_joined.proofs.OfAccepted.{accepted-wired}
+use Rattle.tv_joined.proofs.OfEndings.{position-of}
 use Rattle.tv_fed.proofs.OfNames.{is-named}
-use Rattle.tv_fed.proofs.OfWholeSteps.{named-there, position-of}
+use Rattle.tv_fed.proofs.OfWholeSteps.{named-there}
 use Rattle.tv_drawn.specs.Steps.{IsStepAt}
+use Rattle.tv_drawn.proofs.OfSteps.{number-is}
 use Rattle.tv_frame.specs.declared.frame.Frame.{Frame}
 use Rattle.tv_frame.specs.Kept.{HasMatcher, Keeps}
 use Rattle.tv_frame.specs.Prepared.{IsComing}
 use Rattle.tv_frame.specs.Tables.{at_least_one, first_tree, levels_at, tree_depths, trees_of}
+use Rattle.tv_truly.proofs.OfNumbers.{step-there}
 
 -- ---- lists
 
@@ -69,33 +69,10 @@ none-past (x ∷ xs) (y ∷ ys) (suc k) e h = none-past xs ys k (less (length ys
     less : (i j : ℕ) → suc i ≡ suc j → i ≡ j
     less i j g = omega arith
 
-pub within-get : {A : Type 0} (xs : List A) (k : ℕ) → k < length xs → (x : A) × (slice_get xs k ≡ Some x)
-within-get [] k l = absurd (omega arith)
-within-get (x ∷ xs) zero l = (x, refl)
-within-get (x ∷ xs) (suc k) l = within-get xs k (omega (arith, l))
-
 -- ---- steps by names and numbers
 
--- an output that is there
-pub output-there : (f : Flow) (t o : Name) → is_there f (output t o) ≡ true → (has_name f.steps t ≡ true) × (has_name (outputs_of f t) o ≡ true)
-output-there f t o h = by (named t f.steps) refl h
-  where
-    by : (x : Option Step) → named t f.steps ≡ x → option_map_or (λ (s : Step). has_name s.outputs o) x false ≡ true → (has_name f.steps t ≡ true) × (has_name (outputs_of f t) o ≡ true)
-    by None e k = absurd (true≢false (sym k))
-    by (Some s) e k = (ap is_some e, ap (λ x. has_name (option_map_or (λ (s : Step). s.outputs) x []) o) e ∙ k)
-
--- the levels of a port by the mismatches of its step
-port-numbers : (f : Flow) (is : List (Name × StepInput)) (p : Name) → unwrap_or (named p (map (λ (i : Name × StepInput). (i.0, levels_of f i.1)) is)) 0 ≡ option_map_or (λ (i : StepInput). feed_depth f.inputs (flow_depths f) i.from - i.depth) (named p is) 0
-port-numbers f [] p = refl
-port-numbers f (i ∷ is) p = by (same_name p i.0) (port-numbers f is p)
-  where
-    by : (b : Bool) → unwrap_or (named p (map (λ (i : Name × StepInput). (i.0, levels_of f i.1)) is)) 0 ≡ option_map_or (λ (i : StepInput). feed_depth f.inputs (flow_depths f) i.from - i.depth) (named p is) 0
-        → unwrap_or (if b then Some (levels_of f i.1) else named p (map (λ (i : Name × StepInput). (i.0, levels_of f i.1)) is)) 0 ≡ option_map_or (λ (i : StepInput). feed_depth f.inputs (flow_depths f) i.from - i.depth) (if b then Some i.1 else named p is) 0
-    by true h = refl
-    by false h = h
-
 pub levels-measured : (f : Flow) (s : Step) → levels_at f s ≡ strategy_depth (number_of (mismatches f s)) (strategy_of s)
-levels-measured f s = ap (λ (g : Name → ℕ). strategy_depth g (strategy_of s)) (λ i p. sym (port-numbers f s.inputs p) i)
+levels-measured f s = ap (λ (g : Name → ℕ). strategy_depth g (strategy_of s)) (λ i p. sym (number-is f s.inputs p) i)
 
 -- trees stand within
 pub first-below : (g : Name × Step → ℕ) (ss : List (Name × Step)) (n : ℕ) (s : Name × Step) (k : ℕ) → slice_get ss n ≡ Some s → k < trees_of s → first_tree ss n + k < length (flat_map (λ (t : Name × Step). replicate (trees_of t) (g t)) ss)
@@ -215,7 +192,7 @@ module _ (flows : List (Name × Flow)) (plan : FlowPlan) (pool : Nodes) (f : Fra
   module _ (n : ℕ) (s : Name × Step) (e : Event) (c : code.Event) (coming : IsComing flows v n s e c) where
     output-fed : (t o : Name) → is_there v.flow (output t o) ≡ true → IsOfOutput a n c (position t v.flow.steps) (position o (outputs_of v.flow t))
     output-fed t o h =
-        let p = output-there v.flow t o h in
+        let p = step-there v.flow t o h in
         let st = is-named t v.flow.steps p.0 in
         let below = (there t v.flow.steps p.0).below in
         let number = position o (outputs_of v.flow t) in
@@ -264,7 +241,7 @@ module _ (flows : List (Name × Flow)) (plan : FlowPlan) (pool : Nodes) (f : Fra
     pub is-around : IsAround a n c
     is-around =
         record {
-          step = subst (λ k. n < k) (sym ports-many) (inside v.flow.steps n s coming.at);
+          step = subst (λ k. n < k) (sym ports-many) (slice_get_within v.flow.steps n s coming.at);
           wires = wires-turned;
           walked = wires-walked;
           fed = subst (λ (w : Wiring). Each (λ (ps : List Port). Each (λ (p : Port). IsFed a n c p.feed) ps) w.ports) (sym wiring-of) all-fed;

@@ -2,28 +2,28 @@
 -- and truly, what is known after the event.
 use Rattle.std.specs.List.{list_all, list_any}
 use Rattle.std.specs.Option.{option_map_or}
-use Rattle.std.specs.Prelude.{◌≡◌, refl, ℕ, zero, suc, ◌-◌, ◌<◌, ◌≤◌, ◌==◌, ◌||◌, ◌⊎◌, Bool, true, false, flat_map, get_or, if◌then◌else◌, is_some, nat_le, nat_lt, List, [], ◌∷◌, ◌++◌, length, map, IsPermutation, Option, Some, None, slice_get, slice_index_or, take, unwrap_or}
+use Rattle.std.specs.Prelude.{◌≡◌, refl, ℕ, zero, suc, ◌<◌, ◌≤◌, ◌==◌, ◌||◌, ◌⊎◌, Bool, true, false, flat_map, get_or, if◌then◌else◌, is_some, nat_lt, List, [], ◌∷◌, ◌++◌, length, map, IsPermutation, Option, Some, None, slice_index_or, unwrap_or}
 use Rattle.std.proofs.Common.{arith, inl, inr, sym, ap, subst, ◌∙◌}
-use Rattle.std.proofs.lemmas.Bool.{true≢false}
+use Rattle.std.proofs.lemmas.Bool.{true≢false, cases_lt}
 use Rattle.std.proofs.lemmas.List.Sorted.{IsPermutation-refl}
-use Rattle.std.proofs.lemmas.Option.{none-some, same_Some}
-use Rattle.tv_value.specs.Nested.{Place, list, no_trees}
+use Rattle.std.proofs.lemmas.Option.{slice_get_within}
+use Rattle.tv_lemmas.proofs.Lists.{get-map, get-within, index-map}
+use Rattle.tv_value.specs.Nested.{list, no_trees}
 use Rattle.tv_value.specs.Orders.{named, same_name}
 use Rattle.tv_value.specs.Strategies.{Strategy}
 use Rattle.tv_value.specs.Values.{Name, Value, holds_fault}
 use Rattle.tv_flow.specs.Flows.{Flow, Step, StepInput}
 use Rattle.tv_strategy.specs.Measures.{leaf_names}
 use Rattle.tv_strategy.specs.Sources.{Each}
+use Rattle.tv_strategy.proofs.OfSources.{each-append}
 use Rattle.tv_naming.specs.Naming.{has_name}
 use Rattle.tv_naming.specs.Numbers.{position}
 use Rattle.tv_naming.proofs.ByPosition.{same_name-is, there}
 use Rattle.tv_naming.proofs.FormedParts.{passes, steps-ascend}
 use Rattle.tv_depths.specs.Steps.{strategy_of}
-use Rattle.tv_depths.proofs.OfRanked.{inside}
-use Rattle.tv_matching.specs.Items.{if_so}
 use Rattle.tv_matching.specs.Matchers.{CanTellAll, leaf_name}
 use Rattle.tv_matching.specs.Told.{told_leaf}
-use Rattle.tv_matching.proofs.Lists.{each-append, each-if, each-map, each-weaken}
+use Rattle.tv_matching.proofs.Lists.{each-map, each-weaken}
 use Rattle.tv_matching.proofs.OfMembers.{each-from}
 use Rattle.tv_matching.proofs.Onces.{each-flat}
 use Rattle.tv_parts.specs.Partials.{holds_some}
@@ -32,9 +32,8 @@ use Rattle.tv_match.specs.Seen.{matching}
 use Rattle.tv_telling.specs.declared.ways.Event as code
 use Rattle.tv_telling.specs.declared.ways.Way.{Way}
 use Rattle.tv_telling.specs.declared.ways.Whole.{Whole}
-use Rattle.tv_telling.specs.ValueTellings.{bound_told}
 use Rattle.tv_telling.specs.Views.{happening, way_tellings, whole_telling}
-use Rattle.tv_telling.specs.WayTellings.{Happening, closed, gave, passed, place_of_item, told_on_way, told_there}
+use Rattle.tv_telling.specs.WayTellings.{place_of_item}
 use Rattle.tv_wires.specs.declared.ports.Port.{Port}
 use Rattle.tv_wires.specs.declared.wires.Wire.{Wire}
 use Rattle.tv_wires.specs.declared.wiring.Wiring.{Wiring}
@@ -63,37 +62,28 @@ use Rattle.tv_joined.specs.AlongWires.{AreWholeWith, ports_of_step, told_along}
 use Rattle.tv_joined.specs.EndedSteps.{AreEndingsOf}
 use Rattle.tv_joined.specs.WiredFlows.{IsWired}
 use Rattle.tv_joined.proofs.OfWires.{position-same}
+use Rattle.tv_joined.proofs.OfTold.{bound-to}
+use Rattle.tv_joined.proofs.OfEndings.{position-of}
 use Rattle.tv_kept.specs.NextEvents.{is_whole_step}
 use Rattle.tv_fed.specs.Fed.{event_number}
 use Rattle.tv_fed.proofs.OfNames.{is-named}
 use Rattle.tv_fed.proofs.OfTold.{told-goes_on}
-use Rattle.tv_fed.proofs.OfWholeSteps.{marks-are_whole_steps, named-there, position-of, whole-steps_go_on}
+use Rattle.tv_fed.proofs.OfWholeSteps.{marks-are_whole_steps, named-there, whole-steps_go_on}
 use Rattle.tv_begun.proofs.OfInstances.{member-passes}
-use Rattle.tv_begun.proofs.OfLeaves.{IsTo, bound-to, value-to}
 use Rattle.tv_drawn.specs.Steps.{IsOfRankedFlow, IsStepAt}
 use Rattle.tv_drawn.proofs.OfLaws.{flows-stay, next-can_be_told}
 use Rattle.tv_truly.specs.Known.{IsTrueEvent, IsTrueWhole, tree_of}
 use Rattle.tv_truly.specs.Numbers.{AreFaultsBy, AreWholeBy}
 use Rattle.tv_truly.proofs.OfLaws.{truth-goes_on}
 use Rattle.tv_truly.proofs.OfNumbers.{trees-are_by_events, whole_ports-are_true}
-use Rattle.tv_truly.proofs.OfWires.{way-named}
+use Rattle.tv_truly.proofs.OfWires.{way-named, way-to}
 use Rattle.tv_frame.specs.declared.frame.Frame.{Frame}
 use Rattle.tv_frame.specs.Kept.{HasMatcher, IsMatcherOf, Keeps, declared_at}
 use Rattle.tv_frame.specs.Prepared.{IsComing, IsToldThat}
 use Rattle.tv_frame.specs.Tables.{levels_in}
-use Rattle.tv_frame.proofs.OfHoldAround.{IsAroundOf, fewer-trees, is-around, ports-many, tree-number, trees-known, wired-flow, wiring-of, within-get}
+use Rattle.tv_frame.proofs.OfHoldAround.{IsAroundOf, fewer-trees, is-around, ports-many, tree-number, trees-known, wired-flow, wiring-of}
 
 -- ---- lists of names
-
-mapped-get : {A B : Type 0} (g : A → B) (xs : List A) (k : ℕ) (x : A) → slice_get xs k ≡ Some x → slice_get (map g xs) k ≡ Some (g x)
-mapped-get g [] k x e = absurd (none-some x e)
-mapped-get g (y ∷ xs) zero x e = ap (λ z. Some (g z)) (same_Some y x e)
-mapped-get g (y ∷ xs) (suc k) x e = mapped-get g xs k x e
-
-pub at-mapped : {A B : Type 0} (g : A → B) (xs : List A) (k : ℕ) (x : A) (d : B) → slice_get xs k ≡ Some x → slice_index_or (map g xs) k d ≡ g x
-at-mapped g [] k x d e = absurd (none-some x e)
-at-mapped g (y ∷ xs) zero x d e = ap g (same_Some y x e)
-at-mapped g (y ∷ xs) (suc k) x d e = at-mapped g xs k x d e
 
 -- the names alone
 abbrev bare : List Name → List (Name × Unit {0})
@@ -117,20 +107,7 @@ same-names-position n xs ys e = bare-position n xs ∙ ap (λ ns. position n (ba
 pub same-names-has : {A B : Type 0} (n : Name) (xs : List (Name × A)) (ys : List (Name × B)) → map (λ (x : Name × A). x.0) xs ≡ map (λ (y : Name × B). y.0) ys → has_name xs n ≡ has_name ys n
 same-names-has n xs ys e = bare-name n xs ∙ ap (λ ns. has_name (bare ns) n) e ∙ sym (bare-name n ys)
 
--- ---- numbers
-
-below-or : (m n : ℕ) → (m < n) ⊎ (n ≤ m)
-below-or m zero = inr (omega arith)
-below-or zero (suc n) = inl (omega arith)
-below-or (suc m) (suc n) = elim (below-or m n) [ inl p ↦ inl (omega (arith, p)) | inr p ↦ inr (omega (arith, p)) ]
-
 -- ---- leaves by numbers
-
--- what a mapped list has at a place
-row-of : {A B : Type 0} (g : A → B) (xs : List A) (k : ℕ) (x : A) (d : B) → slice_get xs k ≡ Some x → slice_index_or (map g xs) k d ≡ g x
-row-of g [] k x d e = absurd (none-some x e)
-row-of g (y ∷ ys) zero x d e = ap g (same_Some y x e)
-row-of g (y ∷ ys) (suc k) x d e = row-of g ys k x d e
 
 -- a name among the leaves has a number that there is
 leaf-below : (n : Name) (ns : List Name) → list_any (same_name n) ns ≡ true → leaf_number n ns < length ns
@@ -145,18 +122,6 @@ in-there : (ns : List Name) (k : ℕ) → k < length ns → In (get_or ns k []) 
 in-there [] k l = absurd (omega arith)
 in-there (n ∷ ns) zero l = inl refl
 in-there (n ∷ ns) (suc k) l = inr (in-there ns k (omega (arith, l)))
-
-there-to : (m : Name) (k : ℕ) (q : Place) (h : Happening) → IsTo m (told_there m k q h)
-there-to m k q (gave v) = value-to m k q v
-there-to m k q (closed n) = (refl, tt)
-there-to m k q passed = (refl, tt)
-
-way-to : (m : Name) (k : ℕ) (q : Place) (from faults : ℕ) (r : Place) (h : Happening) → IsTo m (told_on_way m k q from faults r h)
-way-to m k q from faults r h = by (nat_le k (length r))
-  where
-    by : (a : Bool) → IsTo m (if a then if_so (nat_le from k) (bound_told m (q ++ take k r) (nat_lt k faults)) else told_there m (k - length r) (q ++ r) h)
-    by true = each-if (λ t. told_leaf t ≡ m) (nat_le from k) (bound_told m (q ++ take k r) (nat_lt k faults)) (bound-to m (q ++ take k r) (nat_lt k faults))
-    by false = there-to m (k - length r) (q ++ r) h
 
 -- what is so of the leaves of ways and of whole ports is so of what is told of them
 leaves-told : (P : Name → Type 0) (g : Strategy) (c : code.Event) (ways : List Way) (whole : List Whole) → Each (λ (w : Way). P (leaf_name g w.leaf)) ways → Each (λ (y : Whole). P (leaf_name g y.leaf)) whole → Each (λ t. P (told_leaf t)) (tellings_by c ways whole g)
@@ -197,7 +162,7 @@ module _ (flows : List (Name × Flow)) (plan : FlowPlan) (pool : Nodes) (f : Fra
       let st = is-named x v.inputs (same-names-has x v.inputs v.flow.inputs keeps.inputs_are.names ∙ h) in
       ap (λ bs. slice_index_or bs (position x v.flow.inputs) false) (of.inputs ∙ keeps.inputs_are.marked ∙ ap (map holds_fault) (sym keeps.inputs_are.values))
       ∙ ap (λ k. slice_index_or (map holds_fault (map (λ (y : Name × Value). y.1) v.inputs)) k false) (sym (same-names-position x v.inputs v.flow.inputs keeps.inputs_are.names))
-      ∙ at-mapped holds_fault (map (λ (y : Name × Value). y.1) v.inputs) (position x v.inputs) st.thing false (mapped-get (λ (y : Name × Value). y.1) v.inputs (position x v.inputs) (x, st.thing) st.here)
+      ∙ index-map holds_fault (map (λ (y : Name × Value). y.1) v.inputs) (position x v.inputs) st.thing false (get-map (λ (y : Name × Value). y.1) v.inputs (position x v.inputs) (x, st.thing) st.here)
       ∙ ap (λ o. holds_fault (unwrap_or o (list tt no_trees))) (sym st.named_so)
 
   tree-so : (t o : Name) → has_name v.flow.steps t ≡ true → has_name (outputs_of v.flow t) o ≡ true → tree_in (known a.pool.now a.outputs.now) (tree_number a (position t v.flow.steps) (position o (outputs_of v.flow t))) ≡ tree_of v.flow levels v.inputs v.events t o
@@ -207,7 +172,7 @@ module _ (flows : List (Name × Flow)) (plan : FlowPlan) (pool : Nodes) (f : Fra
       let out = is-named o (outputs_of v.flow t) k in
       let at = position o (outputs_of v.flow t) in
       let few : at < length st.thing.outputs = subst (λ (ps : List (Name × ℕ)). at < length ps) its (there o (outputs_of v.flow t) k).below in
-      let declared : declared_at (t, st.thing) at ≡ out.thing = ap (λ (ps : List (Name × ℕ)). slice_index_or (map (λ (p : Name × ℕ). p.1) ps) at 0) (sym its) ∙ at-mapped (λ (p : Name × ℕ). p.1) (outputs_of v.flow t) at (o, out.thing) 0 out.here in
+      let declared : declared_at (t, st.thing) at ≡ out.thing = ap (λ (ps : List (Name × ℕ)). slice_index_or (map (λ (p : Name × ℕ). p.1) ps) at 0) (sym its) ∙ index-map (λ (p : Name × ℕ). p.1) (outputs_of v.flow t) at (o, out.thing) 0 out.here in
       ap (λ ts. tree_in ts (tree_number a (position t v.flow.steps) at)) (trees-known flows plan pool f v keeps a of)
       ∙ ap (tree_in (known pool f.outputs)) (tree-number flows plan pool f v keeps a of (position t v.flow.steps) at (there t v.flow.steps h).below)
       ∙ keeps.trees_are (position t v.flow.steps) (t, st.thing) st.here at (fewer-trees (t, st.thing) at few)
@@ -296,7 +261,7 @@ module _ (flows : List (Name × Flow)) (plan : FlowPlan) (pool : Nodes) (f : Fra
     ways-below =
         subst (λ (w : Wiring). Each (λ (y : Way). y.leaf < many) (ways_into k (wires_from w n))) (sym (wiring-of flows plan pool f v keeps a of))
         (each-from (λ (y : Way). y.leaf < many) (ways_into k (wires_from (wiring v.flow) n))
-        (λ y i. let p = way-named v.flow k t at n (inside v.flow.steps n s coming.at) y i in
+        (λ y i. let p = way-named v.flow k t at n (slice_get_within v.flow.steps n s coming.at) y i in
         subst (λ l. l < many) (sym p.2) (leaf-below p.0.0 (leaf_names (strategy_of t.1)) (leaves-are p.0 p.1))))
 
     wholes-below : Each (λ (y : Whole). y.leaf < many) (wholes_at a n c k)
@@ -320,7 +285,7 @@ module _ (flows : List (Name × Flow)) (plan : FlowPlan) (pool : Nodes) (f : Fra
 
     ports-below : Each (λ (p : Port). p.leaf < many) (ports_at a k)
     ports-below =
-        subst (Each (λ (p : Port). p.leaf < many)) (sym (ports-here ∙ row-of (λ (u : Name × Step). ports_of v.flow u.1) v.flow.steps k t [] at))
+        subst (Each (λ (p : Port). p.leaf < many)) (sym (ports-here ∙ index-map (λ (u : Name × Step). ports_of v.flow u.1) v.flow.steps k t [] at))
         (each-map (λ (p : Port). p.leaf < many) (port_among v.flow (leaf_names (strategy_of t.1))) t.1.inputs
         (each-from (λ (i : Name × StepInput). leaf_number i.0 (leaf_names (strategy_of t.1)) < many) t.1.inputs
         (λ i g. leaf-below i.0 (leaf_names (strategy_of t.1)) (leaves-are i g))))
@@ -336,7 +301,7 @@ module _ (flows : List (Name × Flow)) (plan : FlowPlan) (pool : Nodes) (f : Fra
 
   told-is_step : (k : ℕ) → is_told a n c k ≡ true → k < length v.flow.steps
   told-is_step k h =
-      on-either (below-or k (length a.wiring.now.ports))
+      on-either (cases_lt k (length a.wiring.now.ports))
     where
       far : length a.wiring.now.ports ≤ k → is_told a n c k ≡ false
       far l =
@@ -350,5 +315,5 @@ module _ (flows : List (Name × Flow)) (plan : FlowPlan) (pool : Nodes) (f : Fra
 
   pub can-hold_told : IsAround a n c → CanHoldTold a n c f.intakes
   can-hold_told around k h =
-      let t = within-get v.flow.steps k (told-is_step k h) in
+      let t = get-within v.flow.steps k (told-is_step k h) in
       can-be_told k t.0 t.1 (matcher_at f.intakes k) (keeps.matchers_are k t.0 t.1)

@@ -3,16 +3,18 @@ use Rattle.std.specs.Option.{option_map_or}
 use Rattle.std.specs.Prelude.{◌≡◌, refl, ℕ, zero, suc, ◌+◌, ◌<◌, ◌≤◌, ◌⊎◌, ◌==◌, ◌&&◌, ◌||◌, nat_lt, Bool, true, false, if◌then◌else◌, List, [], ◌∷◌, ◌++◌, length, map, Some, slice_get}
 use Rattle.std.specs.Cmp.Lexicographic.{bytes_decides}
 use Rattle.std.proofs.Common.{sym, ap, subst, ◌∙◌, arith, eq-eqb, inl, inr, length-append}
-use Rattle.std.proofs.lemmas.Bool.{and_parts, cases_lt, true≢false}
+use Rattle.std.proofs.lemmas.Bool.{and_parts, cases_lt, true≢false, or_from}
 use Rattle.std.proofs.lemmas.Bool.Decides.{nat_tests}
 use Rattle.std.proofs.lemmas.List.{length-map}
-use Rattle.std.proofs.lemmas.Option.{none-some, same_Some, slice_get_within}
+use Rattle.std.proofs.lemmas.Option.{none-some, slice_get_within}
 use Rattle.tv_value.specs.Nested.{Place}
 use Rattle.tv_value.specs.Orders.{same_name}
 use Rattle.tv_value.specs.Values.{Name}
 use Rattle.tv_flow.specs.Flows.{Flow, Step}
 use Rattle.tv_flow.specs.Formed.{is_ascending}
 use Rattle.tv_lemmas.proofs.Cases.{on_either, on_test}
+use Rattle.tv_lemmas.proofs.Lists.{get-map, get-within}
+use Rattle.tv_lemmas.proofs.Tests.{or-second}
 use Rattle.tv_strategy.specs.Sources.{Each}
 use Rattle.tv_strategy.specs.Splits.{same_place}
 use Rattle.tv_strategy.proofs.OfPlaces.{same-equal}
@@ -30,13 +32,15 @@ use Rattle.tv_idle.specs.Idles.{Idles, StepIdle, none_idle, of_step}
 use Rattle.tv_idle.specs.Kept.{are_below, starts_gone}
 use Rattle.tv_spread.specs.Spreads.{MakeAll, binds_fault, is_faulty_now, new_jobs, new_places, with_all_new}
 use Rattle.tv_spread.proofs.OfAdding.{all-many}
+use Rattle.tv_spread.proofs.OfShowing.{made-faulty}
 use Rattle.tv_instance.specs.Events as events
 use Rattle.tv_instance.specs.Events.{Event, fault_set, gave, gives_at, has_result, is_taken, is_telling, takes_at, took}
 use Rattle.tv_framing.specs.Answers.{numbered}
 use Rattle.tv_framing.specs.Frames.{with_event}
 use Rattle.tv_framing.specs.Views.{View}
 use Rattle.tv_joined.specs.WiredFlows.{IsWired}
-use Rattle.tv_fed.proofs.OfWholeSteps.{named-there, position-of}
+use Rattle.tv_joined.proofs.OfEndings.{position-of}
+use Rattle.tv_fed.proofs.OfWholeSteps.{named-there}
 use Rattle.tv_drawn.specs.Stated.{IsBrought}
 use Rattle.tv_drawn.specs.Steps.{IsStepAt}
 use Rattle.tv_drawn.proofs.OfRanks.{at-in}
@@ -47,7 +51,7 @@ use Rattle.tv_frame.specs.Prepared.{is_one_of}
 use Rattle.tv_frame.specs.Shown.{IsRunning}
 use Rattle.tv_frame.specs.Tables.{levels_in}
 use Rattle.tv_frame.proofs.OfAdded.{AreInPlace, IsNew, all-known, all-levels, all-new, all-of, all-placed, all-stay, queue}
-use Rattle.tv_frame.proofs.OfFlags.{flag-kept, known-within, made-flag, of-slice}
+use Rattle.tv_frame.proofs.OfFlags.{flag-kept, known-within, of-slice}
 use Rattle.tv_frame.proofs.OfNewJobs.{new-untold}
 use Rattle.tv_frame.proofs.OfShown.{brings, made-at}
 use Rattle.tv_frame.proofs.OfShownLists.{one-each}
@@ -78,16 +82,6 @@ split-get (y ∷ xs) ys (suc m) x e =
     on_either (split-get xs ys m x e) (λ h. inl h)
     (λ h. let n = h.number in inr (record { at = h.at; number = omega (arith, n); there = h.there }))
 
-pub mapped-get : {A B : Type 0} (f : A → B) (xs : List A) (p : ℕ) (x : A) → slice_get xs p ≡ Some x → slice_get (map f xs) p ≡ Some (f x)
-mapped-get f [] p x e = absurd (none-some x e)
-mapped-get f (y ∷ xs) zero x e = ap (λ z. Some (f z)) (same_Some y x e)
-mapped-get f (y ∷ xs) (suc p) x e = mapped-get f xs p x e
-
-pub stands : {A : Type 0} (xs : List A) (n : ℕ) → n < length xs → (x : A) × (slice_get xs n ≡ Some x)
-stands [] n l = absurd (omega arith)
-stands (x ∷ xs) zero l = (x, refl)
-stands (x ∷ xs) (suc n) l = stands xs n (omega arith)
-
 in-one : (cs : List ℕ) (c : ℕ) → In c cs → is_one_of cs c ≡ true
 in-one [] c i = absurd i
 in-one (d ∷ cs) c (inl e) = ap (λ b. b || is_one_of cs c) (eq-eqb d c (sym e))
@@ -110,14 +104,6 @@ below-all n (j ∷ js) h = first j.0 n (are_below n js) (h j (inl refl)) (below-
   where
     first : (a n : ℕ) (b : Bool) → a < n → b ≡ true → (nat_lt a n && b) ≡ true
     first a n b l e = grind (arith, nat_tests)
-
-or-false : (a b : Bool) → (a || b) ≡ false → b ≡ false
-or-false true b h = absurd (true≢false h)
-or-false false b h = h
-
-none-then : (a b : Bool) → a ≡ false → b ≡ false → (a || b) ≡ false
-none-then true b h k = absurd (true≢false h)
-none-then false b h k = k
 
 -- ---- an event and idle jobs
 
@@ -144,8 +130,8 @@ module _ (v : View) (e : Event) (tells : is_telling e ≡ true) (runs : IsRunnin
 
   stays-free : (is_taken v.events s q ≡ false) × (has_result v.events s q ≡ false) → (is_taken (e ∷ v.events) s q ≡ false) × (has_result (e ∷ v.events) s q ≡ false)
   stays-free h = (
-    none-then (takes_at s q e) (is_taken v.events s q) (not-takes e tells) h.0,
-    none-then (gives_at s q e) (has_result v.events s q) (not-gives e runs h.0) h.1,
+    or_from (takes_at s q e) (is_taken v.events s q) (not-takes e tells) h.0,
+    or_from (gives_at s q e) (has_result v.events s q) (not-gives e runs h.0) h.1,
   )
 
 -- ---- all of it
@@ -199,7 +185,7 @@ module _ (flows : List (Name × Flow)) (v : View) (e : Event) (cs : List ℕ) (i
       let a = of-flat (λ c. map (λ (q : Place). (c, q)) (new_places i c)) x cs (at-in xs p x k) in
       let b = of-map (λ (q : Place). (a.0, q)) x (new_places i a.0) a.2 in
       let one = in-one cs a.0 a.1 in
-      let t = stands v.flow.steps a.0 (one-each (λ c. c < length v.flow.steps) cs a.0 h.within one) in
+      let t = get-within v.flow.steps a.0 (one-each (λ c. c < length v.flow.steps) cs a.0 h.within one) in
       subst IsOfStep (sym b.2)
       (record {
         one = one;
@@ -220,7 +206,7 @@ module _ (flows : List (Name × Flow)) (v : View) (e : Event) (cs : List ℕ) (i
   new-number p c q s a k =
       ap (λ m. slice_get (v.jobs ++ news) (m + p)) (sym known-many)
       ∙ behind-get v.jobs news p
-      ∙ mapped-get (named_job v.flow) xs p (c, q) k
+      ∙ get-map (named_job v.flow) xs p (c, q) k
       ∙ ap (λ n. Some (n, q)) (step-is c s a)
 
   -- ---- the parts of what is said of idle jobs
@@ -264,7 +250,7 @@ module _ (flows : List (Name × Flow)) (v : View) (e : Event) (cs : List ℕ) (i
   idle-step : (c : ℕ) (b : Bool) (k : ℕ × List ℕ) → In k (queue b (of_step idle.steps c)) → (s : Name × Step) × IsStepAt v c s
   idle-step c b k m =
       on_either (cases_lt c (length idle.steps))
-      (λ l. stands v.flow.steps c (subst (λ n. c < n) h.before.as_many l))
+      (λ l. get-within v.flow.steps c (subst (λ n. c < n) h.before.as_many l))
       (λ l. absurd (no-step c b k l m))
 
   idle-by : (c : ℕ) (b : Bool) (k : ℕ × List ℕ) → In k (queue b (of_step idle.steps c)) → IsIdle idle.steps c k
@@ -312,7 +298,7 @@ module _ (flows : List (Name × Flow)) (v : View) (e : Event) (cs : List ℕ) (i
   all-idle : (m : ℕ) (x : Name × Place) → numbered view m ≡ Some x → is_taken (e ∷ v.events) x.0 x.1 ≡ false → has_result (e ∷ v.events) x.0 x.1 ≡ false → IsIdle now.steps (position x.0 v.flow.steps) (m, x.1)
   all-idle m x k t r =
       on_either (split-get v.jobs news m x k)
-      (λ o. old-idle (position x.0 v.flow.steps) (m, x.1) (h.before.all.all m x o (or-false (takes_at x.0 x.1 e) (is_taken v.events x.0 x.1) t) (or-false (gives_at x.0 x.1 e) (has_result v.events x.0 x.1) r)))
+      (λ o. old-idle (position x.0 v.flow.steps) (m, x.1) (h.before.all.all m x o (or-second (takes_at x.0 x.1 e) (is_taken v.events x.0 x.1) t) (or-second (gives_at x.0 x.1 e) (has_result v.events x.0 x.1) r)))
       (λ b.
       let y = of-slice (named_job v.flow) xs b.at x b.there in
       let o = new-of b.at y.0 y.1 in
@@ -344,7 +330,7 @@ module _ (flows : List (Name × Flow)) (v : View) (e : Event) (cs : List ℕ) (i
   -- ---- what is said of them
 
   said-new : (b : Bool) (c : ℕ) (k : ℕ × List ℕ) → IsNew (binds_fault i) xs idle.known b c k → is_faulty_now j (c, k.1) ≡ b
-  said-new b c k n = made-flag (matcher_at i c) (matcher_at j c) (made-at cs i j made c (new-of n.at (c, k.1) n.there).one) k.1 ∙ n.flag
+  said-new b c k n = made-faulty (matcher_at i c) (matcher_at j c) (made-at cs i j made c (new-of n.at (c, k.1) n.there).one) k.1 ∙ n.flag
 
   same-number : (a c : ℕ) (t s : Name × Step) → IsStepAt v a t → IsStepAt v c s → step_name v.flow a ≡ s.0 → a ≡ c
   same-number a c t s l m e =
@@ -358,7 +344,7 @@ module _ (flows : List (Name × Flow)) (v : View) (e : Event) (cs : List ℕ) (i
       let there : slice_get (map (named_job v.flow) (known_jobs i)) k.0 ≡ Some (s.0.0, k.1) = ap (λ l. slice_get l k.0) (sym h.jobs_are) ∙ h.before.all.known c s.0 k s.1 (idle-by c b k m) in
       let y = of-slice (named_job v.flow) (known_jobs i) k.0 (s.0.0, k.1) there in
       let within = known-within cs i j made h.sound h.can k.0 y.0.0 y.0.1 y.1 in
-      let t = stands v.flow.steps y.0.0 (subst (λ n. y.0.0 < n) h.as_many within) in
+      let t = get-within v.flow.steps y.0.0 (subst (λ n. y.0.0 < n) h.as_many within) in
       let same : y.0.0 ≡ c = same-number y.0.0 c t.0 s.0 t.1 s.1 (ap (λ (z : Name × Place). z.0) y.2) in
       let place : y.0.1 ≡ k.1 = ap (λ (z : Name × Place). z.1) y.2 in
       let known : slice_get (known_jobs i) k.0 ≡ Some (c, k.1) = y.1 ∙ (λ l. Some (same l, place l)) in

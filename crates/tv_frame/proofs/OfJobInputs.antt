@@ -8,6 +8,7 @@ use Rattle.std.proofs.lemmas.Bool.{and_parts, true≢false}
 use Rattle.std.proofs.lemmas.List.{length-map}
 use Rattle.std.proofs.lemmas.List.Sorted.{IsPermutation-sym}
 use Rattle.std.proofs.lemmas.Option.{get_or_from_slice_get, none-some, same_Some, slice_get_within}
+use Rattle.tv_lemmas.proofs.Lists.{get-map}
 use Rattle.tv_value.specs.Nested.{Place, at, item_at, leaf, list, no_trees, tree}
 use Rattle.tv_value.specs.Orders.{named, same_name}
 use Rattle.tv_value.specs.Values.{JobName, Name, Value}
@@ -28,7 +29,6 @@ use Rattle.tv_strategy.specs.Splits.{split}
 use Rattle.tv_strategy.proofs.OfLaws.{split-names_leaves}
 use Rattle.tv_naming.specs.Naming.{feed_links, is_there, numbered}
 use Rattle.tv_naming.proofs.FormedParts.{all-pass, ascending, passes, step-at, step-inputs}
-use Rattle.tv_naming.proofs.OfTold.{get-map}
 use Rattle.tv_depths.specs.CheckedDepths.{feed_depth, flow_depths}
 use Rattle.tv_depths.specs.Delivered.{Delivered, Ported, feed_delivers, ported}
 use Rattle.tv_depths.specs.Steps.{strategy_of}
@@ -79,7 +79,6 @@ use Rattle.tv_frame.proofs.OfBinding.{binds-once, each-mapped, named-mapped, nam
 use Rattle.tv_frame.proofs.OfFirstRooms.{plan-parts}
 use Rattle.tv_frame.proofs.OfGiven.{constant-at, feed-counted, ports-at}
 use Rattle.tv_frame.proofs.OfHoldAround.{fewer-trees, levels-measured}
-use Rattle.tv_frame.proofs.OfIdling.{mapped-get}
 use Rattle.tv_frame.proofs.OfJobPorts.{AreBoundAt, IsPortHere, job-binds}
 use Rattle.tv_frame.proofs.OfJobs as jobs
 use Rattle.tv_frame.proofs.OfJobValues.{job-leaves}
@@ -104,7 +103,7 @@ mutual
   jobs-deep (tree t ts) zero d q r b h e = job-deep t d q r b h.0 e
   jobs-deep (tree t ts) (suc i) d q r b h e = jobs-deep ts i d q r b h.1 e
 
-item-deep : (t : Iteration) (d : ℕ) (q : Place) (s : Name) (u : Iteration) → HasLevels t d → at t q ≡ Some u → FitsKind (gave s q []) (kind_of u) → length q ≡ d
+pub item-deep : (t : Iteration) (d : ℕ) (q : Place) (s : Name) (u : Iteration) → HasLevels t d → at t q ≡ Some u → FitsKind (gave s q []) (kind_of u) → length q ≡ d
 item-deep t d q s (leaf r (job b)) h e k = job-deep t d q r b h e
 item-deep t d q s (leaf r (passed m x)) h e k = absurd k
 item-deep t d q s (list r ts) h e k = absurd k
@@ -314,7 +313,7 @@ module _ (flows : List (Name × Flow)) (plan : FlowPlan) (pool : Nodes) (f : Fra
       same_Some (s.0, q) j
       (sym
       (ap (λ l. slice_get l number) keeps.jobs_are
-      ∙ mapped-get (named_job v.flow) (known_jobs f.intakes) number (n, q) there
+      ∙ get-map (named_job v.flow) (known_jobs f.intakes) number (n, q) there
       ∙ ap (λ t. Some (t, q)) (jobs.its-name flows plan pool f v keeps number n q there faulty said))
       ∙ e)
 

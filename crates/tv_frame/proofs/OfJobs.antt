@@ -4,6 +4,7 @@ use Rattle.std.specs.Prelude.{◌≡◌, refl, ℕ, ◌<◌, ◌++◌, Bool, Lis
 use Rattle.std.proofs.Common.{sym, ap, subst, ◌∙◌, inl}
 use Rattle.std.proofs.lemmas.List.Sorted.{IsPermutation-sym}
 use Rattle.std.proofs.lemmas.Option.{same_Some, slice_get_within}
+use Rattle.tv_lemmas.proofs.Lists.{get-map, get-within}
 use Rattle.tv_value.specs.Nested.{Place, at, leaf, list, nodes}
 use Rattle.tv_value.specs.Values.{JobName, Name}
 use Rattle.tv_flow.specs.Flows.{Flow, Step}
@@ -40,7 +41,6 @@ use Rattle.tv_frame.specs.Calls.{HoldsError, IsJob, IsJobAmong}
 use Rattle.tv_frame.specs.Kept.{HasMatcher, Keeps, named_job, step_name}
 use Rattle.tv_frame.specs.Ready.{IsFirstOfStep}
 use Rattle.tv_frame.specs.Tables.{levels_in}
-use Rattle.tv_frame.proofs.OfIdling.{mapped-get, stands}
 use Rattle.tv_frame.proofs.OfKeeping.{kept-wired}
 
 module _ (flows : List (Name × Flow)) (plan : FlowPlan) (pool : Nodes) (f : Frame) (v : View) (k : Keeps flows plan pool f v) where
@@ -106,7 +106,7 @@ module _ (flows : List (Name × Flow)) (plan : FlowPlan) (pool : Nodes) (f : Fra
     pub named-known : In (named_job v.flow (n, q)) v.jobs
     named-known =
         at-in v.jobs number (named_job v.flow (n, q))
-        (ap (λ l. slice_get l number) k.jobs_are ∙ mapped-get (named_job v.flow) (known_jobs f.intakes) number (n, q) there)
+        (ap (λ l. slice_get l number) k.jobs_are ∙ get-map (named_job v.flow) (known_jobs f.intakes) number (n, q) there)
 
     pub job-is : IsJob v (named_job v.flow (n, q))
     job-is instance results depth x = job-among (step_name v.flow n) q named-known instance results depth x
@@ -121,7 +121,7 @@ module _ (flows : List (Name × Flow)) (plan : FlowPlan) (pool : Nodes) (f : Fra
 
       pub step : (s : Name × Step) × (slice_get v.flow.steps n ≡ Some s)
       step =
-          stands v.flow.steps n
+          get-within v.flow.steps n
           (subst (λ l. n < l) k.as_many (slice_get_within f.intakes.matchers.items n matcher.0 matcher.1))
 
       pub its-name : step_name v.flow n ≡ step.0.0

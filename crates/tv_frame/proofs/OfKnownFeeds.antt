@@ -4,6 +4,7 @@ use Rattle.std.specs.Prelude.{◌≡◌, refl, ℕ, zero, suc, ◌+◌, pred, Bo
 use Rattle.std.proofs.Common.{arith, sym, ap, subst, ◌∙◌, append_assoc, append-nil}
 use Rattle.std.proofs.lemmas.Bool.{and_parts, or_right, true≢false}
 use Rattle.std.proofs.lemmas.Option.{none-some, same_Some}
+use Rattle.tv_lemmas.proofs.Lists.{get-map}
 use Rattle.tv_value.specs.Nested.{Place, Trees, all_notes, at, count, item_at, leaf, list, map_trees, no_trees, note, notes, tree, trees_of}
 use Rattle.tv_value.specs.Values.{JobName, Name, Scalar, Value, list_value}
 use Rattle.tv_flow.specs.Flows.{Feed, Flow, Link, constant, input, link, merge, output}
@@ -42,11 +43,6 @@ use Rattle.tv_frame.proofs.OfFeeds.{fit-step, input-plain, output-below, output-
 use Rattle.tv_frame.proofs.OfHoldTold.{same-names-has, same-names-position}
 
 -- ---- lists and notes
-
-mapped-get : {A B : Type 0} (g : A → B) (xs : List A) (k : ℕ) (x : A) → slice_get xs k ≡ Some x → slice_get (map g xs) k ≡ Some (g x)
-mapped-get g [] k x e = absurd (none-some x e)
-mapped-get g (y ∷ xs) zero x e = ap (λ z. Some (g z)) (same_Some y x e)
-mapped-get g (y ∷ xs) (suc k) x e = mapped-get g xs k x e
 
 module _ (known : Origin → Bool) where
   pub all-split : (xs ys : List Origin) → all_known known (xs ++ ys) ≡ true → (all_known known xs ≡ true) × (all_known known ys ≡ true)
@@ -107,7 +103,7 @@ part-shows i y (item v) h = refl
 part-shows i y (growing ps) h = h
 part-shows i y (closed ps) h = h
 
-level-parts : (es : Events) (s : Name) (q : Place) → has_level es s q ≡ (has_fault es s q || is_some (closed_with es s q))
+pub level-parts : (es : Events) (s : Name) (q : Place) → has_level es s q ≡ (has_fault es s q || is_some (closed_with es s q))
 level-parts [] s q = refl
 level-parts (gave t r vs ∷ es) s q = level-parts es s q
 level-parts (events.closed t r n ∷ es) s q = by (is_spot s q t r) (level-parts es s q)
@@ -215,7 +211,7 @@ module _ (flows : List (Name × Flow)) (levels : Name → ℕ) (w : View) (depth
   link-is_found : (l : Link) → is_there w.flow l ≡ true → (q : Place) (u : Traced) → at (link_delivers step_of its all_its l).value q ≡ Some u → all_known is_known (notes u) ≡ true → link_found k (link_numbered w.flow l) q ≡ Some (plain u)
   link-is_found (input y) h q u a all =
       let st = is-named y w.inputs (same-names-has y w.inputs w.flow.inputs is.names ∙ h) in
-      let here : slice_get k.inputs (position y w.flow.inputs) ≡ Some st.thing = ap (λ vs. slice_get vs (position y w.flow.inputs)) is.inputs ∙ ap (slice_get (map (λ (z : Name × Value). z.1) w.inputs)) (sym (same-names-position y w.inputs w.flow.inputs is.names)) ∙ mapped-get (λ (z : Name × Value). z.1) w.inputs (position y w.inputs) (y, st.thing) st.here in
+      let here : slice_get k.inputs (position y w.flow.inputs) ≡ Some st.thing = ap (λ vs. slice_get vs (position y w.flow.inputs)) is.inputs ∙ ap (slice_get (map (λ (z : Name × Value). z.1) w.inputs)) (sym (same-names-position y w.inputs w.flow.inputs is.names)) ∙ get-map (λ (z : Name × Value). z.1) w.inputs (position y w.inputs) (y, st.thing) st.here in
       let value : plain (link_delivers step_of its all_its (input y)).value ≡ st.thing = input-plain flows levels w depths wired legal instance results depth x y h ∙ ap (λ o. unwrap_or o (list tt no_trees)) st.named_so in
       ap (option_and_then (λ v. at v q)) here
       ∙ ap (λ v. at v q) (sym value)

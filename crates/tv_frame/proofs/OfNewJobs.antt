@@ -3,7 +3,7 @@ use Rattle.std.specs.List.{list_any, sum_by}
 use Rattle.std.specs.Prelude.{◌≡◌, refl, ℕ, ◌+◌, ◌≤◌, ◌||◌, Bool, true, false, cond, List, [], ◌∷◌, ◌++◌, map, IsPermutation}
 use Rattle.std.specs.Cmp.Lexicographic.{bytes_decides}
 use Rattle.std.proofs.Common.{sym, ap, subst, ◌∙◌, arith, inl, inr}
-use Rattle.std.proofs.lemmas.Bool.{and_parts, true≢false}
+use Rattle.std.proofs.lemmas.Bool.{and_parts, true≢false, or_parts}
 use Rattle.std.proofs.lemmas.List.Sums.{sum_by-append, sum_by-cons}
 use Rattle.tv_value.specs.Nested.{Place}
 use Rattle.tv_value.specs.Orders.{same_name}
@@ -24,7 +24,7 @@ use Rattle.tv_instance.specs.Events.{Event, Events, event_place, event_step, fau
 use Rattle.tv_instance.specs.Legality.{AreLegal, IsLegalNext}
 use Rattle.tv_instances.specs.InHistory.{Finds}
 use Rattle.tv_framing.proofs.OfArriving.{extends-parts}
-use Rattle.tv_framing.proofs.OfFrames.{in-finds, legal-known, steps-distinct}
+use Rattle.tv_framing.proofs.OfFrames.{in-finds, legal-known, steps-distinct, after-more}
 use Rattle.tv_framing.proofs.OfPorts.{known-or_gained}
 use Rattle.tv_framing.proofs.OfPossible.{some-possible}
 use Rattle.tv_framing.specs.Frames.{with_event}
@@ -36,7 +36,7 @@ use Rattle.tv_drawn.specs.Steps.{IsStepAt}
 use Rattle.tv_drawn.specs.Waiting.{outcome_place}
 use Rattle.tv_drawn.proofs.OfLaws.{flows-stay, outcomes-are_known}
 use Rattle.tv_drawn.proofs.OfSettling.{event-step}
-use Rattle.tv_drawn.proofs.OfWaiting.{after-more, outcomes-once}
+use Rattle.tv_drawn.proofs.OfWaiting.{outcomes-once}
 
 -- the event is of the job that stands there: it runs, or gave
 abbrev is_of_job : Name → Place → Event → Bool
@@ -109,15 +109,11 @@ place-standing x o h = sym (of-outcome o) ∙ ap outcome_place (sym h) ∙ of-it
 two : (a b c : ℕ) → 1 ≤ a → 1 ≤ b → c ≡ a + b → c ≤ 1 → ⊥
 two a b c h k l m = omega arith
 
-or-false : (a b : Bool) → (a || b) ≡ false → (a ≡ false) × (b ≡ false)
-or-false true b h = absurd (true≢false h)
-or-false false b h = (refl, h)
-
 none-of : (s : Name) (q : Place) (es : Events) → list_any (is_of_job s q) es ≡ false → (has_result es s q ≡ false) × (is_taken es s q ≡ false)
 none-of s q [] h = (refl, refl)
 none-of s q (e ∷ es) h =
-    let a = or-false (is_of_job s q e) (list_any (is_of_job s q) es) h in
-    let b = or-false (gives_at s q e) (takes_at s q e) a.0 in
+    let a = or_parts (is_of_job s q e) (list_any (is_of_job s q) es) h in
+    let b = or_parts (gives_at s q e) (takes_at s q e) a.0 in
     let r = none-of s q es a.1 in
     (ap (λ c. c || has_result es s q) b.0 ∙ r.0, ap (λ c. c || is_taken es s q) b.1 ∙ r.1)
 

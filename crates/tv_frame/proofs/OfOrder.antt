@@ -2,17 +2,20 @@
 use Rattle.std.specs.Prelude.{◌≡◌, refl, ℕ, zero, suc, ◌+◌, ◌-◌, ◌<◌, ◌≤◌, ◌⊎◌, false, List, [], ◌∷◌, if◌then◌else◌, length, Some, slice_get}
 use Rattle.std.proofs.Common.{arith, sym, ap, subst, ◌∙◌, get_or, inl, inr, set}
 use Rattle.std.proofs.lemmas.List.{length-map, length-set}
-use Rattle.std.proofs.lemmas.Option.{get_or_from_slice_get}
+use Rattle.std.proofs.lemmas.Option.{get_or_from_slice_get, slice_get_within}
+use Rattle.std.proofs.lemmas.Bool.{cases_eq}
+use Rattle.tv_lemmas.proofs.Lists.{get-map, get-within, same-lists}
 use Rattle.tv_value.specs.Orders.{same_name}
 use Rattle.tv_value.specs.Values.{Name}
+use Rattle.tv_value.proofs.OfNames.{same_name-refl}
 use Rattle.tv_flow.specs.Flows.{Flow, Step}
 use Rattle.tv_naming.specs.Numbers.{position}
-use Rattle.tv_naming.proofs.ByPosition.{position-at, same_name-refl}
+use Rattle.tv_naming.proofs.ByPosition.{position-at}
 use Rattle.tv_naming.proofs.FormedParts.{few, flow-steps, steps-ascend}
 use Rattle.tv_naming.proofs.OfLists as by_lists
-use Rattle.tv_naming.proofs.OfTold.{get-map, got-in}
+use Rattle.tv_naming.proofs.OfTold.{got-in}
 use Rattle.tv_depths.specs.Ranks.{ranked}
-use Rattle.tv_depths.proofs.OfRanked.{get-set-other, get-set-same, inside, one-place, ranked-ordered, ranks-apart, same-or-not}
+use Rattle.tv_depths.proofs.OfRanked.{get-set-other, get-set-same, one-place, ranked-ordered, ranks-apart}
 use Rattle.tv_check.proofs.OfRanks.{each-ranked}
 use Rattle.tv_instance.specs.ByResults.{last_first}
 use Rattle.tv_joined.specs.WiredFlows.{IsWired}
@@ -25,15 +28,6 @@ use Rattle.tv_flow.specs.Formed.{is_step}
 use Rattle.tv_flow.specs.Views.{flow_view}
 use Rattle.tv_frame.proofs.OfPlans.{rank-of}
 use Rattle.tv_frame.proofs.OfTables.{as-many-steps, plan-wired, step-of}
-
-same-lists : {A : Type 0} (xs ys : List A) → length xs ≡ length ys → ((k : ℕ) (y : A) → slice_get ys k ≡ Some y → slice_get xs k ≡ Some y) → xs ≡ ys
-same-lists [] [] e h = refl
-same-lists [] (y ∷ ys) e h = cc
-same-lists (x ∷ xs) [] e h = cc
-same-lists (x ∷ xs) (y ∷ ys) e h =
-    let p : Some x ≡ Some y = h 0 y refl in
-    let q : xs ≡ ys = same-lists xs ys (omega (arith, e)) (λ k z g. h (suc k) z g) in
-    cc
 
 module _ {A : Type 0} where
   first-position : (xs : List (Name × A)) (j : ℕ) (x : Name × A) → slice_get xs j ≡ Some x → ((i : ℕ) (r : Name × A) → slice_get xs i ≡ Some r → i < j → same_name x.0 r.0 ≡ false) → position x.0 xs ≡ j
@@ -63,14 +57,6 @@ last-long : (xs ts : List (Name × Step)) → length (last_first xs ts) ≡ leng
 last-long [] ts = omega arith
 last-long (x ∷ xs) ts = let l = last-long xs (x ∷ ts) in omega (arith, l)
 
-there-at : {A : Type 0} (xs : List A) (k : ℕ) → k < length xs → (x : A) × (slice_get xs k ≡ Some x)
-there-at [] k h = absurd (none k h)
-  where
-    none : (k : ℕ) → k < 0 → ⊥
-    none k p = omega (arith, p)
-there-at (x ∷ xs) zero h = (x, refl)
-there-at (x ∷ xs) (suc k) h = there-at xs k (omega (arith, h))
-
 naming-there : {A : Type 0} (P : A → Type 0) (xs : List A) (j : ℕ) (x : A) → by_lists.Each P xs → slice_get xs j ≡ Some x → P x
 naming-there P [] j x h e = cc
 naming-there P (y ∷ xs) zero x h e = let f : y ≡ x = cc in subst P f h.0
@@ -90,7 +76,7 @@ module _ (f : Flow) (wired : IsWired f) where
   pub rank-below : (k : ℕ) (s : Name × Step) → slice_get f.steps k ≡ Some s → position s.0 (ranked f.steps) < length f.steps
   rank-below k s at =
       let r = rank-of f wired k s at in
-      let lt : r.0 < length (ranked f.steps) = inside (ranked f.steps) r.0 s r.1 in
+      let lt : r.0 < length (ranked f.steps) = slice_get_within (ranked f.steps) r.0 s r.1 in
       let e : position s.0 (ranked f.steps) ≡ r.0 = rank-is r.0 s r.1 in
       let n : length (ranked f.steps) ≡ length f.steps = wired.ranked in
       omega (arith, lt, e, n)
@@ -115,7 +101,7 @@ module _ (f : Flow) (wired : IsWired f) where
   pub fill-next : (order after : List ℕ) (count at : ℕ) (s : Name × Step) → AreFilled order count → slice_get f.steps count ≡ Some s → at ≡ length f.steps - 1 - position s.0 (ranked f.steps) → after ≡ set order at count → length after ≡ length order → AreFilled after (count + 1)
   fill-next order after count at s h here at_is is long = record {
     many = long ∙ h.many;
-    filled = λ k t lt there. by k t lt there (same-or-not k count);
+    filled = λ k t lt there. by k t lt there (cases_eq k count);
   }
     where
       same-rank : (n a b : ℕ) → a < n → b < n → n - 1 - a ≡ n - 1 - b → a ≡ b
@@ -157,14 +143,14 @@ module _ (f : Flow) (wired : IsWired f) where
           (each-ranked (λ u. (k : ℕ) × (slice_get f.steps k ≡ Some u)) f.steps (naming-each (λ u. (k : ℕ) × (slice_get f.steps k ≡ Some u)) f.steps (λ k u e. (k, e)))) e
 
       own-place : (k : ℕ) (t : Name × Step) → slice_get f.steps k ≡ Some t → position t.0 f.steps ≡ k
-      own-place k t e = ap (λ (y : Name × Step). position y.0 f.steps) (sym (get_or_from_slice_get f.steps k t t e)) ∙ position-at f.steps k t (steps-ascend f wired.formed) (inside f.steps k t e)
+      own-place k t e = ap (λ (y : Name × Step). position y.0 f.steps) (sym (get_or_from_slice_get f.steps k t t e)) ∙ position-at f.steps k t (steps-ascend f wired.formed) (slice_get_within f.steps k t e)
 
       at : (k y : ℕ) → slice_get (by_falling_rank f) k ≡ Some y → slice_get order k ≡ Some y
       at k y e =
-          let lt : k < length (by_falling_rank f) = inside (by_falling_rank f) k y e in
+          let lt : k < length (by_falling_rank f) = slice_get_within (by_falling_rank f) k y e in
           let n : length (ranked f.steps) ≡ length f.steps = wired.ranked in
           let low : k < length (ranked f.steps) = omega (arith, lt, long) in
-          let t = there-at (ranked f.steps) (length (ranked f.steps) - 1 - k) (omega (arith, low)) in
+          let t = get-within (ranked f.steps) (length (ranked f.steps) - 1 - k) (omega (arith, low)) in
           let m = member (length (ranked f.steps) - 1 - k) t.0 t.1 in
           let pos : position t.0.0 f.steps ≡ m.0 = own-place m.0 t.0 m.1 in
           let here : slice_get (by_falling_rank f) k ≡ Some (position t.0.0 f.steps) =
@@ -173,7 +159,7 @@ module _ (f : Flow) (wired : IsWired f) where
           let is : Some y ≡ Some m.0 = sym e ∙ here ∙ ap Some pos in
           let rank_is : position t.0.0 (ranked f.steps) ≡ length (ranked f.steps) - 1 - k = rank-is (length (ranked f.steps) - 1 - k) t.0 t.1 in
           let spot : length f.steps - 1 - position t.0.0 (ranked f.steps) ≡ k = omega (arith, rank_is, n, low) in
-          ap (slice_get order) (sym spot) ∙ h.filled m.0 t.0 (let i = inside f.steps m.0 t.0 m.1 in omega (arith, i, le)) m.1 ∙ sym is
+          ap (slice_get order) (sym spot) ∙ h.filled m.0 t.0 (let i = slice_get_within f.steps m.0 t.0 m.1 in omega (arith, i, le)) m.1 ∙ sym is
 
 -- ---- of a plan
 

@@ -1,11 +1,10 @@
 -- The links of a flow's outputs come from what is there, where the document was accepted.
 use Rattle.std.specs.Coded.{Coded-set, coded_bool}
 use Rattle.std.specs.List.{list_all}
-use Rattle.std.specs.Option.{is_none}
-use Rattle.std.specs.Prelude.{◌≡◌, refl, Bool, true, false, if◌then◌else◌, List, [], ◌∷◌, not, Option, Some, None}
-use Rattle.std.proofs.Common.{subst}
+use Rattle.std.specs.Prelude.{◌≡◌, Bool, true, [], not}
 use Rattle.std.proofs.Math.Logic.{∥∥₁_elim}
-use Rattle.tv_value.specs.Orders.{named, same_name}
+use Rattle.tv_lemmas.proofs.Options.{is_none-none}
+use Rattle.tv_lemmas.proofs.Lists.{append-none}
 use Rattle.tv_value.specs.Values.{Name}
 use Rattle.tv_flow.specs.Flows.{Document, Feed, Flow, Link}
 use Rattle.tv_naming.specs.Faulty.{Where, at_flow_output, at_main, no_such_flow, no_such_port, plainly}
@@ -18,7 +17,8 @@ use Rattle.tv_check.specs.Passes.{checked, complaints}
 use Rattle.tv_check.specs.Plans.{IsAccepted}
 use Rattle.tv_check.specs.PlanViews.{IsOfDocument}
 use Rattle.tv_check.proofs.Accepting.{first-none}
-use Rattle.tv_check.proofs.Inside.{each-all, each-by, nil-each, nil-parts, silent}
+use Rattle.tv_check.proofs.Inside.{each-all, each-by, nil-each, silent}
+use Rattle.tv_joined.proofs.OfAccepted.{named-each}
 
 abbrev pub has_output_links : Flow → Bool
 has_output_links f = list_all (λ (o : Name × Feed). list_all (is_there f) (feed_links o.1)) f.outputs
@@ -33,31 +33,19 @@ flow-links : (knows : Name → Bool) (d : Document) (f : Name × Flow) → flow_
 flow-links knows d f e =
     each-all (λ (o : Name × Feed). list_all (is_there f.1) (feed_links o.1)) f.1.outputs
     (each-by (λ (o : Name × Feed). output_complaints f.0 f.1 o ≡ []) (λ (o : Name × Feed). list_all (is_there f.1) (feed_links o.1) ≡ true) f.1.outputs (λ o g. links-there f.1 (at_flow_output f.0 o.0) o.1 g)
-    (nil-each (output_complaints f.0 f.1) f.1.outputs (nil-parts _ _ e).1))
-
-named-each : {A : Type 0} (P : A → Type 0) (n : Name) (xs : List (Name × A)) (a : A) → Each (λ x. P x.1) xs → named n xs ≡ Some a → P a
-named-each P n [] a e h = cc
-named-each {A = A} P n (x ∷ xs) a e h = cases (same_name n x.0) h (named-each P n xs a e.1)
-  where
-    cases : (b : Bool) → (if b then Some x.1 else named n xs) ≡ Some a → (named n xs ≡ Some a → P a) → P a
-    cases true k rec = let f : x.1 ≡ a = cc in subst P f e.0
-    cases false k rec = rec k
-
-is-none : {X : Type 0} (o : Option X) → is_none o ≡ true → o ≡ None
-is-none None h = refl
-is-none (Some x) h = cc
+    (nil-each (output_complaints f.0 f.1) f.1.outputs (append-none _ _ e).1))
 
 each-linked : (d : Document) → IsAccepted d → Each (λ (f : Name × Flow). has_output_links f.1 ≡ true) d.flows
 each-linked d accepted =
     let knows : Name → Bool = λ n. true in
-    let all : complaints knows d ≡ [] = first-none (complaints knows d) (is-none (checked knows d) accepted) in
-    let a = nil-parts _ (given_complaints d) all in
-    let b = nil-parts _ (depth_complaints d) a.0 in
-    let c = nil-parts _ (link_cycle_complaints d) b.0 in
-    let e = nil-parts _ (nesting_complaints d) c.0 in
-    let n = nil-parts (naming_complaints knows d) (cycle_complaints d) e.0 in
+    let all : complaints knows d ≡ [] = first-none (complaints knows d) (is_none-none (checked knows d) accepted) in
+    let a = append-none _ (given_complaints d) all in
+    let b = append-none _ (depth_complaints d) a.0 in
+    let c = append-none _ (link_cycle_complaints d) b.0 in
+    let e = append-none _ (nesting_complaints d) c.0 in
+    let n = append-none (naming_complaints knows d) (cycle_complaints d) e.0 in
     each-by (λ (f : Name × Flow). flow_naming knows d f ≡ []) (λ (f : Name × Flow). has_output_links f.1 ≡ true) d.flows (flow-links knows d)
-    (nil-each (flow_naming knows d) d.flows (nil-parts (complain_if (not (has_name d.flows d.main)) (plainly no_such_flow at_main)) _ n.0).1)
+    (nil-each (flow_naming knows d) d.flows (append-none (complain_if (not (has_name d.flows d.main)) (plainly no_such_flow at_main)) _ n.0).1)
 
 pub output-links : (f : Flow) → IsOfDocument f → has_output_links f ≡ true
 output-links f of = ∥∥₁_elim of (Coded-set coded_bool _ _) (λ x. named-each (λ (g : Flow). has_output_links g ≡ true) x.1.0 x.0.flows f (each-linked x.0 x.1.2) x.1.3)

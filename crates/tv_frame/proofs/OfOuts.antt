@@ -1,12 +1,12 @@
 -- The flow's outputs with an event that the trees don't show yet, where all steps are whole with it.
-use Rattle.std.specs.List.{list_all, range_with_len}
+use Rattle.std.specs.List.{list_all}
 use Rattle.std.specs.Option.{option_map_or}
 use Rattle.std.specs.Prelude.{◌≡◌, refl, ℕ, zero, suc, ◌+◌, ◌≤◌, ◌<◌, ◌==◌, ◌&&◌, Bool, true, false, IsTrue, if◌then◌else◌, is_some, length, List, [], ◌∷◌, map, nat_lt, ◌^◌, IfOk, Ok, Err, Result, Option, Some, option_and_then, slice_get, slice_index_or, take, unwrap_or}
 use Rattle.std.proofs.Common.{arith, sym, ap, ap₂, subst, ◌∙◌, eqb-true, lt-ltb}
 use Rattle.std.proofs.lemmas.Bool.{and_parts}
 use Rattle.std.proofs.lemmas.List.{length-map, length-take-le}
-use Rattle.std.proofs.lemmas.List.FromFn.{get_or-map-range_with_len, length-map-range_with_len}
-use Rattle.std.proofs.lemmas.Option.{get_or_from_slice_get, none-some, same_Some}
+use Rattle.std.proofs.lemmas.Option.{get_or_from_slice_get, none-some, same_Some, slice_get_within}
+use Rattle.tv_lemmas.proofs.Lists.{get-map, get-within, get-map_range, index-map}
 use Rattle.tv_value.specs.Nested.{list, no_trees}
 use Rattle.tv_value.specs.Orders.{named}
 use Rattle.tv_value.specs.Values.{Name, Value}
@@ -22,7 +22,7 @@ use Rattle.tv_naming.proofs.FormedParts.{few, step-at, step-outputs, steps-ascen
 use Rattle.tv_depths.specs.Delivered.{link_delivers}
 use Rattle.tv_depths.specs.Ranks.{ranked}
 use Rattle.tv_depths.specs.Steps.{declared_depths}
-use Rattle.tv_depths.proofs.OfRanked.{all-ranked, inside}
+use Rattle.tv_depths.proofs.OfRanked.{all-ranked}
 use Rattle.tv_parts.specs.Below.{value_in}
 use Rattle.tv_parts.specs.Changes.{CanClose, arrive, close_at}
 use Rattle.tv_parts.specs.Partials.{Partial, whole}
@@ -48,7 +48,7 @@ use Rattle.tv_bound.specs.Jobs.{outputs_found}
 use Rattle.tv_bound.specs.Over.{AreBrought, CanBring, CanCome, known_over, tree_with}
 use Rattle.tv_bound.specs.Sourced.{Stand, known_by, tree_from}
 use Rattle.tv_model.specs.Instances.{given_of}
-use Rattle.tv_model.specs.RightDepths.{HaveTheseDepths}
+use Rattle.tv_model.proofs.OfMembers.{in-slice}
 use Rattle.tv_instance.specs.ByResults.{InstanceStep, step_of}
 use Rattle.tv_instance.specs.Events as events
 use Rattle.tv_instance.specs.Events.{Event, event_place, event_step, fault_set, gave, took}
@@ -62,13 +62,14 @@ use Rattle.tv_framing.proofs.OfArriving.{extends-parts}
 use Rattle.tv_framing.proofs.OfPossible.{some-possible}
 use Rattle.tv_joined.specs.TurningTrees.{CanPut}
 use Rattle.tv_joined.specs.WiredFlows.{IsWired}
+use Rattle.tv_joined.proofs.OfEndings.{position-of}
 use Rattle.tv_fed.specs.Coming.{put_here}
 use Rattle.tv_fed.specs.Fed.{event_number}
 use Rattle.tv_fed.proofs.OfComing.{events-are_in_trees, trees-go_on}
-use Rattle.tv_fed.proofs.OfNames.{in-slice, is-named}
-use Rattle.tv_fed.proofs.OfWholeSteps.{position-of}
+use Rattle.tv_fed.proofs.OfNames.{is-named}
 use Rattle.tv_drawn.specs.Steps.{IsStepAt}
 use Rattle.tv_truly.specs.Known.{tree_of}
+use Rattle.tv_truly.proofs.OfNumbers.{step-there}
 use Rattle.tv_frame.specs.declared.frame.Frame.{Frame}
 use Rattle.tv_frame.specs.declared.outs.Change.{Change}
 use Rattle.tv_frame.specs.declared.outs.Change.TheVariants.{Arrive, Close}
@@ -79,22 +80,18 @@ use Rattle.tv_frame.specs.Prepared.{IsChangeOf, IsLaidOver, event_value}
 use Rattle.tv_frame.specs.Tables.{at_least_one, first_tree, levels_at, levels_in, tree_depths, trees_of}
 use Rattle.tv_frame.proofs.OfFeeds.{AreLinkValues, input-numbered, input-plain, output-below, output-whole}
 use Rattle.tv_frame.proofs.OfFirstOuts.{feeds-numbered}
-use Rattle.tv_frame.proofs.OfHoldAround.{fewer-trees, first-below, output-there, wired-flow, wiring-kept, within-get}
-use Rattle.tv_frame.proofs.OfHoldTold.{at-mapped, same-names-has, same-names-position}
+use Rattle.tv_frame.proofs.OfHoldAround.{fewer-trees, first-below, wired-flow, wiring-kept}
+use Rattle.tv_frame.proofs.OfHoldTold.{same-names-has, same-names-position}
 use Rattle.tv_frame.proofs.OfOutputLinks.{has_output_links, output-links}
 use Rattle.tv_frame.proofs.OfOutsFound.{IsAllWhole, constant_or, outputs-whole, whole_values}
+use Rattle.tv_frame.proofs.OfComing.{as-declared}
 
 -- ---- lists
-
-mapped-get : {A B : Type 0} (g : A → B) (xs : List A) (k : ℕ) (x : A) → slice_get xs k ≡ Some x → slice_get (map g xs) k ≡ Some (g x)
-mapped-get g [] k x e = absurd (none-some x e)
-mapped-get g (y ∷ xs) zero x e = ap (λ z. Some (g z)) (same_Some y x e)
-mapped-get g (y ∷ xs) (suc k) x e = mapped-get g xs k x e
 
 -- what stands at each number below one stands in at least so many
 as-many : {A : Type 0} (n : ℕ) (xs : List A) → ((k : ℕ) → k < n → (x : A) × (slice_get xs k ≡ Some x)) → n ≤ length xs
 as-many zero xs h = omega arith
-as-many (suc n) xs h = let e = h n (omega arith) in omega (arith, inside xs n e.0 e.1)
+as-many (suc n) xs h = let e = h n (omega arith) in omega (arith, slice_get_within xs n e.0 e.1)
 
 -- the first of some pieces
 taken-value : (ps : List Piece) (n k : ℕ) (x : Value) → k < n → slice_get (piece_values ps) k ≡ Some x → slice_index_or (piece_values (take n ps)) k no_value ≡ x
@@ -110,12 +107,6 @@ taken-sound (p ∷ ps) zero h = refl
 taken-sound (p ∷ ps) (suc n) h =
     let b = and_parts (is_sound p) (list_all is_sound ps) h in
     ap (λ c. c && list_all is_sound (take n ps)) b.0 ∙ taken-sound ps n b.1
-
-depths-many : (ds : List ℕ) (vs : List Value) → HaveTheseDepths ds vs → length vs ≡ length ds
-depths-many [] [] h = refl
-depths-many [] (v ∷ vs) h = absurd h
-depths-many (d ∷ ds) [] h = absurd h
-depths-many (d ∷ ds) (v ∷ vs) h = ap suc (depths-many ds vs h.1)
 
 -- ---- what an event brings
 
@@ -134,7 +125,7 @@ module _ (v : View) (s : Name × Step) where
 
   arriving : (e : Event) (c : Change) → IsGiven e → IsChangeOf v s e c → (k : ℕ) → k < length s.1.outputs → ArrivesAt e c k
   arriving (gave t q vs) (Arrive ps) g h k l =
-      let x = within-get vs k (subst (λ n. k < n) (sym g) l) in
+      let x = get-within vs k (subst (λ n. k < n) (sym g) l) in
       ap (λ xs. slice_get xs k) (sym h.1) ∙ x.1 ∙ ap Some (sym (ap (λ o. unwrap_or o (list tt no_trees)) x.1))
   arriving (gave t q vs) (Close m) g h k l = absurd h
   arriving (events.closed t q m) (Arrive ps) g h k l = absurd h
@@ -204,7 +195,7 @@ module _ (flows : List (Name × Flow)) (plan : FlowPlan) (pool : Nodes) (f : Fra
       by : (g : Event) → AreGiven (ranked v.flow.steps) (g ∷ v.events) → event_step g ≡ s.0 → IsGiven v s g
       by (gave t q vs) h n =
           let i = all-ranked v.flow.steps (steps-ascend v.flow wires.formed) wires.ranked s (over.step, laid.at) in
-          depths-many (declared_depths s.1) vs (h.0 s (in-slice (ranked v.flow.steps) i.0 s i.1) (sym n)) ∙ length-map s.1.outputs (λ o. o.1)
+          as-declared (declared_depths s.1) vs (h.0 s (in-slice (ranked v.flow.steps) i.0 s i.1) (sym n)) ∙ length-map s.1.outputs (λ o. o.1)
       by (events.closed t q m) h n = tt
       by (fault_set t q d) h n = tt
       by (took t q) h n = tt
@@ -227,12 +218,6 @@ pub record IsComingOf (s : Name × Step) (over : Over) (b : Coming) : Type 0 whe
   pub outputs : b.outputs ≡ length s.1.outputs
   pub place : b.place.now ≡ over.place.now
   pub brought : IsBrought over.change (length s.1.outputs) b.brought
-
-at-range : (g : ℕ → ℕ) (m n : ℕ) → n < m → slice_get (map g (range_with_len 0 m)) n ≡ Some (g n)
-at-range g m n l =
-    let many = length-map-range_with_len g 0 m in
-    let x = within-get (map g (range_with_len 0 m)) n (subst (λ k. n < k) (sym many) l) in
-    x.1 ∙ ap Some (sym (get_or_from_slice_get (map g (range_with_len 0 m)) n x.0 0 x.1) ∙ get_or-map-range_with_len g 0 m n n 0 l (omega arith))
 
 module _ (flows : List (Name × Flow)) (plan : FlowPlan) (pool : Nodes) (f : Frame) (v : View) (keeps : Keeps flows plan pool f v) (a : Sources) (of : IsSourcesOf pool f a) where
   abbrev levels : Name → ℕ
@@ -259,26 +244,26 @@ module _ (flows : List (Name × Flow)) (plan : FlowPlan) (pool : Nodes) (f : Fra
       ∙ ap length keeps.deep
 
   pub first-at : (n : ℕ) → n < length v.flow.steps → slice_get a.firsts.now n ≡ Some (first_tree v.flow.steps n)
-  first-at n l = ap (λ ns. slice_get ns n) (of.firsts ∙ keeps.tables_are.firsts_are) ∙ at-range (first_tree v.flow.steps) (length v.flow.steps) n l
+  first-at n l = ap (λ ns. slice_get ns n) (of.firsts ∙ keeps.tables_are.firsts_are) ∙ get-map_range (first_tree v.flow.steps) (length v.flow.steps) n l
 
   -- THE TREES that are found are what was told
   pub tree-known : (n : ℕ) (t : Name × Step) → IsStepAt v n t → (k : ℕ) → k < trees_of t → (known_by a).outputs n k ≡ part_so_far t.0 k (levels t.0) (declared_at t k) v.events
   tree-known n t at k l =
-      ap (λ o. tree_from (known a.pool.now a.outputs.now) o k) (first-at n (inside v.flow.steps n t at))
+      ap (λ o. tree_from (known a.pool.now a.outputs.now) o k) (first-at n (slice_get_within v.flow.steps n t at))
       ∙ ap (λ ts. tree_in ts (first_tree v.flow.steps n + k)) known-trees
       ∙ keeps.trees_are n t at k l
 
   pub declared-depth : (t : Name × Step) (o : Name) → has_name t.1.outputs o ≡ true → declared_at t (position o t.1.outputs) ≡ unwrap_or (named o t.1.outputs) 0
   declared-depth t o h =
       let out = is-named o t.1.outputs h in
-      at-mapped (λ (p : Name × ℕ). p.1) t.1.outputs (position o t.1.outputs) (o, out.thing) 0 out.here ∙ ap (λ r. unwrap_or r 0) (sym out.named_so)
+      index-map (λ (p : Name × ℕ). p.1) t.1.outputs (position o t.1.outputs) (o, out.thing) 0 out.here ∙ ap (λ r. unwrap_or r 0) (sym out.named_so)
 
   -- by names
   pub tree-named : (es : events.Events) (t o : Name) → is_there v.flow (output t o) ≡ true → (r : ℕ → ℕ → Partial Value)
       → ((n : ℕ) (u : Name × Step) → IsStepAt v n u → (k : ℕ) → k < length u.1.outputs → r n k ≡ part_so_far u.0 k (levels u.0) (declared_at u k) es)
       → r (position t v.flow.steps) (position o (outputs_of v.flow t)) ≡ tree_of v.flow levels v.inputs es t o
   tree-named es t o h r are =
-      let p = output-there v.flow t o h in
+      let p = step-there v.flow t o h in
       let st = is-named t v.flow.steps p.0 in
       let its : outputs_of v.flow t ≡ st.thing.outputs = ap (λ (x : Option Step). option_map_or (λ (u : Step). u.outputs) x []) st.named_so in
       let has : has_name st.thing.outputs o ≡ true = subst (λ (ps : List (Name × ℕ)). has_name ps o ≡ true) its p.1 in
@@ -313,7 +298,7 @@ module _ (flows : List (Name × Flow)) (plan : FlowPlan) (pool : Nodes) (f : Fra
       pub can-come : CanCome a b
       can-come = record {
         first = first_tree v.flow.steps over.step;
-        step = ap (slice_get a.firsts.now) is.step ∙ first-at over.step (inside v.flow.steps over.step s laid.at);
+        step = ap (slice_get a.firsts.now) is.step ∙ first-at over.step (slice_get_within v.flow.steps over.step s laid.at);
         there = subst (λ n. first_tree v.flow.steps over.step + n ≤ length (known a.pool.now a.outputs.now)) (sym is.outputs) (subst (λ n. first_tree v.flow.steps over.step + length s.1.outputs ≤ n) (sym trees-many) fits);
         brought = subst (AreBrought b.brought) (sym is.outputs) (are-brought v s e over.change b.brought given-so laid.change is.brought);
         can = λ o l.
@@ -372,7 +357,7 @@ module _ (flows : List (Name × Flow)) (plan : FlowPlan) (pool : Nodes) (f : Fra
         whole-so : (t o : Name) → is_there v.flow (output t o) ≡ true → whole (tree_of v.flow levels v.inputs (e ∷ v.events) t o) ≡ true
         whole-so t o h =
             let r = some-possible w [] laid.next.given in
-            let st = is-named t v.flow.steps (output-there v.flow t o h).0 in
+            let st = is-named t v.flow.steps (step-there v.flow t o h).0 in
             output-whole flows levels w depths-after wired legal-after [] r.0 r.1 r.2 t o h
             ∙ all (position t v.flow.steps) (t, st.thing) st.here
 
@@ -380,7 +365,7 @@ module _ (flows : List (Name × Flow)) (plan : FlowPlan) (pool : Nodes) (f : Fra
         all-whole = record {
           inputs = λ x h.
               let st = is-named x v.inputs (same-names-has x v.inputs v.flow.inputs keeps.inputs_are.names ∙ h) in
-              (st.thing, ap (λ vs. slice_get vs (position x v.flow.inputs)) inputs-are ∙ ap (slice_get (map (λ (y : Name × Value). y.1) v.inputs)) (sym (same-names-position x v.inputs v.flow.inputs keeps.inputs_are.names)) ∙ mapped-get (λ (y : Name × Value). y.1) v.inputs (position x v.inputs) (x, st.thing) st.here);
+              (st.thing, ap (λ vs. slice_get vs (position x v.flow.inputs)) inputs-are ∙ ap (slice_get (map (λ (y : Name × Value). y.1) v.inputs)) (sym (same-names-position x v.inputs v.flow.inputs keeps.inputs_are.names)) ∙ get-map (λ (y : Name × Value). y.1) v.inputs (position x v.inputs) (x, st.thing) st.here);
           outputs = λ t o h. ap whole (by_name t o h) ∙ whole-so t o h;
         }
 
@@ -395,7 +380,7 @@ module _ (flows : List (Name × Flow)) (plan : FlowPlan) (pool : Nodes) (f : Fra
         outputs-found cs e =
             ap (outputs_found k_over cs) outputs-are
             ∙ outputs-whole v.flow k_over all-whole cs 0 v.flow.outputs links-there
-            (λ i o g. ap (λ k. constant_of_output k (0 + i)) (e ∙ keeps.tables_are.constants_are) ∙ ap (constant_of_output (flow_constants v.flow)) (none i) ∙ ap (option_and_then (λ c. c)) (mapped-get (λ (u : Name × Feed). constant_in u.1) v.flow.outputs i o g))
+            (λ i o g. ap (λ k. constant_of_output k (0 + i)) (e ∙ keeps.tables_are.constants_are) ∙ ap (constant_of_output (flow_constants v.flow)) (none i) ∙ ap (option_and_then (λ c. c)) (get-map (λ (u : Name × Feed). constant_in u.1) v.flow.outputs i o g))
           where
             none : (m : ℕ) → 0 + m ≡ m
             none m = omega arith
@@ -425,10 +410,10 @@ module _ (flows : List (Name × Flow)) (plan : FlowPlan) (pool : Nodes) (f : Fra
   outputs-same xs e x =
       let view : Name × CodeStep → Name × Step = λ t. (t.0, step_view t.1) in
       let found : slice_get (map view xs) n ≡ Some s = ap (λ ys. slice_get (map view ys) n) e ∙ ap (λ (g : Flow). slice_get g.steps n) (sym keeps.flow_is) ∙ at in
-      let y = within-get xs n (subst (λ m. n < m) (length-map xs view) (inside (map view xs) n s found)) in
+      let y = get-within xs n (subst (λ m. n < m) (length-map xs view) (slice_get_within (map view xs) n s found)) in
       let same : y.0 ≡ slice_index_or xs n x = sym (get_or_from_slice_get xs n y.0 x y.1) in
       ap (λ (t : Name × CodeStep). t.1.outputs) (sym same)
-      ∙ ap (λ (t : Name × Step). t.1.outputs) (same_Some (view y.0) s (sym (mapped-get view xs n y.0 y.1) ∙ found))
+      ∙ ap (λ (t : Name × Step). t.1.outputs) (same_Some (view y.0) s (sym (get-map view xs n y.0 y.1) ∙ found))
 
   -- which are few
   pub outputs-few : length s.1.outputs < 2 ^ 32

@@ -2,23 +2,26 @@
 -- depths tell the levels of its steps.
 use Rattle.std.specs.Coded.{Coded-set, coded_bool}
 use Rattle.std.specs.List.{list_all}
-use Rattle.std.specs.Option.{is_none, option_map_or}
-use Rattle.std.specs.Prelude.{◌≡◌, refl, ℕ, zero, suc, ◌+◌, ◌≤◌, Bool, true, false, ◌&&◌, nat_le, nat_lt, List, [], ◌∷◌, flat_map, if◌then◌else◌, length, map, Option, Some, None, slice_get, unwrap_or}
+use Rattle.std.specs.Option.{option_map_or}
+use Rattle.std.specs.Prelude.{◌≡◌, refl, ℕ, zero, suc, ◌+◌, ◌≤◌, Bool, true, false, ◌&&◌, nat_le, List, [], ◌∷◌, flat_map, if◌then◌else◌, length, map, Option, Some, None, slice_get, unwrap_or}
 use Rattle.std.proofs.Common.{arith, sym, ap, subst, ◌∙◌}
 use Rattle.std.proofs.Math.Logic.{∥∥₁_elim}
-use Rattle.std.proofs.lemmas.Bool.Decides.{nat_tests}
 use Rattle.std.proofs.lemmas.List.{length-map}
+use Rattle.std.proofs.lemmas.Bool.{and_parts}
+use Rattle.tv_lemmas.proofs.Options.{is_none-none}
+use Rattle.tv_lemmas.proofs.Lists.{append-none}
 use Rattle.tv_value.specs.Orders.{named, same_name}
 use Rattle.tv_value.specs.Strategies.{Strategy, cross}
 use Rattle.tv_value.specs.Values.{Name}
+use Rattle.tv_value.proofs.OfNames.{same_name-refl}
 use Rattle.tv_flow.specs.Flows.{Document, Flow, Step, StepInput}
 use Rattle.tv_flow.specs.Formed.{is_ascending, is_formed, is_given_tree, is_step, is_step_input}
 use Rattle.tv_strategy.specs.Conditions.{AllDotsAreFilled, EachOnce, Suits, names_in, number_of, times}
 use Rattle.tv_strategy.specs.Measures.{DotsAgree, all_leaf_names, leaf_names, strategy_depth}
 use Rattle.tv_strategy.specs.Sources.{Each}
-use Rattle.tv_naming.specs.Faulty.{Where, at_input, at_output, too_deep, with_numbers}
-use Rattle.tv_naming.specs.Naming.{complain_if, fits_ports, numbered}
-use Rattle.tv_naming.proofs.ByPosition.{both, names_of, same_name-is, same_name-refl}
+use Rattle.tv_naming.specs.Faulty.{Where, at_input, at_output}
+use Rattle.tv_naming.specs.Naming.{fits_ports, numbered}
+use Rattle.tv_naming.proofs.ByPosition.{names_of, same_name-is}
 use Rattle.tv_naming.proofs.FormedParts.{ascending, few, passes, step-at, step-inputs, steps-ascend}
 use Rattle.tv_naming.proofs.OfLists as by_lists
 use Rattle.tv_depths.specs.CheckedDepths.{StepDepths, feed_depth, flow_depths, port_depth, step_depths, steps_depths}
@@ -27,27 +30,26 @@ use Rattle.tv_depths.specs.Cycles.{link_cycle_complaints, nesting_complaints}
 use Rattle.tv_depths.specs.Ranks.{ranked}
 use Rattle.tv_depths.specs.Steps.{ports_of, strategy_of}
 use Rattle.tv_depths.specs.Tables.{has_fitting}
-use Rattle.tv_depths.proofs.OfLevels.{mismatch-is, number-small, over-small, suits}
+use Rattle.tv_depths.proofs.OfLevels.{mismatch-is, number-small, over-small, suits, within-one}
 use Rattle.tv_depths.proofs.OfRanked.{IsOrdered, all-ranked, one-place, ranked-ordered}
+use Rattle.tv_depths.proofs.OfPorts.{default-ports}
 use Rattle.tv_naming.specs.Inputs.{given_complaints}
 use Rattle.tv_check.specs.Passes.{checked, complaints}
 use Rattle.tv_check.specs.Plans.{IsAccepted}
 use Rattle.tv_check.specs.PlanViews.{IsOfDocument}
 use Rattle.tv_check.proofs.Accepting.{first-none}
-use Rattle.tv_check.proofs.Inside.{nil-parts}
 use Rattle.tv_check.proofs.OfRanks as by_ranks
 use Rattle.tv_check.proofs.Wired.{fitting}
 use Rattle.tv_wires.specs.Ports.{levels_of, mismatches}
 use Rattle.tv_instance.specs.OwnDepths.{AreLevels}
 use Rattle.tv_model.specs.Agreeing.{FlowAgrees, StepsAgree}
-use Rattle.tv_agreed.proofs.FlowsAgree.{default-ports}
 use Rattle.tv_agreed.proofs.Lists.{named-each}
 use Rattle.tv_agreed.proofs.Nests.{Silent, all-silent}
 use Rattle.tv_joined.specs.WiredFlows.{IsWired}
 use Rattle.tv_joined.proofs.OfAccepted.{accepted-wired}
 use Rattle.tv_agreed.proofs.Settled.{none-feed, ports-settled, step-settled}
-use Rattle.tv_begun.proofs.OfSteps.{stands-at}
 use Rattle.tv_frame.specs.Tables.{levels_at, levels_in}
+use Rattle.tv_frame.proofs.OfKeeping.{levels-are as levels-at}
 
 -- ---- lists
 
@@ -62,13 +64,6 @@ each-placed P (x ∷ xs) h = (h 0 x refl, each-placed P xs (λ j y e. h (suc j) 
 
 -- ---- levels are small
 
-within-one : (w : Where) (d : ℕ) → past_limit w d ≡ [] → nat_le d depth_most ≡ true
-within-one w d h = by_cases (nat_lt depth_most d) refl h
-  where
-    by_cases : (b : Bool) → nat_lt depth_most d ≡ b → complain_if b (with_numbers too_deep w d depth_most) ≡ [] → nat_le d depth_most ≡ true
-    by_cases true e h = cc
-    by_cases false e h = grind (arith, nat_tests)
-
 abbrev pub is_within : List (Name × ℕ) → List StepDepths → Name × StepInput → Bool
 is_within given ds i = nat_le (feed_depth given ds i.1.from) depth_most
 
@@ -80,18 +75,18 @@ module _ (given : List (Name × ℕ)) where
   inputs-within : (w : Name × StepInput → Where) (so_far all : List StepDepths) (is : List (Name × StepInput)) → flat_map (λ i. fed_complaints given so_far (w i) i.1.from) is ≡ [] → Each (λ i. feed_depth given all i.1.from ≡ feed_depth given so_far i.1.from) is → list_all (is_within given all) is ≡ true
   inputs-within w so_far all [] h e = refl
   inputs-within w so_far all (i ∷ is) h e =
-      let p = nil-parts (fed_complaints given so_far (w i) i.1.from) (flat_map (λ i. fed_complaints given so_far (w i) i.1.from) is) h in
-      let q = nil-parts (feed_depths given so_far (w i) i.1.from) (past_limit (w i) (feed_depth given so_far i.1.from)) p.0 in
+      let p = append-none (fed_complaints given so_far (w i) i.1.from) (flat_map (λ i. fed_complaints given so_far (w i) i.1.from) is) h in
+      let q = append-none (feed_depths given so_far (w i) i.1.from) (past_limit (w i) (feed_depth given so_far i.1.from)) p.0 in
       let here : is_within given all i ≡ true = ap (λ n. nat_le n depth_most) e.0 ∙ within-one (w i) (feed_depth given so_far i.1.from) q.1 in
       ap (λ b. b && list_all (is_within given all) is) here ∙ inputs-within w so_far all is p.1 e.1
 
   steps-within : (d : Document) (n : Name) (all : List StepDepths) (done : List Name) (so_far : List StepDepths) (ss : List (Name × Step)) → IsOrdered done ss → steps_complaints d n given so_far ss ≡ [] → steps_depths given so_far ss ≡ all → Each (λ s. list_all (is_within given all) s.1.inputs ≡ true) ss
   steps-within d n all done so_far [] o h e = tt
   steps-within d n all done so_far ((m, s) ∷ ss) o h e =
-      let p = nil-parts (step_complaints d n given so_far (m, s)) (steps_complaints d n given (step_depths given so_far (m, s) ∷ so_far) ss) h in
-      let q = nil-parts _ (flat_map (nested_complaints d n m s) (numbered 0 s.activities)) p.0 in
-      let r = nil-parts _ (flat_map (λ o. past_limit (at_output n m o.0) (o.1 + strategy_depth (port_depth given so_far s) (strategy_of s))) s.outputs) q.0 in
-      let t = nil-parts (flat_map (λ i. fed_complaints given so_far (at_input n m i.0) i.1.from) s.inputs) _ r.0 in
+      let p = append-none (step_complaints d n given so_far (m, s)) (steps_complaints d n given (step_depths given so_far (m, s) ∷ so_far) ss) h in
+      let q = append-none _ (flat_map (nested_complaints d n m s) (numbered 0 s.activities)) p.0 in
+      let r = append-none _ (flat_map (λ o. past_limit (at_output n m o.0) (o.1 + strategy_depth (port_depth given so_far s) (strategy_of s))) s.outputs) q.0 in
+      let t = append-none (flat_map (λ i. fed_complaints given so_far (at_input n m i.0) i.1.from) s.inputs) _ r.0 in
       let settled : Each (λ i. feed_depth given all i.1.from ≡ feed_depth given so_far i.1.from) s.inputs = subst (λ ds. Each (λ i. feed_depth given ds i.1.from ≡ feed_depth given so_far i.1.from) s.inputs) e (step-settled given s so_far ((m, s) ∷ ss) (none-feed done (m, s) ss o)) in
       (inputs-within (λ i. at_input n m i.0) so_far all s.inputs t.0 settled, steps-within d n all (m ∷ done) (step_depths given so_far (m, s) ∷ so_far) ss o.1.1 p.1 e)
 
@@ -111,24 +106,20 @@ module _ (given : List (Name × ℕ)) where
       let same : port_depth given all s.1 ≡ port_depth given so_far s.1 = ap (λ ds. port_depth given ds s.1) (sym e) ∙ ports-settled given s.1 so_far (s ∷ ss) (none-feed done s ss o) in
       (h.0 ∙ ap (λ f. strategy_depth f (strategy_of s.1)) same, levels-agree levels all (s.0 ∷ done) (step_depths given so_far s ∷ so_far) ss o.1.1 h.1 e)
 
-is-none : {X : Type 0} (o : Option X) → is_none o ≡ true → o ≡ None
-is-none None h = refl
-is-none (Some x) h = cc
-
 -- of a flow of a document that is accepted the pass on depths says nothing
 flow-silent : (d : Document) → is_formed d ≡ true → IsAccepted d → (n : Name) (f : Flow) → named n d.flows ≡ Some f → flow_complaints d (n, f) ≡ []
 flow-silent d formed accepted n f is =
     let knows : Name → Bool = λ m. true in
-    let all = first-none (complaints knows d) (is-none (checked knows d) accepted) in
-    let a = nil-parts _ (given_complaints d) all in
-    let b = nil-parts _ (depth_complaints d) a.0 in
-    let c = nil-parts _ (link_cycle_complaints d) b.0 in
-    let e = nil-parts _ (nesting_complaints d) c.0 in
+    let all = first-none (complaints knows d) (is_none-none (checked knows d) accepted) in
+    let a = append-none _ (given_complaints d) all in
+    let b = append-none _ (depth_complaints d) a.0 in
+    let c = append-none _ (link_cycle_complaints d) b.0 in
+    let e = append-none _ (nesting_complaints d) c.0 in
     named-each (Silent d) n d.flows f (all-silent d e.1 b.1) is
 
 flow-within : (d : Document) (n : Name) (f : Flow) → flow_complaints d (n, f) ≡ [] → Each (λ s. is_small f s ≡ true) (ranked f.steps)
 flow-within d n f h =
-    steps-within f.inputs d n (flow_depths f) [] [] (ranked f.steps) (ranked-ordered f.steps) (nil-parts (steps_complaints d n f.inputs [] (ranked f.steps)) _ h).0 refl
+    steps-within f.inputs d n (flow_depths f) [] [] (ranked f.steps) (ranked-ordered f.steps) (append-none (steps_complaints d n f.inputs [] (ranked f.steps)) _ h).0 refl
 
 pub rank-of : (f : Flow) → IsWired f → (k : ℕ) (s : Name × Step) → slice_get f.steps k ≡ Some s → (j : ℕ) × (slice_get (ranked f.steps) j ≡ Some s)
 rank-of f wired k s at = all-ranked f.steps (steps-ascend f wired.formed) wired.ranked s (k, at)
@@ -223,7 +214,7 @@ module _ (f : Flow) (of : IsOfDocument f) (k : ℕ) (s : Name × Step) (at : sli
 
   -- the levels of a step's ports suit its strategy
   pub step-suits : Suits (mismatches f s.1) (strategy_of s.1)
-  step-suits = by-strategy s.1.strategy (both _ _ (both _ _ (both _ _ (both _ _ (both _ _ is-step).0).0).0).0).1 (passes (λ (t : Name × Step). has_fitting t.1) f.steps k s (fitting f of) at)
+  step-suits = by-strategy s.1.strategy (and_parts _ _ (and_parts _ _ (and_parts _ _ (and_parts _ _ (and_parts _ _ is-step).0).0).0).0).1 (passes (λ (t : Name × Step). has_fitting t.1) f.steps k s (fitting f of) at)
 
   -- no name stands at two of its leaves
   pub leaves-differ : EachOnce (leaf_names (strategy_of s.1)) (leaf_names (strategy_of s.1))
@@ -241,9 +232,6 @@ dots-agree flows f wired agrees k s at =
     (each-there (λ t. DotsAgree (port_depth f.inputs (flow_depths f) t.1) (strategy_of t.1)) (ranked f.steps) r.0 s (steps-agree f.inputs flows (flow_depths f) [] [] (ranked f.steps) (ranked-ordered f.steps) agrees.steps refl) r.1)
 
 -- ---- the levels of steps, by their names
-
-pub levels-at : (f : Flow) → IsWired f → (k : ℕ) (s : Name × Step) → slice_get f.steps k ≡ Some s → levels_in f s.0 ≡ levels_at f s.1
-levels-at f wired k s at = ap (λ o. option_map_or (levels_at f) o 0) (stands-at f wired k s at)
 
 pub levels-are : (f : Flow) → IsWired f → AreLevels (levels_in f) f.inputs [] (ranked f.steps)
 levels-are f wired =

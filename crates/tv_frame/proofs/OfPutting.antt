@@ -18,12 +18,12 @@ use Rattle.tv_framing.specs.Arriving.{part_so_far}
 use Rattle.tv_framing.specs.Views.{View}
 use Rattle.tv_told.specs.Stated.{IsFrom}
 use Rattle.tv_joined.specs.TurningTrees.{CanPut, HasRightLength, whole_from}
+use Rattle.tv_joined.proofs.OfEndings.{position-of}
 use Rattle.tv_kept.specs.NextEvents.{IsNextEvent}
 use Rattle.tv_drawn.specs.Steps.{IsStepAt}
 use Rattle.tv_fed.specs.Coming.{IsPutInto, put_here}
 use Rattle.tv_fed.specs.Fed.{event_number, newly}
 use Rattle.tv_fed.proofs.OfComing.{events-are_in_trees, trees-go_on}
-use Rattle.tv_fed.proofs.OfWholeSteps.{position-of}
 use Rattle.tv_frame.specs.declared.frame.Frame.{Frame}
 use Rattle.tv_frame.specs.Kept.{Keeps, declared_at}
 use Rattle.tv_frame.specs.Tables.{at_least_one, first_tree, levels_at, levels_in, trees_of}

@@ -5,6 +5,7 @@ use Rattle.std.specs.Prelude.{◌≡◌, refl, ℕ, ◌<◌, nat_lt, Bool, true,
 use Rattle.std.proofs.Common.{sym, ap, subst, ◌∙◌}
 use Rattle.std.proofs.lemmas.List.{length-map}
 use Rattle.std.proofs.lemmas.Option.{same_Some, slice_get_within}
+use Rattle.tv_lemmas.proofs.Lists.{get-map, get-within}
 use Rattle.tv_value.specs.Nested.{Place}
 use Rattle.tv_value.specs.Values.{Name}
 use Rattle.tv_flow.specs.Flows.{Flow, Step}
@@ -20,14 +21,13 @@ use Rattle.tv_intake.specs.Intaken.{IsFaultyAt, known_jobs, matcher_at}
 use Rattle.tv_framing.specs.Answers.{numbered}
 use Rattle.tv_framing.specs.Views.{View}
 use Rattle.tv_joined.specs.WiredFlows.{IsWired}
-use Rattle.tv_fed.proofs.OfWholeSteps.{position-of}
+use Rattle.tv_joined.proofs.OfEndings.{position-of}
 use Rattle.tv_turn.specs.FirstReady.{IsFirstReady, by_falling_rank, spot_given}
 use Rattle.tv_turn.specs.Turns.{first_in_turn, may_settle}
 use Rattle.tv_frame.specs.declared.frame.Frame.{Frame}
 use Rattle.tv_frame.specs.Kept.{Keeps, named_job}
 use Rattle.tv_frame.specs.Tables.{levels_in}
 use Rattle.tv_frame.proofs.OfGoing.{plan-wiring}
-use Rattle.tv_frame.proofs.OfIdling.{mapped-get, stands}
 use Rattle.tv_frame.proofs.OfKeeping.{kept-wired}
 use Rattle.tv_turn.proofs.OfFrames.{first-is-ready}
 use Rattle.tv_turn.proofs.OfOrders.{order-of-steps}
@@ -66,12 +66,12 @@ module _ (flows : List (Name × Flow)) (plan : FlowPlan) (pool : Nodes) (f : Fra
         by (Some m) e h = slice_get_within f.intakes.matchers.items n m e
 
     step : (s : Name × Step) × (slice_get v.flow.steps n ≡ Some s)
-    step = stands v.flow.steps n within
+    step = get-within v.flow.steps n within
 
     named : numbered v number ≡ Some (step.0.0, q)
     named =
         ap (λ l. slice_get l number) k.jobs_are
-        ∙ mapped-get (named_job v.flow) (known_jobs f.intakes) number (n, q) there
+        ∙ get-map (named_job v.flow) (known_jobs f.intakes) number (n, q) there
         ∙ ap (λ o. Some (option_map_or (λ (t : Name × Step). t.0) o [], q)) step.1
 
     known-here : number < length v.jobs

@@ -4,14 +4,13 @@ use Rattle.std.specs.Cmp.Lexicographic.{slice_cmp}
 use Rattle.std.specs.List.{list_all}
 use Rattle.std.specs.Ordering.{is_lt, nat_cmp}
 use Rattle.std.proofs.Common.{sym, ap, subst, ◌∙◌, inl, inr}
-use Rattle.std.proofs.lemmas.Bool.{and_parts, true≢false}
+use Rattle.std.proofs.lemmas.Bool.{and_parts, true≢false, not-true}
 use Rattle.std.proofs.lemmas.Cmp.{nat_list_cmp_total}
 use Rattle.std.proofs.lemmas.List.MinMax.{ranks_by}
 use Rattle.std.specs.Cmp.{IsStrictWeakOrder}
 use Rattle.tv_value.specs.Nested.{Place}
 use Rattle.tv_value.specs.Values.{Name}
 use Rattle.tv_flow.specs.Flows.{Flow, Step}
-use Rattle.tv_lemmas.proofs.Cases.{on_test}
 use Rattle.tv_depths.specs.Ranks.{ranked}
 use Rattle.tv_check.specs.declared.plans.FlowPlan.{FlowPlan}
 use Rattle.tv_outputs.specs.Known.{Nodes}
@@ -32,29 +31,23 @@ use Rattle.tv_frame.specs.Ready.{IsFirstOfStep, IsReadyWith}
 use Rattle.tv_frame.specs.Tables.{levels_in}
 use Rattle.tv_frame.proofs.OfAdded.{queue}
 use Rattle.tv_turn.proofs.OfRanks.{place-is}
+use Rattle.tv_turn.proofs.OfTurns.{itself}
 use Rattle.tv_frame.proofs.OfReadySteps.{its-number}
 
 abbrev places : IsStrictWeakOrder stands_after
 places = ranks_by nat_list_cmp_total (λ (p : List ℕ). p)
-
-not-itself : (p : List ℕ) → stands_after p p ≡ false
-not-itself p = on_test (stands_after p p) (λ e. places.one_way p p e) (λ e. e)
-
-not-so : (b : Bool) → not b ≡ true → b ≡ false
-not-so true h = absurd (true≢false (sym h))
-not-so false h = refl
 
 abbrev before : ℕ × List ℕ → ℕ × List ℕ → Bool
 before j k = not (is_lt (slice_cmp nat_cmp k.1 j.1))
 
 -- none stands before the first of a list in order
 head-first : (x : ℕ × List ℕ) (xs : List (ℕ × List ℕ)) (j : ℕ × List ℕ) → are_in_order (x ∷ xs) ≡ true → In j (x ∷ xs) → stands_after j.1 x.1 ≡ false
-head-first x xs j o (inl e) = ap (λ (k : ℕ × List ℕ). stands_after k.1 x.1) e ∙ not-itself x.1
+head-first x xs j o (inl e) = ap (λ (k : ℕ × List ℕ). stands_after k.1 x.1) e ∙ itself x.1
 head-first x xs j o (inr i) = among xs (and_parts (list_all (before x) xs) (are_in_order xs) o).0 i
   where
     among : (ys : List (ℕ × List ℕ)) → list_all (before x) ys ≡ true → In j ys → stands_after j.1 x.1 ≡ false
     among [] h i = absurd i
-    among (y ∷ ys) h (inl e) = ap (λ (k : ℕ × List ℕ). stands_after k.1 x.1) e ∙ not-so (stands_after y.1 x.1) (and_parts (before x y) (list_all (before x) ys) h).0
+    among (y ∷ ys) h (inl e) = ap (λ (k : ℕ × List ℕ). stands_after k.1 x.1) e ∙ not-true (stands_after y.1 x.1) (and_parts (before x y) (list_all (before x) ys) h).0
     among (y ∷ ys) h (inr i) = among ys (and_parts (before x y) (list_all (before x) ys) h).1 i
 
 module _ (flows : List (Name × Flow)) (plan : FlowPlan) (pool : Nodes) (f : Frame) (v : View) (k : Keeps flows plan pool f v) (n : ℕ) (s : Name × Step) (at : IsStepAt v n s) where

@@ -16,7 +16,6 @@ use Rattle.tv_instance.specs.Counting.{have_ended_by}
 use Rattle.tv_model.specs.Members.{In}
 use Rattle.tv_framing.specs.Answers.{after_of}
 use Rattle.tv_framing.specs.Views.{View}
-use Rattle.tv_fed.proofs.OfWholeSteps.{position-of}
 use Rattle.tv_drawn.specs.Steps.{IsStepAt}
 use Rattle.tv_turn.specs.IdleJobs.{IsIdle}
 use Rattle.tv_turn.specs.Turns.{may_settle}
@@ -27,6 +26,7 @@ use Rattle.tv_frame.specs.Tables.{levels_in}
 use Rattle.tv_frame.proofs.OfGoing.{plan-wiring}
 use Rattle.tv_frame.proofs.OfKeeping.{kept-wired}
 use Rattle.tv_turn.proofs.OfSettling.{may-is}
+use Rattle.tv_joined.proofs.OfEndings.{position-of}
 
 some-of : (gs fs : List (ℕ × List ℕ)) → (not (length gs == 0) || not (length fs == 0)) ≡ true → (j : ℕ × List ℕ) × (In j gs ⊎ In j fs)
 some-of (g ∷ gs) fs h = (g, inl (inl refl))

@@ -1,7 +1,7 @@
 -- A region that begins, and is released again where a frame is refused.
 use Rattle.std.specs.Prelude.{◌≡◌, ◌⊎◌, IsSomeAnd, refl, ℕ, zero, suc, List, [], ◌∷◌, ◌++◌, length, Option, None, Some, slice_index_or, slice_set}
 use Rattle.std.proofs.Common.{sym, ap, subst, ◌∙◌, inl, inr}
-use Rattle.tv_depths.proofs.OfRanked.{same-or-not}
+use Rattle.std.proofs.lemmas.Bool.{cases_eq}
 use Rattle.tv_pool.specs.declared.handles.Region.{Region}
 use Rattle.tv_pool.specs.Pool.{Begins, Contents, IsLive, number_of, region_at, regions_with}
 use Rattle.tv_pool.specs.Pool as pool
@@ -59,7 +59,7 @@ begun-keeps old mid after region b live k = record {
 
 -- where it is released, all is as it was
 pub released-same : (old mid after new : Nodes) (region : Region) → Begins old mid region → KeepsRegions mid after (number_of region) → new.regions ≡ regions_with after (number_of region) None → SameRegions old new
-released-same old mid after new region b k e n = by (same-or-not n (number_of region))
+released-same old mid after new region b k e n = by (cases_eq n (number_of region))
   where
     by : (n ≡ number_of region) ⊎ (n ≡ number_of region → ⊥) → region_at new n ≡ region_at old n
     by (inl is) =

@@ -1,15 +1,17 @@
 -- What the matchers of a frame were told, and what they bring, once the touched steps have shown what they held.
 use Rattle.std.specs.Option.{option_map_or}
-use Rattle.std.specs.Prelude.{◌≡◌, refl, ℕ, zero, suc, ◌+◌, ◌<◌, ◌≤◌, Bool, true, false, if◌then◌else◌, List, [], ◌∷◌, ◌++◌, length, map, Option, Some, None, slice_get}
+use Rattle.std.specs.Prelude.{◌≡◌, refl, ℕ, ◌+◌, ◌<◌, ◌≤◌, Bool, true, false, if◌then◌else◌, List, [], ◌∷◌, ◌++◌, length, map, Option, Some, None, slice_get}
 use Rattle.std.proofs.Common.{sym, ap, subst, ◌∙◌, arith, append-nil}
 use Rattle.std.proofs.lemmas.Option.{none-some}
+use Rattle.std.proofs.lemmas.Simd.{map-map}
 use Rattle.tv_value.specs.Nested.{Place}
 use Rattle.tv_value.specs.Values.{Name}
 use Rattle.tv_flow.specs.Flows.{Flow, Step}
 use Rattle.tv_strategy.specs.Sources.{Each}
 use Rattle.tv_lemmas.proofs.Cases.{on_test}
+use Rattle.tv_lemmas.proofs.Lists.{within-not_none}
 use Rattle.tv_matching.specs.Matchers.{Outcome, fault_at, job_at, list_at}
-use Rattle.tv_matching.proofs.Lists.{flat-each, map-both, map-flat}
+use Rattle.tv_matching.proofs.Lists.{flat-each, map-flat}
 use Rattle.tv_match.specs.declared.matchers.Matcher.{Matcher}
 use Rattle.tv_intake.specs.declared.intakes.Intakes.{Intakes}
 use Rattle.tv_intake.specs.Intaken.{IsMadeAt, brought_at, matcher_at}
@@ -74,11 +76,6 @@ made-here None p m e = absurd m
 made-here (Some o) None m e = absurd m
 made-here (Some o) (Some p) m e = absurd (none-some p (sym e))
 
-stands : {A : Type 0} (xs : List A) (n : ℕ) → n < length xs → slice_get xs n ≡ None → ⊥
-stands [] n l e = omega arith
-stands (x ∷ xs) zero l e = none-some x (sym e)
-stands (x ∷ xs) (suc n) l e = stands xs n (omega arith) e
-
 -- ---- all steps
 
 module _ (cs : List ℕ) (i j : Intakes) (m : MakeAll cs i j) where
@@ -126,11 +123,11 @@ module _ (cs : List ℕ) (i j : Intakes) (m : MakeAll cs i j) where
 
     own-jobs : (c : ℕ) → c < length f.steps → is_one_of cs c ≡ true → map (named_job f) (map (λ q. (c, q)) (new_places i c)) ≡ option_map_or (bringing c) (slice_get f.steps c) []
     own-jobs c l h =
-        map-both (named_job f) (λ (q : Place). (c, q)) (new_places i c)
+        map-map (named_job f) (λ (q : Place). (c, q)) (new_places i c)
         ∙ by (slice_get f.steps c) refl
       where
         by : (o : Option (Name × Step)) → slice_get f.steps c ≡ o → map (λ (q : Place). (option_map_or (λ (s : Name × Step). s.0) (slice_get f.steps c) [], q)) (new_places i c) ≡ option_map_or (bringing c) o []
-        by None e = absurd (stands f.steps c l e)
+        by None e = absurd (within-not_none f.steps c l e)
         by (Some s) e =
             ap (λ o. map (λ (q : Place). (option_map_or (λ (s : Name × Step). s.0) o [], q)) (new_places i c)) e
             ∙ ap (λ qs. map (λ (q : Place). (s.0, q)) qs) (places-same (brought_at i c))

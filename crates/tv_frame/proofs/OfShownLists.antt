@@ -1,13 +1,14 @@
 -- Lists of steps, each of which brings something.
 use Rattle.std.specs.Option.{option_map_or}
 use Rattle.std.specs.Prelude.{◌≡◌, refl, ℕ, suc, ◌+◌, ◌<◌, ◌≤◌, ◌==◌, ◌||◌, Bool, true, false, if◌then◌else◌, List, [], ◌∷◌, ◌++◌, filter, flat_map, length, map, Option, Some, None, slice_get}
-use Rattle.std.proofs.Common.{sym, ap, subst, ◌∙◌, arith, eq-eqb, append-nil}
-use Rattle.std.proofs.lemmas.Bool.{eqb-true}
+use Rattle.std.proofs.Common.{sym, ap, subst, ◌∙◌, arith, eq-eqb, append-nil, le_refl}
+use Rattle.std.proofs.lemmas.Bool.{eqb-true, true≢false, ne_eqb}
 use Rattle.std.proofs.lemmas.List.Elements.{filter-append}
+use Rattle.std.proofs.lemmas.List.{map-append}
 use Rattle.tv_strategy.specs.Sources.{Each}
 use Rattle.tv_lemmas.proofs.Cases.{on_test}
 use Rattle.tv_matching.specs.Matchers.{Outcome}
-use Rattle.tv_matching.proofs.Lists.{each-weaken, map-append}
+use Rattle.tv_matching.proofs.Lists.{each-weaken}
 use Rattle.tv_naming.specs.Naming.{numbered}
 use Rattle.tv_spread.specs.Spreads.{IsAscending}
 use Rattle.tv_frame.specs.Kept.{things_of}
@@ -17,9 +18,6 @@ use Rattle.tv_frame.specs.Prepared.{is_one_of}
 
 itself : (c : ℕ) → (c == c) ≡ true
 itself c = eq-eqb c c refl
-
-unequal : (c d : ℕ) → (c ≡ d → ⊥) → (c == d) ≡ false
-unequal c d ne = on_test (c == d) (λ e. absurd (ne (eqb-true c d e))) (λ e. e)
 
 pub not-one : (cs : List ℕ) (n : ℕ) → is_one_of cs n ≡ false → Each (λ d. d ≡ n → ⊥) cs
 not-one [] n h = tt
@@ -62,12 +60,6 @@ same-length (x ∷ xs) [] h k = absurd (clash (k 0 refl))
 same-length (x ∷ xs) (y ∷ ys) h k = ap suc (same-length xs ys (λ n e. h (suc n) e) (λ n e. k (suc n) e))
 
 -- ---- what steps bring, step by step
-
-true-false : true ≡ false → ⊥
-true-false e = cc
-
-least : (k : ℕ) → k ≤ k
-least k = omega arith
 
 lower : (k c : ℕ) → suc k ≤ c → k ≤ c
 lower k c h = omega arith
@@ -112,7 +104,7 @@ module _ {A B : Type 0} (brings : ℕ → A → List B) (look : ℕ → Option A
       beyond : (k c : ℕ) → k ≤ c → c < k + 0 → ⊥
       beyond k c h l = omega arith
   flat-in k (a ∷ ss) [] up low high looks none =
-      ap (λ l. l ++ flat_map (λ (x : ℕ × A). brings x.0 x.1) (numbered (suc k) ss)) (none k a (least k) tt)
+      ap (λ l. l ++ flat_map (λ (x : ℕ × A). brings x.0 x.1) (numbered (suc k) ss)) (none k a (le_refl k) tt)
       ∙ flat-in (suc k) ss [] tt tt tt (next k a ss looks) (λ c b l h. none c b (lower k c l) h)
   flat-in k (a ∷ ss) (c ∷ cs) up low high looks none =
       on_test (c == k)
@@ -125,10 +117,10 @@ module _ {A B : Type 0} (brings : ℕ → A → List B) (look : ℕ → Option A
       (λ d b l m. none d b (lower k d l) (λ same. apart k c d e l same, m)))
       ∙ ap (λ l. l ++ flat_map at_step cs) (sym at))
       (λ h.
-      let ne : c ≡ k → ⊥ = λ e. true-false (sym (eq-eqb c k e) ∙ h) in
+      let ne : c ≡ k → ⊥ = λ e. true≢false (sym (eq-eqb c k e) ∙ h) in
       let past : k < c = beyond k c ne low.0 in
       ap (λ l. l ++ flat_map (λ (x : ℕ × A). brings x.0 x.1) (numbered (suc k) ss))
-      (none k a (least k) (ne, each-weaken (λ d. c < d) (λ d. d ≡ k → ⊥) (λ d l same. later k c d past l same) cs up.0))
+      (none k a (le_refl k) (ne, each-weaken (λ d. c < d) (λ d. d ≡ k → ⊥) (λ d l same. later k c d past l same) cs up.0))
       ∙ flat-in (suc k) ss (c ∷ cs) up (past, each-weaken (λ d. c < d) (λ d. suc k ≤ d) (λ d l. after k c d past l) cs up.0)
       (each-weaken (λ d. d < k + suc (length ss)) (λ d. d < suc k + length ss) (λ d l. less k (length ss) d l) (c ∷ cs) high) (next k a ss looks)
       (λ d b l m. none d b (lower k d l) m))
@@ -160,7 +152,7 @@ module _ (brings : ℕ → List Outcome) where
   things-none n [] h = refl
   things-none n (c ∷ cs) h =
       things-append n (map (λ o. (c, o)) (brings c)) (all_things cs)
-      ∙ ap (λ l. l ++ things_of n (all_things cs)) (things-other n c (brings c) (unequal c n h.0))
+      ∙ ap (λ l. l ++ things_of n (all_things cs)) (things-other n c (brings c) (ne_eqb c n h.0))
       ∙ things-none n cs h.1
 
   pub things-here : (n : ℕ) (cs : List ℕ) → IsAscending cs → is_one_of cs n ≡ true → things_of n (all_things cs) ≡ brings n

@@ -2,12 +2,12 @@
 use Rattle.std.specs.List.{list_all, range_with_len}
 use Rattle.std.specs.Option.{option_map_or}
 use Rattle.std.specs.Prelude.{◌≡◌, ◌≢◌, refl, ℕ, zero, suc, ◌+◌, ◌<◌, ◌≤◌, ◌==◌, Bool, true, false, List, [], ◌∷◌, ◌++◌, IsPermutation, filter, flat_map, if◌then◌else◌, is_some, length, map, Option, Some, None, replicate, slice_get, unwrap_or}
-use Rattle.std.proofs.Common.{arith, sym, ap, subst, ◌∙◌, append-nil, eq-eqb, eqb-true, inl, inr}
-use Rattle.std.proofs.lemmas.List.{length-map}
-use Rattle.std.proofs.lemmas.List.Elements.{filter-append}
+use Rattle.std.proofs.Common.{arith, sym, ap, subst, ◌∙◌, append-nil, eq-eqb, eqb-true}
+use Rattle.std.proofs.lemmas.List.{length-map, map-append}
 use Rattle.std.proofs.lemmas.List.Sorted.{IsPermutation-refl}
-use Rattle.std.proofs.lemmas.Option.{get_or_from_slice_get}
+use Rattle.std.proofs.lemmas.Option.{get_or_from_slice_get, slice_get_within}
 use Rattle.std.proofs.lemmas.Simd.{map-map}
+use Rattle.tv_lemmas.proofs.Lists.{get-map, get-within, of-get_map}
 use Rattle.tv_value.specs.Nested.{Place, list, no_trees}
 use Rattle.tv_value.specs.Orders.{named, same_name}
 use Rattle.tv_value.specs.Values.{HasDepth, Name, Value, holds_fault}
@@ -18,8 +18,6 @@ use Rattle.tv_naming.specs.Naming.{has_name, numbered}
 use Rattle.tv_naming.specs.Numbers.{position}
 use Rattle.tv_naming.proofs.ByPosition.{named-at, names_of, position-at}
 use Rattle.tv_naming.proofs.FormedParts.{ascending, flow-inputs, steps-ascend}
-use Rattle.tv_naming.proofs.OfTold.{get-map}
-use Rattle.tv_depths.proofs.OfRanked.{inside}
 use Rattle.tv_parts.specs.Partials.{wanting}
 use Rattle.tv_pool.specs.Pool.{IsLive}
 use Rattle.tv_cell.specs.declared.piece.Piece.{Piece}
@@ -27,16 +25,15 @@ use Rattle.tv_cell.specs.PieceValues.{piece_values}
 use Rattle.tv_cell.specs.Soundness.{AreSound}
 use Rattle.tv_check.specs.declared.plans.FlowPlan.{FlowPlan}
 use Rattle.tv_endings.specs.declared.endings.Endings.{Endings}
-use Rattle.tv_matching.specs.Matchers.{Outcome, fault_at, job_at, list_at, out}
+use Rattle.tv_matching.specs.Matchers.{Outcome, out}
 use Rattle.tv_matching.specs.Told.{Told, matched_after}
-use Rattle.tv_matching.proofs.Lists.{map-append}
 use Rattle.tv_match.specs.declared.matchers.Matcher.{Matcher}
 use Rattle.tv_match.specs.Seen.{in_order, matching}
 use Rattle.tv_match.proofs.AllMade.{ahead-matched, none-ahead}
 use Rattle.tv_intake.specs.declared.intakes.Intakes.{Intakes}
 use Rattle.tv_intake.specs.Intaken.{IsSoundAt, followed_at, known_jobs, matcher_at, waiting_things}
 use Rattle.tv_intake.specs.Sorting as intake
-use Rattle.tv_idle.specs.Idles.{Idles, StepIdle}
+use Rattle.tv_idle.specs.Idles.{Idles}
 use Rattle.tv_outputs.specs.Known.{Nodes, depths, known, tree_in}
 use Rattle.tv_outputs.specs.Kept.{Stand}
 use Rattle.tv_model.specs.Agreeing.{InputsHave}
@@ -49,7 +46,6 @@ use Rattle.tv_joined.specs.EndedSteps.{AreEndingsOf}
 use Rattle.tv_joined.specs.WiredFlows.{IsWired}
 use Rattle.tv_joined.proofs.OfSteps.{all-have_ended}
 use Rattle.tv_drawn.specs.Jobs.{all_jobs, jobs_of}
-use Rattle.tv_drawn.specs.Sorting as drawn
 use Rattle.tv_drawn.specs.Steps.{IsOfRankedFlow, IsStepAt, IsStepTold}
 use Rattle.tv_drawn.specs.Waiting.{waiting_of}
 use Rattle.tv_drawn.proofs.OfLaws.{all-wait_at_first, frames-start}
@@ -63,18 +59,15 @@ use Rattle.tv_frame.specs.Calls.{CanStart, Starts}
 use Rattle.tv_frame.specs.Kept.{AreIdle, AreOuts, AreWaiting, HasMatcher, named_job, step_name, things_of}
 use Rattle.tv_frame.specs.Started.{AreFirstOuts, HasBegun, HaveBegun, at_start, named_values}
 use Rattle.tv_frame.specs.Tables.{AreTables, first_tree, levels_in, tree_depths}
-use Rattle.tv_frame.proofs.OfPlans.{levels-are, levels-at}
-use Rattle.tv_frame.proofs.OfTables.{got-map, plan-wired}
+use Rattle.tv_frame.proofs.OfPlans.{levels-are}
+use Rattle.tv_frame.proofs.OfTables.{plan-wired}
+use Rattle.tv_frame.proofs.OfComing.{as-declared}
+use Rattle.tv_frame.proofs.OfBeginning.{idle-within}
+use Rattle.tv_frame.proofs.OfKeeping.{levels-are as levels-at}
+use Rattle.tv_frame.proofs.OfShown.{places-same, others-same}
+use Rattle.tv_frame.proofs.OfShownLists.{things-append}
 
 -- ---- lists
-
-there-at : {A : Type 0} (xs : List A) (k : ℕ) → k < length xs → (x : A) × (slice_get xs k ≡ Some x)
-there-at [] k h = absurd (none k h)
-  where
-    none : (k : ℕ) → k < 0 → ⊥
-    none k p = omega (arith, p)
-there-at (x ∷ xs) zero h = (x, refl)
-there-at (x ∷ xs) (suc k) h = there-at xs k (omega (arith, h))
 
 own-name : {A : Type 0} (xs : List (Name × A)) → is_ascending (names_of xs) ≡ true → (k : ℕ) (x : Name × A) → slice_get xs k ≡ Some x → named x.0 xs ≡ Some x.1
 own-name {A = A} xs h k x e =
@@ -89,12 +82,6 @@ own-position : {A : Type 0} (xs : List (Name × A)) → is_ascending (names_of x
 own-position {A = A} xs h k x lt e = ap (λ (y : Name × A). position y.0 xs) (sym (get_or_from_slice_get xs k x x e)) ∙ position-at xs k x h lt
 
 -- ---- values by names
-
-have-many : (ds : List ℕ) (vs : List Value) → HaveTheseDepths ds vs → length vs ≡ length ds
-have-many [] [] h = refl
-have-many [] (v ∷ vs) h = absurd h
-have-many (d ∷ ds) [] h = absurd h
-have-many (d ∷ ds) (v ∷ vs) h = ap suc (have-many ds vs h.1)
 
 pub value-names : (xs : List (Name × ℕ)) (vs : List Value) → length vs ≡ length xs → map (λ x. x.0) (named_values xs vs) ≡ map (λ x. x.0) xs
 value-names [] vs e = refl
@@ -121,11 +108,6 @@ values-have all vs h [] f = tt
 values-have all vs h (x ∷ xs) f = (value-finds all vs h x.0 x.1 (f 0 x refl), values-have all vs h xs (λ k y e. f (suc k) y e))
 
 -- ---- things by steps
-
-things-append : (n : ℕ) (xs ys : List (ℕ × Outcome)) → things_of n (xs ++ ys) ≡ things_of n xs ++ things_of n ys
-things-append n xs ys =
-    ap (map (λ (x : ℕ × Outcome). x.1)) (filter-append (λ (x : ℕ × Outcome). x.0 == n) xs ys)
-    ∙ map-append (λ (x : ℕ × Outcome). x.1) (filter (λ (x : ℕ × Outcome). x.0 == n) xs) (filter (λ (x : ℕ × Outcome). x.0 == n) ys)
 
 things-own : (n : ℕ) (os : List Outcome) → things_of n (map (λ o. (n, o)) os) ≡ os
 things-own n [] = refl
@@ -178,18 +160,6 @@ module _ (brings : ℕ → List Outcome) (n : ℕ) where
 
 -- ---- jobs by steps
 
-same-places : (os : List Outcome) → intake.job_places os ≡ drawn.job_places os
-same-places [] = refl
-same-places (job_at q ∷ os) = ap (λ l. q ∷ l) (same-places os)
-same-places (list_at q n ∷ os) = same-places os
-same-places (fault_at q l ∷ os) = same-places os
-
-same-others : (os : List Outcome) → intake.others_among os ≡ drawn.others_among os
-same-others [] = refl
-same-others (job_at q ∷ os) = same-others os
-same-others (list_at q n ∷ os) = ap (λ l. list_at q n ∷ l) (same-others os)
-same-others (fault_at q l ∷ os) = ap (λ m. fault_at q l ∷ m) (same-others os)
-
 module _ (f : Flow) (os : ℕ → List Outcome) where
   abbrev jobs_at : ℕ → List (ℕ × Place)
   jobs_at k = map (λ q. (k, q)) (intake.job_places (os k))
@@ -201,7 +171,7 @@ module _ (f : Flow) (os : ℕ → List Outcome) where
       let k_is : k + 0 ≡ k = omega arith in
       let name : step_name f k ≡ s.0 = ap (step_name f) (sym k_is) ∙ h 0 s refl in
       let first : map (named_job f) (jobs_at k) ≡ jobs_of s.0 (os k) =
-      map-map (named_job f) (λ q. (k, q)) (intake.job_places (os k)) ∙ ap (λ m. map (λ q. (m, q)) (intake.job_places (os k))) name ∙ ap (map (λ q. (s.0, q))) (same-places (os k))
+      map-map (named_job f) (λ q. (k, q)) (intake.job_places (os k)) ∙ ap (λ m. map (λ q. (m, q)) (intake.job_places (os k))) name ∙ ap (map (λ q. (s.0, q))) (places-same (os k))
       in
       map-append (named_job f) (jobs_at k) (flat_map jobs_at (range_with_len (k + 1) (length ss)))
       ∙ ap (λ l. l ++ map (named_job f) (flat_map jobs_at (range_with_len (k + 1) (length ss)))) first
@@ -218,12 +188,6 @@ none-known (d ∷ ds) (suc j) = none-known ds j
 none-ended : (n : ℕ) → n ≢ 0 → list_all (λ b. b) (replicate n false) ≡ false
 none-ended zero h = absurd (h refl)
 none-ended (suc n) h = refl
-
-idle-within : (ss : List StepIdle) (k : ℕ) (j : ℕ × List ℕ) → IsIdle ss k j → k < length ss
-idle-within [] k j (inl h) = absurd h
-idle-within [] k j (inr h) = absurd h
-idle-within (s ∷ ss) zero j h = omega arith
-idle-within (s ∷ ss) (suc k) j h = omega (arith, idle-within ss k j h)
 
 -- ---- what the matchers were told
 
@@ -245,7 +209,7 @@ module _ (flows : List (Name × Flow)) (p : FlowPlan) (vs : List Value) (can : C
   steps-rise = steps-ascend (flow_view p.flow) wired.formed
 
   pub many : length vs ≡ length (flow_view p.flow).inputs
-  many = have-many (map (λ x. x.1) (flow_view p.flow).inputs) vs can.right ∙ length-map (flow_view p.flow).inputs (λ (x : Name × ℕ). x.1)
+  many = as-declared (map (λ x. x.1) (flow_view p.flow).inputs) vs can.right ∙ length-map (flow_view p.flow).inputs (λ (x : Name × ℕ). x.1)
 
   pub inputs-named : (k : ℕ) (x : Name × ℕ) → slice_get (flow_view p.flow).inputs k ≡ Some x → named x.0 (flow_view p.flow).inputs ≡ Some x.1
   inputs-named k x e = own-name (flow_view p.flow).inputs (ascending is_depth 0 16 (flow_view p.flow).inputs (flow-inputs (flow_view p.flow) wired.formed)) k x e
@@ -268,7 +232,7 @@ module _ (flows : List (Name × Flow)) (p : FlowPlan) (vs : List Value) (can : C
     ranked-flow = record { depths = of-depths; formed = wired.formed; ranked = wired.ranked }
 
     matcher-kept : (n : ℕ) (s : Name × Step) → IsStepAt first_view n s → HasMatcher first_view s (matcher_at i n)
-    matcher-kept n s at = by (matcher_at i n) (h.matchers n s (inside (flow_view p.flow).steps n s at) at)
+    matcher-kept n s at = by (matcher_at i n) (h.matchers n s (slice_get_within (flow_view p.flow).steps n s at) at)
       where
         by : (o : Option Matcher) → HasBegun (flow_view p.flow) s.1 (step_start (flow_view p.flow) (named_values (flow_view p.flow).inputs vs) s.1) o → HasMatcher first_view s o
         by None b = absurd b
@@ -280,7 +244,7 @@ module _ (flows : List (Name × Flow)) (p : FlowPlan) (vs : List Value) (can : C
         }
 
     step-told : (n : ℕ) (s : Name × Step) → IsStepAt first_view n s → IsStepTold first_view s (told_in (matcher_at i n)) (followed_at i n)
-    step-told n s at = by (matcher_at i n) (h.intaken.sound n) (h.matchers n s (inside (flow_view p.flow).steps n s at) at)
+    step-told n s at = by (matcher_at i n) (h.intaken.sound n) (h.matchers n s (slice_get_within (flow_view p.flow).steps n s at) at)
       where
         by : (o : Option Matcher) → IsSoundAt o → HasBegun (flow_view p.flow) s.1 (step_start (flow_view p.flow) (named_values (flow_view p.flow).inputs vs) s.1) o → IsStepTold first_view s (told_in o) (option_map_or in_order o [])
         by None k b = absurd b
@@ -310,10 +274,10 @@ module _ (flows : List (Name × Flow)) (p : FlowPlan) (vs : List Value) (can : C
     all-wait : AreWaiting first_view (matcher_at i) (waiting_things i)
     all-wait n s at =
         let others = intake.others_among (followed_at i n) in
-        let lt : n < 0 + length (flow_view p.flow).steps = let k = inside (flow_view p.flow).steps n s at in omega (arith, k) in
+        let lt : n < 0 + length (flow_view p.flow).steps = let k = slice_get_within (flow_view p.flow).steps n s at in omega (arith, k) in
         let le : 0 ≤ n = omega arith in
         let same : things_of n (waiting_things i) ≡ waiting_of [] s.0 (followed_at i n) =
-        ap (things_of n) h.waiting_are ∙ things-at (λ k. intake.others_among (followed_at i k)) n 0 (length (flow_view p.flow).steps) le lt ∙ same-others (followed_at i n) ∙ sym (all-wait_at_first s.0 (followed_at i n))
+        ap (things_of n) h.waiting_are ∙ things-at (λ k. intake.others_among (followed_at i k)) n 0 (length (flow_view p.flow).steps) le lt ∙ others-same (followed_at i n) ∙ sym (all-wait_at_first s.0 (followed_at i n))
         in
         subst (IsPermutation (things_of n (waiting_things i))) same (IsPermutation-refl (things_of n (waiting_things i)))
 
@@ -321,10 +285,10 @@ module _ (flows : List (Name × Flow)) (p : FlowPlan) (vs : List Value) (can : C
     step-of-job : (n : ℕ) (y : ℕ × Place) → slice_get (known_jobs i) n ≡ Some y → (s : Name × Step) × (slice_get (flow_view p.flow).steps y.0 ≡ Some s)
     step-of-job n y e =
         let lt = idle-within idle.steps y.0 (n, y.1) (h.idle_are.all n y e) in
-        there-at (flow_view p.flow).steps y.0 (subst (λ m. y.0 < m) h.steps lt)
+        get-within (flow_view p.flow).steps y.0 (subst (λ m. y.0 < m) h.steps lt)
 
     job-at : (n : ℕ) (x : Name × Place) → by_number first_view n ≡ Some x → (y : ℕ × Place) × ((slice_get (known_jobs i) n ≡ Some y) × (x ≡ named_job (flow_view p.flow) y))
-    job-at n x e = got-map (named_job (flow_view p.flow)) (known_jobs i) n x e
+    job-at n x e = of-get_map (named_job (flow_view p.flow)) (known_jobs i) n x e
 
     idle-starts : AreIdleOf first_view idle.steps
     idle-starts = record {
@@ -338,7 +302,7 @@ module _ (flows : List (Name × Flow)) (p : FlowPlan) (vs : List Value) (can : C
           let y = job-at n x e in
           let s = step-of-job n y.0 y.1.0 in
           let name : x.0 ≡ s.0.0 = ap (λ (z : Name × Place). z.0) y.1.1 ∙ name-at y.0.0 s.0 s.1 in
-          let at : y.0.0 ≡ position x.0 (flow_view p.flow).steps = sym (ap (λ m. position m (flow_view p.flow).steps) name ∙ own-position (flow_view p.flow).steps steps-rise y.0.0 s.0 (inside (flow_view p.flow).steps y.0.0 s.0 s.1) s.1) in
+          let at : y.0.0 ≡ position x.0 (flow_view p.flow).steps = sym (ap (λ m. position m (flow_view p.flow).steps) name ∙ own-position (flow_view p.flow).steps steps-rise y.0.0 s.0 (slice_get_within (flow_view p.flow).steps y.0.0 s.0 s.1) s.1) in
           let place : y.0.1 ≡ x.1 = ap (λ (z : Name × Place). z.1) (sym y.1.1) in
           subst (λ q. IsIdle idle.steps (position x.0 (flow_view p.flow).steps) (n, q)) place (subst (λ k. IsIdle idle.steps k (n, y.0.1)) at (h.idle_are.all n y.0 y.1.0));
       known = λ k s j e d.
@@ -355,7 +319,7 @@ module _ (flows : List (Name × Flow)) (p : FlowPlan) (vs : List Value) (can : C
       all = idle-starts;
       known = h.idle_are.known;
       as_many = h.steps;
-      levels = λ n s at. h.levels n s (inside (flow_view p.flow).steps n s at) at ∙ sym (levels-at (flow_view p.flow) wired n s at);
+      levels = λ n s at. h.levels n s (slice_get_within (flow_view p.flow).steps n s at) at ∙ sym (levels-at (flow_view p.flow) wired n s at);
       good = h.idle_are.good;
       faulty = h.idle_are.faulty;
     }

@@ -2,15 +2,15 @@
 use Rattle.std.specs.Borrow.{Bor}
 use Rattle.std.specs.Prelude.{◌≡◌, refl, ℕ, ◌+◌, ◌-◌, ◌<◌, ◌≤◌, List, ◌++◌, flat_map, is_some, length, Option, Some, None, option_map, reverse, slice_get, take}
 use Rattle.std.proofs.Common.{arith, sym, ap, ap₂, subst, ◌∙◌, get_or}
-use Rattle.std.proofs.lemmas.List.{get_or-reverse, length-reverse, take_all}
+use Rattle.std.proofs.lemmas.List.{get_or-reverse, length-reverse, take_all, map-append}
 use Rattle.std.proofs.lemmas.Option.{get_or_from_slice_get}
+use Rattle.tv_lemmas.proofs.Lists.{get-read}
 use Rattle.tv_value.specs.Strategies.{Strategy}
 use Rattle.tv_value.specs.Values.{Value}
 use Rattle.tv_value.specs.Views.{view}
 use Rattle.tv_naming.specs.Naming.{numbered}
-use Rattle.tv_naming.proofs.OfTold.{get-numbered, got, length-numbered}
+use Rattle.tv_naming.proofs.OfTold.{get-numbered, length-numbered}
 use Rattle.tv_cell.specs.declared.cell.Cell.{Cell}
-use Rattle.tv_matching.proofs.Lists.{map-append}
 use Rattle.tv_matching.specs.Told.{Told}
 use Rattle.tv_match.specs.declared.told.Told as code
 use Rattle.tv_match.specs.Seen.{told_view}
@@ -35,12 +35,12 @@ fed-lent (Some x) c e count d h = subst (λ b. IsFedFrom count (is_some b) d) (s
 
 port-at : (ps : List Port) (back number : ℕ) (p : Port) → back < length ps → number ≡ length ps - 1 - back → p ≡ get_or ps number p → slice_get (reverse (numbered 0 ps)) back ≡ Some (number, p)
 port-at ps back number p lt n is =
-    let there : slice_get (numbered 0 ps) number ≡ Some (number, p) = get-numbered ps number p (got ps number p (omega (arith, lt, n)) is) in
+    let there : slice_get (numbered 0 ps) number ≡ Some (number, p) = get-numbered ps number p (get-read ps number p (omega (arith, lt, n)) is) in
     let many : length (numbered 0 ps) ≡ length ps = length-numbered 0 ps in
     from-there (numbered 0 ps) (number, p) back number (omega (arith, lt, many)) (omega (arith, lt, n, many)) there
   where
     from-there : (xs : List (ℕ × Port)) (x : ℕ × Port) (b m : ℕ) → b < length xs → m ≡ length xs - 1 - b → slice_get xs m ≡ Some x → slice_get (reverse xs) b ≡ Some x
-    from-there xs x b m lt n e = got (reverse xs) b x (let r = length-reverse xs in omega (arith, lt, r)) (sym (get_or-reverse xs b x lt ∙ ap (λ j. get_or xs j x) (sym n) ∙ get_or_from_slice_get xs m x x e))
+    from-there xs x b m lt n e = get-read (reverse xs) b x (let r = length-reverse xs in omega (arith, lt, r)) (sym (get_or-reverse xs b x lt ∙ ap (λ j. get_or xs j x) (sym n) ∙ get_or_from_slice_get xs m x x e))
 
 module _ (vs : List Value) (constants : ℕ → Option Value) (ps : List Port) where
   -- what the last so many ports are told

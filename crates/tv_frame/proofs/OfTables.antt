@@ -5,6 +5,7 @@ use Rattle.std.proofs.Common.{arith, sym, ap, subst, ◌∙◌, append-nil, appe
 use Rattle.std.proofs.lemmas.List.{length-map, take_all}
 use Rattle.std.proofs.lemmas.List.FromFn.{map-range_with_len_more}
 use Rattle.std.proofs.lemmas.Simd.{map-map}
+use Rattle.tv_lemmas.proofs.Lists.{get-map, get-within, of-get_map}
 use Rattle.tv_value.specs.Values.{Name}
 use Rattle.tv_value.specs.Views.{strategy_view}
 use Rattle.tv_flow.specs.Flows.{Flow, Step}
@@ -13,7 +14,7 @@ use Rattle.tv_flow.specs.declared.document.Flow.{Flow as CodeFlow}
 use Rattle.tv_flow.specs.declared.document.Step.{Step as CodeStep}
 use Rattle.tv_strategy.specs.Conditions.{number_of, sum_over}
 use Rattle.tv_strategy.specs.Measures.{leaf_names}
-use Rattle.tv_naming.proofs.OfTold.{get-map, got-in}
+use Rattle.tv_naming.proofs.OfTold.{got-in}
 use Rattle.tv_check.specs.declared.plans.FlowPlan.{FlowPlan}
 use Rattle.tv_check.specs.declared.plans.StepPlan.{StepPlan}
 use Rattle.tv_check.specs.Plans as plan
@@ -26,19 +27,6 @@ use Rattle.tv_frame.specs.Tables.{first_tree, levels_at, step_starts, trees_of}
 use Rattle.tv_frame.proofs.OfPlans.{step-suits}
 
 -- ---- lists
-
-pub got-map : {A B : Type 0} (g : A → B) (xs : List A) (k : ℕ) (y : B) → slice_get (map g xs) k ≡ Some y → (x : A) × ((slice_get xs k ≡ Some x) × (y ≡ g x))
-got-map g [] k y e = cc
-got-map g (x ∷ xs) zero y e = let p : g x ≡ y = cc in (x, (refl, sym p))
-got-map g (x ∷ xs) (suc k) y e = got-map g xs k y e
-
-pub there-at : {A : Type 0} (xs : List A) (k : ℕ) → k < length xs → (x : A) × (slice_get xs k ≡ Some x)
-there-at [] k h = absurd (none k h)
-  where
-    none : (k : ℕ) → k < 0 → ⊥
-    none k p = omega (arith, p)
-there-at (x ∷ xs) zero h = (x, refl)
-there-at (x ∷ xs) (suc k) h = there-at xs k (omega (arith, h))
 
 pub flat-next : {A B : Type 0} (g : A → List B) (xs : List A) (k : ℕ) (x : A) → slice_get xs k ≡ Some x → flat_map g (take (k + 1) xs) ≡ flat_map g (take k xs) ++ g x
 flat-next {A = A} g xs k x e = let n : suc k ≡ k + 1 = omega arith in ap (λ j. flat_map g (take j xs)) (sym n) ∙ by-suc xs k e
@@ -73,7 +61,7 @@ module _ (p : FlowPlan) where
   -- the plan of a step is what the check worked out for it
   pub step-of : (k : ℕ) (q : StepPlan) → slice_get p.steps k ≡ Some q → (s : Name × Step) × ((slice_get (flow_view p.flow).steps k ≡ Some s) × (step_plan_view q ≡ plan.step_plan (flow_view p.flow) s))
   step-of k q e =
-      got-map (plan.step_plan (flow_view p.flow)) (flow_view p.flow).steps k (step_plan_view q) (ap (λ l. slice_get l k) (sym steps-are) ∙ get-map step_plan_view p.steps k q e)
+      of-get_map (plan.step_plan (flow_view p.flow)) (flow_view p.flow).steps k (step_plan_view q) (ap (λ l. slice_get l k) (sym steps-are) ∙ get-map step_plan_view p.steps k q e)
 
 -- the depth of a step's plan
 pub planned-depth : (f : Flow) (q : StepPlan) (s : Name × Step) → step_plan_view q ≡ plan.step_plan f s → q.depth ≡ levels_at f s.1
@@ -120,7 +108,7 @@ levels-small p k q e = let s = step-of p k q e in small-by (flow_view p.flow) (s
 
 pub firsts-next : (ss : List (Name × Step)) (k : ℕ) (before after : List ℕ) (next n more : ℕ) → k < length ss → ((s : Name × Step) → slice_get ss k ≡ Some s → n ≡ trees_of s) → before ≡ map (first_tree ss) (range_with_len 0 k) → next ≡ first_tree ss k → after ≡ before ++ next ∷ [] → more ≡ next + n → (after ≡ map (first_tree ss) (range_with_len 0 (k + 1))) × (more ≡ first_tree ss (k + 1))
 firsts-next ss k before after next n more lt told h g e m =
-    let s = there-at ss k lt in
+    let s = get-within ss k lt in
     let here : next + n ≡ first_tree ss k + trees_of s.0 = let t = told s.0 s.1 in omega (arith, g, t) in
     let k_is : 0 + k ≡ k = omega arith in
     (e ∙ ap (λ l. l ++ next ∷ []) h ∙ ap (λ j. map (first_tree ss) (range_with_len 0 k) ++ j ∷ []) g ∙ sym (map-range_with_len_more (first_tree ss) 0 k k k_is), m ∙ here ∙ sym (first-next ss k s.0 s.1))

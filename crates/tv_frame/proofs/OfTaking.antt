@@ -4,6 +4,7 @@ use Rattle.std.specs.Prelude.{◌≡◌, refl, ℕ, ◌<◌, ◌==◌, ◌||◌,
 use Rattle.std.proofs.Common.{sym, ap, subst, ◌∙◌, append-nil, eq-eqb, inl, inr}
 use Rattle.std.proofs.lemmas.List.{length-map}
 use Rattle.std.proofs.lemmas.Option.{same_Some, slice_get_within}
+use Rattle.tv_lemmas.proofs.Lists.{get-map, get-within}
 use Rattle.tv_value.specs.Nested.{Place}
 use Rattle.tv_value.specs.Values.{Name}
 use Rattle.tv_flow.specs.Flows.{Flow, Step}
@@ -24,10 +25,11 @@ use Rattle.tv_framing.specs.Views.{View}
 use Rattle.tv_joined.specs.EndedSteps.{AreEndingsOf}
 use Rattle.tv_joined.specs.WiredFlows.{IsWired}
 use Rattle.tv_joined.proofs.OfSteps.{all-have_ended}
+use Rattle.tv_joined.proofs.OfEndings.{position-of}
 use Rattle.tv_fed.specs.Coming.{IsFrameOf}
 use Rattle.tv_fed.proofs.OfComing.{taking-makes_frame}
 use Rattle.tv_kept.proofs.OfLaws.{taking-tells_nothing}
-use Rattle.tv_fed.proofs.OfWholeSteps.{position-of, taking-ends_nothing}
+use Rattle.tv_fed.proofs.OfWholeSteps.{taking-ends_nothing}
 use Rattle.tv_drawn.proofs.OfLaws.{taking-leaves_waiting}
 use Rattle.tv_drawn.proofs.OfRanks.{at-in}
 use Rattle.tv_truly.proofs.OfLaws.{truth-stays}
@@ -35,7 +37,6 @@ use Rattle.tv_turn.specs.IdleJobs.{IsIdle}
 use Rattle.tv_frame.specs.declared.frame.Frame.{Frame}
 use Rattle.tv_frame.specs.Kept.{AreIdle, AreOuts, HasMatcher, Keeps, followed_by, named_job, step_name, things_of}
 use Rattle.tv_frame.specs.Tables.{levels_in}
-use Rattle.tv_frame.proofs.OfIdling.{mapped-get, stands}
 use Rattle.tv_frame.proofs.OfKeeping.{kept-wired}
 use Rattle.tv_frame.proofs.OfTakingIdle.{taken-idle}
 use Rattle.tv_framing.proofs.OfNumbers.{jobs-differ}
@@ -64,7 +65,7 @@ module _ (flows : List (Name × Flow)) (plan : FlowPlan) (pool : Nodes) (f : Fra
       by (Some m) e h = slice_get_within f.intakes.matchers.items n m e
 
   step : (s : Name × Step) × (slice_get v.flow.steps n ≡ Some s)
-  step = stands v.flow.steps n within
+  step = get-within v.flow.steps n within
 
   its-name : step_name v.flow n ≡ step.0.0
   its-name = ap (λ o. option_map_or (λ (t : Name × Step). t.0) o []) step.1
@@ -72,7 +73,7 @@ module _ (flows : List (Name × Flow)) (plan : FlowPlan) (pool : Nodes) (f : Fra
   named : numbered v number ≡ Some (step.0.0, q)
   named =
       ap (λ l. slice_get l number) k.jobs_are
-      ∙ mapped-get (named_job v.flow) (known_jobs f.intakes) number (n, q) there
+      ∙ get-map (named_job v.flow) (known_jobs f.intakes) number (n, q) there
       ∙ ap (λ t. Some (t, q)) its-name
 
   same : (step.0.0, q) ≡ j

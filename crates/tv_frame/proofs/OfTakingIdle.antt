@@ -1,10 +1,10 @@
 -- The idle jobs of a frame once one of them is taken.
-use Rattle.std.specs.Prelude.{◌≡◌, refl, ℕ, zero, suc, ◌<◌, ◌==◌, ◌&&◌, ◌||◌, not, Bool, true, false, cond, List, [], ◌∷◌, filter, length, Some, slice_get, slice_set}
+use Rattle.std.specs.Prelude.{◌≡◌, refl, ℕ, ◌<◌, ◌==◌, ◌&&◌, not, Bool, true, false, cond, List, [], ◌∷◌, filter, length, Some, slice_get, slice_set}
 use Rattle.std.specs.Cmp.Lexicographic.{bytes_decides, slice_cmp}
 use Rattle.std.specs.List.{list_all}
 use Rattle.std.specs.Ordering.{is_lt, nat_cmp}
 use Rattle.std.proofs.Common.{sym, ap, ap₂, subst, ◌∙◌, inl, inr}
-use Rattle.std.proofs.lemmas.Bool.{and_parts, cases_eq, eq-eqb, ne_eqb, true≢false}
+use Rattle.std.proofs.lemmas.Bool.{and_parts, cases_eq, eq-eqb, ne_eqb, true≢false, not-true, or_parts, or_from, not_from_false}
 use Rattle.std.proofs.lemmas.List.{get_or-set_other, get_or-set_same}
 use Rattle.std.proofs.lemmas.Option.{same_Some}
 use Rattle.tv_value.specs.Nested.{Place}
@@ -23,29 +23,13 @@ use Rattle.tv_instance.specs.Events.{Event, gives_at, has_result, is_taken, take
 use Rattle.tv_framing.specs.Answers.{numbered}
 use Rattle.tv_framing.specs.Views.{View}
 use Rattle.tv_joined.specs.WiredFlows.{IsWired}
-use Rattle.tv_fed.proofs.OfWholeSteps.{position-of}
+use Rattle.tv_joined.proofs.OfEndings.{position-of}
 use Rattle.tv_drawn.proofs.OfWaiting.{in-filter}
 use Rattle.tv_model.specs.Members.{In}
 use Rattle.tv_turn.specs.IdleJobs.{AreIdleOf, AreInOrder, IsIdle}
 use Rattle.tv_turn.proofs.OfTurns.{in-passed}
 use Rattle.tv_frame.specs.Kept.{AreIdle}
-use Rattle.tv_frame.proofs.OfAdded.{queue}
-
-not-so : (b : Bool) → not b ≡ true → b ≡ false
-not-so true h = absurd (true≢false (sym h))
-not-so false h = refl
-
-so-not : (b : Bool) → b ≡ false → not b ≡ true
-so-not true h = absurd (true≢false h)
-so-not false h = refl
-
-neither : (a b : Bool) → (a || b) ≡ false → (a ≡ false) × (b ≡ false)
-neither true b h = absurd (true≢false h)
-neither false b h = (refl, h)
-
-nor : (a b : Bool) → a ≡ false → b ≡ false → (a || b) ≡ false
-nor true b h k = absurd (true≢false h)
-nor false b h k = k
+use Rattle.tv_frame.proofs.OfAdded.{queue, set-many}
 
 -- ---- a list in order stays so where some go
 
@@ -70,11 +54,6 @@ left-order p (x ∷ xs) o = by (p x) (left-order p xs (and_parts (list_all (befo
 
 -- ---- one step of all
 
-set-many : (ss : List StepIdle) (k : ℕ) (y : StepIdle) → length (slice_set ss k y) ≡ length ss
-set-many [] k y = refl
-set-many (s ∷ ss) zero y = refl
-set-many (s ∷ ss) (suc k) y = ap suc (set-many ss k y)
-
 queue-left : (b : Bool) (n : ℕ) (st : StepIdle) → queue b (without n st) ≡ without_job n (queue b st)
 queue-left true n st = refl
 queue-left false n st = refl
@@ -96,7 +75,7 @@ module _ (ss : List StepIdle) (k : ℕ) (l : k < length ss) (n : ℕ) where
       here : c ≡ k → In j (queue b (of_step ss c)) × (c ≡ k → (j.0 == n) ≡ false)
       here e =
           let m = in-passed (λ x. not (x.0 == n)) (queue b (of_step ss k)) j (subst (In j) (queue-left b n (of_step ss k)) (subst (λ st. In j (queue b st)) (at-step c e) i)) in
-          (subst (λ d. In j (queue b (of_step ss d))) (sym e) m.0, λ same. not-so (j.0 == n) m.1)
+          (subst (λ d. In j (queue b (of_step ss d))) (sym e) m.0, λ same. not-true (j.0 == n) m.1)
 
       there : (c ≡ k → ⊥) → In j (queue b (of_step ss c)) × (c ≡ k → (j.0 == n) ≡ false)
       there ne = (subst (λ st. In j (queue b st)) (at-other c ne) i, λ same. absurd (ne same))
@@ -108,7 +87,7 @@ module _ (ss : List StepIdle) (k : ℕ) (l : k < length ss) (n : ℕ) where
       here e =
           subst (λ st. In j (queue b st)) (sym (at-step c e))
           (subst (In j) (sym (queue-left b n (of_step ss k)))
-          (in-filter (λ x. not (x.0 == n)) j (queue b (of_step ss k)) (subst (λ d. In j (queue b (of_step ss d))) e i) (so-not (j.0 == n) (other e))))
+          (in-filter (λ x. not (x.0 == n)) j (queue b (of_step ss k)) (subst (λ d. In j (queue b (of_step ss d))) e i) (not_from_false (j.0 == n) (other e))))
 
       there : (c ≡ k → ⊥) → In j (queue b (of_step left c))
       there ne = subst (λ st. In j (queue b st)) (sym (at-other c ne)) i
@@ -164,8 +143,8 @@ module _ (v : View) (wired : IsWired v.flow) (ss : List StepIdle) (a : AreIdleOf
 
   all-idle : (m : ℕ) (x : Name × Place) → numbered v m ≡ Some x → is_taken (e ∷ v.events) x.0 x.1 ≡ false → has_result (e ∷ v.events) x.0 x.1 ≡ false → IsIdle ls (position x.0 v.flow.steps) (m, x.1)
   all-idle m x g t r =
-      let free = neither (takes_at x.0 x.1 e) (is_taken v.events x.0 x.1) t in
-      let given = neither (gives_at x.0 x.1 e) (has_result v.events x.0 x.1) r in
+      let free = or_parts (takes_at x.0 x.1 e) (is_taken v.events x.0 x.1) t in
+      let given = or_parts (gives_at x.0 x.1 e) (has_result v.events x.0 x.1) r in
       is-idle ss k l n (position x.0 v.flow.steps) (m, x.1) (a.all m x g free.1 given.1) (λ same. ne_eqb m n (another m x g free.0))
 
   -- it takes none that is idle after it
@@ -182,8 +161,8 @@ module _ (v : View) (wired : IsWired v.flow) (ss : List StepIdle) (a : AreIdleOf
   all-free : (c : ℕ) (t : Name × Step) (j : ℕ × List ℕ) → slice_get v.flow.steps c ≡ Some t → IsIdle ls c j → (is_taken (e ∷ v.events) t.0 j.1 ≡ false) × (has_result (e ∷ v.events) t.0 j.1 ≡ false)
   all-free c t j g i =
       let free = a.free c t j g (was-idle ss k l n c j i).0 in (
-        nor (takes_at t.0 j.1 e) (is_taken v.events t.0 j.1) (on_test (takes_at t.0 j.1 e) (λ u. absurd (apart c t j g i u)) (λ h. h)) free.0,
-        nor (gives_at t.0 j.1 e) (has_result v.events t.0 j.1) refl free.1,
+        or_from (takes_at t.0 j.1 e) (is_taken v.events t.0 j.1) (on_test (takes_at t.0 j.1 e) (λ u. absurd (apart c t j g i u)) (λ h. h)) free.0,
+        or_from (gives_at t.0 j.1 e) (has_result v.events t.0 j.1) refl free.1,
       )
 
   pub idle-left : AreIdleOf after ls

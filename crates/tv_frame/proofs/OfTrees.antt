@@ -1,5 +1,5 @@
 -- The trees of a step, by their numbers, and the outputs of a step by their names.
-use Rattle.std.specs.Prelude.{◌≡◌, refl, ℕ, zero, suc, ◌+◌, ◌<◌, ◌≤◌, Bool, true, false, if◌then◌else◌, is_some, List, [], ◌∷◌, ◌++◌, flat_map, length, map, replicate, Some, slice_get, slice_index_or, unwrap_or}
+use Rattle.std.specs.Prelude.{◌≡◌, refl, ℕ, zero, suc, ◌+◌, ◌<◌, ◌≤◌, Bool, true, false, if◌then◌else◌, List, [], ◌∷◌, ◌++◌, flat_map, length, map, replicate, Some, slice_get, slice_index_or, unwrap_or}
 use Rattle.std.specs.List.{range_with_len}
 use Rattle.std.proofs.Common.{sym, ap, subst, ◌∙◌, add_assoc, arith, length-append}
 use Rattle.std.proofs.lemmas.List.{get_or-append-add, get_or-replicate, get_or_append_left, length-replicate}
@@ -8,7 +8,6 @@ use Rattle.std.proofs.lemmas.Option.{none-some, same_Some, slice_get_within}
 use Rattle.tv_value.specs.Orders.{named, same_name}
 use Rattle.tv_value.specs.Values.{Name}
 use Rattle.tv_flow.specs.Flows.{Step}
-use Rattle.tv_naming.specs.Naming.{has_name}
 use Rattle.tv_naming.specs.Numbers.{position}
 use Rattle.tv_frame.specs.Tables.{first_tree, trees_of}
 
@@ -56,14 +55,6 @@ pub first-read : (ss : List (Name × Step)) (firsts : List ℕ) → firsts ≡ m
 first-read ss firsts e n s a d = ap (λ l. slice_index_or l n d) e ∙ get_or-map-range_with_len (first_tree ss) 0 (length ss) n n d (slice_get_within ss n s a) (omega arith)
 
 -- ---- outputs
-
-pub position-within : {A : Type 0} (n : Name) (xs : List (Name × A)) → has_name xs n ≡ true → position n xs < length xs
-position-within n [] h = absurd (cc)
-position-within n (x ∷ xs) h = by (same_name n x.0) h (position-within n xs)
-  where
-    by : (b : Bool) → is_some (if b then Some x.1 else named n xs) ≡ true → (has_name xs n ≡ true → position n xs < length xs) → (if b then 0 else suc (position n xs)) < suc (length xs)
-    by true k r = omega arith
-    by false k r = let m = r k in omega (arith, m)
 
 -- the depth that is declared of an output
 pub declared-named : (o : Name) (xs : List (Name × ℕ)) → slice_index_or (map (λ x. x.1) xs) (position o xs) 0 ≡ unwrap_or (named o xs) 0

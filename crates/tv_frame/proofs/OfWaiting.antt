@@ -1,9 +1,12 @@
 -- The lists and passed faults that wait in a frame, and which of them can be settled.
-use Rattle.std.specs.Prelude.{◌≡◌, refl, ℕ, ◌-◌, ◌==◌, ◌<◌, Bool, true, false, not, filter, List, [], ◌∷◌, length, Option, Some, None, slice_get}
+use Rattle.std.specs.Prelude.{◌≡◌, refl, ℕ, ◌-◌, ◌==◌, ◌<◌, Bool, true, false, filter, List, length, Option, Some, None, slice_get}
 use Rattle.std.specs.Option.{option_map}
-use Rattle.std.proofs.Common.{sym, ap, subst, ◌∙◌, arith, eq-eqb}
+use Rattle.std.proofs.Common.{sym, ap, subst, ◌∙◌, eq-eqb}
 use Rattle.std.proofs.lemmas.List.Sorted.{IsPermutation-sym, length_permutation}
 use Rattle.std.proofs.lemmas.Option.{none-some, same_Some, slice_get-map}
+use Rattle.std.proofs.lemmas.Bool.{not-true}
+use Rattle.std.proofs.lemmas.List.{nil_from_length}
+use Rattle.tv_lemmas.proofs.Lists.{get-within}
 use Rattle.tv_value.specs.Nested.{Place}
 use Rattle.tv_value.specs.Values.{Name}
 use Rattle.tv_flow.specs.Flows.{Flow, Step}
@@ -31,16 +34,7 @@ use Rattle.tv_frame.specs.Calls.{Brings, IsReadyToSettle}
 use Rattle.tv_frame.specs.Kept.{Keeps, followed_by, things_of}
 use Rattle.tv_frame.specs.Tables.{levels_in}
 use Rattle.tv_frame.proofs.OfBringing.{told-before, told_by}
-use Rattle.tv_frame.proofs.OfHoldAround.{within-get}
 use Rattle.tv_frame.proofs.OfKeeping.{kept-ranked}
-
-none-left : {A : Type 0} (xs : List A) → length xs ≡ 0 → xs ≡ []
-none-left [] h = refl
-none-left (x ∷ xs) h = absurd (omega (arith, h))
-
-not-waiting : (b : Bool) → not b ≡ true → b ≡ false
-not-waiting true h = absurd (cc)
-not-waiting false h = refl
 
 -- no job waits
 pub jobs-not_wait : (es : Events) (s : Name) (q : Place) (os : List Outcome) → In (job_at q) (waiting_of es s os) → ⊥
@@ -69,7 +63,7 @@ module _ (flows : List (Name × Flow)) (plan : FlowPlan) (pool : Nodes) (f : Fra
 
   pub waiting-at : (at : ℕ) (n : ℕ) (o : Outcome) → slice_get (waiting_things f.intakes) at ≡ Some (n, o) → IsWaitingAt f v n o
   waiting-at at n o e =
-      let s = within-get v.flow.steps n (number-there at (n, o) e) in
+      let s = get-within v.flow.steps n (number-there at (n, o) e) in
       let here = at-in (waiting_things f.intakes) at (n, o) e in
       let own = in-filter (λ (x : ℕ × Outcome). x.0 == n) (n, o) (waiting_things f.intakes) here (eq-eqb n n refl) in
       let among : In o (things_of n (waiting_things f.intakes)) = in-map (λ (x : ℕ × Outcome). x.1) (n, o) (filter (λ (x : ℕ × Outcome). x.0 == n) (waiting_things f.intakes)) own in
@@ -84,7 +78,7 @@ module _ (flows : List (Name × Flow)) (plan : FlowPlan) (pool : Nodes) (f : Fra
   lists-settle n s at q m w =
       let p = of-filter (is_waiting v.events s.0) (list_at q m) (followed_by (matcher_at f.intakes n)) w in
       waiting_lists-can_settle flows (levels_in v.flow) v (kept-ranked flows plan pool f v k) n s at (told_by (matcher_at f.intakes n)) (followed_by (matcher_at f.intakes n))
-      (told-before v s (matcher_at f.intakes n) (k.matchers_are n s at) (k.intaken.sound n)) q m p.0 (not-waiting (has_level v.events s.0 q) p.1)
+      (told-before v s (matcher_at f.intakes n) (k.matchers_are n s at) (k.intaken.sound n)) q m p.0 (not-true (has_level v.events s.0 q) p.1)
 
   -- where nothing waits, nothing can be settled
   pub none-settles : length (waiting_things f.intakes) ≡ 0 → NothingSettles v
@@ -93,7 +87,7 @@ module _ (flows : List (Name × Flow)) (plan : FlowPlan) (pool : Nodes) (f : Fra
       (λ n s at. told-before v s (matcher_at f.intakes n) (k.matchers_are n s at) (k.intaken.sound n))
       (λ n s at.
       let l = length_permutation (things_of n (waiting_things f.intakes)) (waiting_of v.events s.0 (followed_by (matcher_at f.intakes n))) (k.waiting_are n s at) in
-      none-left (waiting_of v.events s.0 (followed_by (matcher_at f.intakes n))) (l ∙ ap (λ xs. length (things_of n xs)) (none-left (waiting_things f.intakes) none)))
+      nil_from_length (waiting_of v.events s.0 (followed_by (matcher_at f.intakes n))) (l ∙ ap (λ xs. length (things_of n xs)) (nil_from_length (waiting_things f.intakes) none)))
 
 -- ---- the last thing
 

@@ -10,3 +10,4 @@ pub mod OfEndings
 pub mod OfLaws
 pub mod Computed
 pub mod OfNumbers
+pub mod OfPlaced

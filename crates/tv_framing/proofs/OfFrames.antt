@@ -160,7 +160,7 @@ abbrev map_names : List InstanceStep → List Name
 map_names [] = []
 map_names (f ∷ fs) = f.step.step ∷ map_names fs
 
-swap : (a b : Name) → same_name a b ≡ false → same_name b a ≡ false
+pub swap : (a b : Name) → same_name a b ≡ false → same_name b a ≡ false
 swap a b e = go (same_name b a) refl
   where
     go : (c : Bool) → same_name b a ≡ c → same_name b a ≡ false
@@ -185,7 +185,7 @@ steps-distinct v instance results = steps-apart instance results (given_of v.flo
 
 -- ---- a frame stays a frame
 
-after-more : (instance : JobName) (e : Event) (es : Events) (o : Origin) → known_by instance es o ≡ true → known_by instance (e ∷ es) o ≡ true
+pub after-more : (instance : JobName) (e : Event) (es : Events) (o : Origin) → known_by instance es o ≡ true → known_by instance (e ∷ es) o ≡ true
 after-more instance e es o h = one-more instance e es o ∙ or_right (hits instance e o) (known_by instance es o) h
 
 -- THE STEP: an event that is legal whatever isn't told, with the jobs that it makes known

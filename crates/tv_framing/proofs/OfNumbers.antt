@@ -2,7 +2,6 @@
 use Rattle.std.specs.Prelude.{◌≡◌, refl, ℕ, zero, suc, ◌+◌, ◌≤◌, ◌&&◌, Bool, true, false, cond, List, [], ◌∷◌, flat_map, length, Some, slice_get, sum_by}
 use Rattle.std.specs.Cmp.Lexicographic.{bytes_decides}
 use Rattle.std.proofs.Common.{sym, ap, ap₂, subst, ◌∙◌, arith, length-append}
-use Rattle.std.proofs.lemmas.Bool.{true≢false}
 use Rattle.std.proofs.lemmas.List.Sorted.{sum_by-IsPermutation}
 use Rattle.std.proofs.lemmas.List.Sums.{sum_by-append, sum_by-cons}
 use Rattle.std.proofs.lemmas.Option.{none-some, same_Some}
@@ -23,11 +22,8 @@ use Rattle.tv_instance.specs.Events.{known_by}
 use Rattle.tv_framing.specs.Answers.{numbered}
 use Rattle.tv_framing.specs.Frames.{IsFrame, job_places, known_jobs}
 use Rattle.tv_framing.specs.Views.{View, steps_with}
-use Rattle.tv_framing.proofs.OfFrames.{AreDistinct, Other, steps-distinct}
+use Rattle.tv_framing.proofs.OfFrames.{AreDistinct, Other, steps-distinct, swap}
 use Rattle.tv_framing.proofs.OfPossible.{some-possible}
-
-swap : (a b : Name) → same_name a b ≡ false → same_name b a ≡ false
-swap a b h = on_test (same_name b a) (λ k. absurd (true≢false (sym ((bytes_decides a b).1 (sym ((bytes_decides b a).0 k))) ∙ h))) (λ k. k)
 
 module _ (s : Name) (q : Place) where
   abbrev one : Name × Place → ℕ

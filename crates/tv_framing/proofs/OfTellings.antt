@@ -1,8 +1,9 @@
 -- What the matcher is told with an event is what the port gains.
 use Rattle.std.specs.Prelude.{◌≡◌, refl, ℕ, zero, suc, pred, ◌+◌, List, [], ◌∷◌, ◌++◌, Bool, true, false, Option, Some, None, map, option_and_then}
-use Rattle.std.proofs.Common.{arith, sym, ap, ap₂, subst, ◌∙◌, append_assoc, append-nil}
+use Rattle.std.proofs.Common.{arith, sym, ap, ap₂, subst, ◌∙◌, append_assoc, append-nil, add-zero}
 use Rattle.std.proofs.lemmas.Option.{none-some, same_Some}
 use Rattle.std.proofs.lemmas.List.{map-append}
+use Rattle.tv_lemmas.proofs.Numbers.{is-zero_plus, plus-suc}
 use Rattle.tv_value.specs.Nested.{Tree, leaf, list, Trees, no_trees, tree, Place, at, children, count, item_at, map_tree, map_trees, notes}
 use Rattle.tv_value.specs.Values.{AllHaveDepth, ErrorDoc, HasDepth, JobName, Name, Scalar, Value, fault, text}
 use Rattle.tv_strategy.specs.Origins.{Origin, Traced, from_job, from_level, traced}
@@ -33,12 +34,6 @@ at-append {N = N} {A = A} t (i ∷ q) r u h = by (item_at (children t) i) h (λ 
     by None g rec = absurd (none-some u g)
     by (Some x) g rec = rec x g
 
-same-index : (i : ℕ) → i + 0 ≡ i
-same-index i = omega arith
-
-next-index : (i j : ℕ) → i + suc j ≡ suc i + j
-next-index i j = omega arith
-
 -- the items of a list stand at its indices
 itself : {A : Type 0} (o : Option A) → option_and_then (λ u. Some u) o ≡ o
 itself None = refl
@@ -47,11 +42,8 @@ itself (Some u) = refl
 item-stands : {N A : Type 0} (v : Tree N A) (q : Place) (o : N) (ts : Trees N A) → at v q ≡ Some (list o ts) → (j : ℕ) (u : Tree N A) → item_at ts j ≡ Some u → at v (q ++ j ∷ []) ≡ Some u
 item-stands v q o ts h j u g = at-append v q (j ∷ []) (list o ts) h ∙ itself (item_at ts j) ∙ g
 
-zero-index : (j : ℕ) → j ≡ 0 + j
-zero-index j = omega arith
-
 items-stand : {N A : Type 0} (v : Tree N A) (q : Place) (o : N) (ts : Trees N A) → at v q ≡ Some (list o ts) → (j : ℕ) (u : Tree N A) → item_at ts j ≡ Some u → at v (q ++ (0 + j) ∷ []) ≡ Some u
-items-stand v q o ts h j u g = subst (λ i. at v (q ++ i ∷ []) ≡ Some u) (zero-index j) (item-stands v q o ts h j u g)
+items-stand v q o ts h j u g = subst (λ i. at v (q ++ i ∷ []) ≡ Some u) (is-zero_plus j) (item-stands v q o ts h j u g)
 
 -- notes don't matter to depths and tellings
 mutual
@@ -64,7 +56,7 @@ mutual
   all_traced-depth o no_trees d h = h
   all_traced-depth o (tree v vs) d h = (traced-depth o v d h.0, all_traced-depth o vs d h.1)
 
-map_count : {N M : Type 0} (f : N → M) (vs : Trees N Scalar) → count (map_trees f (λ a. a) vs) ≡ count vs
+pub map_count : {N M : Type 0} (f : N → M) (vs : Trees N Scalar) → count (map_trees f (λ a. a) vs) ≡ count vs
 map_count f no_trees = refl
 map_count f (tree v vs) = ap (λ x. suc x) (map_count f vs)
 
@@ -124,7 +116,7 @@ module _ (known after : Origin → Bool) (values : Name → Traced) (p : Name) w
       values-are_told k q i no_trees h d = refl
       values-are_told k q i (tree v vs) h d =
           map-append (placed q) (map (within i) (all_items (walk p k v))) (known_from (λ o. true) (suc i) (walk_each p k vs))
-          ∙ ap₂ (λ a b. a ++ b) (placed-within q i (all_items (walk p k v)) ∙ value-is_told k (q ++ i ∷ []) v (subst (λ n. at (values p) (q ++ n ∷ []) ≡ Some v) (same-index i) (h 0 v refl)) d.0) (values-are_told k q (suc i) vs (λ j u g. subst (λ n. at (values p) (q ++ n ∷ []) ≡ Some u) (next-index i j) (h (suc j) u g)) d.1)
+          ∙ ap₂ (λ a b. a ++ b) (placed-within q i (all_items (walk p k v)) ∙ value-is_told k (q ++ i ∷ []) v (subst (λ n. at (values p) (q ++ n ∷ []) ≡ Some v) (add-zero i) (h 0 v refl)) d.0) (values-are_told k q (suc i) vs (λ j u g. subst (λ n. at (values p) (q ++ n ∷ []) ≡ Some u) (plus-suc i j) (h (suc j) u g)) d.1)
           ∙ sym (map-append (seen_told values) (value_told p k (q ++ i ∷ []) v) (values_told p k q (suc i) vs))
 
   -- ---- on the way to an event
@@ -166,19 +158,19 @@ module _ (known after : Origin → Bool) (values : Name → Traced) (p : Name) w
           way-end t q x k d e (subst (GaveThis w made e) (append-nil x) g) l (subst (λ y. FitsNode e (Some y)) (sym (same_Some t node a)) n) h
       way-is_told (leaf u y) q x (i ∷ r) (suc k) d node a n g l s h = absurd (none-some node a)
       way-is_told (list u ts) q x (i ∷ r) (suc k) d node a n g l s h =
-          way-is_told_from ts q x r k (pred d) 0 i i node (zero-index i) a n g l s.1 (λ j y b. items-stand (values p) q (from_level (named x) None u) (outputs_from named made declared x (pred d) 0 ts) h j y b)
+          way-is_told_from ts q x r k (pred d) 0 i i node (is-zero_plus i) a n g l s.1 (λ j y b. items-stand (values p) q (from_level (named x) None u) (outputs_from named made declared x (pred d) 0 ts) h j y b)
 
       pub way-is_told_from : (ts : Iterations) (q x r : Place) (k d i m j : ℕ) (node : Iteration) → j ≡ i + m → option_and_then (λ y. at y r) (item_at ts m) ≡ Some node → FitsNode e (Some node) → GaveThis w made e (x ++ j ∷ r) → HasDepthLeft w c e (levels_below k r) → AllStandFrom IsNewly x i ts → ((j : ℕ) (y : Traced) → item_at (outputs_from named made declared x d i ts) j ≡ Some y → at (values p) (q ++ (i + j) ∷ []) ≡ Some y) → map (placed q) (on_way_from known after named made declared p x k d i ts m r) ≡ said (way_told newly p k (q ++ j ∷ []) (x ++ j ∷ []) r e w)
       way-is_told_from no_trees q x r k d i m j node f a n g l s h = absurd (none-some node a)
       way-is_told_from (tree t ts) q x r k d i zero j node f a n g l s h =
           placed-within q i (on_way known after named made declared p (x ++ i ∷ []) k d t r)
-          ∙ way-is_told t (q ++ i ∷ []) (x ++ i ∷ []) r k d node a n (subst (GaveThis w made e) (ap (λ z. x ++ z ∷ r) (same j i f) ∙ sym (append_assoc x (i ∷ []) r)) g) l s.0 (subst (λ z. at (values p) (q ++ z ∷ []) ≡ Some (output_below named made declared (x ++ i ∷ []) d t)) (same-index i) (h 0 (output_below named made declared (x ++ i ∷ []) d t) refl))
+          ∙ way-is_told t (q ++ i ∷ []) (x ++ i ∷ []) r k d node a n (subst (GaveThis w made e) (ap (λ z. x ++ z ∷ r) (same j i f) ∙ sym (append_assoc x (i ∷ []) r)) g) l s.0 (subst (λ z. at (values p) (q ++ z ∷ []) ≡ Some (output_below named made declared (x ++ i ∷ []) d t)) (add-zero i) (h 0 (output_below named made declared (x ++ i ∷ []) d t) refl))
           ∙ ap (λ z. said (way_told newly p k (q ++ z ∷ []) (x ++ z ∷ []) r e w)) (sym (same j i f))
         where
           same : (a b : ℕ) → a ≡ b + 0 → a ≡ b
           same a b y = omega arith
       way-is_told_from (tree t ts) q x r k d i (suc m) j node f a n g l s h =
-          way-is_told_from ts q x r k d (suc i) m j node (next j i m f) a n g l s.1 (λ b y z. subst (λ o. at (values p) (q ++ o ∷ []) ≡ Some y) (next-index i b) (h (suc b) y z))
+          way-is_told_from ts q x r k d (suc i) m j node (next j i m f) a n g l s.1 (λ b y z. subst (λ o. at (values p) (q ++ o ∷ []) ≡ Some y) (plus-suc i b) (h (suc b) y z))
         where
           next : (a b c : ℕ) → a ≡ b + suc c → a ≡ suc b + c
           next a b c y = omega arith

@@ -6,10 +6,10 @@ use Rattle.std.proofs.lemmas.Option.{none-some, same_Some}
 use Rattle.tv_value.specs.Nested.{Place}
 use Rattle.tv_value.specs.Orders.{same_job}
 use Rattle.tv_value.specs.Values.{JobName, Name}
+use Rattle.tv_value.proofs.OfJobNames.{same_job_decides}
 use Rattle.tv_depths.specs.Steps.{spot}
 use Rattle.tv_model.specs.Meanings.{meaning}
 use Rattle.tv_model.proofs.Members.{snoc-parts}
-use Rattle.tv_model.proofs.Tests.{same_job_decides}
 use Rattle.tv_history.specs.Entries.{accepted, bounced, closed, ended, fault_passed, handed_out, is_out, opened, recalled}
 use Rattle.tv_instances.proofs.OfHistory.{others-stay_settled}
 use Rattle.tv_going.specs.Stated.{ElsewhereTellsNothing, MainEndsElsewhere, OthersAreElsewhere}

@@ -2,10 +2,13 @@
 use Rattle.std.specs.Prelude.{◌≡◌, refl, ℕ, List, [], ◌∷◌, Bool, true, false, not, ◌||◌}
 use Rattle.std.specs.List.{list_any}
 use Rattle.std.proofs.Common.{ap, ap₂, subst, sym, ◌∙◌}
+use Rattle.std.specs.Cmp.{first_so, second_so}
+use Rattle.std.specs.Cmp.Derive.{one_truth}
 use Rattle.tv_lemmas.proofs.Cases.{on_test}
 use Rattle.tv_value.specs.Nested.{Place}
 use Rattle.tv_value.specs.Orders.{same_job}
 use Rattle.tv_value.specs.Values.{JobName, Name, Value}
+use Rattle.tv_value.proofs.OfJobNames.{same_job_decides}
 use Rattle.tv_gate.specs.Outcomes.{Giving}
 use Rattle.tv_flow.specs.Flows.{Document, Flow}
 use Rattle.tv_depths.specs.Steps.{spot}
@@ -17,14 +20,13 @@ use Rattle.tv_model.specs.Made.{Meaning}
 use Rattle.tv_model.specs.Meanings.{meaning}
 use Rattle.tv_model.specs.Members.{In}
 use Rattle.tv_model.proofs.Sound.{spot-step}
-use Rattle.tv_model.proofs.Tests.{both_true, left_true, or_right, right_true, same_job_decides}
+use Rattle.tv_model.proofs.Tests.{both_true, or_right}
 use Rattle.tv_history.specs.Entries.{Entry, History, accepted, closed, fault_passed, handed_out, is_begun_entry, is_ended_entry, is_level_entry, is_opened_entry, opened, recalled}
 use Rattle.tv_history.specs.Histories.{has_entry, is_open, is_settled, is_settled_name}
 use Rattle.tv_history.proofs.Needs.{stays_settled}
 use Rattle.tv_history.proofs.Ready.{AnyNumber, all-sound, are-jobs}
 use Rattle.tv_history.proofs.Stuck.{settled-name}
 use Rattle.tv_history.proofs.Running.{settled_of_name}
-use Rattle.tv_history.proofs.Tests.{same_tests}
 use Rattle.tv_order.specs.Parts.{IsInstance, made_of}
 use Rattle.tv_order.proofs.OfDocuments.{any-whole}
 use Rattle.tv_instances.specs.InHistory.{IsPartOf, SettlesNot, StaysSettled, TellsNothing}
@@ -43,8 +45,8 @@ stays-open past x (k ∷ n) e h =
     let opened = list_any (is_opened_entry (k ∷ n)) past in
     let ended = list_any (is_ended_entry (k ∷ n)) past in
     both_true (is_opened_entry (k ∷ n) x || opened) (not (is_ended_entry (k ∷ n) x || ended))
-    (or_right (is_opened_entry (k ∷ n) x) opened (left_true opened (not ended) h))
-    (ap (λ b. not (b || ended)) e ∙ right_true opened (not ended) h)
+    (or_right (is_opened_entry (k ∷ n) x) opened (first_so opened (not ended) h))
+    (ap (λ b. not (b || ended)) e ∙ second_so opened (not ended) h)
 
 -- ---- jobs by name
 
@@ -53,7 +55,7 @@ pub by-name : (gives : Giving) (d : Document) (past : History) (j : Job) → In 
 by-name gives d past j i =
     let m = meaning gives d in
     let w = any-whole gives d in
-    same_tests (is_settled_name m past j.name) (is_settled past j)
+    one_truth (is_settled_name m past j.name) (is_settled past j)
     (settled_of_name gives m (all-sound gives AnyNumber m [] w) (are-jobs gives AnyNumber m [] w) past j i)
     (settled-name gives AnyNumber m w past j i)
 

@@ -3,15 +3,17 @@ use Rattle.std.specs.Prelude.{◌≡◌, refl, ℕ, zero, suc, List, [], ◌∷�
 use Rattle.std.specs.List.{list_any}
 use Rattle.std.proofs.Common.{ap, subst, sym, ◌∙◌}
 use Rattle.std.proofs.lemmas.Bool.{false_from_ne_true, not-true}
+use Rattle.std.specs.Cmp.{first_so, second_so}
+use Rattle.std.proofs.lemmas.Simd.{map-map}
 use Rattle.tv_lemmas.proofs.Cases.{on_either}
 use Rattle.tv_value.specs.Nested.{Place, Trees, leaf, list, map_trees, no_trees, tree}
 use Rattle.tv_value.specs.Orders.{same_job}
 use Rattle.tv_value.specs.Values.{AllHaveDepth, HasDepth, JobName, Name, Scalar}
+use Rattle.tv_value.proofs.OfJobNames.{same_job_decides}
 use Rattle.tv_gate.specs.Outcomes.{Giving}
 use Rattle.tv_flow.specs.Flows.{Document, StepInput}
 use Rattle.tv_flow.specs.Formed.{is_formed}
 use Rattle.tv_strategy.specs.Origins.{Origin, Traced, plain}
-use Rattle.tv_naming.proofs.OfLists.{map-map}
 use Rattle.tv_depths.specs.Steps.{spot}
 use Rattle.tv_instance.specs.Events.{Extends}
 use Rattle.tv_model.specs.Jobs.{Job}
@@ -20,7 +22,7 @@ use Rattle.tv_model.specs.Meanings.{meaning}
 use Rattle.tv_model.specs.Members.{In}
 use Rattle.tv_model.specs.RightDepths.{HaveTheseDepths}
 use Rattle.tv_model.proofs.Members.{not-longer}
-use Rattle.tv_model.proofs.Tests.{both_true, left_true, right_true, same_job_decides, true≠false}
+use Rattle.tv_model.proofs.Tests.{both_true, true≠false}
 use Rattle.tv_model.proofs.Turns.{or_left}
 use Rattle.tv_model.proofs.Whole.{AnyNumber, IsWhole}
 use Rattle.tv_history.specs.Entries.{History, is_begun_entry, is_ended_entry, is_out, opened}
@@ -51,12 +53,12 @@ module _ (gives : Giving) (d : Document) (past : History) (j : Job) (i : In j (m
   whole = any-whole gives d
 
   old : is_legal gives m past ≡ true
-  old = left_true (is_legal gives m past) (is_legal_after gives m past (opened j.name)) legal
+  old = first_so (is_legal gives m past) (is_legal_after gives m past (opened j.name)) legal
 
   goes : may_go_on m past j ≡ true
   goes =
       begins gives m (all-sound gives AnyNumber m [] whole) (are-jobs gives AnyNumber m [] whole) past j i
-      (legal-of gives m past (opened j.name) (right_true (is_legal gives m past) (is_legal_after gives m past (opened j.name)) legal))
+      (legal-of gives m past (opened j.name) (second_so (is_legal gives m past) (is_legal_after gives m past (opened j.name)) legal))
       (same-itself j.name)
 
   abbrev begun : Bool
@@ -72,7 +74,7 @@ module _ (gives : Giving) (d : Document) (past : History) (j : Job) (i : In j (m
       (λ h. (idle_begun gives m (all-sound gives AnyNumber m [] whole) (are-jobs gives AnyNumber m [] whole) past j h).1)
       (λ h.
       let there = is_open past j.instance && not (is_running past j) in
-      not-true (is_settled past j) (right_true there (not (is_settled past j)) (left_true (there && not (is_settled past j)) (all_known m past j.waits) h)))
+      not-true (is_settled past j) (second_so there (not (is_settled past j)) (first_so (there && not (is_settled past j)) (all_known m past j.waits) h)))
 
   not-ended : ended_now ≡ false
   not-ended = sym (settled-by_end gives d j i opener past) ∙ unsettled
@@ -80,10 +82,10 @@ module _ (gives : Giving) (d : Document) (past : History) (j : Job) (i : In j (m
   not-inside : begun ≡ true → has_open_instance past j ≡ false
   not-inside b =
       on_either (going_on gives m (all-sound gives AnyNumber m [] whole) (are-jobs gives AnyNumber m [] whole) past j goes)
-      (λ h. not-true (has_open_instance past j) (right_true (is_running past j && not (is_out past j.name)) (not (has_open_instance past j)) h))
+      (λ h. not-true (has_open_instance past j) (second_so (is_running past j && not (is_out past j.name)) (not (has_open_instance past j)) h))
       (λ h.
       let there = is_open past j.instance in
-      let idle = right_true there (not (is_running past j)) (left_true (there && not (is_running past j)) (not (is_settled past j)) (left_true (there && not (is_running past j) && not (is_settled past j)) (all_known m past j.waits) h)) in
+      let idle = second_so there (not (is_running past j)) (first_so (there && not (is_running past j)) (not (is_settled past j)) (first_so (there && not (is_running past j) && not (is_settled past j)) (all_known m past j.waits) h)) in
       absurd (true≠false (sym (both_true begun (not (is_settled past j)) b (ap not unsettled)) ∙ not-true (is_running past j) idle)))
 
   module _ (c : Name × Place) (r : JobName) (named : j.name ≡ c ∷ r) where

@@ -7,6 +7,7 @@ use Rattle.std.proofs.Common.{ap, inl, inr, sym, ◌∙◌}
 use Rattle.tv_value.specs.Nested.{Place}
 use Rattle.tv_value.specs.Orders.{same_job, same_name}
 use Rattle.tv_value.specs.Values.{JobName, Name, Value, holds_fault}
+use Rattle.tv_value.proofs.OfJobNames.{same_job_decides}
 use Rattle.tv_gate.specs.Outcomes.{Giving}
 use Rattle.tv_flow.specs.Flows.{Document, Flow, Step}
 use Rattle.tv_strategy.specs.Origins.{Origin, Traced, plain}
@@ -26,7 +27,7 @@ use Rattle.tv_model.proofs.Formed.{AreFormed, distinct-apart}
 use Rattle.tv_model.proofs.Instances.{given-free, instance-formed}
 use Rattle.tv_model.proofs.Members.{Apart, each_in, of-flat, once-of_apart}
 use Rattle.tv_model.proofs.Sound.{spot-step}
-use Rattle.tv_model.proofs.Tests.{same_job_decides, true≠false}
+use Rattle.tv_model.proofs.Tests.{true≠false}
 use Rattle.tv_history.specs.Entries.{Entry, History, accepted, bounced, ended, is_bounced_entry, is_ended_entry}
 use Rattle.tv_history.specs.Histories.{is_settled, is_settled_name, next_ask}
 use Rattle.tv_history.proofs.Tests.{same-itself}

@@ -1,5 +1,5 @@
 -- The main instance before any entry, and what it is given.
-use Rattle.std.specs.Prelude.{◌≡◌, refl, ℕ, ◌⊎◌, [], ◌∷◌, List, ◌++◌, Bool, true, false, ◌&&◌, Option, Some, None, flat_map, if◌then◌else◌, is_none, is_some, map, unwrap_or}
+use Rattle.std.specs.Prelude.{◌≡◌, refl, ℕ, ◌⊎◌, [], ◌∷◌, List, ◌++◌, Bool, true, false, ◌&&◌, Some, flat_map, if◌then◌else◌, is_none, is_some, map, unwrap_or}
 use Rattle.std.specs.List.{list_all}
 use Rattle.std.specs.Ordering.{is_lt, ordering_reverse}
 use Rattle.std.specs.Option.{option_map_or}
@@ -8,7 +8,11 @@ use Rattle.std.proofs.Common.{ap, ap₂, inl, inr, subst, sym, ◌∙◌}
 use Rattle.std.proofs.lemmas.Bool.{false_from_ne_true}
 use Rattle.std.proofs.lemmas.Cmp.{nat_list_cmp_total}
 use Rattle.std.proofs.lemmas.Option.{same_Some}
+use Rattle.std.specs.Cmp.{first_so, second_so}
 use Rattle.tv_lemmas.proofs.Cases.{on_test}
+use Rattle.tv_lemmas.proofs.Options.{is_none-none}
+use Rattle.tv_lemmas.proofs.Orderings.{is_lt-less}
+use Rattle.tv_lemmas.proofs.Lists.{append-none}
 use Rattle.tv_value.specs.Nested.{list, no_trees}
 use Rattle.tv_value.specs.Orders.{name_cmp, named, same_job, same_name}
 use Rattle.tv_value.specs.Values.{HasDepth, JobName, Name, Value}
@@ -20,13 +24,12 @@ use Rattle.tv_flow.specs.Forms.{is_name}
 use Rattle.tv_naming.specs.Faulty.{at_given, input_missing, input_unknown, plainly}
 use Rattle.tv_naming.specs.Inputs.{depth_against, given_against, given_complaints, missing_against, unknown_against}
 use Rattle.tv_naming.specs.Naming.{has_name}
-use Rattle.tv_naming.proofs.ByPosition.{less}
 use Rattle.tv_naming.proofs.FormedParts.{all-pass, ascending, document-flows, flow-inputs, named-passes}
 use Rattle.tv_depths.specs.Steps.{spot}
 use Rattle.tv_strategy.specs.Sources.{Each}
 use Rattle.tv_check.specs.Passes.{checked, complaints}
 use Rattle.tv_check.proofs.Accepting.{first-none}
-use Rattle.tv_check.proofs.Inside.{nil-each, nil-parts, silent}
+use Rattle.tv_check.proofs.Inside.{nil-each, silent}
 use Rattle.tv_check.proofs.OfCycles.{IsThere, each-there}
 use Rattle.tv_instance.specs.Events.{Extends}
 use Rattle.tv_model.specs.Agreeing.{Agrees, InputsHave, NestsWithin, StepsNest}
@@ -40,7 +43,7 @@ use Rattle.tv_model.specs.Turns.{is_bounced}
 use Rattle.tv_model.proofs.Members.{each_in}
 use Rattle.tv_model.proofs.Order.{of-map}
 use Rattle.tv_model.proofs.Turns.{each-map}
-use Rattle.tv_model.proofs.Tests.{left_true, right_true, true≠false}
+use Rattle.tv_model.proofs.Tests.{true≠false}
 use Rattle.tv_history.specs.Histories.{is_settled, is_settled_name}
 use Rattle.tv_history.proofs.Tests.{all_in, found_in}
 use Rattle.tv_outcomes.proofs.Read.{documents-have_activities}
@@ -97,7 +100,7 @@ main-starts gives d flow is v f i e =
 
 -- no two stand below each other
 not-both : (x y : Name) → is_lt (name_cmp x y) ≡ true → is_lt (name_cmp y x) ≡ true → ⊥
-not-both x y h k = true≠false (sym h ∙ ap is_lt (nat_list_cmp_total.antisymm x y ∙ ap ordering_reverse (less (name_cmp y x) k)))
+not-both x y h k = true≠false (sym h ∙ ap is_lt (nat_list_cmp_total.antisymm x y ∙ ap ordering_reverse (is_lt-less (name_cmp y x) k)))
 
 -- there is one list of the same members
 one-order :
@@ -112,10 +115,10 @@ one-order (x ∷ xs) (y ∷ ys) a b f g =
     (one-order xs ys (rises x xs a) (rises y ys b) (λ n i. later x y xs ys a same n i (f n (inr i))) (λ n i. later y x ys xs b (sym same) n i (g n (inr i))))
   where
     above : (z : Name) (zs : List Name) → is_ascending (z ∷ zs) ≡ true → (n : Name) → In n zs → is_lt (name_cmp z n) ≡ true
-    above z zs h n i = all_in (λ k. is_lt (name_cmp z k)) zs (left_true (list_all (λ k. is_lt (name_cmp z k)) zs) (is_ascending zs) h) n i
+    above z zs h n i = all_in (λ k. is_lt (name_cmp z k)) zs (first_so (list_all (λ k. is_lt (name_cmp z k)) zs) (is_ascending zs) h) n i
 
     rises : (z : Name) (zs : List Name) → is_ascending (z ∷ zs) ≡ true → is_ascending zs ≡ true
-    rises z zs h = right_true (list_all (λ k. is_lt (name_cmp z k)) zs) (is_ascending zs) h
+    rises z zs h = second_so (list_all (λ k. is_lt (name_cmp z k)) zs) (is_ascending zs) h
 
     first : (x ≡ y) ⊎ In x ys → (y ≡ x) ⊎ In y xs → x ≡ y
     first (inl e) k = e
@@ -154,10 +157,6 @@ in-order given (x ∷ xs) (y ∷ ys) e t h =
     let n : y.0 ≡ x.0 = cc in
     (subst (λ o. HasDepth (unwrap_or o (list tt no_trees)) x.1) (ap (λ k. named k given) (sym n) ∙ t.0.1) h.0, in-order given xs ys (ap rest_of e) t.1 h.1)
 
-is-none : {X : Type 0} (o : Option X) → is_none o ≡ true → o ≡ None
-is-none None h = refl
-is-none (Some x) h = cc
-
 -- of the same names and values there is one list
 same-pairs : (xs ys : List (Name × Value)) → map (λ x. x.0) xs ≡ map (λ y. y.0) ys → map (λ x. x.1) xs ≡ map (λ y. y.1) ys → xs ≡ ys
 same-pairs [] [] e f = refl
@@ -181,8 +180,8 @@ inputs-are_in_order d flow is = record {
 
     given_rise : is_ascending (map (λ x. x.0) d.inputs) ≡ true
     given_rise =
-        let entries = right_true (is_between 1 1 d.format && is_name d.main && are_named is_flow 1 256 d.flows) (are_entries is_value d.inputs) is.formed in
-        left_true (is_ascending (map (λ x. x.0) d.inputs)) (list_all (λ e. is_name e.0 && is_value e.1) d.inputs) entries
+        let entries = second_so (is_between 1 1 d.format && is_name d.main && are_named is_flow 1 256 d.flows) (are_entries is_value d.inputs) is.formed in
+        first_so (is_ascending (map (λ x. x.0) d.inputs)) (list_all (λ e. is_name e.0 && is_value e.1) d.inputs) entries
 
     inputs_rise : is_ascending (map (λ x. x.0) flow.inputs) ≡ true
     inputs_rise =
@@ -192,15 +191,15 @@ inputs-are_in_order d flow is = record {
     -- the check of what is given says nothing
     nothing_said : given_against flow.inputs d.inputs ≡ []
     nothing_said =
-        let all = first-none (complaints (λ n. true) d) (is-none (checked (λ n. true) d) is.accepted) in
-        ap (λ o. given_against (option_map_or (λ (f : Flow). f.inputs) o []) d.inputs) (sym is.is_main) ∙ (nil-parts _ (given_complaints d) all).1
+        let all = first-none (complaints (λ n. true) d) (is_none-none (checked (λ n. true) d) is.accepted) in
+        ap (λ o. given_against (option_map_or (λ (f : Flow). f.inputs) o []) d.inputs) (sym is.is_main) ∙ (append-none _ (given_complaints d) all).1
 
     names : map (λ x. x.0) d.inputs ≡ map (λ x. x.0) flow.inputs
     names =
         let missing = flat_map (missing_against d.inputs) flow.inputs in
         let unknown = flat_map (unknown_against flow.inputs) d.inputs in
-        let p = nil-parts (missing ++ unknown) (flat_map (depth_against flow.inputs) d.inputs) nothing_said in
-        let q = nil-parts missing unknown p.0 in
+        let p = append-none (missing ++ unknown) (flat_map (depth_against flow.inputs) d.inputs) nothing_said in
+        let q = append-none missing unknown p.0 in
         let known =
         each-map (λ v. unknown_against flow.inputs v ≡ []) (λ v. has_name flow.inputs v.0 ≡ true)
         (λ v e. silent (has_name flow.inputs v.0) (plainly input_unknown (at_given v.0)) e) d.inputs (nil-each (unknown_against flow.inputs) d.inputs q.1) in

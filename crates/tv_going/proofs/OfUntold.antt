@@ -3,10 +3,13 @@ use Rattle.std.specs.Prelude.{◌≡◌, refl, [], ◌∷◌, ◌++◌, Bool, tr
 use Rattle.std.specs.List.{list_all, list_any}
 use Rattle.std.proofs.Common.{ap, subst, sym, ◌∙◌}
 use Rattle.std.proofs.lemmas.Bool.{false_from_ne_true}
+use Rattle.std.specs.Cmp.{first_so, second_so}
 use Rattle.tv_lemmas.proofs.Cases.{on_either}
+use Rattle.tv_lemmas.proofs.Tests.{or-second}
 use Rattle.tv_value.specs.Nested.{Place, nodes}
 use Rattle.tv_value.specs.Orders.{same_job}
 use Rattle.tv_value.specs.Values.{JobName, Name}
+use Rattle.tv_value.proofs.OfJobNames.{same_job_decides}
 use Rattle.tv_gate.specs.Outcomes.{Giving}
 use Rattle.tv_flow.specs.Flows.{Document}
 use Rattle.tv_flow.specs.Formed.{is_formed}
@@ -21,14 +24,14 @@ use Rattle.tv_model.specs.Turns.{is_bounced}
 use Rattle.tv_model.proofs.Formed.{level-instance}
 use Rattle.tv_model.proofs.Members.{of-flat, of-options, snoc-parts}
 use Rattle.tv_model.proofs.Sound.{level-node}
-use Rattle.tv_model.proofs.Tests.{left_true, right_true, same_job_decides, true≠false}
+use Rattle.tv_model.proofs.Tests.{true≠false}
 use Rattle.tv_model.proofs.Whole.{AnyNumber, IsWhole}
 use Rattle.tv_history.specs.Entries.{Entry, History, is_begun_entry, is_ended_entry, is_opened_entry}
 use Rattle.tv_history.specs.Histories.{all_known, can_end, can_settle, has_entry, is_legal, is_legal_after, is_open, is_ready, is_running, is_settled, may_go_on, next_ask}
 use Rattle.tv_history.proofs.Legal.{Legal, accepts, bounces, closes, ends, hands, last-legal, opens, passes, recalls}
 use Rattle.tv_history.proofs.Ready.{all-sound, are-jobs}
 use Rattle.tv_history.proofs.Running.{going_on, idle_begun, opened_begins, out-begun}
-use Rattle.tv_history.proofs.Tests.{any_weaken, false_right}
+use Rattle.tv_history.proofs.Tests.{any_weaken}
 use Rattle.tv_order.proofs.OfDocuments.{any-whole}
 use Rattle.tv_instances.specs.InHistory.{IsOfNoLevel, IsPartOf, SettlesNot}
 use Rattle.tv_instances.proofs.OfHistory.{entries-are_events, others-stay_settled}
@@ -47,7 +50,7 @@ open-opened :
     → was_opened past n ≡ true
 open-opened past n c r e h =
     subst (λ x. was_opened past x ≡ true) (sym e)
-    (left_true (was_opened past (c ∷ r)) (not (list_any (is_ended_entry (c ∷ r)) past)) (subst (λ x. is_open past x ≡ true) e h))
+    (first_so (was_opened past (c ∷ r)) (not (list_any (is_ended_entry (c ∷ r)) past)) (subst (λ x. is_open past x ≡ true) e h))
 
 module _ (gives : Giving) (d : Document) (I : JobName) (c : Name × Place) (r : JobName) (nested : I ≡ c ∷ r) where
   abbrev m : Meaning
@@ -74,7 +77,7 @@ module _ (gives : Giving) (d : Document) (I : JobName) (c : Name × Place) (r : 
         let idle = not (is_running past j) in
         let unsettled = not (is_settled past j) in
         never-open j.instance (in-instance j i s q e)
-        (left_true there idle (left_true (there && idle) unsettled (left_true (there && idle && unsettled) (all_known m past j.waits) h)))
+        (first_so there idle (first_so (there && idle) unsettled (first_so (there && idle && unsettled) (all_known m past j.waits) h)))
 
     never-goes : (j : Job) → In j m.jobs → (s : Name) (q : Place) → j.name ≡ spot I s q → may_go_on m past j ≡ true → ⊥
     never-goes j i s q e h =
@@ -89,7 +92,7 @@ module _ (gives : Giving) (d : Document) (I : JobName) (c : Name × Place) (r : 
         let here = (snoc-parts (s, q) t.0.instance I (t.0.step, x.0.0) (s, q) (sym (level-node I t.0 x.0 l x.2).0 ∙ e)).0 in
         let there = is_open past l.instance in
         let new = not (has_entry past l.name) in
-        never-open l.instance (level-instance t.0 x.0 l x.2 ∙ here) (left_true there new (left_true (there && new) (all_known m past l.sources) h))
+        never-open l.instance (level-instance t.0 x.0 l x.2 ∙ here) (first_so there new (first_so (there && new) (all_known m past l.sources) h))
 
     -- a test that this name passes
     fails : (s : Name) (q : Place) (n : JobName) → (n ≡ spot I s q → ⊥) → same_job (spot I s q) n ≡ false
@@ -99,7 +102,7 @@ module _ (gives : Giving) (d : Document) (I : JobName) (c : Name × Place) (r : 
     ended-opened : (n : JobName) → can_end m past n ≡ true → (s : Name) (q : Place) → n ≡ spot I s q → was_opened past n ≡ true
     ended-opened n h s q e =
         open-opened past n c (r ++ (s, q) ∷ []) (e ∙ ap (λ l. l ++ (s, q) ∷ []) nested)
-        (left_true (is_open past n) (list_all (λ t. if same_job n t.instance then all_known m past t.ending else true) m.steps) h)
+        (first_so (is_open past n) (list_all (λ t. if same_job n t.instance then all_known m past t.ending else true) m.steps) h)
 
     settles-none : {e : Entry} → Legal gives m past e → (s : Name) (q : Place) → SettlesNot e (spot I s q)
     settles-none (hands j a i o n) s q = record { accepted = refl; bounced = refl; ended = refl }
@@ -110,7 +113,7 @@ module _ (gives : Giving) (d : Document) (I : JobName) (c : Name × Place) (r : 
     }
     settles-none (bounces j i b) s q = record {
       accepted = refl;
-      bounced = fails s q j.name (λ e. never-ready j i s q e (left_true (is_ready m past j) (is_bounced j.ending) b));
+      bounced = fails s q j.name (λ e. never-ready j i s q e (first_so (is_ready m past j) (is_bounced j.ending) b));
       ended = refl;
     }
     settles-none (closes l k i h n) s q = record { accepted = refl; bounced = refl; ended = refl }
@@ -122,7 +125,7 @@ module _ (gives : Giving) (d : Document) (I : JobName) (c : Name × Place) (r : 
     of-none : {e : Entry} → Legal gives m past e → IsOfNoLevel e I
     of-none (hands j a i o n) = record {
       levels = λ s q. refl;
-      begins = λ s q. fails s q j.name (λ e. never-goes j i s q e (right_true (is_some (next_ask past j)) (may_go_on m past j) o));
+      begins = λ s q. fails s q j.name (λ e. never-goes j i s q e (second_so (is_some (next_ask past j)) (may_go_on m past j) o));
     }
     of-none (accepts j a i o n) = record { levels = λ s q. refl; begins = λ s q. refl }
     of-none (bounces j i b) = record { levels = λ s q. refl; begins = λ s q. refl }
@@ -130,7 +133,7 @@ module _ (gives : Giving) (d : Document) (I : JobName) (c : Name × Place) (r : 
     of-none (passes l i h n) = record { levels = λ s q. fails s q l.name (λ e. never-settles l i s q e h); begins = λ s q. refl }
     of-none (opens j i h o) = record {
       levels = λ s q. refl;
-      begins = λ s q. fails s q j.name (λ e. never-goes j i s q e (right_true (is_none (next_ask past j) && is_some j.opens) (may_go_on m past j) o));
+      begins = λ s q. fails s q j.name (λ e. never-goes j i s q e (second_so (is_none (next_ask past j) && is_some j.opens) (may_go_on m past j) o));
     }
     of-none (ends n h) = record { levels = λ s q. refl; begins = λ s q. refl }
     of-none (recalls k) = record { levels = λ s q. refl; begins = λ s q. refl }
@@ -140,8 +143,8 @@ module _ (gives : Giving) (d : Document) (I : JobName) (c : Name × Place) (r : 
   pub untold : is_formed d ≡ true → (past : History) → is_legal gives m past ≡ true → was_opened past I ≡ false → IsPartOf m past I []
   untold formed [] legal shut = none-told gives d formed I
   untold formed (e ∷ past) legal shut =
-      let old = left_true (is_legal gives m past) (is_legal_after gives m past e) legal in
-      let before = false_right (is_opened_entry I e) (was_opened past I) shut in
+      let old = first_so (is_legal gives m past) (is_legal_after gives m past e) legal in
+      let before = or-second (is_opened_entry I e) (was_opened past I) shut in
       let none = untold formed past old before in
       let l = last-legal gives m past e legal in
       (entries-are_events gives m past I [] none).stays e

@@ -3,10 +3,10 @@ use Rattle.std.proofs.Common.{◌≡◌, ℕ, ◌<◌, Bool, true, false, not, �
 use Rattle.std.proofs.lemmas.Bool.{eqb-true, or_cases, cases_Bool, cases_eq}
 use Rattle.std.proofs.lemmas.Bool.Decides.{nat_tests}
 use Rattle.std.specs.List.{list_all}
+use Rattle.std.specs.Cmp.Derive.{one_truth}
 use Rattle.tv_graph.specs.Graphs.{Graph, is_graph, before, is_one_of, comes_before, is_on_cycle}
 use Rattle.tv_graph.specs.Leaving.{alike, times, is_late, IsLeft}
 use Rattle.tv_graph.specs.Gathered.{IsGathered, AreTurned, IsVisited, IsLatest}
-use Rattle.tv_graph.proofs.Members.{same-tests}
 use Rattle.tv_graph.proofs.Walks.{walk-last}
 use Rattle.tv_graph.proofs.Alike.{near, on_from, join, owner-below, walk-to_below, walk-from_below, alike-both, alike-join, alike-turned, alike-after}
 use Rattle.tv_graph.proofs.Late.{late-last, times-pushed, member-times}
@@ -115,7 +115,7 @@ module _ (g : Graph) (ok : is_graph g ≡ true) (after : ℕ → List ℕ) (turn
         | inr e ↦ grind (arith, marks v, alike-new v (subst (λ (y : ℕ). alike g y v ≡ true) (eqb-true u r e) same))
       ]
     ];
-    found_are = λ u. k.found u ∙ same-tests (is_one_of had u || (is u && not (was u))) (is' u && is_on_cycle g u)
+    found_are = λ u. k.found u ∙ one_truth (is_one_of had u || (is u && not (was u))) (is' u && is_on_cycle g u)
         (λ h. elim (or_cases (is_one_of had u) (is u && not (was u)) h) [
           | inl old ↦ grind (arith, marks u, visited.found_are u, k.kept u)
           | inr new ↦ grind (arith, marks u, new-cycle u)

@@ -102,11 +102,6 @@ pub member-none : (xs : List ℕ) (u : ℕ) → length xs ≡ 0 → is_one_of xs
 member-none [] u e = refl
 member-none (x ∷ xs) u e = absurd (omega arith)
 
-pub same-tests : (b c : Bool) → (b ≡ true → c ≡ true) → (c ≡ true → b ≡ true) → b ≡ c
-same-tests true c to from = sym (to refl)
-same-tests false true to from = from refl
-same-tests false false to from = refl
-
 pub find-range-below : (p : ℕ → Bool) (n a v : ℕ) → find p (range_with_len a n) ≡ Some v → v < a + n
 find-range-below p zero a v e = cc
 find-range-below p (suc n) a v e = grind (arith, find-range-below p n (a + 1) v)

@@ -4,10 +4,12 @@ use Rattle.std.specs.List.{list_any}
 use Rattle.std.proofs.Common.{arith, sym, ap, subst, ◌∙◌, inl, inr, length-append}
 use Rattle.std.proofs.lemmas.List.{length-map}
 use Rattle.std.proofs.lemmas.Bool.{not-true}
+use Rattle.std.specs.Cmp.{first_so, second_so}
 use Rattle.tv_history.proofs.Legal.{last-legal, legal-of, Legal, hands, accepts, bounces, closes, passes, opens, ends}
 use Rattle.tv_lemmas.proofs.Cases.{on_either, on_or}
 use Rattle.tv_value.specs.Values.{Name, JobName}
 use Rattle.tv_value.specs.Orders.{same_job}
+use Rattle.tv_value.proofs.OfJobNames.{same_job_decides}
 use Rattle.tv_flow.specs.Flows.{Document}
 use Rattle.tv_gate.specs.Outcomes.{Giving}
 use Rattle.tv_model.specs.Jobs.{Job}
@@ -17,7 +19,7 @@ use Rattle.tv_model.specs.Meanings.{meaning}
 use Rattle.tv_history.specs.Entries.{Entry, handed_out, accepted, closed, fault_passed, opened, ended, recalled, History, is_accepted, is_bounced_entry, is_level_entry, is_opened_entry, is_ended_entry, is_begun_entry, is_out}
 use Rattle.tv_model.specs.Levels.{Level, levels}
 use Rattle.tv_history.specs.Histories.{asks_left, next_ask, is_settled, is_open, has_open_instance, is_running, is_idle, is_ready, has_place, may_go_on, can_open, all_known, has_entry, can_settle, is_legal, is_legal_after}
-use Rattle.tv_model.proofs.Tests.{true≠false, left_true, right_true, same_job_decides}
+use Rattle.tv_model.proofs.Tests.{true≠false}
 use Rattle.tv_model.proofs.Turns.{In}
 use Rattle.tv_model.proofs.Order.{some_in}
 use Rattle.tv_history.proofs.Running.{opened_begins, out-begun, begins, idle_begun}
@@ -103,7 +105,7 @@ module _ (gives : Giving) (D : ℕ → Type 0) (m : Meaning) (w : IsWhole gives 
   once-tally : (p : Entry → Bool) → ((older : History) (e : Entry) → is_legal gives m older ≡ true → Legal gives m older e → p e ≡ true → list_any p older ≡ false) → (past : History) → is_legal gives m past ≡ true → tally p past ≡ bit (list_any p past)
   once-tally p f [] l = refl
   once-tally p f (e ∷ past) l =
-      let legal = left_true (is_legal gives m past) (is_legal_after gives m past e) l in
+      let legal = first_so (is_legal gives m past) (is_legal_after gives m past e) l in
       by (p e) (list_any p past) (f past e legal (last-legal gives m past e l)) (once-tally p f past legal)
     where
       by : (b c : Bool) → (b ≡ true → c ≡ false) → tally p past ≡ bit c → bit b + tally p past ≡ bit (b || c)
@@ -117,7 +119,7 @@ module _ (gives : Giving) (D : ℕ → Type 0) (m : Meaning) (w : IsWhole gives 
   level-fresh n older l a h = by a h
     where
       fresh : (x : Level) → can_settle m older x ≡ true → same_job n x.name ≡ true → list_any (is_level_entry n) older ≡ false
-      fresh x c t = subst (λ y. list_any (is_level_entry y) older ≡ false) (sym ((same_job_decides n x.name).0 t)) (not-true (has_entry older x.name) (right_true (is_open older x.instance) (not (has_entry older x.name)) (left_true (is_open older x.instance && not (has_entry older x.name)) (all_known m older x.sources) c)))
+      fresh x c t = subst (λ y. list_any (is_level_entry y) older ≡ false) (sym ((same_job_decides n x.name).0 t)) (not-true (has_entry older x.name) (second_so (is_open older x.instance) (not (has_entry older x.name)) (first_so (is_open older x.instance && not (has_entry older x.name)) (all_known m older x.sources) c)))
 
       by : {e : Entry} → Legal gives m older e → is_level_entry n e ≡ true → list_any (is_level_entry n) older ≡ false
       by (closes x k i c q) h = fresh x c h
@@ -127,19 +129,19 @@ module _ (gives : Giving) (D : ℕ → Type 0) (m : Meaning) (w : IsWhole gives 
   -- ---- ends
 
   end-fresh : (n : JobName) (older : History) {e : Entry} → is_legal gives m older ≡ true → Legal gives m older e → is_ended_entry n e ≡ true → list_any (is_ended_entry n) older ≡ false
-  end-fresh [] older l (ends k c) h = not-true (list_any (is_ended_entry []) older) (subst (λ x. is_open older x ≡ true) (sym ((same_job_decides [] k).0 h)) (left_true (is_open older k) _ c))
+  end-fresh [] older l (ends k c) h = not-true (list_any (is_ended_entry []) older) (subst (λ x. is_open older x ≡ true) (sym ((same_job_decides [] k).0 h)) (first_so (is_open older k) _ c))
   end-fresh (x ∷ n) older l (ends k c) h =
-      not-true (list_any (is_ended_entry (x ∷ n)) older) (right_true (list_any (is_opened_entry (x ∷ n)) older) (not (list_any (is_ended_entry (x ∷ n)) older)) (subst (λ x. is_open older x ≡ true) (sym ((same_job_decides (x ∷ n) k).0 h)) (left_true (is_open older k) _ c)))
+      not-true (list_any (is_ended_entry (x ∷ n)) older) (second_so (list_any (is_opened_entry (x ∷ n)) older) (not (list_any (is_ended_entry (x ∷ n)) older)) (subst (λ x. is_open older x ≡ true) (sym ((same_job_decides (x ∷ n) k).0 h)) (first_so (is_open older k) _ c)))
   end-fresh n older l a h = absurd (true≠false (sym h))
 
   -- ---- openings
 
   pub ready-parts : (past : History) (j : Job) → is_ready m past j ≡ true → list_any (is_begun_entry j.name) past ≡ false
   ready-parts past j h =
-      let three = left_true (is_open past j.instance && not (is_running past j) && not (is_settled past j)) (all_known m past j.waits) h in
+      let three = first_so (is_open past j.instance && not (is_running past j) && not (is_settled past j)) (all_known m past j.waits) h in
       by (list_any (is_begun_entry j.name) past) (is_settled past j)
-      (not-true (is_settled past j) (right_true (is_open past j.instance && not (is_running past j)) (not (is_settled past j)) three))
-      (not-true (is_running past j) (right_true (is_open past j.instance) (not (is_running past j)) (left_true (is_open past j.instance && not (is_running past j)) (not (is_settled past j)) three)))
+      (not-true (is_settled past j) (second_so (is_open past j.instance && not (is_running past j)) (not (is_settled past j)) three))
+      (not-true (is_running past j) (second_so (is_open past j.instance) (not (is_running past j)) (first_so (is_open past j.instance && not (is_running past j)) (not (is_settled past j)) three)))
     where
       by : (b s : Bool) → s ≡ false → (b && not s) ≡ false → b ≡ false
       by b true e x = absurd (true≠false e)
@@ -147,15 +149,15 @@ module _ (gives : Giving) (D : ℕ → Type 0) (m : Meaning) (w : IsWhole gives 
       by true false e x = x
 
   pub going-cases : (past : History) (j : Job) → may_go_on m past j ≡ true → (is_idle past j ≡ true) ⊎ (list_any (is_begun_entry j.name) past ≡ false)
-  going-cases past j h = on_or (is_idle past j) (is_ready m past j && not (is_bounced j.ending) && has_place m past j) h (λ x. inl x) (λ x. inr (ready-parts past j (left_true (is_ready m past j) (not (is_bounced j.ending)) (left_true (is_ready m past j && not (is_bounced j.ending)) (has_place m past j) x))))
+  going-cases past j h = on_or (is_idle past j) (is_ready m past j && not (is_bounced j.ending) && has_place m past j) h (λ x. inl x) (λ x. inr (ready-parts past j (first_so (is_ready m past j) (not (is_bounced j.ending)) (first_so (is_ready m past j && not (is_bounced j.ending)) (has_place m past j) x))))
 
   -- a job whose flow was opened can't open it again
   opening-fresh : (past : History) → is_legal gives m past ≡ true → (j : Job) → In j m.jobs → can_open m past j ≡ true → (b : Bool) → list_any (is_opened_entry j.name) past ≡ b → b ≡ false
   opening-fresh past l j i h false e = refl
-  opening-fresh past l j i h true e = on_either (going-cases past j (right_true (is_none (next_ask past j) && is_some j.opens) (may_go_on m past j) h)) (λ x. let parts = idle_begun gives m (all-sound gives D m [] w) (are-jobs gives D m [] w) past j x in let shut = not-true (has_open_instance past j) (right_true (is_running past j && not (is_out past j.name)) (not (has_open_instance past j)) x) in let over = still j.name ((are-jobs gives D m [] w).has_name j i) e (subst (λ b. (b && is_open past j.name) ≡ false) opens_it shut) in let tried = begun-tried gives D m w past j i l begun_it in sym (subst (λ b. (if b then list_any (is_bounced_entry j.name) past else list_any (is_ended_entry j.name) past) ≡ true) (sym tried) over) ∙ subst (λ b. (if is_bounced j.ending then list_any (is_bounced_entry j.name) past else (if b then list_any (is_ended_entry j.name) past else is_none (next_ask past j))) ≡ false) opens_it parts.1) (λ x. absurd (true≠false (sym begun_it ∙ x)))
+  opening-fresh past l j i h true e = on_either (going-cases past j (second_so (is_none (next_ask past j) && is_some j.opens) (may_go_on m past j) h)) (λ x. let parts = idle_begun gives m (all-sound gives D m [] w) (are-jobs gives D m [] w) past j x in let shut = not-true (has_open_instance past j) (second_so (is_running past j && not (is_out past j.name)) (not (has_open_instance past j)) x) in let over = still j.name ((are-jobs gives D m [] w).has_name j i) e (subst (λ b. (b && is_open past j.name) ≡ false) opens_it shut) in let tried = begun-tried gives D m w past j i l begun_it in sym (subst (λ b. (if b then list_any (is_bounced_entry j.name) past else list_any (is_ended_entry j.name) past) ≡ true) (sym tried) over) ∙ subst (λ b. (if is_bounced j.ending then list_any (is_bounced_entry j.name) past else (if b then list_any (is_ended_entry j.name) past else is_none (next_ask past j))) ≡ false) opens_it parts.1) (λ x. absurd (true≠false (sym begun_it ∙ x)))
     where
       opens_it : is_some j.opens ≡ true
-      opens_it = right_true (is_none (next_ask past j)) (is_some j.opens) (left_true (is_none (next_ask past j) && is_some j.opens) (may_go_on m past j) h)
+      opens_it = second_so (is_none (next_ask past j)) (is_some j.opens) (first_so (is_none (next_ask past j) && is_some j.opens) (may_go_on m past j) h)
 
       begun_it : list_any (is_begun_entry j.name) past ≡ true
       begun_it = any_weaken (is_opened_entry j.name) (is_begun_entry j.name) (opened_begins j.name) past e
@@ -174,7 +176,7 @@ module _ (gives : Giving) (D : ℕ → Type 0) (m : Meaning) (w : IsWhole gives 
   going-not_out past j h = by (going-cases past j h) (is_out past j.name) refl
     where
       by : (is_idle past j ≡ true) ⊎ (list_any (is_begun_entry j.name) past ≡ false) → (b : Bool) → is_out past j.name ≡ b → is_out past j.name ≡ false
-      by (inl x) b e = not-true (is_out past j.name) (right_true (is_running past j) (not (is_out past j.name)) (left_true (is_running past j && not (is_out past j.name)) (not (has_open_instance past j)) x))
+      by (inl x) b e = not-true (is_out past j.name) (second_so (is_running past j) (not (is_out past j.name)) (first_so (is_running past j && not (is_out past j.name)) (not (has_open_instance past j)) x))
       by (inr x) false e = e
       by (inr x) true e = absurd (true≠false (sym (out-begun past j.name e) ∙ x))
 
@@ -182,7 +184,7 @@ module _ (gives : Giving) (D : ℕ → Type 0) (m : Meaning) (w : IsWhole gives 
   pub handed-tally : (past : History) → is_legal gives m past ≡ true → tally is_recall past ≡ 0 → (j : Job) → In j m.jobs → tally (is_handed j.name) past ≡ tally (is_accepted j.name) past + bit (is_out past j.name)
   handed-tally [] l z j i = omega arith
   handed-tally (e ∷ past) l z j i =
-      by e (right_true (is_legal gives m past) (is_legal_after gives m past e) l) (no_recall (bit (is_recall e)) (tally is_recall past) z).0 (handed-tally past (left_true (is_legal gives m past) (is_legal_after gives m past e) l) (no_recall (bit (is_recall e)) (tally is_recall past) z).1 j i)
+      by e (second_so (is_legal gives m past) (is_legal_after gives m past e) l) (no_recall (bit (is_recall e)) (tally is_recall past) z).0 (handed-tally past (first_so (is_legal gives m past) (is_legal_after gives m past e) l) (no_recall (bit (is_recall e)) (tally is_recall past) z).1 j i)
     where
       no_recall : (a b : ℕ) → a + b ≡ 0 → (a ≡ 0) × (b ≡ 0)
       no_recall a b p = (omega arith, omega arith)
@@ -204,7 +206,7 @@ module _ (gives : Giving) (D : ℕ → Type 0) (m : Meaning) (w : IsWhole gives 
       by (handed_out n c t) a r p =
           hand (same_job j.name n) (is_out past j.name) (tally (is_handed j.name) past) (tally (is_accepted j.name) past) (λ h. going-not_out past j (begins gives m (all-sound gives D m [] w) (are-jobs gives D m [] w) past j i (legal-of gives m past (handed_out n c t) a) h)) p
       by (accepted n c t s) a r p =
-          take (same_job j.name n) (is_out past j.name) (tally (is_handed j.name) past) (tally (is_accepted j.name) past) (λ h. subst (λ x. is_out past x ≡ true) (sym ((same_job_decides j.name n).0 h)) (left_true (is_out past n) _ a)) p
+          take (same_job j.name n) (is_out past j.name) (tally (is_handed j.name) past) (tally (is_accepted j.name) past) (λ h. subst (λ x. is_out past x ≡ true) (sym ((same_job_decides j.name n).0 h)) (first_so (is_out past n) _ a)) p
       by (recalled k) a r p = absurd (true≠false (ap is_one r))
         where
           is_one : ℕ → Bool
@@ -257,7 +259,7 @@ module _ (gives : Giving) (D : ℕ → Type 0) (m : Meaning) (w : IsWhole gives 
   ended-owner : (older : History) {e : Entry} → is_legal gives m older ≡ true → Legal gives m older e → is_some (ended_name e) ≡ true → Owner is_ended_entry e
   ended-owner older l (ends [] c) h = absurd (true≠false (sym h))
   ended-owner older l (ends (k ∷ n) c) h =
-      let r = opened-job older l (k ∷ n) (left_true (list_any (is_opened_entry (k ∷ n)) older) (not (list_any (is_ended_entry (k ∷ n)) older)) (left_true (is_open older (k ∷ n)) _ c)) in
+      let r = opened-job older l (k ∷ n) (first_so (list_any (is_opened_entry (k ∷ n)) older) (not (list_any (is_ended_entry (k ∷ n)) older)) (first_so (is_open older (k ∷ n)) _ c)) in
       (r.0, r.1, (same_job_decides r.0.name (k ∷ n)).1 r.2)
   ended-owner older l a h = absurd (true≠false (sym h))
 

@@ -2,9 +2,11 @@
 use Rattle.std.specs.Prelude.{◌≡◌, refl, ℕ, zero, suc, ◌+◌, ◌<◌, ◌⊎◌, List, [], ◌∷◌, ◌++◌, map, length, Bool, true, false, not, ◌&&◌, ◌||◌, ◌==◌, if◌then◌else◌, Option, Some, None, is_some, is_none}
 use Rattle.std.specs.List.{list_any}
 use Rattle.std.proofs.Common.{arith, sym, ap, subst, ◌∙◌, append_assoc, append-nil, length-append}
+use Rattle.std.specs.Cmp.{first_so, second_so}
 use Rattle.tv_history.proofs.Legal.{last-legal, Legal, accepts, opens, ends}
 use Rattle.tv_lemmas.proofs.Cases.{on_either, on_or}
 use Rattle.tv_value.specs.Values.{Name, JobName}
+use Rattle.tv_value.proofs.OfJobNames.{same_job_decides}
 use Rattle.tv_gate.specs.Outcomes.{Giving}
 use Rattle.tv_dispatch.specs.Jobs.{Ask}
 use Rattle.tv_model.specs.Jobs.{Job}
@@ -13,7 +15,7 @@ use Rattle.tv_model.specs.Turns.{is_bounced}
 use Rattle.tv_history.specs.Entries.{Entry, accepted, opened, ended, History, is_accepted, is_bounced_entry, is_opened_entry, is_ended_entry}
 use Rattle.tv_model.specs.Lists.{rest_of, first_of_list}
 use Rattle.tv_history.specs.Histories.{asks_left, next_ask, is_settled, is_open, can_open, is_legal, is_legal_after, is_done, may_go_on}
-use Rattle.tv_model.proofs.Tests.{true≠false, left_true, right_true, or_right, same_job_decides}
+use Rattle.tv_model.proofs.Tests.{true≠false, or_right}
 use Rattle.tv_history.proofs.Needs.{stays_settled}
 use Rattle.tv_model.proofs.Turns.{In}
 use Rattle.tv_history.proofs.Running.{ended-settled, same-job}
@@ -49,7 +51,7 @@ module _ (gives : Giving) (D : ℕ → Type 0) (m : Meaning) (w : IsWhole gives 
   pub accepted-asks : (past : History) → is_legal gives m past ≡ true → (j : Job) → In j m.jobs → tries_of j.name past ++ map (key_of gives) (asks_left past j.name j.asks) ≡ map (key_of gives) j.asks
   accepted-asks [] l j i = refl
   accepted-asks (e ∷ past) l j i =
-      by (is_accepted j.name e) refl (accepted-asks past (left_true (is_legal gives m past) (is_legal_after gives m past e) l) j i)
+      by (is_accepted j.name e) refl (accepted-asks past (first_so (is_legal gives m past) (is_legal_after gives m past e) l) j i)
     where
       by : (b : Bool) → is_accepted j.name e ≡ b → tries_of j.name past ++ map (key_of gives) (asks_left past j.name j.asks) ≡ map (key_of gives) j.asks → (tries_of j.name past ++ try_of j.name e) ++ map (key_of gives) (if b then rest_of (asks_left past j.name j.asks) else asks_left past j.name j.asks) ≡ map (key_of gives) j.asks
       by true h rec =
@@ -75,17 +77,17 @@ module _ (gives : Giving) (D : ℕ → Type 0) (m : Meaning) (w : IsWhole gives 
   pub opened-facts : (past : History) → is_legal gives m past ≡ true → (j : Job) → In j m.jobs → list_any (is_opened_entry j.name) past ≡ true → (asks_left past j.name j.asks ≡ []) × (is_some j.opens ≡ true)
   opened-facts [] l j i h = absurd (true≠false (sym h))
   opened-facts (e ∷ past) l j i h =
-      on_or (is_opened_entry j.name e) (list_any (is_opened_entry j.name) past) h (λ k. let c = opens-it past j i (last-legal gives m past e l) k in let both = left_true (is_none (next_ask past j) && is_some j.opens) (may_go_on m past j) c in (stays-none (is_accepted j.name e) (asks_left past j.name j.asks) (nothing_first (asks_left past j.name j.asks) (left_true (is_none (next_ask past j)) (is_some j.opens) both)), right_true (is_none (next_ask past j)) (is_some j.opens) both)) (λ k. let r = (opened-facts past (left_true (is_legal gives m past) (is_legal_after gives m past e) l) j i k) in (stays-none (is_accepted j.name e) (asks_left past j.name j.asks) r.0, r.1))
+      on_or (is_opened_entry j.name e) (list_any (is_opened_entry j.name) past) h (λ k. let c = opens-it past j i (last-legal gives m past e l) k in let both = first_so (is_none (next_ask past j) && is_some j.opens) (may_go_on m past j) c in (stays-none (is_accepted j.name e) (asks_left past j.name j.asks) (nothing_first (asks_left past j.name j.asks) (first_so (is_none (next_ask past j)) (is_some j.opens) both)), second_so (is_none (next_ask past j)) (is_some j.opens) both)) (λ k. let r = (opened-facts past (first_so (is_legal gives m past) (is_legal_after gives m past e) l) j i k) in (stays-none (is_accepted j.name e) (asks_left past j.name j.asks) r.0, r.1))
 
   -- what has ended was opened
   pub ends-it : (past : History) {e : Entry} (k : Name × List ℕ) (n : JobName) → Legal gives m past e → is_ended_entry (k ∷ n) e ≡ true → is_open past (k ∷ n) ≡ true
-  ends-it past k n (ends x c) h = subst (λ y. is_open past y ≡ true) (sym ((same_job_decides (k ∷ n) x).0 h)) (left_true (is_open past x) _ c)
+  ends-it past k n (ends x c) h = subst (λ y. is_open past y ≡ true) (sym ((same_job_decides (k ∷ n) x).0 h)) (first_so (is_open past x) _ c)
   ends-it past k n l h = absurd (true≠false (sym h))
 
   pub ended-opened : (past : History) → is_legal gives m past ≡ true → (k : Name × List ℕ) (n : JobName) → list_any (is_ended_entry (k ∷ n)) past ≡ true → list_any (is_opened_entry (k ∷ n)) past ≡ true
   ended-opened [] l k n h = h
   ended-opened (e ∷ past) l k n h =
-      or_right (is_opened_entry (k ∷ n) e) (list_any (is_opened_entry (k ∷ n)) past) (on_or (is_ended_entry (k ∷ n) e) (list_any (is_ended_entry (k ∷ n)) past) h (λ x. left_true (list_any (is_opened_entry (k ∷ n)) past) (not (list_any (is_ended_entry (k ∷ n)) past)) (ends-it past k n (last-legal gives m past e l) x)) (λ x. ended-opened past (left_true (is_legal gives m past) (is_legal_after gives m past e) l) k n x))
+      or_right (is_opened_entry (k ∷ n) e) (list_any (is_opened_entry (k ∷ n)) past) (on_or (is_ended_entry (k ∷ n) e) (list_any (is_ended_entry (k ∷ n)) past) h (λ x. first_so (list_any (is_opened_entry (k ∷ n)) past) (not (list_any (is_ended_entry (k ∷ n)) past)) (ends-it past k n (last-legal gives m past e l) x)) (λ x. ended-opened past (first_so (is_legal gives m past) (is_legal_after gives m past e) l) k n x))
 
   pub job-opened : (past : History) → is_legal gives m past ≡ true → (j : Job) → In j m.jobs → list_any (is_ended_entry j.name) past ≡ true → list_any (is_opened_entry j.name) past ≡ true
   job-opened past l j i h =
@@ -96,7 +98,7 @@ module _ (gives : Giving) (D : ℕ → Type 0) (m : Meaning) (w : IsWhole gives 
   pub ended-all : (past : History) → is_legal gives m past ≡ true → (j : Job) → In j m.jobs → list_any (is_ended_entry j.instance) past ≡ true → is_settled past j ≡ true
   ended-all [] l j i h = absurd (true≠false (sym h))
   ended-all (e ∷ past) l j i h =
-      stays_settled gives m e past j (on_or (is_ended_entry j.instance e) (list_any (is_ended_entry j.instance) past) h (λ x. ended-settled gives m (all-sound gives D m [] w) (are-jobs gives D m [] w) past j i (last-legal gives m past e l) x) (λ x. ended-all past (left_true (is_legal gives m past) (is_legal_after gives m past e) l) j i x))
+      stays_settled gives m e past j (on_or (is_ended_entry j.instance e) (list_any (is_ended_entry j.instance) past) h (λ x. ended-settled gives m (all-sound gives D m [] w) (are-jobs gives D m [] w) past j i (last-legal gives m past e l) x) (λ x. ended-all past (first_so (is_legal gives m past) (is_legal_after gives m past e) l) j i x))
 
   abbrev SettledBy : History → Job → Bool → Bool → Bool
   SettledBy past j b o = if b then list_any (is_bounced_entry j.name) past else (if o then list_any (is_ended_entry j.name) past else is_none (next_ask past j))

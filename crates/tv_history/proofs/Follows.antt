@@ -1,14 +1,17 @@
 -- One instance under one worker: the accepted tries of its jobs, and of what stands inside them, follow its order.
-use Rattle.std.proofs.lemmas.List.{map-append}
+use Rattle.std.proofs.lemmas.List.{map-append, length-map}
 use Rattle.std.specs.Prelude.{◌≡◌, refl, ℕ, zero, suc, ◌≤◌, ◌⊎◌, List, [], ◌∷◌, ◌++◌, map, length, Bool, true, false, not, ◌&&◌, ◌||◌, if◌then◌else◌, Option, Some, None, is_some, is_none, flat_map, ◌+◌, filter, cond}
 use Rattle.std.specs.List.{list_any, list_all}
 use Rattle.std.specs.Option.{option_map_or}
 use Rattle.std.proofs.Common.{sym, ap, subst, ◌∙◌, inl, inr, append_assoc, arith, append-nil, length-append}
-use Rattle.std.proofs.lemmas.Bool.{false_from_ne_true, true_from_ne_false, not-true}
+use Rattle.std.proofs.lemmas.Bool.{false_from_ne_true, true_from_ne_false, not-true, or_cases}
+use Rattle.std.specs.Cmp.{first_so, second_so}
 use Rattle.tv_history.proofs.Legal.{legal-of}
 use Rattle.tv_lemmas.proofs.Cases.{on_test, on_either}
+use Rattle.tv_lemmas.proofs.Lists.{all-weaken}
 use Rattle.tv_value.specs.Values.{JobName}
 use Rattle.tv_value.specs.Orders.{same_job}
+use Rattle.tv_value.proofs.OfJobNames.{same_job_decides}
 use Rattle.tv_gate.specs.Outcomes.{Giving}
 use Rattle.tv_dispatch.specs.Jobs.{Ask}
 use Rattle.tv_model.specs.Jobs.{Job, job_needs}
@@ -18,10 +21,10 @@ use Rattle.tv_model.specs.Meanings.{jobs_with_inside}
 use Rattle.tv_history.specs.Entries.{Entry, handed_out, accepted, bounced, opened, History, is_accepted, is_bounced_entry, is_ended_entry, is_begun_entry}
 use Rattle.tv_model.specs.Lists.{first_of_list}
 use Rattle.tv_history.specs.Histories.{is_settled, is_settled_name, all_known, is_open, is_running, is_ready, is_legal, is_legal_after}
-use Rattle.tv_model.proofs.Tests.{true≠false, left_true, right_true, both_true, or_right, same_job_decides, Each, all_weaken}
+use Rattle.tv_model.proofs.Tests.{true≠false, both_true, or_right, Each}
 use Rattle.tv_history.proofs.Needs.{stays_settled_name}
 use Rattle.tv_model.proofs.Turns.{In, or_left, AllRated, Found, first_turn-found, HasRate}
-use Rattle.tv_model.proofs.Order.{opened_order, turn_of, in-right, some_in, waiting, in-left, in-append, in-map, of-map, in-waiting, of-waiting, length-of_map, parted-length, in-parted, of-filter}
+use Rattle.tv_model.proofs.Order.{opened_order, turn_of, in-right, some_in, waiting, in-left, in-append, in-map, of-map, in-waiting, of-waiting, parted-length, in-parted, of-filter}
 use Rattle.tv_history.proofs.Running.{settled_of_name, idle_begun, going_on, ready-needs}
 use Rattle.tv_model.proofs.Members.{in-flat, of-flat, Apart, once-of_apart, each_in, any-in}
 use Rattle.tv_model.proofs.Whole.{IsWhole}
@@ -32,10 +35,8 @@ use Rattle.tv_history.proofs.Sums.{accepted_name, accepted-owned, bounces-it, bo
 use Rattle.tv_history.proofs.Permuted.{NamedTry, entry_try, ask_try}
 use Rattle.tv_history.proofs.OneWorker.{Before, IsLaidOut, is_by_one, is_by_one_after, OneRuns, OthersWait, newly-settled, accepted-begun, ended-begun, Begins, begins-first, none-settles, one-worker, not-both}
 use Rattle.tv_history.proofs.Taking.{Skipped, skip, NonePasses, turn-taken, join-append}
-use Rattle.tv_history.proofs.Tests.{all_in, true_of, none_pass, passing-in}
+use Rattle.tv_history.proofs.Tests.{all_in, none_pass, passing-in}
 pub use Rattle.tv_history.specs.Alone.{IsFirstPart, HaveTries}
-
--- ---- first parts
 
 -- ---- what was tried of some jobs
 
@@ -195,10 +196,10 @@ module _ (gives : Giving) (m : Meaning) where
         or_right (is_begun_entry j.name e) (was_begun past j) (on_test (is_settled past j) (λ h. settled-begun past legal j i b h) (λ h. new (newly-settled gives m w laid past e j h s)))
       where
         legal : is_legal gives m past ≡ true
-        legal = left_true (is_legal gives m past) (is_legal_after gives m past e) l
+        legal = first_so (is_legal gives m past) (is_legal_after gives m past e) l
 
         after : is_legal_after gives m past e ≡ true
-        after = right_true (is_legal gives m past) (is_legal_after gives m past e) l
+        after = second_so (is_legal gives m past) (is_legal_after gives m past e) l
 
         new : (is_bounced_entry j.name e ≡ true) ⊎ ((is_accepted j.name e ≡ true) ⊎ (is_ended_entry j.name e ≡ true)) → was_begun past j ≡ true
         new (inl h) = absurd (true≠false (sym (bounce-facts gives AtLeastOne m w past j (bounces-it gives AtLeastOne m w past j i (legal-of gives m past e after) h)).0 ∙ b))
@@ -212,13 +213,13 @@ module _ (gives : Giving) (m : Meaning) where
         stays_settled_name gives m e past n (on_test (is_settled past j) (λ k. bounced-needs past legal j i b k n h) (λ k. new (newly-settled gives m w laid past e j k s)))
       where
         legal : is_legal gives m past ≡ true
-        legal = left_true (is_legal gives m past) (is_legal_after gives m past e) l
+        legal = first_so (is_legal gives m past) (is_legal_after gives m past e) l
 
         after : is_legal_after gives m past e ≡ true
-        after = right_true (is_legal gives m past) (is_legal_after gives m past e) l
+        after = second_so (is_legal gives m past) (is_legal_after gives m past e) l
 
         new : (is_bounced_entry j.name e ≡ true) ⊎ ((is_accepted j.name e ≡ true) ⊎ (is_ended_entry j.name e ≡ true)) → is_settled_name m past n ≡ true
-        new (inl k) = all_in (is_settled_name m past) (job_needs j) (ready-needs gives m (all-sound gives AtLeastOne m [] w) (are-jobs gives AtLeastOne m [] w) past j i legal (left_true (is_ready m past j) (is_bounced j.ending) (bounces-it gives AtLeastOne m w past j i (legal-of gives m past e after) k))) n h
+        new (inl k) = all_in (is_settled_name m past) (job_needs j) (ready-needs gives m (all-sound gives AtLeastOne m [] w) (are-jobs gives AtLeastOne m [] w) past j i legal (first_so (is_ready m past j) (is_bounced j.ending) (bounces-it gives AtLeastOne m w past j i (legal-of gives m past e after) k))) n h
         new (inr (inl k)) = absurd (true≠false (sym b ∙ begun-tried gives AtLeastOne m w past j i legal (accepted-begun gives m w laid past j (legal-of gives m past e after) k)))
         new (inr (inr k)) = absurd (true≠false (sym b ∙ begun-tried gives AtLeastOne m w past j i legal (ended-begun gives m w laid past j i (legal-of gives m past e after) k)))
 
@@ -247,7 +248,7 @@ module _ (gives : Giving) (m : Meaning) where
     untried js f (e ∷ past) l h = ap (λ z. z ++ try_within js e) (untried js f past legal not_before) ∙ (on_either (try-case e) (λ t. t.tries js ∙ of_try t (is_of js t.name) refl) (λ g. g js))
       where
         legal : is_legal gives m past ≡ true
-        legal = left_true (is_legal gives m past) (is_legal_after gives m past e) l
+        legal = first_so (is_legal gives m past) (is_legal_after gives m past e) l
 
         before : (a b : Bool) → (a || b) ≡ false → b ≡ false
         before true b p = absurd (true≠false p)
@@ -260,7 +261,7 @@ module _ (gives : Giving) (m : Meaning) where
         of_try t false q = refl
         of_try t true q =
             let x = some_in (λ (j : Job). same_job t.name j.name) js q in
-            let r = tried-job past e legal (right_true (is_legal gives m past) (is_legal_after gives m past e) l) t in
+            let r = tried-job past e legal (second_so (is_legal gives m past) (is_legal_after gives m past e) l) t in
             absurd (true≠false (sym (subst (λ y. was_begun past y ≡ true) (once r.job x.0 r.mine (f x.0 x.1) (r.named ∙ (same_job_decides t.name x.0.name).0 x.2)) r.begun_it) ∙ not_before x.0 x.1))
 
     -- ---- one instance
@@ -389,7 +390,7 @@ module _ (gives : Giving) (m : Meaning) where
           ready_c = on_either (going_on gives m (all-sound gives AtLeastOne m [] w) (are-jobs gives AtLeastOne m [] w) past c.job begins_c.goes_on) (λ h. absurd (true≠false (sym (idle_begun gives m (all-sound gives AtLeastOne m [] w) (are-jobs gives AtLeastOne m [] w) past c.job h).0 ∙ cn))) (λ h. h)
 
           open_J : is_open past J ≡ true
-          open_J = subst (λ n. is_open past n ≡ true) (own c ci).in_instance (left_true (is_open past c.job.instance) (not (is_running past c.job)) (left_true (is_open past c.job.instance && not (is_running past c.job)) (not (is_settled past c.job)) (left_true (is_open past c.job.instance && not (is_running past c.job) && not (is_settled past c.job)) (all_known m past c.job.waits) ready_c)))
+          open_J = subst (λ n. is_open past n ≡ true) (own c ci).in_instance (first_so (is_open past c.job.instance) (not (is_running past c.job)) (first_so (is_open past c.job.instance && not (is_running past c.job)) (not (is_settled past c.job)) (first_so (is_open past c.job.instance && not (is_running past c.job) && not (is_settled past c.job)) (all_known m past c.job.waits) ready_c)))
 
           -- the one whose turn it was is settled
           current_settled : (d : Opened) → In d os → was_begun past d.job ≡ true → is_settled past d.job ≡ true
@@ -461,7 +462,7 @@ module _ (gives : Giving) (m : Meaning) where
 
           -- what stands before c waits
           others_wait : (u : Opened) → In u parts.us → all_done skipped.taken (turn_of u).needs ≡ false
-          others_wait u h = false_from_ne_true (all_done skipped.taken (turn_of u).needs) (λ q. true≠false (sym (all_weaken (λ n. list_any (same_job n) skipped.taken) (is_settled_name m (e ∷ past)) (λ n g. stays_settled_name gives m e past n (skipped.settled n g)) (job_needs u.job) q) ∙ now.1 c.job u.job (own c ci).mine (own u r.0).mine ((own u r.0).in_instance ∙ sym (own c ci).in_instance) c_runs (not_settled u.job (own u r.0).mine (unbegun u.job (own u r.0).mine r.1 r.2)) (still_unbegun u k) (inr (st.ordered u c (subst (λ l. Before u c l) (sym parts.whole) (before-left_of parts.us c parts.vs u h))))))
+          others_wait u h = false_from_ne_true (all_done skipped.taken (turn_of u).needs) (λ q. true≠false (sym (all-weaken (λ n. list_any (same_job n) skipped.taken) (is_settled_name m (e ∷ past)) (λ n g. stays_settled_name gives m e past n (skipped.settled n g)) (job_needs u.job) q) ∙ now.1 c.job u.job (own c ci).mine (own u r.0).mine ((own u r.0).in_instance ∙ sym (own c ci).in_instance) c_runs (not_settled u.job (own u r.0).mine (unbegun u.job (own u r.0).mine r.1 r.2)) (still_unbegun u k) (inr (st.ordered u c (subst (λ l. Before u c l) (sym parts.whole) (before-left_of parts.us c parts.vs u h))))))
             where
               k : In u rest_of_them
               k = in-left u parts.us parts.vs h
@@ -573,7 +574,7 @@ module _ (gives : Giving) (m : Meaning) where
                 ∙ ap (λ z. as_tries (st.front ++ current_asks st.current) ++ z) (sym c_untried);
             enough = turned.enough;
             begun_now = (ci, begun_c);
-            settled = λ k h. by_name k (true_of (same_job k c.job.name) (list_any (same_job k) skipped.taken) h);
+            settled = λ k h. by_name k (or_cases (same_job k c.job.name) (list_any (same_job k) skipped.taken) h);
             cover = λ o i. covers o (st.cover o i);
             bounced_ones = λ b h. st.bounced_ones b (skipped.kept b h);
             others = λ x h. let r = st.others x (in_xs x h) in (r.0, r.1, still_unbegun x h);
@@ -620,7 +621,7 @@ module _ (gives : Giving) (m : Meaning) where
           xs = other_os;
           same = ap (λ l. asks_by_turns (length os) [] l) (map-append turn_of bounced_os other_os);
           tried = refl;
-          enough = fits (length (map turn_of bounced_os ++ map turn_of other_os)) (length os) (length-append (map turn_of bounced_os) (map turn_of other_os) ∙ sums (length-of_map turn_of bounced_os) (length-of_map turn_of other_os) ∙ parted-length (λ o. is_bounced o.job.ending) os);
+          enough = fits (length (map turn_of bounced_os ++ map turn_of other_os)) (length os) (length-append (map turn_of bounced_os) (map turn_of other_os) ∙ sums (length-map bounced_os turn_of) (length-map other_os turn_of) ∙ parted-length (λ o. is_bounced o.job.ending) os);
           begun_now = tt;
           settled = λ k h. absurd (true≠false (sym h));
           cover = λ o i. covers o (in-parted (λ u. is_bounced u.job.ending) o os i);
@@ -640,24 +641,24 @@ module _ (gives : Giving) (m : Meaning) where
             covers o (inr h) = inr (inl h)
 
         followed-step : (past : History) (e : Entry) → is_legal gives m (e ∷ past) ≡ true → is_by_one m (e ∷ past) ≡ true → Followed os past → Followed os (e ∷ past)
-        followed-step past e l b st = on_test (list_any (begins_now past e legal after st) os) (λ q. let r = some_in (begins_now past e legal after st) os q in next_turn past e legal after st one mine r.0 r.1 (left_true (is_begun_entry r.0.job.name e) (not (was_begun past r.0.job)) r.2) (not-true (was_begun past r.0.job) (right_true (is_begun_entry r.0.job.name e) (not (was_begun past r.0.job)) r.2))) (λ q. stays past e legal after st (each_in (λ o. begins_now past e legal after st o ≡ false) os (none_pass (begins_now past e legal after st) os q)))
+        followed-step past e l b st = on_test (list_any (begins_now past e legal after st) os) (λ q. let r = some_in (begins_now past e legal after st) os q in next_turn past e legal after st one mine r.0 r.1 (first_so (is_begun_entry r.0.job.name e) (not (was_begun past r.0.job)) r.2) (not-true (was_begun past r.0.job) (second_so (is_begun_entry r.0.job.name e) (not (was_begun past r.0.job)) r.2))) (λ q. stays past e legal after st (each_in (λ o. begins_now past e legal after st o ≡ false) os (none_pass (begins_now past e legal after st) os q)))
           where
             legal : is_legal gives m past ≡ true
-            legal = left_true (is_legal gives m past) (is_legal_after gives m past e) l
+            legal = first_so (is_legal gives m past) (is_legal_after gives m past e) l
 
             after : is_legal_after gives m past e ≡ true
-            after = right_true (is_legal gives m past) (is_legal_after gives m past e) l
+            after = second_so (is_legal gives m past) (is_legal_after gives m past e) l
 
             one : is_by_one m past ≡ true
-            one = left_true (is_by_one m past) (is_by_one_after m past e) b
+            one = first_so (is_by_one m past) (is_by_one_after m past e) b
 
             mine : is_by_one_after m past e ≡ true
-            mine = right_true (is_by_one m past) (is_by_one_after m past e) b
+            mine = second_so (is_by_one m past) (is_by_one_after m past e) b
 
         pub followed : (past : History) → is_legal gives m past ≡ true → is_by_one m past ≡ true → Followed os past
         followed [] l b = start
         followed (e ∷ past) l b =
-            followed-step past e l b (followed past (left_true (is_legal gives m past) (is_legal_after gives m past e) l) (left_true (is_by_one m past) (is_by_one_after m past e) b))
+            followed-step past e l b (followed past (first_so (is_legal gives m past) (is_legal_after gives m past e) l) (first_so (is_by_one m past) (is_by_one_after m past e) b))
 
         -- the accepted tries are the first part of the order
         pub instance-first_part : (past : History) → is_legal gives m past ≡ true → is_by_one m past ≡ true → IsFirstPart (tries_within all_jobs past) (as_tries (opened_order os))

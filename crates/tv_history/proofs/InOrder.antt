@@ -1,8 +1,10 @@
 -- THE ORDER OF ONE WORKER: what one worker has asked is at every moment the first part of the stated order, and all of it at the end.
 use Rattle.std.specs.Prelude.{◌≡◌, refl, ℕ, List, [], ◌∷◌, ◌++◌, map, true, if◌then◌else◌}
 use Rattle.std.proofs.Common.{sym, ap, subst, ◌∙◌, inl}
+use Rattle.std.specs.Cmp.{first_so}
 use Rattle.tv_value.specs.Orders.{same_job}
 use Rattle.tv_value.specs.Values.{Name, Value}
+use Rattle.tv_value.proofs.OfJobNames.{same_job_decides}
 use Rattle.tv_flow.specs.Flows.{Flow}
 use Rattle.tv_gate.specs.Outcomes.{Giving}
 use Rattle.tv_model.specs.Jobs.{Job}
@@ -10,7 +12,7 @@ use Rattle.tv_model.specs.Made.{Meaning}
 use Rattle.tv_model.specs.Meanings.{flow_meaning}
 use Rattle.tv_history.specs.Entries.{Entry, accepted, bounced, ended, History}
 use Rattle.tv_history.specs.Histories.{is_legal, is_legal_after, is_done}
-use Rattle.tv_model.proofs.Tests.{Each, left_true, same_job_decides}
+use Rattle.tv_model.proofs.Tests.{Each}
 use Rattle.tv_model.proofs.Whole.{IsWhole, StepsHave}
 use Rattle.tv_model.specs.Turns.{ask_order}
 use Rattle.tv_model.proofs.Members.{any-in}
@@ -28,7 +30,7 @@ module _ (gives : Giving) (m : Meaning) (w : IsWhole gives AtLeastOne m []) wher
   all-within : (past : History) → is_legal gives m past ≡ true → tries_within m.jobs past ≡ all_tries past
   all-within [] l = refl
   all-within (e ∷ past) l =
-      ap (λ z. z ++ try_within m.jobs e) (all-within past (left_true (is_legal gives m past) (is_legal_after gives m past e) l)) ∙ ap (λ z. all_tries past ++ z) (by e l)
+      ap (λ z. z ++ try_within m.jobs e) (all-within past (first_so (is_legal gives m past) (is_legal_after gives m past e) l)) ∙ ap (λ z. all_tries past ++ z) (by e l)
     where
       by : (e : Entry) → is_legal gives m (e ∷ past) ≡ true → try_within m.jobs e ≡ entry_try e
       by (accepted k c t r) l =

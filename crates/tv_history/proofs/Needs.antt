@@ -4,10 +4,12 @@ use Rattle.std.specs.List.{list_any, list_all}
 use Rattle.std.specs.Option.{option_map_or}
 use Rattle.std.proofs.Common.{sym, subst, ◌∙◌}
 use Rattle.std.proofs.lemmas.List.Folds.{list_all-append}
+use Rattle.std.specs.Cmp.{first_so, second_so}
+use Rattle.tv_lemmas.proofs.Lists.{all-weaken}
 use Rattle.tv_model.proofs.Turns.{In}
 use Rattle.tv_model.proofs.Members.{each_in}
 use Rattle.tv_history.proofs.Legal.{last-legal, Legal, closes, passes}
-use Rattle.tv_model.proofs.Tests.{true≠false, left_true, right_true, both_true, or_right, Each, all_weaken}
+use Rattle.tv_model.proofs.Tests.{true≠false, both_true, or_right, Each}
 use Rattle.tv_value.specs.Values.{JobName}
 use Rattle.tv_value.specs.Orders.{same_job}
 use Rattle.tv_strategy.specs.Origins.{Origin, Known, at_start, by_job, by_level, needs_of}
@@ -20,8 +22,6 @@ use Rattle.tv_history.specs.Entries.{Entry, History, is_accepted, is_bounced_ent
 use Rattle.tv_model.specs.Levels.{Level, levels}
 use Rattle.tv_model.specs.Lists.{rest_of, first_of_list}
 use Rattle.tv_history.specs.Histories.{asks_left, next_ask, is_settled, is_settled_name, has_entry, is_known, all_known, can_settle, is_open, is_legal, is_legal_after}
-
--- ---- tests
 
 -- ---- what is settled stays settled
 
@@ -76,15 +76,15 @@ module _ (gives : Giving) (m : Meaning) where
   needs_of-settled past rec (o ∷ os) s k =
       list_all-append (is_settled_name m past) o.needs (needs_of os)
       ∙ both_true (list_all (is_settled_name m past) o.needs) (list_all (is_settled_name m past) (needs_of os))
-      (rec o s.0 (left_true (is_known m past o.known) (all_known m past os) k))
-      (needs_of-settled past rec os s.1 (right_true (is_known m past o.known) (all_known m past os) k))
+      (rec o s.0 (first_so (is_known m past o.known) (all_known m past os) k))
+      (needs_of-settled past rec os s.1 (second_so (is_known m past o.known) (all_known m past os) k))
 
   -- where an entry closes a list or passes a fault, its sources were known
   abbrev Closing : History → Origin → JobName → Type 0
   Closing past o n = (l : Level) × (all_known m past l.sources ≡ true) × (o.needs ≡ needs_of l.sources) × Each IsSound l.sources
 
   closing : (past : History) (o : Origin) (n : JobName) → AllSound → Each (IsSourced o n) (levels m.steps) → (l : Level) → In l (levels m.steps) → can_settle m past l ≡ true → same_job n l.name ≡ true → Closing past o n
-  closing past o n a s l i c h = (l, right_true (is_open past l.instance && not (has_entry past l.name)) (all_known m past l.sources) c, each_in (IsSourced o n) (levels m.steps) s l i h, each_in (λ l. Each IsSound l.sources) (levels m.steps) a l i)
+  closing past o n a s l i c h = (l, second_so (is_open past l.instance && not (has_entry past l.name)) (all_known m past l.sources) c, each_in (IsSourced o n) (levels m.steps) s l i h, each_in (λ l. Each IsSound l.sources) (levels m.steps) a l i)
 
   closing_entry : (past : History) {e : Entry} (o : Origin) (n : JobName) → AllSound → Each (IsSourced o n) (levels m.steps) → is_level_entry n e ≡ true → Legal gives m past e → Closing past o n
   closing_entry past o n a s h (closes l k i c q) = closing past o n a s l i c h
@@ -94,10 +94,10 @@ module _ (gives : Giving) (m : Meaning) where
   level_case : (past : History) (e : Entry) (o : Origin) (n : JobName) → AllSound → Legal gives m past e → ((q : Origin) → IsSound q → is_known m past q.known ≡ true → NeedsSettled past q.needs) → (has_entry past n ≡ true → NeedsSettled past o.needs) → Each (IsSourced o n) (levels m.steps) → (b : Bool) → is_level_entry n e ≡ b → (b || has_entry past n) ≡ true → NeedsSettled (e ∷ past) o.needs
   level_case past e o n a l rec old s true q h =
       let c = closing_entry past o n a s q l in
-      all_weaken (is_settled_name m past) (is_settled_name m (e ∷ past)) (stays_settled_name e past) o.needs
+      all-weaken (is_settled_name m past) (is_settled_name m (e ∷ past)) (stays_settled_name e past) o.needs
       (subst (λ ns. NeedsSettled past ns) (sym c.2) (needs_of-settled past rec c.0.sources c.3 c.1))
   level_case past e o n a l rec old s false q h =
-      all_weaken (is_settled_name m past) (is_settled_name m (e ∷ past)) (stays_settled_name e past) o.needs (old h)
+      all-weaken (is_settled_name m past) (is_settled_name m (e ∷ past)) (stays_settled_name e past) o.needs (old h)
 
   -- a known node has all its needs settled
   pub known-needs : AllSound → (past : History) → is_legal gives m past ≡ true → (o : Origin) (k : Known) → IsSoundAt o k → is_known m past k ≡ true → NeedsSettled past o.needs
@@ -105,6 +105,6 @@ module _ (gives : Giving) (m : Meaning) where
   known-needs a past l o (by_job n) s h = subst (λ ns. NeedsSettled past ns) (sym s) (both_true (is_settled_name m past n) true h refl)
   known-needs a [] l o (by_level n) s h = absurd (true≠false (sym h))
   known-needs a (e ∷ past) l o (by_level n) s h =
-      let legal = left_true (is_legal gives m past) (is_legal_after gives m past e) l in
+      let legal = first_so (is_legal gives m past) (is_legal_after gives m past e) l in
       level_case past e o n a (last-legal gives m past e l)
       (λ q t k. known-needs a past legal q q.known t k) (λ k. known-needs a past legal o (by_level n) s k) s (is_level_entry n e) refl h

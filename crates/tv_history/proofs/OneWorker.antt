@@ -5,10 +5,12 @@ use Rattle.std.specs.Option.{option_map_or}
 use Rattle.std.proofs.Common.{arith, sym, ap, subst, ◌∙◌, inl, inr, append-nil, length-append}
 use Rattle.std.proofs.lemmas.Bool.{false_from_ne_true, not-true, or_parts}
 use Rattle.std.proofs.lemmas.List.{nil_from_length}
+use Rattle.std.specs.Cmp.{first_so, second_so}
 use Rattle.tv_history.proofs.Legal.{legal-of, Legal, accepts}
 use Rattle.tv_lemmas.proofs.Cases.{on_either, on_or}
 use Rattle.tv_value.specs.Values.{JobName}
 use Rattle.tv_value.specs.Orders.{same_job, same_name}
+use Rattle.tv_value.proofs.OfJobNames.{same_job_decides}
 use Rattle.tv_strategy.specs.Origins.{Origin, Known, at_start, by_job, by_level}
 use Rattle.tv_gate.specs.Outcomes.{Giving}
 use Rattle.tv_model.specs.Jobs.{Job, job_needs}
@@ -18,7 +20,7 @@ use Rattle.tv_history.specs.Entries.{Entry, handed_out, accepted, bounced, close
 use Rattle.tv_model.specs.Levels.{levels}
 use Rattle.tv_model.specs.Lists.{first_of_list, rest_of}
 use Rattle.tv_history.specs.Histories.{asks_left, next_ask, is_settled, is_settled_name, all_known, is_open, is_running, is_idle, is_ready, has_place, may_go_on, is_offered, can_open, can_settle_more, is_at, is_legal, is_legal_after}
-use Rattle.tv_model.proofs.Tests.{Each, true≠false, left_true, right_true, both_true, or_right, same_job_decides}
+use Rattle.tv_model.proofs.Tests.{Each, true≠false, both_true, or_right}
 use Rattle.tv_history.proofs.Needs.{stays_settled}
 use Rattle.tv_model.proofs.Turns.{In}
 use Rattle.tv_model.proofs.Fed.{each-flat_map}
@@ -166,7 +168,7 @@ module _ (gives : Giving) (m : Meaning) where
     ended-begun past {e = e} j i l h =
         let c = (are-jobs gives AtLeastOne m [] w).has_name j i in
         let o = ends-it gives AtLeastOne m w past c.0 c.1 l (subst (λ n. is_ended_entry n e ≡ true) c.2 h) in
-        any_weaken (is_opened_entry j.name) (is_begun_entry j.name) (opened_begins j.name) past (subst (λ n. list_any (is_opened_entry n) past ≡ true) (sym c.2) (left_true (list_any (is_opened_entry (c.0 ∷ c.1)) past) (not (list_any (is_ended_entry (c.0 ∷ c.1)) past)) o))
+        any_weaken (is_opened_entry j.name) (is_begun_entry j.name) (opened_begins j.name) past (subst (λ n. list_any (is_opened_entry n) past ≡ true) (sym c.2) (first_so (list_any (is_opened_entry (c.0 ∷ c.1)) past) (not (list_any (is_ended_entry (c.0 ∷ c.1)) past)) o))
 
     -- ---- where a job begins
 
@@ -181,20 +183,20 @@ module _ (gives : Giving) (m : Meaning) where
 
     pub begins-first : (past : History) (e : Entry) (j : Job) → In j m.jobs → is_legal_after gives m past e ≡ true → is_by_one_after m past e ≡ true → is_begun_entry j.name e ≡ true → Begins past j
     begins-first past (handed_out n c t) j i l b h =
-        let two = left_true (not (can_settle_more m past) && option_map_or (λ j. is_at j n) (find (λ j. is_offered m past j || can_open m past j) m.jobs) false) (nobody_out m past) b in
-        let f = found-first (λ j. is_offered m past j || can_open m past j) (λ j. is_at j n) m.jobs (right_true (not (can_settle_more m past)) _ two) in
+        let two = first_so (not (can_settle_more m past) && option_map_or (λ j. is_at j n) (find (λ j. is_offered m past j || can_open m past j) m.jobs) false) (nobody_out m past) b in
+        let f = found-first (λ j. is_offered m past j || can_open m past j) (λ j. is_at j n) m.jobs (second_so (not (can_settle_more m past)) _ two) in
         let same = once f.0 j f.1 i (sym ((same_job_decides n f.0.name).0 f.3) ∙ sym ((same_job_decides j.name n).0 h)) in
-        record { quiet = not-true (can_settle_more m past) (left_true (not (can_settle_more m past)) _ two); none_out = none-out_of past (right_true (not (can_settle_more m past) && option_map_or (λ j. is_at j n) (find (λ j. is_offered m past j || can_open m past j) m.jobs) false) (nobody_out m past) b); goes_on = begins gives m (all-sound gives AtLeastOne m [] w) (are-jobs gives AtLeastOne m [] w) past j i (legal-of gives m past (handed_out n c t) l) h; first = λ x k g. subst (λ y. (x ≡ y) ⊎ Before y x m.jobs) same (f.4 x k g) }
+        record { quiet = not-true (can_settle_more m past) (first_so (not (can_settle_more m past)) _ two); none_out = none-out_of past (second_so (not (can_settle_more m past) && option_map_or (λ j. is_at j n) (find (λ j. is_offered m past j || can_open m past j) m.jobs) false) (nobody_out m past) b); goes_on = begins gives m (all-sound gives AtLeastOne m [] w) (are-jobs gives AtLeastOne m [] w) past j i (legal-of gives m past (handed_out n c t) l) h; first = λ x k g. subst (λ y. (x ≡ y) ⊎ Before y x m.jobs) same (f.4 x k g) }
     begins-first past (opened n) j i l b h =
-        let f = found-first (λ j. is_offered m past j || can_open m past j) (λ j. is_at j n && can_open m past j) m.jobs (right_true (not (can_settle_more m past)) _ l) in
-        let same = once f.0 j f.1 i (sym ((same_job_decides n f.0.name).0 (left_true (is_at f.0 n) (can_open m past f.0) f.3)) ∙ sym ((same_job_decides j.name n).0 h)) in
-        record { quiet = not-true (can_settle_more m past) (left_true (not (can_settle_more m past)) _ l); none_out = none-out_of past b; goes_on = begins gives m (all-sound gives AtLeastOne m [] w) (are-jobs gives AtLeastOne m [] w) past j i (legal-of gives m past (opened n) l) h; first = λ x k g. subst (λ y. (x ≡ y) ⊎ Before y x m.jobs) same (f.4 x k g) }
+        let f = found-first (λ j. is_offered m past j || can_open m past j) (λ j. is_at j n && can_open m past j) m.jobs (second_so (not (can_settle_more m past)) _ l) in
+        let same = once f.0 j f.1 i (sym ((same_job_decides n f.0.name).0 (first_so (is_at f.0 n) (can_open m past f.0) f.3)) ∙ sym ((same_job_decides j.name n).0 h)) in
+        record { quiet = not-true (can_settle_more m past) (first_so (not (can_settle_more m past)) _ l); none_out = none-out_of past b; goes_on = begins gives m (all-sound gives AtLeastOne m [] w) (are-jobs gives AtLeastOne m [] w) past j i (legal-of gives m past (opened n) l) h; first = λ x k g. subst (λ y. (x ≡ y) ⊎ Before y x m.jobs) same (f.4 x k g) }
     begins-first past e j i l b h = absurd (true≠false (sym h))
 
     -- ---- what runs
 
     run-parts : (past : History) (j : Job) → is_running past j ≡ true → (begun past j ≡ true) × (is_settled past j ≡ false)
-    run-parts past j h = (left_true (begun past j) (not (is_settled past j)) h, not-true (is_settled past j) (right_true (begun past j) (not (is_settled past j)) h))
+    run-parts past j h = (first_so (begun past j) (not (is_settled past j)) h, not-true (is_settled past j) (second_so (begun past j) (not (is_settled past j)) h))
 
     make-run : (past : History) (j : Job) → begun past j ≡ true → is_settled past j ≡ false → is_running past j ≡ true
     make-run past j b s = both_true (begun past j) (not (is_settled past j)) b (ap not s)
@@ -251,8 +253,8 @@ module _ (gives : Giving) (m : Meaning) where
           by : (is_bounced_entry z.name e ≡ true) ⊎ ((is_accepted z.name e ≡ true) ⊎ (is_ended_entry z.name e ≡ true)) → ⊥
           by (inl x) =
               let b = bounces-it gives AtLeastOne m w past z h (legal-of gives m past e after) x in
-              let q = left_true (is_ready m past z) (is_bounced z.ending) b in
-              true≠false (sym (ready-needs gives m (all-sound gives AtLeastOne m [] w) (are-jobs gives AtLeastOne m [] w) past z h legal q) ∙ wait c z i h s r f (ready-parts gives AtLeastOne m w past z q) (inl (right_true (is_ready m past z) (is_bounced z.ending) b)))
+              let q = first_so (is_ready m past z) (is_bounced z.ending) b in
+              true≠false (sym (ready-needs gives m (all-sound gives AtLeastOne m [] w) (are-jobs gives AtLeastOne m [] w) past z h legal q) ∙ wait c z i h s r f (ready-parts gives AtLeastOne m w past z q) (inl (second_so (is_ready m past z) (is_bounced z.ending) b)))
           by (inr (inl x)) = is_c (accepted-begun past z (legal-of gives m past e after) x)
           by (inr (inr x)) = is_c (ended-begun past z h (legal-of gives m past e after) x)
 
@@ -300,7 +302,7 @@ module _ (gives : Giving) (m : Meaning) where
           open_c : is_open past c.instance ≡ true
           open_c =
               let q = on_either (going_on gives m (all-sound gives AtLeastOne m [] w) (are-jobs gives AtLeastOne m [] w) past c f.goes_on) (λ q. let p = idle_begun gives m (all-sound gives AtLeastOne m [] w) (are-jobs gives AtLeastOne m [] w) past c q in absurd (true≠false (sym (make-run past c p.0 p.1) ∙ r))) (λ q. q) in
-              left_true (is_open past c.instance) (not (is_running past c)) (left_true (is_open past c.instance && not (is_running past c)) (not (is_settled past c)) (left_true (is_open past c.instance && not (is_running past c) && not (is_settled past c)) (all_known m past c.waits) q))
+              first_so (is_open past c.instance) (not (is_running past c)) (first_so (is_open past c.instance && not (is_running past c)) (not (is_settled past c)) (first_so (is_open past c.instance && not (is_running past c) && not (is_settled past c)) (all_known m past c.waits) q))
 
           open_y : is_open past y.instance ≡ true
           open_y = subst (λ n. is_open past n ≡ true) (sym s) open_c
@@ -315,8 +317,8 @@ module _ (gives : Giving) (m : Meaning) where
           offered_y nb true p q = on_either (f.first y h (goes gives m w past legal f.quiet y u nb (or_right (is_idle past y) (is_ready m past y && not (is_bounced y.ending) && has_place m past y) (both_true (is_ready m past y && not (is_bounced y.ending)) (has_place m past y) (both_true (is_ready m past y) (not (is_bounced y.ending)) ready_y (ap not nb)) p)))) (λ t. absurd (true≠false (sym (subst (λ x. is_begun_entry x.name e ≡ true) (sym t) b) ∙ ne))) (λ t. absurd (not-both (λ (v : Job). v.name) m.jobs w.jobs_apart y c q t))
           offered_y nb false p q =
               let z = full (λ k. same_job k.instance y.instance && same_name k.step y.step && is_running past k) m.jobs y.limit (w.jobs y h).limit p in
-              let zr = right_true (same_job z.0.instance y.instance && same_name z.0.step y.step) (is_running past z.0) z.2 in
-              let zs = (same_job_decides z.0.instance y.instance).0 (left_true (same_job z.0.instance y.instance) (same_name z.0.step y.step) (left_true (same_job z.0.instance y.instance && same_name z.0.step y.step) (is_running past z.0) z.2)) in
+              let zr = second_so (same_job z.0.instance y.instance && same_name z.0.step y.step) (is_running past z.0) z.2 in
+              let zs = (same_job_decides z.0.instance y.instance).0 (first_so (same_job z.0.instance y.instance) (same_name z.0.step y.step) (first_so (same_job z.0.instance y.instance && same_name z.0.step y.step) (is_running past z.0) z.2)) in
               absurd (true≠false (sym (subst (λ x. is_running past x ≡ true) (sym (clash c z.0 i z.1 (sym s ∙ sym zs) b (unsettled-before past e c cs) zr)) zr) ∙ r))
 
           by : (c2 : Bool) → is_bounced y.ending ≡ c2 → (is_bounced y.ending ≡ true) ⊎ Before y c m.jobs → NeedsSettled past y ≡ false
@@ -343,8 +345,8 @@ module _ (gives : Giving) (m : Meaning) where
     pub one-worker : (past : History) → is_legal gives m past ≡ true → is_by_one m past ≡ true → OneRuns past × OthersWait past
     one-worker [] l b = (λ j k i h s r u. absurd (true≠false (sym r)), λ c y i h s r u n o. absurd (true≠false (sym r)))
     one-worker (e ∷ past) l b =
-        let legal = left_true (is_legal gives m past) (is_legal_after gives m past e) l in
-        let after = right_true (is_legal gives m past) (is_legal_after gives m past e) l in
-        let mine = right_true (is_by_one m past) (is_by_one_after m past e) b in
-        let r = one-worker past legal (left_true (is_by_one m past) (is_by_one_after m past e) b) in
+        let legal = first_so (is_legal gives m past) (is_legal_after gives m past e) l in
+        let after = second_so (is_legal gives m past) (is_legal_after gives m past e) l in
+        let mine = second_so (is_by_one m past) (is_by_one_after m past e) b in
+        let r = one-worker past legal (first_so (is_by_one m past) (is_by_one_after m past e) b) in
         (one-after past e legal after mine r.0 r.1, wait-after past e legal after mine r.0 r.1)

@@ -3,8 +3,11 @@ use Rattle.std.specs.Prelude.{◌≡◌, refl, ℕ, List, [], ◌∷◌, ◌++�
 use Rattle.std.proofs.Common.{sym, ap, subst, ◌∙◌, inl, inr, append_assoc}
 use Rattle.std.proofs.lemmas.List.{map-append}
 use Rattle.std.proofs.lemmas.List.Sorted.{IsPermutation-refl, IsPermutation-sym, IsPermutation-map, IsPermutation-append_left, IsPermutation-append_right, IsPermutation-trans}
+use Rattle.std.specs.Cmp.{first_so}
+use Rattle.tv_lemmas.proofs.Lists.{permute-front}
 use Rattle.tv_value.specs.Values.{JobName}
 use Rattle.tv_value.specs.Orders.{same_job}
+use Rattle.tv_value.proofs.OfJobNames.{same_job_decides}
 use Rattle.tv_flow.specs.Flows.{Document}
 use Rattle.tv_gate.specs.Outcomes.{Giving}
 use Rattle.tv_dispatch.specs.Jobs.{Ask}
@@ -13,8 +16,8 @@ use Rattle.tv_model.specs.Made.{Meaning}
 use Rattle.tv_model.specs.Meanings.{meaning, nesting_limit}
 use Rattle.tv_history.specs.Entries.{Entry, accepted, ended, History}
 use Rattle.tv_history.specs.Histories.{is_settled, is_legal, is_legal_after, is_done}
-use Rattle.tv_model.proofs.Tests.{true≠false, left_true, same_job_decides}
-use Rattle.tv_model.proofs.Turns.{In, front}
+use Rattle.tv_model.proofs.Tests.{true≠false}
+use Rattle.tv_model.proofs.Turns.{In}
 use Rattle.tv_model.proofs.Members.{Apart}
 use Rattle.tv_model.proofs.Whole.{IsWhole}
 use Rattle.tv_history.proofs.Ready.{AnyNumber, document-whole}
@@ -36,7 +39,7 @@ two-parts f g [] = IsPermutation-refl []
 two-parts f g (x ∷ xs) =
     IsPermutation-trans _ _ _ (IsPermutation-append_right (f x ++ g x) (flat_map (λ y. f y ++ g y) xs) (flat_map f xs ++ flat_map g xs) (two-parts f g xs))
     (subst (λ l. IsPermutation l ((f x ++ flat_map f xs) ++ (g x ++ flat_map g xs))) (sym (append_assoc (f x) (g x) (flat_map f xs ++ flat_map g xs)))
-    (subst (λ l. IsPermutation (f x ++ (g x ++ (flat_map f xs ++ flat_map g xs))) l) (sym (append_assoc (f x) (flat_map f xs) (g x ++ flat_map g xs))) (IsPermutation-append_right (f x) (g x ++ (flat_map f xs ++ flat_map g xs)) (flat_map f xs ++ (g x ++ flat_map g xs)) (front (g x) (flat_map f xs) (flat_map g xs)))))
+    (subst (λ l. IsPermutation (f x ++ (g x ++ (flat_map f xs ++ flat_map g xs))) l) (sym (append_assoc (f x) (flat_map f xs) (g x ++ flat_map g xs))) (IsPermutation-append_right (f x) (g x ++ (flat_map f xs ++ flat_map g xs)) (flat_map f xs ++ (g x ++ flat_map g xs)) (permute-front (g x) (flat_map f xs) (flat_map g xs)))))
 
 flat-same : {A B : Type 0} (f g : A → List B) (xs : List A) → ((x : A) → In x xs → f x ≡ g x) → flat_map f xs ≡ flat_map g xs
 flat-same f g [] h = refl
@@ -82,7 +85,7 @@ module _ (gives : Giving) (D : ℕ → Type 0) (m : Meaning) (w : IsWhole gives 
   tries-parted (e ∷ past) l =
       IsPermutation-trans _ _ _
       (subst (λ x. IsPermutation x (flat_map (λ (j : Job). with_name j.name (tries_of j.name past)) m.jobs ++ flat_map (λ (j : Job). with_name j.name (try_of j.name e)) m.jobs)) (sym (flat-same (λ (j : Job). with_name j.name (tries_of j.name past ++ try_of j.name e)) (λ (j : Job). with_name j.name (tries_of j.name past) ++ with_name j.name (try_of j.name e)) m.jobs (λ j i. map-append (λ k. (j.name, k)) (tries_of j.name past) (try_of j.name e)))) (two-parts (λ (j : Job). with_name j.name (tries_of j.name past)) (λ (j : Job). with_name j.name (try_of j.name e)) m.jobs))
-      (subst (λ x. IsPermutation (flat_map (λ (j : Job). with_name j.name (tries_of j.name past)) m.jobs ++ x) (all_tries past ++ entry_try e)) (sym (entry-owner (e ∷ past) l e (inl refl))) (IsPermutation-append_left (entry_try e) (flat_map (λ (j : Job). with_name j.name (tries_of j.name past)) m.jobs) (all_tries past) (tries-parted past (left_true (is_legal gives m past) (is_legal_after gives m past e) l))))
+      (subst (λ x. IsPermutation (flat_map (λ (j : Job). with_name j.name (tries_of j.name past)) m.jobs ++ x) (all_tries past ++ entry_try e)) (sym (entry-owner (e ∷ past) l e (inl refl))) (IsPermutation-append_left (entry_try e) (flat_map (λ (j : Job). with_name j.name (tries_of j.name past)) m.jobs) (all_tries past) (tries-parted past (first_so (is_legal gives m past) (is_legal_after gives m past e) l))))
 
   map-flat : (js : List Job) → flat_map (λ (j : Job). with_name j.name (map (key_of gives) j.asks)) js ≡ map (ask_try gives) (flat_map asks_of js)
   map-flat [] = refl

@@ -4,9 +4,11 @@ use Rattle.std.specs.List.{list_any}
 use Rattle.std.specs.Option.{option_map_or}
 use Rattle.std.proofs.Common.{sym, ap, subst, ◌∙◌, inl, inr}
 use Rattle.std.proofs.lemmas.Bool.{eq-eqb}
+use Rattle.std.specs.Cmp.{first_so, second_so}
 use Rattle.tv_lemmas.proofs.Cases.{on_or}
 use Rattle.tv_value.specs.Values.{JobName}
 use Rattle.tv_value.specs.Orders.{same_job}
+use Rattle.tv_value.proofs.OfJobNames.{same_job_decides}
 use Rattle.tv_flow.specs.Flows.{Document}
 use Rattle.tv_gate.specs.Outcomes.{Giving}
 use Rattle.tv_dispatch.specs.Jobs.{Ask}
@@ -17,7 +19,7 @@ use Rattle.tv_history.specs.Entries.{Entry, handed_out, accepted, bounced, close
 use Rattle.tv_model.specs.Levels.{Level, levels}
 use Rattle.tv_history.specs.Histories.{asks_left, next_ask, may_go_on, is_offered, can_open, can_bounce, can_settle, can_end, instances, can_settle_more, is_at, is_ask, is_right, same_bool, is_legal, is_legal_after, is_done}
 use Rattle.tv_model.specs.Lists.{first_of_list, rest_of}
-use Rattle.tv_model.proofs.Tests.{true≠false, left_true, right_true, both_true, same_job_decides}
+use Rattle.tv_model.proofs.Tests.{true≠false, both_true}
 use Rattle.tv_model.proofs.Turns.{In}
 use Rattle.tv_model.proofs.Order.{some_in}
 use Rattle.tv_model.proofs.Members.{each_in, any-in}
@@ -55,7 +57,7 @@ module _ (gives : Giving) (m : Meaning) (w : IsWhole gives AtLeastOne m []) wher
   -- a job with a try out has a next ask
   pub out-next : (past : History) → is_legal gives m past ≡ true → (j : Job) → In j m.jobs → is_out past j.name ≡ true → is_some (next_ask past j) ≡ true
   out-next [] l j i h = absurd (true≠false (sym h))
-  out-next (e ∷ past) l j i h = by e (right_true (is_legal gives m past) (is_legal_after gives m past e) l) h (λ g. out-next past (left_true (is_legal gives m past) (is_legal_after gives m past e) l) j i g)
+  out-next (e ∷ past) l j i h = by e (second_so (is_legal gives m past) (is_legal_after gives m past e) l) h (λ g. out-next past (first_so (is_legal gives m past) (is_legal_after gives m past e) l) j i g)
     where
       handed : (b o s : Bool) → (b ≡ true → s ≡ true) → (o ≡ true → s ≡ true) → (if b then true else o) ≡ true → s ≡ true
       handed true o s f g p = f refl
@@ -68,7 +70,7 @@ module _ (gives : Giving) (m : Meaning) (w : IsWhole gives AtLeastOne m []) wher
       by : (e : Entry) → is_legal_after gives m past e ≡ true → is_out (e ∷ past) j.name ≡ true → (is_out past j.name ≡ true → is_some (next_ask past j) ≡ true) → is_some (next_ask (e ∷ past) j) ≡ true
       by (handed_out n c t) a p rec =
           let r = found_in (λ k. is_at k n && option_map_or (is_ask c t) (next_ask past k) false) (is_offered m past) m.jobs a in
-          handed (same_job j.name n) (is_out past j.name) (is_some (next_ask past j)) (λ q. subst (λ k. is_some (next_ask past k) ≡ true) ((are-jobs gives AtLeastOne m [] w).once r.0 j r.1 i (sym ((same_job_decides n r.0.name).0 (left_true (is_at r.0 n) _ r.3)) ∙ sym ((same_job_decides j.name n).0 q))) (left_true (is_some (next_ask past r.0)) (may_go_on m past r.0) r.2)) rec p
+          handed (same_job j.name n) (is_out past j.name) (is_some (next_ask past j)) (λ q. subst (λ k. is_some (next_ask past k) ≡ true) ((are-jobs gives AtLeastOne m [] w).once r.0 j r.1 i (sym ((same_job_decides n r.0.name).0 (first_so (is_at r.0 n) _ r.3)) ∙ sym ((same_job_decides j.name n).0 q))) (first_so (is_some (next_ask past r.0)) (may_go_on m past r.0) r.2)) rec p
       by (accepted n c t s) a p rec = took (same_job j.name n) (is_out past j.name) p rec
       by (recalled c) a p rec = absurd (true≠false (sym p))
       by e a p rec = rec p
@@ -106,7 +108,7 @@ module _ (gives : Giving) (m : Meaning) (w : IsWhole gives AtLeastOne m []) wher
 
   offer-next : (past : History) (j : Job) → In j m.jobs → is_offered m past j ≡ true → Next gives m past
   offer-next past j i h =
-      let f = find-some (is_offered m past) j m.jobs i h in by f.0 f.1 (left_true (is_some (next_ask past f.0)) (may_go_on m past f.0) f.2) (next_ask past f.0) refl
+      let f = find-some (is_offered m past) j m.jobs i h in by f.0 f.1 (first_so (is_some (next_ask past f.0)) (may_go_on m past f.0) f.2) (next_ask past f.0) refl
     where
       by : (k : Job) → find (is_offered m past) m.jobs ≡ Some k → is_some (next_ask past k) ≡ true → (o : Option Ask) → next_ask past k ≡ o → Next gives m past
       by k f s None e = absurd (true≠false (sym s ∙ ap is_some e))

@@ -5,8 +5,12 @@ use Rattle.std.proofs.Common.{sym, ap, subst, ◌∙◌}
 use Rattle.std.proofs.lemmas.List.Folds.{list_all-append}
 use Rattle.std.proofs.lemmas.Bool.{true_from_ne_false}
 use Rattle.std.proofs.lemmas.Option.{same_Some}
+use Rattle.std.specs.Cmp.{first_so, second_so}
+use Rattle.std.specs.Cmp.Derive.{one_truth}
+use Rattle.tv_lemmas.proofs.Tests.{or-second}
 use Rattle.tv_value.specs.Nested.{Place, nodes}
 use Rattle.tv_value.specs.Values.{Name, JobName}
+use Rattle.tv_value.proofs.OfJobNames.{same_job_decides}
 use Rattle.tv_flow.specs.Flows.{Document}
 use Rattle.tv_strategy.specs.Origins.{Origin, Known, at_start, by_job, by_level, needs_of}
 use Rattle.tv_gate.specs.Outcomes.{Giving}
@@ -19,13 +23,13 @@ use Rattle.tv_history.specs.Entries.{History, is_accepted}
 use Rattle.tv_model.specs.Levels.{Level, level_at, levels}
 use Rattle.tv_model.specs.Lists.{rest_of, first_of_list}
 use Rattle.tv_history.specs.Histories.{asks_left, is_settled_name, has_entry, is_known, all_known, can_bounce, can_settle, can_end, instances, can_settle_more, is_open, is_legal, is_offered, is_offered_by_meaning}
-use Rattle.tv_model.proofs.Tests.{Each, true≠false, left_true, right_true, both_true, same_job_decides}
+use Rattle.tv_model.proofs.Tests.{Each, true≠false, both_true}
 use Rattle.tv_history.proofs.Needs.{IsSourced, IsSoundAt, IsSound, AllSound, known-needs, needs_of-settled}
 use Rattle.tv_model.proofs.Turns.{In, each-map}
 use Rattle.tv_model.proofs.Fed.{each-all}
 use Rattle.tv_model.proofs.Sound.{level-node}
 use Rattle.tv_history.proofs.Running.{AreJobs, offered-by_meaning}
-use Rattle.tv_history.proofs.Tests.{all_in, false_left, false_right, none_pass, same_tests, rest-in}
+use Rattle.tv_history.proofs.Tests.{all_in, false_left, none_pass, rest-in}
 use Rattle.tv_model.proofs.Members.{each_in, in_each, of-flat, of-options, once-of_apart, nodes-apart, snoc-parts}
 use Rattle.tv_model.proofs.Grounds.{GroundedBy}
 use Rattle.tv_model.proofs.Whole.{step_key, GroundedIn, IsWhole, StepsHave}
@@ -104,10 +108,10 @@ module _ (gives : Giving) (D : ℕ → Type 0) (m : Meaning) (I : JobName) (w : 
     no-bounce = each_in (λ j. can_bounce m past j ≡ false) m.jobs (none_pass (can_bounce m past) m.jobs (false_left (list_any (can_bounce m past) m.jobs) (list_any (can_settle m past) (levels m.steps)) (false_left (list_any (can_bounce m past) m.jobs || list_any (can_settle m past) (levels m.steps)) (list_any (can_end m past) (instances m)) quiet)))
 
     pub no-settling : (l : Level) → In l (levels m.steps) → can_settle m past l ≡ false
-    no-settling = each_in (λ l. can_settle m past l ≡ false) (levels m.steps) (none_pass (can_settle m past) (levels m.steps) (false_right (list_any (can_bounce m past) m.jobs) (list_any (can_settle m past) (levels m.steps)) (false_left (list_any (can_bounce m past) m.jobs || list_any (can_settle m past) (levels m.steps)) (list_any (can_end m past) (instances m)) quiet)))
+    no-settling = each_in (λ l. can_settle m past l ≡ false) (levels m.steps) (none_pass (can_settle m past) (levels m.steps) (or-second (list_any (can_bounce m past) m.jobs) (list_any (can_settle m past) (levels m.steps)) (false_left (list_any (can_bounce m past) m.jobs || list_any (can_settle m past) (levels m.steps)) (list_any (can_end m past) (instances m)) quiet)))
 
     pub no-ending : (n : JobName) → In n (instances m) → can_end m past n ≡ false
-    no-ending = each_in (λ n. can_end m past n ≡ false) (instances m) (none_pass (can_end m past) (instances m) (false_right (list_any (can_bounce m past) m.jobs || list_any (can_settle m past) (levels m.steps)) (list_any (can_end m past) (instances m)) quiet))
+    no-ending = each_in (λ n. can_end m past n ≡ false) (instances m) (none_pass (can_end m past) (instances m) (or-second (list_any (can_bounce m past) m.jobs || list_any (can_settle m past) (levels m.steps)) (list_any (can_end m past) (instances m)) quiet))
 
     -- a list whose sources are known is closed
     pub closed-if_known : (l : Level) → In l (levels m.steps) → is_open past l.instance ≡ true → all_known m past l.sources ≡ true → has_entry past l.name ≡ true
@@ -122,12 +126,12 @@ module _ (gives : Giving) (D : ℕ → Type 0) (m : Meaning) (I : JobName) (w : 
       all-known_of R rec (o ∷ os) v h =
           let both = sym (list_all-append (is_settled_name m past) o.needs (needs_of os)) ∙ h in
           both_true (is_known m past o.known) (all_known m past os)
-          (rec o v.0 (left_true (list_all (is_settled_name m past) o.needs) (list_all (is_settled_name m past) (needs_of os)) both))
-          (all-known_of R rec os v.1 (right_true (list_all (is_settled_name m past) o.needs) (list_all (is_settled_name m past) (needs_of os)) both))
+          (rec o v.0 (first_so (list_all (is_settled_name m past) o.needs) (list_all (is_settled_name m past) (needs_of os)) both))
+          (all-known_of R rec os v.1 (second_so (list_all (is_settled_name m past) o.needs) (list_all (is_settled_name m past) (needs_of os)) both))
 
       known-by : (R : Origin → Type 0) → ((o : Origin) → R o → NeedsAre o.needs → is_known m past o.known ≡ true) → (o : Origin) (q : Known) → GroundedBy (λ l. In l (levels m.steps)) (λ j. In j m.jobs) J R o q → NeedsAre o.needs → is_known m past q ≡ true
       known-by R rec o at_start h k = refl
-      known-by R rec o (by_job n) h k = left_true (is_settled_name m past n) true (subst NeedsAre h.0 k)
+      known-by R rec o (by_job n) h k = first_so (is_settled_name m past n) true (subst NeedsAre h.0 k)
       known-by R rec o (by_level n) h k =
           subst (λ x. has_entry past x ≡ true) h.2 (closed-if_known h.0 h.1 (subst (λ x. is_open past x ≡ true) (sym h.3) open_now) (all-known_of R rec h.0.sources h.5 (subst NeedsAre h.4 k)))
 
@@ -139,7 +143,7 @@ module _ (gives : Giving) (D : ℕ → Type 0) (m : Meaning) (I : JobName) (w : 
     pub waits-known : is_legal gives m past ≡ true → (j : Job) → In j m.jobs → is_open past j.instance ≡ true → all_known m past j.waits ≡ list_all (is_settled_name m past) (job_needs j)
     waits-known legal j i o =
         let g = (w.jobs j i).waits in
-        same_tests (all_known m past j.waits) (list_all (is_settled_name m past) (job_needs j))
+        one_truth (all_known m past j.waits) (list_all (is_settled_name m past) (job_needs j))
         (needs_of-settled gives m past (λ s t q. known-needs gives m all-sound past legal s s.known t q) j.waits (are-jobs.sound j i))
         (all-known_of j.instance o (GroundedIn gives D m j.instance g.0) (settled-known j.instance o g.0) j.waits g.1)
 

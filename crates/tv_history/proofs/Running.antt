@@ -3,11 +3,14 @@ use Rattle.std.specs.Prelude.{◌≡◌, refl, ℕ, ◌⊎◌, List, [], ◌∷�
 use Rattle.std.specs.List.{list_any, list_all}
 use Rattle.std.proofs.Common.{sym, subst, ◌∙◌, inl, inr}
 use Rattle.std.proofs.lemmas.Bool.{not-true}
+use Rattle.std.specs.Cmp.{first_so, second_so}
 use Rattle.tv_history.proofs.Legal.{last-legal, legal-of, Legal, hands, bounces, opens, ends}
 use Rattle.tv_history.proofs.Tests.{found_in, all_in, any_weaken}
 use Rattle.tv_lemmas.proofs.Cases.{on_test, on_either, on_or}
+use Rattle.tv_lemmas.proofs.Lists.{all-weaken}
 use Rattle.tv_value.specs.Values.{Name, JobName}
 use Rattle.tv_value.specs.Orders.{same_job}
+use Rattle.tv_value.proofs.OfJobNames.{same_job_decides}
 use Rattle.tv_gate.specs.Outcomes.{Giving}
 use Rattle.tv_model.specs.Jobs.{Job, job_needs}
 use Rattle.tv_depths.specs.Delivered.{StepMeaning}
@@ -15,7 +18,7 @@ use Rattle.tv_model.specs.Made.{Meaning}
 use Rattle.tv_model.specs.Turns.{is_bounced}
 use Rattle.tv_history.specs.Entries.{Entry, handed_out, accepted, opened, ended, recalled, History, is_begun_entry, is_opened_entry, is_ended_entry, is_out}
 use Rattle.tv_history.specs.Histories.{next_ask, is_settled, is_settled_name, all_known, is_open, has_open_instance, is_running, is_idle, is_ready, has_place, may_go_on, is_offered, is_legal, is_legal_after, is_offered_by_meaning}
-use Rattle.tv_model.proofs.Tests.{Each, true≠false, left_true, right_true, both_true, or_right, same_job_decides, all_weaken}
+use Rattle.tv_model.proofs.Tests.{Each, true≠false, both_true, or_right}
 use Rattle.tv_history.proofs.Needs.{AllSound, IsSound, stays_settled, stays_settled_name, known-needs, needs_of-settled}
 use Rattle.tv_model.proofs.Turns.{In}
 
@@ -90,34 +93,34 @@ module _ (gives : Giving) (m : Meaning) where
 
     -- a job that may go on runs already, or is ready
     pub going_on : (past : History) (j : Job) → may_go_on m past j ≡ true → (is_idle past j ≡ true) ⊎ (is_ready m past j ≡ true)
-    going_on past j h = on_or (is_idle past j) (is_ready m past j && not (is_bounced j.ending) && has_place m past j) h (λ e. inl e) (λ e. inr (left_true (is_ready m past j) (not (is_bounced j.ending)) (left_true (is_ready m past j && not (is_bounced j.ending)) (has_place m past j) e)))
+    going_on past j h = on_or (is_idle past j) (is_ready m past j && not (is_bounced j.ending) && has_place m past j) h (λ e. inl e) (λ e. inr (first_so (is_ready m past j) (not (is_bounced j.ending)) (first_so (is_ready m past j && not (is_bounced j.ending)) (has_place m past j) e)))
 
     -- an entry by which a job runs came where the job might go on
     pub begins : (past : History) {e : Entry} (j : Job) → In j m.jobs → Legal gives m past e → is_begun_entry j.name e ≡ true → may_go_on m past j ≡ true
-    begins past j i (hands k a ki o q) h = subst (λ x. may_go_on m past x ≡ true) (same-job w k j ki i h) (right_true (is_some (next_ask past k)) (may_go_on m past k) o)
-    begins past j i (opens k ki q o) h = subst (λ x. may_go_on m past x ≡ true) (same-job w k j ki i h) (right_true (is_none (next_ask past k) && is_some k.opens) (may_go_on m past k) o)
+    begins past j i (hands k a ki o q) h = subst (λ x. may_go_on m past x ≡ true) (same-job w k j ki i h) (second_so (is_some (next_ask past k)) (may_go_on m past k) o)
+    begins past j i (opens k ki q o) h = subst (λ x. may_go_on m past x ≡ true) (same-job w k j ki i h) (second_so (is_none (next_ask past k) && is_some k.opens) (may_go_on m past k) o)
     begins past j i l h = absurd (true≠false (sym h))
 
     pub idle_begun : (past : History) (j : Job) → is_idle past j ≡ true → (begun past j ≡ true) × (is_settled past j ≡ false)
     idle_begun past j h =
-        let running = left_true (is_running past j) (not (is_out past j.name)) (left_true (is_running past j && not (is_out past j.name)) (not (has_open_instance past j)) h) in
-        (left_true (begun past j) (not (is_settled past j)) running, not-true (is_settled past j) (right_true (begun past j) (not (is_settled past j)) running))
+        let running = first_so (is_running past j) (not (is_out past j.name)) (first_so (is_running past j && not (is_out past j.name)) (not (has_open_instance past j)) h) in
+        (first_so (begun past j) (not (is_settled past j)) running, not-true (is_settled past j) (second_so (begun past j) (not (is_settled past j)) running))
 
     -- ---- the needs of a job that was begun are settled
 
     more_settled : (past : History) (e : Entry) (j : Job) → NeedsSettled past j → NeedsSettled (e ∷ past) j
-    more_settled past e j h = all_weaken (is_settled_name m past) (is_settled_name m (e ∷ past)) (stays_settled_name gives m e past) (job_needs j) h
+    more_settled past e j h = all-weaken (is_settled_name m past) (is_settled_name m (e ∷ past)) (stays_settled_name gives m e past) (job_needs j) h
 
     pub ready-needs : (past : History) (j : Job) → In j m.jobs → is_legal gives m past ≡ true → is_ready m past j ≡ true → NeedsSettled past j
     ready-needs past j i l h =
-        needs_of-settled gives m past (λ o s k. known-needs gives m a past l o o.known s k) j.waits (w.sound j i) (right_true (is_open past j.instance && not (is_running past j) && not (is_settled past j)) (all_known m past j.waits) h)
+        needs_of-settled gives m past (λ o s k. known-needs gives m a past l o o.known s k) j.waits (w.sound j i) (second_so (is_open past j.instance && not (is_running past j) && not (is_settled past j)) (all_known m past j.waits) h)
 
     pub begun-needs : (past : History) (j : Job) → In j m.jobs → is_legal gives m past ≡ true → begun past j ≡ true → NeedsSettled past j
     begun-needs [] j i l h = absurd (true≠false (sym h))
-    begun-needs (e ∷ past) j i l h = more_settled past e j (on_or (is_begun_entry j.name e) (begun past j) h (λ k. on_either (going_on past j (begins past j i (last-legal gives m past e l) k)) (λ k. (begun-needs past j i (left_true (is_legal gives m past) (is_legal_after gives m past e) l) (idle_begun past j k).0)) (λ k. ready-needs past j i old k)) (λ k. begun-needs past j i (left_true (is_legal gives m past) (is_legal_after gives m past e) l) k))
+    begun-needs (e ∷ past) j i l h = more_settled past e j (on_or (is_begun_entry j.name e) (begun past j) h (λ k. on_either (going_on past j (begins past j i (last-legal gives m past e l) k)) (λ k. (begun-needs past j i (first_so (is_legal gives m past) (is_legal_after gives m past e) l) (idle_begun past j k).0)) (λ k. ready-needs past j i old k)) (λ k. begun-needs past j i (first_so (is_legal gives m past) (is_legal_after gives m past e) l) k))
       where
         old : is_legal gives m past ≡ true
-        old = left_true (is_legal gives m past) (is_legal_after gives m past e) l
+        old = first_so (is_legal gives m past) (is_legal_after gives m past e) l
 
     -- ---- the instance of a job that was begun is open, or the job is settled
 
@@ -125,8 +128,8 @@ module _ (gives : Giving) (m : Meaning) where
     open_before past e [] f h = subst (λ b. not (b || list_any (is_ended_entry []) past) ≡ true) (sym f) h
     open_before past e (k ∷ n) f h =
         both_true (is_opened_entry (k ∷ n) e || list_any (is_opened_entry (k ∷ n)) past) (not (is_ended_entry (k ∷ n) e || list_any (is_ended_entry (k ∷ n)) past))
-        (or_right (is_opened_entry (k ∷ n) e) (list_any (is_opened_entry (k ∷ n)) past) (left_true (list_any (is_opened_entry (k ∷ n)) past) (not (list_any (is_ended_entry (k ∷ n)) past)) h))
-        (subst (λ b. not (b || list_any (is_ended_entry (k ∷ n)) past) ≡ true) (sym f) (right_true (list_any (is_opened_entry (k ∷ n)) past) (not (list_any (is_ended_entry (k ∷ n)) past)) h))
+        (or_right (is_opened_entry (k ∷ n) e) (list_any (is_opened_entry (k ∷ n)) past) (first_so (list_any (is_opened_entry (k ∷ n)) past) (not (list_any (is_ended_entry (k ∷ n)) past)) h))
+        (subst (λ b. not (b || list_any (is_ended_entry (k ∷ n)) past) ≡ true) (sym f) (second_so (list_any (is_opened_entry (k ∷ n)) past) (not (list_any (is_ended_entry (k ∷ n)) past)) h))
 
     abbrev pub SettledOrOpen : History → Job → Type 0
     SettledOrOpen past j = (is_settled past j ≡ true) ⊎ (is_open past j.instance ≡ true)
@@ -136,7 +139,7 @@ module _ (gives : Giving) (m : Meaning) where
     ended-settled past j i (ends n l) h =
         let s = w.in_step j i in
         let same = (same_job_decides n s.0.instance).1 (sym ((same_job_decides j.instance n).0 h) ∙ sym s.2) in
-        let all = all_in (λ t. if same_job n t.instance then all_known m past t.ending else true) m.steps (right_true (is_open past n) (list_all (λ t. if same_job n t.instance then all_known m past t.ending else true) m.steps) l) s.0 s.1 in
+        let all = all_in (λ t. if same_job n t.instance then all_known m past t.ending else true) m.steps (second_so (is_open past n) (list_all (λ t. if same_job n t.instance then all_known m past t.ending else true) m.steps) l) s.0 s.1 in
         settled_of_name past j i (s.3 past (subst (λ b. (if b then all_known m past s.0.ending else true) ≡ true) same all))
     ended-settled past j i l h = absurd (true≠false (sym h))
 
@@ -146,19 +149,19 @@ module _ (gives : Giving) (m : Meaning) where
 
     pub begun-open : (past : History) (j : Job) → In j m.jobs → is_legal gives m past ≡ true → begun past j ≡ true → SettledOrOpen past j
     begun-open [] j i l h = absurd (true≠false (sym h))
-    begun-open (e ∷ past) j i l h = stays past e j i now (on_or (is_begun_entry j.name e) (begun past j) h (λ k. on_either (going_on past j (begins past j i (legal-of gives m past e now) k)) (λ k. (begun-open past j i (left_true (is_legal gives m past) (is_legal_after gives m past e) l) (idle_begun past j k).0)) (λ k. inr (left_true (is_open past j.instance) (not (is_running past j)) (left_true (is_open past j.instance && not (is_running past j)) (not (is_settled past j)) (left_true (is_open past j.instance && not (is_running past j) && not (is_settled past j)) (all_known m past j.waits) k))))) (λ k. begun-open past j i (left_true (is_legal gives m past) (is_legal_after gives m past e) l) k))
+    begun-open (e ∷ past) j i l h = stays past e j i now (on_or (is_begun_entry j.name e) (begun past j) h (λ k. on_either (going_on past j (begins past j i (legal-of gives m past e now) k)) (λ k. (begun-open past j i (first_so (is_legal gives m past) (is_legal_after gives m past e) l) (idle_begun past j k).0)) (λ k. inr (first_so (is_open past j.instance) (not (is_running past j)) (first_so (is_open past j.instance && not (is_running past j)) (not (is_settled past j)) (first_so (is_open past j.instance && not (is_running past j) && not (is_settled past j)) (all_known m past j.waits) k))))) (λ k. begun-open past j i (first_so (is_legal gives m past) (is_legal_after gives m past e) l) k))
       where
         now : is_legal_after gives m past e ≡ true
-        now = right_true (is_legal gives m past) (is_legal_after gives m past e) l
+        now = second_so (is_legal gives m past) (is_legal_after gives m past e) l
 
     -- ---- offered
 
     pub instance-begun : (past : History) (j : Job) → In j m.jobs → has_open_instance past j ≡ true → begun past j ≡ true
     instance-begun past j i h =
         let c = w.has_name j i in
-        let is_open_there = subst (λ n. is_open past n ≡ true) c.2 (right_true (is_some j.opens) (is_open past j.name) h) in
+        let is_open_there = subst (λ n. is_open past n ≡ true) c.2 (second_so (is_some j.opens) (is_open past j.name) h) in
         any_weaken (is_opened_entry j.name) (is_begun_entry j.name) (opened_begins j.name) past
-        (subst (λ n. list_any (is_opened_entry n) past ≡ true) (sym c.2) (left_true (list_any (is_opened_entry (c.0 ∷ c.1)) past) (not (list_any (is_ended_entry (c.0 ∷ c.1)) past)) is_open_there))
+        (subst (λ n. list_any (is_opened_entry n) past ≡ true) (sym c.2) (first_so (list_any (is_opened_entry (c.0 ∷ c.1)) past) (not (list_any (is_ended_entry (c.0 ∷ c.1)) past)) is_open_there))
 
     -- where a job's nodes are all known exactly where its needs are settled, it is offered exactly where the meaning offers it
     pub offered-by_meaning : (past : History) → is_legal gives m past ≡ true → (j : Job) → In j m.jobs → (is_open past j.instance ≡ true → all_known m past j.waits ≡ list_all (is_settled_name m past) (job_needs j)) → is_offered m past j ≡ is_offered_by_meaning m past j

@@ -4,10 +4,12 @@ use Rattle.std.specs.List.{list_any}
 use Rattle.std.specs.Option.{option_map_or}
 use Rattle.std.proofs.Common.{arith, sym, ap, subst, ◌∙◌, inl, inr, append_assoc, append-nil, length-append}
 use Rattle.std.proofs.lemmas.List.{map-append}
+use Rattle.std.specs.Cmp.{first_so, second_so}
 use Rattle.tv_history.proofs.Legal.{legal-of}
 use Rattle.tv_lemmas.proofs.Cases.{on_test, on_either}
 use Rattle.tv_value.specs.Values.{Name, JobName, Value}
 use Rattle.tv_value.specs.Orders.{same_job}
+use Rattle.tv_value.proofs.OfJobNames.{same_job_decides}
 use Rattle.tv_flow.specs.Flows.{Flow}
 use Rattle.tv_gate.specs.Outcomes.{Giving}
 use Rattle.tv_dispatch.specs.Jobs.{Ask}
@@ -19,7 +21,7 @@ use Rattle.tv_depths.specs.Ranks.{ranked}
 use Rattle.tv_history.specs.Entries.{Entry, accepted, opened, History, is_opened_entry, is_begun_entry}
 use Rattle.tv_model.specs.Lists.{first_of_list}
 use Rattle.tv_history.specs.Histories.{asks_left, is_settled, is_legal, is_legal_after}
-use Rattle.tv_model.proofs.Tests.{Each, true≠false, left_true, right_true, same_job_decides}
+use Rattle.tv_model.proofs.Tests.{Each, true≠false}
 use Rattle.tv_model.proofs.Turns.{In}
 use Rattle.tv_model.proofs.Order.{some_in, all_rated}
 use Rattle.tv_model.proofs.ReadOff.{IsReadOff, flow-read, instance-order}
@@ -111,10 +113,10 @@ module _ (gives : Giving) where
           ap (λ z. z ++ try_within (j ∷ n.jobs) e) (own-then_inner past legal) ∙ (on_either (try-case e) (λ t. ap (λ z. (own ++ inner) ++ z) (t.tries (j ∷ n.jobs)) ∙ shape (same_job t.name j.name) (is_of n.jobs t.name) t refl refl ∙ sym (ap (λ z. (own ++ z) ++ (inner ++ try_within n.jobs e)) (t.tries (j ∷ [])) ∙ ap (λ z. (own ++ (if is_of (j ∷ []) t.name then entry_try e else [])) ++ (inner ++ z)) (t.tries n.jobs))) (λ g. ap (λ z. (own ++ inner) ++ z) (g (j ∷ n.jobs)) ∙ append-nil (own ++ inner) ∙ sym (ap (λ z. (own ++ z) ++ (inner ++ try_within n.jobs e)) (g (j ∷ [])) ∙ ap (λ z. z ++ (inner ++ try_within n.jobs e)) (append-nil own) ∙ ap (λ z. own ++ (inner ++ z)) (g n.jobs) ∙ ap (λ z. own ++ z) (append-nil inner))))
         where
           legal : is_legal gives m past ≡ true
-          legal = left_true (is_legal gives m past) (is_legal_after gives m past e) l
+          legal = first_so (is_legal gives m past) (is_legal_after gives m past e) l
 
           after : is_legal_after gives m past e ≡ true
-          after = right_true (is_legal gives m past) (is_legal_after gives m past e) l
+          after = second_so (is_legal gives m past) (is_legal_after gives m past e) l
 
           own : List NamedTry
           own = tries_within (j ∷ []) past

@@ -4,11 +4,13 @@ use Rattle.std.specs.List.{list_any, list_all}
 use Rattle.std.specs.Option.{option_map_or}
 use Rattle.std.proofs.Common.{arith, sym, ap, subst, ◌∙◌, inl, inr, append_assoc, append-nil, length-append}
 use Rattle.std.proofs.lemmas.Bool.{not-true}
+use Rattle.std.specs.Cmp.{first_so, second_so}
 use Rattle.tv_history.proofs.Legal.{last-legal}
 use Rattle.tv_lemmas.proofs.Cases.{on_test, on_or}
 use Rattle.tv_value.specs.Nested.{Place}
 use Rattle.tv_value.specs.Values.{JobName, Name}
 use Rattle.tv_value.specs.Orders.{same_name, same_job}
+use Rattle.tv_value.proofs.OfJobNames.{same_job_decides}
 use Rattle.tv_flow.specs.Flows.{Document}
 use Rattle.tv_strategy.specs.Origins.{Origin, Known, at_start, by_job, by_level}
 use Rattle.tv_gate.specs.Outcomes.{Giving}
@@ -20,7 +22,7 @@ use Rattle.tv_model.specs.Meanings.{meaning}
 use Rattle.tv_history.specs.Entries.{History, is_out, is_begun_entry, is_bounced_entry, is_ended_entry}
 use Rattle.tv_model.specs.Levels.{levels}
 use Rattle.tv_history.specs.Histories.{next_ask, is_settled, is_settled_name, has_entry, is_known, all_known, is_open, has_open_instance, is_running, is_idle, is_ready, has_place, may_go_on, is_offered, can_open, can_end, instances, can_settle_more, is_legal, is_legal_after, is_done}
-use Rattle.tv_model.proofs.Tests.{Each, true≠false, left_true, right_true, both_true, or_right, same_job_decides}
+use Rattle.tv_model.proofs.Tests.{Each, true≠false, both_true, or_right}
 use Rattle.tv_model.proofs.Turns.{In, or_left}
 use Rattle.tv_history.proofs.Running.{begins, idle_begun}
 use Rattle.tv_model.proofs.Members.{each_in, in-options, any-in}
@@ -50,7 +52,7 @@ module _ (gives : Giving) (D : ℕ → Type 0) (m : Meaning) (w : IsWhole gives 
   pub begun-tried : (past : History) (j : Job) → In j m.jobs → is_legal gives m past ≡ true → list_any (is_begun_entry j.name) past ≡ true → is_bounced j.ending ≡ false
   begun-tried [] j i l h = absurd (true≠false (sym h))
   begun-tried (e ∷ past) j i l h =
-      on_or (is_begun_entry j.name e) (list_any (is_begun_entry j.name) past) h (λ k. on_or (is_idle past j) (is_ready m past j && not (is_bounced j.ending) && has_place m past j) (begins gives m (all-sound gives D m [] w) (are-jobs gives D m [] w) past j i (last-legal gives m past e l) k) (λ k. (begun-tried past j i (left_true (is_legal gives m past) (is_legal_after gives m past e) l) (idle_begun gives m (all-sound gives D m [] w) (are-jobs gives D m [] w) past j k).0)) (λ k. not-true (is_bounced j.ending) (right_true (is_ready m past j) (not (is_bounced j.ending)) (left_true (is_ready m past j && not (is_bounced j.ending)) (has_place m past j) k)))) (λ k. begun-tried past j i (left_true (is_legal gives m past) (is_legal_after gives m past e) l) k)
+      on_or (is_begun_entry j.name e) (list_any (is_begun_entry j.name) past) h (λ k. on_or (is_idle past j) (is_ready m past j && not (is_bounced j.ending) && has_place m past j) (begins gives m (all-sound gives D m [] w) (are-jobs gives D m [] w) past j i (last-legal gives m past e l) k) (λ k. (begun-tried past j i (first_so (is_legal gives m past) (is_legal_after gives m past e) l) (idle_begun gives m (all-sound gives D m [] w) (are-jobs gives D m [] w) past j k).0)) (λ k. not-true (is_bounced j.ending) (second_so (is_ready m past j) (not (is_bounced j.ending)) (first_so (is_ready m past j && not (is_bounced j.ending)) (has_place m past j) k)))) (λ k. begun-tried past j i (first_so (is_legal gives m past) (is_legal_after gives m past e) l) k)
 
   -- a job that is settled is so by its name
   found_settled : (past : History) (j : Job) → In j m.jobs → is_settled past j ≡ true → (js : List Job) → ((k : Job) → In k js → In k m.jobs) → In j js → option_map_or (is_settled past) (find (λ k. same_job j.name k.name) js) false ≡ true
@@ -97,7 +99,7 @@ module _ (gives : Giving) (m : Meaning) (w : IsWhole gives AtLeastOne m []) wher
 
     idle-goes : (k : Job) → In k m.jobs → is_running past k ≡ true → has_open_instance past k ≡ false → is_out past k.name ≡ false → (is_offered m past k || can_open m past k) ≡ true
     idle-goes k i r h o =
-        goes k (not-true (is_settled past k) (right_true (list_any (is_begun_entry k.name) past) (not (is_settled past k)) r)) (begun-tried gives AtLeastOne m w past k i legal (left_true (list_any (is_begun_entry k.name) past) (not (is_settled past k)) r))
+        goes k (not-true (is_settled past k) (second_so (list_any (is_begun_entry k.name) past) (not (is_settled past k)) r)) (begun-tried gives AtLeastOne m w past k i legal (first_so (list_any (is_begun_entry k.name) past) (not (is_settled past k)) r))
         (or_left (is_idle past k) (is_ready m past k && not (is_bounced k.ending) && has_place m past k) (idle-of k i r h o))
 
     -- a job that runs, and whose flow isn't open, goes on
@@ -119,7 +121,7 @@ module _ (gives : Giving) (m : Meaning) (w : IsWhole gives AtLeastOne m []) wher
               go j i J e s c (or_right (is_idle past j) (is_ready m past j && not (is_bounced j.ending) && has_place m past j) (both_true (is_ready m past j && not (is_bounced j.ending)) (has_place m past j) (both_true (is_ready m past j) (not (is_bounced j.ending)) r (ap not c)) h))
           place r c false h =
               let f = full (λ k. same_job k.instance j.instance && same_name k.step j.step && is_running past k) m.jobs j.limit (w.jobs j i).limit h in
-              running-job f.0 f.1 ((same_job_decides f.0.instance j.instance).0 (left_true (same_job f.0.instance j.instance) (same_name f.0.step j.step) (left_true (same_job f.0.instance j.instance && same_name f.0.step j.step) (is_running past f.0) f.2)) ∙ e) (right_true (same_job f.0.instance j.instance && same_name f.0.step j.step) (is_running past f.0) f.2)
+              running-job f.0 f.1 ((same_job_decides f.0.instance j.instance).0 (first_so (same_job f.0.instance j.instance) (same_name f.0.step j.step) (first_so (same_job f.0.instance j.instance && same_name f.0.step j.step) (is_running past f.0) f.2)) ∙ e) (second_so (same_job f.0.instance j.instance && same_name f.0.step j.step) (is_running past f.0) f.2)
 
           bounce : is_ready m past j ≡ true → (c : Bool) → is_bounced j.ending ≡ c → Going J
           bounce r true c = absurd (true≠false (sym (both_true (is_ready m past j) (is_bounced j.ending) r c) ∙ no-bounce gives AtLeastOne m [] w past quiet j i))
@@ -168,7 +170,7 @@ module _ (gives : Giving) (m : Meaning) (w : IsWhole gives AtLeastOne m []) wher
       where
         too_long : (k : Job) → In k m.jobs → k.instance ≡ J → ⊥
         too_long k h e = omega (arith, name_length k h J e, not-longer_than k m.jobs h, b)
-    in-instance (suc f) J o i b = open-instance J o (λ k h e g. outer k h J e (in-instance f k.name (right_true (is_some k.opens) (is_open past k.name) g) (opener k h (left_true (is_some k.opens) (is_open past k.name) g)) (omega (arith, name_length k h J e, b)))) (no-ending gives AtLeastOne m [] w past quiet J i)
+    in-instance (suc f) J o i b = open-instance J o (λ k h e g. outer k h J e (in-instance f k.name (second_so (is_some k.opens) (is_open past k.name) g) (opener k h (first_so (is_some k.opens) (is_open past k.name) g)) (omega (arith, name_length k h J e, b)))) (no-ending gives AtLeastOne m [] w past quiet J i)
 
     less_than : (c l : ℕ) → l < c + suc l
     less_than c l = omega arith
@@ -191,7 +193,7 @@ module _ (gives : Giving) (m : Meaning) (w : IsWhole gives AtLeastOne m []) wher
 
     -- a running job goes on, or one inside it does
     pub running-within : (k : Job) → In k m.jobs → is_running past k ≡ true → GoesOn k.name
-    running-within k i r = on_test (has_open_instance past k) (λ h. open-goes k.name (right_true (is_some k.opens) (is_open past k.name) h) (opener past legal quiet k i (left_true (is_some k.opens) (is_open past k.name) h))) (λ h. (k, i, ([], sym (append-nil k.name)), idle-goes past legal quiet k i r h (none_out k i)))
+    running-within k i r = on_test (has_open_instance past k) (λ h. open-goes k.name (second_so (is_some k.opens) (is_open past k.name) h) (opener past legal quiet k i (first_so (is_some k.opens) (is_open past k.name) h))) (λ h. (k, i, ([], sym (append-nil k.name)), idle-goes past legal quiet k i r h (none_out k i)))
 
     -- ---- NEVER STUCK
     pub some-offered : list_any (can_open m past) m.jobs ≡ false → is_done past ≡ false → list_any (is_offered m past) m.jobs ≡ true

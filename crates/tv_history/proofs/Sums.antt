@@ -6,6 +6,8 @@ use Rattle.std.proofs.Common.{arith, sym, ap, subst, ◌∙◌, inl, inr, length
 use Rattle.std.proofs.lemmas.List.{length-map}
 use Rattle.std.proofs.lemmas.Bool.{not-true}
 use Rattle.std.proofs.lemmas.Option.{same_Some, none-some}
+use Rattle.std.specs.Cmp.{first_so, second_so}
+use Rattle.std.specs.Cmp.Derive.{one_truth}
 use Rattle.tv_history.proofs.Running.{same-job}
 use Rattle.tv_history.proofs.Legal.{last-legal, Legal, accepts, bounces}
 use Rattle.tv_lemmas.proofs.Cases.{on_test, on_or}
@@ -21,21 +23,20 @@ use Rattle.tv_model.specs.Meanings.{meaning}
 use Rattle.tv_model.specs.Totals.{totals}
 use Rattle.tv_history.specs.Entries.{Entry, accepted, bounced, History, is_accepted, is_bounced_entry, is_opened_entry, is_ended_entry}
 use Rattle.tv_history.specs.Histories.{next_ask, is_settled, is_open, is_running, is_ready, all_known, can_bounce, is_legal, is_legal_after, is_done}
-use Rattle.tv_model.proofs.Tests.{true≠false, left_true, right_true}
+use Rattle.tv_model.proofs.Tests.{true≠false}
 use Rattle.tv_model.proofs.Turns.{In}
 use Rattle.tv_model.proofs.Kept.{any_right}
 use Rattle.tv_model.proofs.Whole.{IsWhole}
 use Rattle.tv_history.proofs.Ready.{are-jobs, AnyNumber, document-whole}
 use Rattle.tv_history.proofs.Counts.{bit, tally, total-same, count-tally, count-total, length-as_total, filter-as_total, all-entries}
 use Rattle.tv_history.proofs.Done.{TryKey, key_of, try_of, tries_of, all-settled, settled-tries, opened-facts, job-opened}
-use Rattle.tv_history.proofs.Tests.{same_tests}
 pub use Rattle.tv_history.specs.ReadOff.{accepted_name, bounced_name, has_failed, read_totals, IsAsMeant}
 
 -- each entry of a legal history was legal after those before it
 pub legal-each : (gives : Giving) (m : Meaning) (past : History) → is_legal gives m past ≡ true → (e : Entry) → In e past → (older : History) × (is_legal gives m older ≡ true) × Legal gives m older e
 legal-each gives m [] l e h = absurd h
-legal-each gives m (f ∷ past) l e (inl p) = (past, left_true (is_legal gives m past) (is_legal_after gives m past f) l, subst (Legal gives m past) (sym p) (last-legal gives m past f l))
-legal-each gives m (f ∷ past) l e (inr h) = legal-each gives m past (left_true (is_legal gives m past) (is_legal_after gives m past f) l) e h
+legal-each gives m (f ∷ past) l e (inl p) = (past, first_so (is_legal gives m past) (is_legal_after gives m past f) l, subst (Legal gives m past) (sym p) (last-legal gives m past f l))
+legal-each gives m (f ∷ past) l e (inr h) = legal-each gives m past (first_so (is_legal gives m past) (is_legal_after gives m past f) l) e h
 
 -- ---- what is read off a history
 
@@ -73,8 +74,8 @@ module _ (gives : Giving) (D : ℕ → Type 0) (m : Meaning) (w : IsWhole gives 
   -- what bounces is bounced in the meaning, and wasn't in the history
   pub bounce-facts : (past : History) (j : Job) → can_bounce m past j ≡ true → (is_bounced j.ending ≡ true) × (list_any (is_bounced_entry j.name) past ≡ false)
   bounce-facts past j h =
-      let b = right_true (is_ready m past j) (is_bounced j.ending) h in
-      let s = right_true (is_open past j.instance && not (is_running past j)) (not (is_settled past j)) (left_true (is_open past j.instance && not (is_running past j) && not (is_settled past j)) (all_known m past j.waits) (left_true (is_ready m past j) (is_bounced j.ending) h)) in
+      let b = second_so (is_ready m past j) (is_bounced j.ending) h in
+      let s = second_so (is_open past j.instance && not (is_running past j)) (not (is_settled past j)) (first_so (is_open past j.instance && not (is_running past j) && not (is_settled past j)) (all_known m past j.waits) (first_so (is_ready m past j) (is_bounced j.ending) h)) in
       (b, subst (λ x. (if x then list_any (is_bounced_entry j.name) past else (if is_some j.opens then list_any (is_ended_entry j.name) past else is_none (next_ask past j))) ≡ false) b (not-true (is_settled past j) s))
 
   one-more : (b B L : Bool) (t : ℕ) → (b ≡ true → (B ≡ true) × (L ≡ false)) → t ≡ bit (B && L) → bit b + t ≡ bit (B && (b || L))
@@ -90,11 +91,11 @@ module _ (gives : Giving) (D : ℕ → Type 0) (m : Meaning) (w : IsWhole gives 
       by true = refl
       by false = refl
   bounced-tally (e ∷ past) l j i =
-      one-more (is_bounced_entry j.name e) (is_bounced j.ending) (list_any (is_bounced_entry j.name) past) (tally (is_bounced_entry j.name) past) (λ h. bounce-facts past j (bounces-it past j i (last-legal gives m past e l) h)) (bounced-tally past (left_true (is_legal gives m past) (is_legal_after gives m past e) l) j i)
+      one-more (is_bounced_entry j.name e) (is_bounced j.ending) (list_any (is_bounced_entry j.name) past) (tally (is_bounced_entry j.name) past) (λ h. bounce-facts past j (bounces-it past j i (last-legal gives m past e l) h)) (bounced-tally past (first_so (is_legal gives m past) (is_legal_after gives m past e) l) j i)
 
   any-bounced : (past : History) → is_legal gives m past ≡ true → (j : Job) → In j m.jobs → list_any (is_bounced_entry j.name) past ≡ true → is_bounced j.ending ≡ true
   any-bounced [] l j i h = absurd (true≠false (sym h))
-  any-bounced (e ∷ past) l j i h = on_or (is_bounced_entry j.name e) (list_any (is_bounced_entry j.name) past) h (λ k. (bounce-facts past j (bounces-it past j i (last-legal gives m past e l) k)).0) (λ k. any-bounced past (left_true (is_legal gives m past) (is_legal_after gives m past e) l) j i k)
+  any-bounced (e ∷ past) l j i h = on_or (is_bounced_entry j.name e) (list_any (is_bounced_entry j.name) past) h (λ k. (bounce-facts past j (bounces-it past j i (last-legal gives m past e l) k)).0) (λ k. any-bounced past (first_so (is_legal gives m past) (is_legal_after gives m past e) l) j i k)
 
   abbrev SettledBy : History → Job → Bool → Bool → Bool
   SettledBy past j b o = if b then list_any (is_bounced_entry j.name) past else (if o then list_any (is_ended_entry j.name) past else is_none (next_ask past j))
@@ -102,11 +103,11 @@ module _ (gives : Giving) (D : ℕ → Type 0) (m : Meaning) (w : IsWhole gives 
   -- a settled job has a bounce exactly where it is bounced
   settled-bounced : (past : History) → is_legal gives m past ≡ true → (j : Job) → In j m.jobs → is_settled past j ≡ true → list_any (is_bounced_entry j.name) past ≡ is_bounced j.ending
   settled-bounced past l j i s =
-      same_tests (list_any (is_bounced_entry j.name) past) (is_bounced j.ending) (any-bounced past l j i) (λ b. subst (λ x. SettledBy past j x (is_some j.opens) ≡ true) b s)
+      one_truth (list_any (is_bounced_entry j.name) past) (is_bounced j.ending) (any-bounced past l j i) (λ b. subst (λ x. SettledBy past j x (is_some j.opens) ≡ true) b s)
 
   settled-opened : (past : History) → is_legal gives m past ≡ true → (j : Job) → In j m.jobs → is_settled past j ≡ true → is_bounced j.ending ≡ false → list_any (is_opened_entry j.name) past ≡ is_some j.opens
   settled-opened past l j i s b =
-      same_tests (list_any (is_opened_entry j.name) past) (is_some j.opens) (λ h. (opened-facts gives D m w past l j i h).1) (λ o. job-opened gives D m w past l j i (subst (λ x. SettledBy past j false x ≡ true) o (subst (λ x. SettledBy past j x (is_some j.opens) ≡ true) b s)))
+      one_truth (list_any (is_opened_entry j.name) past) (is_some j.opens) (λ h. (opened-facts gives D m w past l j i h).1) (λ o. job-opened gives D m w past l j i (subst (λ x. SettledBy past j false x ≡ true) o (subst (λ x. SettledBy past j x (is_some j.opens) ≡ true) b s)))
 
   -- ---- failed
 

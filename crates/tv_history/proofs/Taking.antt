@@ -7,8 +7,9 @@ use Rattle.tv_history.proofs.Tests.{all_in}
 use Rattle.tv_lemmas.proofs.Cases.{on_either, on_or}
 use Rattle.tv_value.specs.Values.{JobName}
 use Rattle.tv_value.specs.Orders.{same_job}
+use Rattle.tv_value.proofs.OfJobNames.{same_job_decides}
 use Rattle.tv_model.specs.Turns.{Turn, all_done, first_turn, asks_by_turns}
-use Rattle.tv_model.proofs.Tests.{or_right, same_job_decides}
+use Rattle.tv_model.proofs.Tests.{or_right}
 use Rattle.tv_model.proofs.Turns.{In, or_left}
 use Rattle.tv_model.proofs.Order.{in-append, in-left, in-right}
 

@@ -6,29 +6,19 @@ use Rattle.std.proofs.Common.{arith, sym, ap, subst, ◌∙◌, inl, inr}
 use Rattle.std.proofs.lemmas.Bool.{false_from_ne_true, lt-ltb}
 use Rattle.std.proofs.lemmas.List.Sums.{sum_by-cons}
 use Rattle.std.proofs.lemmas.Option.{same_Some, none-some}
+use Rattle.std.specs.Cmp.{first_so, second_so}
 use Rattle.tv_value.specs.Orders.{same_job}
 use Rattle.tv_value.specs.Values.{JobName}
+use Rattle.tv_value.proofs.OfJobNames.{same_job_decides}
 use Rattle.tv_model.specs.Lists.{first_of_list, rest_of}
 use Rattle.tv_lemmas.proofs.Cases.{on_either, on_or}
-use Rattle.tv_model.proofs.Tests.{Each, true≠false, left_true, right_true, or_right, same_job_decides}
+use Rattle.tv_lemmas.proofs.Tests.{or-second}
+use Rattle.tv_model.proofs.Tests.{Each, true≠false, or_right}
 use Rattle.tv_model.proofs.Turns.{In, or_left}
-
-pub true_of : (a b : Bool) → (a || b) ≡ true → (a ≡ true) ⊎ (b ≡ true)
-true_of true b h = inl refl
-true_of false b h = inr h
 
 pub false_left : (a b : Bool) → (a || b) ≡ false → a ≡ false
 false_left true b h = h
 false_left false b h = refl
-
-pub false_right : (a b : Bool) → (a || b) ≡ false → b ≡ false
-false_right true b h = absurd (true≠false h)
-false_right false b h = h
-
-pub same_tests : (a b : Bool) → (a ≡ true → b ≡ true) → (b ≡ true → a ≡ true) → a ≡ b
-same_tests true b f g = sym (f refl)
-same_tests false true f g = g refl
-same_tests false false f g = refl
 
 pub if-fails : (b c : Bool) → (if b then c else true) ≡ false → (b ≡ true) × (c ≡ false)
 if-fails true c h = (refl, h)
@@ -41,12 +31,12 @@ same-itself n = (same_job_decides n n).1 refl
 -- no member passes
 pub none_pass : {A : Type 0} (p : A → Bool) (xs : List A) → list_any p xs ≡ false → Each (λ x. p x ≡ false) xs
 none_pass p [] h = tt
-none_pass p (x ∷ xs) h = (false_left (p x) (list_any p xs) h, none_pass p xs (false_right (p x) (list_any p xs) h))
+none_pass p (x ∷ xs) h = (false_left (p x) (list_any p xs) h, none_pass p xs (or-second (p x) (list_any p xs) h))
 
 pub all_in : {A : Type 0} (p : A → Bool) (xs : List A) → list_all p xs ≡ true → (x : A) → In x xs → p x ≡ true
 all_in p [] h x i = absurd i
-all_in p (y ∷ ys) h x (inl e) = subst (λ z. p z ≡ true) (sym e) (left_true (p y) (list_all p ys) h)
-all_in p (y ∷ ys) h x (inr i) = all_in p ys (right_true (p y) (list_all p ys) h) x i
+all_in p (y ∷ ys) h x (inl e) = subst (λ z. p z ≡ true) (sym e) (first_so (p y) (list_all p ys) h)
+all_in p (y ∷ ys) h x (inr i) = all_in p ys (second_so (p y) (list_all p ys) h) x i
 
 pub any_weaken : {A : Type 0} (p q : A → Bool) → ((x : A) → p x ≡ true → q x ≡ true) → (xs : List A) → list_any p xs ≡ true → list_any q xs ≡ true
 any_weaken p q f [] h = h

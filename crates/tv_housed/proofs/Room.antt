@@ -1,19 +1,20 @@
 -- The region of a frame has no more nodes than the outputs and iterations of the frame's steps, whatever isn't told.
 use Rattle.std.specs.Cmp.Lexicographic.{bytes_decides}
 use Rattle.std.specs.List.{sum_by}
-use Rattle.std.specs.Prelude.{◌≡◌, ◌≢◌, refl, ℕ, zero, suc, ◌+◌, ◌<◌, ◌≤◌, Bool, true, false, if◌then◌else◌, List, [], ◌∷◌, length, map, Some, None, slice_get, slice_index_or, unwrap_or}
-use Rattle.std.proofs.Common.{arith, ap, inl, inr, subst, sym, ◌∙◌}
+use Rattle.std.specs.Prelude.{◌≡◌, ◌≢◌, refl, ℕ, suc, ◌+◌, ◌<◌, ◌≤◌, Bool, true, false, if◌then◌else◌, List, [], ◌∷◌, length, map, Some, slice_get, slice_index_or, unwrap_or}
+use Rattle.std.proofs.Common.{arith, ap, inr, subst, sym, ◌∙◌}
 use Rattle.std.proofs.lemmas.List.{length-map}
 use Rattle.std.proofs.lemmas.List.Sums.{sum_by-cons}
-use Rattle.std.proofs.lemmas.Option.{get_or_from_slice_get, same_Some, slice_get_within}
+use Rattle.std.proofs.lemmas.Option.{get_or_from_slice_get, slice_get_within}
 use Rattle.tv_value.specs.Nested.{Place, list, no_trees, notes}
 use Rattle.tv_value.specs.Orders.{same_name}
 use Rattle.tv_value.specs.Values.{JobName, Name, Value}
+use Rattle.tv_value.proofs.OfNames.{same_name-refl}
 use Rattle.tv_flow.specs.Flows.{Flow, Step}
 use Rattle.tv_strategy.specs.Iterations.{Iteration}
 use Rattle.tv_strategy.specs.Origins.{plain}
 use Rattle.tv_strategy.specs.Outputs.{output_below}
-use Rattle.tv_naming.proofs.ByPosition.{names_of, position-at, same_name-refl}
+use Rattle.tv_naming.proofs.ByPosition.{names_of, position-at}
 use Rattle.tv_naming.proofs.FormedParts.{steps-ascend}
 use Rattle.tv_naming.specs.Numbers.{position}
 use Rattle.tv_depths.proofs.OfRanked.{all-ranked}
@@ -24,7 +25,6 @@ use Rattle.tv_parts.specs.Partials.{Partial}
 use Rattle.tv_stream.specs.NodeCounts.{tree_nodes}
 use Rattle.tv_check.specs.declared.plans.FlowPlan.{FlowPlan}
 use Rattle.tv_outputs.specs.Known.{Nodes, all_nodes, depths, known, known_of, tree_in}
-use Rattle.tv_outputs.proofs.Lists.{mapped-length}
 use Rattle.tv_counted.specs.Stated.{node_count}
 use Rattle.tv_counted.proofs.OfValues.{all-nodes, no-more}
 use Rattle.tv_instance.specs.ByResults.{InstanceStep, Results, levels_on, outputs_by, result_at, step_of}
@@ -35,6 +35,7 @@ use Rattle.tv_instances.proofs.OfLegal.{legal-fit}
 use Rattle.tv_model.specs.Instances.{given_of}
 use Rattle.tv_model.specs.Members.{In}
 use Rattle.tv_model.specs.RightDepths.{HaveTheseDepths}
+use Rattle.tv_model.proofs.OfMembers.{in-slice}
 use Rattle.tv_history.specs.Histories.{size_of, step_room}
 use Rattle.tv_framing.specs.Arriving.{part_so_far}
 use Rattle.tv_framing.specs.Views.{AreGiven, AreOfDepth, View, steps_with}
@@ -54,14 +55,6 @@ use Rattle.tv_housed.proofs.Covering.{covered, one-where, sum-all, sum_where}
 use Rattle.tv_housed.proofs.Sizes.{any-depth, ones-size, plain-size}
 
 -- ---- numbers and names of steps
-
-in-list : {A : Type 0} (xs : List A) (n : ℕ) (x : A) → slice_get xs n ≡ Some x → In x xs
-in-list [] n x e = absurd (none e)
-  where
-    none : None ≡ Some x → ⊥
-    none h = cc
-in-list (y ∷ xs) zero x e = inl (sym (same_Some y x e))
-in-list (y ∷ xs) (suc n) x e = inr (in-list xs n x e)
 
 one-number : (f : Flow) → IsWired f → (n m : ℕ) (s t : Name × Step) → slice_get f.steps n ≡ Some s → slice_get f.steps m ≡ Some t → s.0 ≡ t.0 → n ≡ m
 one-number f wired n m s t a b e = sym (at n s a) ∙ ap (λ k. position k f.steps) e ∙ at m t b
@@ -168,7 +161,7 @@ module _ (flows : List (Name × Flow)) (plan : FlowPlan) (pool : Nodes) (f : Fra
         y : Extends (with_none s.0 results) v.events
         y =
             let r = all-ranked v.flow.steps (steps-ascend v.flow wired.formed) wired.ranked s (n, at) in
-            extends-none (ranked v.flow.steps) s (in-list (ranked v.flow.steps) r.0 s r.1) none results v.events keeps.frame.given x
+            extends-none (ranked v.flow.steps) s (in-slice (ranked v.flow.steps) r.0 s r.1) none results v.events keeps.frame.given x
 
         ones : (q : Place) → length (notes (result_at (with_none s.0 results) s.0 0 q)) ≡ 1
         ones q = ap (λ b. length (notes (unwrap_or (slice_get (if b then [] else results s.0 q) 0) (list tt no_trees)))) (same_name-refl s.0)
@@ -213,8 +206,8 @@ module _ (flows : List (Name × Flow)) (plan : FlowPlan) (pool : Nodes) (f : Fra
   all-known =
       nodes-by_number (known pool f.outputs)
       ∙ ap (sum_to (λ k. tree_nodes (tree_in (known pool f.outputs) k)))
-      (mapped-length (known_of pool) f.outputs.trees.items
-      ∙ sym (mapped-length (λ t. t.depth) f.outputs.trees.items)
+      (length-map f.outputs.trees.items (known_of pool)
+      ∙ sym (length-map f.outputs.trees.items (λ t. t.depth))
       ∙ ap length keeps.deep
       ∙ total-is (λ (s : Name × Step). levels_at v.flow s.1) v.flow.steps)
 

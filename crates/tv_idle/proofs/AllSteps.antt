@@ -2,13 +2,13 @@
 use Rattle.std.specs.Prelude.{◌≡◌, ℕ, zero, suc, ◌+◌, ◌<◌, ◌⊎◌, ◌==◌, ◌||◌, not, Bool, true, false, List, [], ◌∷◌, ◌++◌, length, map, slice_index_or, slice_set, refl}
 use Rattle.std.specs.List.{list_any}
 use Rattle.std.proofs.Common.{arith, ap, sym, subst, ◌∙◌, inl, inr}
-use Rattle.std.proofs.lemmas.Bool.{cases_eq, eq-eqb, eqb-true}
+use Rattle.std.proofs.lemmas.Bool.{cases_eq, eq-eqb, eqb-true, false_from_ne_true, or_cases, or_right}
 use Rattle.std.proofs.lemmas.List.{get_or-set_other, get_or-set_same, length-append, map-set}
 use Rattle.tv_ready.specs.Listed.{Listed, with_job}
 use Rattle.tv_idle.specs.declared.queues.Queues.{Queues}
 use Rattle.tv_idle.specs.Idles.{StepIdle, has_job, is_idle, is_idle_at, none_idle, of_step, with_idle, with_rooms_of, without}
 use Rattle.tv_idle.specs.Kept.{AreAllKept, AreKept, IsEmpty, IsGrown, IsKept, IsSame, IsTrimmed, is_gone, live, no_queues, queue_for, queues_of, shown, stands_at}
-use Rattle.tv_idle.proofs.Listing.{Job, either, gone-live, grown-has, grown-kept, has-below, is-false, kept-more, live-grown, live-has, or-right, other-kept, other-live, trimmed-has, trimmed-kept, trimmed-live, without-has}
+use Rattle.tv_idle.proofs.Listing.{Job, gone-live, grown-has, grown-kept, has-below, kept-more, live-grown, live-has, other-kept, other-live, trimmed-has, trimmed-kept, trimmed-live, without-has}
 
 -- ---- lists
 
@@ -16,27 +16,27 @@ module _ {A : Type 0} where
   any-set : (p : A → Bool) (xs : List A) (i : ℕ) (y d : A) → (p (slice_index_or xs i d) ≡ true → p y ≡ true) → list_any p xs ≡ true → list_any p (slice_set xs i y) ≡ true
   any-set p [] i y d h e = cc
   any-set p (x ∷ xs) zero y d h e =
-      elim (either (p x) (list_any p xs) e) [
+      elim (or_cases (p x) (list_any p xs) e) [
         | inl a ↦ ap (λ b. b || list_any p xs) (h a)
-        | inr a ↦ or-right (p y) (list_any p xs) a
+        | inr a ↦ or_right (p y) (list_any p xs) a
       ]
   any-set p (x ∷ xs) (suc i) y d h e =
-      elim (either (p x) (list_any p xs) e) [
+      elim (or_cases (p x) (list_any p xs) e) [
         | inl a ↦ ap (λ b. b || list_any p (slice_set xs i y)) a
-        | inr a ↦ or-right (p x) (list_any p (slice_set xs i y)) (any-set p xs i y d h a)
+        | inr a ↦ or_right (p x) (list_any p (slice_set xs i y)) (any-set p xs i y d h a)
       ]
 
   any-here : (p : A → Bool) (xs : List A) (i : ℕ) (y : A) → i < length xs → p y ≡ true → list_any p (slice_set xs i y) ≡ true
   any-here p [] i y l e = absurd (omega arith)
   any-here p (x ∷ xs) zero y l e = ap (λ b. b || list_any p xs) e
-  any-here p (x ∷ xs) (suc i) y l e = or-right (p x) (list_any p (slice_set xs i y)) (any-here p xs i y (omega arith) e)
+  any-here p (x ∷ xs) (suc i) y l e = or_right (p x) (list_any p (slice_set xs i y)) (any-here p xs i y (omega arith) e)
 
   any-front : (p : A → Bool) (xs ys : List A) → list_any p xs ≡ true → list_any p (xs ++ ys) ≡ true
   any-front p [] ys e = cc
   any-front p (x ∷ xs) ys e =
-      elim (either (p x) (list_any p xs) e) [
+      elim (or_cases (p x) (list_any p xs) e) [
         | inl a ↦ ap (λ b. b || list_any p (xs ++ ys)) a
-        | inr a ↦ or-right (p x) (list_any p (xs ++ ys)) (any-front p xs ys a)
+        | inr a ↦ or_right (p x) (list_any p (xs ++ ys)) (any-front p xs ys a)
       ]
 
 map-one-more : (f : Queues → StepIdle) (qs : List Queues) (q : Queues) → map f (qs ++ q ∷ []) ≡ map f qs ++ f q ∷ []
@@ -64,10 +64,10 @@ set-agree f g (q ∷ qs) (suc s) y h = (λ i. h 0 (λ e. absurd (omega arith)) i
 pub idle-not-gone : (g : ℕ → Bool) (qs : List Queues) (n : ℕ) → is_idle (map (shown g) qs) n ≡ true → g n ≡ false
 idle-not-gone g [] n e = cc
 idle-not-gone g (q ∷ qs) n e =
-    elim (either (is_idle_at n (shown g q)) (is_idle (map (shown g) qs) n) e) [
+    elim (or_cases (is_idle_at n (shown g q)) (is_idle (map (shown g) qs) n) e) [
       | inr a ↦ idle-not-gone g qs n a
       | inl a ↦
-          elim (either (has_job n (live g q.good.jobs)) (has_job n (live g q.faulty.jobs)) a) [
+          elim (or_cases (has_job n (live g q.good.jobs)) (has_job n (live g q.faulty.jobs)) a) [
             | inl b ↦ (live-has g n q.good.jobs b).1
             | inr b ↦ (live-has g n q.faulty.jobs b).1
           ]
@@ -77,20 +77,20 @@ pub idle-is : (g : ℕ → Bool) (known : ℕ) (qs : List Queues) (n : ℕ) → 
 idle-is g known qs n a l = by (g n) refl
   where
     by : (b : Bool) → g n ≡ b → not b ≡ is_idle (map (shown g) qs) n
-    by true e = sym (is-false (is_idle (map (shown g) qs) n) (λ h. let f : false ≡ true = sym (idle-not-gone g qs n h) ∙ e in cc))
+    by true e = sym (false_from_ne_true (is_idle (map (shown g) qs) n) (λ h. let f : false ≡ true = sym (idle-not-gone g qs n h) ∙ e in cc))
     by false e = sym (a.idle n l e)
 
 -- one that is idle at a step stands there
 pub stands-here : (g : ℕ → Bool) (q : Queues) (n : ℕ) → is_idle_at n (shown g q) ≡ true → stands_at n q ≡ true
 stands-here g q n e =
-    elim (either (has_job n (live g q.good.jobs)) (has_job n (live g q.faulty.jobs)) e) [
+    elim (or_cases (has_job n (live g q.good.jobs)) (has_job n (live g q.faulty.jobs)) e) [
       | inl a ↦ ap (λ b. b || has_job n q.faulty.jobs) (live-has g n q.good.jobs a).0
-      | inr a ↦ or-right (has_job n q.good.jobs) (has_job n q.faulty.jobs) (live-has g n q.faulty.jobs a).0
+      | inr a ↦ or_right (has_job n q.good.jobs) (has_job n q.faulty.jobs) (live-has g n q.faulty.jobs a).0
     ]
 
 pub stands-below : (g : ℕ → Bool) (known : ℕ) (q : Queues) (n : ℕ) → AreKept g known q → stands_at n q ≡ true → n < known
 stands-below g known q n k e =
-    elim (either (has_job n q.good.jobs) (has_job n q.faulty.jobs) e) [
+    elim (or_cases (has_job n q.good.jobs) (has_job n q.faulty.jobs) e) [
       | inl a ↦ has-below known n q.good.jobs k.good.below a
       | inr a ↦ has-below known n q.faulty.jobs k.faulty.below a
     ]
@@ -134,7 +134,7 @@ module _ (was gone : ℕ → Bool) (n known : ℕ) (qs : List Queues) (s : ℕ) 
     before = queues_of qs s
 
     not-there : (k : ℕ) → (k ≡ s → ⊥) → stands_at n (queues_of qs k) ≡ false
-    not-there k ne = is-false (stands_at n (queues_of qs k)) (λ e. ne (all.apart n k s e stands))
+    not-there k ne = false_from_ne_true (stands_at n (queues_of qs k)) (λ e. ne (all.apart n k s e stands))
 
     first-none : (a b : Bool) → (a || b) ≡ false → a ≡ false
     first-none true b e = cc
@@ -195,9 +195,9 @@ module _ (was gone : ℕ → Bool) (n known : ℕ) (qs : List Queues) (s : ℕ) 
           | inl same ↦ λ e.
               let e2 : stands_at m q ≡ true = ap (stands_at m) (sym (ap (queues_of (slice_set qs s q)) same ∙ at-step qs s q (stands-within qs s n stands))) ∙ e in
               ap (λ j. stands_at m (queues_of qs j)) same
-              ∙ elim (either (has_job m q.good.jobs) (has_job m q.faulty.jobs) e2) [
+              ∙ elim (or_cases (has_job m q.good.jobs) (has_job m q.faulty.jobs) e2) [
                 | inl a ↦ ap (λ b. b || has_job m before.faulty.jobs) (trimmed-has gone m before.good.jobs (ap (has_job m) (sym good.jobs) ∙ a))
-                | inr a ↦ or-right (has_job m before.good.jobs) (has_job m before.faulty.jobs) (trimmed-has gone m before.faulty.jobs (ap (has_job m) (sym faulty.jobs) ∙ a))
+                | inr a ↦ or_right (has_job m before.good.jobs) (has_job m before.faulty.jobs) (trimmed-has gone m before.faulty.jobs (ap (has_job m) (sym faulty.jobs) ∙ a))
               ]
         ]
 
@@ -232,20 +232,20 @@ own-number n m e = eq-eqb n m (sym e)
 
 newest : (b : Bool) (j : Job) (m : ℕ) (st : StepIdle) → m ≡ j.0 → is_idle_at m (with_idle b j st) ≡ true
 newest true j m st e =
-    or-right (has_job m st.good) (has_job m (with_job j st.faulty)) (grown-has m j st.faulty ∙ ap (λ b. b || has_job m st.faulty) (own-number j.0 m e))
+    or_right (has_job m st.good) (has_job m (with_job j st.faulty)) (grown-has m j st.faulty ∙ ap (λ b. b || has_job m st.faulty) (own-number j.0 m e))
 newest false j m st e =
     ap (λ b. b || has_job m st.faulty) (grown-has m j st.good ∙ ap (λ b. b || has_job m st.good) (own-number j.0 m e))
 
 still : (b : Bool) (j : Job) (m : ℕ) (st : StepIdle) → is_idle_at m st ≡ true → is_idle_at m (with_idle b j st) ≡ true
 still true j m st h =
-    elim (either (has_job m st.good) (has_job m st.faulty) h) [
+    elim (or_cases (has_job m st.good) (has_job m st.faulty) h) [
       | inl a ↦ ap (λ b. b || has_job m (with_job j st.faulty)) a
-      | inr a ↦ or-right (has_job m st.good) (has_job m (with_job j st.faulty)) (grown-has m j st.faulty ∙ or-right (j.0 == m) (has_job m st.faulty) a)
+      | inr a ↦ or_right (has_job m st.good) (has_job m (with_job j st.faulty)) (grown-has m j st.faulty ∙ or_right (j.0 == m) (has_job m st.faulty) a)
     ]
 still false j m st h =
-    elim (either (has_job m st.good) (has_job m st.faulty) h) [
-      | inl a ↦ ap (λ b. b || has_job m st.faulty) (grown-has m j st.good ∙ or-right (j.0 == m) (has_job m st.good) a)
-      | inr a ↦ or-right (has_job m (with_job j st.good)) (has_job m st.faulty) a
+    elim (or_cases (has_job m st.good) (has_job m st.faulty) h) [
+      | inl a ↦ ap (λ b. b || has_job m st.faulty) (grown-has m j st.good ∙ or_right (j.0 == m) (has_job m st.good) a)
+      | inr a ↦ or_right (has_job m (with_job j st.good)) (has_job m st.faulty) a
     ]
 
 pub map-longer : (f : Queues → StepIdle) (qs : List Queues) → length (map f qs) ≡ length qs
@@ -332,7 +332,7 @@ module _ (g : ℕ → Bool) (known : ℕ) (place : List ℕ) (qs : List Queues) 
               let e2 : ((known == m) || stands_at m here) ≡ true =
               sym (grown-stands b q m grown other) ∙ ap (stands_at m) (sym (ap (queues_of (slice_set qs s q)) same ∙ at-step qs s q inside)) ∙ e
               in
-              elim (either (known == m) (stands_at m here) e2) [
+              elim (or_cases (known == m) (stands_at m here) e2) [
                 | inl a ↦ inr (sym (eqb-true known m a), same)
                 | inr a ↦ inl (ap (λ j. stands_at m (queues_of qs j)) same ∙ a)
               ]
@@ -486,10 +486,10 @@ set-mark gs n l m =
       | inl e ↦
           ap (is_gone (slice_set gs n true)) e
           ∙ get_or-set_same gs n true false l
-          ∙ sym (or-right (is_gone gs m) (m == n) (eq-eqb m n e))
+          ∙ sym (or_right (is_gone gs m) (m == n) (eq-eqb m n e))
       | inr ne ↦
           get_or-set_other gs n m true false ne
-          ∙ sym (ap (λ b. is_gone gs m || b) (is-false (m == n) (λ e. ne (eqb-true m n e))) ∙ or-none (is_gone gs m))
+          ∙ sym (ap (λ b. is_gone gs m || b) (false_from_ne_true (m == n) (λ e. ne (eqb-true m n e))) ∙ or-none (is_gone gs m))
     ]
   where
     or-none : (b : Bool) → (b || false) ≡ b

@@ -1,11 +1,11 @@
 -- The jobs of one queue: where some go, where those at the front are dropped, and where one more is put.
-use Rattle.std.specs.Prelude.{◌≡◌, ℕ, ◌+◌, ◌<◌, ◌⊎◌, ◌==◌, ◌&&◌, ◌||◌, not, cond, if◌then◌else◌, nat_lt, Bool, true, false, List, [], ◌∷◌, Some, drop, filter, length, refl}
+use Rattle.std.specs.Prelude.{◌≡◌, ℕ, ◌+◌, ◌<◌, ◌==◌, ◌&&◌, ◌||◌, not, cond, if◌then◌else◌, nat_lt, Bool, true, false, List, [], ◌∷◌, Some, drop, filter, length, refl}
 use Rattle.std.specs.Cmp.{IsStrictWeakOrder}
 use Rattle.std.specs.Cmp.Lexicographic.{slice_cmp}
 use Rattle.std.specs.List.{list_all}
 use Rattle.std.specs.Ordering.{is_lt, nat_cmp}
 use Rattle.std.proofs.Common.{arith, ap, sym, ◌∙◌, inl, inr}
-use Rattle.std.proofs.lemmas.Bool.{eqb-true, lt-ltb, ltb-true}
+use Rattle.std.proofs.lemmas.Bool.{eqb-true, lt-ltb, ltb-true, and_parts, not-true, or_cases, or_right}
 use Rattle.std.proofs.lemmas.Cmp.{nat_list_cmp_total}
 use Rattle.std.proofs.lemmas.List.MinMax.{ranks_by}
 use Rattle.tv_ready.specs.Listed.{with_job}
@@ -18,42 +18,22 @@ Job = ℕ × List ℕ
 
 -- ---- tests
 
-pub both : (a b : Bool) → (a && b) ≡ true → (a ≡ true) × (b ≡ true)
-both true b e = (refl, e)
-both false b e = cc
-
-pub either : (a b : Bool) → (a || b) ≡ true → (a ≡ true) ⊎ (b ≡ true)
-either true b e = inl refl
-either false b e = inr e
-
-pub or-right : (a b : Bool) → b ≡ true → (a || b) ≡ true
-or-right true b e = refl
-or-right false b e = e
-
 or-turned : (a b c : Bool) → (a || (b || c)) ≡ (b || (a || c))
 or-turned true true c = refl
 or-turned true false c = refl
 or-turned false true c = refl
 or-turned false false c = refl
 
-pub is-false : (b : Bool) → (b ≡ true → ⊥) → b ≡ false
-is-false true h = absurd (h refl)
-is-false false h = refl
-
-not-false : (b : Bool) → not b ≡ true → b ≡ false
-not-false true e = cc
-not-false false e = refl
-
 all-by : (p q : Job → Bool) (js : List Job) → ((j : Job) → p j ≡ true → q j ≡ true) → list_all p js ≡ true → list_all q js ≡ true
 all-by p q [] h e = refl
-all-by p q (j ∷ js) h e = let b = both (p j) (list_all p js) e in ap (λ c. c && list_all q js) (h j b.0) ∙ all-by p q js h b.1
+all-by p q (j ∷ js) h e = let b = and_parts (p j) (list_all p js) e in ap (λ c. c && list_all q js) (h j b.0) ∙ all-by p q js h b.1
 
 all-filtered : (p q : Job → Bool) (js : List Job) → list_all p js ≡ true → list_all p (filter q js) ≡ true
 all-filtered p q [] e = refl
-all-filtered p q (j ∷ js) e = by (q j) (all-filtered p q js (both (p j) (list_all p js) e).1)
+all-filtered p q (j ∷ js) e = by (q j) (all-filtered p q js (and_parts (p j) (list_all p js) e).1)
   where
     by : (b : Bool) → list_all p (filter q js) ≡ true → list_all p (cond b (j ∷ filter q js) (filter q js)) ≡ true
-    by true r = ap (λ c. c && list_all p (filter q js)) (both (p j) (list_all p js) e).0 ∙ r
+    by true r = ap (λ c. c && list_all p (filter q js)) (and_parts (p j) (list_all p js) e).0 ∙ r
     by false r = r
 
 -- ---- the order of places
@@ -85,7 +65,7 @@ module _ (gone : ℕ → Bool) where
 
   trimmed-all : (p : Job → Bool) (js : List Job) → list_all p js ≡ true → list_all p (trimmed gone js) ≡ true
   trimmed-all p [] e = refl
-  trimmed-all p (j ∷ js) e = by (gone j.0) (trimmed-all p js (both (p j) (list_all p js) e).1)
+  trimmed-all p (j ∷ js) e = by (gone j.0) (trimmed-all p js (and_parts (p j) (list_all p js) e).1)
     where
       by : (b : Bool) → list_all p (trimmed gone js) ≡ true → list_all p (if b then trimmed gone js else j ∷ js) ≡ true
       by true r = r
@@ -101,7 +81,7 @@ module _ (gone : ℕ → Bool) where
 
   trimmed-order : (js : List Job) → are_in_order js ≡ true → are_in_order (trimmed gone js) ≡ true
   trimmed-order [] e = refl
-  trimmed-order (j ∷ js) e = by (gone j.0) (trimmed-order js (both (list_all (λ k. not (lt k j)) js) (are_in_order js) e).1)
+  trimmed-order (j ∷ js) e = by (gone j.0) (trimmed-order js (and_parts (list_all (λ k. not (lt k j)) js) (are_in_order js) e).1)
     where
       by : (b : Bool) → are_in_order (trimmed gone js) ≡ true → are_in_order (if b then trimmed gone js else j ∷ js) ≡ true
       by true r = r
@@ -112,7 +92,7 @@ module _ (gone : ℕ → Bool) where
   trimmed-has n (j ∷ js) e = by (gone j.0) (trimmed-has n js) e
     where
       by : (b : Bool) → (has_job n (trimmed gone js) ≡ true → has_job n js ≡ true) → has_job n (if b then trimmed gone js else j ∷ js) ≡ true → has_job n (j ∷ js) ≡ true
-      by true r e = or-right (j.0 == n) (has_job n js) (r e)
+      by true r e = or_right (j.0 == n) (has_job n js) (r e)
       by false r e = e
 
   -- what is trimmed is kept
@@ -144,22 +124,22 @@ module _ (gone : ℕ → Bool) where
     where
       by : (b : Bool) → gone j.0 ≡ b → (has_job n (live gone js) ≡ true → (has_job n js ≡ true) × (gone n ≡ false))
           → has_job n (cond (not b) (j ∷ live gone js) (live gone js)) ≡ true → (has_job n (j ∷ js) ≡ true) × (gone n ≡ false)
-      by true g r e = (or-right (j.0 == n) (has_job n js) (r e).0, (r e).1)
+      by true g r e = (or_right (j.0 == n) (has_job n js) (r e).0, (r e).1)
       by false g r e =
-          elim (either (j.0 == n) (has_job n (live gone js)) e) [
+          elim (or_cases (j.0 == n) (has_job n (live gone js)) e) [
             | inl same ↦ (ap (λ b. b || has_job n js) same, sym (ap gone (eqb-true j.0 n same)) ∙ g)
-            | inr there ↦ (or-right (j.0 == n) (has_job n js) (r there).0, (r there).1)
+            | inr there ↦ (or_right (j.0 == n) (has_job n js) (r there).0, (r there).1)
           ]
 
   -- ---- one more
 
   pub live-grown : (j : Job) (js : List Job) → gone j.0 ≡ false → are_in_order js ≡ true → live gone (with_job j js) ≡ with_job j (live gone js)
   live-grown j [] e o = ap (λ b. cond (not b) (j ∷ []) []) e
-  live-grown j (k ∷ ks) e o = by (lt j k) refl (live-grown j ks e (both (list_all (λ m. not (lt m k)) ks) (are_in_order ks) o).1)
+  live-grown j (k ∷ ks) e o = by (lt j k) refl (live-grown j ks e (and_parts (list_all (λ m. not (lt m k)) ks) (are_in_order ks) o).1)
     where
       front : (ls : List Job) → list_all (lt j) ls ≡ true → j ∷ ls ≡ with_job j ls
       front [] h = refl
-      front (l ∷ ls) h = sym (ap (λ b. if b then j ∷ l ∷ ls else l ∷ with_job j ls) (both (lt j l) (list_all (lt j) ls) h).0)
+      front (l ∷ ls) h = sym (ap (λ b. if b then j ∷ l ∷ ls else l ∷ with_job j ls) (and_parts (lt j l) (list_all (lt j) ls) h).0)
 
       rest : (c : Bool) → gone k.0 ≡ c → lt j k ≡ false → live gone (with_job j ks) ≡ with_job j (live gone ks)
           → cond (not c) (k ∷ live gone (with_job j ks)) (live gone (with_job j ks)) ≡ with_job j (cond (not c) (k ∷ live gone ks) (live gone ks))
@@ -169,7 +149,7 @@ module _ (gone : ℕ → Bool) where
       by : (b : Bool) → lt j k ≡ b → live gone (with_job j ks) ≡ with_job j (live gone ks)
           → live gone (if b then j ∷ k ∷ ks else k ∷ with_job j ks) ≡ with_job j (live gone (k ∷ ks))
       by true h r =
-          let later = all-by (λ m. not (lt m k)) (lt j) ks (λ m f. before-later j k m h (not-false (lt m k) f)) (both (list_all (λ m. not (lt m k)) ks) (are_in_order ks) o).0 in
+          let later = all-by (λ m. not (lt m k)) (lt j) ks (λ m f. before-later j k m h (not-true (lt m k) f)) (and_parts (list_all (λ m. not (lt m k)) ks) (are_in_order ks) o).0 in
           let all : list_all (lt j) (k ∷ ks) ≡ true = ap (λ b. b && list_all (lt j) ks) h ∙ later in
           ap (λ b. cond (not b) (j ∷ live gone (k ∷ ks)) (live gone (k ∷ ks))) e
           ∙ front (live gone (k ∷ ks)) (all-filtered (lt j) (λ i. not (gone i.0)) (k ∷ ks) all)
@@ -185,24 +165,24 @@ module _ (gone : ℕ → Bool) where
 
 grown-all : (p : Job → Bool) (j : Job) (js : List Job) → p j ≡ true → list_all p js ≡ true → list_all p (with_job j js) ≡ true
 grown-all p j [] h e = ap (λ b. b && true) h
-grown-all p j (k ∷ ks) h e = by (lt j k) (grown-all p j ks h (both (p k) (list_all p ks) e).1)
+grown-all p j (k ∷ ks) h e = by (lt j k) (grown-all p j ks h (and_parts (p k) (list_all p ks) e).1)
   where
     by : (b : Bool) → list_all p (with_job j ks) ≡ true → list_all p (if b then j ∷ k ∷ ks else k ∷ with_job j ks) ≡ true
     by true r = ap (λ b. b && list_all p (k ∷ ks)) h ∙ e
-    by false r = ap (λ b. b && list_all p (with_job j ks)) (both (p k) (list_all p ks) e).0 ∙ r
+    by false r = ap (λ b. b && list_all p (with_job j ks)) (and_parts (p k) (list_all p ks) e).0 ∙ r
 
 pub grown-order : (j : Job) (js : List Job) → are_in_order js ≡ true → are_in_order (with_job j js) ≡ true
 grown-order j [] o = refl
-grown-order j (k ∷ ks) o = by (lt j k) refl (grown-order j ks (both (list_all (λ m. not (lt m k)) ks) (are_in_order ks) o).1)
+grown-order j (k ∷ ks) o = by (lt j k) refl (grown-order j ks (and_parts (list_all (λ m. not (lt m k)) ks) (are_in_order ks) o).1)
   where
     by : (b : Bool) → lt j k ≡ b → are_in_order (with_job j ks) ≡ true → are_in_order (if b then j ∷ k ∷ ks else k ∷ with_job j ks) ≡ true
     by true h r =
         let back : lt k j ≡ false = order.one_way j k h in
-        let later = all-by (λ m. not (lt m k)) (λ m. not (lt m j)) ks (λ m f. ap (λ b. not b) (order.chain m k j (not-false (lt m k) f) back)) (both (list_all (λ m. not (lt m k)) ks) (are_in_order ks) o).0 in
+        let later = all-by (λ m. not (lt m k)) (λ m. not (lt m j)) ks (λ m f. ap (λ b. not b) (order.chain m k j (not-true (lt m k) f) back)) (and_parts (list_all (λ m. not (lt m k)) ks) (are_in_order ks) o).0 in
         let first : list_all (λ m. not (lt m j)) (k ∷ ks) ≡ true = ap (λ b. not b && list_all (λ m. not (lt m j)) ks) back ∙ later in
         ap (λ b. b && are_in_order (k ∷ ks)) first ∙ o
     by false h r =
-        let first = grown-all (λ m. not (lt m k)) j ks (ap (λ b. not b) h) (both (list_all (λ m. not (lt m k)) ks) (are_in_order ks) o).0 in
+        let first = grown-all (λ m. not (lt m k)) j ks (ap (λ b. not b) h) (and_parts (list_all (λ m. not (lt m k)) ks) (are_in_order ks) o).0 in
         ap (λ b. b && are_in_order (with_job j ks)) first ∙ r
 
 pub below-more : (n : ℕ) (js : List Job) → are_below n js ≡ true → are_below (n + 1) js ≡ true
@@ -210,11 +190,11 @@ below-more n js e = all-by (λ j. nat_lt j.0 n) (λ j. nat_lt j.0 (n + 1)) js (�
 
 pub below-next : (n : ℕ) (js : List Job) → are_below n js ≡ true → are_below n (drop 1 js) ≡ true
 below-next n [] e = e
-below-next n (j ∷ js) e = (both (nat_lt j.0 n) (are_below n js) e).1
+below-next n (j ∷ js) e = (and_parts (nat_lt j.0 n) (are_below n js) e).1
 
 pub first-below : (n m : ℕ) (js : List Job) → are_below n js ≡ true → Some m ≡ first_number js → m < n
 first-below n m [] e f = cc
-first-below n m (j ∷ js) e f = let same : m ≡ j.0 = cc in let low = ltb-true j.0 n (both (nat_lt j.0 n) (are_below n js) e).0 in omega (arith, same, low)
+first-below n m (j ∷ js) e f = let same : m ≡ j.0 = cc in let low = ltb-true j.0 n (and_parts (nat_lt j.0 n) (are_below n js) e).0 in omega (arith, same, low)
 
 -- the next job is kept
 pub grown-kept : (gone : ℕ → Bool) (n : ℕ) (q : List ℕ) (js : List Job) → gone n ≡ false → IsKept gone n js → IsKept gone (n + 1) (with_job (n, q) js)
@@ -241,8 +221,8 @@ has-below n m [] b h = absurd (none h)
     none : false ≡ true → ⊥
     none e = cc
 has-below n m (j ∷ js) b h =
-    let low = both (nat_lt j.0 n) (are_below n js) b in
-    elim (either (j.0 == m) (has_job m js) h) [
+    let low = and_parts (nat_lt j.0 n) (are_below n js) b in
+    elim (or_cases (j.0 == m) (has_job m js) h) [
       | inl same ↦ let e = eqb-true j.0 m same in let a = ltb-true j.0 n low.0 in omega (arith, e, a)
       | inr there ↦ has-below n m js low.1 there
     ]

@@ -8,6 +8,7 @@ use Rattle.std.proofs.lemmas.Bool.{or_right, true≢false}
 use Rattle.std.proofs.lemmas.List.{map-append}
 use Rattle.std.proofs.lemmas.Option.{none-some, same_Some}
 use Rattle.std.proofs.lemmas.List.{append_cancel_left}
+use Rattle.std.specs.Cmp.Derive.{one_truth}
 use Rattle.tv_value.specs.Nested.{leaf, list, Trees, no_trees, tree, Place, count, at, item_at, notes, all_notes, nodes_below, nodes_from, map_trees}
 use Rattle.tv_value.specs.Values.{JobName, Scalar, Value}
 use Rattle.tv_strategy.specs.Origins.{Origin, Traced, traced, from_job, from_level}
@@ -36,13 +37,8 @@ module _ (known : Origin → Bool) (o : Origin) where
 
 -- ---- numbers
 
-pub same_tests : (a b : Bool) → (a ≡ true → b ≡ true) → (b ≡ true → a ≡ true) → a ≡ b
-same_tests true b f g = sym (f refl)
-same_tests false true f g = g refl
-same_tests false false f g = refl
-
 pub same_sucs : (m n : ℕ) → (m == n) ≡ ((1 + m) == suc n)
-same_sucs m n = same_tests (m == n) ((1 + m) == suc n) (λ e. eq-eqb (1 + m) (suc n) (up m n (eqb-true m n e))) (λ e. eq-eqb m n (down m n (eqb-true (1 + m) (suc n) e)))
+same_sucs m n = one_truth (m == n) ((1 + m) == suc n) (λ e. eq-eqb (1 + m) (suc n) (up m n (eqb-true m n e))) (λ e. eq-eqb m n (down m n (eqb-true (1 + m) (suc n) e)))
   where
     up : (a b : ℕ) → a ≡ b → 1 + a ≡ suc b
     up a b e = omega arith

@@ -34,11 +34,11 @@ as_made f = record { step = f.step; jobs = [] }
 abbrev pub forgotten : InstanceStep → StepDepths
 forgotten f = forget (as_made f)
 
-steps-all : (fs : List InstanceStep) → map step_in (map as_made fs) ≡ map step_of fs
+pub steps-all : (fs : List InstanceStep) → map step_in (map as_made fs) ≡ map step_of fs
 steps-all [] = refl
 steps-all (f ∷ fs) = ap (λ l. f.step ∷ l) (steps-all fs)
 
-right-all : (fs : List InstanceStep) → Each (λ (f : InstanceStep). AreRight f.step.outputs) fs → Each (λ (m : Made). AreRight m.step.outputs) (map as_made fs)
+pub right-all : (fs : List InstanceStep) → Each (λ (f : InstanceStep). AreRight f.step.outputs) fs → Each (λ (m : Made). AreRight m.step.outputs) (map as_made fs)
 right-all [] h = tt
 right-all (f ∷ fs) h = (h.0, right-all fs h.1)
 

@@ -11,3 +11,4 @@ pub mod InDepth
 pub mod OfLevels
 pub mod OfMeant
 pub mod OfLaws
+pub mod OfOutputs

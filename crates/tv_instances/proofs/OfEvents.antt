@@ -4,9 +4,11 @@ use Rattle.std.specs.Prelude.{◌≡◌, refl, List, [], ◌∷◌, Bool, true, 
 use Rattle.std.specs.Cmp.Lexicographic.{bytes_decides}
 use Rattle.std.proofs.Common.{sym, ap, ap₂, ◌∙◌}
 use Rattle.std.proofs.lemmas.Bool.{and_from, and_parts, true≢false}
+use Rattle.std.specs.Cmp.Derive.{one_truth}
 use Rattle.tv_value.specs.Nested.{leaf, list, Place}
 use Rattle.tv_value.specs.Values.{JobName, Name}
 use Rattle.tv_value.specs.Orders.{same_job, same_name}
+use Rattle.tv_value.proofs.OfJobNames.{same_job_decides}
 use Rattle.tv_strategy.specs.Origins.{Known, Origin, at_start, by_job, by_level}
 use Rattle.tv_strategy.specs.Iterations.{job, passed, Iteration}
 use Rattle.tv_strategy.specs.Sources.{Each}
@@ -15,11 +17,9 @@ use Rattle.tv_model.specs.Made.{Meaning}
 use Rattle.tv_history.specs.Entries.{History}
 use Rattle.tv_history.specs.Histories.{is_known, all_known, has_entry, is_settled_name}
 use Rattle.tv_model.proofs.Sound.{spot-step}
-use Rattle.tv_model.proofs.Tests.{same_job_decides}
 use Rattle.tv_instance.specs.Endings.{IsOwn}
 use Rattle.tv_instance.specs.Events.{Event, Events, closed, event_place, event_step, fault_set, gave, gives_at, has_level, has_result, is_known_by, is_of, is_spot, known_by, levels_at, took}
 use Rattle.tv_instance.specs.Wholeness.{origin_at}
-use Rattle.tv_instance.proofs.OfWholeness.{same_tests}
 use Rattle.tv_instances.specs.InHistory.{IsPartOf}
 
 -- ---- one event more
@@ -64,7 +64,7 @@ module _ (instance : JobName) where
 
   pub spot-test : (s t : Name) (q r : Place) → is_spot s q t r ≡ same_job (spot instance s q) (spot instance t r)
   spot-test s t q r =
-      same_tests (is_spot s q t r) (same_job (spot instance s q) (spot instance t r))
+      one_truth (is_spot s q t r) (same_job (spot instance s q) (spot instance t r))
       (λ h. (same_job_decides (spot instance s q) (spot instance t r)).1 (ap₂ (λ a b. spot instance a b) ((bytes_decides s t).0 ((and_parts (same_name s t) (same_name q r) h).0)) ((bytes_decides q r).0 ((and_parts (same_name s t) (same_name q r) h).1))))
       (λ h. let e = here s t q r h in and_from (same_name s t) (same_name q r) ((bytes_decides s t).1 e.0) ((bytes_decides q r).1 e.1))
 

@@ -8,6 +8,7 @@ use Rattle.std.proofs.lemmas.Bool.{and_parts}
 use Rattle.tv_value.specs.Nested.{Place}
 use Rattle.tv_value.specs.Orders.{same_job, same_name}
 use Rattle.tv_value.specs.Values.{ErrorDoc, JobName, Name, Value}
+use Rattle.tv_value.proofs.OfJobNames.{same_job_decides}
 use Rattle.tv_depths.specs.Steps.{spot}
 use Rattle.tv_model.specs.Jobs.{Job}
 use Rattle.tv_model.specs.Lists.{first_of_list, rest_of}
@@ -15,7 +16,6 @@ use Rattle.tv_model.specs.Made.{Meaning}
 use Rattle.tv_model.specs.Turns.{is_bounced}
 use Rattle.tv_history.specs.Entries.{Entry, History, closed, fault_passed, handed_out, is_accepted, is_begun_entry, is_bounced_entry, is_ended_entry, opened, recalled}
 use Rattle.tv_history.specs.Histories.{asks_left, has_entry, is_settled, is_settled_name}
-use Rattle.tv_model.proofs.Tests.{same_job_decides}
 use Rattle.tv_instance.specs.Events as events
 use Rattle.tv_instance.specs.Events.{Events, fault_set, gave, has_level, has_result, is_spot, is_taken, took}
 use Rattle.tv_instances.specs.InHistory.{IsPartOf, Settles, SettlesNot, StaysSettled, TellsNothing}

@@ -7,9 +7,9 @@ use Rattle.std.proofs.lemmas.Bool.{and_from, cond-true, or_right}
 use Rattle.tv_value.specs.Nested.{Place, at, leaf, list}
 use Rattle.tv_value.specs.Orders.{same_job, same_name}
 use Rattle.tv_value.specs.Values.{JobName, Name}
+use Rattle.tv_value.proofs.OfJobNames.{same_job_decides}
 use Rattle.tv_strategy.specs.Iterations.{Iteration, job, passed}
 use Rattle.tv_depths.specs.Steps.{spot}
-use Rattle.tv_model.proofs.Tests.{same_job_decides}
 use Rattle.tv_instance.specs.Events as events
 use Rattle.tv_instance.specs.ByResults.{InstanceStep, Results}
 use Rattle.tv_instance.specs.Events.{Event, Events, Extends, event_place, event_step, fault_set, gave, has_result, is_spot, is_telling, known_by, took}

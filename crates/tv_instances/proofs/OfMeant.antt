@@ -6,6 +6,7 @@ use Rattle.std.proofs.lemmas.Bool.{true≢false}
 use Rattle.tv_value.specs.Nested.{leaf, list, no_trees, tree, Place, nodes}
 use Rattle.tv_value.specs.Orders.{same_job}
 use Rattle.tv_value.specs.Values.{HasDepth, JobName, Name, Value}
+use Rattle.tv_value.proofs.OfJobNames.{same_job_decides}
 use Rattle.tv_gate.specs.Outcomes.{Giving}
 use Rattle.tv_flow.specs.Flows.{Step}
 use Rattle.tv_strategy.specs.Iterations.{Binding, Iteration, Iterations, job, passed}
@@ -22,7 +23,6 @@ use Rattle.tv_model.specs.Members.{In}
 use Rattle.tv_model.proofs.Formed.{IsNode, nodes-in}
 use Rattle.tv_model.proofs.Members.{in-flat}
 use Rattle.tv_model.proofs.Sound.{AllStand, AllStandFrom}
-use Rattle.tv_model.proofs.Tests.{same_job_decides}
 use Rattle.tv_instance.specs.ByResults.{InstanceStep, Results, result_at, step_by}
 use Rattle.tv_instance.specs.OwnDepths.{AllJobsGive, JobsGive}
 use Rattle.tv_instances.specs.OwnResults.{AllMadeGive, JobOutside, outside_by_results, outside_of_made, results_of}

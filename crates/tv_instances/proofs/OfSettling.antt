@@ -2,13 +2,15 @@
 use Rattle.std.specs.Prelude.{◌≡◌, refl, ℕ, zero, suc, ◌==◌, ◌+◌, List, [], ◌∷◌, ◌++◌, true, false, not, ◌&&◌, ◌||◌, Option, Some, None, filter_map, is_none, option_and_then}
 use Rattle.std.specs.List.{list_all}
 use Rattle.std.specs.Option.{option_map_or}
-use Rattle.std.specs.Cmp.Lexicographic.{bytes_decides}
 use Rattle.std.proofs.Common.{arith, eq-eqb, sym, ap, subst, ◌∙◌, append_assoc, append-nil}
 use Rattle.std.proofs.lemmas.Bool.{not-true, and_from, and_parts}
 use Rattle.std.proofs.lemmas.Option.{none-some, same_Some}
+use Rattle.tv_lemmas.proofs.Numbers.{is-zero_plus}
 use Rattle.tv_value.specs.Nested.{leaf, list, no_trees, tree, Place, at, count, item_at, nodes, note}
-use Rattle.tv_value.specs.Orders.{same_job, same_name}
-use Rattle.tv_value.specs.Values.{ErrorDoc, JobName, Name}
+use Rattle.tv_value.specs.Orders.{same_job}
+use Rattle.tv_value.specs.Values.{ErrorDoc, JobName}
+use Rattle.tv_value.proofs.OfJobNames.{same_job_decides}
+use Rattle.tv_value.proofs.OfNames.{same_name-refl}
 use Rattle.tv_gate.specs.Outcomes.{Giving}
 use Rattle.tv_strategy.specs.Iterations.{Iteration, Iterations, job, passed}
 use Rattle.tv_strategy.specs.Origins.{Origin}
@@ -23,7 +25,6 @@ use Rattle.tv_history.specs.Histories.{can_settle, is_legal_after, is_open}
 use Rattle.tv_model.proofs.Formed.{IsNode, nodes-in}
 use Rattle.tv_model.proofs.Members.{in-flat, in-options, any-in}
 use Rattle.tv_model.proofs.Sound.{AllStand, AllStandFrom}
-use Rattle.tv_model.proofs.Tests.{same_job_decides}
 use Rattle.tv_instance.specs.Events as events
 use Rattle.tv_instance.specs.ByResults.{InstanceStep}
 use Rattle.tv_instance.specs.Endings.{IsOwn}
@@ -36,9 +37,6 @@ use Rattle.tv_instances.specs.InHistory.{Finds, IsPartOf}
 use Rattle.tv_instances.specs.Stated.{SettlementsAreLegal}
 
 -- ---- what holds of all nodes holds of the one at a place
-
-zero_left : (n : ℕ) → n ≡ 0 + n
-zero_left n = omega arith
 
 same-end : (a b : ℕ) → a ≡ b + 0 → b ≡ a
 same-end a b e = omega arith
@@ -55,7 +53,7 @@ module _ (K : Place → Iteration → Type 0) where
         top (leaf s x) q h = h
         top (list s ts) q h = h.0
     stand-at (leaf s x) q (i ∷ r) u h e = absurd (none-some u e)
-    stand-at (list s ts) q (i ∷ r) u h e = stands-at ts q r 0 i i u (zero_left i) h.1 e
+    stand-at (list s ts) q (i ∷ r) u h e = stands-at ts q r 0 i i u (is-zero_plus i) h.1 e
 
     stands-at : (ts : Iterations) (q r : Place) (i k m : ℕ) (u : Iteration) → m ≡ i + k → AllStandFrom K q i ts → option_and_then (λ x. at x r) (item_at ts k) ≡ Some u → K (q ++ m ∷ r) u
     stands-at no_trees q r i k m u l h e = absurd (none-some u e)
@@ -81,9 +79,6 @@ module _ (P : Origin → Type 0) where
     all_sources-at (tree t ts) r zero u h e = sources-at t r u h.0 e
     all_sources-at (tree t ts) r (suc k) u h e = all_sources-at ts r k u h.1 e
 
-same-self : (s : Name) → same_name s s ≡ true
-same-self s = (bytes_decides s s).1 refl
-
 module _ (gives : Giving) (m : Meaning) (past : History) (instance : JobName) (es : Events) (part : IsPartOf m past instance es) (now : is_open past instance ≡ true) (fs : List InstanceStep) (f : InstanceStep) (self : Finds fs f) (mine : In f.step m.steps) (here : f.step.instance ≡ instance) (own : SourcesHave (λ o. IsOwn instance o.known) f.step.iteration) where
   -- the list or fault at a place of the step, as the meaning has it
   level-here : (q : Place) (u : Iteration) (l : Level) → at f.step.iteration q ≡ Some u → level_at f.step (q, u) ≡ Some l → In l (levels m.steps)
@@ -99,7 +94,7 @@ module _ (gives : Giving) (m : Meaning) (past : History) (instance : JobName) (e
   closing-legal q n h = by (at f.step.iteration q) refl (subst (FitsNode (events.closed f.step.step q n)) place h.fits) (subst (HasSources (known_by instance es)) place h.sources)
     where
       place : node_of fs (events.closed f.step.step q n) ≡ at f.step.iteration q
-      place = node-here instance fs f self (events.closed f.step.step q n) (same-self f.step.step)
+      place = node-here instance fs f self (events.closed f.step.step q n) (same_name-refl f.step.step)
 
       by : (o : Option Iteration) → at f.step.iteration q ≡ o → FitsNode (events.closed f.step.step q n) o → HasSources (known_by instance es) o → is_legal_after gives m past (closed (spot instance f.step.step q) n) ≡ true
       by None e k s = absurd s
@@ -115,7 +110,7 @@ module _ (gives : Giving) (m : Meaning) (past : History) (instance : JobName) (e
   passing-legal q d h = by (at f.step.iteration q) refl (subst (FitsNode (fault_set f.step.step q d)) place h.fits) (subst (HasSources (known_by instance es)) place h.sources)
     where
       place : node_of fs (fault_set f.step.step q d) ≡ at f.step.iteration q
-      place = node-here instance fs f self (fault_set f.step.step q d) (same-self f.step.step)
+      place = node-here instance fs f self (fault_set f.step.step q d) (same_name-refl f.step.step)
 
       by : (o : Option Iteration) → at f.step.iteration q ≡ o → FitsNode (fault_set f.step.step q d) o → HasSources (known_by instance es) o → is_legal_after gives m past (fault_passed (spot instance f.step.step q)) ≡ true
       by None e k s = absurd s

@@ -3,9 +3,12 @@ use Rattle.std.specs.Option.{option_map_or}
 use Rattle.std.specs.Prelude.{◌≡◌, ℕ, zero, suc, ◌+◌, ◌<◌, ◌≤◌, ◌==◌, Bool, true, false, if◌then◌else◌, List, [], ◌∷◌, ◌++◌, IsPermutation, Option, Some, None, drop, get_or, length, map, slice_get, slice_set, take, refl}
 use Rattle.std.proofs.Common.{arith, ap, sym, subst, ◌∙◌, append_assoc, append-nil, eq-eqb, length-append}
 use Rattle.std.proofs.lemmas.Bool.{eqb-true}
-use Rattle.std.proofs.lemmas.List.{length-map, take-append-drop}
+use Rattle.std.proofs.lemmas.List.{length-map, take-append-drop, map-append}
 use Rattle.std.proofs.lemmas.List.Sorted.{IsPermutation-append, IsPermutation-append_comm, IsPermutation-refl, IsPermutation-sym, IsPermutation-trans}
 use Rattle.std.proofs.lemmas.Option.{get_or_from_slice_get, slice_get_read, slice_get_within}
+use Rattle.std.proofs.lemmas.Simd.{map-map}
+use Rattle.tv_lemmas.proofs.Numbers.{none-below, suc-plus, is-plus_zero}
+use Rattle.tv_lemmas.proofs.Lists.{map-take, get-end}
 use Rattle.tv_value.specs.Nested.{Place}
 use Rattle.tv_strategy.specs.Sources.{Each}
 use Rattle.tv_matching.specs.Told.{faulty_at}
@@ -27,14 +30,11 @@ use Rattle.tv_intake.specs.Intaken.{AreSorted, CanHold, CanShow, IsFaultyAt, IsS
 abbrev no_job : Outcome
 no_job = job_at []
 
-none : {A : Type 0} (i : ℕ) → i < 0 → A
-none i p = absurd (omega arith)
-
 -- ---- lists
 
 module _ {A : Type 0} where
   pub get-set : (xs : List A) (i : ℕ) (x : A) → i < length xs → slice_get (slice_set xs i x) i ≡ Some x
-  get-set [] i x h = none i h
+  get-set [] i x h = none-below i h
   get-set (y ∷ xs) zero x h = refl
   get-set (y ∷ xs) (suc i) x h = get-set xs i x (omega arith)
 
@@ -46,7 +46,7 @@ module _ {A : Type 0} where
   get-other (y ∷ xs) (suc i) (suc k) x ne = get-other xs i k x (λ e. ne (ap suc e))
 
   get-front : (xs ys : List A) (i : ℕ) (d : A) → i < length xs → get_or (xs ++ ys) i d ≡ get_or xs i d
-  get-front [] ys i d h = none i h
+  get-front [] ys i d h = none-below i h
   get-front (x ∷ xs) ys zero d h = refl
   get-front (x ∷ xs) ys (suc i) d h = get-front xs ys i d (omega arith)
 
@@ -61,12 +61,12 @@ module _ {A : Type 0} where
       plus n j = omega arith
 
   get-default : (xs : List A) (i : ℕ) (d e : A) → i < length xs → get_or xs i d ≡ get_or xs i e
-  get-default [] i d e h = none i h
+  get-default [] i d e h = none-below i h
   get-default (x ∷ xs) zero d e h = refl
   get-default (x ∷ xs) (suc i) d e h = get-default xs i d e (omega arith)
 
   pub each-get : (P : A → Type 0) (xs : List A) (i : ℕ) (x : A) → Each P xs → i < length xs → x ≡ get_or xs i x → P x
-  each-get P [] i x h l e = none i l
+  each-get P [] i x h l e = none-below i l
   each-get P (y ∷ xs) zero x h l e = subst P (sym e) h.0
   each-get P (y ∷ xs) (suc i) x h l e = each-get P xs i x h.1 (omega arith) e
 
@@ -74,27 +74,9 @@ module _ {A : Type 0} where
   each-front P [] ys h = tt
   each-front P (x ∷ xs) ys h = (h.0, each-front P xs ys h.1)
 
-map-take : {A B : Type 0} (f : A → B) (n : ℕ) (xs : List A) → map f (take n xs) ≡ take n (map f xs)
-map-take f zero xs = refl
-map-take f (suc n) [] = refl
-map-take f (suc n) (x ∷ xs) = ap (λ l. f x ∷ l) (map-take f n xs)
-
-map-append : {A B : Type 0} (f : A → B) (xs ys : List A) → map f (xs ++ ys) ≡ map f xs ++ map f ys
-map-append f [] ys = refl
-map-append f (x ∷ xs) ys = ap (λ l. f x ∷ l) (map-append f xs ys)
-
-map-both : {A B C : Type 0} (f : B → C) (g : A → B) (xs : List A) → map f (map g xs) ≡ map (λ x. f (g x)) xs
-map-both f g [] = refl
-map-both f g (x ∷ xs) = ap (λ l. f (g x) ∷ l) (map-both f g xs)
-
 map-each : {A B : Type 0} (P : A → Type 0) (f g : A → B) → ((x : A) → P x → f x ≡ g x) → (xs : List A) → Each P xs → map f xs ≡ map g xs
 map-each P f g e [] h = refl
 map-each P f g e (x ∷ xs) h = (λ i. e x h.0 i ∷ map-each P f g e xs h.1 i)
-
-pub map-get : {A B : Type 0} (f : A → B) (xs : List A) (i : ℕ) (x : A) → i < length xs → x ≡ get_or xs i x → slice_get (map f xs) i ≡ Some (f x)
-map-get f [] i x h e = none i h
-map-get f (y ∷ xs) zero x h e = ap (λ z. Some (f z)) (sym e)
-map-get f (y ∷ xs) (suc i) x h e = map-get f xs i x (omega arith) e
 
 -- ---- of one matcher: what is brought stands behind what follows
 
@@ -126,23 +108,17 @@ positions-other : (s k : ℕ) (ps : List ℕ) → (s == k) ≡ false → positio
 positions-other s k [] e = refl
 positions-other s k (p ∷ ps) e = ap (λ b. if b then p ∷ positions_of k (map (found_at s) ps) else positions_of k (map (found_at s) ps)) e ∙ positions-other s k ps e
 
-plus-suc : (i n : ℕ) → suc i + n ≡ i + suc n
-plus-suc i n = omega arith
-
-plus-zero : (i : ℕ) → i ≡ i + 0
-plus-zero i = omega arith
-
 jobs-both : (i : ℕ) (F G : List Outcome) → job_positions i (F ++ G) ≡ job_positions i F ++ job_positions (i + length F) G
-jobs-both i [] G = ap (λ n. job_positions n G) (plus-zero i)
-jobs-both i (job_at q ∷ F) G = ap (λ l. i ∷ l) (jobs-both (suc i) F G ∙ ap (λ n. job_positions (suc i) F ++ job_positions n G) (plus-suc i (length F)))
-jobs-both i (list_at q n ∷ F) G = jobs-both (suc i) F G ∙ ap (λ n. job_positions (suc i) F ++ job_positions n G) (plus-suc i (length F))
-jobs-both i (fault_at q n ∷ F) G = jobs-both (suc i) F G ∙ ap (λ n. job_positions (suc i) F ++ job_positions n G) (plus-suc i (length F))
+jobs-both i [] G = ap (λ n. job_positions n G) (is-plus_zero i)
+jobs-both i (job_at q ∷ F) G = ap (λ l. i ∷ l) (jobs-both (suc i) F G ∙ ap (λ n. job_positions (suc i) F ++ job_positions n G) (suc-plus i (length F)))
+jobs-both i (list_at q n ∷ F) G = jobs-both (suc i) F G ∙ ap (λ n. job_positions (suc i) F ++ job_positions n G) (suc-plus i (length F))
+jobs-both i (fault_at q n ∷ F) G = jobs-both (suc i) F G ∙ ap (λ n. job_positions (suc i) F ++ job_positions n G) (suc-plus i (length F))
 
 others-both : (i : ℕ) (F G : List Outcome) → other_positions i (F ++ G) ≡ other_positions i F ++ other_positions (i + length F) G
-others-both i [] G = ap (λ n. other_positions n G) (plus-zero i)
-others-both i (job_at q ∷ F) G = others-both (suc i) F G ∙ ap (λ n. other_positions (suc i) F ++ other_positions n G) (plus-suc i (length F))
-others-both i (list_at q n ∷ F) G = ap (λ l. i ∷ l) (others-both (suc i) F G ∙ ap (λ n. other_positions (suc i) F ++ other_positions n G) (plus-suc i (length F)))
-others-both i (fault_at q n ∷ F) G = ap (λ l. i ∷ l) (others-both (suc i) F G ∙ ap (λ n. other_positions (suc i) F ++ other_positions n G) (plus-suc i (length F)))
+others-both i [] G = ap (λ n. other_positions n G) (is-plus_zero i)
+others-both i (job_at q ∷ F) G = others-both (suc i) F G ∙ ap (λ n. other_positions (suc i) F ++ other_positions n G) (suc-plus i (length F))
+others-both i (list_at q n ∷ F) G = ap (λ l. i ∷ l) (others-both (suc i) F G ∙ ap (λ n. other_positions (suc i) F ++ other_positions n G) (suc-plus i (length F)))
+others-both i (fault_at q n ∷ F) G = ap (λ l. i ∷ l) (others-both (suc i) F G ∙ ap (λ n. other_positions (suc i) F ++ other_positions n G) (suc-plus i (length F)))
 
 jobs-within : (n i : ℕ) (os : List Outcome) → i + length os ≤ n → Each (λ a. a < n) (job_positions i os)
 jobs-within n i [] h = tt
@@ -171,10 +147,10 @@ each-of L (f ∷ fs) h = (
 
 module _ (s : ℕ) (W : List Outcome) where
   shifted : (i : ℕ) (o : Outcome) (G : List Outcome) → ((j : ℕ) → j < suc (length G) → get_or W (i + j) no_job ≡ get_or (o ∷ G) j no_job) → (j : ℕ) → j < length G → get_or W (suc i + j) no_job ≡ get_or G j no_job
-  shifted i o G h j l = ap (λ k. get_or W k no_job) (plus-suc i j) ∙ h (suc j) (omega arith)
+  shifted i o G h j l = ap (λ k. get_or W k no_job) (suc-plus i j) ∙ h (suc j) (omega arith)
 
   head-is : (i : ℕ) (o : Outcome) (G : List Outcome) → ((j : ℕ) → j < suc (length G) → get_or W (i + j) no_job ≡ get_or (o ∷ G) j no_job) → get_or W i no_job ≡ o
-  head-is i o G h = ap (λ k. get_or W k no_job) (plus-zero i) ∙ h 0 (omega arith)
+  head-is i o G h = ap (λ k. get_or W k no_job) (is-plus_zero i) ∙ h 0 (omega arith)
 
   pub new-jobs : (i : ℕ) (G : List Outcome) → ((j : ℕ) → j < length G → get_or W (i + j) no_job ≡ get_or G j no_job) → map (λ p. placed (s, get_or W p no_job)) (job_positions i G) ≡ map (λ q. (s, q)) (job_places G)
   new-jobs i [] h = refl
@@ -201,7 +177,7 @@ pub step-within : (ms : List Matcher) (k a : ℕ) → a < length (followed_in ms
 step-within ms k a h = by (slice_get ms k) refl
   where
     by : (o : Option Matcher) → slice_get ms k ≡ o → k < length ms
-    by None e = none a (subst (λ o. a < length (option_map_or in_order o [])) e h)
+    by None e = none-below a (subst (λ o. a < length (option_map_or in_order o [])) e h)
     by (Some m) e = slice_get_within ms k m e
 
 pub can-within : (ms : List Matcher) (s : ℕ) (ts : List code.Told) → CanHold (slice_get ms s) ts → s < length ms
@@ -260,13 +236,13 @@ module _ (ms : List Matcher) (jobs waiting : List Found) (h : AreSorted ms jobs 
     jobs-grow =
         map-append (λ f. placed (thing_in ns f)) jobs (found_jobs s (length (followed_in ms s)) G)
         ∙ ap (λ l. l ++ map (λ f. placed (thing_in ns f)) (found_jobs s (length (followed_in ms s)) G)) (map-each (λ (f : Found). f.at < length (followed_in ms f.step)) (λ f. placed (thing_in ns f)) (λ f. placed (thing_in ms f)) (λ f l. ap placed (stays f l)) jobs jobs-there)
-        ∙ ap (λ l. map (λ f. placed (thing_in ms f)) jobs ++ l) (map-both (λ f. placed (thing_in ns f)) (found_at s) (job_positions (length (followed_in ms s)) G) ∙ new-jobs s (followed_in ns s) (length (followed_in ms s)) G behind)
+        ∙ ap (λ l. map (λ f. placed (thing_in ms f)) jobs ++ l) (map-map (λ f. placed (thing_in ns f)) (found_at s) (job_positions (length (followed_in ms s)) G) ∙ new-jobs s (followed_in ns s) (length (followed_in ms s)) G behind)
 
     pub waiting-grows : map (thing_in ns) (waiting ++ found_others s (length (followed_in ms s)) G) ≡ map (thing_in ms) waiting ++ map (λ o. (s, o)) (others_among G)
     waiting-grows =
         map-append (thing_in ns) waiting (found_others s (length (followed_in ms s)) G)
         ∙ ap (λ l. l ++ map (thing_in ns) (found_others s (length (followed_in ms s)) G)) (map-each (λ (f : Found). f.at < length (followed_in ms f.step)) (thing_in ns) (thing_in ms) stays waiting waiting-there)
-        ∙ ap (λ l. map (thing_in ms) waiting ++ l) (map-both (thing_in ns) (found_at s) (other_positions (length (followed_in ms s)) G) ∙ new-others s (followed_in ns s) (length (followed_in ms s)) G behind)
+        ∙ ap (λ l. map (thing_in ms) waiting ++ l) (map-map (thing_in ns) (found_at s) (other_positions (length (followed_in ms s)) G) ∙ new-others s (followed_in ns s) (length (followed_in ms s)) G behind)
 
     jobs-at : (k : ℕ) → positions_of k (found_jobs s (length (followed_in ms s)) G) ≡ job_positions (0 + length (followed_in ms k)) (if s == k then G else [])
     jobs-at k = by (s == k) refl
@@ -388,10 +364,6 @@ module _ (ms ns : List Matcher) (same : (k : ℕ) → followed_in ns k ≡ follo
       }
 
 -- ---- one matcher more
-
-get-end : {A : Type 0} (xs : List A) (x : A) → slice_get (xs ++ x ∷ []) (length xs) ≡ Some x
-get-end [] x = refl
-get-end (y ∷ xs) x = get-end xs x
 
 get-before : {A : Type 0} (xs : List A) (x : A) (k : ℕ) → (k ≡ length xs → ⊥) → slice_get (xs ++ x ∷ []) k ≡ slice_get xs k
 get-before [] x zero ne = absurd (ne refl)

@@ -2,6 +2,7 @@
 use Rattle.std.specs.Prelude.{◌≡◌, ℕ, zero, suc, ◌+◌, ◌≤◌, not, Bool, true, false, cond, List, [], ◌∷◌, ◌++◌, Some, count_by, drop, slice_get, refl}
 use Rattle.std.proofs.Common.{arith, ap, sym, ◌∙◌, append_assoc}
 use Rattle.std.proofs.lemmas.List.Sums.{sum_by-cons}
+use Rattle.std.proofs.Math.Numerals.{suc-eq-add-one}
 use Rattle.tv_value.specs.Nested.{Place}
 use Rattle.tv_matching.specs.Matchers.{Outcome}
 use Rattle.tv_match.specs.Seen.{is_faulty, outcome_kind}
@@ -10,23 +11,20 @@ use Rattle.tv_match.specs.declared.kinds.Kind.TheVariants.{Job, Closed, Passed}
 use Rattle.tv_intake.specs.declared.found.Found.{Found}
 use Rattle.tv_intake.specs.Sorting.{faulty_count, found_at, found_jobs, found_others, good_count, if_job, if_other, job_count, job_places, jobs_among}
 
-pub next : (i : ℕ) → suc i ≡ i + 1
-next i = omega arith
-
 drop-here : {A : Type 0} (os : List A) (i : ℕ) (o : A) → slice_get os i ≡ Some o → drop i os ≡ o ∷ drop (suc i) os
 drop-here [] i o e = absurd (cc)
 drop-here (x ∷ os) zero o e = let f : x ≡ o = cc in ap (λ y. y ∷ os) f
 drop-here (x ∷ os) (suc i) o e = drop-here os i o e
 
 pub drop-next : {A : Type 0} (os : List A) (i : ℕ) (o : A) → slice_get os i ≡ Some o → drop i os ≡ o ∷ drop (i + 1) os
-drop-next os i o e = drop-here os i o e ∙ ap (λ k. o ∷ drop k os) (next i)
+drop-next os i o e = drop-here os i o e ∙ ap (λ k. o ∷ drop k os) (suc-eq-add-one i)
 
 -- the one at this position has this kind
 module _ (s : ℕ) (os : List Outcome) (i : ℕ) where
   pub jobs-next : (before : List Found) (k : Kind) (q : Place) → slice_get os i ≡ Some (outcome_kind q k) → (before ++ if_job k (found_at s i)) ++ found_jobs s (i + 1) (drop (i + 1) os) ≡ before ++ found_jobs s i (drop i os)
   jobs-next before k q e =
       append_assoc before (if_job k (found_at s i)) (found_jobs s (i + 1) (drop (i + 1) os))
-      ∙ ap (λ j. before ++ (if_job k (found_at s i) ++ found_jobs s j (drop (i + 1) os))) (sym (next i))
+      ∙ ap (λ j. before ++ (if_job k (found_at s i) ++ found_jobs s j (drop (i + 1) os))) (sym (suc-eq-add-one i))
       ∙ ap (λ l. before ++ l) (by k ∙ ap (found_jobs s i) (sym (drop-next os i (outcome_kind q k) e)))
     where
       by : (k : Kind) → if_job k (found_at s i) ++ found_jobs s (suc i) (drop (i + 1) os) ≡ found_jobs s i (outcome_kind q k ∷ drop (i + 1) os)
@@ -37,7 +35,7 @@ module _ (s : ℕ) (os : List Outcome) (i : ℕ) where
   pub others-next : (before : List Found) (k : Kind) (q : Place) → slice_get os i ≡ Some (outcome_kind q k) → (before ++ if_other k (found_at s i)) ++ found_others s (i + 1) (drop (i + 1) os) ≡ before ++ found_others s i (drop i os)
   others-next before k q e =
       append_assoc before (if_other k (found_at s i)) (found_others s (i + 1) (drop (i + 1) os))
-      ∙ ap (λ j. before ++ (if_other k (found_at s i) ++ found_others s j (drop (i + 1) os))) (sym (next i))
+      ∙ ap (λ j. before ++ (if_other k (found_at s i) ++ found_others s j (drop (i + 1) os))) (sym (suc-eq-add-one i))
       ∙ ap (λ l. before ++ l) (by k ∙ ap (found_others s i) (sym (drop-next os i (outcome_kind q k) e)))
     where
       by : (k : Kind) → if_other k (found_at s i) ++ found_others s (suc i) (drop (i + 1) os) ≡ found_others s i (outcome_kind q k ∷ drop (i + 1) os)

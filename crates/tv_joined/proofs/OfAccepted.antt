@@ -1,59 +1,49 @@
 -- The flows of an accepted document are wired.
 use Rattle.std.specs.Coded.{Coded-set, coded_bool}
 use Rattle.std.specs.List.{list_all, list_any}
-use Rattle.std.specs.Option.{is_none, option_map_or}
-use Rattle.std.specs.Prelude.{◌≡◌, refl, ◌+◌, ◌≤◌, ℕ, zero, suc, Bool, true, false, ◌&&◌, ◌||◌, ◌==◌, not, List, [], ◌∷◌, ◌++◌, count_by, flat_map, get_or, if◌then◌else◌, length, map, Option, Some, None, slice_get, unwrap_or}
-use Rattle.std.proofs.Common.{arith, sym, ap, subst, ◌∙◌, cond, eq-eqb, eqb-true}
+use Rattle.std.specs.Option.{option_map_or}
+use Rattle.std.specs.Prelude.{◌≡◌, refl, ℕ, zero, suc, Bool, true, false, ◌&&◌, ◌||◌, ◌==◌, not, List, [], ◌∷◌, ◌++◌, count_by, flat_map, get_or, if◌then◌else◌, length, map, Option, Some, None, slice_get, unwrap_or}
+use Rattle.std.proofs.Common.{sym, ap, subst, ◌∙◌, eq-eqb, eqb-true}
 use Rattle.std.proofs.Math.Logic.{∥∥₁_elim}
-use Rattle.std.proofs.lemmas.List.Sums.{sum_by-cons}
+use Rattle.std.proofs.lemmas.Bool.{and_parts}
+use Rattle.tv_lemmas.proofs.Options.{is_none-none}
+use Rattle.tv_lemmas.proofs.Counts.{once-any}
+use Rattle.tv_lemmas.proofs.Lists.{append-none}
 use Rattle.tv_value.specs.Orders.{named, same_name}
 use Rattle.tv_value.specs.Strategies.{Strategy, cross}
 use Rattle.tv_value.specs.Values.{Name}
+use Rattle.tv_value.proofs.OfNames.{same_name-refl}
 use Rattle.tv_flow.specs.Flows.{Document, Flow, Step, StepInput}
 use Rattle.tv_flow.specs.Formed.{is_flow, is_formed}
 use Rattle.tv_strategy.specs.Measures.{all_leaf_names, leaf_names}
 use Rattle.tv_naming.specs.Faulty.{at_input, at_main, first_of, no_such_flow, no_such_port, plainly}
 use Rattle.tv_naming.specs.Inputs.{given_complaints}
 use Rattle.tv_naming.specs.Naming.{are_the_same, complain_if, feed_links, fits_ports, flow_naming, has_name, is_there, link_complaints, naming_complaints, step_naming}
-use Rattle.tv_naming.proofs.ByPosition.{same_name-is, same_name-refl}
+use Rattle.tv_naming.proofs.ByPosition.{same_name-is}
 use Rattle.tv_naming.proofs.OfForms.{flows-named}
-use Rattle.tv_naming.proofs.OfLists.{Each, both, each-at}
+use Rattle.tv_naming.proofs.OfLists.{Each, each-at}
 use Rattle.tv_depths.specs.Cycles.{cycle_complaints, link_cycle_complaints, nesting_complaints}
 use Rattle.tv_depths.specs.Depthwise.{depth_complaints}
 use Rattle.tv_depths.specs.Ranks.{ranked}
 use Rattle.tv_depths.specs.Steps.{ports_of, strategy_of}
 use Rattle.tv_depths.specs.Tables.{has_fitting}
+use Rattle.tv_depths.proofs.OfPorts.{default-ports}
 use Rattle.tv_check.specs.Passes.{checked, complaints}
 use Rattle.tv_check.specs.Plans.{IsAccepted}
 use Rattle.tv_check.specs.PlanViews.{IsOfDocument}
 use Rattle.tv_check.proofs.Accepting.{first-none}
 use Rattle.tv_check.proofs.AllRanked.{all-ranked-formed, flow-acyclic}
-use Rattle.tv_check.proofs.Inside.{each-all, each-by, flow-links-inside, names-inside, nil-each, nil-parts, silent}
+use Rattle.tv_check.proofs.Inside.{each-all, each-by, flow-links-inside, names-inside, nil-each, silent}
 use Rattle.tv_check.proofs.Wired.{fitting}
 use Rattle.tv_joined.specs.WiredFlows.{AcceptedFlowsAreWired, IsWired}
 
 -- ---- strategies
 
-default-leaves : (is : List (Name × StepInput)) → all_leaf_names (ports_of is) ≡ map (λ i. i.0) is
-default-leaves [] = refl
-default-leaves (i ∷ is) = ap (λ ns. i.0 ∷ ns) (default-leaves is)
-
-any-counted : (p : Name → Bool) (ms : List Name) → 1 ≤ count_by p ms → list_any p ms ≡ true
-any-counted p [] h = absurd (omega arith)
-any-counted p (m ∷ ms) h = cases (p m) (subst (λ n. 1 ≤ n) (sum_by-cons (λ x. cond (p x) 1 0) m ms) h) (any-counted p ms)
-  where
-    cases : (b : Bool) → 1 ≤ cond b 1 0 + count_by p ms → (1 ≤ count_by p ms → list_any p ms ≡ true) → (b || list_any p ms) ≡ true
-    cases true k rec = refl
-    cases false k rec = rec (omega (arith, k))
-
-once-any : (n : Name) (ms : List Name) → (count_by (same_name n) ms == 1) ≡ true → list_any (same_name n) ms ≡ true
-once-any n ms h = any-counted (same_name n) ms (let e = eqb-true (count_by (same_name n) ms) 1 h in omega (arith, e))
-
 each-counted : (is : List (Name × StepInput)) (ms : List Name) → list_all (λ n. count_by (same_name n) ms == 1) (map (λ i. i.0) is) ≡ true → list_all (λ i. list_any (same_name i.0) ms) is ≡ true
 each-counted [] ms h = refl
 each-counted (i ∷ is) ms h =
-    let b = both (count_by (same_name i.0) ms == 1) (list_all (λ n. count_by (same_name n) ms == 1) (map (λ (j : Name × StepInput). j.0) is)) h in
-    ap (λ c. c && list_all (λ j. list_any (same_name j.0) ms) is) (once-any i.0 ms b.0) ∙ each-counted is ms b.1
+    let b = and_parts (count_by (same_name i.0) ms == 1) (list_all (λ n. count_by (same_name n) ms == 1) (map (λ (j : Name × StepInput). j.0) is)) h in
+    ap (λ c. c && list_all (λ j. list_any (same_name j.0) ms) is) (once-any (same_name i.0) ms b.0) ∙ each-counted is ms b.1
 
 any-more : (n m : Name) (ms : List Name) → list_any (same_name n) ms ≡ true → list_any (same_name n) (m ∷ ms) ≡ true
 any-more n m ms h = by (same_name n m)
@@ -73,17 +63,17 @@ leaves-bound : (s : Step) → has_fitting s ≡ true → list_all (λ i. list_an
 leaves-bound s h = cases s.strategy h
   where
     cases : (o : Option Strategy) → option_map_or (fits_ports s) o true ≡ true → list_all (λ i. list_any (same_name i.0) (leaf_names (unwrap_or o (cross (ports_of s.inputs))))) s.inputs ≡ true
-    cases None k = each-own s.inputs s.inputs (all_leaf_names (ports_of s.inputs)) (default-leaves s.inputs) (λ i g. subst (λ ms. list_any (same_name i.0) ms ≡ true) (sym (default-leaves s.inputs)) g)
+    cases None k = each-own s.inputs s.inputs (all_leaf_names (ports_of s.inputs)) (default-ports s.inputs) (λ i g. subst (λ ms. list_any (same_name i.0) ms ≡ true) (sym (default-ports s.inputs)) g)
     cases (Some t) k =
         let ns = map (λ (i : Name × StepInput). i.0) s.inputs in
         let ms = leaf_names t in
-        let b = both ((length ns == length ms) && list_all (λ n. count_by (same_name n) ms == 1) ns) (list_all (λ m. count_by (same_name m) ns == 1) ms) k in
-        each-counted s.inputs ms ((both (length ns == length ms) (list_all (λ n. count_by (same_name n) ms == 1) ns) b.0).1)
+        let b = and_parts ((length ns == length ms) && list_all (λ n. count_by (same_name n) ms == 1) ns) (list_all (λ m. count_by (same_name m) ns == 1) ms) k in
+        each-counted s.inputs ms ((and_parts (length ns == length ms) (list_all (λ n. count_by (same_name n) ms == 1) ns) b.0).1)
 
 fitting-bound : (ss : List (Name × Step)) → list_all (λ s. has_fitting s.1) ss ≡ true → list_all (λ s. list_all (λ i. list_any (same_name i.0) (leaf_names (strategy_of s.1))) s.1.inputs) ss ≡ true
 fitting-bound [] h = refl
 fitting-bound (s ∷ ss) h =
-    let b = both (has_fitting s.1) (list_all (λ t. has_fitting t.1) ss) h in
+    let b = and_parts (has_fitting s.1) (list_all (λ t. has_fitting t.1) ss) h in
     ap (λ c. c && list_all (λ t. list_all (λ i. list_any (same_name i.0) (leaf_names (strategy_of t.1))) t.1.inputs) ss) (leaves-bound s.1 b.0) ∙ fitting-bound ss b.1
 
 -- ---- links
@@ -97,7 +87,7 @@ module _ (flow : Flow) (f : Name) where
 
   step-links : (knows : Name → Bool) (d : Document) (x : Name × Step) → step_naming knows d f flow x ≡ [] → list_all (λ i. list_all (is_there flow) (feed_links i.1.from)) x.1.inputs ≡ true
   step-links knows d x e =
-      let r = nil-parts _ _ (nil-parts _ _ (nil-parts _ _ e).0).0 in
+      let r = append-none _ _ (append-none _ _ (append-none _ _ e).0).0 in
       each-all (λ i. list_all (is_there flow) (feed_links i.1.from)) x.1.inputs
       (each-by (λ i. link_complaints flow (at_input f x.0 i.0) i.1.from ≡ []) (λ i. list_all (is_there flow) (feed_links i.1.from) ≡ true) x.1.inputs (links-there x)
       (nil-each (λ i. link_complaints flow (at_input f x.0 i.0) i.1.from) x.1.inputs r.0))
@@ -109,11 +99,11 @@ flow-links : (knows : Name → Bool) (d : Document) (f : Name × Flow) → flow_
 flow-links knows d f e =
     each-all (λ s. list_all (λ i. list_all (is_there f.1) (feed_links i.1.from)) s.1.inputs) f.1.steps
     (each-by (λ x. step_naming knows d f.0 f.1 x ≡ []) (λ s. list_all (λ i. list_all (is_there f.1) (feed_links i.1.from)) s.1.inputs ≡ true) f.1.steps (step-links f.1 f.0 knows d)
-    (nil-each (step_naming knows d f.0 f.1) f.1.steps (nil-parts _ _ e).0))
+    (nil-each (step_naming knows d f.0 f.1) f.1.steps (append-none _ _ e).0))
 
 -- ---- a flow of a document
 
-named-each : {A : Type 0} (P : A → Type 0) (n : Name) (xs : List (Name × A)) (a : A) → Each (λ x. P x.1) xs → named n xs ≡ Some a → P a
+pub named-each : {A : Type 0} (P : A → Type 0) (n : Name) (xs : List (Name × A)) (a : A) → Each (λ x. P x.1) xs → named n xs ≡ Some a → P a
 named-each P n [] a e h = cc
 named-each {A = A} P n (x ∷ xs) a e h = cases (same_name n x.0) h (named-each P n xs a e.1)
   where
@@ -121,24 +111,20 @@ named-each {A = A} P n (x ∷ xs) a e h = cases (same_name n x.0) h (named-each 
     cases true k rec = let f : x.1 ≡ a = cc in subst P f e.0
     cases false k rec = rec k
 
-is-none : {X : Type 0} (o : Option X) → is_none o ≡ true → o ≡ None
-is-none None h = refl
-is-none (Some x) h = cc
-
 module _ (d : Document) (formed : is_formed d ≡ true) (accepted : IsAccepted d) where
   abbrev knows : Name → Bool
   knows n = true
 
   all-silent : complaints knows d ≡ []
-  all-silent = first-none (complaints knows d) (is-none (checked knows d) accepted)
+  all-silent = first-none (complaints knows d) (is_none-none (checked knows d) accepted)
 
   unlinked : (link_cycle_complaints d ≡ []) × (naming_complaints knows d ≡ [])
   unlinked =
-      let a = nil-parts _ (given_complaints d) all-silent in
-      let b = nil-parts _ (depth_complaints d) a.0 in
-      let c = nil-parts _ (link_cycle_complaints d) b.0 in
-      let e = nil-parts _ (nesting_complaints d) c.0 in
-      let n = nil-parts (naming_complaints knows d) (cycle_complaints d) e.0 in
+      let a = append-none _ (given_complaints d) all-silent in
+      let b = append-none _ (depth_complaints d) a.0 in
+      let c = append-none _ (link_cycle_complaints d) b.0 in
+      let e = append-none _ (nesting_complaints d) c.0 in
+      let n = append-none (naming_complaints knows d) (cycle_complaints d) e.0 in
       (c.1, n.0)
 
   each-formed : Each (λ f. is_flow f.1 ≡ true) d.flows
@@ -147,7 +133,7 @@ module _ (d : Document) (formed : is_formed d ≡ true) (accepted : IsAccepted d
   each-linked : Each (λ f. has_links f.1 ≡ true) d.flows
   each-linked =
       each-by (λ f. flow_naming knows d f ≡ []) (λ f. has_links f.1 ≡ true) d.flows (flow-links knows d)
-      (nil-each (flow_naming knows d) d.flows (nil-parts (complain_if (not (has_name d.flows d.main)) (plainly no_such_flow at_main)) _ unlinked.1).1)
+      (nil-each (flow_naming knows d) d.flows (append-none (complain_if (not (has_name d.flows d.main)) (plainly no_such_flow at_main)) _ unlinked.1).1)
 
   each-ranked : Each (λ f. (length (ranked f.1.steps) == length f.1.steps) ≡ true) d.flows
   each-ranked =

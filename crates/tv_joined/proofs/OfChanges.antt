@@ -1,8 +1,10 @@
 -- What stands where in a partial tree after one change of it.
-use Rattle.std.specs.Prelude.{◌≡◌, refl, ℕ, zero, suc, ◌≤◌, ◌<◌, Bool, true, false, ◌&&◌, nat_le, nat_lt, if◌then◌else◌, List, [], ◌∷◌, ◌++◌, Option, Some, None, length, take, unwrap_or}
+use Rattle.std.specs.Prelude.{◌≡◌, refl, ℕ, zero, suc, ◌≤◌, ◌<◌, Bool, true, false, ◌&&◌, nat_le, if◌then◌else◌, List, [], ◌∷◌, ◌++◌, Option, Some, None, length, take, unwrap_or}
 use Rattle.std.specs.Option.{option_map}
-use Rattle.std.proofs.Common.{arith, sym, ap, subst, ◌∙◌}
-use Rattle.std.proofs.lemmas.Bool.{and_parts, ltb-true, true≢false}
+use Rattle.std.proofs.Common.{arith, sym, ap, subst, ◌∙◌, le_of_suc-le-suc, suc-le-suc}
+use Rattle.std.proofs.lemmas.Bool.{and_parts, true≢false}
+use Rattle.tv_lemmas.proofs.Numbers.{less-back}
+use Rattle.tv_lemmas.proofs.Tests.{less-if}
 use Rattle.tv_value.specs.Nested.{Place}
 use Rattle.tv_parts.specs.Partials.{Partial, wanting, item, growing, closed, Parts, no_parts, part, part_count, part_of, part_at, known_at, whole, all_whole}
 use Rattle.tv_parts.specs.Changes.{with_part, filled, arrive, close_here, close_at, is_place}
@@ -10,25 +12,9 @@ use Rattle.tv_stream.specs.Trees.{least_whole}
 
 -- ---- parts of lists
 
-lower : (i c : ℕ) → suc i < suc c → i < c
-lower i c h = omega arith
-
-lower-most : (m c : ℕ) → suc m ≤ suc c → m ≤ c
-lower-most m c h = omega arith
-
-higher : (m c : ℕ) → m ≤ c → suc m ≤ suc c
-higher m c h = omega arith
-
 place-wanting : (A : Type 0) (q : Place) → is_place {A = A} q wanting ≡ true
 place-wanting A [] = refl
 place-wanting A (i ∷ q) = refl
-
-less-if : (i n : ℕ) (b : Bool) → (if nat_lt i n then b else false) ≡ true → (i < n) × (b ≡ true)
-less-if i n b h = by (nat_lt i n) refl h
-  where
-    by : (c : Bool) → nat_lt i n ≡ c → (if c then b else false) ≡ true → (i < n) × (b ≡ true)
-    by true e k = (ltb-true i n e, k)
-    by false e k = absurd (true≢false (sym k))
 
 module _ {A : Type 0} where
   pub part-there : (r : Partial A) (ps : Parts A) (i : ℕ) → part_of (with_part r ps i) i ≡ r
@@ -50,15 +36,15 @@ module _ {A : Type 0} where
   pub count-within : (r : Partial A) (ps : Parts A) (i c : ℕ) → part_count ps ≤ c → i < c → part_count (with_part r ps i) ≤ c
   count-within r no_parts zero c h l = omega arith
   count-within r no_parts (suc i) zero h l = absurd (omega arith)
-  count-within r no_parts (suc i) (suc c) h l = higher (part_count (with_part r no_parts i)) c (count-within r no_parts i c (omega arith) (lower i c l))
+  count-within r no_parts (suc i) (suc c) h l = suc-le-suc {m = (part_count (with_part r no_parts i))} (count-within r no_parts i c (omega arith) (less-back i c l))
   count-within r (part p ps) zero c h l = h
   count-within r (part p ps) (suc i) zero h l = absurd (omega arith)
-  count-within r (part p ps) (suc i) (suc c) h l = higher (part_count (with_part r ps i)) c (count-within r ps i c (lower-most (part_count ps) c h) (lower i c l))
+  count-within r (part p ps) (suc i) (suc c) h l = suc-le-suc {m = (part_count (with_part r ps i))} (count-within r ps i c (le_of_suc-le-suc {n = (part_count ps)} {m = c} h) (less-back i c l))
 
   pub count-kept : (r : Partial A) (ps : Parts A) (i : ℕ) → i < part_count ps → part_count (with_part r ps i) ≡ part_count ps
   count-kept r no_parts i l = absurd (omega arith)
   count-kept r (part p ps) zero l = refl
-  count-kept r (part p ps) (suc i) l = ap (λ n. suc n) (count-kept r ps i (lower i (part_count ps) l))
+  count-kept r (part p ps) (suc i) l = ap (λ n. suc n) (count-kept r ps i (less-back i (part_count ps) l))
 
   pub part-filled : (ps : Parts A) (n j : ℕ) → part_of (filled ps n) j ≡ part_of ps j
   part-filled no_parts zero j = refl
@@ -72,7 +58,7 @@ module _ {A : Type 0} where
   count-filled no_parts zero h = refl
   count-filled no_parts (suc n) h = ap (λ m. suc m) (count-filled no_parts n (omega arith))
   count-filled (part p ps) zero h = absurd (omega arith)
-  count-filled (part p ps) (suc n) h = ap (λ m. suc m) (count-filled ps n (lower-most (part_count ps) n h))
+  count-filled (part p ps) (suc n) h = ap (λ m. suc m) (count-filled ps n (le_of_suc-le-suc {n = (part_count ps)} {m = n} h))
 
   pub known-wanting : (q : Place) → known_at {A = A} q wanting ≡ wanting
   known-wanting [] = refl
@@ -117,7 +103,7 @@ module _ {A : Type 0} where
   pub part-whole : (ps : Parts A) (i : ℕ) → i < part_count ps → all_whole ps ≡ true → whole (part_of ps i) ≡ true
   part-whole no_parts i l h = absurd (omega arith)
   part-whole (part p ps) zero l h = (and_parts (whole p) (all_whole ps) h).0
-  part-whole (part p ps) (suc i) l h = part-whole ps i (lower i (part_count ps) l) ((and_parts (whole p) (all_whole ps) h).1)
+  part-whole (part p ps) (suc i) l h = part-whole ps i (less-back i (part_count ps) l) ((and_parts (whole p) (all_whole ps) h).1)
 
   pub place-inside : (i : ℕ) (q : Place) (p : Partial A) → is_place (i ∷ q) p ≡ true → is_place q (part_at p i) ≡ true
   place-inside i q wanting h = place-wanting A q

@@ -3,36 +3,31 @@ use Rattle.std.specs.Prelude.{◌≡◌, refl, ℕ, zero, suc, ◌<◌, Bool, tr
 use Rattle.std.specs.List.{list_all}
 use Rattle.std.specs.Option.{option_map_or}
 use Rattle.std.proofs.Common.{arith, sym, ap, ap₂, subst, ◌∙◌}
-use Rattle.std.proofs.lemmas.Bool.{and_parts, or_right, true≢false}
-use Rattle.std.proofs.lemmas.Option.{get_or_from_slice_get, none-some, same_Some}
+use Rattle.std.proofs.lemmas.Bool.{and_parts, or_right, true≢false, and_from}
+use Rattle.std.proofs.lemmas.Option.{get_or_from_slice_get, none-some, same_Some, slice_get_within}
+use Rattle.std.specs.Cmp.Derive.{one_truth}
+use Rattle.tv_lemmas.proofs.Lists.{within-not_none}
 use Rattle.tv_value.specs.Orders.{named, same_name}
 use Rattle.tv_value.specs.Values.{Name}
+use Rattle.tv_value.proofs.OfNames.{same_name-refl}
 use Rattle.tv_flow.specs.Flows.{Step}
 use Rattle.tv_flow.specs.Formed.{is_ascending}
 use Rattle.tv_strategy.specs.Sources.{Each}
 use Rattle.tv_naming.specs.Naming.{has_name}
 use Rattle.tv_naming.specs.Numbers.{position}
-use Rattle.tv_naming.proofs.ByPosition.{names_of, position-at, same_name-is, same_name-refl}
+use Rattle.tv_naming.proofs.ByPosition.{names_of, position-at, same_name-is}
 use Rattle.tv_depths.specs.Ranks.{by_rank, earlier_steps, is_among, ranked}
-use Rattle.tv_depths.proofs.OfRanked.{In, IsOrdered, all-ranked, inside, ranked-ordered}
+use Rattle.tv_depths.proofs.OfRanked.{In, IsOrdered, all-ranked, ranked-ordered}
 use Rattle.tv_wires.specs.Wirings.{after_of}
 use Rattle.tv_instance.specs.ByResults.{last_first}
 use Rattle.tv_instance.specs.Counting.{have_ended_by, whole_by}
 use Rattle.tv_instance.specs.Events.{Events}
-use Rattle.tv_instance.proofs.OfWholeness.{same_tests}
-
-both : (a b : Bool) → (a && b) ≡ true → (a ≡ true) × (b ≡ true)
-both a b h = and_parts a b h
-
-join : (a b : Bool) → a ≡ true → b ≡ true → (a && b) ≡ true
-join true b e f = f
-join false b e f = absurd (true≢false (sym e))
 
 -- ---- of a list of steps, those that are named
 
 all-right : {A : Type 0} (p : A → Bool) (xs ys : List A) → list_all p (xs ++ ys) ≡ true → list_all p ys ≡ true
 all-right p [] ys h = h
-all-right p (x ∷ xs) ys h = all-right p xs ys ((both (p x) (list_all p (xs ++ ys)) h).1)
+all-right p (x ∷ xs) ys h = all-right p xs ys ((and_parts (p x) (list_all p (xs ++ ys)) h).1)
 
 module _ (H : Name → Bool) where
   abbrev pub named_all : List Name → List (Name × Step) → Bool
@@ -43,7 +38,7 @@ module _ (H : Name → Bool) where
   pick ns (t ∷ ss) n h a b = by (same_name n t.0) refl a (λ g k. pick ns ss n g k b)
     where
       parts : ((if is_among ns t.0 then H t.0 else true) ≡ true) × (named_all ns ss ≡ true)
-      parts = both (if is_among ns t.0 then H t.0 else true) (named_all ns ss) h
+      parts = and_parts (if is_among ns t.0 then H t.0 else true) (named_all ns ss) h
 
       by : (c : Bool) → same_name n t.0 ≡ c → (c || is_among (names_of ss) n) ≡ true → (named_all ns ss ≡ true → is_among (names_of ss) n ≡ true → H n ≡ true) → H n ≡ true
       by true e g rec =
@@ -54,8 +49,8 @@ module _ (H : Name → Bool) where
   every : (ns : List Name) (ss : List (Name × Step)) → named_all ns ss ≡ true → (ms : List Name) → ((n : Name) → is_among ms n ≡ true → is_among ns n ≡ true) → list_all (is_among (names_of ss)) ms ≡ true → list_all H ms ≡ true
   every ns ss h [] inside_ns a = refl
   every ns ss h (m ∷ ms) inside_ns a =
-      let p = both (is_among (names_of ss) m) (list_all (is_among (names_of ss)) ms) a in
-      join (H m) (list_all H ms) (pick ns ss m h p.0 (inside_ns m (ap (λ b. b || is_among ms m) (same_name-refl m))))
+      let p = and_parts (is_among (names_of ss) m) (list_all (is_among (names_of ss)) ms) a in
+      and_from (H m) (list_all H ms) (pick ns ss m h p.0 (inside_ns m (ap (λ b. b || is_among ms m) (same_name-refl m))))
       (every ns ss h ms (λ n k. inside_ns n (or_right (same_name n m) (is_among ms n) k)) p.1)
 
   taken : (ns : List Name) (n : Name) → list_all H ns ≡ true → is_among ns n ≡ true → H n ≡ true
@@ -63,12 +58,12 @@ module _ (H : Name → Bool) where
   taken (m ∷ ns) n h a = by (same_name n m) refl a (λ g k. taken ns n g k)
     where
       by : (c : Bool) → same_name n m ≡ c → (c || is_among ns n) ≡ true → (list_all H ns ≡ true → is_among ns n ≡ true → H n ≡ true) → H n ≡ true
-      by true e g rec = ap H (same_name-is n m e) ∙ (both (H m) (list_all H ns) h).0
-      by false e g rec = rec ((both (H m) (list_all H ns) h).1) g
+      by true e g rec = ap H (same_name-is n m e) ∙ (and_parts (H m) (list_all H ns) h).0
+      by false e g rec = rec ((and_parts (H m) (list_all H ns) h).1) g
 
   back : (ns : List Name) → list_all H ns ≡ true → (ss : List (Name × Step)) → named_all ns ss ≡ true
   back ns h [] = refl
-  back ns h (t ∷ ss) = join (if is_among ns t.0 then H t.0 else true) (named_all ns ss) (by (is_among ns t.0) refl) (back ns h ss)
+  back ns h (t ∷ ss) = and_from (if is_among ns t.0 then H t.0 else true) (named_all ns ss) (by (is_among ns t.0) refl) (back ns h ss)
     where
       by : (c : Bool) → is_among ns t.0 ≡ c → (if c then H t.0 else true) ≡ true
       by true e = taken ns t.0 h e
@@ -76,7 +71,7 @@ module _ (H : Name → Bool) where
 
   -- where all that are named are among them, these are all that are named
   pub named-is : (ns : List Name) (ss : List (Name × Step)) → list_all (is_among (names_of ss)) ns ≡ true → named_all ns ss ≡ list_all H ns
-  named-is ns ss a = same_tests (named_all ns ss) (list_all H ns) (λ h. every ns ss h ns (λ n k. k) a) (λ h. back ns h ss)
+  named-is ns ss a = one_truth (named_all ns ss) (list_all H ns) (λ h. every ns ss h ns (λ n k. k) a) (λ h. back ns h ss)
 
 -- ---- steps of which each runs after some of the rest
 
@@ -112,8 +107,8 @@ in-among s (x ∷ xs) (suc j, e) = or_right (same_name s.0 x.0) (is_among (names
 
 -- ---- steps by name and by rank
 
-position-of : (xs : List (Name × Step)) (k : ℕ) (s : Name × Step) → is_ascending (names_of xs) ≡ true → slice_get xs k ≡ Some s → position s.0 xs ≡ k
-position-of xs k s rise e = ap (λ t. position t.0 xs) (sym (get_or_from_slice_get xs k s s e)) ∙ position-at xs k s rise (inside xs k s e)
+pub position-of : (xs : List (Name × Step)) (k : ℕ) (s : Name × Step) → is_ascending (names_of xs) ≡ true → slice_get xs k ≡ Some s → position s.0 xs ≡ k
+position-of xs k s rise e = ap (λ t. position t.0 xs) (sym (get_or_from_slice_get xs k s s e)) ∙ position-at xs k s rise (slice_get_within xs k s e)
 
 step-named : (xs : List (Name × Step)) (n : Name) → has_name xs n ≡ true → (s : Name × Step) × (In s xs) × (s.0 ≡ n)
 step-named [] n h = absurd (true≢false (sym h))
@@ -127,7 +122,7 @@ or-none : (b : Bool) → b ≡ true → (b || false) ≡ true
 or-none true e = refl
 or-none false e = e
 
-each-found : (P : Name × Step → Type 0) (p : Name × Step → Bool) (xs : List (Name × Step)) (x : Name × Step) → Each P xs → find p xs ≡ Some x → P x
+pub each-found : (P : Name × Step → Type 0) (p : Name × Step → Bool) (xs : List (Name × Step)) (x : Name × Step) → Each P xs → find p xs ≡ Some x → P x
 each-found P p [] x h e = absurd (none-some x e)
 each-found P p (y ∷ xs) x h e = by (p y) e (λ k. each-found P p xs x h.1 k)
   where
@@ -135,7 +130,7 @@ each-found P p (y ∷ xs) x h e = by (p y) e (λ k. each-found P p xs x h.1 k)
     by true k rec = subst P (same_Some y x k) h.0
     by false k rec = rec k
 
-each-filtered : (P : Name × Step → Type 0) (p : Name × Step → Bool) (xs : List (Name × Step)) → Each P xs → Each P (filter p xs)
+pub each-filtered : (P : Name × Step → Type 0) (p : Name × Step → Bool) (xs : List (Name × Step)) → Each P xs → Each P (filter p xs)
 each-filtered P p [] h = tt
 each-filtered P p (x ∷ xs) h = by (p x) (each-filtered P p xs h.1)
   where
@@ -143,7 +138,7 @@ each-filtered P p (x ∷ xs) h = by (p x) (each-filtered P p xs h.1)
     by true k = (h.0, k)
     by false k = k
 
-each-by_rank : (P : Name × Step → Type 0) (n : ℕ) (done : List Name) (xs : List (Name × Step)) → Each P xs → Each P (by_rank n done xs)
+pub each-by_rank : (P : Name × Step → Type 0) (n : ℕ) (done : List Name) (xs : List (Name × Step)) → Each P xs → Each P (by_rank n done xs)
 each-by_rank P zero done xs h = tt
 each-by_rank P (suc n) done xs h = by (find (λ s. list_all (is_among done) (earlier_steps s.1)) xs) refl (λ s. each-by_rank P n (s.0 ∷ done) (filter (λ t. not (same_name s.0 t.0)) xs) (each-filtered P (λ t. not (same_name s.0 t.0)) xs h))
   where
@@ -161,20 +156,15 @@ at-number g [] k x e = absurd (none-some x e)
 at-number g (y ∷ xs) zero x e = ap g (same_Some y x e)
 at-number g (y ∷ xs) (suc k) x e = at-number g xs k x e
 
-get-some : {A : Type 0} (xs : List A) (k : ℕ) → k < length xs → slice_get xs k ≡ None → ⊥
-get-some [] k l e = absurd (omega arith)
-get-some (x ∷ xs) zero l e = absurd (none-some x (sym e))
-get-some (x ∷ xs) (suc k) l e = get-some xs k (omega arith) e
-
 -- all of a list of tests are true
 pub all-true : (bs : List Bool) → list_all (λ b. b) bs ≡ true → (k : ℕ) → k < length bs → slice_index_or bs k false ≡ true
 all-true [] h k l = absurd (omega arith)
-all-true (b ∷ bs) h zero l = (both b (list_all (λ c. c) bs) h).0
-all-true (b ∷ bs) h (suc k) l = all-true bs ((both b (list_all (λ c. c) bs) h).1) k (omega arith)
+all-true (b ∷ bs) h zero l = (and_parts b (list_all (λ c. c) bs) h).0
+all-true (b ∷ bs) h (suc k) l = all-true bs ((and_parts b (list_all (λ c. c) bs) h).1) k (omega arith)
 
 pub true-all : (bs : List Bool) → ((k : ℕ) → k < length bs → slice_index_or bs k false ≡ true) → list_all (λ b. b) bs ≡ true
 true-all [] h = refl
-true-all (b ∷ bs) h = join b (list_all (λ c. c) bs) (h 0 (omega arith)) (true-all bs (λ k l. h (suc k) (up k (length bs) l)))
+true-all (b ∷ bs) h = and_from b (list_all (λ c. c) bs) (h 0 (omega arith)) (true-all bs (λ k l. h (suc k) (up k (length bs) l)))
   where
     up : (m n : ℕ) → m < n → suc m < suc n
     up m n g = omega arith
@@ -195,7 +185,7 @@ module _ (steps : List (Name × Step)) (es : Events) (levels : Name → ℕ) (wh
   -- what is told of one step, by what is told of those that it runs after
   one-ended : (s : Name × Step) → Stands s → by_name s.0 ≡ (whole_by es s.0 (levels s.0) [] && list_all by_name s.1.after)
   one-ended s e =
-      sound (position s.0 steps) (inside steps (position s.0 steps) s e)
+      sound (position s.0 steps) (slice_get_within steps (position s.0 steps) s e)
       ∙ ap₂ (λ a b. a && b) (marked (position s.0 steps) s e)
       (ap (list_all ended) (at-number (λ (t : Name × Step). after_of steps t.1) steps (position s.0 steps) s e) ∙ all-mapped ended (λ a. position a steps) s.1.after)
 
@@ -211,21 +201,21 @@ module _ (steps : List (Name × Step)) (es : Events) (levels : Name → ℕ) (wh
   all-end w [] h e = refl
   all-end w (s ∷ ss) h e =
       let rest = all-end w ss h.1 e.1 in
-      join (by_name s.0) (list_all by_name (names_of ss))
-      (one-ended s e.0 ∙ join (whole_by es s.0 (levels s.0) []) (list_all by_name s.1.after) (sym (marked (position s.0 steps) s e.0) ∙ w (position s.0 steps) (inside steps (position s.0 steps) s e.0)) (all-among (names_of ss) s.1.after rest h.0))
+      and_from (by_name s.0) (list_all by_name (names_of ss))
+      (one-ended s e.0 ∙ and_from (whole_by es s.0 (levels s.0) []) (list_all by_name s.1.after) (sym (marked (position s.0 steps) s e.0) ∙ w (position s.0 steps) (slice_get_within steps (position s.0 steps) s e.0)) (all-among (names_of ss) s.1.after rest h.0))
       rest
     where
       all-among : (ms ns : List Name) → list_all by_name ms ≡ true → list_all (is_among ms) ns ≡ true → list_all by_name ns ≡ true
       all-among ms [] g k = refl
       all-among ms (n ∷ ns) g k =
-          let p = both (is_among ms n) (list_all (is_among ms) ns) k in
-          join (by_name n) (list_all by_name ns) (taken by_name ms n g p.0) (all-among ms ns g p.1)
+          let p = and_parts (is_among ms n) (list_all (is_among ms) ns) k in
+          and_from (by_name n) (list_all by_name ns) (taken by_name ms n g p.0) (all-among ms ns g p.1)
 
   all-named : (ns : List Name) (ss : List (Name × Step)) → list_all by_name (names_of ss) ≡ true → named_all by_name ns ss ≡ true
   all-named ns [] h = refl
   all-named ns (s ∷ ss) h =
-      let p = both (by_name s.0) (list_all by_name (names_of ss)) h in
-      join (if is_among ns s.0 then by_name s.0 else true) (named_all by_name ns ss) (by (is_among ns s.0) p.0) (all-named ns ss p.1)
+      let p = and_parts (by_name s.0) (list_all by_name (names_of ss)) h in
+      and_from (if is_among ns s.0 then by_name s.0 else true) (named_all by_name ns ss) (by (is_among ns s.0) p.0) (all-named ns ss p.1)
     where
       by : (c : Bool) → by_name s.0 ≡ true → (if c then by_name s.0 else true) ≡ true
       by true k = k
@@ -250,8 +240,8 @@ module _ (steps : List (Name × Step)) (es : Events) (levels : Name → ℕ) (wh
     there-last : (ns : List Name) → list_all (has_name steps) ns ≡ true → list_all (is_among (names_of last)) ns ≡ true
     there-last [] h = refl
     there-last (n ∷ ns) h =
-        let p = both (has_name steps n) (list_all (has_name steps) ns) h in
-        join (is_among (names_of last) n) (list_all (is_among (names_of last)) ns) (one n p.0) (there-last ns p.1)
+        let p = and_parts (has_name steps n) (list_all (has_name steps) ns) h in
+        and_from (is_among (names_of last) n) (list_all (is_among (names_of last)) ns) (one n p.0) (there-last ns p.1)
       where
         one : (n : Name) → has_name steps n ≡ true → is_among (names_of last) n ≡ true
         one n g =
@@ -274,10 +264,10 @@ module _ (steps : List (Name × Step)) (es : Events) (levels : Name → ℕ) (wh
             let ns = names_of (ranked steps) in
             let among = in-among s (ranked steps) (all-ranked steps rise all s (k, e)) in
             let mine = pick by_name ns last s.0 (sym (ended-by_events last (from-last (ranked steps) [] (ranked-ordered steps) tt) ranked-stand ns) ∙ h) (among-last (ranked steps) [] s.0 (or-none (is_among ns s.0) among)) among in
-            marked k s e ∙ (both (whole_by es s.0 (levels s.0) []) (list_all by_name s.1.after) (sym (one-ended s (stands-at k s e)) ∙ mine)).0
+            marked k s e ∙ (and_parts (whole_by es s.0 (levels s.0) []) (list_all by_name s.1.after) (sym (one-ended s (stands-at k s e)) ∙ mine)).0
 
         by : (o : Option (Name × Step)) → slice_get steps k ≡ o → whole k ≡ true
-        by None e = absurd (get-some steps k l e)
+        by None e = absurd (within-not_none steps k l e)
         by (Some s) e = there s e
 
     pub all-whole : ((k : ℕ) → k < length steps → whole k ≡ true) → have_ended_by es levels last (names_of (ranked steps)) ≡ true

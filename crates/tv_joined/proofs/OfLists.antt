@@ -1,33 +1,11 @@
 -- Lists made of lists, of which most pieces are empty.
-use Rattle.std.specs.Prelude.{◌≡◌, refl, ℕ, zero, suc, ◌+◌, ◌<◌, Bool, true, false, ◌==◌, filter, flat_map, if◌then◌else◌, List, [], ◌∷◌, ◌++◌, map, Option, Some, None, slice_get, slice_index_or}
+use Rattle.std.specs.Prelude.{◌≡◌, refl, ℕ, zero, suc, ◌+◌, ◌<◌, ◌==◌, flat_map, List, [], ◌∷◌, ◌++◌, map, Option, Some, None, slice_get, slice_index_or}
 use Rattle.std.specs.List.{range_with_len}
-use Rattle.std.proofs.Common.{arith, sym, ap, ap₂, subst, ◌∙◌, append_assoc, append-nil}
+use Rattle.std.proofs.Common.{arith, sym, ap, ap₂, subst, ◌∙◌, append_assoc, append-nil, add-zero, suc-ne-zero, zero-add}
 use Rattle.std.proofs.lemmas.Grind.{flat_map-append}
 use Rattle.std.proofs.lemmas.Option.{none-some, same_Some}
+use Rattle.tv_lemmas.proofs.Numbers.{zero-not_suc, plus-suc}
 use Rattle.tv_naming.specs.Naming.{numbered}
-
-plus-none : (k : ℕ) → k + 0 ≡ k
-plus-none k = omega arith
-
-none-plus : (m : ℕ) → 0 + m ≡ m
-none-plus m = omega arith
-
-plus-suc : (k m : ℕ) → k + suc m ≡ suc k + m
-plus-suc k m = omega arith
-
-not-zero : (m : ℕ) → suc m ≡ 0 → ⊥
-not-zero m e = omega arith
-
-zero-not : (m : ℕ) → 0 ≡ suc m → ⊥
-zero-not m e = omega arith
-
-pub filter-append : {X : Type 0} (p : X → Bool) (xs ys : List X) → filter p (xs ++ ys) ≡ filter p xs ++ filter p ys
-filter-append p [] ys = refl
-filter-append p (x ∷ xs) ys = by (p x) (filter-append p xs ys)
-  where
-    by : (b : Bool) → filter p (xs ++ ys) ≡ filter p xs ++ filter p ys → (if b then x ∷ filter p (xs ++ ys) else filter p (xs ++ ys)) ≡ (if b then x ∷ filter p xs else filter p xs) ++ filter p ys
-    by true e = ap (λ zs. x ∷ zs) e
-    by false e = e
 
 module _ {X Y : Type 0} where
   pub none-flat : (F : X → List Y) → ((x : X) → F x ≡ []) → (xs : List X) → flat_map F xs ≡ []
@@ -49,18 +27,18 @@ module _ {X Y : Type 0} where
   none-numbered : (F : ℕ × X → List Y) (k : ℕ) (xs : List X) → ((m : ℕ) (x : X) → slice_get xs m ≡ Some x → F (k + m, x) ≡ []) → flat_map F (numbered k xs) ≡ []
   none-numbered F k [] h = refl
   none-numbered F k (x ∷ xs) h =
-      ap₂ (λ a b. a ++ b) (ap (λ n. F (n, x)) (sym (plus-none k)) ∙ h 0 x refl)
+      ap₂ (λ a b. a ++ b) (ap (λ n. F (n, x)) (sym (add-zero k)) ∙ h 0 x refl)
       (none-numbered F (suc k) xs (λ m y e. ap (λ n. F (n, y)) (sym (plus-suc k m)) ∙ h (suc m) y e))
 
   -- where all pieces but one are empty
   only-from : (F : ℕ × X → List Y) (k : ℕ) (xs : List X) (c : ℕ) (x : X) → slice_get xs c ≡ Some x → ((m : ℕ) (y : X) → slice_get xs m ≡ Some y → (m ≡ c → ⊥) → F (k + m, y) ≡ []) → flat_map F (numbered k xs) ≡ F (k + c, x)
   only-from F k [] c x e h = absurd (none-some x e)
   only-from F k (y ∷ xs) zero x e h =
-      ap₂ (λ a b. a ++ b) (ap₂ (λ n z. F (n, z)) (sym (plus-none k)) (same_Some y x e))
-      (none-numbered F (suc k) xs (λ m z g. ap (λ n. F (n, z)) (sym (plus-suc k m)) ∙ h (suc m) z g (not-zero m)))
+      ap₂ (λ a b. a ++ b) (ap₂ (λ n z. F (n, z)) (sym (add-zero k)) (same_Some y x e))
+      (none-numbered F (suc k) xs (λ m z g. ap (λ n. F (n, z)) (sym (plus-suc k m)) ∙ h (suc m) z g (suc-ne-zero m)))
       ∙ append-nil (F (k + 0, x))
   only-from F k (y ∷ xs) (suc c) x e h =
-      ap₂ (λ a b. a ++ b) (ap (λ n. F (n, y)) (sym (plus-none k)) ∙ h 0 y refl (zero-not c))
+      ap₂ (λ a b. a ++ b) (ap (λ n. F (n, y)) (sym (add-zero k)) ∙ h 0 y refl (zero-not_suc c))
       (only-from F (suc k) xs c x e (λ m z g ne. ap (λ n. F (n, z)) (sym (plus-suc k m)) ∙ h (suc m) z g (λ f. ne (less m f))))
       ∙ ap (λ n. F (n, x)) (sym (plus-suc k c))
     where
@@ -68,17 +46,17 @@ module _ {X Y : Type 0} where
       less m f = omega arith
 
   pub only-at : (F : ℕ × X → List Y) (xs : List X) (c : ℕ) (x : X) → slice_get xs c ≡ Some x → ((m : ℕ) (y : X) → slice_get xs m ≡ Some y → (m ≡ c → ⊥) → F (m, y) ≡ []) → flat_map F (numbered 0 xs) ≡ F (c, x)
-  only-at F xs c x e h = only-from F 0 xs c x e (λ m y g ne. ap (λ n. F (n, y)) (none-plus m) ∙ h m y g ne) ∙ ap (λ n. F (n, x)) (none-plus c)
+  only-at F xs c x e h = only-from F 0 xs c x e (λ m y g ne. ap (λ n. F (n, y)) (zero-add m) ∙ h m y g ne) ∙ ap (λ n. F (n, x)) (zero-add c)
 
 module _ {Y : Type 0} where
   -- what a list of a range has at an index
   ranged : (g : ℕ → List Y) (k n i : ℕ) → i < n → slice_index_or (map g (range_with_len k n)) i [] ≡ g (k + i)
   ranged g k zero i l = absurd (omega arith)
-  ranged g k (suc n) zero l = ap g (sym (plus-none k))
+  ranged g k (suc n) zero l = ap g (sym (add-zero k))
   ranged g k (suc n) (suc i) l = ranged g (k + 1) n i (omega arith) ∙ ap g (more k i)
     where
       more : (a b : ℕ) → a + 1 + b ≡ a + suc b
       more a b = omega arith
 
   pub at-range : (g : ℕ → List Y) (n i : ℕ) → i < n → slice_index_or (map g (range_with_len 0 n)) i [] ≡ g i
-  at-range g n i l = ranged g 0 n i l ∙ ap g (none-plus i)
+  at-range g n i l = ranged g 0 n i l ∙ ap g (zero-add i)

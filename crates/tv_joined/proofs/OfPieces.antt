@@ -5,6 +5,8 @@ use Rattle.std.specs.Prelude.{◌≡◌, refl, ℕ, zero, suc, ◌+◌, ◌<◌,
 use Rattle.std.proofs.Common.{inl, inr, arith, sym, ap, ap₂, subst, ◌∙◌, append_assoc, append-nil}
 use Rattle.std.proofs.lemmas.Bool.{true≢false}
 use Rattle.std.proofs.lemmas.Option.{none-some, same_Some}
+use Rattle.tv_lemmas.proofs.Numbers.{is-zero_plus}
+use Rattle.tv_lemmas.proofs.Tests.{or-nothing}
 use Rattle.tv_value.specs.Nested.{Place, at, count, item_at, leaf, list, no_trees, tree}
 use Rattle.tv_value.specs.Orders.{same_name}
 use Rattle.tv_value.specs.Values.{ErrorDoc, Name, Value, fault_value}
@@ -153,16 +155,9 @@ item-whole false (item v) h = absurd h
 item-whole false (growing ps) h = absurd h
 item-whole false (closed ps) h = absurd h
 
-or-false : (b : Bool) → b ≡ (b || false)
-or-false true = refl
-or-false false = refl
-
 one-same : (b : Bool) → parts.one_if b ≡ one_if b
 one-same true = refl
 one-same false = refl
-
-no-plus : (n : ℕ) → n ≡ 0 + n
-no-plus n = omega arith
 
 module _ {A : Type 0} (es : Events) (s : Name) where
   -- the node stands at q of the iteration, and so do all inside it
@@ -189,12 +184,12 @@ module _ {A : Type 0} (es : Events) (s : Name) where
     whole-counted (leaf r (passed m e)) q (suc d) p l h =
         let here = top-of q (leaf r (passed m e)) p h in
         item-whole (has_fault es s q) p here.0
-        ∙ or-false (has_fault es s q)
+        ∙ or-nothing (has_fault es s q)
         ∙ ap (λ o. has_fault es s q || option_map_or (λ n. count_whole (whole_by es s d) q 0 n == n) o false) (sym here.1)
     whole-counted (list r ts) q zero p l h = absurd l
     whole-counted (list r ts) q (suc d) p l h =
         let here = top-of q (list r ts) p h in
-        list-whole (closed_with es s q) p here.0 (λ ps e g. parts-counted ts q 0 d ps l (λ j u k. subst (λ y. ShowsFrom (q ++ y ∷ []) u (part_of ps j)) (no-plus j) (subst (λ y. ShowsFrom (q ++ j ∷ []) u (part_at y j)) e (item-of q r ts p j u h k))) g)
+        list-whole (closed_with es s q) p here.0 (λ ps e g. parts-counted ts q 0 d ps l (λ j u k. subst (λ y. ShowsFrom (q ++ y ∷ []) u (part_of ps j)) (is-zero_plus j) (subst (λ y. ShowsFrom (q ++ j ∷ []) u (part_at y j)) e (item-of q r ts p j u h k))) g)
         ∙ ap (λ b. b || option_map_or (λ n. count_whole (whole_by es s d) q 0 n == n) (closed_with es s q) false) (sym here.1)
       where
         list-whole : (o : Option ℕ) (p : Partial A) → IsListIf o (count ts) p → ((ps : Parts A) → p ≡ closed ps → part_count ps ≡ count ts → whole_count ps ≡ count_whole (whole_by es s d) q 0 (count ts)) → whole p ≡ (false || option_map_or (λ n. count_whole (whole_by es s d) q 0 n == n) o false)

@@ -58,7 +58,7 @@ abbrev some : Place → Bool
 some [] = false
 some (i ∷ q) = true
 
-within : (ts : Iterations) (i : ℕ) (u : Iteration) → item_at ts i ≡ Some u → i < count ts
+pub within : (ts : Iterations) (i : ℕ) (u : Iteration) → item_at ts i ≡ Some u → i < count ts
 within no_trees i u e = absurd (none-some u e)
 within (tree t ts) zero u e = omega arith
 within (tree t ts) (suc i) u e = up i (count ts) (within ts i u e)

@@ -10,6 +10,7 @@ use Rattle.tv_value.specs.Nested.{Place, Tree, Trees, count, leaf, list, no_tree
 use Rattle.tv_value.specs.Orders.{named, same_name}
 use Rattle.tv_value.specs.Strategies.{Strategy}
 use Rattle.tv_value.specs.Values.{JobName, Name, Scalar, Value, fault, holds_fault, text}
+use Rattle.tv_value.proofs.OfNames.{same_name-refl}
 use Rattle.tv_flow.specs.Flows.{Feed, Flow, Link, Step, StepInput, constant, input, link, merge, output}
 use Rattle.tv_flow.specs.Formed.{is_ascending, is_step, is_step_input}
 use Rattle.tv_strategy.specs.Measures.{leaf_names}
@@ -17,7 +18,7 @@ use Rattle.tv_strategy.specs.Origins.{Origin, Traced}
 use Rattle.tv_strategy.specs.Sources.{Each}
 use Rattle.tv_naming.specs.Naming.{feed_links, has_name, is_there, numbered}
 use Rattle.tv_naming.specs.Numbers.{position}
-use Rattle.tv_naming.proofs.ByPosition.{names_of, same_name-is, same_name-refl}
+use Rattle.tv_naming.proofs.ByPosition.{names_of, same_name-is}
 use Rattle.tv_naming.proofs.FormedParts.{ascending, step-at, step-inputs}
 use Rattle.tv_depths.specs.Steps.{strategy_of}
 use Rattle.tv_depths.proofs.OfRanked.{one-place}
@@ -56,7 +57,7 @@ to-both : (m : Name) (ts us : List Told) → IsTo m ts → IsTo m us → IsTo m 
 to-both m [] us h k = k
 to-both m (t ∷ ts) us h k = (h.0, to-both m ts us h.1 k)
 
-bound-to : (m : Name) (q : Place) (b : Bool) → told_leaf (bound_told m q b) ≡ m
+pub bound-to : (m : Name) (q : Place) (b : Bool) → told_leaf (bound_told m q b) ≡ m
 bound-to m q true = refl
 bound-to m q false = refl
 
@@ -153,7 +154,7 @@ module _ (f : Flow) (e : Event) (there : has_name f.steps (event_step e) ≡ tru
   port-told p faulty (suc k) (constant v) h = refl
 
 -- the number of a name that is there
-few-there : {A : Type 0} (n : Name) (xs : List (Name × A)) → has_name xs n ≡ true → position n xs < length xs
+pub few-there : {A : Type 0} (n : Name) (xs : List (Name × A)) → has_name xs n ≡ true → position n xs < length xs
 few-there n [] h = absurd (true≢false (sym h))
 few-there n (x ∷ xs) h = by (same_name n x.0) h (λ k. few-there n xs k)
   where

@@ -1,7 +1,7 @@
 -- A legal event can change the trees of its step's outputs, and from which length on prefixes of its place turn whole.
 use Rattle.std.specs.Prelude.{◌≡◌, refl, ℕ, zero, suc, ◌-◌, ◌<◌, ◌≤◌, Bool, true, false, ◌&&◌, ◌||◌, not, nat_le, if◌then◌else◌, List, [], ◌∷◌, ◌++◌, Option, Some, None, length, option_and_then, take, unwrap_or}
 use Rattle.std.proofs.Common.{arith, sym, ap, ap₂, subst, ◌∙◌}
-use Rattle.std.proofs.lemmas.Bool.{true≢false}
+use Rattle.std.proofs.lemmas.Bool.{true≢false, or_parts}
 use Rattle.std.proofs.lemmas.Option.{none-some, same_Some}
 use Rattle.tv_value.specs.Nested.{Place, at, count, item_at, leaf, list, no_trees, tree}
 use Rattle.tv_value.specs.Values.{ErrorDoc, Name, Value}
@@ -26,7 +26,7 @@ use Rattle.tv_joined.proofs.OfPieces.{ShowsFrom, so_far, so_far-shows, whole-cou
 
 -- ---- what stands at a place of an iteration
 
-levels-at : (t : Iteration) (d : ℕ) → HasLevels t d → (x : Place) (u : Iteration) → at t x ≡ Some u → HasLevels u (levels_below d x)
+pub levels-at : (t : Iteration) (d : ℕ) → HasLevels t d → (x : Place) (u : Iteration) → at t x ≡ Some u → HasLevels u (levels_below d x)
 levels-at t d l [] u e = subst (λ y. HasLevels y d) (same_Some t u e) l
 levels-at (leaf s x) d l (i ∷ q) u e = absurd (none-some u e)
 levels-at (list s ts) zero l (i ∷ q) u e = absurd l
@@ -59,7 +59,7 @@ place-short (list s ts) (suc d) l (i ∷ q) u e = by (item_at ts i) refl e (λ y
     by None f g rec = absurd (none-some u g)
     by (Some y) f g rec = up (length q) d (rec y (item-has ts i y l f) g)
 
-left-below : (d : ℕ) (q : Place) → levels_below d q ≡ d - length q
+pub left-below : (d : ℕ) (q : Place) → levels_below d q ≡ d - length q
 left-below d [] = omega arith
 left-below zero (i ∷ q) = left-below zero q ∙ none (length q)
   where
@@ -92,24 +92,20 @@ at-further (list s ts) (i ∷ q) x u v e g = by (item_at ts i) refl e (λ y h. a
 
 -- ---- what wasn't told
 
-none-or : (a b : Bool) → (a || b) ≡ false → (a ≡ false) × (b ≡ false)
-none-or true b h = absurd (true≢false h)
-none-or false b h = (refl, h)
-
 no-fault : (es : Events) (s : Name) (q : Place) → has_level es s q ≡ false → has_fault es s q ≡ false
 no-fault [] s q h = refl
 no-fault (gave n x vs ∷ es) s q h = no-fault es s q h
 no-fault (took n x ∷ es) s q h = no-fault es s q h
-no-fault (events.closed n x l ∷ es) s q h = no-fault es s q ((none-or (is_spot s q n x) (has_level es s q) h).1)
-no-fault (fault_set n x d ∷ es) s q h = let g = none-or (is_spot s q n x) (has_level es s q) h in ap₂ (λ a b. a || b) g.0 (no-fault es s q g.1)
+no-fault (events.closed n x l ∷ es) s q h = no-fault es s q ((or_parts (is_spot s q n x) (has_level es s q) h).1)
+no-fault (fault_set n x d ∷ es) s q h = let g = or_parts (is_spot s q n x) (has_level es s q) h in ap₂ (λ a b. a || b) g.0 (no-fault es s q g.1)
 
 unclosed : (es : Events) (s : Name) (q : Place) → has_level es s q ≡ false → closed_with es s q ≡ None
 unclosed [] s q h = refl
 unclosed (gave n x vs ∷ es) s q h = unclosed es s q h
 unclosed (took n x ∷ es) s q h = unclosed es s q h
-unclosed (fault_set n x d ∷ es) s q h = unclosed es s q ((none-or (is_spot s q n x) (has_level es s q) h).1)
+unclosed (fault_set n x d ∷ es) s q h = unclosed es s q ((or_parts (is_spot s q n x) (has_level es s q) h).1)
 unclosed (events.closed n x l ∷ es) s q h =
-    let g = none-or (is_spot s q n x) (has_level es s q) h in ap (λ b. if b then Some l else closed_with es s q) g.0 ∙ unclosed es s q g.1
+    let g = or_parts (is_spot s q n x) (has_level es s q) h in ap (λ b. if b then Some l else closed_with es s q) g.0 ∙ unclosed es s q g.1
 
 no-item : {A : Type 0} (b : Bool) (p : Partial A) → b ≡ false → IsItemIf b p → p ≡ wanting
 no-item true p e h = absurd (true≢false e)

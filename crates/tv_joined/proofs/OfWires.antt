@@ -3,14 +3,16 @@ use Rattle.std.specs.List.{list_any, range_with_len}
 use Rattle.std.specs.Prelude.{◌≡◌, refl, ℕ, zero, suc, ◌+◌, ◌-◌, ◌<◌, Bool, true, false, ◌&&◌, ◌||◌, ◌==◌, not, filter, flat_map, get_or, if◌then◌else◌, is_some, List, [], ◌∷◌, ◌++◌, length, map, Option, Some, None, slice_get, slice_index_or}
 use Rattle.std.proofs.Common.{arith, sym, ap, ap₂, subst, ◌∙◌, append-nil}
 use Rattle.std.proofs.lemmas.Bool.{eq-eqb, ne_eqb, true≢false}
+use Rattle.std.proofs.lemmas.List.Elements.{filter-append}
 use Rattle.tv_value.specs.Orders.{named, same_name}
 use Rattle.tv_value.specs.Values.{Name}
+use Rattle.tv_value.proofs.OfNames.{same_name-refl}
 use Rattle.tv_flow.specs.Flows.{Feed, Flow, Link, Step, StepInput, constant, input, link, merge, output}
 use Rattle.tv_flow.specs.Formed.{is_ascending}
 use Rattle.tv_strategy.specs.Measures.{leaf_names}
 use Rattle.tv_naming.specs.Naming.{has_name, numbered}
 use Rattle.tv_naming.specs.Numbers.{position}
-use Rattle.tv_naming.proofs.ByPosition.{names_of, same_name-is, same_name-refl}
+use Rattle.tv_naming.proofs.ByPosition.{names_of, same_name-is}
 use Rattle.tv_depths.proofs.OfRanked.{one-place}
 use Rattle.tv_depths.specs.Steps.{strategy_of}
 use Rattle.tv_wires.specs.declared.feeds.NumberedLink.{NumberedLink}
@@ -22,7 +24,7 @@ use Rattle.tv_wires.specs.Ports.{leaf_number, levels_of, port_among, ports_of}
 use Rattle.tv_wires.specs.Turned.{all_wires, from_each, from_number, links_of, port_wires, step_wires, wire_of}
 use Rattle.tv_wires.specs.Wirings.{all_ports, wires_by_step}
 use Rattle.tv_joined.specs.AlongWires.{levels_walked}
-use Rattle.tv_joined.proofs.OfLists.{at-range, filter-append, flat-flat, flat-mapped, none-flat, numbered-map, only-at}
+use Rattle.tv_joined.proofs.OfLists.{at-range, flat-flat, flat-mapped, none-flat, numbered-map, only-at}
 
 -- ---- tests that choose pieces
 

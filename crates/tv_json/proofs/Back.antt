@@ -1,12 +1,14 @@
 -- A document's JSON reads back as the document.
-use Rattle.std.specs.Prelude.{◌≡◌, ℕ, suc, ◌+◌, ◌≤◌, List, [], ◌∷◌, ◌++◌, length, map, Bool, true, false, ◌&&◌, ◌||◌, not, nat_le, nat_lt, codes, is_some, if◌then◌else◌, Option, Some, None, Result, Ok, Err, refl}
-use Rattle.std.specs.declared.cmp.Ordering.{Ordering}
+use Rattle.std.specs.Prelude.{◌≡◌, ℕ, suc, ◌+◌, ◌≤◌, List, [], ◌∷◌, ◌++◌, length, map, Bool, true, false, ◌&&◌, ◌||◌, not, nat_le, nat_lt, codes, is_some, Option, Some, None, Result, Ok, Err, refl}
 use Rattle.std.specs.List.{list_all}
 use Rattle.std.specs.Ordering.{nat_cmp, is_lt, ordering_reverse, match_ordering}
 use Rattle.std.specs.Cmp.Lexicographic.{slice_cmp}
-use Rattle.std.proofs.Common.{ap, sym, ◌∙◌, arith, append_assoc, append-nil, Less, Equal, Greater}
+use Rattle.std.proofs.Common.{ap, sym, ◌∙◌, arith, append_assoc, append-nil, Greater}
 use Rattle.std.proofs.lemmas.Bool.Decides.{nat_tests}
 use Rattle.std.proofs.lemmas.Cmp.{nat_list_cmp_total}
+use Rattle.std.specs.Cmp.{first_so, second_so}
+use Rattle.std.proofs.lemmas.Bool.{cond-true, cond-false}
+use Rattle.tv_lemmas.proofs.Orderings.{is_lt-less}
 use Rattle.serde_json.specs.Data.{Data, string, array, member, put}
 use Rattle.serde_json.specs.View.{items_of}
 use Rattle.tv_value.specs.Nested.{Trees, no_trees, tree, leaf, list, count}
@@ -24,37 +26,26 @@ use Rattle.tv_flow.specs.Flows.{Link, input, output, Feed, link, merge, constant
 use Rattle.tv_flow.specs.Forms.{is_name, name_or_not, name_form, number_form, depth_form, counted, member_count, entries_form, named_form, items_form, array_form, value_form, of_reading, link_form, feed_form, tree_form, trees_form, each_tree, activity_form, step_input_form, names_form, step_form, flow_form, form_of}
 use Rattle.tv_flow.specs.Formed.{is_ascending, is_between, is_depth, are_entries, are_named, are_listed, is_value, are_values, is_link, is_feed, strategy_count, is_tree, are_trees, is_activity, is_step_input, are_names, is_step, is_flow, is_formed}
 use Rattle.tv_flow.proofs.Growing.{all-push}
-use Rattle.tv_flow.proofs.Sorting.{and-first, and-second, above}
+use Rattle.tv_flow.proofs.Sorting.{above}
 use Rattle.tv_json.specs.Documents.{number_json, array_json, put_each, named_json, link_json, feed_json, step_input_json, activity_json, tree_json, all_trees, step_json, flow_json, document_json}
 
 -- ---- numbers and names
 
-if-true : {A : Type 0} (b : Bool) (x y : A) → b ≡ true → (if b then x else y) ≡ x
-if-true b x y e = ap (λ c. if c then x else y) e
-
-if-false : {A : Type 0} (b : Bool) (x y : A) → b ≡ false → (if b then x else y) ≡ y
-if-false b x y e = ap (λ c. if c then x else y) e
-
 name-back : (here : Path) (n : Name) → is_name n ≡ true → name_or_not here n ≡ Ok n
-name-back here n h = if-true (is_name n) (Ok n) (complaint BadName here) h
+name-back here n h = cond-true (is_name n) (Ok n) (complaint BadName here) h
 
 number-back : (low high : ℕ) (here : Path) (n : ℕ) → is_between low high n ≡ true → number_form low high here (number_json n) ≡ Ok n
-number-back low high here n h = if-true (is_between low high n) (Ok n) (complaint OutOfRange here) h
+number-back low high here n h = cond-true (is_between low high n) (Ok n) (complaint OutOfRange here) h
 
 below : (least n : ℕ) → nat_le least n ≡ true → nat_lt n least ≡ false
 below least n h = grind (arith, nat_tests)
 
 counted-back : (least most : ℕ) (here : Path) (n : ℕ) → is_between least most n ≡ true → counted least most here n ≡ Ok tt
 counted-back least most here n h =
-    if-false (nat_lt n least) _ _ (below least n (and-first (nat_le least n) (nat_le n most) h))
-    ∙ if-false (nat_lt most n) _ _ (below n most (and-second (nat_le least n) (nat_le n most) h))
+    cond-false (nat_lt n least) _ _ (below least n (first_so (nat_le least n) (nat_le n most) h))
+    ∙ cond-false (nat_lt most n) _ _ (below n most (second_so (nat_le least n) (nat_le n most) h))
 
 -- ---- members put in order
-
-less : (o : Ordering) → is_lt o ≡ true → o ≡ Less
-less Less e = refl
-less Equal e = cc
-less Greater e = cc
 
 -- each key is below a name
 abbrev under : List (Text × Data) → Name → Bool
@@ -63,9 +54,9 @@ under done n = list_all (λ p. is_lt (name_cmp p.0 n)) done
 put-last : (done : List (Text × Data)) (k : Name) (d : Data) → under done k ≡ true → put k d (members done) ≡ members (done ++ (k, d) ∷ [])
 put-last [] k d h = refl
 put-last (p ∷ ps) k d h =
-    let greater : slice_cmp nat_cmp k p.0 ≡ Greater = nat_list_cmp_total.antisymm k p.0 ∙ ap ordering_reverse (less (name_cmp p.0 k) (and-first (is_lt (name_cmp p.0 k)) (under ps k) h)) in
+    let greater : slice_cmp nat_cmp k p.0 ≡ Greater = nat_list_cmp_total.antisymm k p.0 ∙ ap ordering_reverse (is_lt-less (name_cmp p.0 k) (first_so (is_lt (name_cmp p.0 k)) (under ps k) h)) in
     ap (λ o. match_ordering o (member k d (member p.0 p.1 (members ps))) (member p.0 d (members ps)) (member p.0 p.1 (put k d (members ps)))) greater
-    ∙ ap (member p.0 p.1) (put-last ps k d (and-second (is_lt (name_cmp p.0 k)) (under ps k) h))
+    ∙ ap (member p.0 p.1) (put-last ps k d (second_so (is_lt (name_cmp p.0 k)) (under ps k) h))
 
 module _ {A : Type 0} where
   under-none : (es : List (Name × A)) → list_all (λ e. under [] e.0) es ≡ true
@@ -77,8 +68,8 @@ module _ {A : Type 0} where
   under-more done k d (e ∷ es) h a =
       let rest = list_all (λ (y : Name × A). under done y.0) es in
       let more = above k (map (λ (y : Name × A). y.0) es) in
-      ap (λ b. b && list_all (λ y. under (done ++ (k, d) ∷ []) y.0) es) (all-push (λ p. is_lt (name_cmp p.0 e.0)) done (k, d) (and-first (under done e.0) rest h) (and-first (is_lt (name_cmp k e.0)) more a))
-      ∙ under-more done k d es (and-second (under done e.0) rest h) (and-second (is_lt (name_cmp k e.0)) more a)
+      ap (λ b. b && list_all (λ y. under (done ++ (k, d) ∷ []) y.0) es) (all-push (λ p. is_lt (name_cmp p.0 e.0)) done (k, d) (first_so (under done e.0) rest h) (first_so (is_lt (name_cmp k e.0)) more a))
+      ∙ under-more done k d es (second_so (under done e.0) rest h) (second_so (is_lt (name_cmp k e.0)) more a)
 
 -- ---- arrays and named objects
 
@@ -86,8 +77,8 @@ module _ {A : Type 0} (form : Path → Data → Result A Complaint) (test : A �
   items-back : (here : Path) (i : ℕ) (xs : List A) → list_all test xs ≡ true → items_form form here i (items_of (map f xs)) ≡ Ok xs
   items-back here i [] h = refl
   items-back here i (x ∷ xs) h =
-      ap (λ r. given r (λ a. given (items_form form here (suc i) (items_of (map f xs))) (λ as'. Ok (a ∷ as')))) (back (index here i) x (and-first (test x) (list_all test xs) h))
-      ∙ ap (λ r. given r (λ as'. Ok (x ∷ as'))) (items-back here (suc i) xs (and-second (test x) (list_all test xs) h))
+      ap (λ r. given r (λ a. given (items_form form here (suc i) (items_of (map f xs))) (λ as'. Ok (a ∷ as')))) (back (index here i) x (first_so (test x) (list_all test xs) h))
+      ∙ ap (λ r. given r (λ as'. Ok (x ∷ as'))) (items-back here (suc i) xs (second_so (test x) (list_all test xs) h))
 
   count-items : (xs : List A) → item_count (items_of (map f xs)) ≡ length xs
   count-items [] = refl
@@ -96,8 +87,8 @@ module _ {A : Type 0} (form : Path → Data → Result A Complaint) (test : A �
   array-back : (least most : ℕ) (here : Path) (xs : List A) → are_listed test least most xs ≡ true → array_form form least most here (array_json f xs) ≡ Ok xs
   array-back least most here xs h =
       ap (λ r. given r (λ u. items_form form here 0 (items_of (map f xs))))
-      (ap (counted least most here) (count-items xs) ∙ counted-back least most here (length xs) (and-first (is_between least most (length xs)) (list_all test xs) h))
-      ∙ items-back here 0 xs (and-second (is_between least most (length xs)) (list_all test xs) h)
+      (ap (counted least most here) (count-items xs) ∙ counted-back least most here (length xs) (first_so (is_between least most (length xs)) (list_all test xs) h))
+      ∙ items-back here 0 xs (second_so (is_between least most (length xs)) (list_all test xs) h)
 
   abbrev pairs : List (Name × A) → List (Text × Data)
   pairs es = map (λ e. (e.0, f e.1)) es
@@ -107,8 +98,8 @@ module _ {A : Type 0} (form : Path → Data → Result A Complaint) (test : A �
   put_each-members done (e ∷ es) h a =
       let names = map (λ (x : Name × A). x.0) es in
       let x : Text × Data = (e.0, f e.1) in
-      ap (λ ms. put_each f ms es) (put-last done e.0 (f e.1) (and-first (under done e.0) (list_all (λ y. under done y.0) es) h))
-      ∙ put_each-members (done ++ x ∷ []) es (under-more done e.0 (f e.1) es (and-second (under done e.0) (list_all (λ y. under done y.0) es) h) (and-first (above e.0 names) (is_ascending names) a)) (and-second (above e.0 names) (is_ascending names) a)
+      ap (λ ms. put_each f ms es) (put-last done e.0 (f e.1) (first_so (under done e.0) (list_all (λ y. under done y.0) es) h))
+      ∙ put_each-members (done ++ x ∷ []) es (under-more done e.0 (f e.1) es (second_so (under done e.0) (list_all (λ y. under done y.0) es) h) (first_so (above e.0 names) (is_ascending names) a)) (second_so (above e.0 names) (is_ascending names) a)
       ∙ ap members (append_assoc done (x ∷ []) (pairs es))
 
   count-pairs : (es : List (Name × A)) → member_count (members (pairs es)) ≡ length es
@@ -118,20 +109,20 @@ module _ {A : Type 0} (form : Path → Data → Result A Complaint) (test : A �
   entries-back : (here : Path) (es : List (Name × A)) → list_all (λ e. is_name e.0 && test e.1) es ≡ true → entries_form form here (members (pairs es)) ≡ Ok es
   entries-back here [] h = refl
   entries-back here (e ∷ es) h =
-      let both = and-first (is_name e.0 && test e.1) (list_all (λ y. is_name y.0 && test y.1) es) h in
-      let rest = entries-back here es (and-second (is_name e.0 && test e.1) (list_all (λ y. is_name y.0 && test y.1) es) h) in
-      ap (λ r. given r (λ n. given (form (key here e.0) (f e.1)) (λ a. given (entries_form form here (members (pairs es))) (λ as'. Ok ((n, a) ∷ as'))))) (name-back (key here e.0) e.0 (and-first (is_name e.0) (test e.1) both))
-      ∙ ap (λ r. given r (λ a. given (entries_form form here (members (pairs es))) (λ as'. Ok ((e.0, a) ∷ as')))) (back (key here e.0) e.1 (and-second (is_name e.0) (test e.1) both))
+      let both = first_so (is_name e.0 && test e.1) (list_all (λ y. is_name y.0 && test y.1) es) h in
+      let rest = entries-back here es (second_so (is_name e.0 && test e.1) (list_all (λ y. is_name y.0 && test y.1) es) h) in
+      ap (λ r. given r (λ n. given (form (key here e.0) (f e.1)) (λ a. given (entries_form form here (members (pairs es))) (λ as'. Ok ((n, a) ∷ as'))))) (name-back (key here e.0) e.0 (first_so (is_name e.0) (test e.1) both))
+      ∙ ap (λ r. given r (λ a. given (entries_form form here (members (pairs es))) (λ as'. Ok ((e.0, a) ∷ as')))) (back (key here e.0) e.1 (second_so (is_name e.0) (test e.1) both))
       ∙ ap (λ r. given r (λ as'. Ok ((e.0, e.1) ∷ as'))) rest
 
   named-back : (least most : ℕ) (here : Path) (es : List (Name × A)) → are_named test least most es ≡ true → named_form form least most here (named_json f es) ≡ Ok es
   named-back least most here es h =
       let names = is_ascending (map (λ (e : Name × A). e.0) es) in
       let all = list_all (λ e. is_name e.0 && test e.1) es in
-      let entries = and-second (is_between least most (length es)) (names && all) h in
-      ap (λ ms. given (counted least most here (member_count ms)) (λ u. entries_form form here ms)) (put_each-members [] es (under-none es) (and-first names all entries))
-      ∙ ap (λ r. given r (λ u. entries_form form here (members (pairs es)))) (ap (counted least most here) (count-pairs es) ∙ counted-back least most here (length es) (and-first (is_between least most (length es)) (names && all) h))
-      ∙ entries-back here es (and-second names all entries)
+      let entries = second_so (is_between least most (length es)) (names && all) h in
+      ap (λ ms. given (counted least most here (member_count ms)) (λ u. entries_form form here ms)) (put_each-members [] es (under-none es) (first_so names all entries))
+      ∙ ap (λ r. given r (λ u. entries_form form here (members (pairs es)))) (ap (counted least most here) (count-pairs es) ∙ counted-back least most here (length es) (first_so (is_between least most (length es)) (names && all) h))
+      ∙ entries-back here es (second_so names all entries)
 
 -- ---- values
 
@@ -147,21 +138,21 @@ list-back : (vs : Trees (Unit {0}) Scalar) → (nat_lt (count vs) length_limit &
 list-back vs h e =
     let short = nat_lt (count vs) length_limit in
     let deep = is_some (least_depth (list_value vs)) in
-    let both = and-first (short && deep) (are_values vs) h in
-    if-true (nat_lt (item_count (all_json vs)) length_limit) (read_list (read_items 0 (all_json vs))) (Err (ragged [])) (ap (λ n. nat_lt n length_limit) (count-json vs) ∙ and-first short deep both)
+    let both = first_so (short && deep) (are_values vs) h in
+    cond-true (nat_lt (item_count (all_json vs)) length_limit) (read_list (read_items 0 (all_json vs))) (Err (ragged [])) (ap (λ n. nat_lt n length_limit) (count-json vs) ∙ first_so short deep both)
     ∙ ap read_list e
-    ∙ if-true deep (Ok (list_value vs)) (Err (ragged [])) (and-second short deep both)
+    ∙ cond-true deep (Ok (list_value vs)) (Err (ragged [])) (second_so short deep both)
 
 mutual
   value-back : (v : Value) → is_value v ≡ true → read (json v) ≡ Ok v
   value-back (leaf n a) h = scalar-back a h
-  value-back (list n vs) h = list-back vs h (values-back 0 vs (and-second (nat_lt (count vs) length_limit && is_some (least_depth (list_value vs))) (are_values vs) h))
+  value-back (list n vs) h = list-back vs h (values-back 0 vs (second_so (nat_lt (count vs) length_limit && is_some (least_depth (list_value vs))) (are_values vs) h))
 
   values-back : (i : ℕ) (vs : Trees (Unit {0}) Scalar) → are_values vs ≡ true → read_items i (all_json vs) ≡ Ok vs
   values-back i no_trees h = refl
   values-back i (tree v vs) h =
-      ap (λ r. first_read i r (read_items (suc i) (all_json vs))) (value-back v (and-first (is_value v) (are_values vs) h))
-      ∙ ap (first_read i (Ok v)) (values-back (suc i) vs (and-second (is_value v) (are_values vs) h))
+      ap (λ r. first_read i r (read_items (suc i) (all_json vs))) (value-back v (first_so (is_value v) (are_values vs) h))
+      ∙ ap (first_read i (Ok v)) (values-back (suc i) vs (second_so (is_value v) (are_values vs) h))
 
 value_form-back : (here : Path) (v : Value) → is_value v ≡ true → value_form here (json v) ≡ Ok v
 value_form-back here v h = ap (of_reading here) (value-back v h)
@@ -171,8 +162,8 @@ value_form-back here v h = ap (of_reading here) (value-back v h)
 link-back : (here : Path) (l : Link) → is_link l ≡ true → link_form here (link_json l) ≡ Ok l
 link-back here (input n) h = ap (λ r. given r (λ m. Ok (input m))) (name-back (key here (codes "input")) n h)
 link-back here (output s p) h =
-    ap (λ r. given r (λ t. given (name_or_not (key here (codes "port")) p) (λ q. Ok (output t q)))) (name-back (key here (codes "step")) s (and-first (is_name s) (is_name p) h))
-    ∙ ap (λ r. given r (λ q. Ok (output s q))) (name-back (key here (codes "port")) p (and-second (is_name s) (is_name p) h))
+    ap (λ r. given r (λ t. given (name_or_not (key here (codes "port")) p) (λ q. Ok (output t q)))) (name-back (key here (codes "step")) s (first_so (is_name s) (is_name p) h))
+    ∙ ap (λ r. given r (λ q. Ok (output s q))) (name-back (key here (codes "port")) p (second_so (is_name s) (is_name p) h))
 
 feed-back : (here : Path) (a : Feed) → is_feed a ≡ true → feed_form here (feed_json a) ≡ Ok a
 feed-back here (link (input n)) h = ap (λ r. given r (λ l. Ok (link l))) (link-back here (input n) h)
@@ -182,8 +173,8 @@ feed-back here (constant v) h = ap (λ r. given r (λ w. Ok (constant w))) (valu
 
 step_input-back : (here : Path) (i : StepInput) → is_step_input i ≡ true → step_input_form here (step_input_json i) ≡ Ok i
 step_input-back here i h =
-    ap (λ r. given r (λ depth. given (feed_form (key here (codes "from")) (feed_json i.from)) (λ from. Ok (record { depth = depth; from = from })))) (number-back 0 32 (key here (codes "depth")) i.depth (and-first (is_depth i.depth) (is_feed i.from) h))
-    ∙ ap (λ r. given r (λ from. Ok (record { depth = i.depth; from = from }))) (feed-back (key here (codes "from")) i.from (and-second (is_depth i.depth) (is_feed i.from) h))
+    ap (λ r. given r (λ depth. given (feed_form (key here (codes "from")) (feed_json i.from)) (λ from. Ok (record { depth = depth; from = from })))) (number-back 0 32 (key here (codes "depth")) i.depth (first_so (is_depth i.depth) (is_feed i.from) h))
+    ∙ ap (λ r. given r (λ from. Ok (record { depth = i.depth; from = from }))) (feed-back (key here (codes "from")) i.from (second_so (is_depth i.depth) (is_feed i.from) h))
 
 activity-back : (here : Path) (a : Activity) → is_activity a ≡ true → activity_form here (activity_json a) ≡ Ok a
 activity-back here (service n) h = ap (λ r. given r (λ m. Ok (service m))) (name-back (key here (codes "service")) n h)
@@ -197,30 +188,30 @@ count-trees (strategy t ts) = ap suc (count-trees ts)
 
 children-back : (there : Path) (ts : Strategies) → (is_between 1 16 (strategy_count ts) && are_trees ts) ≡ true → each_tree there 0 (all_trees ts) ≡ Ok ts → trees_form there (array (all_trees ts)) ≡ Ok ts
 children-back there ts h e =
-    ap (λ r. given r (λ u. each_tree there 0 (all_trees ts))) (ap (counted 1 16 there) (count-trees ts) ∙ counted-back 1 16 there (strategy_count ts) (and-first (is_between 1 16 (strategy_count ts)) (are_trees ts) h))
+    ap (λ r. given r (λ u. each_tree there 0 (all_trees ts))) (ap (counted 1 16 there) (count-trees ts) ∙ counted-back 1 16 there (strategy_count ts) (first_so (is_between 1 16 (strategy_count ts)) (are_trees ts) h))
     ∙ e
 
 mutual
   tree-back : (here : Path) (t : Strategy) → is_tree t ≡ true → tree_form here (tree_json t) ≡ Ok t
   tree-back here (port n) h = ap (λ r. given r (λ m. Ok (port m))) (name-back here n h)
-  tree-back here (cross ts) h = ap (λ r. given r (λ us. Ok (cross us))) (children-back (key here (codes "cross")) ts h (trees-back (key here (codes "cross")) 0 ts (and-second (is_between 1 16 (strategy_count ts)) (are_trees ts) h)))
-  tree-back here (dot ts) h = ap (λ r. given r (λ us. Ok (dot us))) (children-back (key here (codes "dot")) ts h (trees-back (key here (codes "dot")) 0 ts (and-second (is_between 1 16 (strategy_count ts)) (are_trees ts) h)))
+  tree-back here (cross ts) h = ap (λ r. given r (λ us. Ok (cross us))) (children-back (key here (codes "cross")) ts h (trees-back (key here (codes "cross")) 0 ts (second_so (is_between 1 16 (strategy_count ts)) (are_trees ts) h)))
+  tree-back here (dot ts) h = ap (λ r. given r (λ us. Ok (dot us))) (children-back (key here (codes "dot")) ts h (trees-back (key here (codes "dot")) 0 ts (second_so (is_between 1 16 (strategy_count ts)) (are_trees ts) h)))
 
   trees-back : (there : Path) (i : ℕ) (ts : Strategies) → are_trees ts ≡ true → each_tree there i (all_trees ts) ≡ Ok ts
   trees-back there i no_strategies h = refl
   trees-back there i (strategy t ts) h =
-      ap (λ r. given r (λ u. given (each_tree there (suc i) (all_trees ts)) (λ us. Ok (strategy u us)))) (tree-back (index there i) t (and-first (is_tree t) (are_trees ts) h))
-      ∙ ap (λ r. given r (λ us. Ok (strategy t us))) (trees-back there (suc i) ts (and-second (is_tree t) (are_trees ts) h))
+      ap (λ r. given r (λ u. given (each_tree there (suc i) (all_trees ts)) (λ us. Ok (strategy u us)))) (tree-back (index there i) t (first_so (is_tree t) (are_trees ts) h))
+      ∙ ap (λ r. given r (λ us. Ok (strategy t us))) (trees-back there (suc i) ts (second_so (is_tree t) (are_trees ts) h))
 
 -- ---- names in order
 
 sorted : (ns : List Name) → is_ascending ns ≡ true → in_order name_cmp ns ≡ ns
 sorted [] h = refl
-sorted (n ∷ ns) h = ap (put_in_order name_cmp n) (sorted ns (and-second (above n ns) (is_ascending ns) h)) ∙ first n ns (and-first (above n ns) (is_ascending ns) h)
+sorted (n ∷ ns) h = ap (put_in_order name_cmp n) (sorted ns (second_so (above n ns) (is_ascending ns) h)) ∙ first n ns (first_so (above n ns) (is_ascending ns) h)
   where
     first : (n : Name) (ns : List Name) → above n ns ≡ true → put_in_order name_cmp n ns ≡ n ∷ ns
     first n [] a = refl
-    first n (m ∷ ms) a = ap (λ o. match_ordering o (n ∷ m ∷ ms) (m ∷ ms) (m ∷ put_in_order name_cmp n ms)) (less (name_cmp n m) (and-first (is_lt (name_cmp n m)) (above n ms) a))
+    first n (m ∷ ms) a = ap (λ o. match_ordering o (n ∷ m ∷ ms) (m ∷ ms) (m ∷ put_in_order name_cmp n ms)) (is_lt-less (name_cmp n m) (first_so (is_lt (name_cmp n m)) (above n ms) a))
 
 at-most : (n : ℕ) → nat_le n 16 ≡ true → is_between 0 16 n ≡ true
 at-most n h = grind (arith, nat_tests)
@@ -229,10 +220,10 @@ names-back : (here : Path) (ns : List Name) → are_names ns ≡ true → names_
 names-back here ns h =
     let few = nat_le (length ns) 16 in
     let all = list_all is_name ns in
-    let first = and-first (few && is_ascending ns) all h in
+    let first = first_so (few && is_ascending ns) all h in
     ap (λ r. given r (λ ms. Ok (in_order name_cmp ms)))
-    (array-back name_form is_name string (λ p n e. name-back p n e) 0 16 here ns (ap (λ b. b && all) (at-most (length ns) (and-first few (is_ascending ns) first)) ∙ and-second (few && is_ascending ns) all h))
-    ∙ ap Ok (sorted ns (and-second few (is_ascending ns) first))
+    (array-back name_form is_name string (λ p n e. name-back p n e) 0 16 here ns (ap (λ b. b && all) (at-most (length ns) (first_so few (is_ascending ns) first)) ∙ second_so (few && is_ascending ns) all h))
+    ∙ ap Ok (sorted ns (second_so few (is_ascending ns) first))
 
 -- ---- steps
 
@@ -316,10 +307,10 @@ flow-back here f h =
     let ins = are_named is_depth 0 16 f.inputs in
     let steps = are_named is_step 0 1000 f.steps in
     let outs = are_named is_feed 0 16 f.outputs in
-    let both = and-first (ins && steps) outs h in
-    ap (λ r. given r (λ is. given (named_form step_form 0 1000 (key here (codes "steps")) (named_json step_json f.steps)) (λ ss. given (named_form feed_form 0 16 (key here (codes "outputs")) (named_json feed_json f.outputs)) (λ os. Ok (record { inputs = is; steps = ss; outputs = os }))))) (depths-back (key here (codes "inputs")) f.inputs (and-first ins steps both))
-    ∙ ap (λ r. given r (λ ss. given (named_form feed_form 0 16 (key here (codes "outputs")) (named_json feed_json f.outputs)) (λ os. Ok (record { inputs = f.inputs; steps = ss; outputs = os })))) (named-back step_form is_step step_json step-back 0 1000 (key here (codes "steps")) f.steps (and-second ins steps both))
-    ∙ ap (λ r. given r (λ os. Ok (record { inputs = f.inputs; steps = f.steps; outputs = os }))) (named-back feed_form is_feed feed_json feed-back 0 16 (key here (codes "outputs")) f.outputs (and-second (ins && steps) outs h))
+    let both = first_so (ins && steps) outs h in
+    ap (λ r. given r (λ is. given (named_form step_form 0 1000 (key here (codes "steps")) (named_json step_json f.steps)) (λ ss. given (named_form feed_form 0 16 (key here (codes "outputs")) (named_json feed_json f.outputs)) (λ os. Ok (record { inputs = is; steps = ss; outputs = os }))))) (depths-back (key here (codes "inputs")) f.inputs (first_so ins steps both))
+    ∙ ap (λ r. given r (λ ss. given (named_form feed_form 0 16 (key here (codes "outputs")) (named_json feed_json f.outputs)) (λ os. Ok (record { inputs = f.inputs; steps = ss; outputs = os })))) (named-back step_form is_step step_json step-back 0 1000 (key here (codes "steps")) f.steps (second_so ins steps both))
+    ∙ ap (λ r. given r (λ os. Ok (record { inputs = f.inputs; steps = f.steps; outputs = os }))) (named-back feed_form is_feed feed_json feed-back 0 16 (key here (codes "outputs")) f.outputs (second_so (ins && steps) outs h))
 
 four : (a b c d : Bool) → (a && b && c && d) ≡ true → (a ≡ true) × ((b ≡ true) × ((c ≡ true) × (d ≡ true)))
 four true true true true h = (refl, (refl, (refl, refl)))

@@ -28,10 +28,6 @@ pub trees-each : (ts : List Strategy) → items_of (map tree_json ts) ≡ all_tr
 trees-each [] = refl
 trees-each (t ∷ ts) = ap (item (tree_json t)) (trees-each ts)
 
-pub map-same : {A : Type 0} (xs : List A) → map (λ x. x) xs ≡ xs
-map-same [] = refl
-map-same (x ∷ xs) = ap (λ ys. x ∷ ys) (map-same xs)
-
 pub length-each : {A B N : Type 0} (f : A → B) (es : List (N × A)) → length {A = N × B} (map (λ e. (e.0, f e.1)) es) ≡ length es
 length-each f [] = refl
 length-each f (e ∷ es) = ap suc (length-each f es)

@@ -4,7 +4,7 @@ use Rattle.std.specs.Cmp.Lexicographic.{lists_ties, texts_ties}
 use Rattle.std.specs.List.{cons_option, list_any}
 use Rattle.std.specs.Map.{lookup}
 use Rattle.std.specs.Ordering.{is_eq, ordering_then}
-use Rattle.std.specs.Prelude.{Bool, IfOk, IfSome, List, None, OnErr, OnOk, Some, [], false, filter_map, if◌then◌else◌, length, map, refl, suc, take, true, zero, ℕ, ◌&&◌, ◌+◌, ◌++◌, ◌<◌, ◌≡◌, ◌≤◌, ◌∷◌}
+use Rattle.std.specs.Prelude.{Bool, IfSome, List, None, OnErr, OnOk, Some, [], false, filter_map, if◌then◌else◌, length, map, refl, suc, take, true, zero, ℕ, ◌&&◌, ◌+◌, ◌++◌, ◌<◌, ◌≡◌, ◌≤◌, ◌∷◌}
 use Rattle.std.specs.Option.{is_some}
 use Rattle.std.specs.Result.{is_err}
 use Rattle.std.specs.declared.cmp.Ordering.{Ordering}
@@ -14,9 +14,11 @@ use Rattle.std.proofs.Common.{Option, Equal, Greater, Less, ap, append-nil, arit
 use Rattle.std.proofs.lemmas.List.Elements.{filter_map-append}
 use Rattle.std.proofs.lemmas.List.{map_more}
 use Rattle.std.proofs.Math.Seq.{take-append_seam}
+use Rattle.std.proofs.lemmas.Bool.{true≢false}
 use Rattle.tv_value.specs.Nested.{Place}
 use Rattle.tv_value.specs.Orders.{job_name_cmp, name_cmp, place_cmp, same_job, same_name}
 use Rattle.tv_value.specs.Values.{JobName, Name}
+use Rattle.tv_value.proofs.OfJobNames.{same_job_decides}
 use Rattle.tv_lineage.specs.Kept as kept
 use Rattle.tv_lineage.specs.Kept.{Kept, is_noted, parts_in, records_of}
 use Rattle.tv_lineage.specs.Lineages.{Record, backward, is_made_from, leaf_label}
@@ -29,23 +31,17 @@ use Rattle.tv_lineage.specs.declared.mark.Leaf.{Leaf}
 use Rattle.tv_lineage.specs.declared.mark.Mark.{Mark}
 use Rattle.tv_lineage.specs.declared.mark.Part.{Part}
 use Rattle.tv_lineage.specs.declared.records.Entry.{Entry}
-use Rattle.tv_lineage.proofs.Closing.{same_job_decides}
 use Rattle.tv_lineage.proofs.Holding.{groups-length, marks-inside, marks-parts, parts-at, parts-inside}
-use Rattle.tv_lineage.proofs.OfMembers.{true≠false}
 use Rattle.tv_lineage.proofs.Searching.{begins, finds-all, goes-on}
 use Rattle.tv_lineage.proofs.Seeing.{last}
 use Rattle.tv_lineage.proofs.Tabling.{tells, whole}
 
-pub if-ok : {T E : Type 0} {P Q : T → Type 0} (r : Result T E) → ((x : T) → P x → Q x) → IfOk r P → IfOk r Q
-if-ok (Ok x) f h = f x h
-if-ok (Err e) f h = tt
-
 pub of-ok : {T E P : Type 0} (r : Result T E) → is_err r ≡ false → OnOk r P → P
 of-ok (Ok x) e h = h
-of-ok (Err y) e h = absurd (true≠false e)
+of-ok (Err y) e h = absurd (true≢false e)
 
 pub of-err : {T E P : Type 0} (r : Result T E) → is_err r ≡ true → OnErr r P → P
-of-err (Ok x) e h = absurd (true≠false (sym e))
+of-err (Ok x) e h = absurd (true≢false (sym e))
 of-err (Err y) e h = h
 
 -- ---- numbers
@@ -66,7 +62,7 @@ module _ (s t : BTreeMap JobName ℕ) (key n : JobName) (same : key ≡ n) (i : 
   number-there m f = u.2 m (sym (job_ties key m) ∙ off (same_job key m) refl)
     where
       off : (b : Bool) → same_job key m ≡ b → b ≡ false
-      off true e = absurd (true≠false (sym ((same_job_decides m n).1 (sym ((same_job_decides key m).0 e) ∙ same)) ∙ f))
+      off true e = absurd (true≢false (sym ((same_job_decides m n).1 (sym ((same_job_decides key m).0 e) ∙ same)) ∙ f))
       off false e = refl
 
 -- a number stands there exactly for a noted job
@@ -84,7 +80,7 @@ kept-back s t es fs e f h = subst (λ ns. IsKept (λ n. lookup (is_at (job_name_
 -- ---- backward
 
 met-short : (bs : List Bool) (i : ℕ) → is_met bs i ≡ true → suc i ≤ length bs
-met-short [] i m = absurd (true≠false (sym m))
+met-short [] i m = absurd (true≢false (sym m))
 met-short (b ∷ bs) zero m = one (length bs)
   where
     one : (n : ℕ) → suc zero ≤ suc n

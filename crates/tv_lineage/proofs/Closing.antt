@@ -1,44 +1,24 @@
 -- The functions on records give what their marks lead to.
 use Rattle.std.specs.Prelude.{◌≡◌, refl, ℕ, zero, suc, ◌≤◌, ◌⊎◌, List, [], ◌∷◌, length, filter, Bool, true, false, not, if◌then◌else◌, flat_map}
 use Rattle.std.specs.Cmp.{IsTotalOrder}
-use Rattle.std.specs.Cmp.Lexicographic.{pointwise_decides, bytes_decides}
 use Rattle.std.proofs.Common.{arith, sym, ap, inl, inr}
 use Rattle.std.proofs.lemmas.Cmp.{then_total, on_total, nat_list_cmp_total}
 use Rattle.std.proofs.lemmas.Map.Lookups.{exact_bytes, exact_pairs}
-use Rattle.std.specs.Prelude.{◌&&◌}
 use Rattle.std.proofs.Common.{Equal}
+use Rattle.std.proofs.lemmas.Bool.{true≢false}
 use Rattle.tv_value.specs.Nested.{Place}
 use Rattle.tv_value.specs.Values.{Name, JobName}
-use Rattle.tv_value.specs.Orders.{same_job, same_name, name_cmp, place_cmp, in_order}
+use Rattle.tv_value.specs.Orders.{same_job, name_cmp, place_cmp, in_order}
+use Rattle.tv_value.proofs.OfJobNames.{same_job_decides}
 use Rattle.tv_lineage.specs.Members.{In, IsWithin, HaveSame, Rises}
 use Rattle.tv_lineage.specs.Touching.{Mark, given, made, Label, label_cmp}
 use Rattle.tv_lineage.specs.Lineages.{Record, LeadsIn, Leads, IsReached, used_by, labels_in, backward}
-use Rattle.tv_lineage.proofs.OfMembers.{true≠false, in-flat, of-flat, in-filter, of-filter, filter-shorter}
+use Rattle.tv_lineage.proofs.OfMembers.{in-flat, of-flat, in-filter, of-filter, filter-shorter}
 use Rattle.tv_lineage.proofs.Rising.{in-order, of-order, rises-order, same-order}
 
 -- ---- names and labels
 
-both : (a b : Bool) → a ≡ true → b ≡ true → (a && b) ≡ true
-both true b h k = k
-both false b h k = absurd (true≠false (sym h))
-
-one : (a b : Bool) → (a && b) ≡ true → a ≡ true
-one true b h = refl
-one false b h = h
-
-other : (a b : Bool) → (a && b) ≡ true → b ≡ true
-other true b h = h
-other false b h = absurd (true≠false (sym h))
-
-same_key : (a b : Name × List ℕ) → ((same_name a.0 b.0 && same_name a.1 b.1) ≡ true → a ≡ b) × (a ≡ b → (same_name a.0 b.0 && same_name a.1 b.1) ≡ true)
-same_key a b = (
-  λ h. let e = (bytes_decides a.0 b.0).0 (one (same_name a.0 b.0) (same_name a.1 b.1) h) in
-      let f = (bytes_decides a.1 b.1).0 (other (same_name a.0 b.0) (same_name a.1 b.1) h) in λ i. (e i, f i),
-  λ e. both (same_name a.0 b.0) (same_name a.1 b.1) ((bytes_decides a.0 b.0).1 (ap (λ k. k.0) e)) ((bytes_decides a.1 b.1).1 (ap (λ k. k.1) e)),
 )
-
-pub same_job_decides : (m n : JobName) → (same_job m n ≡ true → m ≡ n) × (m ≡ n → same_job m n ≡ true)
-same_job_decides m n = pointwise_decides same_key m n
 
 pub label_total : IsTotalOrder label_cmp
 label_total = then_total (on_total (λ l. l.0) nat_list_cmp_total) (on_total (λ l. l.1) nat_list_cmp_total)
@@ -53,7 +33,7 @@ in-used n rs r m i e u = in-flat (λ r. if same_job n r.job then r.used else [])
   where
     by : (b : Bool) → b ≡ true → In m (if b then r.used else [])
     by true f = u
-    by false f = absurd (true≠false (sym f))
+    by false f = absurd (true≢false (sym f))
 
 pub of-used : (n : JobName) (rs : List Record) (m : Mark) → In m (used_by n rs) → (r : Record) × In r rs × (r.job ≡ n) × In m r.used
 of-used n rs m h = let w = of-flat (λ r. if same_job n r.job then r.used else []) m rs h in by w.0 w.1 (same_job n w.0.job) refl w.2

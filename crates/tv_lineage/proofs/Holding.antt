@@ -5,8 +5,12 @@ use Rattle.std.proofs.Common.{ap, arith, append-nil, get_or, inl, inr, length-ap
 use Rattle.std.proofs.lemmas.List.Elements.{filter_map-append}
 use Rattle.std.proofs.lemmas.List.Concat.{flat_map-append}
 use Rattle.std.proofs.lemmas.List.{length-map, length-reverse, map-append, reverse-append}
+use Rattle.std.specs.Cmp.Derive.{one_truth}
+use Rattle.std.proofs.lemmas.Bool.{eqb-true}
+use Rattle.std.proofs.Math.Bool.{or-true}
 use Rattle.tv_value.specs.Orders.{same_job}
 use Rattle.tv_value.specs.Values.{JobName}
+use Rattle.tv_value.proofs.OfJobNames.{same_job_decides}
 use Rattle.tv_lineage.specs.Kept as kept
 use Rattle.tv_lineage.specs.Kept.{Groups, IsBefore, Kept, KeptRecord, all_marks, element, group, is_noted, parts_by, parts_in, record_kept, records_of, result}
 use Rattle.tv_lineage.specs.Members.{Each, In}
@@ -17,8 +21,7 @@ use Rattle.tv_lineage.specs.declared.mark.Mark.TheVariants.{Given, Made}
 use Rattle.tv_lineage.specs.declared.mark.Mark.{Mark}
 use Rattle.tv_lineage.specs.declared.mark.Part.{Part}
 use Rattle.tv_lineage.specs.declared.records.Entry.{Entry}
-use Rattle.tv_lineage.proofs.Closing.{same_job_decides}
-use Rattle.tv_lineage.proofs.Keeping.{before-later, before-same, none-noted, own_number, parts-before, same_number}
+use Rattle.tv_lineage.proofs.Keeping.{before-later, before-same, none-noted, own_number, parts-before}
 use Rattle.tv_lineage.proofs.OfMembers.{each_in, in-append}
 
 -- ---- entries
@@ -54,13 +57,8 @@ last-first (h ∷ gs) g = by (0 == length (gs ++ g ∷ [])) refl (last-first gs 
     long m n e f = omega arith
 
     by : (b : Bool) → (0 == length (gs ++ g ∷ [])) ≡ b → parts_in (gs ++ g ∷ []) 0 ≡ g → (if b then h else parts_in (gs ++ g ∷ []) 0) ≡ g
-    by true e rec = absurd (long (length gs) (length (gs ++ g ∷ [])) (length-append gs (g ∷ [])) (same_number 0 (length (gs ++ g ∷ [])) e))
+    by true e rec = absurd (long (length gs) (length (gs ++ g ∷ [])) (length-append gs (g ∷ [])) (eqb-true 0 (length (gs ++ g ∷ [])) e))
     by false e rec = rec
-
-same-tests : (a b : Bool) → (a ≡ true → b ≡ true) → (b ≡ true → a ≡ true) → a ≡ b
-same-tests true b f g = sym (f refl)
-same-tests false true f g = g refl
-same-tests false false f g = refl
 
 last-later : (gs : Groups) (g : List kept.Part) (i : ℕ) → parts_in (gs ++ g ∷ []) (suc i) ≡ parts_in gs i
 last-later [] g i = by (suc i == 0) refl
@@ -69,7 +67,7 @@ last-later [] g i = by (suc i == 0) refl
     not_zero i e = omega arith
 
     by : (b : Bool) → (suc i == 0) ≡ b → (if b then g else []) ≡ []
-    by true e = absurd (not_zero i (same_number (suc i) 0 e))
+    by true e = absurd (not_zero i (eqb-true (suc i) 0 e))
     by false e = refl
 last-later (h ∷ gs) g i = λ j. if same j then h else last-later gs g i j
   where
@@ -82,7 +80,7 @@ last-later (h ∷ gs) g i = λ j. if same j then h else last-later gs g i j
     same : (suc i == length (gs ++ g ∷ [])) ≡ (i == length gs)
     same =
         let e = length-append gs (g ∷ []) in
-        same-tests (suc i == length (gs ++ g ∷ [])) (i == length gs) (λ t. own_number i (length gs) (down i (length gs) (length (gs ++ g ∷ [])) e (same_number (suc i) (length (gs ++ g ∷ [])) t))) (λ t. own_number (suc i) (length (gs ++ g ∷ [])) (up i (length gs) (length (gs ++ g ∷ [])) e (same_number i (length gs) t)))
+        one_truth (suc i == length (gs ++ g ∷ [])) (i == length gs) (λ t. own_number i (length gs) (down i (length gs) (length (gs ++ g ∷ [])) e (eqb-true (suc i) (length (gs ++ g ∷ [])) t))) (λ t. own_number (suc i) (length (gs ++ g ∷ [])) (up i (length gs) (length (gs ++ g ∷ [])) e (eqb-true i (length gs) t)))
 
 turned : (e : Entry) (es : List Entry) → reverse (map parts_view (e ∷ es)) ≡ reverse (map parts_view es) ++ parts_view e ∷ []
 turned e es = reverse-append (parts_view e ∷ []) (map parts_view es)
@@ -112,10 +110,6 @@ any-more p (x ∷ xs) y = by (p x) (any-more p xs y)
     by true e = refl
     by false e = e
 
-or-true : (b : Bool) → (b || true) ≡ true
-or-true true = refl
-or-true false = refl
-
 module _ (ns : Numbers) (k : Kept) (h : IsKept ns k) (ps : List kept.Part) (before : Each (IsBefore (length k.groups)) ps) where
   up : (i : ℕ) → suc i ≤ length k.groups → suc i ≤ suc (length k.groups)
   up i w = omega arith
@@ -127,7 +121,7 @@ module _ (ns : Numbers) (k : Kept) (h : IsKept ns k) (ps : List kept.Part) (befo
       not_last i n w e = omega arith
 
       by : (b : Bool) → (i == length k.groups) ≡ b → b ≡ false
-      by true e = absurd (not_last i (length k.groups) w (same_number i (length k.groups) e))
+      by true e = absurd (not_last i (length k.groups) w (eqb-true i (length k.groups) e))
       by false e = refl
 
   parts-stay : (i : ℕ) → suc i ≤ length k.groups → parts_in (ps ∷ k.groups) i ≡ parts_in k.groups i

@@ -2,19 +2,16 @@
 use Rattle.std.specs.List.{list_any}
 use Rattle.std.specs.Prelude.{◌++◌, ◌||◌, ◌≡◌, refl, ℕ, zero, suc, ◌≤◌, List, [], ◌∷◌, length, flat_map, Bool, true, false, ◌==◌, if◌then◌else◌}
 use Rattle.std.proofs.Common.{arith, sym, ap, subst, ◌∙◌, inl, inr}
-use Rattle.std.proofs.lemmas.Bool.{eq-eqb, eqb-true}
+use Rattle.std.proofs.lemmas.Bool.{eq-eqb, eqb-true, true≢false}
 use Rattle.tv_value.specs.Nested.{Place}
 use Rattle.tv_value.specs.Values.{Name, JobName}
 use Rattle.tv_value.specs.Orders.{same_job}
+use Rattle.tv_value.proofs.OfJobNames.{same_job_decides}
 use Rattle.tv_lineage.specs.Members.{In}
 use Rattle.tv_lineage.specs.Touching.{Mark, given, made, Label}
 use Rattle.tv_lineage.specs.Lineages.{Record, LeadsIn, IsReached}
 use Rattle.tv_lineage.specs.Kept.{Part, element, result, group, KeptRecord, Kept, Groups, part_marks, group_marks, marks_of, all_marks, record_kept, records_of, parts_by, parts_in, parts_next, IsBefore, AreBefore}
-use Rattle.tv_lineage.proofs.OfMembers.{true≠false, in-map, of-map, in-flat, of-flat, each_in}
-use Rattle.tv_lineage.proofs.Closing.{same_job_decides}
-
-pub same_number : (i j : ℕ) → (i == j) ≡ true → i ≡ j
-same_number i j e = eqb-true i j e
+use Rattle.tv_lineage.proofs.OfMembers.{in-map, of-map, in-flat, of-flat, each_in}
 
 pub own_number : (i j : ℕ) → i ≡ j → (i == j) ≡ true
 own_number i j e = eq-eqb i j e
@@ -35,7 +32,7 @@ parts-before [] a i p h = absurd h
 parts-before (g ∷ gs) a i p h = by (i == length gs) refl h (λ k. parts-before gs a.1 i p k)
   where
     by : (b : Bool) → (i == length gs) ≡ b → In p (if b then g else parts_in gs i) → (In p (parts_in gs i) → IsBefore i p) → IsBefore i p
-    by true e k rec = subst (λ n. IsBefore n p) (sym (same_number i (length gs) e)) (each_in (IsBefore (length gs)) g a.0 p k)
+    by true e k rec = subst (λ n. IsBefore n p) (sym (eqb-true i (length gs) e)) (each_in (IsBefore (length gs)) g a.0 p k)
     by false e k rec = rec k
 
 pub parts-shorter : (gs : Groups) (i : ℕ) (p : Part) → In p (parts_in gs i) → suc i ≤ length gs
@@ -49,7 +46,7 @@ parts-shorter (g ∷ gs) i p h = by (i == length gs) refl h (λ k. parts-shorter
     later i n e = omega arith
 
     by : (b : Bool) → (i == length gs) ≡ b → In p (if b then g else parts_in gs i) → (In p (parts_in gs i) → suc i ≤ length gs) → suc i ≤ suc (length gs)
-    by true e k rec = here i (length gs) (same_number i (length gs) e)
+    by true e k rec = here i (length gs) (eqb-true i (length gs) e)
     by false e k rec = later i (length gs) (rec k)
 
 -- a new group changes no part that names only earlier ones
@@ -62,7 +59,7 @@ before-same g gs (group i) h = by (i == length gs) refl
     not_last i n h e = omega arith
 
     by : (b : Bool) → (i == length gs) ≡ b → (if b then flat_map (part_marks (group_marks gs)) g else group_marks gs i) ≡ group_marks gs i
-    by true e = absurd (not_last i (length gs) h (same_number i (length gs) e))
+    by true e = absurd (not_last i (length gs) h (eqb-true i (length gs) e))
     by false e = refl
 
 pub last-marks : (g : List Part) (gs : Groups) → marks_of (g ∷ gs) (group (length gs)) ≡ all_marks gs g
@@ -103,7 +100,7 @@ in-parts n rs r p i e u = in-flat (λ r. if same_job n r.job then r.parts else [
   where
     by : (b : Bool) → b ≡ true → In p (if b then r.parts else [])
     by true f = u
-    by false f = absurd (true≠false (sym f))
+    by false f = absurd (true≢false (sym f))
 
 pub of-parts : (n : JobName) (rs : List KeptRecord) (p : Part) → In p (parts_by n rs) → (r : KeptRecord) × In r rs × (r.job ≡ n) × In p r.parts
 of-parts n rs p h = let w = of-flat (λ r. if same_job n r.job then r.parts else []) p rs h in by w.0 w.1 (same_job n w.0.job) refl w.2
@@ -118,7 +115,7 @@ none-noted m [] e = refl
 none-noted m (r ∷ js) e = by (same_job m r.job) e (λ f. none-noted m js f)
   where
     by : (b : Bool) → (b || list_any (λ (r : KeptRecord). same_job m r.job) js) ≡ false → (list_any (λ (r : KeptRecord). same_job m r.job) js ≡ false → parts_by m js ≡ []) → (if b then r.parts else []) ++ parts_by m js ≡ []
-    by true f rec = absurd (true≠false f)
+    by true f rec = absurd (true≢false f)
     by false f rec = rec f
 
 -- ---- what leads on

@@ -5,6 +5,7 @@ use Rattle.std.specs.List.{list_any}
 use Rattle.std.proofs.Common.{sym, ap, subst, ◌∙◌}
 use Rattle.std.proofs.lemmas.Cmp.{nat_list_cmp_total}
 use Rattle.std.proofs.lemmas.Map.Lookups.{exact_bytes}
+use Rattle.std.proofs.lemmas.Bool.{true≢false}
 use Rattle.tv_value.specs.Nested.{Place}
 use Rattle.tv_value.specs.Values.{Name, JobName}
 use Rattle.tv_value.specs.Orders.{in_order, place_cmp, same_name}
@@ -14,7 +15,7 @@ use Rattle.tv_lineage.specs.Lineages.{Record, backward, by_step, place_at, job_a
 use Rattle.tv_lineage.specs.Kept.{Kept}
 use Rattle.tv_lineage.specs.Stated.{BackwardIsClosure, BackwardIsOnlyOne, OrderIsOfNoAccount, ForwardInAnyOrder, ByStepInAnyOrder, MadeFromIsReached, ByStepHasJobs, ByStepInOrder, GroupIsItsParts, SearchBegins, SearchGoesOn, SearchFindsAll, TableMayGrow, TableIsWhole, TableTells}
 use Rattle.tv_lineage.specs.Reaching.{Numbers}
-use Rattle.tv_lineage.proofs.OfMembers.{true≠false, in-map, of-map, in-options, of-options}
+use Rattle.tv_lineage.proofs.OfMembers.{in-map, of-map, in-options, of-options}
 use Rattle.tv_lineage.proofs.Rising.{in-order, of-order, rises-order, same-order, only-one}
 use Rattle.tv_lineage.proofs.Closing.{label_total, label_same, in-backward, of-backward, rises-backward, backward-same}
 use Rattle.tv_lineage.proofs.Keeping.{before-same, last-marks}
@@ -44,7 +45,7 @@ forward-any_order rs ts h (f ∷ fs) x q =
 -- ---- jobs of a step
 
 place-is : (s : Name) (n : JobName) (q : Place) → place_at s n ≡ Some q → n ≡ job_at s q
-place-is s [] q e = absurd (true≠false (sym (ap has e)))
+place-is s [] q e = absurd (true≢false (sym (ap has e)))
   where
     has : Option Place → Bool
     has None = false
@@ -61,8 +62,8 @@ place-is s (k ∷ []) q e = by (same_name s k.0) refl e
 
     by : (b : Bool) → same_name s k.0 ≡ b → (if b then Some k.1 else None) ≡ Some q → k ∷ [] ≡ job_at s q
     by true f g = let a = (bytes_decides s k.0).0 f in let b = ap or_this g in λ i. (sym a i, b i) ∷ []
-    by false f g = absurd (true≠false (sym (ap has g)))
-place-is s (k ∷ j ∷ n) q e = absurd (true≠false (sym (ap has e)))
+    by false f g = absurd (true≢false (sym (ap has g)))
+place-is s (k ∷ j ∷ n) q e = absurd (true≢false (sym (ap has e)))
   where
     has : Option Place → Bool
     has None = false

@@ -2,6 +2,7 @@
 use Rattle.std.specs.List.{list_any}
 use Rattle.std.specs.Prelude.{Bool, List, false, if◌then◌else◌, length, map, suc, true, ℕ, ◌+◌, ◌<◌, ◌≡◌, ◌≤◌, ◌⊎◌}
 use Rattle.std.proofs.Common.{ap, arith, get_or, inl, inr, length-set, set, subst, sym, ◌∙◌}
+use Rattle.std.proofs.lemmas.Bool.{true≢false, cases_eq}
 use Rattle.tv_value.specs.Nested.{Place}
 use Rattle.tv_value.specs.Values.{Name}
 use Rattle.tv_lineage.specs.Kept.{Kept, Part, group, parts_in}
@@ -11,8 +12,8 @@ use Rattle.tv_lineage.specs.Views.{IsKept, kept_of, part_view}
 use Rattle.tv_lineage.specs.declared.mark.Part as mark
 use Rattle.tv_lineage.specs.declared.records.Entry.{Entry}
 use Rattle.tv_lineage.proofs.Holding.{parts-at}
-use Rattle.tv_lineage.proofs.OfMembers.{in-map, true≠false}
-use Rattle.tv_lineage.proofs.Seeing.{decided, in-get, of-set, unmet-set}
+use Rattle.tv_lineage.proofs.OfMembers.{in-map}
+use Rattle.tv_lineage.proofs.Seeing.{in-get, of-set, unmet-set}
 use Rattle.tv_lineage.proofs.Tabling.{any-in, grows}
 
 -- one that passes is enough
@@ -24,7 +25,7 @@ module _ (ns : Numbers) (k : Kept) (h : IsKept ns k) (x : Name) (q : Place) (n :
   t = in_table ns x q cs
 
   last-or : (i : ℕ) → suc i ≤ n + 1 → (suc i ≤ n) ⊎ (i ≡ n)
-  last-or i w = by (decided i n)
+  last-or i w = by (cases_eq i n)
     where
       smaller : suc i ≤ n + 1 → (i ≡ n → ⊥) → suc i ≤ n
       smaller w f = omega (arith, f)
@@ -39,7 +40,7 @@ module _ (ns : Numbers) (k : Kept) (h : IsKept ns k) (x : Name) (q : Place) (n :
     where
       here : (is_met cs n ≡ true) ⊎ (list_any t (parts_in k.groups n) ≡ false) → list_any t (parts_in k.groups n) ≡ true → is_met cs n ≡ true
       here (inl m) l = m
-      here (inr f) l = absurd (true≠false (sym l ∙ f))
+      here (inr f) l = absurd (true≢false (sym l ∙ f))
 
       by : (i : ℕ) → (suc i ≤ n) ⊎ (i ≡ n) → list_any t (parts_in k.groups i) ≡ true → added ≡ false → is_met cs i ≡ true
       by i (inl w) l e = p.closed e i w l
@@ -47,7 +48,7 @@ module _ (ns : Numbers) (k : Kept) (h : IsKept ns k) (x : Name) (q : Place) (n :
 
   -- the group is given its bit
   pub pass-adds : suc n ≤ length cs → is_met cs n ≡ false → list_any t (parts_in k.groups n) ≡ true → IsPass ns k x q (n + 1) bs (set cs n true) true
-  pass-adds short off l = record { sound = sound; closed = λ e. absurd (true≠false e); closer = closer added p.closer; size = length-set cs n true ∙ p.size }
+  pass-adds short off l = record { sound = sound; closed = λ e. absurd (true≢false e); closer = closer added p.closer; size = length-set cs n true ∙ p.size }
     where
       sound : AreTouched k x q bs → AreTouched k x q (set cs n true)
       sound f i m = by (of-set cs n short i m)

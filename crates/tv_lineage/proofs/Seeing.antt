@@ -1,5 +1,5 @@
 -- Steps of a search: what seeing a group, an element or a job does.
-use Rattle.std.specs.Prelude.{Bool, IfSome, List, None, Option, Some, [], false, length, map, refl, suc, take, true, zero, ℕ, ◌+◌, ◌++◌, ◌<◌, ◌==◌, ◌≡◌, ◌≤◌, ◌⊎◌, ◌∷◌}
+use Rattle.std.specs.Prelude.{Bool, IfSome, List, None, Option, Some, [], false, length, map, refl, suc, take, true, zero, ℕ, ◌+◌, ◌++◌, ◌<◌, ◌≡◌, ◌≤◌, ◌⊎◌, ◌∷◌}
 use Rattle.std.specs.BTreeSet.{insert_key}
 use Rattle.std.proofs.Common.{ap, arith, get_or, get_or-set_other, get_or-set_same, inl, inr, length-append, length-set, set, subst, sym, ◌∙◌}
 use Rattle.tv_value.specs.Nested.{Place}
@@ -15,26 +15,16 @@ use Rattle.tv_lineage.specs.declared.mark.Mark.TheVariants.{Made}
 use Rattle.tv_lineage.specs.declared.mark.Mark.{Mark}
 use Rattle.tv_lineage.specs.declared.mark.Part as parts
 use Rattle.tv_lineage.specs.declared.mark.Part.TheVariants.{Group}
-use Rattle.std.specs.declared.result.Result.{Result}
-use Rattle.std.specs.declared.result.Result.TheVariants.{Err, Ok}
-use Rattle.std.specs.Prelude.{OnOk}
 use Rattle.std.proofs.lemmas.List.{map_more}
+use Rattle.std.proofs.lemmas.Bool.{true≢false, cases_eq}
 use Rattle.tv_lineage.proofs.Closing.{label_same, label_total}
-use Rattle.tv_lineage.proofs.Keeping.{own_number, same_number}
-use Rattle.tv_lineage.proofs.OfMembers.{in-append, in-left, in-map, in-right, true≠false}
+use Rattle.tv_lineage.proofs.OfMembers.{in-append, in-left, in-map, in-right}
 use Rattle.tv_lineage.proofs.Rising.{in-put, of-put, rises-put}
 
 pub last : {A : Type 0} (x : A) (xs : List A) → In x (xs ++ x ∷ [])
 last x xs = in-right x xs (x ∷ []) (inl refl)
 
 -- ---- bits
-
-pub decided : (i j : ℕ) → (i ≡ j) ⊎ (i ≡ j → ⊥)
-decided i j = by (i == j) refl
-  where
-    by : (b : Bool) → (i == j) ≡ b → (i ≡ j) ⊎ (i ≡ j → ⊥)
-    by true e = inl (same_number i j e)
-    by false e = inr (λ g. true≠false (sym (own_number i j g) ∙ e))
 
 module _ (bs : List Bool) (i : ℕ) (short : suc i ≤ length bs) where
   below : suc i ≤ length bs → i < length bs
@@ -44,14 +34,14 @@ module _ (bs : List Bool) (i : ℕ) (short : suc i ≤ length bs) where
   set-here = get_or-set_same bs i true false (below short)
 
   pub set-more : (j : ℕ) → is_met bs j ≡ true → is_met (set bs i true) j ≡ true
-  set-more j m = by (decided j i)
+  set-more j m = by (cases_eq j i)
     where
       by : (j ≡ i) ⊎ (j ≡ i → ⊥) → is_met (set bs i true) j ≡ true
       by (inl e) = subst (λ n. is_met (set bs i true) n ≡ true) (sym e) set-here
       by (inr f) = get_or-set_other bs i j true false f ∙ m
 
   pub of-set : (j : ℕ) → is_met (set bs i true) j ≡ true → (is_met bs j ≡ true) ⊎ (j ≡ i)
-  of-set j m = by (decided j i)
+  of-set j m = by (cases_eq j i)
     where
       by : (j ≡ i) ⊎ (j ≡ i → ⊥) → (is_met bs j ≡ true) ⊎ (j ≡ i)
       by (inl e) = inr e
@@ -75,7 +65,7 @@ unmet-set [] i h e = absurd (none i h)
   where
     none : (i : ℕ) → suc i ≤ 0 → ⊥
     none i h = omega arith
-unmet-set (true ∷ bs) zero h e = absurd (true≠false e)
+unmet-set (true ∷ bs) zero h e = absurd (true≢false e)
 unmet-set (false ∷ bs) zero h e = refl
 unmet-set (b ∷ bs) (suc i) h e = by b (unmet-set bs i (lower i (length bs) h) e)
   where
@@ -239,7 +229,3 @@ module _ (ns : Numbers) (n : ℕ) (i : ℕ) where
 
   pub group-inside : (p : parts.Part) → p ≡ Group i → AreInside ns n (part_view p ∷ []) → suc i ≤ n
   group-inside p e h = h (group i) (inl (sym (ap part_view e)))
-
-pub on-ok : {T E P Q : Type 0} (r : Result T E) → (P → Q) → OnOk r P → OnOk r Q
-on-ok (Ok x) f h = f h
-on-ok (Err e) f h = tt

@@ -2,6 +2,8 @@
 use Rattle.std.specs.List.{list_any}
 use Rattle.std.specs.Prelude.{Bool, List, None, Option, Some, [], false, refl, true, zero, ℕ, ◌||◌, ◌≡◌, ◌∷◌}
 use Rattle.std.proofs.Common.{ap, inl, inr, sym, ◌∙◌}
+use Rattle.std.specs.Cmp.Derive.{one_truth}
+use Rattle.std.proofs.lemmas.Bool.{true≢false}
 use Rattle.tv_value.specs.Nested.{Place}
 use Rattle.tv_value.specs.Values.{JobName, Name}
 use Rattle.tv_lineage.specs.Kept.{AreBefore, Kept, Part, all_marks, element, group, marks_of, parts_by, parts_in, parts_next, records_of, result}
@@ -12,7 +14,7 @@ use Rattle.tv_lineage.specs.Tables.{AreTouched, IsTable, IsTouched, IsWhole, in_
 use Rattle.tv_lineage.specs.Touching.{Label, Mark, given, touches}
 use Rattle.tv_lineage.proofs.Closing.{in-backward, of-backward}
 use Rattle.tv_lineage.proofs.Keeping.{all-reached, next-reached, none-noted, reached-so, parts-shorter}
-use Rattle.tv_lineage.proofs.OfMembers.{of-flat, true≠false}
+use Rattle.tv_lineage.proofs.OfMembers.{of-flat}
 use Rattle.tv_lineage.proofs.Searching.{number-reached}
 
 -- ---- tests of members
@@ -27,17 +29,12 @@ any-in p x (y ∷ xs) (inr h) e = by (p y) (any-in p x xs h e)
     by false k = k
 
 pub of-any : {A : Type 0} (p : A → Bool) (xs : List A) → list_any p xs ≡ true → (x : A) × In x xs × (p x ≡ true)
-of-any p [] h = absurd (true≠false (sym h))
+of-any p [] h = absurd (true≢false (sym h))
 of-any {A = A} p (x ∷ xs) h = by (p x) refl h (λ k. of-any p xs k)
   where
     by : (b : Bool) → p x ≡ b → (b || list_any p xs) ≡ true → (list_any p xs ≡ true → (y : A) × In y xs × (p y ≡ true)) → (y : A) × In y (x ∷ xs) × (p y ≡ true)
     by true e k rec = (x, inl refl, e)
     by false e k rec = let r = rec k in (r.0, inr r.1, r.2)
-
-pub same-tests : (a b : Bool) → (a ≡ true → b ≡ true) → (b ≡ true → a ≡ true) → a ≡ b
-same-tests true b f g = sym (f refl)
-same-tests false true f g = g refl
-same-tests false false f g = refl
 
 -- ---- a table
 
@@ -50,7 +47,7 @@ module _ (ns : Numbers) (k : Kept) (a : AreBefore k.groups) (h : AreNumbers ns k
   sound-so f (result n) e = by (ns n) refl e
     where
       by : (o : Option ℕ) → ns n ≡ o → is_met_by bs o ≡ true → IsTouched k x q (result n)
-      by None g e = absurd (true≠false (sym e))
+      by None g e = absurd (true≢false (sym e))
       by (Some i) g e = let u = f i e in (u.0, number-reached ns k a h (result n) i g u.0 u.1, u.2)
   sound-so f (group i) e = f i e
 
@@ -69,16 +66,16 @@ module _ (ns : Numbers) (k : Kept) (a : AreBefore k.groups) (h : AreNumbers ns k
           w.closed i (parts-shorter k.groups i m.0 m.1) e
 
       on-job : (n : JobName) (o : Option ℕ) → IsNumber k n o → list_any (in_table ns x q bs) (parts_by n k.jobs) ≡ true → is_met_by bs o ≡ true
-      on-job n None g e = absurd (true≠false (sym e ∙ ap (list_any (in_table ns x q bs)) (none-noted n k.jobs g)))
+      on-job n None g e = absurd (true≢false (sym e ∙ ap (list_any (in_table ns x q bs)) (none-noted n k.jobs g)))
       on-job n (Some i) g e = on-group i (ap (list_any (in_table ns x q bs)) (sym g.1) ∙ e)
 
       on : (p : Part) → list_any (in_table ns x q bs) (parts_next k p) ≡ true → in_table ns x q bs p ≡ true
-      on (element y r) e = absurd (true≠false (sym e))
+      on (element y r) e = absurd (true≢false (sym e))
       on (result n) e = on-job n (ns n) (h n) e
       on (group i) e = on-group i e
 
 pub tells : (k : Kept) → AreBefore k.groups → (x : Name) (q : Place) (t : Part → Bool) → IsTable k x q t → (used : List Part) → list_any t used ≡ is_made_from (records_of k) x q (all_marks k.groups used)
-tells k a x q t h used = same-tests (list_any t used) (is_made_from (records_of k) x q (all_marks k.groups used)) there back
+tells k a x q t h used = one_truth (list_any t used) (is_made_from (records_of k) x q (all_marks k.groups used)) there back
   where
     there : list_any t used ≡ true → is_made_from (records_of k) x q (all_marks k.groups used) ≡ true
     there e =
@@ -89,8 +86,8 @@ tells k a x q t h used = same-tests (list_any t used) (is_made_from (records_of 
     -- a part that isn't in the table leads to nothing that is touched
     out : (p : Part) → t p ≡ false → (l : Label) → IsReached (records_of k) (marks_of k.groups p) l → touches x q l ≡ false
     out p e l w =
-        reached-so k a (λ p. t p ≡ false) (λ l. touches x q l ≡ false) (λ y r f. off (touches x q (y, r)) refl (λ g. true≠false (sym (h.elements y r g) ∙ f)))
-        (λ p f n i. off (t n) refl (λ g. true≠false (sym (h.closed p (any-in t n (parts_next k p) i g)) ∙ f))) p e l w
+        reached-so k a (λ p. t p ≡ false) (λ l. touches x q l ≡ false) (λ y r f. off (touches x q (y, r)) refl (λ g. true≢false (sym (h.elements y r g) ∙ f)))
+        (λ p f n i. off (t n) refl (λ g. true≢false (sym (h.closed p (any-in t n (parts_next k p) i g)) ∙ f))) p e l w
       where
         off : (b : Bool) {c : Bool} → c ≡ b → (c ≡ true → ⊥) → c ≡ false
         off true e f = absurd (f e)
@@ -104,4 +101,4 @@ tells k a x q t h used = same-tests (list_any t used) (is_made_from (records_of 
       where
         by : {p : Part} {l : Label} (b : Bool) → t p ≡ b → In p used → IsReached (records_of k) (marks_of k.groups p) l → touches x q l ≡ true → list_any t used ≡ true
         by {p = p} true f i w g = any-in t p used i f
-        by {p = p} {l = l} false f i w g = absurd (true≠false (sym g ∙ out p f l w))
+        by {p = p} {l = l} false f i w g = absurd (true≢false (sym g ∙ out p f l w))

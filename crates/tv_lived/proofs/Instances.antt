@@ -3,6 +3,7 @@ use Rattle.std.specs.Option.{option_map_or}
 use Rattle.std.specs.Prelude.{◌≡◌, ℕ, ◌≤◌, ◌&&◌, Bool, List, Option, Some, filter, length, option_and_then, slice_get}
 use Rattle.std.proofs.Common.{ap, subst, sym, ◌∙◌}
 use Rattle.std.proofs.lemmas.List.{length-map}
+use Rattle.std.specs.Cmp.{first_so, second_so}
 use Rattle.tv_value.specs.Nested.{Place}
 use Rattle.tv_value.specs.Values.{Name}
 use Rattle.tv_gate.specs.Outcomes.{Giving}
@@ -16,7 +17,6 @@ use Rattle.tv_model.specs.Meanings.{meaning}
 use Rattle.tv_model.specs.Members.{In}
 use Rattle.tv_model.specs.RightDepths.{HaveTheseDepths}
 use Rattle.tv_model.proofs.Members.{Apart}
-use Rattle.tv_model.proofs.Tests.{left_true, right_true}
 use Rattle.tv_history.specs.Entries.{History}
 use Rattle.tv_history.specs.Histories.{is_open, is_settled, kept}
 use Rattle.tv_history.proofs.Ready.{document-whole}
@@ -56,8 +56,8 @@ module _ (gives : Giving) (d : Document) (levels : Flow → Name → ℕ) (past 
   its j i =
       let w = passing-in keeps j m.jobs i in
       lives gives d levels past xs stand j w.0
-      (left_true (is_open past j.instance) (is_settled past j) w.1)
-      (right_true (is_open past j.instance) (is_settled past j) w.1)
+      (first_so (is_open past j.instance) (is_settled past j) w.1)
+      (second_so (is_open past j.instance) (is_settled past j) w.1)
 
   -- ---- each in its frame
 

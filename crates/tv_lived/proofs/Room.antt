@@ -6,8 +6,11 @@ use Rattle.std.proofs.Common.{ap, arith, inl, inr, subst, sym, ◌∙◌}
 use Rattle.std.proofs.lemmas.Bool.{true≢false}
 use Rattle.std.proofs.lemmas.List.Sums.{sum_by-cons}
 use Rattle.std.proofs.lemmas.Option.{get_or_from_slice_get, same_Some}
+use Rattle.std.specs.Cmp.{first_so, second_so}
 use Rattle.tv_value.specs.Orders.{same_job, same_name}
 use Rattle.tv_value.specs.Values.{JobName, Name}
+use Rattle.tv_value.proofs.OfJobNames.{same_job_decides}
+use Rattle.tv_value.proofs.OfNames.{same_name-refl}
 use Rattle.tv_gate.specs.Outcomes.{Giving}
 use Rattle.tv_flow.specs.Flows.{Document, Flow}
 use Rattle.tv_strategy.specs.Sources.{Each}
@@ -21,8 +24,7 @@ use Rattle.tv_outputs.specs.Known.{Nodes}
 use Rattle.tv_instance.specs.ByResults.{InstanceStep}
 use Rattle.tv_model.specs.Made.{Meaning}
 use Rattle.tv_model.specs.Meanings.{meaning}
-use Rattle.tv_model.specs.Members.{In}
-use Rattle.tv_model.proofs.Tests.{left_true, same_job_decides, right_true}
+use Rattle.tv_model.proofs.OfMembers.{in-slice}
 use Rattle.tv_history.specs.Entries.{History}
 use Rattle.tv_history.specs.Histories.{has_open_instance, is_open, room, size_of, step_room}
 use Rattle.tv_framing.specs.Views.{View}
@@ -55,17 +57,6 @@ each-number P [] h n x e = absurd (none e)
 each-number P (y ∷ xs) h zero x e = subst P (same_Some y x e) h.0
 each-number P (y ∷ xs) h (suc n) x e = each-number P xs h.1 n x e
 
-in-list : {A : Type 0} (xs : List A) (n : ℕ) (x : A) → slice_get xs n ≡ Some x → In x xs
-in-list [] n x e = absurd (none e)
-  where
-    none : None ≡ Some x → ⊥
-    none h = cc
-in-list (y ∷ xs) zero x e = inl (sym (same_Some y x e))
-in-list (y ∷ xs) (suc n) x e = inr (in-list xs n x e)
-
-same-self : (n : Name) → same_name n n ≡ true
-same-self n = (bytes_decides n n).1 refl
-
 -- no two have one name
 step-number : (fs : List InstanceStep) → AreDistinct fs → (n k : ℕ) (f g : InstanceStep) → slice_get fs n ≡ Some f → slice_get fs k ≡ Some g → f.step.step ≡ g.step.step → n ≡ k
 step-number [] d n k f g a b e = absurd (none a)
@@ -73,8 +64,8 @@ step-number [] d n k f g a b e = absurd (none a)
     none : None ≡ Some f → ⊥
     none h = cc
 step-number (x ∷ fs) d zero zero f g a b e = refl
-step-number (x ∷ fs) d zero (suc k) f g a b e = absurd (true≢false (sym (same-self x.step.step) ∙ ap (λ m. same_name m x.step.step) (ap (λ (h : InstanceStep). h.step.step) (same_Some x f a) ∙ e) ∙ each-number (Other x.step.step) fs d.0 k g b))
-step-number (x ∷ fs) d (suc n) zero f g a b e = absurd (true≢false (sym (same-self x.step.step) ∙ ap (λ m. same_name m x.step.step) (ap (λ (h : InstanceStep). h.step.step) (same_Some x g b) ∙ sym e) ∙ each-number (Other x.step.step) fs d.0 n f a))
+step-number (x ∷ fs) d zero (suc k) f g a b e = absurd (true≢false (sym (same_name-refl x.step.step) ∙ ap (λ m. same_name m x.step.step) (ap (λ (h : InstanceStep). h.step.step) (same_Some x f a) ∙ e) ∙ each-number (Other x.step.step) fs d.0 k g b))
+step-number (x ∷ fs) d (suc n) zero f g a b e = absurd (true≢false (sym (same_name-refl x.step.step) ∙ ap (λ m. same_name m x.step.step) (ap (λ (h : InstanceStep). h.step.step) (same_Some x g b) ∙ sym e) ∙ each-number (Other x.step.step) fs d.0 n f a))
 step-number (x ∷ fs) d (suc n) (suc k) f g a b e = ap suc (step-number fs d.1 n k f g a b e)
 
 module _ (gives : Giving) (flows : List (Name × Flow)) (m : Meaning) (past : History) (I : JobName) (levels : Name → ℕ) (v : View) (r : Runs gives flows m past I levels v) where
@@ -95,8 +86,8 @@ module _ (gives : Giving) (flows : List (Name × Flow)) (m : Meaning) (past : Hi
       ne
       (step-number fs distinct n l h.0 k.0 h.1 k.1
       (h.2
-      ∙ (bytes_decides a s.step).0 (right_true (same_job I s.instance) (same_name a s.step) t)
-      ∙ sym ((bytes_decides b s.step).0 (right_true (same_job I s.instance) (same_name b s.step) u))
+      ∙ (bytes_decides a s.step).0 (second_so (same_job I s.instance) (same_name a s.step) t)
+      ∙ sym ((bytes_decides b s.step).0 (second_so (same_job I s.instance) (same_name b s.step) u))
       ∙ sym k.2))
 
   both-true : (a b : Bool) → a ≡ true → b ≡ true → (a && b) ≡ true
@@ -111,11 +102,11 @@ module _ (gives : Giving) (flows : List (Name × Flow)) (m : Meaning) (past : Hi
       (λ n g e. inr (record {
         key = g.step.step;
         has = (g, ap (slice_get fs) (none n) ∙ e, refl);
-        inside = λ s t. left_true (same_job I s.instance) (same_name g.step.step s.step) t;
-        few = one-where step_room (is_its g.step.step) m.steps g.step (step-listed gives flows m past I levels v r g (in-list fs n g e))
+        inside = λ s t. first_so (same_job I s.instance) (same_name g.step.step s.step) t;
+        few = one-where step_room (is_its g.step.step) m.steps g.step (step-listed gives flows m past I levels v r g (in-slice fs n g e))
             (both-true (same_job I g.step.instance) (same_name g.step.step g.step.step)
-            ((same_job_decides I g.step.instance).1 (sym (own-instance gives flows m past I levels v r g (in-list fs n g e))))
-            (same-self g.step.step));
+            ((same_job_decides I g.step.instance).1 (sym (own-instance gives flows m past I levels v r g (in-slice fs n g e))))
+            (same_name-refl g.step.step));
       }))
     where
       none : (n : ℕ) → 0 + n ≡ n

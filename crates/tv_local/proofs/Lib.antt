@@ -1,4 +1,3 @@
-pub mod OfViews
 pub mod OfNumbers
 pub mod OfComplaints
 pub mod OfSplits

@@ -1,15 +1,13 @@
 -- The first complaint of the inputs, input by input.
 use Rattle.std.specs.Prelude.{◌≡◌, ℕ, zero, suc, ◌+◌, ◌<◌, List, [], ◌∷◌, map, drop, length, refl, Option, Some}
 use Rattle.std.proofs.Common.{arith, ap, ◌∙◌, get_or}
+use Rattle.std.proofs.Math.Numerals.{suc-eq-add-one}
 use Rattle.tv_value.specs.Values as spec
 use Rattle.tv_value.specs.Values.{Text}
 use Rattle.tv_value.specs.declared.value.Value.{Value}
 use Rattle.tv_value.specs.Views.{view}
 use Rattle.tv_local.specs.declared.row.Want.{Want}
 use Rattle.tv_local.specs.Reading.{first_of, or_else}
-
-next : (i : ℕ) → suc i ≡ i + 1
-next i = omega arith
 
 module _ (f : ℕ → Want → spec.Value → Option Text) where
   -- the first complaint from number i on
@@ -32,16 +30,7 @@ module _ (f : ℕ → Want → spec.Value → Option Text) where
   complaint-step ws vs i w v h p =
       step_at ws vs i (i + 1) w v h p
       ∙ ap (λ c. or_else (f (i + 1) (get_or ws i w) (view (get_or vs i v))) c)
-      (ap (λ n. first_of f n (drop (suc i) ws) (drop (suc i) (map view vs))) (next (i + 1)) ∙ ap (λ n. first_of f (i + 1 + 1) (drop n ws) (drop n (map view vs))) (next i))
+      (ap (λ n. first_of f n (drop (suc i) ws) (drop (suc i) (map view vs))) (suc-eq-add-one (i + 1)) ∙ ap (λ n. first_of f (i + 1 + 1) (drop n ws) (drop n (map view vs))) (suc-eq-add-one i))
 
 pub found-first : (o p : Option Text) (why : Text) → o ≡ Some why → or_else o p ≡ Some why
 found-first o p why e = ap (λ q. or_else q p) e
-
--- an item is the same whatever would stand past the end
-pub item_default : {A : Type 0} (xs : List A) (i : ℕ) (d e : A) → i < length xs → get_or xs i d ≡ get_or xs i e
-item_default [] i d e h = absurd (none i h)
-  where
-    none : (i : ℕ) → i < 0 → ⊥
-    none i p = omega arith
-item_default (x ∷ xs) zero d e h = refl
-item_default (x ∷ xs) (suc i) d e h = item_default xs i d e (omega arith)

@@ -14,6 +14,8 @@ use Rattle.std.specs.declared.cmp.Ordering.TheVariants.{Less, Equal, Greater}
 use Rattle.std.specs.Ordering.{nat_cmp, is_eq, match_ordering}
 use Rattle.std.specs.Cmp.Lexicographic.{slice_cmp, texts_ties, same_text}
 use Rattle.std.specs.BTreeSet.{BTreeSet, contains, insert_key}
+use Rattle.std.proofs.Math.Numerals.{suc-eq-add-one}
+use Rattle.std.proofs.Math.Bool.{or-false}
 use Rattle.tv_value.specs.Values as spec
 use Rattle.tv_value.specs.Values.{Text, text_value}
 use Rattle.tv_value.specs.Orders.{same_name}
@@ -34,9 +36,6 @@ map-reverse f xs = onto xs []
     onto [] ys = refl
     onto (x ∷ xs) ys = onto xs (x ∷ ys)
 
-next : (i : ℕ) → suc i ≡ i + 1
-next i = omega arith
-
 drop_next : (ts : List Text) (i : ℕ) (d : Text) → i < length ts → drop i ts ≡ get_or ts i d ∷ drop (i + 1) ts
 drop_next [] i d h = absurd (none i h)
   where
@@ -48,9 +47,6 @@ drop_next (t ∷ ts) (suc i) d h = drop_next ts i d (omega arith) ∙ ap (λ n. 
     again : (i : ℕ) → suc (i + 1) ≡ suc i + 1
     again i = omega arith
 
-take_next : (ts : List Text) (i : ℕ) (d : Text) → i < length ts → take (i + 1) ts ≡ take i ts ++ get_or ts i d ∷ []
-take_next ts i d h = take_more ts i d h
-
 -- the texts still to come, of which the first is new or isn't
 abbrev pub still : List Text → ℕ → List Text
 still ts i = new_after (take i ts) (drop i ts)
@@ -58,10 +54,10 @@ still ts i = new_after (take i ts) (drop i ts)
 pub still-step : (ts : List Text) (i : ℕ) (d : Text) → i < length ts → still ts i ≡ (if is_among (take i ts) (get_or ts i d) then still ts (i + 1) else get_or ts i d ∷ still ts (i + 1))
 still-step ts i d h =
     ap (new_after (take i ts)) (drop_next ts i d h)
-    ∙ ap (λ us. if is_among (take i ts) (get_or ts i d) then new_after us (drop (i + 1) ts) else get_or ts i d ∷ new_after us (drop (i + 1) ts)) (sym (take_next ts i d h))
+    ∙ ap (λ us. if is_among (take i ts) (get_or ts i d) then new_after us (drop (i + 1) ts) else get_or ts i d ∷ new_after us (drop (i + 1) ts)) (sym (take_more ts i d h))
 
 pub count_up-push : (z : ℤ) (n : ℕ) → count_up z (n + 1) ≡ count_up z n ++ (z +ℤ pos n) ∷ []
-count_up-push z n = ap (count_up z) (sym (next n)) ∙ by n z
+count_up-push z n = ap (count_up z) (sym (suc-eq-add-one n)) ∙ by n z
   where
     none : (z : ℤ) → z ≡ z +ℤ pos 0
     none z = omega (arith, ints)
@@ -96,17 +92,13 @@ among-push ts t q = list_any-append (same_name q) ts (t ∷ []) ∙ ap (λ b. is
 abbrev pub ref_cmp : Bor Text → Bor Text → Ordering
 ref_cmp x y = slice_cmp nat_cmp x.now y.now
 
-or_false : (a : Bool) → (a || false) ≡ a
-or_false true = refl
-or_false false = refl
-
 or_comm : (a b : Bool) → (a || b) ≡ (b || a)
 or_comm true b = sym (true_last b)
   where
     true_last : (b : Bool) → (b || true) ≡ true
     true_last true = refl
     true_last false = refl
-or_comm false b = sym (or_false b)
+or_comm false b = sym (or-false b)
 
 or_assoc : (a b c : Bool) → (a || (b || c)) ≡ ((a || b) || c)
 or_assoc true b c = refl
@@ -114,7 +106,7 @@ or_assoc false b c = refl
 
 or_again : (a b : Bool) → (a || b) ≡ ((a || b) || a)
 or_again true b = refl
-or_again false b = sym (or_false b)
+or_again false b = sym (or-false b)
 
 same_key : (q x : Bor Text) → is_eq (ref_cmp q x) ≡ same_name q.now x.now
 same_key q x = sym (texts_ties q.now x.now)
@@ -130,7 +122,7 @@ by_order q k x xs Greater e h =
     ap (λ b. is_eq (ref_cmp q x) || b) h ∙ or_assoc (is_eq (ref_cmp q x)) (list_any (λ y. is_eq (ref_cmp q y)) xs) (same_name q.now k.now)
 
 key_in : (q k : Bor Text) (xs : List (Bor Text)) → list_any (λ y. is_eq (ref_cmp q y)) (insert_key ref_cmp xs k) ≡ (list_any (λ y. is_eq (ref_cmp q y)) xs || same_name q.now k.now)
-key_in q k [] = or_false (is_eq (ref_cmp q k)) ∙ same_key q k
+key_in q k [] = or-false (is_eq (ref_cmp q k)) ∙ same_key q k
 key_in q k (x ∷ xs) = by_order q k x xs (ref_cmp k x) refl (key_in q k xs)
 
 -- a key put in is among the keys, beside those that were there
@@ -156,9 +148,6 @@ distinct-old ts i d old now h e inv n =
     ∙ ap (λ l. old ++ map text_value l) (sym (still-step ts i d h ∙ ap (λ b. if b then still ts (i + 1) else get_or ts i d ∷ still ts (i + 1)) e))
     ∙ inv
 
-pub text_next : (ts : List Text) (i : ℕ) (d : Text) → i < length ts → take (i + 1) ts ≡ take i ts ++ get_or ts i d ∷ []
-text_next ts i d h = take_next ts i d h
-
 pub shared-push : (ts us : List Text) (t : Text) → shared (ts ++ t ∷ []) us ≡ shared ts us ++ (if is_among us t then t ∷ [] else [])
 shared-push ts us t = filter-append (is_among us) ts (t ∷ [])
 
@@ -169,7 +158,7 @@ shared-new ts us i d old now h e inv n =
     ∙ ap (λ l. l ++ text_value (get_or ts i d) ∷ []) inv
     ∙ sym (map-append text_value (shared (take i ts) us) (get_or ts i d ∷ []))
     ∙ ap (λ l. map text_value (shared (take i ts) us ++ l)) (sym (ap (λ b. if b then get_or ts i d ∷ [] else []) e))
-    ∙ ap (map text_value) (sym (ap (λ l. shared l us) (take_next ts i d h) ∙ shared-push (take i ts) us (get_or ts i d)))
+    ∙ ap (map text_value) (sym (ap (λ l. shared l us) (take_more ts i d h) ∙ shared-push (take i ts) us (get_or ts i d)))
 
 -- one that isn't is left out
 pub shared-old : (ts us : List Text) (i : ℕ) (d : Text) (old now : List spec.Value) → i < length ts → is_among us (get_or ts i d) ≡ false → old ≡ map text_value (shared (take i ts) us) → now ≡ old → now ≡ map text_value (shared (take (i + 1) ts) us)
@@ -178,7 +167,7 @@ shared-old ts us i d old now h e inv n =
     ∙ inv
     ∙ ap (map text_value) (sym (append-nil (shared (take i ts) us)))
     ∙ ap (λ l. map text_value (shared (take i ts) us ++ l)) (sym (ap (λ b. if b then get_or ts i d ∷ [] else []) e))
-    ∙ ap (map text_value) (sym (ap (λ l. shared l us) (take_next ts i d h) ∙ shared-push (take i ts) us (get_or ts i d)))
+    ∙ ap (map text_value) (sym (ap (λ l. shared l us) (take_more ts i d h) ∙ shared-push (take i ts) us (get_or ts i d)))
 
 pub texts-all : (vs : List Value) (i : ℕ) → length vs ≤ i → take i (map text_of (map view vs)) ≡ map text_of (map view vs)
 texts-all vs i h = take_all i (map text_of (map view vs)) (subst (λ n. n ≤ i) (sym (length-map (map view vs) text_of ∙ length-map vs view)) h)

@@ -2,6 +2,7 @@
 use Rattle.std.specs.Prelude.{◌≡◌, refl, ◌⊎◌, ◌+◌, ℕ, zero, suc, Bool, true, List, [], ◌∷◌, ◌++◌, length, Option, Some, option_and_then, slice_get, slice_index_or}
 use Rattle.std.proofs.Common.{arith, sym, ap, ap₂, subst, ◌∙◌, inl, inr}
 use Rattle.std.proofs.lemmas.Option.{none-some, same_Some}
+use Rattle.std.proofs.lemmas.List.{append-nil}
 use Rattle.tv_value.specs.Nested.{Place, at, item_at, leaf, list, no_trees, nodes, nodes_below, nodes_from, tree}
 use Rattle.tv_value.specs.Values.{JobName, Name}
 use Rattle.tv_gate.specs.Outcomes.{Giving}
@@ -47,19 +48,15 @@ model-right : {A : Type 0} (x : A) (xs ys : List A) → model.In x ys → model.
 model-right x [] ys i = i
 model-right x (y ∷ xs) ys i = inr (model-right x xs ys i)
 
-none-after : (q : Place) → q ++ [] ≡ q
-none-after [] = refl
-none-after (i ∷ q) = ap (λ l. i ∷ l) (none-after q)
-
-after : (q : Place) (i : ℕ) (r : Place) → (q ++ i ∷ []) ++ r ≡ q ++ (i ∷ r)
+pub after : (q : Place) (i : ℕ) (r : Place) → (q ++ i ∷ []) ++ r ≡ q ++ (i ∷ r)
 after [] i r = refl
 after (k ∷ q) i r = ap (λ l. k ∷ l) (after q i r)
 
 mutual
   at-node : (t : Iteration) (p q : Place) (u : Iteration) → at t q ≡ Some u → model.In (p ++ q, u) (nodes_below p t)
-  at-node (leaf s e) p [] u h = inl (ap₂ (λ a b. (a, b)) (none-after p) (sym (same_Some (leaf s e) u h)))
+  at-node (leaf s e) p [] u h = inl (ap₂ (λ a b. (a, b)) (append-nil p) (sym (same_Some (leaf s e) u h)))
   at-node (leaf s e) p (i ∷ q) u h = absurd (none-some u h)
-  at-node (list s ts) p [] u h = inl (ap₂ (λ a b. (a, b)) (none-after p) (sym (same_Some (list s ts) u h)))
+  at-node (list s ts) p [] u h = inl (ap₂ (λ a b. (a, b)) (append-nil p) (sym (same_Some (list s ts) u h)))
   at-node (list s ts) p (i ∷ q) u h = inr (subst (λ k. model.In (p ++ (k ∷ q), u) (nodes_from p 0 ts)) (from-none i) (at-item ts p 0 i q u h))
     where
       from-none : (i : ℕ) → 0 + i ≡ i

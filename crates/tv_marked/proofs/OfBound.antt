@@ -37,12 +37,12 @@ use Rattle.tv_matching.proofs.OfMembers.{each-from}
 use Rattle.tv_starts.specs.Starts.{cross_starts, dot_starts, starts}
 use Rattle.tv_starts.proofs.OfStarts.{places-split}
 use Rattle.tv_instance.specs.ByResults.{InstanceStep, ports_on}
-use Rattle.tv_model.specs.Agreeing.{FindThemselves}
 use Rattle.tv_model.specs.Lineages.{mark_or, used}
 use Rattle.tv_levels.specs.Levels.{CameFrom}
 use Rattle.tv_followed.specs.Recorded.{mark_of, marks_of}
 use Rattle.tv_drawn.proofs.OfLeaves.{among-in, leaf-in}
 use Rattle.tv_drawn.proofs.OfSteps.{IsMadeOf, value_in, walk_in}
+use Rattle.tv_drawn.proofs.OfBinding.{each-both, each-finds}
 use Rattle.tv_marked.specs.Feeds.{feed_marks}
 use Rattle.tv_marked.specs.Shapes.{Shape}
 use Rattle.tv_marked.specs.Walking.{begins_of, bound_marks, fault_marks, part_in}
@@ -135,16 +135,6 @@ named-on {A = A} {B = B} F p (i ∷ is) = by (same_name p i.0) (named-on F p is)
 
 number-own : (flow : Flow) (s : Step) (i : Name × StepInput) → named i.0 s.inputs ≡ Some i.1 → number_of (mismatches flow s) i.0 ≡ levels_of flow i.1
 number-own flow s i e = ap (λ o. unwrap_or o 0) (named-on (levels_of flow) i.0 s.inputs ∙ ap (option_map (levels_of flow)) e)
-
-both-each : (p : Name × StepInput → Bool) (P Q : Name × StepInput → Type 0) (is : List (Name × StepInput)) → ((i : Name × StepInput) → p i ≡ true → P i → Q i) → list_all p is ≡ true → Each P is → Each Q is
-both-each p P Q [] f h k = tt
-both-each p P Q (i ∷ is) f h k =
-    let e = and_parts (p i) (list_all p is) h in
-    (f i e.0 k.0, both-each p P Q is f e.1 k.1)
-
-each-finds : (all is : List (Name × StepInput)) → FindThemselves all is → Each (λ (i : Name × StepInput). named i.0 all ≡ Some i.1) is
-each-finds all [] h = tt
-each-finds all (i ∷ is) h = (h.0, each-finds all is h.1)
 
 -- ---- a port that wraps or walks what it is delivered
 
@@ -276,7 +266,7 @@ module _ (known : Origin → Bool) (flow : Flow) (s : Name × Step) (f : Instanc
     pub job-marks : bound_marks flow shapes (ports_of flow s.1) begins q ≡ map mark_of (flat_map used (bound_values s.1 b))
     job-marks =
         all-tell s.1.inputs
-        (both-each (λ (i : Name × StepInput). list_any (same_name i.0) leaves) (λ (i : Name × StepInput). named i.0 s.1.inputs ≡ Some i.1) Tells s.1.inputs one-tells made.bound (each-finds s.1.inputs s.1.inputs made.once))
+        (each-both (λ (i : Name × StepInput). list_any (same_name i.0) leaves) (λ (i : Name × StepInput). named i.0 s.1.inputs ≡ Some i.1) Tells s.1.inputs one-tells made.bound (each-finds s.1.inputs s.1.inputs made.once))
 
   -- ---- passed faults
 

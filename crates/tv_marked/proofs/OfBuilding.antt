@@ -7,14 +7,15 @@ use Rattle.std.proofs.lemmas.Option.{none-some, same_Some}
 use Rattle.tv_value.specs.Nested.{Place, at, children, count, item_at, leaf, list, no_trees, tree, trees_of}
 use Rattle.tv_value.specs.Orders.{same_job}
 use Rattle.tv_value.specs.Values.{ErrorDoc, JobName, Name}
+use Rattle.tv_value.proofs.OfJobNames.{same_job_decides}
 use Rattle.tv_flow.specs.Flows.{Step}
 use Rattle.tv_lineage.specs.Kept.{Groups, IsBefore, Kept, KeptRecord, Part, all_marks, is_noted, marks_of, record_kept, records_of, result}
 use Rattle.tv_lineage.specs.Lineages.{Record}
 use Rattle.tv_lineage.specs.Members.{In}
 use Rattle.tv_lineage.specs.Touching.{Mark}
 use Rattle.tv_lineage.specs.Views.{with_group, with_job}
-use Rattle.tv_lineage.proofs.Closing.{same_job_decides}
 use Rattle.tv_lineage.proofs.OfMembers.{in-map}
+use Rattle.tv_lineage.proofs.Seeing.{last as in-last}
 use Rattle.tv_strategy.specs.Iterations.{Binding, Iteration, Iterations, job, passed}
 use Rattle.tv_strategy.specs.Levels.{HasLevels}
 use Rattle.tv_strategy.specs.Origins as Origins
@@ -32,6 +33,7 @@ use Rattle.tv_marked.specs.Shapes.{BothHave, Shape, ShowAll, ShowsAt, ShowsKnown
 use Rattle.tv_marked.specs.Noted.{HaveRecords, IsNoted, IsRecordOf}
 use Rattle.tv_marked.specs.Walking.{bound_parts, fault_marks}
 use Rattle.tv_marked.proofs.OfGroups.{bound-stands, grows-none, grows-on, grows-one, items-grow, node-stands, stand-both, stand-grow, stand-none}
+use Rattle.tv_marked.proofs.OfAdding.{after}
 
 -- ---- notes
 
@@ -63,10 +65,6 @@ in-front x y [] i = absurd i
 in-front x y (z ∷ xs) (inl e) = inl e
 in-front x y (z ∷ xs) (inr i) = inr (in-front x y xs i)
 
-in-last : {A : Type 0} (y : A) (xs : List A) → In y (xs ++ y ∷ [])
-in-last y [] = inl refl
-in-last y (z ∷ xs) = inr (in-last y xs)
-
 any-noted : (n : JobName) (js : List KeptRecord) → list_any (λ (r : KeptRecord). same_job n r.job) js ≡ true → (r : KeptRecord) × In r js × (r.job ≡ n)
 any-noted n [] e = absurd (no e)
   where
@@ -86,14 +84,6 @@ record KnownInside (name : Place → JobName) (known : Origin → Bool) (q : Pla
   node : Iteration
   there : at t place ≡ Some node
   is_known : known (origin_at name (q ++ place) node) ≡ true
-
-nothing-more : (q : Place) → q ++ [] ≡ q
-nothing-more [] = refl
-nothing-more (i ∷ q) = ap (λ r. i ∷ r) (nothing-more q)
-
-one-after : (q : Place) (i : ℕ) (p : Place) → (q ++ i ∷ []) ++ p ≡ q ++ (i ∷ p)
-one-after [] i p = refl
-one-after (j ∷ q) i p = ap (λ l. j ∷ l) (one-after q i p)
 
 at-after : (t : Iteration) (q p : Place) (u : Iteration) → at t q ≡ Some u → at t (q ++ p) ≡ at u p
 at-after t [] p u e = ap (λ x. at x p) (same_Some t u e)
@@ -128,12 +118,12 @@ module _ (name : Place → JobName) (known : Origin → Bool) where
 
   -- where the node at a place is whole, something there is known
   whole-known : (r : Place) (t : Iteration) (q : Place) → is_whole_at name known q t r ≡ true → KnownInside name known q t
-  whole-known r (leaf s e) q h = record { place = []; node = leaf s e; there = refl; is_known = subst (λ p. known (origin_at name p (leaf s e)) ≡ true) (sym (nothing-more q)) h }
+  whole-known r (leaf s e) q h = record { place = []; node = leaf s e; there = refl; is_known = subst (λ p. known (origin_at name p (leaf s e)) ≡ true) (sym (append-nil q)) h }
   whole-known [] (list s ts) q h = record {
     place = [];
     node = list s ts;
     there = refl;
-    is_known = subst (λ p. known (origin_at name p (list s ts)) ≡ true) (sym (nothing-more q)) (and_parts (known (origin_at name q (list s ts))) (all_whole name known q 0 ts) h).0;
+    is_known = subst (λ p. known (origin_at name p (list s ts)) ≡ true) (sym (append-nil q)) (and_parts (known (origin_at name q (list s ts))) (all_whole name known q 0 ts) h).0;
   }
   whole-known (i ∷ r) (list s ts) q h =
       let x = first-whole ts q i r h in
@@ -142,7 +132,7 @@ module _ (name : Place → JobName) (known : Origin → Bool) where
         place = i ∷ k.place;
         node = k.node;
         there = ap (option_and_then (λ u. at u k.place)) x.1 ∙ k.there;
-        is_known = subst (λ p. known (origin_at name p k.node) ≡ true) (one-after q i k.place) k.is_known;
+        is_known = subst (λ p. known (origin_at name p k.node) ≡ true) (after q i k.place) k.is_known;
       }
 
 module _ (t : Telling) where
@@ -203,7 +193,7 @@ module _ (t : Telling) where
       by known s it w (leaf r (job b)) a l = let x = h.told known s it w r b a in (λ p whole. shows r b p, x.0, λ p src c g k. own s x.1 r b p src c g k)
         where
           own : (s : Name × Step) → (t.settled q ≡ true → (x : Record) × In x (records_of new) × (x.job ≡ job_at s.0 q)) → (r : List Origin) (b : Binding) (p : Place) (src : List Origin) (c : Binding) → at (leaf r (job b)) p ≡ Some (leaf src (job c)) → t.settled (q ++ p) ≡ true → (x : Record) × In x (records_of new) × (x.job ≡ job_at s.0 (q ++ p))
-          own s x r b [] src c g k = let y = x (subst (λ z. t.settled z ≡ true) (nothing-more q) k) in (y.0, y.1, y.2 ∙ ap (job_at s.0) (sym (nothing-more q)))
+          own s x r b [] src c g k = let y = x (subst (λ z. t.settled z ≡ true) (append-nil q) k) in (y.0, y.1, y.2 ∙ ap (job_at s.0) (sym (append-nil q)))
           own s x r b (i ∷ p) src c g k = absurd (none-some _ g)
       by known s it w (leaf r (passed m d)) a l = absurd (no-levels 0 l)
       by known s it w (list r ts) a l = absurd l
@@ -244,9 +234,9 @@ module _ (t : Telling) where
       unknown : (known : Origin → Bool) (s : Name × Step) (it : Iteration) → Tells t known s it → (n : Iteration) → at it q ≡ Some n → HasLevels n (suc levels) → (p : Place) (m : Iteration) → at n p ≡ Some m → known (origin_at (job_at s.0) (q ++ p) m) ≡ true → ⊥
       unknown known s it w (leaf r (job b)) a h [] m g k = more-levels levels h
       unknown known s it w (leaf r (passed n d)) a h [] m g k =
-          let x = w.told.faults q r n d a (subst (λ z. known (origin_at (job_at s.0) z (leaf r (passed n d))) ≡ true) (nothing-more q) (subst (λ z. known (origin_at (job_at s.0) (q ++ []) z) ≡ true) (sym (same_Some (leaf r (passed n d)) m g)) k)) in none-some _ (sym f ∙ x.1)
+          let x = w.told.faults q r n d a (subst (λ z. known (origin_at (job_at s.0) z (leaf r (passed n d))) ≡ true) (append-nil q) (subst (λ z. known (origin_at (job_at s.0) (q ++ []) z) ≡ true) (sym (same_Some (leaf r (passed n d)) m g)) k)) in none-some _ (sym f ∙ x.1)
       unknown known s it w (list r ts) a h [] m g k =
-          none-some _ (sym f ∙ w.told.lists q r ts a (subst (λ z. known (origin_at (job_at s.0) z (list r ts)) ≡ true) (nothing-more q) (subst (λ z. known (origin_at (job_at s.0) (q ++ []) z) ≡ true) (sym (same_Some (list r ts) m g)) k)))
+          none-some _ (sym f ∙ w.told.lists q r ts a (subst (λ z. known (origin_at (job_at s.0) z (list r ts)) ≡ true) (append-nil q) (subst (λ z. known (origin_at (job_at s.0) (q ++ []) z) ≡ true) (sym (same_Some (list r ts) m g)) k)))
       unknown known s it w n a h (i ∷ p) m g k = let x = w.told.around q i p m (at-after it q (i ∷ p) n a ∙ g) k in none-some _ (sym f ∙ x.1)
 
       by : (known : Origin → Bool) (s : Name × Step) (it : Iteration) → Tells t known s it → (n : Iteration) → at it q ≡ Some n → HasLevels n (suc levels) → ShowsKnown (job_at s.0) known q no_shape n × IsNoted t.settled s it (records_of k) (records_of k) × HaveRecords t.settled s.0 q n (records_of k)
@@ -402,7 +392,7 @@ module _ (t : Telling) where
           → (x : Record) × In x (records_of new) × (x.job ≡ job_at s.0 (q ++ (i ∷ p)))
       by s r ns n m kept have first i p src c e z (inl lt) = let x = first i p src c lt e z in (x.0, kept x.0 x.1, x.2)
       by s r ns n m kept have first i p src c e z (inr f) =
-          let same : (q ++ length us ∷ []) ++ p ≡ q ++ (i ∷ p) = one-after q (length us) p ∙ ap (λ k. q ++ (k ∷ p)) (sym f) in
+          let same : (q ++ length us ∷ []) ++ p ≡ q ++ (i ∷ p) = after q (length us) p ∙ ap (λ k. q ++ (k ∷ p)) (sym f) in
           let x = have p src c (ap (option_and_then (λ v. at v p)) (sym (ap (item_at ns) f ∙ m)) ∙ e) (subst (λ y. t.settled y ≡ true) (sym same) z) in
           (x.0, x.1, x.2 ∙ ap (job_at s.0) same)
 
@@ -437,7 +427,7 @@ module _ (t : Telling) where
           let y = first-whole (job_at s.0) known ns q i p whole in
           let k = whole-known (job_at s.0) known p y.0 (q ++ i ∷ []) y.2 in
           let there : at it (q ++ i ∷ k.place) ≡ Some k.node = at-after it q (i ∷ k.place) (list r ns) a ∙ ap (option_and_then (λ v. at v k.place)) y.1 ∙ k.there in
-          let lt = inside known s it w i k.place k.node there (subst (λ z. known (origin_at (job_at s.0) z k.node) ≡ true) (one-after q i k.place) k.is_known) in
+          let lt = inside known s it w i k.place k.node there (subst (λ z. known (origin_at (job_at s.0) z k.node) ≡ true) (after q i k.place) k.is_known) in
           let z = show-item (job_at s.0) known q 0 us ns x i y.0 lt y.1 in
           subst (λ o. BothHave (λ v m. ShowsAt v m p) o (item_at ns i)) (sym z.1)
           (subst (λ o. BothHave (λ v m. ShowsAt v m p) (Some z.0) o) (sym y.1)

@@ -1,7 +1,7 @@
 -- Parts of what feeds deliver stand for its marks, and still do when more groups are made.
 use Rattle.std.specs.Option.{option_map_or}
 use Rattle.std.specs.Prelude.{◌≡◌, refl, ℕ, zero, suc, ◌+◌, ◌≤◌, List, [], ◌∷◌, ◌++◌, length, map, Option, Some, None, option_and_then, slice_get, slice_index_or}
-use Rattle.std.proofs.Common.{arith, ap, ap₂, subst, ◌∙◌, append-nil}
+use Rattle.std.proofs.Common.{arith, ap, ap₂, subst, ◌∙◌, append-nil, le_refl}
 use Rattle.std.proofs.lemmas.Grind.{flat_map-append}
 use Rattle.std.proofs.lemmas.Option.{none-some, same_Some}
 use Rattle.tv_value.specs.Nested.{Place, item_at, leaf, list, no_trees, tree}
@@ -23,9 +23,6 @@ use Rattle.tv_marked.specs.Walking.{bound_marks, bound_parts, part_in}
 
 -- ---- more groups
 
-itself : (n : ℕ) → n ≤ n
-itself n = omega arith
-
 at-most : (a b c : ℕ) → a ≤ b → b ≤ c → a ≤ c
 at-most a b c h k = omega arith
 
@@ -33,7 +30,7 @@ one-longer : (n : ℕ) → n ≤ suc n
 one-longer n = omega arith
 
 pub grows-none : (gs : Groups) → Grows gs gs
-grows-none gs = record { longer = itself (length gs); same = λ i h. refl }
+grows-none gs = record { longer = le_refl (length gs); same = λ i h. refl }
 
 pub grows-one : (ps : List Part) (gs : Groups) → Grows gs (ps ∷ gs)
 grows-one ps gs = record { longer = one-longer (length gs); same = λ i h. before-same ps gs (group i) h }

@@ -1,8 +1,8 @@
 -- What is told of the main instance while it is open is all that is known of it.
 use Rattle.std.specs.List.{list_all}
-use Rattle.std.specs.Prelude.{◌≡◌, refl, ◌||◌, ℕ, Bool, true, false, filter, find, if◌then◌else◌, List, [], ◌∷◌, map, Option, Some, slice_get}
+use Rattle.std.specs.Prelude.{◌≡◌, refl, ℕ, Bool, true, false, filter, find, if◌then◌else◌, List, [], ◌∷◌, map, Option, Some, slice_get}
 use Rattle.std.proofs.Common.{ap, inl, inr, subst, sym, ◌∙◌}
-use Rattle.std.proofs.lemmas.Bool.{true≢false}
+use Rattle.std.proofs.lemmas.Bool.{or_right}
 use Rattle.std.proofs.lemmas.Option.{same_Some}
 use Rattle.tv_value.specs.Nested.{Place, at, leaf, list}
 use Rattle.tv_value.specs.Orders.{same_name}
@@ -35,12 +35,9 @@ use Rattle.tv_levels.specs.MainSteps.{main_steps}
 use Rattle.tv_marked.specs.Feeds.{job_at}
 use Rattle.tv_marked.specs.KnownInRun.{AreJobsTold, AreLevelsTold}
 use Rattle.tv_marked.specs.Seen.{AreKnownBy, IsKnownBy, Spot}
+use Rattle.tv_marked.proofs.OfRecords.{outermost}
 
-outermost : (n : JobName) → is_outermost n ≡ true → n ≡ []
-outermost [] h = refl
-outermost (k ∷ n) h = absurd (true≢false (sym h))
-
-of-main : (f : StepMeaning) (ss : List StepMeaning) → In f (filter (λ s. is_outermost s.instance) ss)
+pub of-main : (f : StepMeaning) (ss : List StepMeaning) → In f (filter (λ s. is_outermost s.instance) ss)
     → In f ss × (is_outermost f.instance ≡ true)
 of-main f [] i = absurd i
 of-main f (s ∷ ss) i = by (is_outermost s.instance) refl i (of-main f ss)
@@ -53,10 +50,6 @@ of-main f (s ∷ ss) i = by (is_outermost s.instance) refl i (of-main f ss)
     by true e (inl same) rec = (inl same, ap (λ (t : StepMeaning). is_outermost t.instance) same ∙ e)
     by true e (inr j) rec = let r = rec j in (inr r.0, r.1)
     by false e j rec = let r = rec j in (inr r.0, r.1)
-
-or-true : (a b : Bool) → b ≡ true → (a || b) ≡ true
-or-true true b h = refl
-or-true false b h = h
 
 -- of any meaning, so that a document's isn't unfolded
 module _ (gives : Giving) (flows : List (Name × Flow)) (m : Meaning) (past : History) (levels : Name → ℕ) (v : View) (r : Runs gives flows m past [] levels v) (ls : List Level) (js : List Spot) (told : AreLevelsTold v ls) (jobs : AreJobsTold v js) where
@@ -91,7 +84,7 @@ module _ (gives : Giving) (flows : List (Name × Flow)) (m : Meaning) (past : Hi
     -- a settled job stands in the step, with all its sources known
     stands : (q : Place) → has_result v.events s.0 q ≡ true → (src : List Origin) × (b : Binding) × (at f.iteration q ≡ Some (leaf src (job b))) × (list_all known src ≡ true)
     stands q h =
-        let e = ends-told [] fs (s.0, q) v.events legal (or-true (is_taken v.events s.0 q) (has_result v.events s.0 q) h) in
+        let e = ends-told [] fs (s.0, q) v.events legal (or_right (is_taken v.events s.0 q) (has_result v.events s.0 q) h) in
         let g = of-map step_of f fs (own f among) in
         let same = distinct e.step g.0 e.is_step g.1 (e.name ∙ sym (ap (λ (y : StepMeaning). y.step) (sym g.2) ∙ named)) in
         (e.sources, e.binding, ap (λ (y : StepMeaning). at y.iteration q) (g.2 ∙ ap step_of (sym same)) ∙ e.node, e.known)

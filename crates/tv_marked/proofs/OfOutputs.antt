@@ -13,7 +13,6 @@ use Rattle.tv_flow.specs.Flows.{Document, Feed, Flow}
 use Rattle.tv_lineage.specs.Lineages as lineages
 use Rattle.tv_lineage.specs.Touching as marks
 use Rattle.tv_strategy.specs.Origins.{Origin, Traced, plain}
-use Rattle.tv_strategy.proofs.AtPlace.{item_at-map}
 use Rattle.tv_naming.specs.Numbers.{position}
 use Rattle.tv_depths.specs.Delivered.{feed_delivers}
 use Rattle.tv_depths.specs.Ranks.{ranked}
@@ -32,17 +31,9 @@ use Rattle.tv_marked.specs.Standing.{AreShapesOf}
 use Rattle.tv_marked.proofs.OfFeeds.{feed-marks}
 use Rattle.tv_marked.proofs.OfStages.{all-stand, many}
 use Rattle.tv_marked.proofs.OfTables.{all-so}
+use Rattle.tv_drawn.proofs.OfMatched.{at-plain}
 
 -- ---- values and what they are made of
-
-plain-at : (q : Place) (v : Traced) → at (plain v) q ≡ option_map plain (at v q)
-plain-at [] v = refl
-plain-at (i ∷ q) (leaf o a) = refl
-plain-at (i ∷ q) (list o ts) = ap (option_and_then (λ u. at u q)) (item_at-map (λ o. tt) (λ a. a) ts i) ∙ by (item_at ts i) (λ u. plain-at q u)
-  where
-    by : (o : Option Traced) → ((u : Traced) → at (plain u) q ≡ option_map plain (at u q)) → option_and_then (λ u. at u q) (option_map plain o) ≡ option_map plain (option_and_then (λ u. at u q) o)
-    by None rec = refl
-    by (Some u) rec = rec u
 
 -- the items of a plain list
 abbrev plains : Trees Origin Scalar → Trees (Unit {0}) Scalar
@@ -140,7 +131,7 @@ module _ (gives : Giving) (d : Document) (flow : Flow) (is : IsMainFlow d flow) 
 
     -- at a place of an output
     pub place-told : (f : Feed) (q : Place) (b : Bool) → b ≡ is_some (at (plain (value f)) q) → (if b then Some (told f q) else None) ≡ option_map marks_of (at (value f) q)
-    place-told f q b e = by (at (value f) q) refl b (e ∙ ap is_some (plain-at q (value f)))
+    place-told f q b e = by (at (value f) q) refl b (e ∙ ap is_some (at-plain q (value f)))
       where
         by : (o : Option Traced) → at (value f) q ≡ o → (b : Bool) → b ≡ is_some (option_map plain o) → (if b then Some (told f q) else None) ≡ option_map marks_of o
         by None g true h = cc

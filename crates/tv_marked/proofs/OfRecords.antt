@@ -2,6 +2,7 @@
 use Rattle.std.specs.Option.{option_map_or}
 use Rattle.std.specs.Prelude.{◌≡◌, refl, ℕ, Bool, true, false, ◌⊎◌, List, [], ◌∷◌, ◌++◌, filter, flat_map, length, map, Some, None, take}
 use Rattle.std.proofs.Common.{sym, ap, subst, ◌∙◌, inl, inr}
+use Rattle.std.proofs.lemmas.Bool.{true≢false}
 use Rattle.tv_value.specs.Values.{JobName}
 use Rattle.tv_gate.specs.Outcomes.{Giving}
 use Rattle.tv_flow.specs.Flows.{Document, Flow}
@@ -43,9 +44,6 @@ from-model x [] i = i
 from-model x (y ∷ xs) (inl e) = inl e
 from-model x (y ∷ xs) (inr i) = inr (from-model x xs i)
 
-true-not_false : true ≡ false → ⊥
-true-not_false e = cc
-
 -- what passes a test
 in-filter : {A : Type 0} (p : A → Bool) (x : A) (xs : List A) → model.In x xs → p x ≡ true → In x (filter p xs)
 in-filter p x [] i e = absurd i
@@ -53,7 +51,7 @@ in-filter {A = A} p x (y ∷ xs) (inl f) e = subst (λ z. In z (filter p (y ∷ 
   where
     by : (b : Bool) → b ≡ true → In y (Rattle.std.specs.Prelude.cond b (y ∷ filter p xs) (filter p xs))
     by true g = inl refl
-    by false g = absurd (true-not_false (sym g))
+    by false g = absurd (true≢false (sym g))
 in-filter {A = A} p x (y ∷ xs) (inr i) e = by (p y) (in-filter p x xs i e)
   where
     by : (b : Bool) → In x (filter p xs) → In x (Rattle.std.specs.Prelude.cond b (y ∷ filter p xs) (filter p xs))
@@ -71,7 +69,7 @@ of-filter {A = A} p x (y ∷ xs) i = by (p y) refl i (of-filter p x xs)
 
 pub outermost : (n : JobName) → is_outermost n ≡ true → n ≡ []
 outermost [] e = refl
-outermost (k ∷ n) e = absurd (true-not_false (sym e))
+outermost (k ∷ n) e = absurd (true≢false (sym e))
 
 -- the record of a job by its name and inputs
 abbrev record_outside : JobOutside → Record

@@ -13,12 +13,9 @@ use Rattle.tv_strategy.specs.Iterations.{Binding, End, Iteration, Iterations, ad
 use Rattle.tv_strategy.specs.Origins.{Origin, Traced}
 use Rattle.tv_strategy.specs.Sources.{AtAllNodes, AtNodes, Each}
 use Rattle.tv_strategy.proofs.OfSources.{each-append}
+use Rattle.tv_strategy.proofs.ThereAll.{each-parts}
 use Rattle.tv_depths.specs.Delivered.{Ported}
 use Rattle.tv_depths.specs.Steps.{port_iteration}
-
-each-parts : {A : Type 0} (P : A → Type 0) (xs ys : List A) → Each P (xs ++ ys) → Each P xs × Each P ys
-each-parts P [] ys h = (tt, h)
-each-parts P (x ∷ xs) ys h = let r = each-parts P xs ys h.1 in ((h.0, r.0), r.1)
 
 module _ (P : Origin → Type 0) where
   mutual

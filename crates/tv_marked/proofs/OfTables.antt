@@ -1,22 +1,23 @@
 -- Levels tell of the iteration of a step: all of them of all of it, and those so far of what is known.
 use Rattle.std.specs.List.{list_all}
-use Rattle.std.specs.Prelude.{◌≡◌, refl, ◌<◌, ◌≤◌, ℕ, zero, suc, Bool, true, List, [], ◌∷◌, ◌++◌, Option, Some, None, option_and_then, slice_get}
+use Rattle.std.specs.Prelude.{◌≡◌, refl, ◌<◌, ◌≤◌, ℕ, suc, Bool, true, List, [], ◌∷◌, ◌++◌, Option, Some, None, option_and_then, slice_get}
 use Rattle.std.proofs.Common.{arith, sym, ap, ap₂, subst, ◌∙◌, inl, inr}
 use Rattle.std.proofs.lemmas.Option.{none-some, same_Some}
-use Rattle.tv_value.specs.Nested.{Place, at, count, item_at, leaf, list, no_trees, tree}
+use Rattle.std.specs.Cmp.Derive.{one_truth}
+use Rattle.tv_value.specs.Nested.{Place, at, count, item_at, leaf, list}
 use Rattle.tv_value.specs.Values.{ErrorDoc, JobName, Name}
 use Rattle.tv_flow.specs.Flows.{Flow, Step}
 use Rattle.tv_strategy.specs.Iterations.{Binding, Iteration, Iterations, job, passed}
 use Rattle.tv_strategy.specs.Origins.{Mark, Origin}
 use Rattle.tv_depths.specs.Delivered.{StepMeaning}
 use Rattle.tv_instance.specs.Wholeness.{origin_at}
-use Rattle.tv_instance.proofs.OfWholeness.{same_tests}
 use Rattle.tv_model.specs.Members.{In}
 use Rattle.tv_levels.specs.Levels.{AreLevels, CameFrom, Fit, FitsThere, IsAmong, IsNoJob, Level, What, came, closed}
 use Rattle.tv_marked.specs.Feeds.{job_at}
 use Rattle.tv_marked.specs.Seen.{AreKnownBy, AreSeen, CameFromKnown, IsKnownBy, IsSeen, Spot}
 use Rattle.tv_marked.specs.Tables.{AreDone, AreGrown, IsTableOf, IsThere, or_else, told_or}
 use Rattle.tv_marked.specs.Walking.{IsFault, IsListOf}
+use Rattle.tv_joined.proofs.OfShowing.{within}
 
 -- ---- all origins pass
 
@@ -25,17 +26,6 @@ all-so [] = refl
 all-so (o ∷ os) = all-so os
 
 -- ---- what stands around a node
-
-item-inside : (ns : Iterations) (i : ℕ) (n : Iteration) → item_at ns i ≡ Some n → i < count ns
-item-inside no_trees i n e = absurd (none-some n e)
-item-inside (tree m ns) zero n e = more (count ns)
-  where
-    more : (a : ℕ) → 0 < suc a
-    more a = omega arith
-item-inside (tree m ns) (suc i) n e = more i (count ns) (item-inside ns i n e)
-  where
-    more : (a b : ℕ) → a < b → suc a < suc b
-    more a b h = omega arith
 
 -- the list at q, which has item i
 record IsListAround (t : Iteration) (q : Place) (i : ℕ) : Type 0 where
@@ -50,7 +40,7 @@ list-around (list r ts) [] i p u h = by (item_at ts i) refl h
   where
     by : (o : Option Iteration) → item_at ts i ≡ o → option_and_then (λ v. at v p) o ≡ Some u → IsListAround (list r ts) [] i
     by None e k = absurd (none-some u k)
-    by (Some v) e k = record { sources = r; items = ts; there = refl; less = item-inside ts i v e }
+    by (Some v) e k = record { sources = r; items = ts; there = refl; less = within ts i v e }
 list-around (leaf r e) (j ∷ q) i p u h = absurd (none-some u h)
 list-around (list r ts) (j ∷ q) i p u h = by (item_at ts j) refl h (λ v k. list-around v q i p u k)
   where
@@ -217,7 +207,7 @@ module _ (known : Origin → Bool) (settled : JobName → Bool) (flow : Flow) (f
       by None g j = let x = grows.from n q (came l) j in absurd (no l x.0 x.1)
 
   jobs-seen : (q : Place) (r : List Origin) (b : Binding) → at f.iteration q ≡ Some (leaf r (job b)) → done n q ≡ settled (job_at s.0 q)
-  jobs-seen q r b e = same_tests (done n q) (settled (job_at s.0 q)) (λ h. (by_step.there q (dones.from n q h)).3) (λ h. dones.told n q (by_step.all q r b e h).0)
+  jobs-seen q r b e = one_truth (done n q) (settled (job_at s.0 q)) (λ h. (by_step.there q (dones.from n q h)).3) (λ h. dones.told n q (by_step.all q r b e h).0)
 
   so_far-seen_of : IsSeen known settled (told_or what grown n) (done n) s f
   so_far-seen_of = record {

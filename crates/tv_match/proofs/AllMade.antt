@@ -1,7 +1,8 @@
 -- What follows of the held tellings, and all of them made.
 use Rattle.std.specs.Prelude.{IsPermutation}
 use Rattle.std.proofs.Common.{◌≡◌, refl, ℕ, zero, suc, ◌+◌, ◌<◌, ◌≤◌, List, [], ◌∷◌, ◌++◌, map, length, take, drop, sym, ap, subst, ◌∙◌, arith, take-suc}
-use Rattle.std.proofs.lemmas.List.{take-append-drop}
+use Rattle.std.proofs.lemmas.List.{take-append-drop, map-append}
+use Rattle.std.proofs.Math.Seq.{take-length}
 use Rattle.tv_value.specs.Values.{Name}
 use Rattle.tv_value.specs.Strategies.{Strategy}
 use Rattle.tv_value.specs.Views.{strategy_view}
@@ -9,7 +10,6 @@ use Rattle.tv_strategy.specs.Conditions.{number_of}
 use Rattle.tv_matching.specs.Told.{Told, IsFit, IsNew, matched_after}
 use Rattle.tv_matching.specs.Matchers.{Matching, CanTellAll, out as out_of}
 use Rattle.tv_matching.specs.Stores.{store_for, worked_items}
-use Rattle.tv_matching.proofs.Lists.{map-append}
 use Rattle.tv_match.specs.Entries.{Entry, no_entry, entry_at, kepts, front}
 use Rattle.tv_match.specs.Filed.{Filed}
 use Rattle.tv_match.specs.Seen.{telling_of, tellings_of, outcome_of, seen_as, AreSound}
@@ -27,10 +27,6 @@ can-still m n e f (t ∷ ts) h = (
   (subst (λ x. IsFit (number_of x) t) e h.0.0, subst (λ x. IsNew x t) f h.0.1),
   can-still (record m { told = m.told ++ t ∷ [] }) (record n { told = n.told ++ t ∷ [] }) e (ap (λ l. l ++ t ∷ []) f) ts h.1,
 )
-
-all : {A : Type 0} (xs : List A) → take (length xs) xs ≡ xs
-all [] = refl
-all (x ∷ xs) = ap (λ l. x ∷ l) (all xs)
 
 none-left : {A : Type 0} (n : ℕ) (xs : List A) → drop n xs ≡ [] → length xs ≤ n
 none-left zero [] e = omega arith
@@ -65,7 +61,7 @@ pub ahead-matched : AheadIsMatched
 ahead-matched m a =
     let s = strategy_view m.tree in
     let items : kepts m.out ≡ briefs (worked_items (store_for 0 s) (unit_news ∷ map news_of m.log)) =
-    ap kepts (sym a.keeps.done.out_full) ∙ a.keeps.done.worked.items (length m.log) (omega arith) ∙ ap (λ l. briefs (worked_items (store_for 0 s) (unit_news ∷ map news_of l))) (all m.log) in
+    ap kepts (sym a.keeps.done.out_full) ∙ a.keeps.done.worked.items (length m.log) (omega arith) ∙ ap (λ l. briefs (worked_items (store_for 0 s) (unit_news ∷ map news_of l))) (take-length m.log) in
     let parts : map (telling_of s) m.log ≡ tellings_of s (take m.told m.log) ++ tellings_of s (drop m.told m.log) =
     ap (map (telling_of s)) (sym (take-append-drop m.told m.log)) ∙ map-append (telling_of s) (take m.told m.log) (drop m.told m.log) in
     subst (λ l. IsPermutation (map outcome_of m.out) (map (out_of s) (matched_after s l))) parts (out-all s a.keeps.suits.leaves_differ m.log m.out a.keeps.proper items)

@@ -1,6 +1,9 @@
 -- Joins of items in brief.
 use Rattle.std.specs.Prelude.{Option}
 use Rattle.std.proofs.Common.{◌≡◌, refl, ℕ, true, false, List, [], ◌∷◌, ◌++◌, map, sym, ap, ◌∙◌}
+use Rattle.std.proofs.lemmas.Simd.{map-map}
+use Rattle.std.proofs.lemmas.List.{map-append}
+use Rattle.std.proofs.lemmas.List.Folds.{flat_map-map}
 use Rattle.tv_value.specs.Nested.{Place}
 use Rattle.tv_strategy.specs.Splits.{same_place}
 use Rattle.tv_matching.specs.Items.{Kind, ends, closes, passes, item, if_so}
@@ -8,7 +11,7 @@ use Rattle.tv_matching.specs.Matched.{bound, below, replaced, replaced_below, cr
 use Rattle.tv_matching.specs.Matchers.{Kept}
 use Rattle.tv_matching.specs.Stores as spec
 use Rattle.tv_matching.specs.Stores.{leaf_store, cross_store, dot_store, is_job, only_jobs, latest_at, met_with, met_by_first, met_by_second, gain, grown}
-use Rattle.tv_matching.proofs.Lists.{map-append, map-same, map-both, flat-same, flat-map, map-flat, map-if}
+use Rattle.tv_matching.proofs.Lists.{map-same, flat-same, map-flat, map-if}
 use Rattle.tv_match.specs.declared.kinds.Kind as code
 use Rattle.tv_match.specs.Entries.{Entry, kind_view, kept_entry, kepts}
 use Rattle.tv_match.specs.Brief.{brief_bound, brief_kind, brief, briefs, brief_store}
@@ -28,7 +31,7 @@ brief_kind-again (closes n) = refl
 brief_kind-again (passes l) = refl
 
 pub briefs-again : (xs : List Kept) → briefs (briefs xs) ≡ briefs xs
-briefs-again xs = map-both brief brief xs ∙ map-same (λ x. brief (brief x)) brief (λ x. ap (λ k. item x.place k) (brief_kind-again x.kind)) xs
+briefs-again xs = map-map brief brief xs ∙ map-same (λ x. brief (brief x)) brief (λ x. ap (λ k. item x.place k) (brief_kind-again x.kind)) xs
 
 pub briefs-append : (xs ys : List Kept) → briefs (xs ++ ys) ≡ briefs xs ++ briefs ys
 briefs-append xs ys = map-append brief xs ys
@@ -54,10 +57,10 @@ bound-brief b (passes l) = refl
 
 below-brief : (q : Place) (b : List (Unit {0})) (ys : List Kept) → briefs (map (below q (brief_bound b)) (briefs ys)) ≡ briefs (map (below q b) ys)
 below-brief q b ys =
-    ap briefs (map-both (below q (brief_bound b)) brief ys)
-    ∙ map-both brief (λ y. below q (brief_bound b) (brief y)) ys
+    ap briefs (map-map (below q (brief_bound b)) brief ys)
+    ∙ map-map brief (λ y. below q (brief_bound b) (brief y)) ys
     ∙ map-same (λ y. brief (below q (brief_bound b) (brief y))) (λ y. brief (below q b y)) (λ y. ap (λ k. item (q ++ y.place) k) (bound-brief b y.kind)) ys
-    ∙ sym (map-both brief (below q b) ys)
+    ∙ sym (map-map brief (below q b) ys)
 
 met-brief : (k l : Bare) → brief_kind (met (brief_kind k) (brief_kind l)) ≡ brief_kind (met k l)
 met-brief (ends b) l = bound-brief b l
@@ -70,7 +73,7 @@ met-brief (closes m) (passes f) = refl
 
 crossed-brief : (xs ys : List Kept) → briefs (crossed_items (briefs xs) (briefs ys)) ≡ briefs (crossed_items xs ys)
 crossed-brief xs ys =
-    ap briefs (flat-map (λ x. replaced (briefs ys) x.place x.kind) brief xs)
+    ap briefs (flat_map-map (λ x. replaced (briefs ys) x.place x.kind) brief xs)
     ∙ map-flat brief (λ x. replaced (briefs ys) x.place (brief_kind x.kind)) xs
     ∙ flat-same (λ x. briefs (replaced (briefs ys) x.place (brief_kind x.kind))) (λ x. briefs (replaced ys x.place x.kind)) (λ x. one x.place x.kind) xs
     ∙ sym (map-flat brief (λ x. replaced ys x.place x.kind) xs)
@@ -82,7 +85,7 @@ crossed-brief xs ys =
 
 below_jobs-brief : (xs ys : List Kept) → briefs (below_jobs (briefs xs) (briefs ys)) ≡ briefs (below_jobs xs ys)
 below_jobs-brief xs ys =
-    ap briefs (flat-map (λ x. replaced_below (briefs ys) x.place x.kind) brief xs)
+    ap briefs (flat_map-map (λ x. replaced_below (briefs ys) x.place x.kind) brief xs)
     ∙ map-flat brief (λ x. replaced_below (briefs ys) x.place (brief_kind x.kind)) xs
     ∙ flat-same (λ x. briefs (replaced_below (briefs ys) x.place (brief_kind x.kind))) (λ x. briefs (replaced_below ys x.place x.kind)) (λ x. one x.place x.kind) xs
     ∙ sym (map-flat brief (λ x. replaced_below ys x.place x.kind) xs)
@@ -94,7 +97,7 @@ below_jobs-brief xs ys =
 
 pub only_jobs-brief : (xs : List Kept) → only_jobs (briefs xs) ≡ briefs (only_jobs xs)
 only_jobs-brief xs =
-    flat-map (λ x. if_so (is_job x.kind) x) brief xs
+    flat_map-map (λ x. if_so (is_job x.kind) x) brief xs
     ∙ flat-same (λ x. if_so (is_job (brief_kind x.kind)) (brief x)) (λ x. briefs (if_so (is_job x.kind) x)) (λ x. ap (λ b. if_so b (brief x)) (same x.kind) ∙ sym (map-if brief (is_job x.kind) x)) xs
     ∙ sym (map-flat brief (λ x. if_so (is_job x.kind) x) xs)
   where
@@ -112,7 +115,7 @@ latest-brief q (x ∷ xs) =
 
 first-brief : (dx ys : List Kept) → briefs (met_by_first (briefs dx) (briefs ys)) ≡ briefs (met_by_first dx ys)
 first-brief dx ys =
-    ap briefs (flat-map (λ x. map (met_with x) (latest_at x.place (briefs ys))) brief dx)
+    ap briefs (flat_map-map (λ x. map (met_with x) (latest_at x.place (briefs ys))) brief dx)
     ∙ map-flat brief (λ x. map (met_with (brief x)) (latest_at x.place (briefs ys))) dx
     ∙ flat-same (λ x. briefs (map (met_with (brief x)) (latest_at x.place (briefs ys)))) (λ x. briefs (map (met_with x) (latest_at x.place ys))) one dx
     ∙ sym (map-flat brief (λ x. map (met_with x) (latest_at x.place ys)) dx)
@@ -120,14 +123,14 @@ first-brief dx ys =
     one : (x : Kept) → briefs (map (met_with (brief x)) (latest_at x.place (briefs ys))) ≡ briefs (map (met_with x) (latest_at x.place ys))
     one x =
         ap (λ l. briefs (map (met_with (brief x)) l)) (latest-brief x.place ys)
-        ∙ ap briefs (map-both (met_with (brief x)) brief (latest_at x.place ys))
-        ∙ map-both brief (λ y. met_with (brief x) (brief y)) (latest_at x.place ys)
+        ∙ ap briefs (map-map (met_with (brief x)) brief (latest_at x.place ys))
+        ∙ map-map brief (λ y. met_with (brief x) (brief y)) (latest_at x.place ys)
         ∙ map-same (λ y. brief (met_with (brief x) (brief y))) (λ y. brief (met_with x y)) (λ y. ap (λ k. item y.place k) (met-brief x.kind y.kind)) (latest_at x.place ys)
-        ∙ sym (map-both brief (met_with x) (latest_at x.place ys))
+        ∙ sym (map-map brief (met_with x) (latest_at x.place ys))
 
 second-brief : (xs dy : List Kept) → briefs (met_by_second (briefs xs) (briefs dy)) ≡ briefs (met_by_second xs dy)
 second-brief xs dy =
-    ap briefs (flat-map (λ y. map (λ x. met_with x y) (latest_at y.place (briefs xs))) brief dy)
+    ap briefs (flat_map-map (λ y. map (λ x. met_with x y) (latest_at y.place (briefs xs))) brief dy)
     ∙ map-flat brief (λ y. map (λ x. met_with x (brief y)) (latest_at y.place (briefs xs))) dy
     ∙ flat-same (λ y. briefs (map (λ x. met_with x (brief y)) (latest_at y.place (briefs xs)))) (λ y. briefs (map (λ x. met_with x y) (latest_at y.place xs))) one dy
     ∙ sym (map-flat brief (λ y. map (λ x. met_with x y) (latest_at y.place xs)) dy)
@@ -135,10 +138,10 @@ second-brief xs dy =
     one : (y : Kept) → briefs (map (λ x. met_with x (brief y)) (latest_at y.place (briefs xs))) ≡ briefs (map (λ x. met_with x y) (latest_at y.place xs))
     one y =
         ap (λ l. briefs (map (λ x. met_with x (brief y)) l)) (latest-brief y.place xs)
-        ∙ ap briefs (map-both (λ x. met_with x (brief y)) brief (latest_at y.place xs))
-        ∙ map-both brief (λ x. met_with (brief x) (brief y)) (latest_at y.place xs)
+        ∙ ap briefs (map-map (λ x. met_with x (brief y)) brief (latest_at y.place xs))
+        ∙ map-map brief (λ x. met_with (brief x) (brief y)) (latest_at y.place xs)
         ∙ map-same (λ x. brief (met_with (brief x) (brief y))) (λ x. brief (met_with x y)) (λ x. ap (λ k. item y.place k) (met-brief x.kind y.kind)) (latest_at y.place xs)
-        ∙ sym (map-both brief (λ x. met_with x y) (latest_at y.place xs))
+        ∙ sym (map-map brief (λ x. met_with x y) (latest_at y.place xs))
 
 -- ---- lists that are the same in brief have joins that are
 

@@ -1,15 +1,16 @@
 -- What the calls of a matcher leave.
 use Rattle.std.specs.Prelude.{IsPermutation}
-use Rattle.std.proofs.Common.{◌≡◌, ◌⊎◌, inl, inr, refl, Bool, true, false, ℕ, zero, suc, ◌+◌, ◌<◌, ◌≤◌, List, [], ◌∷◌, ◌++◌, map, length, take, drop, sym, ap, subst, ◌∙◌, arith, take-suc, length-append}
+use Rattle.std.proofs.Common.{◌≡◌, ◌⊎◌, inl, inr, refl, ℕ, zero, suc, ◌+◌, ◌<◌, ◌≤◌, List, [], ◌∷◌, ◌++◌, map, length, take, drop, sym, ap, subst, ◌∙◌, arith, take-suc, length-append}
+use Rattle.std.proofs.lemmas.List.{length-take-le, map-append}
 use Rattle.tv_value.specs.Values.{Name}
 use Rattle.tv_value.specs.Strategies.{Strategy}
 use Rattle.tv_strategy.specs.Conditions.{number_of}
 use Rattle.tv_strategy.specs.Measures.{strategy_depth}
 use Rattle.tv_strategy.specs.Sources.{Each}
+use Rattle.tv_strategy.proofs.OfSources.{each-append}
 use Rattle.tv_matching.specs.Members.{Once}
 use Rattle.tv_matching.specs.Told.{Told, told_to, matched_after, IsFit, IsNew}
 use Rattle.tv_matching.specs.Matchers.{Matching, out as out_of, CanTell, IsTold, IsFreed}
-use Rattle.tv_matching.proofs.Lists.{map-append, each-append}
 use Rattle.tv_matching.proofs.Permutes.{perm-from}
 use Rattle.tv_matching.proofs.OfLaws.{new-is_once}
 use Rattle.tv_match.specs.Entries.{Entry, no_entry, entry_at, front, AreMore}
@@ -19,7 +20,7 @@ use Rattle.tv_match.specs.Seen.{telling_of, tellings_of, outcome_of, seen_as, Ar
 use Rattle.tv_match.proofs.Fronts.{early-in_front, front-first, front-short, front-again, front-longer, more-late}
 use Rattle.tv_match.proofs.Putting.{from-next, past}
 use Rattle.tv_match.proofs.Seeing.{telling-same, out-all, places-short}
-use Rattle.tv_match.proofs.Working.{take-less, take-length, take-within}
+use Rattle.tv_match.proofs.Working.{take-less, take-within}
 
 pub each-take : {A : Type 0} (P : A → Type 0) (n : ℕ) (xs : List A) → Each P xs → Each P (take n xs)
 each-take P zero xs h = tt
@@ -73,10 +74,10 @@ module _ (s : Strategy) (mm : List (Name × ℕ)) where
   held-head log n t rest h e = heads (telling_of s (entry_at log n)) t (tellings_of s (drop (n + 1) log)) rest (sym (ap (tellings_of s) (from-next log n h)) ∙ e)
 
   pub held-there : (log : List Entry) (n : ℕ) (t : Told) (rest : List Told) → length log ≤ n → tellings_of s (drop n log) ≡ t ∷ rest → ⊥
-  held-there log n t rest h e = clash (sym (ap (tellings_of s) (past log n h)) ∙ e)
+  held-there log n t rest h e = none-there (sym (ap (tellings_of s) (past log n h)) ∙ e)
     where
-      clash : [] ≡ t ∷ rest → ⊥
-      clash f = absurd (cc)
+      none-there : [] ≡ t ∷ rest → ⊥
+      none-there f = absurd (cc)
 
   -- ---- what was held is taken back
 
@@ -93,7 +94,7 @@ module _ (s : Strategy) (mm : List (Name × ℕ)) where
           once = λ p. subst (λ l. Once (told_to (tellings_of s l) p)) (sym same-told) (a.once p);
           proper = each-take (IsProper s) n log a.proper;
           done = d;
-          told_within = let l = take-length n log a.told_within in omega (arith, l);
+          told_within = let l = length-take-le n log a.told_within in omega (arith, l);
           given_within = subst (λ l. g ≤ length l) (sym (front-again n out)) a.given_within;
         }
 
@@ -103,7 +104,7 @@ module _ (s : Strategy) (mm : List (Name × ℕ)) where
           strategy_is = refl;
           mismatch_is = refl;
           told_is = ap (tellings_of s) same-told;
-          held_is = ap (tellings_of s) (past (take n log) n (let l = take-length n log a.told_within in omega (arith, l)));
+          held_is = ap (tellings_of s) (past (take n log) n (let l = length-take-le n log a.told_within in omega (arith, l)));
           given_is = ap (map outcome_of) (ap (take g) (sym (front-first n out)) ∙ take-less g (length (front n out)) out a.given_within);
         }
 
@@ -169,7 +170,7 @@ module _ (s : Strategy) (mm : List (Name × ℕ)) (root : Filed) (log out : List
 
   module _ (one : Filed) (d : IsDone s one (take n log) (front n out)) where
     long : n ≡ length (take n log)
-    long = sym (take-length n log a.told_within)
+    long = sym (length-take-le n log a.told_within)
 
     back : AreSound s mm one (take n log) (front n out) n g
     back = back-sound s mm root one log out n g a d
@@ -243,14 +244,10 @@ listed-long a more h = let k = ap length h in let l = short (length a) more in o
     short (suc n) (x ∷ xs) = let r = short n xs in omega (arith, r)
 
 pub first-long : (n : ℕ) (a log : List Entry) → n ≤ length log → a ≡ take n log → n ≤ length a
-first-long n a log h e = let k = ap length e in let l = take-length n log h in omega (arith, k, l)
+first-long n a log h e = let k = ap length e in let l = length-take-le n log h in omega (arith, k, l)
 
 pub listed-count : (n : ℕ) (log more : List Entry) (e : Entry) → n ≤ length log → more ≡ take n log ++ e ∷ [] → length more ≡ n + 1
-listed-count n log more e h m = let k = ap length m in let j = length-append (take n log) (e ∷ []) in let l = take-length n log h in omega (arith, k, j, l)
-
-pub clash : (b : Bool) → b ≡ true → b ≡ false → ⊥
-clash true e f = absurd (cc)
-clash false e f = absurd (cc)
+listed-count n log more e h m = let k = ap length m in let j = length-append (take n log) (e ∷ []) in let l = length-take-le n log h in omega (arith, k, j, l)
 
 -- ---- what has come out
 
@@ -290,7 +287,7 @@ back-sound_at s mm root next log out log' out' n g a k o d =
     (back-sound s mm root next log out n g a (done-at s next log' out' (take n log) (front n out) k o d)))
 
 pub back-log : (n : ℕ) (log mid more : List Entry) → n ≤ length log → mid ≡ take n log → take (length mid) more ≡ mid → take n more ≡ take n log
-back-log n log mid more h e l = ap (λ i. take i more) (sym (ap length e ∙ take-length n log h)) ∙ l ∙ e
+back-log n log mid more h e l = ap (λ i. take i more) (sym (ap length e ∙ length-take-le n log h)) ∙ l ∙ e
 
 pub back-out : (n : ℕ) (out mid outs : List Entry) → mid ≡ front n out → front n outs ≡ front n mid → front n outs ≡ front n out
 back-out n out mid outs e f = f ∙ ap (front n) e ∙ front-again n out

@@ -3,6 +3,9 @@ use Rattle.std.specs.Prelude.{◌||◌, IsPermutation}
 use Rattle.std.specs.List.{list_any}
 use Rattle.std.proofs.lemmas.List.Sorted.{IsPermutation-sym}
 use Rattle.std.proofs.Common.{◌≡◌, inl, inr, refl, ℕ, zero, suc, ◌<◌, ◌≤◌, Bool, true, false, List, [], ◌∷◌, ◌++◌, map, length, take, get_or, sym, ap, subst, ◌∙◌, arith}
+use Rattle.std.proofs.lemmas.List.{length-take-le, length-map}
+use Rattle.std.proofs.lemmas.List.Folds.{flat_map-map}
+use Rattle.tv_lemmas.proofs.Lists.{map-take}
 use Rattle.tv_value.specs.Nested.{Place}
 use Rattle.tv_value.specs.Values.{Name}
 use Rattle.tv_value.specs.Strategies.{Strategy}
@@ -17,7 +20,7 @@ use Rattle.tv_matching.specs.Matchers.{out as out_of, Kept, kept, kept_of, leaf_
 use Rattle.tv_matching.specs.Matched.{matched}
 use Rattle.tv_matching.specs.Stores.{store_for, worked_items}
 use Rattle.tv_matching.proofs.Bared.{plain, marked-is_matched, kept-is_enough}
-use Rattle.tv_matching.proofs.Lists.{flat-map, flat-same, map-flat, map-if}
+use Rattle.tv_matching.proofs.Lists.{flat-same, map-flat, map-if}
 use Rattle.tv_matching.proofs.OfLaws.{matches-once}
 use Rattle.tv_matching.proofs.OfMembers.{of-map, in-flat, in-if, in-permutes}
 use Rattle.tv_match.specs.declared.kinds.Kind as kinds
@@ -28,8 +31,7 @@ use Rattle.tv_match.specs.Working.{unit_news, news_of}
 use Rattle.tv_match.specs.Seen.{tellings_of, outcome_of, outcome_kind, AreSound, IsProper, is_faulty}
 use Rattle.tv_match.proofs.Calls.{each-take}
 use Rattle.tv_match.proofs.Fronts.{front-first, front-less, front-short}
-use Rattle.tv_match.proofs.Laying.{map-take}
-use Rattle.tv_match.proofs.Working.{take-less, take-length}
+use Rattle.tv_match.proofs.Working.{take-less}
 use Rattle.tv_match.proofs.Seeing.{worked-matched, out-all}
 
 -- ---- one item
@@ -66,16 +68,12 @@ flag-bare test g (passes f) = refl
 
 at-mapped : {X F Y G : Type 0} (f : Item X F → Item Y G) → ((x : Item X F) → (f x).place ≡ x.place) → (q : Place) (xs : List (Item X F)) → at_place q (map f xs) ≡ map f (at_place q xs)
 at-mapped f h q xs =
-    flat-map (λ y. if_so (same_place q y.place) y) f xs
+    flat_map-map (λ y. if_so (same_place q y.place) y) f xs
     ∙ flat-same (λ x. if_so (same_place q (f x).place) (f x)) (λ x. map f (if_so (same_place q x.place) x)) (λ x. ap (λ r. if_so (same_place q r) (f x)) (h x) ∙ sym (map-if f (same_place q x.place) x)) xs
     ∙ sym (map-flat f (λ x. if_so (same_place q x.place) x) xs)
 
-long-map : {A B : Type 0} (f : A → B) (xs : List A) → length (map f xs) ≡ length xs
-long-map f [] = refl
-long-map f (x ∷ xs) = ap suc (long-map f xs)
-
 once-before : {X F Y G : Type 0} (f : Item X F → Item Y G) → ((x : Item X F) → (f x).place ≡ x.place) → (xs : List (Item X F)) → Once (map f xs) → Once xs
-once-before f h xs o q = subst (λ n. n ≤ 1) (ap length (at-mapped f h q xs) ∙ long-map f (at_place q xs)) (o q)
+once-before f h xs o q = subst (λ n. n ≤ 1) (ap length (at-mapped f h q xs) ∙ length-map (at_place q xs) f) (o q)
 
 single : {A : Type 0} (x : A) (xs : List A) → In x xs → length xs ≤ 1 → xs ≡ x ∷ []
 single x [] h l = absurd h
@@ -165,10 +163,10 @@ module _ (s : Strategy) (mm : List (Name × ℕ)) (root : Filed) (log out : List
   given-first = ap (map outcome_of) (sym (take-less g (length (front n out)) out a.given_within) ∙ ap (take g) (front-first n out)) ∙ map-take outcome_of g (front n out)
 
   pub given-long : g ≡ length (map outcome_of (take g out))
-  given-long = let l = front-short n out in sym (long-map outcome_of (take g out) ∙ take-length g out (let k = a.given_within in omega (arith, k, l)))
+  given-long = let l = front-short n out in sym (length-map (take g out) outcome_of ∙ length-take-le g out (let k = a.given_within in omega (arith, k, l)))
 
   pub in-order_within : (i : ℕ) → i < length (map outcome_of (front n out)) → (i < length (front n out)) × (i < length out)
-  in-order_within i h = let e = long-map outcome_of (front n out) in let l = front-short n out in (omega (arith, e, h), omega (arith, e, h, l))
+  in-order_within i h = let e = length-map (front n out) outcome_of in let l = front-short n out in (omega (arith, e, h), omega (arith, e, h, l))
 
   pub all-in_order : IsPermutation (map outcome_of (front n out)) (map (out_of s) (matched_after s (tellings_of s (take n log))))
   all-in_order = out-all s a.suits.leaves_differ (take n log) (front n out) (each-take (IsProper s) n log a.proper) (a.done.worked.items n a.told_within)
@@ -177,6 +175,6 @@ module _ (s : Strategy) (mm : List (Name × ℕ)) (root : Filed) (log out : List
 pub order-stays : (n m : ℕ) (out outs : List Entry) → n ≤ m → front n outs ≡ front n out → take (length (map outcome_of (front n out))) (map outcome_of (front m outs)) ≡ map outcome_of (front n out)
 order-stays n m out outs h e =
     let f : front n (front m outs) ≡ front n out = front-less n m h outs ∙ e in
-    ap (λ k. take k (map outcome_of (front m outs))) (long-map outcome_of (front n out) ∙ ap length (sym f))
+    ap (λ k. take k (map outcome_of (front m outs))) (length-map (front n out) outcome_of ∙ ap length (sym f))
     ∙ sym (map-take outcome_of (length (front n (front m outs))) (front m outs))
     ∙ ap (map outcome_of) (front-first n (front m outs) ∙ f)

@@ -65,10 +65,6 @@ dot-adds n old es ys es' ys' fresh fresh' f r f' r' o a b p q =
 pub fresh-gain : (es none new : List Entry) (g : List Kept) → none ≡ take 0 es → kepts new ≡ kepts none ++ g → kepts new ≡ g
 fresh-gain es none new g e h = h ∙ ap (λ l. kepts l ++ g) e
 
-pub on-ok : {A E : Type 0} (r : Result A E) (P Q : Type 0) → (P → Q) → OnOk r P → OnOk r Q
-on-ok (Ok x) P Q f h = f h
-on-ok (Err e) P Q f h = h
-
 module _ (new : Option ℕ → List Kept) (F R F' R' : spec.Store (Unit {0}) ℕ) (dx dy : List Kept) (x : dx ≡ briefs (gain new F)) (y : dy ≡ briefs (gain new R)) where
   first : Alike dx (gain new F)
   first = ap briefs x ∙ briefs-again (gain new F)

@@ -1,12 +1,12 @@
 -- The last item at a place, from the end.
 use Rattle.std.proofs.Common.{◌≡◌, ◌≢◌, refl, ℕ, suc, ◌≤◌, Bool, true, false, List, [], ◌∷◌, ◌++◌, length, take, sym, ap, subst, ◌∙◌, arith, append_assoc, take-suc}
+use Rattle.std.proofs.lemmas.List.{map-append}
 use Rattle.tv_value.specs.Nested.{Place}
 use Rattle.tv_strategy.specs.Splits.{same_place}
 use Rattle.tv_strategy.proofs.OfPlaces.{same-equal, same-itself}
 use Rattle.tv_matching.specs.Items.{if_so}
 use Rattle.tv_matching.specs.Matchers.{Kept}
 use Rattle.tv_matching.specs.Stores.{latest_at}
-use Rattle.tv_matching.proofs.Lists.{map-append}
 use Rattle.tv_match.specs.Entries.{Entry, no_entry, entry_at, kept_entry, kepts, FoundBefore}
 
 latest-last : (q : Place) (xs : List Kept) (x : Kept) → latest_at q (xs ++ x ∷ []) ≡ if_so (same_place q x.place) x ++ latest_at q xs

@@ -1,6 +1,7 @@
 -- Slots that lie one after the other, and what they show.
-use Rattle.std.proofs.Common.{◌≡◌, refl, ℕ, zero, suc, ◌+◌, ◌-◌, ◌<◌, ◌≤◌, List, [], ◌∷◌, ◌++◌, map, length, take, drop, get_or, sym, ap, subst, ◌∙◌, arith, length-append, length-drop}
+use Rattle.std.proofs.Common.{◌≡◌, refl, ℕ, zero, suc, ◌+◌, ◌-◌, ◌<◌, ◌≤◌, List, [], ◌∷◌, ◌++◌, length, take, drop, get_or, sym, ap, subst, ◌∙◌, arith, length-append, length-drop}
 use Rattle.std.proofs.lemmas.List.{take-append-le, drop-append-le, drop-take, get_or-map}
+use Rattle.tv_lemmas.proofs.Lists.{map-take}
 use Rattle.tv_match.specs.declared.bags.Slot.{Slot}
 use Rattle.tv_match.specs.Entries.{Entry, entry, no_entry, entry_at}
 use Rattle.tv_match.specs.Slots.{shown_slot, shown, AreLaid}
@@ -83,11 +84,6 @@ shown-front idx c a (s ∷ ss) h =
   where
     here : a + s.length ≤ c → s.start ≡ a → s.start + s.length ≤ c
     here r e = omega (arith, r, e)
-
-pub map-take : {A B : Type 0} (f : A → B) (n : ℕ) (xs : List A) → map f (take n xs) ≡ take n (map f xs)
-map-take f zero xs = refl
-map-take f (suc n) [] = refl
-map-take f (suc n) (x ∷ xs) = ap (λ l. f x ∷ l) (map-take f n xs)
 
 pub length-shown : (idx : List ℕ) (ss : List Slot) → length (shown idx ss) ≡ length ss
 length-shown idx [] = refl

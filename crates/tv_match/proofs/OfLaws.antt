@@ -1,9 +1,10 @@
 -- The laws of matchers hold.
 use Rattle.std.specs.Prelude.{IsPermutation}
-use Rattle.std.proofs.Common.{◌≡◌, ◌<◌, ◌≤◌, ◌⊎◌, inl, inr, refl, suc, List, [], ◌∷◌, ◌++◌, map, length, take, drop, sym, ap, subst, ◌∙◌, arith, length-append}
+use Rattle.std.proofs.Common.{◌≡◌, ◌<◌, ◌≤◌, ◌⊎◌, inl, inr, refl, List, [], ◌∷◌, ◌++◌, map, length, take, drop, sym, ap, subst, ◌∙◌, arith, length-append}
 use Rattle.std.proofs.lemmas.Bool.{cases_lt}
-use Rattle.std.proofs.lemmas.List.{take-append-drop}
+use Rattle.std.proofs.lemmas.List.{take-append-drop, length-map, map-append}
 use Rattle.std.proofs.lemmas.List.Sorted.{IsPermutation-sym, IsPermutation-trans, IsPermutation-append_left, IsPermutation-map, length_permutation}
+use Rattle.std.proofs.lemmas.List.Folds.{flat_map-map}
 use Rattle.tv_value.specs.Nested.{Place}
 use Rattle.tv_value.specs.Values.{Name, Value}
 use Rattle.tv_value.specs.Strategies.{Strategy}
@@ -14,7 +15,7 @@ use Rattle.tv_matching.specs.Items.{Kind, ends, closes, passes, Item, if_so}
 use Rattle.tv_matching.specs.Members.{at_place, In}
 use Rattle.tv_matching.specs.Told.{Spot, Told, matched_after, added_after}
 use Rattle.tv_matching.specs.Matchers.{kind_out, out, all_out}
-use Rattle.tv_matching.proofs.Lists.{flat-append, flat-map, flat-same, map-append, map-flat, map-if}
+use Rattle.tv_matching.proofs.Lists.{flat-append, flat-same, map-flat, map-if}
 use Rattle.tv_matching.proofs.OfLaws.{matches-once, tellings-add, tellings-in_any_order}
 use Rattle.tv_matching.proofs.OfMatchers.{out-is_known}
 use Rattle.tv_matching.proofs.OfMembers.{in-left, in-permutes}
@@ -28,10 +29,6 @@ use Rattle.tv_match.proofs.Calls.{gave-all}
 use Rattle.tv_match.proofs.Cancelled.{front-off}
 use Rattle.tv_match.proofs.Faults.{given-first, given-long, all-in_order}
 use Rattle.tv_match.proofs.Fronts.{early-in_front, late-behind, front-short}
-
-long-map : {A B : Type 0} (f : A → B) (xs : List A) → length (map f xs) ≡ length xs
-long-map f [] = refl
-long-map f (x ∷ xs) = ap suc (long-map f xs)
 
 -- ---- what follows from what was told, in order
 
@@ -78,7 +75,7 @@ more-is_left m a more h =
     let g = long-given m a in
     let p = length_permutation (matching m).given (all_out (matching m)) h in
     let q = length_permutation (in_order m) (all_out (matching m)) (all-follows m a) in
-    let f = long-map outcome_of (front m.told m.out) in
+    let f = length-map (front m.told m.out) outcome_of in
     omega (arith, l, g, p, q, f)
 
 -- ---- nothing follows exactly where all that is known has come out
@@ -141,7 +138,7 @@ module _ (s : Strategy) where
 
   at-out : (q : Place) (xs : List (Item Spot Spot)) → outcomes_at q (map (out s) xs) ≡ map (out s) (at_place q xs)
   at-out q xs =
-      flat-map (λ o. if_so (same_place q (outcome_place o)) o) (out s) xs
+      flat_map-map (λ o. if_so (same_place q (outcome_place o)) o) (out s) xs
       ∙ flat-same (λ x. if_so (same_place q (outcome_place (out s x))) (out s x)) (λ x. map (out s) (if_so (same_place q x.place) x)) (λ x. ap (λ r. if_so (same_place q r) (out s x)) (out-place x.place x.kind) ∙ sym (map-if (out s) (same_place q x.place) x)) xs
       ∙ sym (map-flat (out s) (λ x. if_so (same_place q x.place) x) xs)
 
@@ -150,7 +147,7 @@ order-once m a q =
     let s = strategy_view m.tree in
     let ts = (matching m).told in
     let o = (matches-once (number_of m.mismatch) ts a.keeps.fit a.keeps.once s a.keeps.agree).0 q in
-    let e = ap length (at-out s q (matched_after s ts)) ∙ long-map (out s) (at_place q (matched_after s ts)) in
+    let e = ap length (at-out s q (matched_after s ts)) ∙ length-map (at_place q (matched_after s ts)) (out s) in
     let p = length_permutation _ _ (flat-permutes (λ o. if_so (same_place q (outcome_place o)) o) (in_order m) (all_out (matching m)) (all-follows m a)) in
     omega (arith, o, e, p)
 

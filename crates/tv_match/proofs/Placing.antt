@@ -2,7 +2,7 @@
 use Rattle.std.proofs.Common.{◌≡◌, ◌⊎◌, inl, inr, refl, ℕ, zero, suc, ◌+◌, ◌-◌, ◌<◌, ◌≤◌, true, false, List, [], ◌∷◌, ◌++◌, length, take, drop, get_or, sym, ap, subst, ◌∙◌, arith, append_assoc, append-nil, length-append}
 use Rattle.std.proofs.Math.ListN.{get_or-append}
 use Rattle.std.proofs.Math.Seq.{get_or-append_right}
-use Rattle.std.proofs.lemmas.List.{get_or-take, get_or-drop, length-drop, take-append-le}
+use Rattle.std.proofs.lemmas.List.{get_or-take, get_or-drop, length-drop, take-append-le, length-take-le}
 use Rattle.tv_value.specs.Nested.{Place}
 use Rattle.tv_value.specs.Strategies.{Strategy}
 use Rattle.tv_value.specs.Values.{Name}
@@ -23,21 +23,13 @@ long-places : (es : List Entry) → length (places_of es) ≡ length es
 long-places [] = refl
 long-places (e ∷ es) = ap suc (long-places es)
 
-take-long : {A : Type 0} (n : ℕ) (xs : List A) → n ≤ length xs → length (take n xs) ≡ n
-take-long zero xs h = refl
-take-long (suc n) [] h = absurd (none n h)
-  where
-    none : (n : ℕ) → suc n ≤ 0 → ⊥
-    none n h = omega arith
-take-long (suc n) (x ∷ xs) h = ap suc (take-long n xs (omega (arith, h)))
-
 take-short : {A : Type 0} (n : ℕ) (xs : List A) → length (take n xs) ≤ length xs
 take-short zero xs = omega arith
 take-short (suc n) [] = omega arith
 take-short (suc n) (x ∷ xs) = let r = take-short n xs in omega (arith, r)
 
 pub first-kept : (n : ℕ) (old cut new : List Place) → n ≤ length old → cut ≡ take n old → take (length cut) new ≡ cut → take n new ≡ take n old
-first-kept n old cut new h e f = sym (ap (λ k. take k new) (ap length e ∙ take-long n old h)) ∙ f ∙ e
+first-kept n old cut new h e f = sym (ap (λ k. take k new) (ap length e ∙ length-take-le n old h)) ∙ f ∙ e
 
 entry-front : (n : ℕ) (es : List Entry) (i : ℕ) → i < length (front n es) → entry_at (front n es) i ≡ entry_at es i
 entry-front n es i h = ap (λ l. entry_at l i) (sym (front-first n es)) ∙ get_or-take (length (front n es)) es i no_entry h
@@ -74,7 +66,7 @@ module _ (d : ℕ) (p q : Places) (out : List Entry) (g n k : ℕ) (a : ArePlace
   many e = let l = a.long (deep e) in let s = front-short n out in omega (arith, c, l, s)
 
   enough : q.deep ≡ true → length (take k p.made.items) ≡ k
-  enough e = take-long k p.made.items (many e)
+  enough e = length-take-le k p.made.items (many e)
 
   first-made : (e : q.deep ≡ true) (i : ℕ) → g ≤ i → i < k → get_or (take k p.made.items) i [] ≡ (entry_at (front n out) i).place
   first-made e i j l =

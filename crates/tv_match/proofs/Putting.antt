@@ -48,10 +48,6 @@ pub record PutsBrief (n : ℕ) (f : Kept → List Kept) (xs : List Entry) (i : �
 
 -- ---- one item
 
-pub flat-itself : {A : Type 0} (xs : List A) → flat_map (λ x. x ∷ []) xs ≡ xs
-flat-itself [] = refl
-flat-itself (x ∷ xs) = ap (λ l. x ∷ l) (flat-itself xs)
-
 -- nothing stands below jobs where the second child has nothing new
 pub below-nothing : (es : List Kept) → below_jobs es [] ≡ []
 below-nothing [] = refl

@@ -1,17 +1,18 @@
 -- Room for tellings.
-use Rattle.std.proofs.Common.{◌≡◌, refl, ℕ, suc, ◌+◌, ◌<◌, ◌≤◌, true, false, List, [], ◌∷◌, ◌++◌, map, length, take, drop, sym, ap, subst, ◌∙◌, arith, length-append}
-use Rattle.std.proofs.Math.Seq.{drop-append_seam}
+use Rattle.std.proofs.Common.{◌≡◌, refl, ℕ, ◌+◌, ◌<◌, ◌≤◌, true, false, List, [], ◌∷◌, ◌++◌, map, length, take, drop, sym, ap, subst, ◌∙◌, arith, length-append}
+use Rattle.std.proofs.Math.Seq.{drop-append_seam, take-length}
 use Rattle.std.proofs.lemmas.List.Sorted.{length_permutation}
+use Rattle.std.proofs.lemmas.List.{length-take-le, length-map, map-append}
 use Rattle.tv_value.specs.Values.{Name}
 use Rattle.tv_value.specs.Strategies.{Strategy}
 use Rattle.tv_strategy.specs.Conditions.{number_of}
 use Rattle.tv_strategy.specs.Measures.{leaf_names}
 use Rattle.tv_strategy.specs.Sources.{Each}
+use Rattle.tv_strategy.proofs.OfSources.{each-append}
 use Rattle.tv_matching.specs.Members.{Once}
 use Rattle.tv_matching.specs.Told.{told_to, matched_after, count_of_added, IsFit}
 use Rattle.tv_matching.specs.Matchers.{out as out_of, Holds}
 use Rattle.tv_matching.specs.Stores.{store_for, worked_items}
-use Rattle.tv_matching.proofs.Lists.{map-append, each-append}
 use Rattle.tv_matching.proofs.OfLaws.{tellings-count}
 use Rattle.tv_match.specs.declared.told.Told as code
 use Rattle.tv_match.specs.Entries.{Entry, kepts, front}
@@ -20,7 +21,7 @@ use Rattle.tv_match.specs.Filed.{Filed}
 use Rattle.tv_match.specs.Seen.{telling_of, tellings_of, outcome_of, told_view, leaf_of, NameLeaves, entry_of, seen_as, AreSound, IsProper}
 use Rattle.tv_match.specs.Working.{IsDone, unit_news, news_of}
 use Rattle.tv_match.proofs.Fronts.{front-first, front-again}
-use Rattle.tv_match.proofs.Working.{take-less, take-length, take-within}
+use Rattle.tv_match.proofs.Working.{take-less, take-within}
 use Rattle.tv_match.proofs.Seeing.{out-all, bound-proper, closed-proper, fault-proper}
 use Rattle.tv_match.proofs.Calls.{each-take}
 
@@ -35,14 +36,6 @@ module _ (s : Strategy) where
   listed-all [] = refl
   listed-all (t ∷ ts) = ap (λ x. x ∷ tellings_of s (map entry_of ts)) (listed-one t) ∙ ap (λ l. told_view s t ∷ l) (listed-all ts)
 
-long-map : {A B : Type 0} (f : A → B) (xs : List A) → length (map f xs) ≡ length xs
-long-map f [] = refl
-long-map f (x ∷ xs) = ap suc (long-map f xs)
-
-all : {A : Type 0} (xs : List A) → take (length xs) xs ≡ xs
-all [] = refl
-all (x ∷ xs) = ap (λ l. x ∷ l) (all xs)
-
 module _ (s : Strategy) (mm : List (Name × ℕ)) (root : Filed) (log out : List Entry) (n g : ℕ) (a : AreSound s mm root log out n g) (ts : List code.Told) (names : NameLeaves s ts) (two : Filed) (more outs : List Entry) (m : more ≡ take n log ++ map entry_of ts) (d : IsDone s two more outs) (fr : front n outs ≡ front n (front n out)) where
   one-proper : (t : code.Told) → leaf_of t < length (leaf_names s) → IsProper s (entry_of t)
   one-proper (code.Told.Arrival l q true) h = fault-proper s a.suits.leaves_differ l q h
@@ -55,7 +48,7 @@ module _ (s : Strategy) (mm : List (Name × ℕ)) (root : Filed) (log out : List
   all-proper (t ∷ ts) h = (one-proper t h.0, all-proper ts h.1)
 
   long : length (take n log) ≡ n
-  long = take-length n log a.told_within
+  long = length-take-le n log a.told_within
 
   same-first : take n more ≡ take n log
   same-first = ap (take n) m ∙ take-within n (take n log) (map entry_of ts) (let l = long in omega (arith, l)) ∙ take-less n n log (omega arith)
@@ -99,13 +92,13 @@ module _ (s : Strategy) (mm : List (Name × ℕ)) (root : Filed) (log out : List
   -- as many are new at the top as the tellings add
   whole-count : (es xs : List Entry) → Each (IsProper s) es → kepts xs ≡ briefs (worked_items (store_for 0 s) (unit_news ∷ map news_of es)) → length xs ≡ length (matched_after s (tellings_of s es))
   whole-count es xs h e =
-      sym (long-map outcome_of xs)
+      sym (length-map xs outcome_of)
       ∙ sym (length_permutation (map outcome_of xs) (map (out_of s) (matched_after s (tellings_of s es))) (out-all s a.suits.leaves_differ es xs h e))
-      ∙ long-map (out_of s) (matched_after s (tellings_of s es))
+      ∙ length-map (matched_after s (tellings_of s es)) (out_of s)
 
   pub held-count : length outs ≡ length (front n out) + count_of_added s (tellings_of s (take n log)) (map (told_view s) ts)
   held-count =
-      whole-count more outs proper (ap kepts (sym d.out_full) ∙ d.worked.items (length more) (omega arith) ∙ ap (λ l. briefs (worked_items (store_for 0 s) (unit_news ∷ map news_of l))) (all more))
+      whole-count more outs proper (ap kepts (sym d.out_full) ∙ d.worked.items (length more) (omega arith) ∙ ap (λ l. briefs (worked_items (store_for 0 s) (unit_news ∷ map news_of l))) (take-length more))
       ∙ ap (λ l. length (matched_after s l)) (ap (tellings_of s) m ∙ map-append (telling_of s) (take n log) (map entry_of ts) ∙ ap (λ l. tellings_of s (take n log) ++ l) (listed-all s ts))
       ∙ (tellings-count s (tellings_of s (take n log)) (map (told_view s) ts) []).0
       ∙ ap (λ k. k + count_of_added s (tellings_of s (take n log)) (map (told_view s) ts)) (sym (whole-count (take n log) (front n out) (each-take (IsProper s) n log a.proper) (a.done.worked.items n a.told_within)))

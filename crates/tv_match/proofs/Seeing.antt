@@ -3,6 +3,9 @@ use Rattle.std.proofs.Common.{◌≡◌, ◌⊎◌, inl, inr, refl, ℕ, zero, s
 use Rattle.std.specs.Prelude.{IsPermutation, if◌then◌else◌}
 use Rattle.std.proofs.lemmas.Bool.{eqb-true}
 use Rattle.std.proofs.lemmas.List.Sorted.{IsPermutation-sym, IsPermutation-map}
+use Rattle.std.proofs.lemmas.Simd.{map-map}
+use Rattle.std.proofs.lemmas.List.{map-append}
+use Rattle.tv_lemmas.proofs.Numbers.{none-below}
 use Rattle.tv_value.specs.Nested.{Place}
 use Rattle.tv_value.specs.Values.{Name}
 use Rattle.tv_value.specs.Orders.{same_name}
@@ -18,7 +21,7 @@ use Rattle.tv_matching.specs.Matched.{matched, one_end}
 use Rattle.tv_matching.specs.Told.{Spot, told_to, matched_after, Marked, marked, marked_to, marked_after, IsFit}
 use Rattle.tv_matching.specs.Matchers.{Kept, kept, kept_of, kept_out, kept_kind_out, leaf_name, leaf_number, out}
 use Rattle.tv_matching.specs.Stores.{store_for, AreNumbered, items, told_by_all, worked_items}
-use Rattle.tv_matching.proofs.Lists.{map-append, map-both, map-same, map-if, each-map, each-weaken}
+use Rattle.tv_matching.proofs.Lists.{map-same, map-if, each-map, each-weaken}
 use Rattle.tv_matching.proofs.OfMembers.{each-permutes}
 use Rattle.tv_matching.proofs.OfStores.{items-none}
 use Rattle.tv_matching.proofs.OfLaws.{matches-once, store-is_matched, store-starts, store-works}
@@ -41,22 +44,19 @@ grows n m ns k h = by (same_name n m) refl
     by true f = subst (λ j. k ≤ j) (sym (counted n m ns true f)) (omega (arith, h))
     by false f = subst (λ j. k ≤ j) (sym (counted n m ns false f)) h
 
-no-less : (i : ℕ) → i < 0 → ⊥
-no-less i h = omega arith
-
 often : (n : Name) (ns : List Name) (j : ℕ) → j < length ns → same_name n (get_or ns j []) ≡ true → 1 ≤ times n ns
-often n [] j h e = absurd (no-less j h)
+often n [] j h e = absurd (none-below j h)
 often n (m ∷ ns) zero h e = subst (λ k. 1 ≤ k) (sym (counted n m ns true e)) (omega arith)
 often n (m ∷ ns) (suc j) h e = grows n m ns 1 (often n ns j (omega (arith, h)) e)
 
 twice : (n : Name) (ns : List Name) (i j : ℕ) → i < j → j < length ns → same_name n (get_or ns i []) ≡ true → same_name n (get_or ns j []) ≡ true → 2 ≤ times n ns
-twice n [] i j l h e f = absurd (no-less j h)
-twice n (m ∷ ns) i zero l h e f = absurd (no-less i l)
+twice n [] i j l h e f = absurd (none-below j h)
+twice n (m ∷ ns) i zero l h e f = absurd (none-below i l)
 twice n (m ∷ ns) zero (suc j) l h e f = let o = often n ns j (omega (arith, h)) f in subst (λ k. 2 ≤ k) (sym (counted n m ns true e)) (omega (arith, o))
 twice n (m ∷ ns) (suc i) (suc j) l h e f = grows n m ns 2 (twice n ns i j (omega (arith, l)) (omega (arith, h)) e f)
 
 once-at : (all ns : List Name) (i : ℕ) → EachOnce ns all → i < length ns → times (get_or ns i []) all ≡ 1
-once-at all [] i h l = absurd (no-less i l)
+once-at all [] i h l = absurd (none-below i l)
 once-at all (n ∷ ns) zero h l = h.0
 once-at all (n ∷ ns) (suc i) h l = once-at all ns i h.1 (omega (arith, l))
 
@@ -95,8 +95,8 @@ names-apart ns i j h a b = by (order i j)
         test true e = absurd (n e)
 
     by : (i < j) ⊎ ((j < i) ⊎ (i ≡ j)) → same_name (get_or ns i []) (get_or ns j []) ≡ (j == i)
-    by (inl l) = apart (λ e. clash (times (get_or ns i []) ns) one (twice (get_or ns i []) ns i j l b (same-itself (get_or ns i [])) e)) (λ e. no-less 0 (omega (arith, e, l)))
-    by (inr (inl l)) = apart (λ e. clash (times (get_or ns i []) ns) one (twice (get_or ns i []) ns j i l a e (same-itself (get_or ns i [])))) (λ e. no-less 0 (omega (arith, e, l)))
+    by (inl l) = apart (λ e. clash (times (get_or ns i []) ns) one (twice (get_or ns i []) ns i j l b (same-itself (get_or ns i [])) e)) (λ e. none-below 0 (omega (arith, e, l)))
+    by (inr (inl l)) = apart (λ e. clash (times (get_or ns i []) ns) one (twice (get_or ns i []) ns j i l a e (same-itself (get_or ns i [])))) (λ e. none-below 0 (omega (arith, e, l)))
     by (inr (inr e)) = ap (λ k. same_name (get_or ns i []) (get_or ns k [])) (sym e) ∙ same-itself (get_or ns i []) ∙ sym (ap (λ k. k == i) (sym e) ∙ eq-eqb i i refl)
 
 -- ---- what each leaf is told
@@ -164,7 +164,7 @@ module _ (s : Strategy) (apart : EachOnce (leaf_names s) (leaf_names s)) where
       one q (kinds.Kind.Passed l) = refl
 
   brief-outs : (xs : List Kept) → map kept_out (briefs xs) ≡ map kept_out xs
-  brief-outs xs = map-both kept_out brief xs ∙ map-same (λ x. kept_out (brief x)) kept_out (λ x. one x.place x.kind) xs
+  brief-outs xs = map-map kept_out brief xs ∙ map-same (λ x. kept_out (brief x)) kept_out (λ x. one x.place x.kind) xs
     where
       one : (q : Place) (k : Kind (Unit {0}) ℕ) → kept_kind_out q (brief_kind k) ≡ kept_kind_out q k
       one q (ends b) = refl
@@ -209,7 +209,7 @@ zero-suc i = test (0 == suc i) refl
     test true e = absurd (none (eqb-true 0 (suc i) e))
 
 number-there : (ns : List Name) (p : Name) (i : ℕ) → i < length ns → ((j : ℕ) → j < length ns → same_name p (get_or ns j []) ≡ (j == i)) → leaf_number ns p ≡ i
-number-there [] p i l h = absurd (no-less i l)
+number-there [] p i l h = absurd (none-below i l)
 number-there (n ∷ ns) p zero l h = ap (λ b. if b then 0 else suc (leaf_number ns p)) (h 0 (omega arith))
 number-there (n ∷ ns) p (suc i) l h =
     ap (λ b. if b then 0 else suc (leaf_number ns p)) (h 0 (omega arith) ∙ zero-suc i)
@@ -280,11 +280,11 @@ kind-short d x h = by x.kind h
     by (passes f) h = omega (arith, h)
 
 entry-of : (P : Kept → Type 0) (es : List Entry) (i : ℕ) → Each P (kepts es) → i < length es → P (kept_entry (entry_at es i))
-entry-of P [] i h l = absurd (no-less i l)
+entry-of P [] i h l = absurd (none-below i l)
 entry-of P (e ∷ es) zero h l = h.0
 entry-of P (e ∷ es) (suc i) h l = entry-of P es i h.1 (omega (arith, l))
 
-each-of-map : {A B : Type 0} (P : B → Type 0) (f : A → B) (xs : List A) → Each P (map f xs) → Each (λ x. P (f x)) xs
+pub each-of-map : {A B : Type 0} (P : B → Type 0) (f : A → B) (xs : List A) → Each P (map f xs) → Each (λ x. P (f x)) xs
 each-of-map P f [] h = tt
 each-of-map P f (x ∷ xs) h = (h.0, each-of-map P f xs h.1)
 

@@ -1,10 +1,12 @@
 -- Tellings that are worked one after the other, and taken back.
 use Rattle.std.proofs.Common.{◌≡◌, ◌⊎◌, inl, inr, refl, ℕ, zero, suc, ◌+◌, ◌<◌, ◌≤◌, List, [], ◌∷◌, ◌++◌, map, length, take, sym, ap, subst, ◌∙◌, arith, append_assoc, append-nil, length-append}
+use Rattle.std.proofs.lemmas.List.{length-take-le, map-append}
+use Rattle.std.proofs.Math.Seq.{take-length}
 use Rattle.tv_value.specs.Strategies.{Strategy}
 use Rattle.tv_strategy.specs.Sources.{Each}
 use Rattle.tv_matching.specs.Stores as spec
 use Rattle.tv_matching.specs.Stores.{leaf_store, cross_store, dot_store, store_for, News, gain, grown, told_by, worked, worked_items}
-use Rattle.tv_matching.proofs.Lists.{map-append, each-weaken}
+use Rattle.tv_matching.proofs.Lists.{each-weaken}
 use Rattle.tv_match.specs.Entries.{Entry, kepts, front, AreMore, Rise}
 use Rattle.tv_match.specs.Filed.{Filed, filed_leaf, filed_cross, filed_dot, kept_store, fronted, Adds}
 use Rattle.tv_match.specs.Working.{unit_news, news_of, news_to, IsFull, IsWorked, IsDone}
@@ -99,26 +101,17 @@ take-within zero xs ys h = refl
 take-within (suc k) [] ys h = absurd (omega (arith, h))
 take-within (suc k) (x ∷ xs) ys h = ap (λ l. x ∷ l) (take-within k xs ys (omega (arith, h)))
 
-take-all : {A : Type 0} (xs : List A) → take (length xs) xs ≡ xs
-take-all [] = refl
-take-all (x ∷ xs) = ap (λ l. x ∷ l) (take-all xs)
-
 pub take-less : {A : Type 0} (k n : ℕ) (xs : List A) → k ≤ n → take k (take n xs) ≡ take k xs
 take-less zero n xs h = refl
 take-less (suc k) zero xs h = absurd (omega (arith, h))
 take-less (suc k) (suc n) [] h = refl
 take-less (suc k) (suc n) (x ∷ xs) h = ap (λ l. x ∷ l) (take-less k n xs (omega (arith, h)))
 
-pub take-length : {A : Type 0} (n : ℕ) (xs : List A) → n ≤ length xs → length (take n xs) ≡ n
-take-length zero xs h = refl
-take-length (suc n) [] h = absurd (omega (arith, h))
-take-length (suc n) (x ∷ xs) h = ap suc (take-length n xs (omega (arith, h)))
-
 news-last : (log : List Entry) (e : Entry) → news_to (length (log ++ e ∷ [])) (log ++ e ∷ []) ≡ news_to (length log) log ++ news_of e ∷ []
 news-last log e =
-    ap (λ l. unit_news ∷ map news_of l) (take-all (log ++ e ∷ []))
+    ap (λ l. unit_news ∷ map news_of l) (take-length (log ++ e ∷ []))
     ∙ ap (λ l. unit_news ∷ l) (map-append news_of log (e ∷ []))
-    ∙ ap (λ l. unit_news ∷ (map news_of l ++ news_of e ∷ [])) (sym (take-all log))
+    ∙ ap (λ l. unit_news ∷ (map news_of l ++ news_of e ∷ [])) (sym (take-length log))
 
 -- ---- one more telling
 
@@ -214,7 +207,7 @@ module _ (s : Strategy) (root next : Filed) (log more out outs : List Entry) (n 
 
 pub cut-done : (s : Strategy) (m n : ℕ) (root : Filed) (log out : List Entry) → n ≤ m → m ≤ length log → IsWorked s m root log out → Rise out → IsDone s (fronted n root) (take n log) (front n out)
 cut-done s m n root log out h l w r =
-    let long : length (take n log) ≡ n = take-length n log (omega (arith, h, l)) in
+    let long : length (take n log) ≡ n = length-take-le n log (omega (arith, h, l)) in
     let parts = front-rise n out r in
     record {
       worked = subst (λ j. IsWorked s j (fronted n root) (take n log) (front n out)) (sym long) (record {

@@ -2,6 +2,9 @@
 use Rattle.std.specs.Prelude.{◌≡◌, refl, Bool, true, false, ◌||◌, List, [], ◌∷◌, ◌++◌, map, flat_map}
 use Rattle.std.specs.List.{list_any}
 use Rattle.std.proofs.Common.{sym, ap, ◌∙◌}
+use Rattle.std.proofs.lemmas.Simd.{map-map}
+use Rattle.std.proofs.lemmas.List.{map-append}
+use Rattle.std.proofs.lemmas.List.Folds.{flat_map-map}
 use Rattle.tv_value.specs.Nested.{Place}
 use Rattle.tv_value.specs.Values.{Name, holds_fault}
 use Rattle.tv_value.specs.Orders.{same_name}
@@ -17,7 +20,7 @@ use Rattle.tv_matching.specs.Tellings.{Telling, told_of, after}
 use Rattle.tv_matching.specs.Told.{Spot, Told, arrival, faulty, close, telling, tellings, told_to, matched_after, Marked, marked, marked_to, marked_after, map_kind, map_item, binds_some, some_at, TellsFaults, bound_there, stop_there, seen, value_there}
 use Rattle.tv_matching.specs.Matchers.{bare, bare_bound, bare_kind, kept, kept_out, kind_out, out, leaf_number, KeptIsEnough, KeptGains, MarkedIsMatched, FaultsRide}
 use Rattle.tv_matching.proofs.Natural.{matched-maps}
-use Rattle.tv_matching.proofs.Lists.{each-all, each-weaken, map-append, flat-append, map-same, map-both, flat-same, flat-map, map-flat, map-if}
+use Rattle.tv_matching.proofs.Lists.{each-all, each-weaken, flat-append, map-same, flat-same, map-flat, map-if}
 
 module _ {X F G : Type 0} (test : X → Bool) (g : F → G) where
   bound-bare : (b : List X) (k : Kind X F) → bound (bare_bound test b) (bare_kind test g k) ≡ bare_kind test g (bound b k)
@@ -26,7 +29,7 @@ module _ {X F G : Type 0} (test : X → Bool) (g : F → G) where
   bound-bare b (passes e) = refl
 
   below-bare : (ys : List (Item X F)) (q : Place) (b : List X) → map (below q (bare_bound test b)) (map (bare test g) ys) ≡ map (bare test g) (map (below q b) ys)
-  below-bare ys q b = map-both (below q (bare_bound test b)) (bare test g) ys ∙ map-same (λ y. below q (bare_bound test b) (bare test g y)) (λ y. bare test g (below q b y)) (λ y. ap (λ k. item (q ++ y.place) k) (bound-bare b y.kind)) ys ∙ sym (map-both (bare test g) (below q b) ys)
+  below-bare ys q b = map-map (below q (bare_bound test b)) (bare test g) ys ∙ map-same (λ y. below q (bare_bound test b) (bare test g y)) (λ y. bare test g (below q b y)) (λ y. ap (λ k. item (q ++ y.place) k) (bound-bare b y.kind)) ys ∙ sym (map-map (bare test g) (below q b) ys)
 
   replaced-bare : (ys : List (Item X F)) (q : Place) (k : Kind X F) → replaced (map (bare test g) ys) q (bare_kind test g k) ≡ map (bare test g) (replaced ys q k)
   replaced-bare ys q (ends b) = below-bare ys q b
@@ -40,13 +43,13 @@ module _ {X F G : Type 0} (test : X → Bool) (g : F → G) where
 
   crossed-bare : (xs ys : List (Item X F)) → crossed_items (map (bare test g) xs) (map (bare test g) ys) ≡ map (bare test g) (crossed_items xs ys)
   crossed-bare xs ys =
-      flat-map (λ x. replaced (map (bare test g) ys) x.place x.kind) (bare test g) xs
+      flat_map-map (λ x. replaced (map (bare test g) ys) x.place x.kind) (bare test g) xs
       ∙ flat-same (λ x. replaced (map (bare test g) ys) x.place (bare_kind test g x.kind)) (λ x. map (bare test g) (replaced ys x.place x.kind)) (λ x. replaced-bare ys x.place x.kind) xs
       ∙ sym (map-flat (bare test g) (λ x. replaced ys x.place x.kind) xs)
 
   below_jobs-bare : (xs ys : List (Item X F)) → below_jobs (map (bare test g) xs) (map (bare test g) ys) ≡ map (bare test g) (below_jobs xs ys)
   below_jobs-bare xs ys =
-      flat-map (λ x. replaced_below (map (bare test g) ys) x.place x.kind) (bare test g) xs
+      flat_map-map (λ x. replaced_below (map (bare test g) ys) x.place x.kind) (bare test g) xs
       ∙ flat-same (λ x. replaced_below (map (bare test g) ys) x.place (bare_kind test g x.kind)) (λ x. map (bare test g) (replaced_below ys x.place x.kind)) (λ x. below_jobs-bare_kind ys x.place x.kind) xs
       ∙ sym (map-flat (bare test g) (λ x. replaced_below ys x.place x.kind) xs)
 
@@ -63,8 +66,8 @@ module _ {X F G : Type 0} (test : X → Bool) (g : F → G) where
 
   joined-bare : (xs ys : List (Item X F)) → joined_items same (map (bare test g) xs) (map (bare test g) ys) ≡ map (bare test g) (joined_items same xs ys)
   joined-bare xs ys =
-      flat-map (λ x. flat_map (meet same x) (map (bare test g) ys)) (bare test g) xs
-      ∙ flat-same (λ x. flat_map (meet same (bare test g x)) (map (bare test g) ys)) (λ x. map (bare test g) (flat_map (meet same x) ys)) (λ x. flat-map (meet same (bare test g x)) (bare test g) ys ∙ flat-same (λ y. meet same (bare test g x) (bare test g y)) (λ y. map (bare test g) (meet same x y)) (meet-bare x) ys ∙ sym (map-flat (bare test g) (meet same x) ys)) xs
+      flat_map-map (λ x. flat_map (meet same x) (map (bare test g) ys)) (bare test g) xs
+      ∙ flat-same (λ x. flat_map (meet same (bare test g x)) (map (bare test g) ys)) (λ x. map (bare test g) (flat_map (meet same x) ys)) (λ x. flat_map-map (meet same (bare test g x)) (bare test g) ys ∙ flat-same (λ y. meet same (bare test g x) (bare test g y)) (λ y. map (bare test g) (meet same x y)) (meet-bare x) ys ∙ sym (map-flat (bare test g) (meet same x) ys)) xs
       ∙ sym (map-flat (bare test g) (λ x. flat_map (meet same x) ys) xs)
 
   module _ (told : Name → List (Item X F)) where
@@ -222,7 +225,7 @@ kept-outs s q (passes r) = refl
 pub kept-is_enough : KeptIsEnough
 kept-is_enough s ts =
     let e = matched-bare (λ (r : Marked). r.1) (λ (r : Spot). leaf_number (leaf_names s) r.0) (marked_to ts) s in
-    (e, ap (map kept_out) e ∙ map-both kept_out (kept s) (marked_after s ts) ∙ map-same (λ x. kept_out (kept s x)) (λ x. out s (plain x)) (λ x. kept-outs s x.place x.kind) (marked_after s ts) ∙ sym (map-both (out s) plain (marked_after s ts)) ∙ ap (map (out s)) (marked-is_matched s ts))
+    (e, ap (map kept_out) e ∙ map-map kept_out (kept s) (marked_after s ts) ∙ map-same (λ x. kept_out (kept s x)) (λ x. out s (plain x)) (λ x. kept-outs s x.place x.kind) (marked_after s ts) ∙ sym (map-map (out s) plain (marked_after s ts)) ∙ ap (map (out s)) (marked-is_matched s ts))
 
 pub kept-gains : KeptGains
 kept-gains s ts more = gained-bare (λ (r : Marked). r.1) (λ (r : Spot). leaf_number (leaf_names s) r.0) (marked_to ts) (marked_to more) s

@@ -2,6 +2,10 @@
 use Rattle.std.specs.Prelude.{◌≡◌, refl, ℕ, zero, suc, ◌≤◌, ◌<◌, min, Bool, true, false, ◌&&◌, ◌==◌, List, [], ◌∷◌, ◌++◌, map, flat_map, take, Option}
 use Rattle.std.proofs.Common.{arith, sym, ap, subst, ◌∙◌, append-nil}
 use Rattle.std.proofs.lemmas.Bool.{eqb-true, eq-eqb}
+use Rattle.std.proofs.lemmas.Simd.{map-map}
+use Rattle.std.proofs.lemmas.List.{map-append}
+use Rattle.std.proofs.lemmas.List.Folds.{flat_map-map}
+use Rattle.tv_lemmas.proofs.Numbers.{less-unequal}
 use Rattle.tv_value.specs.Nested.{leaf, list, Trees, no_trees, tree, Place, count, note, map_trees}
 use Rattle.tv_value.specs.Values.{Name, ErrorDoc}
 use Rattle.tv_value.specs.Strategies.{Strategy, port, cross, dot, Strategies, no_strategies, strategy}
@@ -12,9 +16,10 @@ use Rattle.tv_strategy.specs.Levels.{HasLevels, AllHaveLevels}
 use Rattle.tv_strategy.specs.Splits.{same_place}
 use Rattle.tv_strategy.specs.Sources.{Each}
 use Rattle.tv_strategy.proofs.AtDepth.{iteration-levels, dot_of-levels}
+use Rattle.tv_strategy.proofs.OfSources.{each-append}
 use Rattle.tv_matching.specs.Items.{Kind, ends, closes, passes, Item, item, Bound, Stopped, end_kind, within, here, if_so, all_known, known_items, known_from}
 use Rattle.tv_matching.specs.Matched.{bound, below, replaced, crossed_items, met, meet, joined_items, same, matched, matched_cross, matched_dot}
-use Rattle.tv_matching.proofs.Lists.{map-append, map-both, flat-append, flat-none, flat-same, flat-map, map-flat, flat-single, map-if, flat-nothing, flat-each, each-append, each-map, each-all, each-weaken, each-if}
+use Rattle.tv_matching.proofs.Lists.{flat-append, flat-none, flat-same, map-flat, flat-single, map-if, flat-nothing, flat-each, each-map, each-all, each-weaken, each-if}
 
 abbrev pub WalkItem : Type 0
 WalkItem = Item Bound Stopped
@@ -22,10 +27,10 @@ WalkItem = Item Bound Stopped
 -- ---- lists of items seen from an outer list
 
 pub within-below : {X F : Type 0} (i : ℕ) (q : Place) (b : List X) (ys : List (Item X F)) → map (below (i ∷ q) b) ys ≡ map (within i) (map (below q b) ys)
-within-below i q b ys = sym (map-both (within i) (below q b) ys)
+within-below i q b ys = sym (map-map (within i) (below q b) ys)
 
 below-within : {X F : Type 0} (i : ℕ) (b : List X) (ys : List (Item X F)) → map (below [] b) (map (within i) ys) ≡ map (within i) (map (below [] b) ys)
-below-within i b ys = map-both (below [] b) (within i) ys ∙ sym (map-both (within i) (below [] b) ys)
+below-within i b ys = map-map (below [] b) (within i) ys ∙ sym (map-map (within i) (below [] b) ys)
 
 replaced-within : {X F : Type 0} (ys : List (Item X F)) (i : ℕ) (q : Place) (k : Kind X F) → replaced ys (i ∷ q) k ≡ map (within i) (replaced ys q k)
 replaced-within ys i q (ends b) = within-below i q b ys
@@ -155,16 +160,6 @@ abbrev pub StartsFrom : ℕ → Place → Type 0
 StartsFrom i [] = ⊥
 StartsFrom i (j ∷ q) = i ≤ j
 
-pub eqb-differs : (i j : ℕ) → suc i ≤ j → (i == j) ≡ false
-eqb-differs i j h = by (i == j) refl
-  where
-    by : (b : Bool) → (i == j) ≡ b → (i == j) ≡ false
-    by false e = e
-    by true e = absurd (less i j (eqb-true i j e) h)
-      where
-        less : (i j : ℕ) → i ≡ j → suc i ≤ j → ⊥
-        less i j e h = omega arith
-
 pub eqb-differs_back : (i j : ℕ) → suc i ≤ j → (j == i) ≡ false
 eqb-differs_back i j h = by (j == i) refl
   where
@@ -197,10 +192,10 @@ module _ {X F : Type 0} (c : ℕ) where
     where
       by : (q : Place) (l : Kind X F) → StartsFrom (suc i) q → if_so (same_place (i ∷ x.place) (take (suc c) q)) (item q (met x.kind l)) ≡ []
       by [] l s = absurd s
-      by (j ∷ q) l s = ap (λ b. if_so (b && same_place x.place (take c q)) (item (j ∷ q) (met x.kind l))) (eqb-differs i j s)
+      by (j ∷ q) l s = ap (λ b. if_so (b && same_place x.place (take c q)) (item (j ∷ q) (met x.kind l))) (less-unequal i j s)
 
   later-meets_none : (i : ℕ) (x : Item X F) (ys : List (Item X F)) → StartsFrom (suc i) x.place → MeetsNone (take (suc c)) (map (within i) ys) x
-  later-meets_none i x ys s = flat-map (meet (take (suc c)) x) (within i) ys ∙ flat-nothing (λ y. meet (take (suc c)) x (within i y)) ys (each-all (λ y. meet (take (suc c)) x (within i y) ≡ []) (λ y. by x.place s y) ys)
+  later-meets_none i x ys s = flat_map-map (meet (take (suc c)) x) (within i) ys ∙ flat-nothing (λ y. meet (take (suc c)) x (within i y)) ys (each-all (λ y. meet (take (suc c)) x (within i y) ≡ []) (λ y. by x.place s y) ys)
     where
       by : (q : Place) → StartsFrom (suc i) q → (y : Item X F) → if_so (same_place q (i ∷ take c y.place)) (item (i ∷ y.place) (met x.kind y.kind)) ≡ []
       by [] s y = absurd s
@@ -209,7 +204,7 @@ module _ {X F : Type 0} (c : ℕ) where
   -- what stands in two lists at the same index
   joined-within : (i : ℕ) (xs ys : List (Item X F)) → joined_items (take (suc c)) (map (within i) xs) (map (within i) ys) ≡ map (within i) (joined_items (take c) xs ys)
   joined-within i xs ys =
-      flat-map (λ x. flat_map (meet (take (suc c)) x) (map (within i) ys)) (within i) xs
+      flat_map-map (λ x. flat_map (meet (take (suc c)) x) (map (within i) ys)) (within i) xs
       ∙ flat-same (λ x. flat_map (meet (take (suc c)) (within i x)) (map (within i) ys)) (λ x. map (within i) (flat_map (meet (take c) x) ys)) one xs
       ∙ sym (map-flat (within i) (λ x. flat_map (meet (take c) x) ys) xs)
     where
@@ -219,7 +214,7 @@ module _ {X F : Type 0} (c : ℕ) where
           ∙ sym (map-if (within i) (same_place x.place (take c y.place)) (item y.place (met x.kind y.kind)))
 
       one : (x : Item X F) → flat_map (meet (take (suc c)) (within i x)) (map (within i) ys) ≡ map (within i) (flat_map (meet (take c) x) ys)
-      one x = flat-map (meet (take (suc c)) (within i x)) (within i) ys ∙ flat-same (λ y. meet (take (suc c)) (within i x) (within i y)) (λ y. map (within i) (meet (take c) x y)) (pair x) ys ∙ sym (map-flat (within i) (meet (take c) x) ys)
+      one x = flat_map-map (meet (take (suc c)) (within i x)) (within i) ys ∙ flat-same (λ y. meet (take (suc c)) (within i x) (within i y)) (λ y. map (within i) (meet (take c) x y)) (pair x) ys ∙ sym (map-flat (within i) (meet (take c) x) ys)
 
 module _ (known : Origin → Bool) where
   pub from-starts : (i : ℕ) (ts : Iterations) → Each (λ (y : WalkItem). StartsFrom i y.place) (known_from known i ts)

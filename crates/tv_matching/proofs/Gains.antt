@@ -2,6 +2,7 @@
 use Rattle.std.specs.Prelude.{◌≡◌, refl, ℕ, ◌+◌, List, ◌++◌, flat_map, length, IsPermutation}
 use Rattle.std.proofs.Common.{arith, sym, ap, subst, ◌∙◌, append_assoc, length-append}
 use Rattle.std.proofs.lemmas.List.Sorted.{IsPermutation-refl, IsPermutation-trans, IsPermutation-append, IsPermutation-map, length_permutation}
+use Rattle.std.proofs.lemmas.List.{map-append}
 use Rattle.tv_value.specs.Nested.{Place}
 use Rattle.tv_value.specs.Values.{Name}
 use Rattle.tv_value.specs.Orders.{same_name}
@@ -9,7 +10,7 @@ use Rattle.tv_value.specs.Strategies.{Strategy, port, cross, dot, Strategies, no
 use Rattle.tv_matching.specs.Items.{Kind, ends, closes, passes, Item, if_so}
 use Rattle.tv_matching.specs.Matched.{below, replaced, replaced_below, crossed_items, below_jobs, meet, joined_items, same, matched, matched_cross, matched_dot, gained, gained_cross, gained_dot}
 use Rattle.tv_matching.specs.Tellings.{Telling, told_of, after, added_by, room_for}
-use Rattle.tv_matching.proofs.Lists.{map-append, flat-append, flat-same}
+use Rattle.tv_matching.proofs.Lists.{flat-append, flat-same}
 use Rattle.tv_matching.proofs.Permutes.{perm-from, crosswise, two-parts, flat-each_permutes, flat-permutes}
 
 module _ {X F : Type 0} where

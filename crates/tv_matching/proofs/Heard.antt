@@ -2,6 +2,9 @@
 use Rattle.std.specs.Prelude.{◌≡◌, refl, ℕ, zero, suc, ◌+◌, ◌-◌, ◌≤◌, ◌<◌, Bool, true, false, ◌&&◌, List, [], ◌∷◌, ◌++◌, map, length, take, Option, Some, None, option_map, option_and_then, IsPermutation}
 use Rattle.std.proofs.Common.{arith, sym, ap, subst, ◌∙◌, inl, inr, append_assoc, append-nil, length-append}
 use Rattle.std.proofs.lemmas.List.Sorted.{IsPermutation-refl, IsPermutation-sym, IsPermutation-trans, IsPermutation-cons, IsPermutation-middle}
+use Rattle.std.proofs.lemmas.List.{length-map}
+use Rattle.std.proofs.lemmas.Option.{same_Some}
+use Rattle.std.proofs.lemmas.List.Folds.{flat_map-map}
 use Rattle.tv_value.specs.Nested.{leaf, list, Trees, no_trees, tree, Place, count, note, notes, all_notes, at, item_at}
 use Rattle.tv_value.specs.Values.{Name, Scalar, text, fault, Value}
 use Rattle.tv_value.specs.Orders.{same_name}
@@ -18,7 +21,7 @@ use Rattle.tv_matching.specs.Items.{ends, closes, passes, Item, item, if_so, kin
 use Rattle.tv_matching.specs.Members.{In, at_place, Once}
 use Rattle.tv_matching.specs.Tellings.{Telling}
 use Rattle.tv_matching.specs.Told.{Spot, Told, arrival, faulty, close, told_leaf, told_place, telling, tellings, told_to, matched_after, value_there, stop_of, seen, bound_there, stop_there, IsTrueOf, IsThere, IsFaultThere, IsListThere, labelled, some, is_told, node_told}
-use Rattle.tv_matching.proofs.Lists.{flat-map, flat-same, map-flat, map-if}
+use Rattle.tv_matching.proofs.Lists.{flat-same, map-flat, map-if}
 use Rattle.tv_matching.proofs.OfMembers.{in-map, of-map, in-flat, of-flat, in-if, of-if, each-in, in-permutes}
 use Rattle.tv_matching.proofs.FromScratch.{WalkItem, known-more}
 use Rattle.tv_matching.proofs.Nodes.{of-known, in-known, IsNodeOf, node-stands, node-in}
@@ -28,7 +31,7 @@ use Rattle.tv_matching.proofs.Matches.{matched-known}
 
 -- ---- lists with no place twice that have the same items
 
-some-long : {A : Type 0} (x : A) (xs : List A) → In x xs → 1 ≤ length xs
+pub some-long : {A : Type 0} (x : A) (xs : List A) → In x xs → 1 ≤ length xs
 some-long x [] h = absurd h
 some-long x (y ∷ xs) h = omega arith
 
@@ -76,19 +79,12 @@ module _ {X F : Type 0} where
 
 -- ---- where a walk leads
 
-some-same : {A : Type 0} (x y : A) → Some x ≡ Some y → x ≡ y
-some-same {A} x y e = ap or_x e
-  where
-    or_x : Option A → A
-    or_x None = x
-    or_x (Some z) = z
-
 reaches-item : (p : Name) (k m : ℕ) (q : Place) (u : Traced) → ((v : Traced) → at v q ≡ Some u → at (walk p k v) q ≡ Some (walk p m u)) → (o : Option Traced) → option_and_then (λ v. at v q) o ≡ Some u → option_and_then (λ t. at t q) (option_map (walk p k) o) ≡ Some (walk p m u)
 reaches-item p k m q u rec None h = absurd (cc)
 reaches-item p k m q u rec (Some v) h = rec v h
 
 pub walk-reaches : (p : Name) (q : Place) (k m : ℕ) (v u : Traced) → k ≡ length q + m → at v q ≡ Some u → at (walk p k v) q ≡ Some (walk p m u)
-walk-reaches p [] k m v u e h = ap (λ n. Some (walk p n v)) (same k m e) ∙ ap (λ w. Some (walk p m w)) (some-same v u h)
+walk-reaches p [] k m v u e h = ap (λ n. Some (walk p n v)) (same k m e) ∙ ap (λ w. Some (walk p m w)) (same_Some v u h)
   where
     same : (k m : ℕ) → k ≡ 0 + m → k ≡ m
     same k m e = omega arith
@@ -116,7 +112,7 @@ reached-item p k i q w rec (Some v) h = let r = rec v h in record { value = r.va
     more k n m e = omega arith
 
 pub walk-comes : (p : Name) (q : Place) (k : ℕ) (v : Traced) (w : Iteration) → at (walk p k v) q ≡ Some w → Reached p k q (at v q) w
-walk-comes p [] k v w h = record { value = v; left = k; levels = from_zero k; there = refl; is = sym (some-same (walk p k v) w h) }
+walk-comes p [] k v w h = record { value = v; left = k; levels = from_zero k; there = refl; is = sym (same_Some (walk p k v) w h) }
   where
     from_zero : (k : ℕ) → k ≡ 0 + k
     from_zero k = omega arith
@@ -153,7 +149,7 @@ at-input p (i ∷ q) r (list n vs) =
 
 input-there : (p : Name) (q : Place) (o : Option Value) (u : Traced) → option_map (input_value p q) o ≡ Some u → (v : Value) × (u ≡ input_value p q v)
 input-there p q None u h = absurd (cc)
-input-there p q (Some v) u h = (v, sym (some-same (input_value p q v) u h))
+input-there p q (Some v) u h = (v, sym (same_Some (input_value p q v) u h))
 
 take-front : (q s : Place) (k : ℕ) → k ≡ length q + 0 → take k (q ++ s) ≡ q
 take-front [] s zero e = refl
@@ -273,10 +269,6 @@ of-some : {A : Type 0} (xs : List A) → some xs ≡ true → (x : A) × In x xs
 of-some [] h = absurd (cc)
 of-some (x ∷ xs) h = (x, inl refl)
 
-length-map : {A B : Type 0} (f : A → B) (xs : List A) → length (map f xs) ≡ length xs
-length-map f [] = refl
-length-map f (x ∷ xs) = ap suc (length-map f xs)
-
 module _ (values : Name → Value) (mismatch : Name → ℕ) (ts : List Told) (true_of : Each (IsTrueOf (labelled values) mismatch) ts) where
   -- an item that was told of a leaf is one of these tellings
   record Source (p : Name) (x : Item Spot Spot) : Type 0 where
@@ -328,7 +320,7 @@ module _ (values : Name → Value) (mismatch : Name → ℕ) (ts : List Told) (t
       let s = of-if (same_place n.item.place r.0.place) r.0 x.0 r.2 in
       let place : n.item.place ≡ r.0.place = same-equal n.item.place r.0.place s.0 in
       let d = placed p r.0 r.1 in
-      let found : d.found ≡ w = some-same d.found w (sym d.there ∙ ap (at (walks mismatch (labelled values) p)) (sym place) ∙ e) in
+      let found : d.found ≡ w = same_Some d.found w (sym d.there ∙ ap (at (walks mismatch (labelled values) p)) (sym place) ∙ e) in
       subst (λ z. In z (map (seen (labelled values)) (told_to ts p))) (d.as_told ∙ ap (λ q. item q (kind_of d.found)) (sym place) ∙ ap (λ u. item n.item.place (kind_of u)) found ∙ sym (ap (λ (m : Node). m.item) i)) (in-map (seen (labelled values)) r.0 (told_to ts p) r.1)
 
   known-seen : (p : Name) (y : WalkItem) → In y (known_items (node_told mismatch ts) (walks mismatch (labelled values) p)) → In y (map (seen (labelled values)) (told_to ts p))
@@ -338,8 +330,8 @@ module _ (values : Name → Value) (mismatch : Name → ℕ) (ts : List Told) (t
 
   seen-once : (xs : List (Item Spot Spot)) → Once xs → Once (map (seen (labelled values)) xs)
   seen-once xs o q =
-      subst (λ l. length l ≤ 1) (sym (flat-map (λ x. if_so (same_place q x.place) x) (seen (labelled values)) xs ∙ flat-same (λ x. if_so (same_place q x.place) (seen (labelled values) x)) (λ x. map (seen (labelled values)) (if_so (same_place q x.place) x)) (λ x. sym (map-if (seen (labelled values)) (same_place q x.place) x)) xs ∙ sym (map-flat (seen (labelled values)) (λ x. if_so (same_place q x.place) x) xs)))
-      (subst (λ n. n ≤ 1) (sym (length-map (seen (labelled values)) (at_place q xs))) (o q))
+      subst (λ l. length l ≤ 1) (sym (flat_map-map (λ x. if_so (same_place q x.place) x) (seen (labelled values)) xs ∙ flat-same (λ x. if_so (same_place q x.place) (seen (labelled values) x)) (λ x. map (seen (labelled values)) (if_so (same_place q x.place) x)) (λ x. sym (map-if (seen (labelled values)) (same_place q x.place) x)) xs ∙ sym (map-flat (seen (labelled values)) (λ x. if_so (same_place q x.place) x) xs)))
+      (subst (λ n. n ≤ 1) (sym (length-map (at_place q xs) (seen (labelled values)))) (o q))
 
   module _ (once : (p : Name) → Once (told_to ts p)) where
     pub leaf-agrees : (p : Name) → IsPermutation (map (seen (labelled values)) (told_to ts p)) (known_items (node_told mismatch ts) (walks mismatch (labelled values) p))

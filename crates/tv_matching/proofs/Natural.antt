@@ -1,6 +1,9 @@
 -- Matching looks at places and kinds alone: it may be done before or after what is bound is changed.
 use Rattle.std.specs.Prelude.{◌≡◌, refl, List, ◌++◌, map, flat_map}
 use Rattle.std.proofs.Common.{sym, ap, ◌∙◌}
+use Rattle.std.proofs.lemmas.Simd.{map-map}
+use Rattle.std.proofs.lemmas.List.{map-append}
+use Rattle.std.proofs.lemmas.List.Folds.{flat_map-map}
 use Rattle.tv_value.specs.Nested.{Place}
 use Rattle.tv_value.specs.Values.{Name}
 use Rattle.tv_value.specs.Strategies.{Strategy, port, cross, dot, Strategies, no_strategies, strategy}
@@ -8,7 +11,7 @@ use Rattle.tv_strategy.specs.Splits.{same_place}
 use Rattle.tv_matching.specs.Items.{Kind, ends, closes, passes, Item, item, if_so}
 use Rattle.tv_matching.specs.Matched.{bound, below, replaced, crossed_items, met, meet, joined_items, same, matched, matched_cross, matched_dot}
 use Rattle.tv_matching.specs.Told.{map_kind, map_item}
-use Rattle.tv_matching.proofs.Lists.{map-append, map-same, map-both, flat-same, flat-map, map-flat, map-if}
+use Rattle.tv_matching.proofs.Lists.{map-same, flat-same, map-flat, map-if}
 
 module _ {X F Y G : Type 0} (f : X → Y) (g : F → G) where
   bound-maps : (b : List X) (k : Kind X F) → bound (map f b) (map_kind f g k) ≡ map_kind f g (bound b k)
@@ -18,13 +21,13 @@ module _ {X F Y G : Type 0} (f : X → Y) (g : F → G) where
 
   replaced-maps : (ys : List (Item X F)) (q : Place) (k : Kind X F) → replaced (map (map_item f g) ys) q (map_kind f g k) ≡ map (map_item f g) (replaced ys q k)
   replaced-maps ys q (ends b) =
-      map-both (below q (map f b)) (map_item f g) ys ∙ map-same (λ y. below q (map f b) (map_item f g y)) (λ y. map_item f g (below q b y)) (λ y. ap (λ k. item (q ++ y.place) k) (bound-maps b y.kind)) ys ∙ sym (map-both (map_item f g) (below q b) ys)
+      map-map (below q (map f b)) (map_item f g) ys ∙ map-same (λ y. below q (map f b) (map_item f g y)) (λ y. map_item f g (below q b y)) (λ y. ap (λ k. item (q ++ y.place) k) (bound-maps b y.kind)) ys ∙ sym (map-map (map_item f g) (below q b) ys)
   replaced-maps ys q (closes n) = refl
   replaced-maps ys q (passes e) = refl
 
   pub crossed-maps : (xs ys : List (Item X F)) → crossed_items (map (map_item f g) xs) (map (map_item f g) ys) ≡ map (map_item f g) (crossed_items xs ys)
   crossed-maps xs ys =
-      flat-map (λ x. replaced (map (map_item f g) ys) x.place x.kind) (map_item f g) xs
+      flat_map-map (λ x. replaced (map (map_item f g) ys) x.place x.kind) (map_item f g) xs
       ∙ flat-same (λ x. replaced (map (map_item f g) ys) x.place (map_kind f g x.kind)) (λ x. map (map_item f g) (replaced ys x.place x.kind)) (λ x. replaced-maps ys x.place x.kind) xs
       ∙ sym (map-flat (map_item f g) (λ x. replaced ys x.place x.kind) xs)
 
@@ -41,8 +44,8 @@ module _ {X F Y G : Type 0} (f : X → Y) (g : F → G) where
 
   pub joined-maps : (key : Place → Place) (xs ys : List (Item X F)) → joined_items key (map (map_item f g) xs) (map (map_item f g) ys) ≡ map (map_item f g) (joined_items key xs ys)
   joined-maps key xs ys =
-      flat-map (λ x. flat_map (meet key x) (map (map_item f g) ys)) (map_item f g) xs
-      ∙ flat-same (λ x. flat_map (meet key (map_item f g x)) (map (map_item f g) ys)) (λ x. map (map_item f g) (flat_map (meet key x) ys)) (λ x. flat-map (meet key (map_item f g x)) (map_item f g) ys ∙ flat-same (λ y. meet key (map_item f g x) (map_item f g y)) (λ y. map (map_item f g) (meet key x y)) (meet-maps key x) ys ∙ sym (map-flat (map_item f g) (meet key x) ys)) xs
+      flat_map-map (λ x. flat_map (meet key x) (map (map_item f g) ys)) (map_item f g) xs
+      ∙ flat-same (λ x. flat_map (meet key (map_item f g x)) (map (map_item f g) ys)) (λ x. map (map_item f g) (flat_map (meet key x) ys)) (λ x. flat_map-map (meet key (map_item f g x)) (map_item f g) ys ∙ flat-same (λ y. meet key (map_item f g x) (map_item f g y)) (λ y. map (map_item f g) (meet key x y)) (meet-maps key x) ys ∙ sym (map-flat (map_item f g) (meet key x) ys)) xs
       ∙ sym (map-flat (map_item f g) (λ x. flat_map (meet key x) ys) xs)
 
   module _ (told : Name → List (Item X F)) where

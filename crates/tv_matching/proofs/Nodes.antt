@@ -1,12 +1,13 @@
 -- The known items of an iteration are those of its nodes whose sources are known; its nodes are what stands at its places, each place once.
 use Rattle.std.specs.Prelude.{◌≡◌, refl, ℕ, zero, suc, ◌+◌, Bool, true, false, ◌⊎◌, List, [], ◌∷◌, ◌++◌, map, flat_map, Option, Some, None, option_and_then}
 use Rattle.std.proofs.Common.{arith, sym, ap, subst, ◌∙◌, inl, inr}
+use Rattle.std.proofs.lemmas.List.Folds.{flat_map-map}
 use Rattle.tv_value.specs.Nested.{leaf, list, no_trees, tree, Place, count, at, item_at}
 use Rattle.tv_strategy.specs.Origins.{Origin}
 use Rattle.tv_strategy.specs.Iterations.{Iteration, Iterations}
 use Rattle.tv_matching.specs.Items.{closes, end_kind, within, here, if_so, Node, node_at, inside, nodes_of, nodes_from, all_known, known_items, known_from}
 use Rattle.tv_matching.specs.Members.{In}
-use Rattle.tv_matching.proofs.Lists.{flat-append, flat-same, flat-map, map-flat, map-if}
+use Rattle.tv_matching.proofs.Lists.{flat-append, flat-same, map-flat, map-if}
 use Rattle.tv_matching.proofs.OfMembers.{in-left, in-right, in-append, in-map, of-map, in-flat, of-flat, in-if, of-if}
 use Rattle.tv_matching.proofs.FromScratch.{WalkItem}
 
@@ -16,7 +17,7 @@ module _ (known : Origin → Bool) where
 
   inside-known : (i : ℕ) (ns : List Node) → map (within i) (flat_map if_known ns) ≡ flat_map if_known (map (inside i) ns)
   inside-known i ns =
-      map-flat (within i) if_known ns ∙ flat-same (λ n. map (within i) (if_known n)) (λ n. if_known (inside i n)) (λ n. map-if (within i) (all_known known n.sources) n.item) ns ∙ sym (flat-map if_known (inside i) ns)
+      map-flat (within i) if_known ns ∙ flat-same (λ n. map (within i) (if_known n)) (λ n. if_known (inside i n)) (λ n. map-if (within i) (all_known known n.sources) n.item) ns ∙ sym (flat_map-map if_known (inside i) ns)
 
   one : (b : Bool) (x : WalkItem) → if_so b x ≡ if_so b x ++ []
   one true x = refl

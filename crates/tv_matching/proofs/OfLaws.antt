@@ -2,6 +2,7 @@
 use Rattle.std.specs.Prelude.{◌≡◌, refl, ℕ, zero, suc, ◌+◌, ◌≤◌, Bool, true, false, List, [], ◌∷◌, ◌++◌, length, Option, Some, None, IsPermutation}
 use Rattle.std.proofs.Common.{arith, sym, ap, subst, ◌∙◌, append-nil}
 use Rattle.std.proofs.lemmas.List.Sorted.{IsPermutation-map}
+use Rattle.std.proofs.lemmas.List.{map-append}
 use Rattle.tv_value.specs.Nested.{leaf, list, Trees, no_trees, tree, Place, at}
 use Rattle.tv_value.specs.Values.{Name, Scalar, Value, HasDepth, AllHaveDepth}
 use Rattle.tv_value.specs.Orders.{same_name}
@@ -11,13 +12,14 @@ use Rattle.tv_strategy.specs.Splits.{same_place}
 use Rattle.tv_strategy.specs.Sources.{Each}
 use Rattle.tv_strategy.proofs.AtDepth.{walk-levels}
 use Rattle.tv_strategy.proofs.OfPlaces.{same-equal}
+use Rattle.tv_strategy.proofs.OfSources.{each-append}
 use Rattle.tv_matching.specs.Items.{Item, node_at, if_so}
 use Rattle.tv_matching.specs.Levels.{KindAt, AreLeveled}
 use Rattle.tv_matching.specs.Members.{at_place}
 use Rattle.tv_matching.specs.Tellings.{told_of, after, room_for}
 use Rattle.tv_matching.specs.Told.{Spot, Told, arrival, faulty, close, told_leaf, told_place, told_kind, telling, tellings, told_to, matched_after, added_after, IsFit, labelled}
 use Rattle.tv_matching.specs.Stated.{MatchesKnown, MatchesOnlyKnown, MatchesAllKnown, NodesStand, PlacesHaveNodes, MatchesWhatWasTold, MatchesOnce, NewIsOnce, TellingsAdd, TellingsCount, TellingsInAnyOrder, StoreIsMatched, StoreStarts, StoreGrows, StoreWorks, CrossOfOne, CrossesNest}
-use Rattle.tv_matching.proofs.Lists.{map-append, flat-append, each-append}
+use Rattle.tv_matching.proofs.Lists.{flat-append}
 use Rattle.tv_matching.proofs.Gains.{told-append, after-more, after-counts, room-parts, after-permutes}
 use Rattle.tv_matching.proofs.OfStores.{items-for, for-empty, empty-is, grown-is, items-gain, worked-is, worked-permutes, cross-of_one, crossed-thrice}
 use Rattle.tv_matching.specs.Stores.{store_for}
@@ -78,7 +80,7 @@ told-leveled mismatch (t ∷ ts) h p = each-append (λ x. KindAt (mismatch p) x.
 pub matches-once : MatchesOnce
 matches-once mismatch ts fit once s a = (matched-once mismatch (told_to ts) (told-leveled mismatch ts fit) once s a, matched-leveled mismatch (told_to ts) (told-leveled mismatch ts fit) s a)
 
-told-more : (ts more : List Told) (p : Name) → told_to (ts ++ more) p ≡ told_to ts p ++ told_to more p
+pub told-more : (ts more : List Told) (p : Name) → told_to (ts ++ more) p ≡ told_to ts p ++ told_to more p
 told-more ts more p = ap (λ l. told_of l p) (map-append telling ts more) ∙ told-append (tellings ts) (tellings more) p
 
 pub new-is_once : NewIsOnce

@@ -2,6 +2,8 @@
 use Rattle.std.specs.Prelude.{◌≡◌, refl, ℕ, ◌+◌, true, false, List, [], ◌∷◌, ◌++◌, map, flat_map, length, Option, Some, None, option_map, IsPermutation}
 use Rattle.std.proofs.Common.{arith, sym, ap, subst, ◌∙◌, append_assoc, length-append}
 use Rattle.std.proofs.lemmas.List.Sorted.{IsPermutation-refl, IsPermutation-sym, IsPermutation-trans, IsPermutation-append_left, IsPermutation-map, length_permutation}
+use Rattle.std.proofs.lemmas.Simd.{map-map}
+use Rattle.std.proofs.lemmas.List.{map-append}
 use Rattle.tv_value.specs.Nested.{leaf, list, Place, at}
 use Rattle.tv_value.specs.Values.{Name, text, fault, Value}
 use Rattle.tv_value.specs.Orders.{same_name}
@@ -12,13 +14,14 @@ use Rattle.tv_strategy.specs.Conditions.{number_of}
 use Rattle.tv_strategy.specs.Measures.{leaf_names}
 use Rattle.tv_strategy.specs.Splits.{same_place}
 use Rattle.tv_strategy.specs.Sources.{Each}
+use Rattle.tv_strategy.proofs.OfSources.{each-append}
 use Rattle.tv_matching.specs.Items.{Kind, ends, closes, passes, Item, item, if_so, known_items}
 use Rattle.tv_matching.specs.Members.{at_place}
 use Rattle.tv_matching.specs.Matched.{bound, below, replaced, crossed_items, met, meet, joined_items, same, matched, matched_cross, matched_dot}
 use Rattle.tv_matching.specs.Tellings.{Telling}
 use Rattle.tv_matching.specs.Told.{Spot, Told, arrival, faulty, close, told_leaf, told_place, told_kind, telling, tellings, told_to, matched_after, added_after, IsFit, seen, stop_there, stop_of, labelled, node_told, IsTrueOf, IsFaultThere}
 use Rattle.tv_matching.specs.Matchers.{Outcome, fault_at, leaf_number, kind_out, out, all_out, Matching, AreMatching, CanTellAll, IsTold, mark_number, node_out, OutIsKnown, StartIsMatching, TellingIsMatching, GivesOnlyRest}
-use Rattle.tv_matching.proofs.Lists.{map-append, map-both, each-append, each-map, each-weaken, each-if}
+use Rattle.tv_matching.proofs.Lists.{each-map, each-weaken, each-if}
 use Rattle.tv_matching.proofs.Permutes.{perm-from, flat-permutes}
 use Rattle.tv_matching.proofs.OfMembers.{each-permutes}
 use Rattle.tv_matching.proofs.Onces.{each-flat, once-permutes}
@@ -78,7 +81,7 @@ module _ {X F : Type 0} (Q : F → Type 0) where
 
 -- ---- the leaf of a passed fault
 
-map-each : {A B : Type 0} (f g : A → B) (xs : List A) → Each (λ x. f x ≡ g x) xs → map f xs ≡ map g xs
+pub map-each : {A B : Type 0} (f g : A → B) (xs : List A) → Each (λ x. f x ≡ g x) xs → map f xs ≡ map g xs
 map-each f g [] h = refl
 map-each f g (x ∷ xs) h = ap (λ y. y ∷ map f xs) h.0 ∙ ap (λ l. g x ∷ l) (map-each f g xs h.1)
 
@@ -118,7 +121,7 @@ module _ (s : Strategy) (values : Name → Value) (mismatch : Name → ℕ) wher
   outs-seen : (ts : List Told) → Each (IsTrueOf (labelled values) mismatch) ts → map (out s) (matched_after s ts) ≡ map (node_out s) (map (seen (labelled values)) (matched_after s ts))
   outs-seen ts h =
       map-each (out s) (λ x. node_out s (seen (labelled values) x)) (matched_after s ts) (each-weaken (λ x. PassesHave NamesLeaf x.kind) (λ x. out s x ≡ node_out s (seen (labelled values) x)) (λ x k. out-seen x.place x.kind k) (matched_after s ts) (matched-have NamesLeaf (told_to ts) (all-name ts h) s))
-      ∙ sym (map-both (node_out s) (seen (labelled values)) (matched_after s ts))
+      ∙ sym (map-map (node_out s) (seen (labelled values)) (matched_after s ts))
 
 pub out-is_known : OutIsKnown
 out-is_known m h values deep holds =

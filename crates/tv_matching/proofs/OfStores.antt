@@ -2,6 +2,9 @@
 use Rattle.std.specs.Prelude.{◌≡◌, refl, ℕ, suc, ◌+◌, List, [], ◌∷◌, ◌++◌, map, flat_map, length, Option, None, IsPermutation}
 use Rattle.std.proofs.Common.{arith, sym, ap, subst, ◌∙◌, append_assoc, append-nil}
 use Rattle.std.proofs.lemmas.List.Sorted.{IsPermutation-refl, IsPermutation-sym, IsPermutation-trans, IsPermutation-append, IsPermutation-append_left, IsPermutation-append_right, IsPermutation-append_comm, IsPermutation-map}
+use Rattle.std.proofs.lemmas.Simd.{map-map}
+use Rattle.std.proofs.lemmas.List.Folds.{flat_map-map}
+use Rattle.tv_lemmas.proofs.Lists.{flat-flat}
 use Rattle.tv_value.specs.Nested.{Place}
 use Rattle.tv_value.specs.Values.{Name}
 use Rattle.tv_value.specs.Strategies.{Strategy, port, cross, dot, Strategies, no_strategies, strategy}
@@ -11,10 +14,9 @@ use Rattle.tv_matching.specs.Items.{Kind, ends, closes, passes, Item, item, if_s
 use Rattle.tv_matching.specs.Members.{at_place}
 use Rattle.tv_matching.specs.Matched.{bound, below, replaced, replaced_below, one_end, crossed_items, below_jobs, meet, joined_items, same, matched, matched_cross, matched_dot}
 use Rattle.tv_matching.specs.Stores.{Store, leaf_store, cross_store, dot_store, store_for, store_for_cross, crossed_with, store_for_dot, AreNumbered, is_job, only_jobs, items, IsStoreOf, latest_at, met_with, met_by_first, met_by_second, gain, grown, News, told_by, told_by_all, worked, worked_items}
-use Rattle.tv_matching.proofs.Lists.{map-same, map-both, flat-append, flat-none, flat-same, flat-map, map-flat, flat-single, map-if}
+use Rattle.tv_matching.proofs.Lists.{map-same, flat-append, flat-none, flat-same, map-flat, flat-single, map-if}
 use Rattle.tv_matching.proofs.Permutes.{perm-from, two-parts, flat-each_permutes, flat-permutes}
 use Rattle.tv_matching.proofs.Gains.{crossed-permutes, joined-permutes, crossed-gains, joined-gains}
-use Rattle.tv_matching.proofs.Onces.{flat-flat}
 use Rattle.tv_matching.proofs.Lookups.{same-flips}
 
 -- either list may be gone through first
@@ -36,13 +38,13 @@ module _ {X F : Type 0} where
   below-twice q r b c z = ap (λ s. item s (bound (b ++ c) z.kind)) (append_assoc q r z.place) ∙ ap (item (q ++ (r ++ z.place))) (bound-twice b c z.kind)
 
   replaced-inside : (zs : List (Item X F)) (q r : Place) (b : List X) (k : Kind X F) → replaced zs (q ++ r) (bound b k) ≡ map (below q b) (replaced zs r k)
-  replaced-inside zs q r b (ends c) = map-same (below (q ++ r) (b ++ c)) (λ z. below q b (below r c z)) (below-twice q r b c) zs ∙ sym (map-both (below q b) (below r c) zs)
+  replaced-inside zs q r b (ends c) = map-same (below (q ++ r) (b ++ c)) (λ z. below q b (below r c z)) (below-twice q r b c) zs ∙ sym (map-map (below q b) (below r c) zs)
   replaced-inside zs q r b (closes n) = refl
   replaced-inside zs q r b (passes f) = refl
 
   replaced-crossed : (ys zs : List (Item X F)) (q : Place) (k : Kind X F) → crossed_items (replaced ys q k) zs ≡ replaced (crossed_items ys zs) q k
   replaced-crossed ys zs q (ends b) =
-      flat-map (λ y. replaced zs y.place y.kind) (below q b) ys
+      flat_map-map (λ y. replaced zs y.place y.kind) (below q b) ys
       ∙ flat-same (λ y. replaced zs (q ++ y.place) (bound b y.kind)) (λ y. map (below q b) (replaced zs y.place y.kind)) (λ y. replaced-inside zs q y.place b y.kind) ys
       ∙ sym (map-flat (below q b) (λ y. replaced zs y.place y.kind) ys)
   replaced-crossed ys zs q (closes n) = refl

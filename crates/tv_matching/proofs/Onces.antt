@@ -3,6 +3,10 @@ use Rattle.std.specs.Prelude.{◌≡◌, refl, ℕ, zero, suc, ◌+◌, ◌≤�
 use Rattle.std.proofs.Common.{arith, sym, ap, subst, ◌∙◌, length-append, append-nil}
 use Rattle.std.proofs.lemmas.Bool.{eqb-true, eq-eqb}
 use Rattle.std.proofs.lemmas.List.Sorted.{length_permutation}
+use Rattle.std.proofs.lemmas.List.{length-map}
+use Rattle.std.proofs.lemmas.List.Folds.{flat_map-map}
+use Rattle.tv_lemmas.proofs.Lists.{flat-flat}
+use Rattle.tv_lemmas.proofs.Numbers.{less-unequal}
 use Rattle.tv_value.specs.Nested.{leaf, list, no_trees, tree, Place, count}
 use Rattle.tv_value.specs.Values.{Name}
 use Rattle.tv_value.specs.Strategies.{Strategy, port, cross, dot, Strategies, no_strategies, strategy}
@@ -12,21 +16,14 @@ use Rattle.tv_strategy.specs.Measures.{strategy_depth, sum_of_depths, first_dept
 use Rattle.tv_strategy.specs.Splits.{same_place}
 use Rattle.tv_strategy.specs.Sources.{Each}
 use Rattle.tv_strategy.proofs.OfPlaces.{same-equal, same-itself}
+use Rattle.tv_strategy.proofs.OfSources.{each-append}
 use Rattle.tv_matching.specs.Items.{Kind, ends, closes, passes, Item, item, Bound, Stopped, end_kind, within, here, if_so, all_known, known_items, known_from}
 use Rattle.tv_matching.specs.Members.{at_place, Once}
 use Rattle.tv_matching.specs.Levels.{KindAt, AreLeveled}
 use Rattle.tv_matching.specs.Matched.{bound, below, replaced, crossed_items, met, meet, joined_items, same, one_end, matched, matched_cross, matched_dot}
-use Rattle.tv_matching.proofs.Lists.{flat-append, flat-same, flat-map, map-flat, flat-nothing, map-if, each-weaken, each-all, each-map, each-append}
+use Rattle.tv_matching.proofs.Lists.{flat-append, flat-same, map-flat, flat-nothing, map-if, each-weaken, each-all, each-map}
 use Rattle.tv_matching.proofs.Permutes.{flat-permutes}
 use Rattle.tv_matching.proofs.FromScratch.{StartsFrom, from-starts}
-
-length-map : {A B : Type 0} (f : A → B) (xs : List A) → length (map f xs) ≡ length xs
-length-map f [] = refl
-length-map f (x ∷ xs) = ap suc (length-map f xs)
-
-pub flat-flat : {A B C : Type 0} (g : B → List C) (f : A → List B) (xs : List A) → flat_map g (flat_map f xs) ≡ flat_map (λ x. flat_map g (f x)) xs
-flat-flat g f [] = refl
-flat-flat g f (x ∷ xs) = flat-append g (f x) (flat_map f xs) ∙ ap (λ l. flat_map g (f x) ++ l) (flat-flat g f xs)
 
 flat-shorter : {A B C : Type 0} (f : A → List B) (g : A → List C) (xs : List A) → Each (λ x. length (f x) ≤ length (g x)) xs → length (flat_map f xs) ≤ length (flat_map g xs)
 flat-shorter f g [] h = omega arith
@@ -55,31 +52,21 @@ module _ {X F : Type 0} where
 
   at-within : (i : ℕ) (q : Place) (xs : List (Item X F)) → at_place (i ∷ q) (map (within i) xs) ≡ map (within i) (at_place q xs)
   at-within i q xs =
-      flat-map (λ x. if_so (same_place (i ∷ q) x.place) x) (within i) xs
+      flat_map-map (λ x. if_so (same_place (i ∷ q) x.place) x) (within i) xs
       ∙ flat-same (λ x. if_so ((i == i) && same_place q x.place) (within i x)) (λ x. map (within i) (if_so (same_place q x.place) x)) (λ x. ap (λ b. if_so (b && same_place q x.place) (within i x)) (eq-eqb i i refl) ∙ sym (map-if (within i) (same_place q x.place) x)) xs
       ∙ sym (map-flat (within i) (λ x. if_so (same_place q x.place) x) xs)
 
   at-other : (i j : ℕ) (q : Place) (xs : List (Item X F)) → (j == i) ≡ false → at_place (j ∷ q) (map (within i) xs) ≡ []
   at-other i j q xs h =
-      flat-map (λ x. if_so (same_place (j ∷ q) x.place) x) (within i) xs
+      flat_map-map (λ x. if_so (same_place (j ∷ q) x.place) x) (within i) xs
       ∙ flat-nothing (λ x. if_so ((j == i) && same_place q x.place) (within i x)) xs (each-all (λ x. if_so ((j == i) && same_place q x.place) (within i x) ≡ []) (λ x. ap (λ b. if_so (b && same_place q x.place) (within i x)) h) xs)
 
   at-none : (q : Place) (xs : List (Item X F)) → Each (λ x. same_place q x.place ≡ false) xs → at_place q xs ≡ []
   at-none q xs h = flat-nothing (λ x. if_so (same_place q x.place) x) xs (each-weaken (λ x. same_place q x.place ≡ false) (λ x. if_so (same_place q x.place) x ≡ []) (λ x e. ap (λ b. if_so b x) e) xs h)
 
-eqb-before : (i j : ℕ) → suc i ≤ j → (i == j) ≡ false
-eqb-before i j h = by (i == j) refl
-  where
-    by : (b : Bool) → (i == j) ≡ b → (i == j) ≡ false
-    by false e = e
-    by true e = absurd (less i j (eqb-true i j e) h)
-      where
-        less : (i j : ℕ) → i ≡ j → suc i ≤ j → ⊥
-        less i j e h = omega arith
-
 starts-other : (q p : Place) (i : ℕ) → StartsFrom (suc i) p → same_place (i ∷ q) p ≡ false
 starts-other q [] i h = refl
-starts-other q (j ∷ p) i h = ap (λ b. b && same_place q p) (eqb-before i j h)
+starts-other q (j ∷ p) i h = ap (λ b. b && same_place q p) (less-unequal i j h)
 
 starts-not_top : (p : Place) (i : ℕ) → StartsFrom i p → same_place [] p ≡ false
 starts-not_top [] i h = absurd h
@@ -114,7 +101,7 @@ module _ (known : Origin → Bool) where
             (subst (λ l. length (at_place (i ∷ q) (map (within i) (known_items known t)) ++ l) ≤ 1) (sym (at-none (i ∷ q) (known_from known (suc i) ts) (each-weaken (λ x. StartsFrom (suc i) x.place) (λ x. same_place (i ∷ q) x.place ≡ false) (λ x s. starts-other q x.place i s) (known_from known (suc i) ts) (from-starts known (suc i) ts))))
             (subst (λ l. length l ≤ 1) (sym (append-nil (at_place (i ∷ q) (map (within i) (known_items known t)))))
             (subst (λ l. length l ≤ 1) (sym (at-within i q (known_items known t)))
-            (subst (λ n. n ≤ 1) (sym (length-map (within i) (at_place q (known_items known t)))) h))))
+            (subst (λ n. n ≤ 1) (sym (length-map (at_place q (known_items known t)) (within i))) h))))
 
 -- ---- joins
 
@@ -183,7 +170,7 @@ module _ {X F : Type 0} where
   -- where a binding was added, at most what stood there
   below-few : (q p : Place) (c : ℕ) (b : List X) (ys : List (Item X F)) → Once ys → length p ≡ c → (g : Bool) → same_place (take c q) p ≡ g → (x : Item X F) → length (at_place q (map (below p b) ys)) ≤ length (if_so g x)
   below-few q p c b ys o l true e x =
-      subst (λ n. n ≤ 1) (sym (ap length (flat-map (λ y. if_so (same_place q y.place) y) (below p b) ys ∙ flat-same (λ y. if_so (same_place q (p ++ y.place)) (below p b y)) (λ y. map (below p b) (if_so (same_place (drop c q) y.place) y)) pair ys ∙ sym (map-flat (below p b) (λ y. if_so (same_place (drop c q) y.place) y) ys)) ∙ length-map (below p b) (at_place (drop c q) ys))) (o (drop c q))
+      subst (λ n. n ≤ 1) (sym (ap length (flat_map-map (λ y. if_so (same_place q y.place) y) (below p b) ys ∙ flat-same (λ y. if_so (same_place q (p ++ y.place)) (below p b y)) (λ y. map (below p b) (if_so (same_place (drop c q) y.place) y)) pair ys ∙ sym (map-flat (below p b) (λ y. if_so (same_place (drop c q) y.place) y) ys)) ∙ length-map (at_place (drop c q) ys) (below p b))) (o (drop c q))
     where
       whole : q ≡ p ++ drop c q
       whole = sym (take-drop c q) ∙ ap (λ r. r ++ drop c q) (same-equal (take c q) p e)

@@ -4,15 +4,16 @@ use Rattle.std.specs.List.{list_any}
 use Rattle.std.proofs.Common.{sym, ap, subst, ◌∙◌, inl, inr}
 use Rattle.std.proofs.lemmas.List.Folds.{list_any-append}
 use Rattle.std.specs.Cmp.Lexicographic.{bytes_decides}
+use Rattle.std.proofs.lemmas.Option.{same_Some}
 use Rattle.tv_value.specs.Nested.{leaf, list, no_trees, tree, Place, note, nodes, nodes_below, nodes_from}
 use Rattle.tv_value.specs.Values.{Name, JobName, Value}
 use Rattle.tv_value.specs.Orders.{same_name}
+use Rattle.tv_value.proofs.OfJobNames.{same_job_decides}
 use Rattle.tv_flow.specs.Flows.{Step}
 use Rattle.tv_strategy.specs.Origins.{Mark, Origin, Known, at_start, by_job, by_level, fixed, from_level, needs_of}
 use Rattle.tv_strategy.specs.Iterations.{job, passed, Iteration, Iterations}
 use Rattle.tv_strategy.specs.Measures.{strategy_depth}
 use Rattle.tv_strategy.specs.Sources.{AtNodes}
-use Rattle.tv_strategy.proofs.OfLists.{some-is}
 use Rattle.tv_strategy.proofs.OfSources.{each-append}
 use Rattle.tv_gate.specs.Outcomes.{Giving}
 use Rattle.tv_depths.specs.Delivered.{Delivered, StepMeaning}
@@ -23,7 +24,7 @@ use Rattle.tv_model.specs.Jobs.{Job, job_needs}
 use Rattle.tv_model.specs.Levels.{Level, level_at, levels}
 use Rattle.tv_model.specs.Made.{Meaning, Opened, Made, endings, result_of, delivered_outputs}
 use Rattle.tv_model.specs.Turns.{is_bounced, is_failed}
-use Rattle.tv_model.proofs.Tests.{Each, true≠false, or_right, same_job_decides}
+use Rattle.tv_model.proofs.Tests.{Each, true≠false, or_right}
 use Rattle.tv_model.proofs.Turns.{In, each-map, or_left}
 use Rattle.tv_model.proofs.Order.{in-left, in-right, in-append, in-map}
 use Rattle.tv_model.proofs.Fed.{each-flat_map, each-of_map, step_ports, step_iteration, StepHas, step_iteration-has, endings-have}
@@ -71,8 +72,8 @@ distinct-apart I (m ∷ ms) d =
 
 pub level-instance : (s : StepMeaning) (x : Place × Iteration) (l : Level) → level_at s x ≡ Some l → l.instance ≡ s.instance
 level-instance s (q, leaf r (job b)) l h = cc
-level-instance s (q, leaf r (passed m e)) l h = sym (ap (λ (v : Level). v.instance) (some-is _ l h))
-level-instance s (q, list r ts) l h = sym (ap (λ (v : Level). v.instance) (some-is _ l h))
+level-instance s (q, leaf r (passed m e)) l h = sym (ap (λ (v : Level). v.instance) (same_Some _ l h))
+level-instance s (q, list r ts) l h = sym (ap (λ (v : Level). v.instance) (same_Some _ l h))
 
 module _ (gives : Giving) (inside : Name → JobName → List (Name × Value) → Meaning) (I : JobName) (P : Meaning → JobName → Type 0) (inside_is : (f : Name) (n : JobName) (vs : List (Name × Value)) → P (inside f n vs) n) (D : ℕ → Type 0)
     (given : List (Name × Delivered)) (given_free : Each (λ d. AtNodes IsFree d.1.value) given) where

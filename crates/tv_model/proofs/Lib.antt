@@ -17,3 +17,4 @@ pub mod OfDepths
 pub mod ReadOff
 pub mod Ordered
 pub mod OfTotals
+pub mod OfMembers

@@ -7,6 +7,7 @@ use Rattle.tv_value.specs.Nested.{leaf, list, no_trees, tree, Place, nodes, node
 use Rattle.tv_value.specs.Values.{Name, JobName, Value, HasDepth}
 use Rattle.tv_value.specs.Orders.{same_name, same_job, named}
 use Rattle.tv_value.specs.Strategies.{Strategy}
+use Rattle.tv_value.proofs.OfJobNames.{same_job_decides}
 use Rattle.tv_flow.specs.Flows.{StepInput, Step, Flow}
 use Rattle.tv_strategy.specs.Origins.{Origin}
 use Rattle.tv_strategy.specs.Iterations.{Binding, job, passed, Iteration, Iterations, walk, iteration}
@@ -24,7 +25,7 @@ use Rattle.tv_model.specs.Instances.{node_jobs, job_on}
 use Rattle.tv_model.specs.Lists.{rest_of}
 use Rattle.tv_model.specs.Made.{Meaning, Opened, result_of, delivered_outputs}
 use Rattle.tv_model.specs.Members.{In}
-use Rattle.tv_model.proofs.Tests.{Each, true≠false, same_job_decides}
+use Rattle.tv_model.proofs.Tests.{Each, true≠false}
 use Rattle.tv_model.proofs.Fed.{either, each-flat_map}
 use Rattle.tv_model.proofs.Members.{in-flat}
 use Rattle.tv_model.proofs.Sound.{AllStand, AllStandFrom, StandsAt, all-stand, nodes-stand}

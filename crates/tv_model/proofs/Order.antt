@@ -7,6 +7,7 @@ use Rattle.std.proofs.lemmas.Grind.{flat_map-append}
 use Rattle.std.proofs.lemmas.List.{length-map}
 use Rattle.std.proofs.lemmas.List.Folds.{flat_map-map}
 use Rattle.std.proofs.lemmas.List.Sorted.{IsPermutation-refl, IsPermutation-append_right, IsPermutation-trans}
+use Rattle.tv_lemmas.proofs.Lists.{permute-front}
 use Rattle.tv_value.specs.Values.{JobName}
 use Rattle.tv_value.specs.Orders.{same_job}
 use Rattle.tv_dispatch.specs.Jobs.{Ask}
@@ -14,7 +15,7 @@ use Rattle.tv_model.specs.Made.{Opened, Made}
 use Rattle.tv_model.specs.Turns.{Turn, ask_order, asks_by_turns, bounced_first, is_bounced, job_turn}
 use Rattle.tv_model.specs.Jobs.{job_needs}
 use Rattle.tv_model.proofs.Tests.{Each, true≠false}
-use Rattle.tv_model.proofs.Turns.{In, turn_asks, HasRate, AllRated, turns-asks, front, each-map}
+use Rattle.tv_model.proofs.Turns.{In, turn_asks, HasRate, AllRated, turns-asks, each-map}
 use Rattle.tv_model.proofs.Earlier.{job_list, is_name_of, has_job, NeedEarlier}
 
 -- the turn of a job with what stands inside it, and the order of all
@@ -77,7 +78,7 @@ module _ (p : Opened → Bool) where
           subst (λ l. IsPermutation l (f o ++ flat_map f os)) (sym (append_assoc (f o) (flat_map f (filter p os)) (flat_map f (filter (λ o. not (p o)) os))))
           (IsPermutation-append_right (f o) (flat_map f (filter p os) ++ flat_map f (filter (λ o. not (p o)) os)) (flat_map f os) h)
       by false h =
-          IsPermutation-trans _ _ _ (front (flat_map f (filter p os)) (f o) (flat_map f (filter (λ o. not (p o)) os)))
+          IsPermutation-trans _ _ _ (permute-front (flat_map f (filter p os)) (f o) (flat_map f (filter (λ o. not (p o)) os)))
           (IsPermutation-append_right (f o) (flat_map f (filter p os) ++ flat_map f (filter (λ o. not (p o)) os)) (flat_map f os) h)
 
   pub parted-length : (os : List Opened) → length (filter p os) + length (filter (λ o. not (p o)) os) ≡ length os
@@ -111,9 +112,6 @@ module _ (p : Opened → Bool) where
       by true (inl e) rec = inl e
       by true (inr k) rec = inr (rec k)
       by false k rec = inr (rec k)
-
-pub length-of_map : {A B : Type 0} (f : A → B) (xs : List A) → length (map f xs) ≡ length xs
-length-of_map f xs = length-map xs f
 
 -- ---- every job can be taken
 
@@ -168,5 +166,5 @@ opened-asks ms e =
     let all = filter p os ++ filter (λ o. not (p o)) os in
     let f : Opened → List (JobName × Ask) = λ o. (turn_of o).asks in
     IsPermutation-trans _ _ _
-    (turns-asks (length os) [] (map turn_of all) (subst (λ n. n ≤ length os) (sym (length-of_map turn_of all ∙ length-append (filter p os) (filter (λ o. not (p o)) os) ∙ parted-length p os)) (omega arith)) (all_rated ms e))
+    (turns-asks (length os) [] (map turn_of all) (subst (λ n. n ≤ length os) (sym (length-map all turn_of ∙ length-append (filter p os) (filter (λ o. not (p o)) os) ∙ parted-length p os)) (omega arith)) (all_rated ms e))
     (subst (λ l. IsPermutation l (flat_map f os)) (sym (flat_map-map (λ t. t.asks) turn_of all ∙ flat_map-append f (filter p os) (filter (λ o. not (p o)) os))) (parted-asks p f os))

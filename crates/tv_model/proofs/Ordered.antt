@@ -1,9 +1,9 @@
 -- The order of one worker has the asks of all jobs, at any number of levels.
-use Rattle.std.specs.Prelude.{◌≡◌, refl, ℕ, zero, suc, List, [], ◌∷◌, ◌++◌, Option, Some, None, flat_map, IsPermutation}
+use Rattle.std.specs.Prelude.{refl, ℕ, zero, suc, List, [], ◌∷◌, Option, Some, None, flat_map, IsPermutation}
 use Rattle.std.specs.Option.{option_map_or}
-use Rattle.std.proofs.Common.{sym, ap, subst, ◌∙◌, inl, inr}
-use Rattle.std.proofs.lemmas.Grind.{flat_map-append}
+use Rattle.std.proofs.Common.{sym, subst, inl, inr}
 use Rattle.std.proofs.lemmas.List.Sorted.{IsPermutation-refl, IsPermutation-append_left, IsPermutation-append_right, IsPermutation-trans}
+use Rattle.tv_lemmas.proofs.Lists.{flat-flat}
 use Rattle.tv_value.specs.Values.{Name, JobName, Value}
 use Rattle.tv_flow.specs.Flows.{Flow}
 use Rattle.tv_gate.specs.Outcomes.{Giving}
@@ -27,10 +27,6 @@ flat-permuted f g (x ∷ xs) h =
     IsPermutation-trans _ _ _ (IsPermutation-append_left (flat_map f xs) (f x) (g x) (h x (inl refl)))
     (IsPermutation-append_right (g x) (flat_map f xs) (flat_map g xs) (flat-permuted f g xs (λ y i. h y (inr i))))
 
-flat-of_flat : {A B C : Type 0} (f : B → List C) (g : A → List B) (xs : List A) → flat_map f (flat_map g xs) ≡ flat_map (λ x. flat_map f (g x)) xs
-flat-of_flat f g [] = refl
-flat-of_flat f g (x ∷ xs) = flat_map-append f (g x) (flat_map g xs) ∙ ap (λ l. flat_map f (g x) ++ l) (flat-of_flat f g xs)
-
 module _ (gives : Giving) where
   -- the asks of a job and of what stands inside it
   turn-asks : (o : Opened) → InsideIs IsOrdered o.job o.inside → IsPermutation (turn_of o).asks (flat_map asks_of (jobs_with_inside o))
@@ -46,7 +42,7 @@ module _ (gives : Giving) where
       let os = job_list (steps_of gives inside I flow vs) in
       subst (λ l. IsPermutation l (flat_map asks_of (flat_map jobs_with_inside os))) (sym (instance-order gives inside read I flow vs))
       (IsPermutation-trans _ _ _ (order-asks gives inside I flow vs)
-      (subst (λ l. IsPermutation (flat_map (λ o. (turn_of o).asks) os) l) (sym (flat-of_flat asks_of jobs_with_inside os)) (flat-permuted (λ o. (turn_of o).asks) (λ o. flat_map asks_of (jobs_with_inside o)) os (λ o i. turn-asks o (formed.jobs o i).inside_it))))
+      (subst (λ l. IsPermutation (flat_map (λ o. (turn_of o).asks) os) l) (sym (flat-flat asks_of jobs_with_inside os)) (flat-permuted (λ o. (turn_of o).asks) (λ o. flat_map asks_of (jobs_with_inside o)) os (λ o i. turn-asks o (formed.jobs o i).inside_it))))
 
   pub flow-ordered : (flows : List (Name × Flow)) (depth : ℕ) (f : Name) (I : JobName) (vs : List (Name × Value)) → IsOrdered (flow_meaning gives flows depth f I vs) I
   flow-ordered flows zero f I vs = IsPermutation-refl []

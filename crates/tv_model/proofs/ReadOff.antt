@@ -4,9 +4,11 @@ use Rattle.std.specs.Option.{option_map_or}
 use Rattle.std.proofs.Common.{arith, sym, ap, ◌∙◌, inl, inr, append_assoc, append-nil, length-append}
 use Rattle.std.proofs.lemmas.List.{length-map, map-append}
 use Rattle.std.proofs.lemmas.List.Elements.{filter-append}
+use Rattle.tv_lemmas.proofs.Lists.{filter-map}
 use Rattle.tv_value.specs.Nested.{Place}
 use Rattle.tv_value.specs.Orders.{same_job}
 use Rattle.tv_value.specs.Values.{Name, JobName, Value}
+use Rattle.tv_value.proofs.OfJobNames.{same_job_decides}
 use Rattle.tv_flow.specs.Flows.{Flow}
 use Rattle.tv_gate.specs.Outcomes.{Giving}
 use Rattle.tv_depths.specs.Ranks.{ranked}
@@ -16,7 +18,6 @@ use Rattle.tv_model.specs.Jobs.{Job}
 use Rattle.tv_model.specs.Made.{Meaning, Opened}
 use Rattle.tv_model.specs.Meanings.{flow_meaning, instance_meaning, instances_inside, jobs_with_inside, no_meaning}
 use Rattle.tv_model.specs.Turns.{ask_order, asks_by_turns, bounced_first, is_bounced, job_turn, jobs_in, order_in}
-use Rattle.tv_model.proofs.Tests.{same_job_decides}
 use Rattle.tv_model.proofs.Turns.{In}
 use Rattle.tv_model.proofs.Order.{in-append, of-filter, opened_order, turn_of}
 use Rattle.tv_model.proofs.Fed.{each-all, named_map_or}
@@ -28,14 +29,6 @@ use Rattle.tv_model.proofs.Instances.{given-free, instance-formed, steps_of}
 use Rattle.tv_model.proofs.Whole.{AnyNumber, not-longer, same-head}
 
 -- ---- lists
-
-filter-of_map : {A B : Type 0} (p : B → Bool) (f : A → B) (xs : List A) → filter p (map f xs) ≡ map f (filter (λ x. p (f x)) xs)
-filter-of_map p f [] = refl
-filter-of_map p f (x ∷ xs) = by (p (f x)) (filter-of_map p f xs)
-  where
-    by : (b : Bool) → filter p (map f xs) ≡ map f (filter (λ y. p (f y)) xs) → cond b (f x ∷ filter p (map f xs)) (filter p (map f xs)) ≡ map f (cond b (x ∷ filter (λ y. p (f y)) xs) (filter (λ y. p (f y)) xs))
-    by true e = ap (λ l. f x ∷ l) e
-    by false e = e
 
 same-map : {A B C : Type 0} (g : B → C) (f : A → B) (h : A → C) (xs : List A) → ((x : A) → In x xs → g (f x) ≡ h x) → map g (map f xs) ≡ map h xs
 same-map g f h [] e = refl
@@ -198,8 +191,8 @@ module _ (I : JobName) where
 
           sorted : bounced_first (λ j. j) (map (λ o. o.job) os) ≡ map (λ o. o.job) (bounced_first (λ o. o.job) os)
           sorted =
-              ap (λ l. l ++ filter (λ (j : Job). not (is_bounced j.ending)) (map (λ o. o.job) os)) (filter-of_map (λ (j : Job). is_bounced j.ending) (λ (o : Opened). o.job) os)
-              ∙ ap (λ l. map (λ o. o.job) (filter p os) ++ l) (filter-of_map (λ (j : Job). not (is_bounced j.ending)) (λ (o : Opened). o.job) os)
+              ap (λ l. l ++ filter (λ (j : Job). not (is_bounced j.ending)) (map (λ o. o.job) os)) (filter-map (λ (j : Job). is_bounced j.ending) (λ (o : Opened). o.job) os)
+              ∙ ap (λ l. map (λ o. o.job) (filter p os) ++ l) (filter-map (λ (j : Job). not (is_bounced j.ending)) (λ (o : Opened). o.job) os)
               ∙ sym (map-append (λ o. o.job) (filter p os) (filter (λ u. not (p u)) os))
 
 -- ---- every flow

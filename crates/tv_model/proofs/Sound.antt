@@ -2,6 +2,7 @@
 use Rattle.std.specs.Prelude.{◌≡◌, refl, ℕ, suc, pred, ◌+◌, List, [], ◌∷◌, ◌++◌, map, false, Option, Some, None, option_and_then}
 use Rattle.std.proofs.Common.{arith, sym, ap, ◌∙◌}
 pub use Rattle.std.proofs.lemmas.List.{append_cancel_left as cancel}
+use Rattle.std.proofs.lemmas.Option.{same_Some}
 use Rattle.tv_value.specs.Nested.{leaf, list, no_trees, tree, Place, note, at, item_at, children, nodes_below, nodes_from}
 use Rattle.tv_value.specs.Values.{Name, JobName, ErrorDoc, Value}
 use Rattle.tv_flow.specs.Flows.{Step}
@@ -9,7 +10,6 @@ use Rattle.tv_strategy.specs.Origins.{Mark, Origin, at_start, from_job, from_lev
 use Rattle.tv_strategy.specs.Iterations.{Binding, End, job, passed, Iteration, Iterations}
 use Rattle.tv_strategy.specs.Outputs.{output_below, outputs_from, end_output}
 use Rattle.tv_strategy.specs.Sources.{Each, AtNodes, AtAllNodes, SourcesHave, AllSourcesHave}
-use Rattle.tv_strategy.proofs.OfLists.{some-is}
 use Rattle.tv_strategy.proofs.OfSources.{each-append, traced-have}
 use Rattle.tv_depths.specs.Delivered.{StepMeaning}
 use Rattle.tv_depths.specs.Ranks.{is_among}
@@ -41,7 +41,7 @@ module _ (K : Place → Iteration → Type 0) where
         each-append (λ x. K x.0 x.1) (nodes_below (q ++ i ∷ []) t) (nodes_from q (suc i) ts) (nodes-stand t (q ++ i ∷ []) h.0) (nodes_from-stand ts q (suc i) h.1)
 
 at-below : (t : Iteration) (q : Place) (s : List Origin) (ts : Iterations) (i : ℕ) → at t q ≡ Some (list s ts) → at t (q ++ i ∷ []) ≡ item_at ts i
-at-below t [] s ts i h = itself (item_at (children t) i) ∙ ap (λ u. item_at (children u) i) (some-is t (list s ts) h)
+at-below t [] s ts i h = itself (item_at (children t) i) ∙ ap (λ u. item_at (children u) i) (same_Some t (list s ts) h)
   where
     itself : (o : Option Iteration) → option_and_then (λ u. Some u) o ≡ o
     itself None = refl
@@ -115,8 +115,8 @@ module _ (instance : JobName) where
   -- a level's name and sources are its node's
   pub level-node : (s : StepMeaning) (x : Place × Iteration) (l : Level) → level_at s x ≡ Some l → (l.name ≡ spot s.instance s.step x.0) × (l.sources ≡ note x.1)
   level-node s (q, leaf r (job b)) l h = cc
-  level-node s (q, leaf r (passed m e)) l h = let w = sym (some-is _ l h) in (ap (λ v. v.name) w, ap (λ v. v.sources) w)
-  level-node s (q, list r ts) l h = let w = sym (some-is _ l h) in (ap (λ v. v.name) w, ap (λ v. v.sources) w)
+  level-node s (q, leaf r (passed m e)) l h = let w = sym (same_Some _ l h) in (ap (λ v. v.name) w, ap (λ v. v.sources) w)
+  level-node s (q, list r ts) l h = let w = sym (same_Some _ l h) in (ap (λ v. v.name) w, ap (λ v. v.sources) w)
 
 mutual
   pub nodes-sourced : (P : Origin → Type 0) (t : Iteration) (q : Place) → SourcesHave P t → Each (λ x. Each P (note x.1)) (nodes_below q t)

@@ -2,14 +2,15 @@
 use Rattle.std.specs.Prelude.{◌≡◌, refl, ℕ, zero, suc, ◌≤◌, ◌⊎◌, List, [], ◌∷◌, ◌++◌, length, Bool, true, false, ◌||◌, Option, Some, None, option_map, flat_map, IsPermutation, if◌then◌else◌}
 use Rattle.std.specs.List.{list_any}
 use Rattle.std.specs.Option.{option_map_or}
-use Rattle.std.proofs.Common.{arith, sym, ap, subst, ◌∙◌, inl, inr, append_assoc}
-use Rattle.std.proofs.lemmas.List.Sorted.{IsPermutation-refl, IsPermutation-append_comm, IsPermutation-append_left, IsPermutation-append_right, IsPermutation-trans}
+use Rattle.std.proofs.Common.{arith, sym, ap, subst, ◌∙◌, inl, inr}
+use Rattle.std.proofs.lemmas.List.Sorted.{IsPermutation-refl, IsPermutation-append_right, IsPermutation-trans}
 use Rattle.tv_value.specs.Values.{JobName}
 use Rattle.tv_value.specs.Orders.{same_job}
 use Rattle.tv_dispatch.specs.Jobs.{Ask}
 use Rattle.tv_model.specs.Turns.{Turn, all_done, asks_by_turns, first_turn}
 use Rattle.tv_model.proofs.Tests.{true≠false, both_true, or_right, Each}
 pub use Rattle.std.proofs.lemmas.Bool.{or_left}
+use Rattle.tv_lemmas.proofs.Lists.{permute-front}
 pub use Rattle.tv_model.specs.Members.{In}
 
 abbrev pub turn_asks : List Turn → List (JobName × Ask)
@@ -31,11 +32,6 @@ abbrev pub Found : List JobName → List Turn → Option (Turn × List Turn) →
 Found done ts None = NoneDone done ts
 Found done ts (Some r) = IsTaken done ts r.0 r.1
 
-pub front : {A : Type 0} (a b c : List A) → IsPermutation (a ++ (b ++ c)) (b ++ (a ++ c))
-front a b c =
-    subst (λ l. IsPermutation l (b ++ (a ++ c))) (append_assoc a b c)
-    (subst (λ l. IsPermutation ((a ++ b) ++ c) l) (append_assoc b a c) (IsPermutation-append_left c (a ++ b) (b ++ a) (IsPermutation-append_comm a b)))
-
 later-kept : (t : Turn) (ts rest : List Turn) → ((u : Turn) → In u rest → In u ts) → (u : Turn) → In u (t ∷ rest) → In u (t ∷ ts)
 later-kept t ts rest k u (inl p) = inl p
 later-kept t ts rest k u (inr h) = inr (k u h)
@@ -56,7 +52,7 @@ turn-step : (done : List JobName) (t : Turn) (ts : List Turn) (b : Bool) → all
 turn-step done t ts true e o f = record { from = inl refl; kept = λ u h. inr h; only = λ u h. h; asks = IsPermutation-refl (t.asks ++ turn_asks ts); fewer = refl }
 turn-step done t ts false e None f = later-none done t ts e f
 turn-step done t ts false e (Some r) f =
-    record { from = inr f.from; kept = later-kept t ts r.1 f.kept; only = later-only t r.0 ts r.1 f.only; asks = IsPermutation-trans _ _ _ (front r.0.asks t.asks (turn_asks r.1)) (IsPermutation-append_right t.asks (r.0.asks ++ turn_asks r.1) (turn_asks ts) f.asks); fewer = ap suc f.fewer }
+    record { from = inr f.from; kept = later-kept t ts r.1 f.kept; only = later-only t r.0 ts r.1 f.only; asks = IsPermutation-trans _ _ _ (permute-front r.0.asks t.asks (turn_asks r.1)) (IsPermutation-append_right t.asks (r.0.asks ++ turn_asks r.1) (turn_asks ts) f.asks); fewer = ap suc f.fewer }
 
 pub first_turn-found : (done : List JobName) (ts : List Turn) → Found done ts (first_turn done ts)
 first_turn-found done [] = λ u h. absurd h

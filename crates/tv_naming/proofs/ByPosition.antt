@@ -1,27 +1,22 @@
 -- Names in byte order, and their positions.
 use Rattle.std.specs.Prelude.{◌≡◌, ℕ, zero, suc, ◌+◌, ◌<◌, ◌≤◌, List, [], ◌∷◌, length, map, Bool, true, false, if◌then◌else◌, Option, Some, None, Result, Ok, Err, refl, is_some}
-use Rattle.std.specs.declared.cmp.Ordering.{Ordering}
 use Rattle.std.specs.Result.{result_ok}
 use Rattle.std.specs.Ordering.{is_lt, ordering_reverse}
 use Rattle.std.specs.List.{list_all}
 use Rattle.std.specs.List.Sorted.{IsSearchInRange, IsBinarySearchResult, IsSortedBy, IsPartitionPoint}
 use Rattle.std.proofs.Common.{arith, get_or, ap, sym, subst, ◌∙◌, Less, Equal, Greater, inl, inr, ◌⊎◌}
-use Rattle.std.proofs.lemmas.Bool.{eqb-true, cases_lt}
+use Rattle.std.proofs.lemmas.Bool.{eqb-true, cases_lt, and_parts}
 use Rattle.std.proofs.lemmas.Cmp.{nat_list_cmp_total, nat_list_eq_equiv, tied_itself}
 use Rattle.std.proofs.lemmas.Map.Lookups.{exact_bytes}
 use Rattle.std.proofs.lemmas.List.Sorted.{searchable_from_sorted}
+use Rattle.tv_lemmas.proofs.Numbers.{none-below}
+use Rattle.tv_lemmas.proofs.Orderings.{is_lt-less}
 use Rattle.tv_value.specs.Values.{Name}
 use Rattle.tv_value.specs.Orders.{name_cmp, same_name, named}
+use Rattle.tv_value.proofs.OfNames.{same_name-refl}
 use Rattle.tv_flow.specs.Formed.{is_ascending}
 use Rattle.tv_naming.specs.Naming.{has_name}
 use Rattle.tv_naming.specs.Numbers.{number_in, position}
-pub use Rattle.tv_naming.proofs.OfLists.{both}
-
-pub none : {A : Type 0} (i : ℕ) → i < 0 → A
-none i p = absurd (omega arith)
-
-pub true-false : {A : Type 0} → true ≡ false → A
-true-false e = cc
 
 -- ---- equal names
 
@@ -30,13 +25,10 @@ same_name-is [] [] e = refl
 same_name-is [] (y ∷ ys) e = cc
 same_name-is (x ∷ xs) [] e = cc
 same_name-is (x ∷ xs) (y ∷ ys) e =
-    let h = both _ _ e in
+    let h = and_parts _ _ e in
     let p : x ≡ y = eqb-true x y h.0 in
     let q : xs ≡ ys = same_name-is xs ys h.1 in
     cc
-
-pub same_name-refl : (n : Name) → same_name n n ≡ true
-same_name-refl n = nat_list_eq_equiv.refl n
 
 pub same_name-sym : (n m : Name) → same_name n m ≡ same_name m n
 same_name-sym n m = nat_list_eq_equiv.symm n m
@@ -62,11 +54,6 @@ above-differs m n e = cases (same_name n m) refl
         let t : Equal ≡ Greater = sym (tied_itself nat_list_cmp_total m) ∙ (ap (name_cmp m) (sym s) ∙ e) in
         cc
 
-pub less : (o : Ordering) → is_lt o ≡ true → o ≡ Less
-less Less e = refl
-less Equal e = cc
-less Greater e = cc
-
 -- ---- names in byte order, each with a thing
 
 abbrev pub names_of : {A : Type 0} → List (Name × A) → List Name
@@ -74,25 +61,25 @@ names_of xs = map (λ e. e.0) xs
 
 module _ {A : Type 0} where
   above-at : (n : Name) (xs : List (Name × A)) (k : ℕ) (d : Name × A) → list_all (λ m. is_lt (name_cmp n m)) (names_of xs) ≡ true → k < length xs → name_cmp n (get_or xs k d).0 ≡ Less
-  above-at n [] k d h lt = none k lt
-  above-at n (x ∷ xs) zero d h lt = less _ (both _ _ h).0
-  above-at n (x ∷ xs) (suc k) d h lt = above-at n xs k d (both _ _ h).1 (omega arith)
+  above-at n [] k d h lt = none-below k lt
+  above-at n (x ∷ xs) zero d h lt = is_lt-less _ (and_parts _ _ h).0
+  above-at n (x ∷ xs) (suc k) d h lt = above-at n xs k d (and_parts _ _ h).1 (omega arith)
 
   pub position-at : (xs : List (Name × A)) (k : ℕ) (d : Name × A) → is_ascending (names_of xs) ≡ true → k < length xs → position (get_or xs k d).0 xs ≡ k
-  position-at [] k d h lt = none k lt
+  position-at [] k d h lt = none-below k lt
   position-at (x ∷ xs) zero d h lt = ap (λ b. if b then 0 else suc (position x.0 xs)) (same_name-refl x.0)
   position-at (x ∷ xs) (suc k) d h lt =
       let n = (get_or xs k d).0 in
-      ap (λ b. if b then 0 else suc (position n xs)) (below-differs x.0 n (above-at x.0 xs k d (both _ _ h).0 (omega arith)))
-      ∙ ap suc (position-at xs k d (both _ _ h).1 (omega arith))
+      ap (λ b. if b then 0 else suc (position n xs)) (below-differs x.0 n (above-at x.0 xs k d (and_parts _ _ h).0 (omega arith)))
+      ∙ ap suc (position-at xs k d (and_parts _ _ h).1 (omega arith))
 
   pub named-at : (xs : List (Name × A)) (k : ℕ) (d : Name × A) → is_ascending (names_of xs) ≡ true → k < length xs → named (get_or xs k d).0 xs ≡ Some (get_or xs k d).1
-  named-at [] k d h lt = none k lt
+  named-at [] k d h lt = none-below k lt
   named-at (x ∷ xs) zero d h lt = ap (λ b. if b then Some x.1 else named x.0 xs) (same_name-refl x.0)
   named-at (x ∷ xs) (suc k) d h lt =
       let n = (get_or xs k d).0 in
-      ap (λ b. if b then Some x.1 else named n xs) (below-differs x.0 n (above-at x.0 xs k d (both _ _ h).0 (omega arith)))
-      ∙ named-at xs k d (both _ _ h).1 (omega arith)
+      ap (λ b. if b then Some x.1 else named n xs) (below-differs x.0 n (above-at x.0 xs k d (and_parts _ _ h).0 (omega arith)))
+      ∙ named-at xs k d (and_parts _ _ h).1 (omega arith)
 
   pub named-absent : (n : Name) (xs : List (Name × A)) → ((k : ℕ) (d : Name × A) → k < length xs → same_name n (get_or xs k d).0 ≡ false) → named n xs ≡ None
   named-absent n [] h = refl
@@ -102,9 +89,9 @@ module _ {A : Type 0} where
 
   -- the names ascend, as a sort says it
   rising-at : (xs : List (Name × A)) → is_ascending (names_of xs) ≡ true → (k : ℕ) (d : Name × A) → suc k < length xs → is_lt (name_cmp (get_or xs (suc k) d).0 (get_or xs k d).0) ≡ false
-  rising-at [] h k d lt = none (suc k) lt
-  rising-at (x ∷ xs) h zero d lt = ap is_lt (nat_list_cmp_total.antisymm (get_or xs 0 d).0 x.0) ∙ ap (λ o. is_lt (ordering_reverse o)) (above-at x.0 xs 0 d (both _ _ h).0 (omega arith))
-  rising-at (x ∷ xs) h (suc k) d lt = rising-at xs (both _ _ h).1 k d (omega arith)
+  rising-at [] h k d lt = none-below (suc k) lt
+  rising-at (x ∷ xs) h zero d lt = ap is_lt (nat_list_cmp_total.antisymm (get_or xs 0 d).0 x.0) ∙ ap (λ o. is_lt (ordering_reverse o)) (above-at x.0 xs 0 d (and_parts _ _ h).0 (omega arith))
+  rising-at (x ∷ xs) h (suc k) d lt = rising-at xs (and_parts _ _ h).1 k d (omega arith)
 
   sorted : (xs : List (Name × A)) → is_ascending (names_of xs) ≡ true → IsSortedBy (λ a b. is_lt (name_cmp a.0 b.0)) xs
   sorted xs h k d le lt =
@@ -117,7 +104,7 @@ module _ {A : Type 0} where
 
   -- where a name is that a binary search found, and that it isn't there where none was found
   pub searched : (xs : List (Name × A)) (n : Name) (r : Result ℕ ℕ) → is_ascending (names_of xs) ≡ true → IsSearchInRange r (length xs) → IsBinarySearchResult (λ e. name_cmp e.0 n) xs r → result_ok r ≡ number_in xs n
-  searched [] n (Ok k) h lt found = none k lt
+  searched [] n (Ok k) h lt found = none-below k lt
   searched (x ∷ xs) n (Ok k) h lt found =
       let ys = x ∷ xs in
       let m = (get_or ys k x).0 in

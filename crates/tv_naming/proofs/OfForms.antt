@@ -4,13 +4,15 @@ use Rattle.std.specs.List.{list_all}
 use Rattle.std.proofs.Common.{arith, get_or, ap, sym, subst, ◌∙◌}
 use Rattle.std.proofs.lemmas.Bool.Decides.{nat_tests}
 use Rattle.std.proofs.lemmas.List.{length-map}
+use Rattle.std.proofs.lemmas.Bool.{and_parts}
+use Rattle.std.proofs.lemmas.Simd.{map-map}
 use Rattle.tv_value.specs.Values.{Name}
 use Rattle.tv_flow.specs.Flows.{Flow, Document}
 use Rattle.tv_flow.specs.Forms.{is_name}
 use Rattle.tv_flow.specs.Formed.{is_ascending, is_between, are_entries, are_named, is_depth, is_value, is_step, is_feed, is_flow, is_formed}
 use Rattle.tv_flow.specs.declared.document.Flow as code
 use Rattle.tv_flow.specs.Views.{each, flow_view}
-use Rattle.tv_naming.proofs.OfLists.{both, list_all-at, map-map}
+use Rattle.tv_naming.proofs.OfLists.{list_all-at}
 use Rattle.tv_naming.proofs.ByPosition.{names_of}
 
 pub record AreNamed {A : Type 0} (test : A → Bool) (most : ℕ) (xs : List (Name × A)) : Type 0 where
@@ -23,23 +25,23 @@ at-most m n h = grind (arith, nat_tests)
 
 pub named-rightly : {A : Type 0} (test : A → Bool) (least most : ℕ) (xs : List (Name × A)) → are_named test least most xs ≡ true → AreNamed test most xs
 named-rightly test least most xs h =
-    let p = both (is_between least most (length xs)) (are_entries test xs) h in
-    let q = both (is_ascending (names_of xs)) (list_all (λ e. is_name e.0 && test e.1) xs) p.1 in
+    let p = and_parts (is_between least most (length xs)) (are_entries test xs) h in
+    let q = and_parts (is_ascending (names_of xs)) (list_all (λ e. is_name e.0 && test e.1) xs) p.1 in
     record {
-      few = at-most (length xs) most (both (nat_le least (length xs)) (nat_le (length xs) most) p.0).1;
+      few = at-most (length xs) most (and_parts (nat_le least (length xs)) (nat_le (length xs) most) p.0).1;
       rise = q.0;
-      pass = λ k d lt. (both (is_name (get_or xs k d).0) (test (get_or xs k d).1) (list_all-at (λ e. is_name e.0 && test e.1) xs k d q.1 lt)).1;
+      pass = λ k d lt. (and_parts (is_name (get_or xs k d).0) (test (get_or xs k d).1) (list_all-at (λ e. is_name e.0 && test e.1) xs k d q.1 lt)).1;
     }
 
 pub flows-named : (d : Document) → is_formed d ≡ true → AreNamed is_flow 256 d.flows
 flows-named d h =
-    let p = both (is_between 1 1 d.format && is_name d.main && are_named is_flow 1 256 d.flows) (are_entries is_value d.inputs) h in
-    named-rightly is_flow 1 256 d.flows (both (is_between 1 1 d.format && is_name d.main) (are_named is_flow 1 256 d.flows) p.0).1
+    let p = and_parts (is_between 1 1 d.format && is_name d.main && are_named is_flow 1 256 d.flows) (are_entries is_value d.inputs) h in
+    named-rightly is_flow 1 256 d.flows (and_parts (is_between 1 1 d.format && is_name d.main) (are_named is_flow 1 256 d.flows) p.0).1
 
 pub steps-named : (f : Flow) → is_flow f ≡ true → AreNamed is_step 1000 f.steps
 steps-named f h =
-    let p = both (are_named is_depth 0 16 f.inputs && are_named is_step 0 1000 f.steps) (are_named is_feed 0 16 f.outputs) h in
-    named-rightly is_step 0 1000 f.steps (both (are_named is_depth 0 16 f.inputs) (are_named is_step 0 1000 f.steps) p.0).1
+    let p = and_parts (are_named is_depth 0 16 f.inputs && are_named is_step 0 1000 f.steps) (are_named is_feed 0 16 f.outputs) h in
+    named-rightly is_step 0 1000 f.steps (and_parts (are_named is_depth 0 16 f.inputs) (are_named is_step 0 1000 f.steps) p.0).1
 
 -- ---- of the code's lists
 

@@ -5,10 +5,7 @@ use Rattle.std.proofs.Common.{get_or, ap, sym, subst, ◌∙◌, append_assoc, a
 use Rattle.std.proofs.lemmas.List.{take_more, take_all, append-nil, map-append}
 use Rattle.std.proofs.lemmas.List.Elements.{filter_map-append}
 use Rattle.std.proofs.lemmas.Grind.{flat_map-append}
-
-pub both : (a b : Bool) → (a && b) ≡ true → (a ≡ true) × (b ≡ true)
-both true b e = (refl, e)
-both false b e = cc
+use Rattle.std.proofs.lemmas.Bool.{and_parts}
 
 module _ {X Y : Type 0} where
   pub flat_map-map : {Z : Type 0} (f : Y → List Z) (v : X → Y) (xs : List X) → flat_map f (map v xs) ≡ flat_map (λ x. f (v x)) xs
@@ -18,10 +15,6 @@ module _ {X Y : Type 0} where
   pub filter_map-pieces : (h : X → Option Y) (xs : List X) → filter_map h xs ≡ flat_map (λ x. filter_map h (x ∷ [])) xs
   filter_map-pieces h [] = refl
   filter_map-pieces h (x ∷ xs) = filter_map-append h (x ∷ []) xs ∙ ap (λ ys. filter_map h (x ∷ []) ++ ys) (filter_map-pieces h xs)
-
-pub singles : {X : Type 0} (xs : List X) → flat_map (λ x. x ∷ []) xs ≡ xs
-singles [] = refl
-singles (x ∷ xs) = ap (λ ys. x ∷ ys) (singles xs)
 
 pub take-step : {X : Type 0} (xs : List X) (i : ℕ) (x : X) → i < length xs → x ≡ get_or xs i x → take (i + 1) xs ≡ take i xs ++ x ∷ []
 take-step xs i x lt is = take_more xs i x lt ∙ ap (λ y. take i xs ++ y ∷ []) (sym is)
@@ -50,10 +43,6 @@ map-more f g vs v xs i x lt is e h =
 pub map-now : {V W X : Type 0} (f : V → W) (g : X → W) (vs : List V) (xs : List X) (i : ℕ) → length xs ≤ i → map f vs ≡ map g (take i xs) → map f vs ≡ map g xs
 map-now f g vs xs i past e = e ∙ ap (map g) (take_all i xs past)
 
-pub map-map : {U V W : Type 0} (f : V → W) (g : U → V) (us : List U) → map f (map g us) ≡ map (λ u. f (g u)) us
-map-map f g [] = refl
-map-map f g (u ∷ us) = ap (λ ws. f (g u) ∷ ws) (map-map f g us)
-
 pub map-same : {V W : Type 0} (f g : V → W) (vs : List V) → ((v : V) → f v ≡ g v) → map f vs ≡ map g vs
 map-same f g [] h = refl
 map-same f g (v ∷ vs) h = ap (λ w. w ∷ map f vs) (h v) ∙ ap (λ ws. g v ∷ ws) (map-same f g vs h)
@@ -74,8 +63,8 @@ each-at P (x ∷ xs) h = (h 0 x (omega arith), each-at P xs (λ k d lt. h (suc k
 
 pub list_all-at : {X : Type 0} (p : X → Bool) (xs : List X) (k : ℕ) (d : X) → list_all p xs ≡ true → k < length xs → p (get_or xs k d) ≡ true
 list_all-at p [] k d h lt = absurd (omega arith)
-list_all-at p (x ∷ xs) zero d h lt = (both (p x) (list_all p xs) h).0
-list_all-at p (x ∷ xs) (suc k) d h lt = list_all-at p xs k d (both (p x) (list_all p xs) h).1 (omega arith)
+list_all-at p (x ∷ xs) zero d h lt = (and_parts (p x) (list_all p xs) h).0
+list_all-at p (x ∷ xs) (suc k) d h lt = list_all-at p xs k d (and_parts (p x) (list_all p xs) h).1 (omega arith)
 
 -- ---- the first that passes
 
@@ -119,10 +108,6 @@ module _ {X : Type 0} (p q : X → Bool) where
   pub filter-same : (xs : List X) → ((x : X) → p x ≡ q x) → filter p xs ≡ filter q xs
   filter-same [] h = refl
   filter-same (x ∷ xs) h = ap (λ b. cond b (x ∷ filter p xs) (filter p xs)) (h x) ∙ ap (λ ys. cond (q x) (x ∷ ys) ys) (filter-same xs h)
-
-pub filter-all : {X : Type 0} (xs : List X) → filter (λ x. true) xs ≡ xs
-filter-all [] = refl
-filter-all (x ∷ xs) = ap (λ ys. x ∷ ys) (filter-all xs)
 
 pub map-each : {X Y : Type 0} (P : X → Type 0) (f g : X → Y) (xs : List X) → Each P xs → ((x : X) → P x → f x ≡ g x) → map f xs ≡ map g xs
 map-each P f g [] e h = refl

@@ -1,6 +1,7 @@
 -- How an answer about a part tells of the whole.
-use Rattle.std.proofs.Common.{◌≡◌, ◌∙◌, refl, sym, ap, subst, ℕ, zero, suc, ◌<◌, ◌≤◌, ◌+◌, List, [], ◌∷◌, ◌++◌, length, map, take, flat_map, Some, arith, get_or, slice_get}
-use Rattle.std.proofs.lemmas.Option.{slice_get_read}
+use Rattle.std.proofs.Common.{◌≡◌, ◌∙◌, refl, sym, ap, subst, ℕ, zero, suc, ◌<◌, ◌≤◌, ◌+◌, List, [], ◌∷◌, ◌++◌, length, take, flat_map, Some, arith, get_or, slice_get, le_of_suc-le-suc}
+use Rattle.tv_lemmas.proofs.Lists.{append-none, get-read}
+use Rattle.tv_lemmas.proofs.Numbers.{none-after}
 use Rattle.tv_naming.specs.Faulty.{Complaint, first_of}
 use Rattle.tv_naming.specs.FaultViews.{fault_view}
 use Rattle.tv_naming.specs.Naming.{numbered}
@@ -9,7 +10,7 @@ use Rattle.tv_naming.specs.declared.faults.CheckRefused.TheVariants.{Check, NoMe
 use Rattle.tv_naming.specs.Told.{StopsAt}
 
 -- the first of a list is the first of a longer one
-first-left : (xs ys : List Complaint) (c : Complaint) → first_of xs ≡ Some c → first_of (xs ++ ys) ≡ Some c
+pub first-left : (xs ys : List Complaint) (c : Complaint) → first_of xs ≡ Some c → first_of (xs ++ ys) ≡ Some c
 first-left [] ys c e = cc
 first-left (x ∷ xs) ys c e = e
 
@@ -22,16 +23,6 @@ stops-right xs ys e n h = subst (λ zs. StopsAt (zs ++ ys) e) (sym n) h
 
 -- ---- item by item
 
-short : {A : Type 0} (n : ℕ) → suc n ≤ 0 → A
-short n p = absurd (omega arith)
-
-fewer : (n m : ℕ) → suc n ≤ suc m → n ≤ m
-fewer n m p = omega arith
-
-nothing : {A : Type 0} (xs ys : List A) → xs ++ ys ≡ [] → (xs ≡ []) × (ys ≡ [])
-nothing [] ys e = (refl, e)
-nothing (x ∷ xs) ys e = cc
-
 module _ {A : Type 0} (g : A → List Complaint) where
   -- nothing is said of the first so many
   abbrev pub Silent : List A → ℕ → Type 0
@@ -39,10 +30,10 @@ module _ {A : Type 0} (g : A → List Complaint) where
 
   pub silent-all : (xs : List A) (i : ℕ) → length xs ≤ i → Silent xs i → flat_map g xs ≡ []
   silent-all [] i h e = refl
-  silent-all (x ∷ xs) zero h e = short (length xs) h
+  silent-all (x ∷ xs) zero h e = none-after (length xs) h
   silent-all (x ∷ xs) (suc i) h e =
-      let f = nothing (g x) (flat_map g (take i xs)) e in
-      ap (λ ys. ys ++ flat_map g xs) f.0 ∙ silent-all xs i (fewer (length xs) i h) f.1
+      let f = append-none (g x) (flat_map g (take i xs)) e in
+      ap (λ ys. ys ++ flat_map g xs) f.0 ∙ silent-all xs i (le_of_suc-le-suc {n = (length xs)} {m = i} h) f.1
 
   silent-suc : (xs : List A) (i : ℕ) (x : A) → slice_get xs i ≡ Some x → Silent xs i → g x ≡ [] → flat_map g (take (suc i) xs) ≡ []
   silent-suc [] i x e s h = cc
@@ -50,7 +41,7 @@ module _ {A : Type 0} (g : A → List Complaint) where
       let f : y ≡ x = cc in
       ap (λ cs. cs ++ flat_map g (take zero ys)) (subst (λ z. g z ≡ []) (sym f) h)
   silent-suc (y ∷ ys) (suc i) x e s h =
-      let f = nothing (g y) (flat_map g (take i ys)) s in
+      let f = append-none (g y) (flat_map g (take i ys)) s in
       ap (λ cs. cs ++ flat_map g (take (suc i) ys)) f.0 ∙ silent-suc ys i x e f.1 h
 
   pub silent-more : (xs : List A) (i : ℕ) (x : A) → slice_get xs i ≡ Some x → Silent xs i → g x ≡ [] → Silent xs (i + 1)
@@ -63,18 +54,10 @@ module _ {A : Type 0} (g : A → List Complaint) where
       let f : x ≡ y = cc in
       stops-left (g y) (flat_map g ys) e (subst (λ z. StopsAt (g z) e) f h)
   stops-next (y ∷ ys) (suc i) x e s n h =
-      let f = nothing (g y) (flat_map g (take i ys)) n in
+      let f = append-none (g y) (flat_map g (take i ys)) n in
       stops-right (g y) (flat_map g ys) e f.0 (stops-next ys i x e s f.1 h)
 
 -- ---- the items of a list of code things
-
-pub got : {A : Type 0} (xs : List A) (i : ℕ) (x : A) → i < length xs → x ≡ get_or xs i x → slice_get xs i ≡ Some x
-got xs i x lt e = slice_get_read xs (length xs) i x refl lt e
-
-pub get-map : {A B : Type 0} (v : A → B) (xs : List A) (i : ℕ) (x : A) → slice_get xs i ≡ Some x → slice_get (map v xs) i ≡ Some (v x)
-get-map v [] i x e = cc
-get-map v (y ∷ ys) zero x e = let f : y ≡ x = cc in ap (λ z. Some (v z)) f
-get-map v (y ∷ ys) (suc i) x e = get-map v ys i x e
 
 get-numbered-from : {A : Type 0} (k : ℕ) (xs : List A) (i : ℕ) (x : A) → slice_get xs i ≡ Some x → slice_get (numbered k xs) i ≡ Some (k + i, x)
 get-numbered-from k [] i x e = cc
@@ -90,4 +73,4 @@ length-numbered k (x ∷ xs) = ap suc (length-numbered (suc k) xs)
 
 -- the item of a loop over what another list was made of
 pub got-in : {A : Type 0} (xs ys : List A) (i : ℕ) (x : A) → xs ≡ ys → i < length xs → x ≡ get_or xs i x → slice_get ys i ≡ Some x
-got-in xs ys i x e lt is = subst (λ zs. slice_get zs i ≡ Some x) e (got xs i x lt is)
+got-in xs ys i x e lt is = subst (λ zs. slice_get zs i ≡ Some x) e (get-read xs i x lt is)

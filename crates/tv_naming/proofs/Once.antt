@@ -1,9 +1,9 @@
 -- Lists of which each is once in the other, seen by their names; and the leaves of a strategy, one by one.
-use Rattle.std.specs.Prelude.{◌≡◌, ℕ, ◌+◌, ◌<◌, ◌≤◌, List, [], ◌∷◌, ◌++◌, length, map, drop, Bool, true, false, ◌&&◌, ◌==◌, cond, count_by, refl}
+use Rattle.std.specs.Prelude.{◌≡◌, ℕ, ◌+◌, ◌<◌, ◌≤◌, List, [], ◌∷◌, ◌++◌, length, map, drop, Bool, true, false, ◌&&◌, ◌==◌, count_by, refl}
 use Rattle.std.specs.List.{list_all}
 use Rattle.std.proofs.Common.{get_or, ap, sym, ◌∙◌, append_assoc}
 use Rattle.std.proofs.lemmas.List.{append-nil, length-map}
-use Rattle.std.proofs.lemmas.List.Sums.{sum_by-cons}
+use Rattle.tv_lemmas.proofs.Counts.{count-map}
 use Rattle.tv_value.specs.Values.{Name}
 use Rattle.tv_value.specs.Orders.{same_name}
 use Rattle.tv_value.specs.Strategies.{Strategy}
@@ -11,13 +11,6 @@ use Rattle.tv_value.specs.Views.{strategies_of}
 use Rattle.tv_value.proofs.OfTrees.{strategies_of-drop, strategies_of-end}
 use Rattle.tv_naming.specs.Naming.{are_the_same}
 use Rattle.tv_strategy.specs.Measures.{leaf_names, all_leaf_names}
-
-count-map : {A B : Type 0} (p : B → Bool) (f : A → B) (xs : List A) → count_by p (map f xs) ≡ count_by (λ x. p (f x)) xs
-count-map p f [] = refl
-count-map p f (x ∷ xs) =
-    sum_by-cons (λ y. cond (p y) 1 0) (f x) (map f xs)
-    ∙ ap (λ k. cond (p (f x)) 1 0 + k) (count-map p f xs)
-    ∙ sym (sum_by-cons (λ x. cond (p (f x)) 1 0) x xs)
 
 -- each of the first is once among the second
 pub once-named : {A B : Type 0} (f : A → Name) (g : B → Name) (ns : List A) (ms : List B) → list_all (λ n. count_by (λ m. same_name (f n) (g m)) ms == 1) ns ≡ list_all (λ n. count_by (same_name n) (map g ms) == 1) (map f ns)

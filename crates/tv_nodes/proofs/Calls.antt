@@ -5,6 +5,7 @@ use Rattle.std.proofs.lemmas.Bool.{cases_eq, eq-eqb, ne_eqb}
 use Rattle.std.proofs.lemmas.List.{get_or-set_same, get_or-set_other}
 use Rattle.std.proofs.Math.ListN.{length-set}
 use Rattle.std.proofs.lemmas.Option.{same_Some}
+use Rattle.tv_lemmas.proofs.Options.{some-not_none}
 use Rattle.tv_pool.specs.Pool.{Pool, IsLive, Puts, item_in, region_at, with_linked, number_of, slot_of, lies_at, nowhere}
 use Rattle.tv_pool.specs.declared.handles.Region.{Region}
 use Rattle.tv_pool.specs.declared.handles.Node.{Node}
@@ -17,7 +18,7 @@ use Rattle.tv_nodes.specs.Stands.{Spot, owner_by, base_by, level_by, Hangs, IsEn
 use Rattle.tv_nodes.specs.Calls.{Plants, HangsPart, Sets, KeepsRegions}
 use Rattle.tv_nodes.proofs.Seeks.{seek-none, seek-found, seek-on, next-some, next-none}
 use Rattle.tv_nodes.proofs.Ways.{OnWay, Reached, way-begins, way-next, way-on, way-ends}
-use Rattle.tv_nodes.proofs.Hanging.{some-none, Alone, Adds, Kept, Links, plants, new-empty, new-body, search-kept, search-new, part-nodes}
+use Rattle.tv_nodes.proofs.Hanging.{Alone, Adds, Kept, Links, plants, new-empty, new-body, search-kept, search-new, part-nodes}
 
 module _ {B : Type 0} where
   -- where a search ends by a free link, it came on its way
@@ -87,7 +88,7 @@ module _ {B : Type 0} where
     bodies-kept : (t : ℕ) (q : Spot) → spots t ≡ Some q → body_in m' t ≡ body_in m t
     bodies-kept t q k = elim (cases_eq t at) [
       | inl same ↦ ap (body_in m') same ∙ ap (option_map (λ y. y.body)) links.now ∙ ap Some links.kept.body ∙ sym (ap (body_in m) same ∙ ap (option_map (λ y. y.body)) links.was)
-      | inr ne ↦ ap (option_map (λ y. y.body)) (links.others t (λ h. some-none (m t) (nodes.entries t q k).entry (nodes.entries t q k).lies (ap m h ∙ adds.fresh)) ne)
+      | inr ne ↦ ap (option_map (λ y. y.body)) (links.others t (λ h. some-not_none (m t) (nodes.entries t q k).entry (nodes.entries t q k).lies (ap m h ∙ adds.fresh)) ne)
     ]
 
     pub hangs-part : HangsPart m m' spots s p index n b
@@ -101,7 +102,7 @@ module _ {B : Type 0} where
       body = new-body m m' n x index b adds;
       parts = others-found;
       bodies = bodies-kept;
-      others = λ t none ne. links.others t ne (λ h. some-none (spots t) open_way.way.spot (ap spots h ∙ open_way.way.known) none);
+      others = λ t none ne. links.others t ne (λ h. some-not_none (spots t) open_way.way.spot (ap spots h ∙ open_way.way.known) none);
     }
 
   -- ---- the pool
@@ -120,7 +121,7 @@ module _ {B : Type 0} where
     pub still-linked : (spots : ℕ → Option Spot) → AreNodes (item_in old (number_of region)) spots → (s : ℕ) (p : Spot) (index at by : ℕ) → index < 2 ^ 32 → spots s ≡ Some p → seek_part (item_in old (number_of region)) s index ≡ free at by → (item : Entry B) × (item_in mid (number_of region) at ≡ Some item)
     still-linked spots nodes s p index at by small known ends =
         let e = part-free (item_in old (number_of region)) spots nodes s p index at by small known ends in
-        (e.way.entry, put-other at (λ h. some-none (item_in old (number_of region) at) e.way.entry e.way.lies (ap (item_in old (number_of region)) h ∙ fresh)) ∙ e.way.lies)
+        (e.way.entry, put-other at (λ h. some-not_none (item_in old (number_of region) at) e.way.entry e.way.lies (ap (item_in old (number_of region)) h ∙ fresh)) ∙ e.way.lies)
 
     pub keeps-put : ((other : Region) → IsLive old other → IsLive mid other) → KeepsRegions old mid (number_of region)
     keeps-put live = record { live = live; others = λ other ne. region_at-put_other old mid region x node puts other ne }
@@ -143,7 +144,7 @@ module _ {B : Type 0} where
       at-known = ended.way.known
 
       at-apart : lies_at at ≢ slot_of node
-      at-apart h = some-none (m (lies_at at)) ended.way.entry ended.way.lies (ap m h ∙ fresh)
+      at-apart h = some-not_none (m (lies_at at)) ended.way.entry ended.way.lies (ap m h ∙ fresh)
 
       mid-at : item_in mid (number_of region) (lies_at at) ≡ Some ended.way.entry
       mid-at = put-other (lies_at at) at-apart ∙ ended.way.lies

@@ -3,6 +3,7 @@ use Rattle.std.proofs.Common.{◌≡◌, ◌≢◌, ℕ, zero, suc, ◌+◌, ◌
 use Rattle.std.specs.Option.{option_map}
 use Rattle.std.proofs.lemmas.Bool.{cases_eq, eq-eqb, ne_eqb}
 use Rattle.std.proofs.lemmas.Option.{same_Some}
+use Rattle.tv_lemmas.proofs.Options.{some-not_none}
 use Rattle.tv_pool.specs.Pool.{nowhere}
 use Rattle.tv_nodes.specs.declared.nodes.Entry.{Entry}
 use Rattle.tv_nodes.specs.Digits.{without, Agree}
@@ -11,10 +12,6 @@ use Rattle.tv_nodes.specs.Stands.{Spot, owner_by, base_by, level_by, Hangs, IsEn
 use Rattle.tv_nodes.specs.Calls.{root_spot, Plants, HangsPart, Sets}
 use Rattle.tv_nodes.proofs.Seeks.{seek-none, seek-found, seek-on, seek-zero, next-some, next-none}
 use Rattle.tv_nodes.proofs.Ways.{OnWay, Reached, way-begins, way-next, way-on, way-ends}
-
-pub some-none : {A : Type 0} (o : Option A) (x : A) → o ≡ Some x → o ≡ None → ⊥
-some-none None x h k = absurd (cc)
-some-none (Some y) x h k = absurd (cc)
 
 pub spot-here : (spots : ℕ → Option Spot) (s : ℕ) (p : Spot) → with_spot spots s p s ≡ Some p
 spot-here spots s p = ap (λ b. if b then Some p else spots s) (eq-eqb s s refl)
@@ -69,7 +66,7 @@ module _ {B : Type 0} where
     new-body = ap (option_map (λ f. f.body)) adds.new ∙ ap Some adds.alone.body
 
     known-apart : (spots : ℕ → Option Spot) → AreNodes m spots → (s : ℕ) (p : Spot) → spots s ≡ Some p → s ≢ n
-    known-apart spots nodes s p known same = let y = nodes.entries s p known in some-none (m s) y.entry y.lies (ap m same ∙ adds.fresh)
+    known-apart spots nodes s p known same = let y = nodes.entries s p known in some-not_none (m s) y.entry y.lies (ap m same ∙ adds.fresh)
 
     -- a root
     module _ (others : (s : ℕ) → s ≢ n → m' s ≡ m s) where

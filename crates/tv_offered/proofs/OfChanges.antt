@@ -4,8 +4,11 @@ use Rattle.std.specs.List.{list_any}
 use Rattle.std.specs.Option.{option_map_or}
 use Rattle.std.proofs.Common.{ap, ap₂, subst, sym, ◌∙◌}
 use Rattle.std.proofs.lemmas.Bool.{false_from_ne_true}
+use Rattle.std.specs.Cmp.{first_so, second_so}
+use Rattle.std.proofs.Math.Bool.{and-false}
 use Rattle.tv_value.specs.Orders.{same_job}
 use Rattle.tv_value.specs.Values.{JobName}
+use Rattle.tv_value.proofs.OfJobNames.{same_job_decides}
 use Rattle.tv_gate.specs.Outcomes.{Giving}
 use Rattle.tv_flow.specs.Flows.{Document}
 use Rattle.tv_dispatch.specs.Jobs.{Ask}
@@ -15,7 +18,7 @@ use Rattle.tv_model.specs.Made.{Meaning}
 use Rattle.tv_model.specs.Meanings.{meaning}
 use Rattle.tv_model.specs.Turns.{is_bounced}
 use Rattle.tv_model.proofs.Order.{some_in}
-use Rattle.tv_model.proofs.Tests.{true≠false, left_true, right_true, both_true, same_job_decides}
+use Rattle.tv_model.proofs.Tests.{true≠false, both_true}
 use Rattle.tv_model.proofs.Turns.{In, or_left}
 use Rattle.tv_history.specs.Entries.{Entry, History, accepted, bounced, closed, ended, fault_passed, handed_out, is_accepted, is_begun_entry, is_bounced_entry, is_ended_entry, is_opened_entry, is_out, opened, recalled}
 use Rattle.tv_history.specs.Histories.{asks_left, can_bounce, can_open, can_settle_more, has_open_instance, is_ask, is_at, is_legal, is_offered, is_open, is_ready, is_right, is_running, is_settled, may_go_on, next_ask, same_bool}
@@ -65,11 +68,7 @@ module _ (past : History) (e : Entry) (k : Job) where
 
 if-both : (p q : Ask → Bool) (o : Option Ask) → option_map_or (λ a. p a && q a) o false ≡ true → option_map_or p o false ≡ true
 if-both p q None h = h
-if-both p q (Some a) h = left_true (p a) (q a) h
-
-and-false : (b : Bool) → (b && false) ≡ false
-and-false true = refl
-and-false false = refl
+if-both p q (Some a) h = first_so (p a) (q a) h
 
 none-is : (o : Option Ask) → is_none o ≡ true → o ≡ None
 none-is None h = refl
@@ -95,9 +94,9 @@ module _ (gives : Giving) (d : Document) (past : History) (j : Job) (i : In j (m
   pub handing : (a t : ℕ) → IsNext (handed_out j.name a t) → IsHandedOut a t gives d past j
   handing a t l =
       let found = found_in (λ k. is_at k j.name && option_map_or (is_ask a t) (next_ask past k) false) (is_offered m past) m.jobs (next-legal gives d past (handed_out j.name a t) l) in
-      let same = is-it found.0 found.1 (left_true (is_at found.0 j.name) _ found.3) in
+      let same = is-it found.0 found.1 (first_so (is_at found.0 j.name) _ found.3) in
       let offered : is_offered m past j ≡ true = subst (λ k. is_offered m past k ≡ true) same found.2 in
-      let left : is_settled past j ≡ false = unsettled m past j (right_true (is_some (next_ask past j)) (may_go_on m past j) offered) in
+      let left : is_settled past j ≡ false = unsettled m past j (second_so (is_some (next_ask past j)) (may_go_on m past j) offered) in
       let out : is_out (handed_out j.name a t ∷ past) j.name ≡ true = ap (λ b. if b then true else is_out past j.name) itself in
       record {
         running =
@@ -107,7 +106,7 @@ module _ (gives : Giving) (d : Document) (past : History) (j : Job) (i : In j (m
         settled = left;
         shut = out-shut gives d (handed_out j.name a t ∷ past) l j i out;
         next = refl;
-        asked = subst (λ k. option_map_or (is_ask a t) (next_ask past k) false ≡ true) same (right_true (is_at found.0 j.name) _ found.3);
+        asked = subst (λ k. option_map_or (is_ask a t) (next_ask past k) false ≡ true) same (second_so (is_at found.0 j.name) _ found.3);
         others = λ k h ne.
             stands-by past (handed_out j.name a t) k (other k h ne) refl refl refl refl
             (ap (λ b. if b then true else is_out past k.name) (other k h ne));
@@ -117,9 +116,9 @@ module _ (gives : Giving) (d : Document) (past : History) (j : Job) (i : In j (m
   accepting a t r l =
       let legal = next-legal gives d past (accepted j.name a t r) l in
       let old = old-legal gives d past (accepted j.name a t r) l in
-      let was : is_out past j.name ≡ true = left_true (is_out past j.name) _ legal in
-      let found = some_in (λ k. is_at k j.name && option_map_or (λ x. is_ask a t x && same_bool r (is_right gives x)) (next_ask past k) false) m.jobs (right_true (is_out past j.name) _ legal) in
-      let same = is-it found.0 found.1 (left_true (is_at found.0 j.name) _ found.2) in
+      let was : is_out past j.name ≡ true = first_so (is_out past j.name) _ legal in
+      let found = some_in (λ k. is_at k j.name && option_map_or (λ x. is_ask a t x && same_bool r (is_right gives x)) (next_ask past k) false) m.jobs (second_so (is_out past j.name) _ legal) in
+      let same = is-it found.0 found.1 (first_so (is_at found.0 j.name) _ found.2) in
       let begun = out-begun past j.name was in
       let tried = begun-unbounced gives d past old j i begun in
       let stood = stages gives d past old j i in
@@ -127,7 +126,7 @@ module _ (gives : Giving) (d : Document) (past : History) (j : Job) (i : In j (m
         was_out = was;
         asked =
             subst (λ k. option_map_or (is_ask a t) (next_ask past k) false ≡ true) same
-            (if-both (is_ask a t) (λ x. same_bool r (is_right gives x)) (next_ask past found.0) (right_true (is_at found.0 j.name) _ found.2));
+            (if-both (is_ask a t) (λ x. same_bool r (is_right gives x)) (next_ask past found.0) (second_so (is_at found.0 j.name) _ found.2));
         out = ap (λ b. if b then false else is_out past j.name) itself;
         shut = ap (λ b. is_some j.opens && b) (open-as_before past (accepted j.name a t r) j.name refl refl) ∙ stood.out_shut was;
         next = ap (λ b. first_of_list (if b then rest_of (asks_left past j.name j.asks) else asks_left past j.name j.asks)) itself;
@@ -145,10 +144,10 @@ module _ (gives : Giving) (d : Document) (past : History) (j : Job) (i : In j (m
   bouncing l =
       let found = some_in (λ k. is_at k j.name && can_bounce m past k) m.jobs (next-legal gives d past (bounced j.name) l) in
       let old = old-legal gives d past (bounced j.name) l in
-      let same = is-it found.0 found.1 (left_true (is_at found.0 j.name) _ found.2) in
+      let same = is-it found.0 found.1 (first_so (is_at found.0 j.name) _ found.2) in
       let bounces : is_bounced j.ending ≡ true =
       subst (λ (k : Job). is_bounced k.ending ≡ true) same
-      (right_true (is_ready m past found.0) (is_bounced found.0.ending) (right_true (is_at found.0 j.name) (can_bounce m past found.0) found.2))
+      (second_so (is_ready m past found.0) (is_bounced found.0.ending) (second_so (is_at found.0 j.name) (can_bounce m past found.0) found.2))
       in
       let settled : is_settled (bounced j.name ∷ past) j ≡ true =
       ap (λ b. if b then list_any (is_bounced_entry j.name) (bounced j.name ∷ past) else (if is_some j.opens then list_any (is_ended_entry j.name) (bounced j.name ∷ past) else is_none (next_ask (bounced j.name ∷ past) j))) bounces
@@ -171,17 +170,17 @@ module _ (gives : Giving) (d : Document) (past : History) (j : Job) (i : In j (m
   pub opening : IsNext (opened j.name) → IsOpenedNow gives d past j
   opening l =
       let old = old-legal gives d past (opened j.name) l in
-      let found = found_in (λ k. is_at k j.name && can_open m past k) (λ k. is_offered m past k || can_open m past k) m.jobs (right_true (not (can_settle_more m past)) _ (next-legal gives d past (opened j.name) l)) in
-      let same = is-it found.0 found.1 (left_true (is_at found.0 j.name) (can_open m past found.0) found.3) in
+      let found = found_in (λ k. is_at k j.name && can_open m past k) (λ k. is_offered m past k || can_open m past k) m.jobs (second_so (not (can_settle_more m past)) _ (next-legal gives d past (opened j.name) l)) in
+      let same = is-it found.0 found.1 (first_so (is_at found.0 j.name) (can_open m past found.0) found.3) in
       let can : can_open m past j ≡ true =
-      subst (λ k. can_open m past k ≡ true) same (right_true (is_at found.0 j.name) (can_open m past found.0) found.3)
+      subst (λ k. can_open m past k ≡ true) same (second_so (is_at found.0 j.name) (can_open m past found.0) found.3)
       in
       let has : (is_none (next_ask past j) && is_some j.opens) ≡ true =
-      left_true (is_none (next_ask past j) && is_some j.opens) (may_go_on m past j) can
+      first_so (is_none (next_ask past j) && is_some j.opens) (may_go_on m past j) can
       in
-      let goes : may_go_on m past j ≡ true = right_true (is_none (next_ask past j) && is_some j.opens) (may_go_on m past j) can in
-      let opens : is_some j.opens ≡ true = right_true (is_none (next_ask past j)) (is_some j.opens) has in
-      let asked = none-is (next_ask past j) (left_true (is_none (next_ask past j)) (is_some j.opens) has) in
+      let goes : may_go_on m past j ≡ true = second_so (is_none (next_ask past j) && is_some j.opens) (may_go_on m past j) can in
+      let opens : is_some j.opens ≡ true = second_so (is_none (next_ask past j)) (is_some j.opens) has in
+      let asked = none-is (next_ask past j) (first_so (is_none (next_ask past j)) (is_some j.opens) has) in
       let left : is_settled past j ≡ false = unsettled m past j goes in
       let begun : list_any (is_begun_entry j.name) (opened j.name ∷ past) ≡ true =
       or_left (same_job j.name j.name) (list_any (is_begun_entry j.name) past) itself
@@ -214,7 +213,7 @@ module _ (gives : Giving) (d : Document) (past : History) (j : Job) (i : In j (m
   pub ending : IsNext (ended j.name) → HasEndedNow gives d past j
   ending l =
       let old = old-legal gives d past (ended j.name) l in
-      let is_now_open : is_open past j.name ≡ true = left_true (is_open past j.name) _ (next-legal gives d past (ended j.name) l) in
+      let is_now_open : is_open past j.name ≡ true = first_so (is_open past j.name) _ (next-legal gives d past (ended j.name) l) in
       let opened_then = open-opened gives d past old j i is_now_open in
       let opens = (opened-facts gives AnyNumber m (document-whole gives d) past old j i opened_then).1 in
       let was : has_open_instance past j ≡ true = both_true (is_some j.opens) (is_open past j.name) opens is_now_open in

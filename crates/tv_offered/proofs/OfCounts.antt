@@ -1,24 +1,22 @@
 -- Jobs counted by their names.
-use Rattle.std.specs.Prelude.{◌≡◌, ℕ, ◌+◌, ◌&&◌, Bool, true, false, List, [], ◌∷◌, count_by, refl}
+use Rattle.std.specs.Prelude.{◌≡◌, ◌&&◌, Bool, true, false, List, [], ◌∷◌, count_by, refl}
 use Rattle.std.proofs.Common.{arith, ap, sym, ◌∙◌, inl, inr}
+use Rattle.std.specs.Cmp.{second_so}
 use Rattle.tv_lemmas.proofs.Cases.{on_test}
 use Rattle.tv_value.specs.Orders.{same_job}
 use Rattle.tv_value.specs.Values.{JobName}
+use Rattle.tv_value.proofs.OfJobNames.{same_job_decides}
 use Rattle.tv_gate.specs.Outcomes.{Giving}
 use Rattle.tv_flow.specs.Flows.{Document}
 use Rattle.tv_model.specs.Jobs.{Job}
 use Rattle.tv_model.specs.Meanings.{meaning}
-use Rattle.tv_model.proofs.Tests.{right_true, both_true, same_job_decides}
+use Rattle.tv_model.proofs.Tests.{both_true}
 use Rattle.tv_model.proofs.Turns.{In}
-use Rattle.tv_history.proofs.Counts.{bit, count-total, tally, total}
+use Rattle.tv_history.proofs.Counts.{bit, count-total, tally, total-same}
 use Rattle.tv_history.proofs.Ready.{document-whole}
 use Rattle.tv_order.specs.JobOrder.{Apart}
 use Rattle.tv_order.proofs.OfTallies.{tally-none, total-swap}
 use Rattle.tv_offered.proofs.OfRuns.{jobs-of}
-
-total-same : {A : Type 0} (f g : A → ℕ) (xs : List A) → ((x : A) → In x xs → f x ≡ g x) → total f xs ≡ total g xs
-total-same f g [] h = refl
-total-same f g (x ∷ xs) h = (λ i. h x (inl refl) i + total-same f g xs (λ y k. h y (inr k)) i)
 
 fails : {A : Type 0} (q : A → Bool) (x y : A) → (q y ≡ true → y ≡ x) → (y ≡ x → ⊥) → q y ≡ false
 fails q x y h ne = on_test (q y) (λ e. absurd (ne (h e))) (λ e. e)
@@ -51,7 +49,7 @@ module _ (gives : Giving) (d : Document) (counts : Job → Bool) (counts_name : 
           let itself : same_job j.name j.name ≡ true = (same_job_decides j.name j.name).1 refl in
           let met : meet j j.name ≡ true = both_true (counts j) (same_job j.name j.name) e itself in
           ap bit (e ∙ sym met)
-          ∙ sym (tally-one (λ n. n) (λ n. meet j n) j.name names apart (all j i e) (λ n k h. sym ((same_job_decides j.name n).0 (right_true (counts j) (same_job j.name n) h))))
+          ∙ sym (tally-one (λ n. n) (λ n. meet j n) j.name names apart (all j i e) (λ n k h. sym ((same_job_decides j.name n).0 (second_so (counts j) (same_job j.name n) h))))
 
       none : counts j ≡ false → bit (counts j) ≡ tally (λ n. meet j n) names
       none e = ap bit e ∙ sym (tally-none (λ n. meet j n) names (λ n k. ap (λ b. b && same_job j.name n) e))
@@ -61,7 +59,7 @@ module _ (gives : Giving) (d : Document) (counts : Job → Bool) (counts_name : 
       let j = each n k in
       let is : same_job j.0.name n ≡ true = (same_job_decides j.0.name n).1 j.2 in
       tally-one (λ (j : Job). j.name) (λ j. meet j n) j.0 (meaning gives d).jobs (document-whole gives d).jobs_apart j.1
-      (λ y h e. (jobs-of gives d).once y j.0 h j.1 ((same_job_decides y.name n).0 (right_true (counts y) (same_job y.name n) e) ∙ sym j.2))
+      (λ y h e. (jobs-of gives d).once y j.0 h j.1 ((same_job_decides y.name n).0 (second_so (counts y) (same_job y.name n) e) ∙ sym j.2))
       ∙ ap bit (ap (λ b. counts j.0 && b) is ∙ and-true (counts j.0) ∙ sym (same j.0 j.1) ∙ ap counts_name j.2)
     where
       and-true : (b : Bool) → (b && true) ≡ b

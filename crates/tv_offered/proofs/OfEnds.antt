@@ -7,12 +7,13 @@ use Rattle.tv_flow.specs.Flows.{Document}
 use Rattle.tv_model.specs.Jobs.{Job}
 use Rattle.tv_model.specs.Meanings.{meaning}
 use Rattle.tv_model.specs.Turns.{is_bounced}
-use Rattle.tv_model.proofs.Tests.{both_true, same_job_decides}
+use Rattle.tv_model.proofs.Tests.{both_true}
 use Rattle.tv_model.proofs.Turns.{In}
 use Rattle.tv_history.specs.Entries.{History, bounced}
 use Rattle.tv_history.specs.Histories.{can_bounce, is_at, is_legal_after, is_ready}
 use Rattle.tv_offered.specs.Ends.{BouncesNothing}
 use Rattle.tv_offered.proofs.OfRuns.{any-of, none-of}
+use Rattle.tv_value.proofs.OfJobNames.{same_job_decides}
 
 module _ (gives : Giving) (d : Document) where
   pub bounce-legal : (past : History) (j : Job) → In j (meaning gives d).jobs → is_ready (meaning gives d) past j ≡ true → is_bounced j.ending ≡ true → is_legal_after gives (meaning gives d) past (bounced j.name) ≡ true

@@ -6,13 +6,14 @@ use Rattle.tv_gate.specs.Outcomes.{Giving}
 use Rattle.tv_flow.specs.Flows.{Document}
 use Rattle.tv_model.specs.Jobs.{Job}
 use Rattle.tv_model.specs.Meanings.{meaning}
-use Rattle.tv_model.proofs.Tests.{both_true, same_job_decides}
+use Rattle.tv_model.proofs.Tests.{both_true}
 use Rattle.tv_model.proofs.Turns.{In}
 use Rattle.tv_history.specs.Entries.{History, handed_out}
 use Rattle.tv_history.specs.Histories.{is_ask, is_at, is_legal_after, is_offered, next_ask}
 use Rattle.tv_order.proofs.OfFirst.{find-none}
 use Rattle.tv_offered.specs.Offers.{OffersNothing}
 use Rattle.tv_offered.proofs.OfRuns.{none-of}
+use Rattle.tv_value.proofs.OfJobNames.{same_job_decides}
 
 module _ (gives : Giving) (d : Document) (past : History) where
   pub handing-legal : (j : Job) (a t : ℕ) → find (is_offered (meaning gives d) past) (meaning gives d).jobs ≡ Some j

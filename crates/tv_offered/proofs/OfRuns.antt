@@ -3,15 +3,17 @@ use Rattle.std.specs.Prelude.{◌≡◌, ◌≢◌, ◌&&◌, ◌||◌, not, Boo
 use Rattle.std.specs.List.{list_any}
 use Rattle.std.proofs.Common.{ap, sym, ◌∙◌, inl, inr}
 use Rattle.std.proofs.lemmas.Bool.{false_from_ne_true, not-true}
+use Rattle.std.specs.Cmp.{first_so, second_so}
 use Rattle.tv_lemmas.proofs.Cases.{on_or}
 use Rattle.tv_value.specs.Orders.{same_job}
+use Rattle.tv_value.proofs.OfJobNames.{same_job_decides}
 use Rattle.tv_gate.specs.Outcomes.{Giving}
 use Rattle.tv_flow.specs.Flows.{Document}
 use Rattle.tv_model.specs.Jobs.{Job}
 use Rattle.tv_model.specs.Made.{Meaning}
 use Rattle.tv_model.specs.Meanings.{meaning}
 use Rattle.tv_model.specs.Turns.{is_bounced}
-use Rattle.tv_model.proofs.Tests.{left_true, right_true, or_right, same_job_decides}
+use Rattle.tv_model.proofs.Tests.{or_right}
 use Rattle.tv_model.proofs.Turns.{In, or_left}
 use Rattle.tv_history.specs.Entries.{Entry, History, is_begun_entry, is_out}
 use Rattle.tv_history.specs.Histories.{all_known, has_open_instance, has_place, is_idle, is_legal, is_legal_after, is_open, is_ready, is_running, is_settled, may_go_on}
@@ -29,23 +31,23 @@ module _ (gives : Giving) (d : Document) where
   other-named j k i h ne = false_from_ne_true (same_job j.name k.name) (λ e. ne (same-named j k i h e))
 
   pub old-legal : (past : History) (e : Entry) → is_legal gives (meaning gives d) (e ∷ past) ≡ true → is_legal gives (meaning gives d) past ≡ true
-  old-legal past e l = left_true (is_legal gives (meaning gives d) past) (is_legal_after gives (meaning gives d) past e) l
+  old-legal past e l = first_so (is_legal gives (meaning gives d) past) (is_legal_after gives (meaning gives d) past e) l
 
   pub next-legal : (past : History) (e : Entry) → is_legal gives (meaning gives d) (e ∷ past) ≡ true → is_legal_after gives (meaning gives d) past e ≡ true
-  next-legal past e l = right_true (is_legal gives (meaning gives d) past) (is_legal_after gives (meaning gives d) past e) l
+  next-legal past e l = second_so (is_legal gives (meaning gives d) past) (is_legal_after gives (meaning gives d) past e) l
 
 -- what may go on isn't settled
 pub unsettled : (m : Meaning) (past : History) (j : Job) → may_go_on m past j ≡ true → is_settled past j ≡ false
 unsettled m past j h =
     on_or (is_idle past j) (is_ready m past j && not (is_bounced j.ending) && has_place m past j) h
     (λ q.
-    let running = left_true (is_running past j) (not (is_out past j.name)) (left_true (is_running past j && not (is_out past j.name)) (not (has_open_instance past j)) q) in
-    not-true (is_settled past j) (right_true (list_any (is_begun_entry j.name) past) (not (is_settled past j)) running))
+    let running = first_so (is_running past j) (not (is_out past j.name)) (first_so (is_running past j && not (is_out past j.name)) (not (has_open_instance past j)) q) in
+    not-true (is_settled past j) (second_so (list_any (is_begun_entry j.name) past) (not (is_settled past j)) running))
     (λ q.
-    let ready = left_true (is_ready m past j) (not (is_bounced j.ending)) (left_true (is_ready m past j && not (is_bounced j.ending)) (has_place m past j) q) in
+    let ready = first_so (is_ready m past j) (not (is_bounced j.ending)) (first_so (is_ready m past j && not (is_bounced j.ending)) (has_place m past j) q) in
     not-true (is_settled past j)
-    (right_true (is_open past j.instance && not (is_running past j)) (not (is_settled past j))
-    (left_true (is_open past j.instance && not (is_running past j) && not (is_settled past j)) (all_known m past j.waits) ready)))
+    (second_so (is_open past j.instance && not (is_running past j)) (not (is_settled past j))
+    (first_so (is_open past j.instance && not (is_running past j) && not (is_settled past j)) (all_known m past j.waits) ready)))
 
 -- one of a list that passes
 pub any-of : {A : Type 0} (p : A → Bool) (xs : List A) (x : A) → In x xs → p x ≡ true → list_any p xs ≡ true

@@ -4,8 +4,10 @@ use Rattle.std.specs.List.{list_any}
 use Rattle.std.specs.Option.{option_map_or}
 use Rattle.std.proofs.Common.{ap, subst, sym, ◌∙◌}
 use Rattle.std.proofs.lemmas.Bool.{false_from_ne_true, not-true}
+use Rattle.std.specs.Cmp.{first_so, second_so}
 use Rattle.tv_value.specs.Orders.{same_job}
 use Rattle.tv_value.specs.Values.{Name}
+use Rattle.tv_value.proofs.OfJobNames.{same_job_decides}
 use Rattle.tv_gate.specs.Outcomes.{Giving}
 use Rattle.tv_flow.specs.Flows.{Document}
 use Rattle.tv_dispatch.specs.Jobs.{Ask}
@@ -13,7 +15,7 @@ use Rattle.tv_model.specs.Jobs.{Job}
 use Rattle.tv_model.specs.Lists.{first_of_list, rest_of}
 use Rattle.tv_model.specs.Meanings.{meaning}
 use Rattle.tv_model.specs.Turns.{is_bounced}
-use Rattle.tv_model.proofs.Tests.{true≠false, left_true, right_true, both_true, or_right, same_job_decides}
+use Rattle.tv_model.proofs.Tests.{true≠false, both_true, or_right}
 use Rattle.tv_model.proofs.Turns.{In, or_left}
 use Rattle.tv_history.specs.Entries.{Entry, History, accepted, handed_out, is_begun_entry, is_bounced_entry, is_ended_entry, is_opened_entry, is_out, recalled}
 use Rattle.tv_history.specs.Histories.{asks_left, has_open_instance, is_ask, is_at, is_legal, is_legal_after, is_offered, is_open, is_running, is_settled, may_go_on, next_ask}
@@ -65,9 +67,9 @@ module _ (gives : Giving) (d : Document) where
           let r = found_in (λ k. is_at k n && option_map_or (is_ask c t) (next_ask past k) false) (is_offered (meaning gives d) past) (meaning gives d).jobs a in
           handed (same_job j.name n) (is_out past j.name) (is_some (next_ask past j))
           (λ q.
-          let name = (same_job_decides j.name n).0 q ∙ (same_job_decides n r.0.name).0 (left_true (is_at r.0 n) _ r.3) in
+          let name = (same_job_decides j.name n).0 q ∙ (same_job_decides n r.0.name).0 (first_so (is_at r.0 n) _ r.3) in
           subst (λ k. is_some (next_ask past k) ≡ true) (sym (same-named gives d j r.0 i r.1 ((same_job_decides j.name r.0.name).1 name)))
-          (left_true (is_some (next_ask past r.0)) (may_go_on (meaning gives d) past r.0) r.2))
+          (first_so (is_some (next_ask past r.0)) (may_go_on (meaning gives d) past r.0) r.2))
           rec p
       by (accepted n c t s) a p rec = took (same_job j.name n) (is_out past j.name) p rec
       by (recalled c) a p rec = absurd (true≠false (sym p))
@@ -89,10 +91,10 @@ module _ (gives : Giving) (d : Document) where
         let c = (jobs-of gives d).has_name j i in
         let o = subst (λ n. is_open past n ≡ true) c.2 h in
         subst (λ n. list_any (is_opened_entry n) past ≡ true) (sym c.2)
-        (left_true (list_any (is_opened_entry (c.0 ∷ c.1)) past) (not (list_any (is_ended_entry (c.0 ∷ c.1)) past)) o)
+        (first_so (list_any (is_opened_entry (c.0 ∷ c.1)) past) (not (list_any (is_ended_entry (c.0 ∷ c.1)) past)) o)
 
     pub open-none : has_open_instance past j ≡ true → next_ask past j ≡ None
-    open-none h = opened-none (open-opened (right_true (is_some j.opens) (is_open past j.name) h))
+    open-none h = opened-none (open-opened (second_so (is_some j.opens) (is_open past j.name) h))
 
     pub out-shut : is_out past j.name ≡ true → has_open_instance past j ≡ false
     out-shut o =
@@ -108,10 +110,10 @@ module _ (gives : Giving) (d : Document) where
         true≠false (sym (out-next past l j i o) ∙ ap (λ as'. is_some (first_of_list as')) none))
 
     begun-of : is_running past j ≡ true → list_any (is_begun_entry j.name) past ≡ true
-    begun-of r = left_true (list_any (is_begun_entry j.name) past) (not (is_settled past j)) r
+    begun-of r = first_so (list_any (is_begun_entry j.name) past) (not (is_settled past j)) r
 
     unsettled-of : is_running past j ≡ true → is_settled past j ≡ false
-    unsettled-of r = not-true (is_settled past j) (right_true (list_any (is_begun_entry j.name) past) (not (is_settled past j)) r)
+    unsettled-of r = not-true (is_settled past j) (second_so (list_any (is_begun_entry j.name) past) (not (is_settled past j)) r)
 
     next-of : is_running past j ≡ true → (is_some (next_ask past j) || is_some j.opens) ≡ true
     next-of r = by j.opens refl

@@ -4,6 +4,7 @@ use Rattle.std.proofs.Common.{ap, arith, length-append, subst, sym, ◌∙◌}
 use Rattle.std.proofs.lemmas.Bool.{ltb-false, ltb-true}
 use Rattle.std.proofs.lemmas.Option.{get_or_from_slice_get, same_Some, slice_get_within}
 use Rattle.tv_lemmas.proofs.Cases.{on_test}
+use Rattle.tv_lemmas.proofs.Lists.{get-within}
 use Rattle.tv_value.specs.Values.{Name}
 use Rattle.tv_flow.specs.Flows.{Document, Step}
 use Rattle.tv_naming.specs.Numbers.{position}
@@ -18,7 +19,6 @@ use Rattle.tv_turn.specs.FirstReady.{by_falling_rank}
 use Rattle.tv_turn.proofs.OfRanks.{has-number, number-of}
 use Rattle.tv_frame.specs.Ready.{IsFirstOfStep}
 use Rattle.tv_frame.specs.Tables.{levels_in}
-use Rattle.tv_frame.proofs.OfIdling.{stands}
 use Rattle.tv_frame.proofs.OfKeeping.{kept-ranked, kept-wired}
 use Rattle.tv_seats.specs.Seats.{Seat}
 use Rattle.tv_seated.proofs.OfLists.{in-behind, in-front, place-of}
@@ -62,7 +62,7 @@ none-first v ss going g passed same i k l at n s there of ready =
 
     was : slice_get g.passed i ≡ Some k
     was =
-        let x = stands g.passed i (let m = as-many in omega (arith, l, m)) in
+        let x = get-within g.passed i (let m = as-many in omega (arith, l, m)) in
         x.1
         ∙ ap Some
         (same_Some x.0 k (sym (in-front g.passed going i x.0 x.1) ∙ ap (λ l. slice_get l i) g.in_order ∙ at))
@@ -83,7 +83,7 @@ module _ (d : Document) (plan : FlowPlan) (pool : Nodes) (o : Open) (v : View) (
   turn-at : (passed going : List ℕ) → passed ++ going ≡ by_falling_rank v.flow → (n : ℕ) → n < length going
       → slice_get (by_falling_rank v.flow) (length passed + n) ≡ Some (get_or going n 0)
   turn-at passed going same n low =
-      let x = stands going n low in
+      let x = get-within going n low in
       ap (λ l. slice_get l (length passed + n)) (sym same)
       ∙ in-behind passed going n
       ∙ x.1
@@ -114,7 +114,7 @@ module _ (d : Document) (plan : FlowPlan) (pool : Nodes) (o : Open) (v : View) (
       (t : Name × Step) → IsStepAt v k t
       → IsFirstOfStep (levels_in v.flow) v (λ q. is_faulty_now o.frame.intakes (k, q)) t.0 true u)
       → IsFaultyOf v o.seats.seats k u
-  faulty-of k low u first = let t = stands v.flow.steps k low in by t.0 t.1 u (first t.0 t.1)
+  faulty-of k low u first = let t = get-within v.flow.steps k low in by t.0 t.1 u (first t.0 t.1)
     where
       by : (t : Name × Step) → IsStepAt v k t → (u : Option ℕ)
           → IsFirstOfStep (levels_in v.flow) v (λ q. is_faulty_now o.frame.intakes (k, q)) t.0 true u

@@ -27,10 +27,10 @@ is_before p q = is_lt (slice_cmp nat_cmp p q)
 places : IsStrictWeakOrder is_before
 places = ranks_by nat_list_cmp_total (λ (p : Place). p)
 
-before-chain : (p q r : Place) → place_before p q ≡ false → place_before q r ≡ false → place_before p r ≡ false
+pub before-chain : (p q r : Place) → place_before p q ≡ false → place_before q r ≡ false → place_before p r ≡ false
 before-chain p q r h k = place-is p r ∙ places.chain p q r (sym (place-is p q) ∙ h) (sym (place-is q r) ∙ k)
 
-before-turned : (p q : Place) → place_before p q ≡ true → place_before q p ≡ false
+pub before-turned : (p q : Place) → place_before p q ≡ true → place_before q p ≡ false
 before-turned p q h = place-is q p ∙ places.one_way p q (sym (place-is p q) ∙ h)
 
 -- ---- firsts

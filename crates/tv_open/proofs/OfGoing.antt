@@ -5,6 +5,7 @@ use Rattle.std.proofs.lemmas.Bool.{eqb-true, ltb-false, ltb-true, true≢false}
 use Rattle.std.proofs.lemmas.List.{length-map, take-append-drop}
 use Rattle.std.proofs.lemmas.Option.{get_or_from_slice_get, none-some, same_Some, slice_get_within}
 use Rattle.tv_lemmas.proofs.Cases.{on_test}
+use Rattle.tv_lemmas.proofs.Lists.{get-within}
 use Rattle.tv_value.specs.Values.{Name}
 use Rattle.tv_flow.specs.Flows.{Document, Step}
 use Rattle.tv_check.specs.declared.plans.FlowPlan.{FlowPlan}
@@ -14,7 +15,6 @@ use Rattle.tv_framing.specs.Views.{View}
 use Rattle.tv_drawn.specs.Steps.{IsStepAt}
 use Rattle.tv_frame.specs.Ready.{HasIdle}
 use Rattle.tv_frame.specs.Tables.{levels_in}
-use Rattle.tv_frame.proofs.OfIdling.{stands}
 use Rattle.tv_turn.specs.FirstReady.{by_falling_rank}
 use Rattle.tv_seats.specs.Firsts.{IsFirstAsideOf, IsFirstOf}
 use Rattle.tv_seats.specs.Nested.{AreNested}
@@ -89,7 +89,7 @@ module _ (d : Document) (plan : FlowPlan) (pool : Nodes) (o : Open) (v : View) (
         → ((t : Name × Step) → IsStepAt v k t → HasIdle v t.0 b)
         → IsFirstOf ss k None → IsFirstAsideOf ss k None → AreNested ss k [] → IsQuietStep v ss k
     quiet-step low b none idle first aside nested n s there of =
-        let t = stands v.flow.steps k low in
+        let t = get-within v.flow.steps k low in
         record {
           begun = begun-by t.0 t.1 b none (idle t.0 t.1) n s there of;
           calm =
@@ -123,7 +123,7 @@ module _ (d : Document) (plan : FlowPlan) (pool : Nodes) (o : Open) (v : View) (
 pub order-at : (v : View) (order : List ℕ) → order ≡ by_falling_rank v.flow → (n : ℕ) → n < length order
     → slice_get (by_falling_rank v.flow) n ≡ Some (get_or order n 0)
 order-at v order same n low =
-    let x = stands order n low in
+    let x = get-within order n low in
     ap (λ l. slice_get l n) (sym same) ∙ x.1 ∙ ap Some (sym (get_or_from_slice_get order n x.0 0 x.1))
 
 -- a step of which places have so many indices is one of the flow's

@@ -6,16 +6,15 @@ use Rattle.std.proofs.lemmas.List.{map-id}
 use Rattle.std.proofs.lemmas.List.Sorted.{IsPermutation-sym}
 use Rattle.std.proofs.lemmas.Option.{get_or_from_slice_get}
 use Rattle.std.proofs.lemmas.Simd.{map-map}
-use Rattle.tv_value.specs.Nested.{Place, at, leaf, list}
+use Rattle.tv_lemmas.proofs.Lists.{get-within}
+use Rattle.tv_value.specs.Nested.{Place, at}
 use Rattle.tv_value.specs.Values.{Name}
 use Rattle.tv_flow.specs.Flows.{Flow, Step}
-use Rattle.tv_strategy.specs.Iterations.{Iteration, job, passed}
-use Rattle.tv_strategy.specs.Levels.{HasLevels}
+use Rattle.tv_strategy.specs.Iterations.{job}
 use Rattle.tv_naming.specs.Numbers.{position}
 use Rattle.tv_naming.proofs.ByPosition.{position-at}
 use Rattle.tv_naming.proofs.FormedParts.{steps-ascend}
 use Rattle.tv_check.specs.declared.plans.FlowPlan.{FlowPlan}
-use Rattle.tv_matching.specs.Items.{kind_of}
 use Rattle.tv_matching.proofs.OfMembers.{each-in, in-permutes}
 use Rattle.tv_outputs.specs.Known.{Nodes}
 use Rattle.tv_instance.specs.Events.{gave, known_by}
@@ -33,8 +32,7 @@ use Rattle.tv_intake.proofs.OfIntakes.{jobs-there, step-within}
 use Rattle.tv_frame.specs.declared.frame.Frame.{Frame}
 use Rattle.tv_frame.specs.Kept.{Keeps, named_job, step_name}
 use Rattle.tv_frame.specs.Tables.{levels_in}
-use Rattle.tv_frame.proofs.OfIdling.{stands}
-use Rattle.tv_frame.proofs.OfJobInputs.{job-deep}
+use Rattle.tv_frame.proofs.OfJobInputs.{item-deep}
 use Rattle.tv_frame.proofs.OfKeeping.{kept-ranked}
 use Rattle.tv_seated.proofs.OfLists.{get-image, is-member, of-image}
 use Rattle.tv_frame.proofs.OfLists.{same-maps}
@@ -42,13 +40,6 @@ use Rattle.tv_frame.proofs.OfLists.{same-maps}
 -- the job of a spot, by the number of its step
 abbrev pub numbered_job : List (Name × Step) → Name × Place → ℕ × Place
 numbered_job steps x = (position x.0 steps, x.1)
-
--- a job of an iteration stands as deep as its levels
-item-deep : (t : Iteration) (d : ℕ) (q : Place) (s : Name) (u : Iteration) → HasLevels t d → at t q ≡ Some u
-    → FitsKind (gave s q []) (kind_of u) → length q ≡ d
-item-deep t d q s (leaf r (job b)) h e k = job-deep t d q r b h e
-item-deep t d q s (leaf r (passed m x)) h e k = absurd k
-item-deep t d q s (list r ts) h e k = absurd k
 
 module _ (flows : List (Name × Flow)) (plan : FlowPlan) (pool : Nodes) (f : Frame) (v : View) (k : Keeps flows plan pool f v) where
   -- ---- one job
@@ -65,7 +56,7 @@ module _ (flows : List (Name × Flow)) (plan : FlowPlan) (pool : Nodes) (f : Fra
         (step-within ms r.0.step r.0.at low))
 
     pub its-step : (s : Name × Step) × (slice_get v.flow.steps n ≡ Some s)
-    its-step = stands v.flow.steps n step-low
+    its-step = get-within v.flow.steps n step-low
 
     pub its-name : step_name v.flow n ≡ its-step.0.0
     its-name = ap (λ o. option_map_or (λ (t : Name × Step). t.0) o []) its-step.1

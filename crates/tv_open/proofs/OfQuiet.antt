@@ -2,16 +2,15 @@
 use Rattle.std.specs.Option.{option_map_or}
 use Rattle.std.specs.Prelude.{◌≡◌, ◌⊎◌, refl, ℕ, ◌<◌, ◌≤◌, Bool, true, false, nat_lt, ◌||◌, List, [], ◌∷◌, ◌++◌, Option, None, Some, length, slice_get, slice_set}
 use Rattle.std.proofs.Common.{ap, arith, subst, sym, ◌∙◌}
-use Rattle.std.proofs.lemmas.Bool.{ltb-false, ltb-true, true≢false}
+use Rattle.std.proofs.lemmas.Bool.{ltb-false, ltb-true, true≢false, cases_eq}
 use Rattle.std.proofs.lemmas.Option.{same_Some}
 use Rattle.tv_lemmas.proofs.Cases.{on_either, on_test}
+use Rattle.tv_lemmas.proofs.Lists.{get-within}
 use Rattle.tv_value.specs.Nested.{Place}
 use Rattle.tv_value.specs.Values.{Name}
 use Rattle.tv_flow.specs.Flows.{Flow, Step}
-use Rattle.tv_depths.proofs.OfRanked.{same-or-not}
 use Rattle.tv_instance.specs.Events.{Event, Events, gives_at, has_result, is_taken, takes_at}
 use Rattle.tv_framing.specs.Views.{View}
-use Rattle.tv_frame.proofs.OfIdling.{stands}
 use Rattle.tv_turn.specs.FirstReady.{by_falling_rank}
 use Rattle.tv_seats.specs.Seats.{Seat, staged, step_at, with_stage}
 use Rattle.tv_seats.specs.declared.stage.Stage.{Stage}
@@ -89,7 +88,7 @@ of-staged ss us ps g n x is either m t e low = by (slice_get ss n) refl
         itself ss m t
         (ap (λ l. slice_get l m) (sym (ap (λ o. option_map_or (λ s. slice_set ss n (staged x s)) o ss) none)) ∙ moved)
     by (Some s) there =
-        on_either (same-or-not m n) here
+        on_either (cases_eq m n) here
         (λ ne. itself ss m t (sym (staged-other ss n s x there m ne) ∙ moved))
       where
         here : m ≡ n → IsOneOf ss t
@@ -118,7 +117,7 @@ pub of-more : (ss us zs ns : List Seat) (ps : List ℕ) (g : ℕ) → zs ≡ us 
 of-more ss us zs ns ps g is of ahead m t e low =
     on_test (nat_lt m (length us))
     (λ h.
-    let u = stands us m (ltb-true m (length us) h) in
+    let u = get-within us m (ltb-true m (length us) h) in
     let one = same_Some u.0 t (sym (in-front us ns m u.0 u.1) ∙ ap (λ l. slice_get l m) (sym is) ∙ e) in
     of m t (u.1 ∙ ap Some one) low)
     (λ h.

@@ -1,7 +1,7 @@
 -- A region that is new and is released again.
 use Rattle.std.specs.Prelude.{◌≡◌, ◌⊎◌, refl, ℕ, zero, suc, List, [], ◌∷◌, Option, None, length, slice_index_or, slice_set}
 use Rattle.std.proofs.Common.{sym, ap, ◌∙◌, inl, inr}
-use Rattle.tv_depths.proofs.OfRanked.{same-or-not}
+use Rattle.std.proofs.lemmas.Bool.{cases_eq}
 use Rattle.tv_pool.specs.Pool.{region_at, regions_with}
 use Rattle.tv_nodes.specs.Calls.{KeepsRegions}
 use Rattle.tv_outputs.specs.Known.{Nodes}
@@ -28,7 +28,7 @@ module _ {A : Type 0} where
 -- where it is released, all is as it was
 pub given-up : (old mid new : Nodes) (number : ℕ) → number ≡ length old.regions → KeepsRegions old mid number
     → new.regions ≡ regions_with mid number None → SameRegions old new
-given-up old mid new number is k e n = by (same-or-not n number)
+given-up old mid new number is k e n = by (cases_eq n number)
   where
     by : (n ≡ number) ⊎ (n ≡ number → ⊥) → region_at new n ≡ region_at old n
     by (inl same) =

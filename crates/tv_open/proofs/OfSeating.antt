@@ -3,11 +3,11 @@ use Rattle.std.specs.Prelude.{◌≡◌, refl, ℕ, ◌+◌, ◌-◌, ◌<◌, [
 use Rattle.std.proofs.Common.{sym, ap, subst, ◌∙◌, arith}
 use Rattle.std.proofs.lemmas.List.{append_assoc, length-append, map-append}
 use Rattle.std.proofs.lemmas.Option.{slice_get_within}
+use Rattle.tv_lemmas.proofs.Lists.{get-within}
 use Rattle.tv_value.specs.Nested.{Place}
 use Rattle.tv_intake.specs.Intaken.{known_jobs}
 use Rattle.tv_intake.proofs.OfSorting.{drop-next}
 use Rattle.tv_frame.specs.declared.frame.Frame.{Frame}
-use Rattle.tv_frame.proofs.OfIdling.{stands}
 use Rattle.tv_seats.specs.Seats.{IsFree, Seat, Seated, levels_of}
 use Rattle.tv_seated.proofs.OfLists.{get-image, in-front}
 use Rattle.tv_open.specs.Seating.{CanSit, seat_for, unseated}
@@ -78,7 +78,7 @@ pub next-sitting :
     → ((j : ℕ × Place) → slice_get (known_jobs f.intakes) number ≡ Some j → z.seats ≡ y.seats ++ seat_for j ∷ [])
     → z.levels ≡ y.levels → z.room ≡ y.room - 1 → z.back_rooms ≡ y.back_rooms → AreSitting f x z (number + 1)
 next-sitting f x y z number s low seats levels room back =
-    let j = stands (known_jobs f.intakes) number low in
+    let j = get-within (known_jobs f.intakes) number low in
     let there = subst (λ n. slice_get (known_jobs f.intakes) n ≡ Some j.0) s.many j.1 in
     let own = seats j.0 j.1 in
     record {

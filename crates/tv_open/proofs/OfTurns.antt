@@ -2,13 +2,13 @@
 use Rattle.std.specs.Option.{option_map_or}
 use Rattle.std.specs.Prelude.{◌≡◌, refl, ℕ, zero, suc, ◌+◌, ◌-◌, ◌<◌, ◌≤◌, nat_lt, List, get_or, [], ◌∷◌, ◌++◌, Some, length, slice_get}
 use Rattle.std.proofs.Common.{ap, arith, set, subst, sym, ◌∙◌}
-use Rattle.std.proofs.lemmas.Bool.{ltb-false, ltb-true}
+use Rattle.std.proofs.lemmas.Bool.{ltb-false, ltb-true, cases_eq}
 use Rattle.std.proofs.lemmas.List.{length-set}
 use Rattle.std.proofs.lemmas.Option.{get_or_from_slice_get, none-some, same_Some, slice_get_within}
 use Rattle.tv_lemmas.proofs.Cases.{on_either, on_test}
+use Rattle.tv_lemmas.proofs.Lists.{get-within}
 use Rattle.tv_value.specs.Nested.{Place}
-use Rattle.tv_depths.proofs.OfRanked.{get-set-other, get-set-same, same-or-not}
-use Rattle.tv_frame.proofs.OfIdling.{stands}
+use Rattle.tv_depths.proofs.OfRanked.{get-set-other, get-set-same}
 use Rattle.tv_seats.specs.Seats.{Seat}
 use Rattle.tv_seated.proofs.OfLists.{in-either}
 use Rattle.tv_open.specs.Seating.{seat_for}
@@ -38,7 +38,7 @@ module _ (order ps : List ℕ) (steps from at k : ℕ) (there : slice_get order 
   next-filled to down = record {
     long = length-set ps k at ∙ f.long;
     filled = λ i l le e.
-        on_either (same-or-not k l)
+        on_either (cases_eq k l)
         (λ same. (
           ap (slice_get order) (ap (turn_of (set ps k at)) (sym same) ∙ here) ∙ there ∙ ap Some same,
           let h = ap (turn_of (set ps k at)) (sym same) ∙ here in omega (arith, h, le, down),
@@ -72,7 +72,7 @@ more-filled order ps steps done low steps-low f =
 
     there : slice_get order at ≡ Some k
     there =
-        let x = stands order at (omega (arith, low)) in
+        let x = get-within order at (omega (arith, low)) in
         x.1 ∙ ap Some (sym (get_or_from_slice_get order at x.0 0 x.1))
 
 pub all-filled : (order ps : List ℕ) (steps from : ℕ) → from ≡ 0 → AreFilled order ps steps from → AreTurns order ps

@@ -1,6 +1,7 @@
 -- What is told at the start, feed by feed and link by link.
 use Rattle.std.specs.Prelude.{◌≡◌, refl, ℕ, zero, suc, ◌+◌, ◌<◌, List, [], ◌∷◌, ◌++◌, length, take, Result, Ok, Err, IfOk}
 use Rattle.std.proofs.Common.{arith, get_or, ap, sym, ◌∙◌, append_assoc, append-nil}
+use Rattle.tv_lemmas.proofs.Numbers.{none-below}
 use Rattle.tv_value.specs.Values.{Name, Value}
 use Rattle.tv_wires.specs.declared.feeds.NumberedLink.{NumberedLink}
 use Rattle.tv_value.specs.Strategies.{Strategy}
@@ -12,13 +13,10 @@ use Rattle.tv_wires.specs.declared.feeds.NumberedFeed.TheVariants.{Constant, Lin
 use Rattle.tv_wires.specs.declared.feeds.NumberedLink.TheVariants.{Input, Output}
 use Rattle.tv_opening.specs.Openings.{numbered_feed_start, numbered_link_start, numbered_links_start}
 
-none : {A : Type 0} (i : ℕ) → i < 0 → A
-none i p = absurd (omega arith)
-
 module _ (values : List Value) (c : Value) (p : Name) (k : ℕ) where
   -- one more of them
   suc-link : (i : ℕ) (ls : List NumberedLink) (j : ℕ) (d : NumberedLink) → j < length ls → numbered_links_start values c p k i (take (suc j) ls) ≡ numbered_links_start values c p k i (take j ls) ++ numbered_link_start values c p k ((i + j) ∷ []) (get_or ls j d)
-  suc-link i [] j d h = none j h
+  suc-link i [] j d h = none-below j h
   suc-link i (l ∷ ls) zero d h = append-nil (numbered_link_start values c p k (i ∷ []) l) ∙ ap (λ n. numbered_link_start values c p k (n ∷ []) l) (here i)
     where
       here : (a : ℕ) → a ≡ a + 0

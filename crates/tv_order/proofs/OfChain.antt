@@ -2,6 +2,7 @@
 use Rattle.std.specs.Prelude.{◌≡◌, refl, ℕ, suc, ◌+◌, ◌<◌, ◌≤◌, ◌⊎◌, [], ◌∷◌, ◌++◌, length, true, false, is_some, count_by}
 use Rattle.std.proofs.Common.{arith, sym, ap, subst, ◌∙◌, inl, inr, append_assoc, append-nil, length-append}
 use Rattle.std.proofs.lemmas.List.{nil_from_length}
+use Rattle.std.specs.Cmp.{first_so, second_so}
 use Rattle.tv_lemmas.proofs.Cases.{on_either}
 use Rattle.tv_value.specs.Nested.{Place}
 use Rattle.tv_value.specs.Values.{JobName, Name}
@@ -12,7 +13,7 @@ use Rattle.tv_model.specs.Jobs.{Job}
 use Rattle.tv_model.specs.Lists.{rest_of}
 use Rattle.tv_model.specs.Made.{Meaning}
 use Rattle.tv_model.specs.Meanings.{meaning, nesting_limit}
-use Rattle.tv_model.proofs.Tests.{true≠false, left_true, right_true}
+use Rattle.tv_model.proofs.Tests.{true≠false}
 use Rattle.tv_model.proofs.Turns.{In}
 use Rattle.tv_model.proofs.Sound.{cancel, first_of}
 use Rattle.tv_model.proofs.Whole.{IsWhole}
@@ -36,10 +37,10 @@ module _ (gives : Giving) (m : Meaning) (w : IsWhole gives AtLeastOne m []) (lai
   pub one-from : (es : History) → is_legal gives m (es ++ base) ≡ true → is_by_one_from gives m base es ≡ true → OneRuns gives m (es ++ base) × OthersWait gives m (es ++ base)
   one-from [] l b = (λ j k i h s r u. absurd (true≠false (sym r ∙ none j i)), λ c y i h s r u n o. absurd (true≠false (sym r ∙ none c i)))
   one-from (e ∷ es) l b =
-      let legal = left_true (is_legal gives m (es ++ base)) (is_legal_after gives m (es ++ base) e) l in
-      let after = right_true (is_legal gives m (es ++ base)) (is_legal_after gives m (es ++ base) e) l in
-      let mine = right_true (is_by_one_from gives m base es) (is_by_one_after m (es ++ base) e) b in
-      let r = one-from es legal (left_true (is_by_one_from gives m base es) (is_by_one_after m (es ++ base) e) b) in
+      let legal = first_so (is_legal gives m (es ++ base)) (is_legal_after gives m (es ++ base) e) l in
+      let after = second_so (is_legal gives m (es ++ base)) (is_legal_after gives m (es ++ base) e) l in
+      let mine = second_so (is_by_one_from gives m base es) (is_by_one_after m (es ++ base) e) b in
+      let r = one-from es legal (first_so (is_by_one_from gives m base es) (is_by_one_after m (es ++ base) e) b) in
       (one-after gives m w laid (es ++ base) e legal after mine r.0 r.1, wait-after gives m w laid (es ++ base) e legal after mine r.0 r.1)
 
 -- ---- where at most one job of an instance runs
@@ -104,4 +105,4 @@ module _ (gives : Giving) (d : Document) (f : IsWellFormed d) (base : History) (
   open-few nests = omega (arith, chain-length gives (meaning gives d) (any-whole gives d) (es ++ base) legal one-runs 7 short)
     where
       short : (j : Job) → In j (meaning gives d).jobs → has_open_instance (es ++ base) j ≡ true → length j.name ≤ 7
-      short j i p = let o = (orderly gives d).opener nests j i (left_true (is_some j.opens) (is_open (es ++ base) j.name) p) in (omega (arith, ap (λ (n : JobName). length n) o.2, o.3))
+      short j i p = let o = (orderly gives d).opener nests j i (first_so (is_some j.opens) (is_open (es ++ base) j.name) p) in (omega (arith, ap (λ (n : JobName). length n) o.2, o.3))

@@ -3,6 +3,8 @@ use Rattle.std.specs.Prelude.{◌≡◌, refl, ◌<◌, ◌≤◌, ◌⊎◌, Li
 use Rattle.std.specs.List.{list_any}
 use Rattle.std.proofs.Common.{arith, sym, ap, subst, ◌∙◌, inl, inr}
 use Rattle.std.proofs.lemmas.Bool.{false_from_ne_true, not-true}
+use Rattle.std.specs.Cmp.{first_so, second_so}
+use Rattle.std.specs.Cmp.Derive.{one_truth}
 use Rattle.tv_lemmas.proofs.Cases.{on_test, on_or}
 use Rattle.tv_value.specs.Values.{JobName}
 use Rattle.tv_gate.specs.Outcomes.{Giving}
@@ -12,7 +14,7 @@ use Rattle.tv_model.specs.Jobs.{Job}
 use Rattle.tv_model.specs.Made.{Meaning}
 use Rattle.tv_model.specs.Meanings.{meaning, nesting_limit}
 use Rattle.tv_model.specs.Turns.{is_bounced}
-use Rattle.tv_model.proofs.Tests.{true≠false, left_true, right_true, both_true, or_right}
+use Rattle.tv_model.proofs.Tests.{true≠false, both_true, or_right}
 use Rattle.tv_model.proofs.Turns.{In, or_left}
 use Rattle.tv_model.proofs.Fed.{each-all}
 use Rattle.tv_model.proofs.Whole.{IsWhole, StepsHave}
@@ -23,7 +25,6 @@ use Rattle.tv_history.proofs.Ready.{AnyNumber, all-sound, are-jobs}
 use Rattle.tv_history.proofs.Stuck.{begun-tried}
 use Rattle.tv_history.proofs.OneWorker.{IsLaidOut}
 use Rattle.tv_history.proofs.LaidOut.{flow-laid}
-use Rattle.tv_history.proofs.Tests.{same_tests}
 use Rattle.tv_order.specs.FirstIn.{AreHeld, first_in}
 use Rattle.tv_order.proofs.OfOrder.{IsOrderly, flow-orderly}
 use Rattle.tv_order.proofs.OfStrict.{PrefixFirst, prefix-first}
@@ -57,10 +58,10 @@ module _ (gives : Giving) (d : Document) where
     Going j = is_offered m past j || can_open m past j
 
     offered-going : (j : Job) → is_offered m past j ≡ true → may_go_on m past j ≡ true
-    offered-going j h = right_true (is_some (next_ask past j)) (may_go_on m past j) h
+    offered-going j h = second_so (is_some (next_ask past j)) (may_go_on m past j) h
 
     pub goes-going : (j : Job) → Going j ≡ true → may_go_on m past j ≡ true
-    goes-going j h = on_or (is_offered m past j) (can_open m past j) h (λ q. offered-going j q) (λ q. right_true (is_none (next_ask past j) && is_some j.opens) (may_go_on m past j) q)
+    goes-going j h = on_or (is_offered m past j) (can_open m past j) h (λ q. offered-going j q) (λ q. second_so (is_none (next_ask past j) && is_some j.opens) (may_go_on m past j) q)
 
     -- a test that only what may go on passes
     pub shut : (passes : Job → Bool) → ((j : Job) → passes j ≡ true → may_go_on m past j ≡ true) → (j : Job) → In j m.jobs → has_open_instance past j ≡ true → passes j ≡ false
@@ -79,10 +80,10 @@ module _ (gives : Giving) (d : Document) where
     -- ---- the test by plain data
 
     unsettled-tried : (j : Job) → In j m.jobs → may_go_on m past j ≡ true → (is_settled past j ≡ false) × (is_bounced j.ending ≡ false)
-    unsettled-tried j i h = on_or (is_idle past j) (is_ready m past j && not (is_bounced j.ending) && has_place m past j) h (λ q. let b = idle_begun gives m (all-sound gives AnyNumber m [] any-whole) (are-jobs gives AnyNumber m [] any-whole) past j q in (b.1, begun-tried gives AnyNumber m any-whole past j i legal b.0)) (λ q. let r = left_true (is_ready m past j && not (is_bounced j.ending)) (has_place m past j) q in (not-true (is_settled past j) (right_true (is_open past j.instance && not (is_running past j)) (not (is_settled past j)) (left_true (is_open past j.instance && not (is_running past j) && not (is_settled past j)) (all_known m past j.waits) (left_true (is_ready m past j) (not (is_bounced j.ending)) r))), not-true (is_bounced j.ending) (right_true (is_ready m past j) (not (is_bounced j.ending)) r)))
+    unsettled-tried j i h = on_or (is_idle past j) (is_ready m past j && not (is_bounced j.ending) && has_place m past j) h (λ q. let b = idle_begun gives m (all-sound gives AnyNumber m [] any-whole) (are-jobs gives AnyNumber m [] any-whole) past j q in (b.1, begun-tried gives AnyNumber m any-whole past j i legal b.0)) (λ q. let r = first_so (is_ready m past j && not (is_bounced j.ending)) (has_place m past j) q in (not-true (is_settled past j) (second_so (is_open past j.instance && not (is_running past j)) (not (is_settled past j)) (first_so (is_open past j.instance && not (is_running past j) && not (is_settled past j)) (all_known m past j.waits) (first_so (is_ready m past j) (not (is_bounced j.ending)) r))), not-true (is_bounced j.ending) (second_so (is_ready m past j) (not (is_bounced j.ending)) r)))
 
     pub going-plain : (j : Job) → In j m.jobs → (is_offered m past j || can_open m past j) ≡ may_go_on m past j
-    going-plain j i = same_tests (is_offered m past j || can_open m past j) (may_go_on m past j) (goes-going j) (λ g. back g (unsettled-tried j i g))
+    going-plain j i = one_truth (is_offered m past j || can_open m past j) (may_go_on m past j) (goes-going j) (λ g. back g (unsettled-tried j i g))
       where
         back : may_go_on m past j ≡ true → (is_settled past j ≡ false) × (is_bounced j.ending ≡ false) → (is_offered m past j || can_open m past j) ≡ true
         back g u = by (next_ask past j) refl

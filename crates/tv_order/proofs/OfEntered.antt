@@ -3,6 +3,7 @@ use Rattle.std.specs.Prelude.{◌≡◌, refl, ℕ, zero, suc, ◌+◌, ◌*◌,
 use Rattle.std.specs.List.{list_all}
 use Rattle.std.proofs.Common.{arith, sym, ap, subst, ◌∙◌, inl, inr, append_assoc, append-nil, length-append}
 use Rattle.std.proofs.lemmas.Bool.{not-true}
+use Rattle.std.specs.Cmp.{first_so, second_so}
 use Rattle.tv_lemmas.proofs.Cases.{on_either}
 use Rattle.tv_value.specs.Nested.{Place}
 use Rattle.tv_value.specs.Values.{JobName, Name}
@@ -11,7 +12,7 @@ use Rattle.tv_flow.specs.Flows.{Document}
 use Rattle.tv_model.specs.Jobs.{Job}
 use Rattle.tv_model.specs.Made.{Meaning}
 use Rattle.tv_model.specs.Meanings.{meaning, nesting_limit}
-use Rattle.tv_model.proofs.Tests.{true≠false, left_true, right_true, both_true}
+use Rattle.tv_model.proofs.Tests.{true≠false, both_true}
 use Rattle.tv_model.proofs.Turns.{In}
 use Rattle.tv_model.proofs.Order.{in-append}
 use Rattle.tv_model.proofs.Members.{Apart, apart-append, each_in, in-options}
@@ -106,7 +107,7 @@ module _ (gives : Giving) (d : Document) (f : IsWellFormed d) (past : History) (
       by true e u rec = on_either (in-append J (entered k j.name) (if is_some (first_of k j.name) then [] else among k js) u) (λ v. (j, inl refl, e, v)) (λ v. later rec (rest (is_some (first_of k j.name)) v))
 
   opener-in : (j : Job) → In j m.jobs → into j ≡ true → In j.name (instances m)
-  opener-in j h e = inr (in-options (λ j. if is_some j.opens then Some j.name else None) j j.name m.jobs h (ap (λ b. if b then Some j.name else None) (left_true (is_some j.opens) (is_open past j.name) e)))
+  opener-in j h e = inr (in-options (λ j. if is_some j.opens then Some j.name else None) j j.name m.jobs h (ap (λ b. if b then Some j.name else None) (first_so (is_some j.opens) (is_open past j.name) e)))
 
   abbrev IsEntered : JobName → JobName → Type 0
   IsEntered I J = ((r : JobName) × (J ≡ I ++ r)) × (is_open past J ≡ true) × In J (instances m)
@@ -117,7 +118,7 @@ module _ (gives : Giving) (d : Document) (f : IsWellFormed d) (past : History) (
   facts (suc k) I o i J (inr h) =
       let r = of-among k (held I) J h in
       let g = (are I o).of_instance r.0 r.1 in
-      let b = facts k r.0.name (right_true (is_some r.0.opens) (is_open past r.0.name) r.2) (opener-in r.0 g.0 r.2) J r.3 in
+      let b = facts k r.0.name (second_so (is_some r.0.opens) (is_open past r.0.name) r.2) (opener-in r.0 g.0 r.2) J r.3 in
       (((w.jobs r.0 g.0).key ∷ b.0.0, b.0.1 ∙ ap (λ n. n ++ b.0.0) ((w.jobs r.0 g.0).named ∙ ap (λ n. n ++ (w.jobs r.0 g.0).key ∷ []) g.1) ∙ append_assoc I ((w.jobs r.0 g.0).key ∷ []) b.0.0), b.1, b.2)
 
   -- no instance is entered twice
@@ -154,9 +155,9 @@ module _ (gives : Giving) (d : Document) (f : IsWellFormed d) (past : History) (
   apart (suc k) I o i = (
     λ J h e. let r = of-among k (held I) J h in
         let g = (are I o).of_instance r.0 r.1 in
-        let b = facts k r.0.name (right_true (is_some r.0.opens) (is_open past r.0.name) r.2) (opener-in r.0 g.0 r.2) J r.3 in
+        let b = facts k r.0.name (second_so (is_some r.0.opens) (is_open past r.0.name) r.2) (opener-in r.0 g.0 r.2) J r.3 in
         not-longer I (w.jobs r.0 g.0).key b.0.0 (sym e ∙ b.0.1 ∙ ap (λ n. n ++ b.0.0) ((w.jobs r.0 g.0).named ∙ ap (λ n. n ++ (w.jobs r.0 g.0).key ∷ []) g.1) ∙ append_assoc I ((w.jobs r.0 g.0).key ∷ []) b.0.0),
-    apart-among k I (held I) ((are I o).of_instance) ((are I o).in_order) (λ j h e. apart k j.name (right_true (is_some j.opens) (is_open past j.name) e) (opener-in j ((are I o).of_instance j h).0 e)) (λ j h e J u. (facts k j.name (right_true (is_some j.opens) (is_open past j.name) e) (opener-in j ((are I o).of_instance j h).0 e) J u).0),
+    apart-among k I (held I) ((are I o).of_instance) ((are I o).in_order) (λ j h e. apart k j.name (second_so (is_some j.opens) (is_open past j.name) e) (opener-in j ((are I o).of_instance j h).0 e)) (λ j h e J u. (facts k j.name (second_so (is_some j.opens) (is_open past j.name) e) (opener-in j ((are I o).of_instance j h).0 e) J u).0),
   )
 
   -- ---- still ones
@@ -179,7 +180,7 @@ module _ (gives : Giving) (d : Document) (f : IsWellFormed d) (past : History) (
   -- of a walk that finds nothing all is still, and of one that finds something at most a level of instances isn't
   at-most : (k : ℕ) (I : JobName) → is_open past I ≡ true → In I (instances m) → ((y : Job) → In y m.jobs → length y.name ≤ length I + k) → tally (λ J. not (still J)) (entered k I) ≤ k
   at-most zero I o i b = omega arith
-  at-most (suc k) I o i b = one (not (still I)) (tally (λ J. not (still J)) (among k (held I))) k (rest (held I) ((are I o).of_instance) (λ j h e. at-most k j.name (right_true (is_some j.opens) (is_open past j.name) e) (opener-in j ((are I o).of_instance j h).0 e) (shorter j ((are I o).of_instance j h))))
+  at-most (suc k) I o i b = one (not (still I)) (tally (λ J. not (still J)) (among k (held I))) k (rest (held I) ((are I o).of_instance) (λ j h e. at-most k j.name (second_so (is_some j.opens) (is_open past j.name) e) (opener-in j ((are I o).of_instance j h).0 e) (shorter j ((are I o).of_instance j h))))
     where
       one : (c : Bool) (a k : ℕ) → a ≤ k → bit c + a ≤ suc k
       one true a k h = omega (arith, h)
@@ -201,7 +202,7 @@ module _ (gives : Giving) (d : Document) (f : IsWellFormed d) (past : History) (
 
           all-still : into j ≡ true → FirstOf gives AnyNumber m w past legal (any-laid gives d) (any-first gives d) goes (λ z i h. going-open gives AnyNumber m w past legal z i (goes-going gives d past legal z h)) (shut gives d past legal goes (goes-going gives d past legal)) held are (Under gives AnyNumber m w past legal (any-laid gives d) (any-first gives d) goes (λ z i h. going-open gives AnyNumber m w past legal z i (goes-going gives d past legal z h)) (shut gives d past legal goes (goes-going gives d past legal)) held are j.name) None → tally (λ J. not (still J)) (entered k j.name) ≡ 0
           all-still e h =
-              tally-none (λ J. not (still J)) (entered k j.name) (λ J u. ap not (still-below j.name J (facts k j.name (right_true (is_some j.opens) (is_open past j.name) e) (opener-in j (of j (inl refl)).0 e) J u).0 (λ y i p. h y i p)))
+              tally-none (λ J. not (still J)) (entered k j.name) (λ J u. ap not (still-below j.name J (facts k j.name (second_so (is_some j.opens) (is_open past j.name) e) (opener-in j (of j (inl refl)).0 e) J u).0 (λ y i p. h y i p)))
 
           inner : into j ≡ true → (t : Option Job) → first_of k j.name ≡ t → tally (λ J. not (still J)) (among k js) ≤ k → tally (λ J. not (still J)) (entered k j.name) + tally (λ J. not (still J)) (if is_some t then [] else among k js) ≤ k
           inner e (Some x) q h = omega (arith, g j (inl refl) e)
@@ -209,7 +210,7 @@ module _ (gives : Giving) (d : Document) (f : IsWellFormed d) (past : History) (
               omega (
                 arith,
                 all-still e (subst (λ t. FirstOf gives AnyNumber m w past legal (any-laid gives d) (any-first gives d) goes (λ z i h. going-open gives AnyNumber m w past legal z i (goes-going gives d past legal z h)) (shut gives d past legal goes (goes-going gives d past legal)) held are (Under gives AnyNumber m w past legal (any-laid gives d) (any-first gives d) goes (λ z i h. going-open gives AnyNumber m w past legal z i (goes-going gives d past legal z h)) (shut gives d past legal goes (goes-going gives d past legal)) held are j.name) t) q
-                    (walked gives AnyNumber m w past legal (any-laid gives d) (any-first gives d) goes (λ z i h. going-open gives AnyNumber m w past legal z i (goes-going gives d past legal z h)) (shut gives d past legal goes (goes-going gives d past legal)) held are k j.name (right_true (is_some j.opens) (is_open past j.name) e) (shorter j (of j (inl refl))))),
+                    (walked gives AnyNumber m w past legal (any-laid gives d) (any-first gives d) goes (λ z i h. going-open gives AnyNumber m w past legal z i (goes-going gives d past legal z h)) (shut gives d past legal goes (goes-going gives d past legal)) held are k j.name (second_so (is_some j.opens) (is_open past j.name) e) (shorter j (of j (inl refl))))),
                 h,
               )
 

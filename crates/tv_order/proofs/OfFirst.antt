@@ -4,6 +4,7 @@ use Rattle.std.specs.List.{list_any}
 use Rattle.std.specs.Option.{option_or}
 use Rattle.std.proofs.Common.{arith, sym, ap, subst, ◌∙◌, inl, inr, append_assoc, append-nil, length-append}
 use Rattle.std.proofs.lemmas.Bool.{false_from_ne_true, not-true}
+use Rattle.std.specs.Cmp.{first_so, second_so}
 use Rattle.tv_lemmas.proofs.Cases.{on_test, on_either}
 use Rattle.tv_value.specs.Nested.{Place}
 use Rattle.tv_value.specs.Values.{JobName, Name}
@@ -11,7 +12,7 @@ use Rattle.tv_gate.specs.Outcomes.{Giving}
 use Rattle.tv_model.specs.Jobs.{Job}
 use Rattle.tv_model.specs.Made.{Meaning}
 use Rattle.tv_model.specs.Turns.{is_bounced}
-use Rattle.tv_model.proofs.Tests.{true≠false, left_true, right_true, both_true, or_right}
+use Rattle.tv_model.proofs.Tests.{true≠false, both_true, or_right}
 use Rattle.tv_model.proofs.Turns.{In, or_left}
 use Rattle.tv_model.proofs.Members.{Apart, each_in, snoc-parts}
 use Rattle.tv_model.proofs.Whole.{IsWhole, not-longer}
@@ -73,15 +74,15 @@ module _ (gives : Giving) (D : ℕ → Type 0) (m : Meaning) (w : IsWhole gives 
 
   -- a job whose flow is open isn't settled
   pub open-unsettled : (p : Job) → In p m.jobs → has_open_instance past p ≡ true → is_settled past p ≡ false
-  open-unsettled p i h = false_from_ne_true (is_settled past p) (λ e. true≠false (sym (opener-ended gives D m w past p (left_true (is_some p.opens) (is_open past p.name) h) (begun-tried gives D m w past p i legal begun) e) ∙ not_ended))
+  open-unsettled p i h = false_from_ne_true (is_settled past p) (λ e. true≠false (sym (opener-ended gives D m w past p (first_so (is_some p.opens) (is_open past p.name) h) (begun-tried gives D m w past p i legal begun) e) ∙ not_ended))
     where
       c : (k : Name × List ℕ) × (n : JobName) × (p.name ≡ k ∷ n)
       c = (are-jobs gives D m [] w).has_name p i
 
       not_ended : list_any (is_ended_entry p.name) past ≡ false
       not_ended =
-          let o = subst (λ n. is_open past n ≡ true) c.2 (right_true (is_some p.opens) (is_open past p.name) h) in
-          subst (λ n. list_any (is_ended_entry n) past ≡ false) (sym c.2) (not-true (list_any (is_ended_entry (c.0 ∷ c.1)) past) (right_true (list_any (is_opened_entry (c.0 ∷ c.1)) past) (not (list_any (is_ended_entry (c.0 ∷ c.1)) past)) o))
+          let o = subst (λ n. is_open past n ≡ true) c.2 (second_so (is_some p.opens) (is_open past p.name) h) in
+          subst (λ n. list_any (is_ended_entry n) past ≡ false) (sym c.2) (not-true (list_any (is_ended_entry (c.0 ∷ c.1)) past) (second_so (list_any (is_opened_entry (c.0 ∷ c.1)) past) (not (list_any (is_ended_entry (c.0 ∷ c.1)) past)) o))
 
       begun : Begun p ≡ true
       begun = instance-begun gives m (all-sound gives D m [] w) (are-jobs gives D m [] w) past p i h
@@ -92,7 +93,7 @@ module _ (gives : Giving) (D : ℕ → Type 0) (m : Meaning) (w : IsWhole gives 
 
   -- a running job stands in an open instance
   pub running-open : (p : Job) → In p m.jobs → is_running past p ≡ true → is_open past p.instance ≡ true
-  running-open p i r = on_either (begun-open gives m (all-sound gives D m [] w) (are-jobs gives D m [] w) past p i legal (left_true (Begun p) (not (is_settled past p)) r)) (λ s. absurd (true≠false (sym s ∙ not-true (is_settled past p) (right_true (Begun p) (not (is_settled past p)) r)))) (λ o. o)
+  running-open p i r = on_either (begun-open gives m (all-sound gives D m [] w) (are-jobs gives D m [] w) past p i legal (first_so (Begun p) (not (is_settled past p)) r)) (λ s. absurd (true≠false (sym s ∙ not-true (is_settled past p) (second_so (Begun p) (not (is_settled past p)) r)))) (λ o. o)
 
   -- the instance round an open one is open
   pub outer-open : (p : Job) → In p m.jobs → has_open_instance past p ≡ true → is_open past p.instance ≡ true
@@ -100,11 +101,11 @@ module _ (gives : Giving) (D : ℕ → Type 0) (m : Meaning) (w : IsWhole gives 
 
   -- what may go on stands in an open instance
   pub going-open : (j : Job) → In j m.jobs → may_go_on m past j ≡ true → is_open past j.instance ≡ true
-  going-open j i g = on_either (going_on gives m (all-sound gives D m [] w) (are-jobs gives D m [] w) past j g) (λ q. running-open j i (left_true (is_running past j) (not (is_out past j.name)) (left_true (is_running past j && not (is_out past j.name)) (not (has_open_instance past j)) q))) (λ q. left_true (is_open past j.instance) (not (is_running past j)) (left_true (is_open past j.instance && not (is_running past j)) (not (is_settled past j)) (left_true (is_open past j.instance && not (is_running past j) && not (is_settled past j)) (all_known m past j.waits) q)))
+  going-open j i g = on_either (going_on gives m (all-sound gives D m [] w) (are-jobs gives D m [] w) past j g) (λ q. running-open j i (first_so (is_running past j) (not (is_out past j.name)) (first_so (is_running past j && not (is_out past j.name)) (not (has_open_instance past j)) q))) (λ q. first_so (is_open past j.instance) (not (is_running past j)) (first_so (is_open past j.instance && not (is_running past j)) (not (is_settled past j)) (first_so (is_open past j.instance && not (is_running past j) && not (is_settled past j)) (all_known m past j.waits) q)))
 
   -- a job whose flow is open doesn't go on itself
   pub opener-waits : (j : Job) → In j m.jobs → has_open_instance past j ≡ true → may_go_on m past j ≡ false
-  opener-waits j i h = false_from_ne_true (may_go_on m past j) (λ e. on_either (going_on gives m (all-sound gives D m [] w) (are-jobs gives D m [] w) past j e) (λ q. true≠false (sym h ∙ not-true (has_open_instance past j) (right_true (is_running past j && not (is_out past j.name)) (not (has_open_instance past j)) q))) (λ q. let a = left_true (is_open past j.instance && not (is_running past j) && not (is_settled past j)) (all_known m past j.waits) q in let b = left_true (is_open past j.instance && not (is_running past j)) (not (is_settled past j)) a in true≠false (sym (open-running j i h) ∙ not-true (is_running past j) (right_true (is_open past j.instance) (not (is_running past j)) b))))
+  opener-waits j i h = false_from_ne_true (may_go_on m past j) (λ e. on_either (going_on gives m (all-sound gives D m [] w) (are-jobs gives D m [] w) past j e) (λ q. true≠false (sym h ∙ not-true (has_open_instance past j) (second_so (is_running past j && not (is_out past j.name)) (not (has_open_instance past j)) q))) (λ q. let a = first_so (is_open past j.instance && not (is_running past j) && not (is_settled past j)) (all_known m past j.waits) q in let b = first_so (is_open past j.instance && not (is_running past j)) (not (is_settled past j)) a in true≠false (sym (open-running j i h) ∙ not-true (is_running past j) (second_so (is_open past j.instance) (not (is_running past j)) b))))
 
   -- ---- the job of an instance round a job further in
 
@@ -273,7 +274,7 @@ module _ (gives : Giving) (D : ℕ → Type 0) (m : Meaning) (w : IsWhole gives 
         deeper : ((J : JobName) → is_open past J ≡ true → ((y : Job) → In y m.jobs → length y.name ≤ length J + k) → FirstOf (Under J) (first_in held into passes k J)) → (j : Job) → In j (held I) → into j ≡ true → FirstOf (Under j.name) (first_in held into passes k j.name)
         deeper rec j h q =
             let f = (are I o).of_instance j h in
-            rec j.name (right_true (is_some j.opens) (is_open past j.name) q) (λ y i. (omega (arith, ap (λ (l : JobName). length l) ((w.jobs j f.0).named ∙ ap (λ n. n ++ (w.jobs j f.0).key ∷ []) f.1) ∙ length-append I ((w.jobs j f.0).key ∷ []), b y i)))
+            rec j.name (second_so (is_some j.opens) (is_open past j.name) q) (λ y i. (omega (arith, ap (λ (l : JobName). length l) ((w.jobs j f.0).named ∙ ap (λ n. n ++ (w.jobs j f.0).key ∷ []) f.1) ∙ length-append I ((w.jobs j f.0).key ∷ []), b y i)))
 
         from : (t : Option Job) → FirstOf (InOneOf (held I)) t → FirstOf (Under I) t
         from None g = λ y i u. by y i u (passes y) refl

@@ -20,7 +20,7 @@ use Rattle.tv_order.proofs.OfOrder.{jobs-in_order}
 use Rattle.tv_order.proofs.OfStrict.{pair-before, same-spots, spot-itself, spot-strict}
 
 -- within an instance job order is that of spots, or the spots are the same
-spots-of : (flows : List (Name × Flow)) (k : ℕ) (f : Name) (I : JobName) (x y : Name × Place) → job_before flows k f (I ++ x ∷ []) (I ++ y ∷ []) ≡ true → (x ≡ y) ⊎ (spot_before (steps_at flows k f I) x y ≡ true)
+pub spots-of : (flows : List (Name × Flow)) (k : ℕ) (f : Name) (I : JobName) (x y : Name × Place) → job_before flows k f (I ++ x ∷ []) (I ++ y ∷ []) ≡ true → (x ≡ y) ⊎ (spot_before (steps_at flows k f I) x y ≡ true)
 spots-of flows zero f I x y h = absurd (true≠false (sym h))
 spots-of flows (suc k) f I x y h = by (named f flows) h I refl (λ g J e. spots-of flows k g J x y e)
   where

@@ -4,16 +4,18 @@ use Rattle.std.specs.List.{list_any}
 use Rattle.std.specs.Cmp.Lexicographic.{bytes_decides}
 use Rattle.std.proofs.Common.{arith, sym, ap, subst, ◌∙◌, inl, inr}
 use Rattle.std.proofs.lemmas.Bool.{ltb-true, not-true}
+use Rattle.std.specs.Cmp.{first_so, second_so}
 use Rattle.tv_history.proofs.Legal.{legal-of}
 use Rattle.tv_lemmas.proofs.Cases.{on_test, on_either, on_or}
 use Rattle.tv_value.specs.Orders.{same_job, same_name}
+use Rattle.tv_value.proofs.OfJobNames.{same_job_decides}
 use Rattle.tv_gate.specs.Outcomes.{Giving}
 use Rattle.tv_flow.specs.Flows.{Document}
 use Rattle.tv_model.specs.Jobs.{Job}
 use Rattle.tv_model.specs.Made.{Meaning}
 use Rattle.tv_model.specs.Meanings.{meaning, nesting_limit}
 use Rattle.tv_model.specs.Turns.{is_bounced}
-use Rattle.tv_model.proofs.Tests.{true≠false, left_true, right_true, both_true, same_job_decides}
+use Rattle.tv_model.proofs.Tests.{true≠false, both_true}
 use Rattle.tv_model.proofs.Turns.{In}
 use Rattle.tv_model.proofs.Order.{some_in}
 use Rattle.tv_history.specs.Entries.{Entry, History, handed_out, is_begun_entry, opened}
@@ -49,8 +51,8 @@ module _ (gives : Giving) (d : Document) where
       by f =
           let a = f j h in
           let b = f k i in
-          let s = (same_job_decides k.instance j.instance).0 (left_true (same_job k.instance j.instance) (same_name k.step j.step) e) in
-          let t = (bytes_decides k.step j.step).0 (right_true (same_job k.instance j.instance) (same_name k.step j.step) e) in
+          let s = (same_job_decides k.instance j.instance).0 (first_so (same_job k.instance j.instance) (same_name k.step j.step) e) in
+          let t = (bytes_decides k.step j.step).0 (second_so (same_job k.instance j.instance) (same_name k.step j.step) e) in
           b.4 ∙ ap (λ n. limit_at d.flows nesting_limit d.main n k.step) (sym b.2 ∙ s ∙ a.2) ∙ ap (λ n. limit_at d.flows nesting_limit d.main a.0 n) t ∙ sym a.4
 
   -- it is the one that the document states
@@ -65,16 +67,16 @@ module _ (gives : Giving) (d : Document) where
   same-count past j k e = tally-weaken (runs past j) (runs past k) m.jobs (λ x i h. step x h)
     where
       s : k.instance ≡ j.instance
-      s = (same_job_decides k.instance j.instance).0 (left_true (same_job k.instance j.instance) (same_name k.step j.step) e)
+      s = (same_job_decides k.instance j.instance).0 (first_so (same_job k.instance j.instance) (same_name k.step j.step) e)
 
       t : k.step ≡ j.step
-      t = (bytes_decides k.step j.step).0 (right_true (same_job k.instance j.instance) (same_name k.step j.step) e)
+      t = (bytes_decides k.step j.step).0 (second_so (same_job k.instance j.instance) (same_name k.step j.step) e)
 
       step : (x : Job) → runs past j x ≡ true → runs past k x ≡ true
       step x h = subst (λ n. (same_job x.instance n && same_name x.step k.step && is_running past x) ≡ true) (sym s) (subst (λ n. (same_job x.instance j.instance && same_name x.step n && is_running past x) ≡ true) (sym t) h)
 
   ran-before : (past : History) (e : Entry) (j : Job) → is_running (e ∷ past) j ≡ true → (is_running past j ≡ true) ⊎ (is_begun_entry j.name e ≡ true)
-  ran-before past e j h = on_or (is_begun_entry j.name e) (list_any (is_begun_entry j.name) past) (left_true (list_any (is_begun_entry j.name) (e ∷ past)) (not (is_settled (e ∷ past) j)) h) (λ b. inr b) (λ b. inl (both_true (list_any (is_begun_entry j.name) past) (not (is_settled past j)) b (ap not (unsettled (not-true (is_settled (e ∷ past) j) (right_true (list_any (is_begun_entry j.name) (e ∷ past)) (not (is_settled (e ∷ past) j)) h)) (is_settled past j) refl))))
+  ran-before past e j h = on_or (is_begun_entry j.name e) (list_any (is_begun_entry j.name) past) (first_so (list_any (is_begun_entry j.name) (e ∷ past)) (not (is_settled (e ∷ past) j)) h) (λ b. inr b) (λ b. inl (both_true (list_any (is_begun_entry j.name) past) (not (is_settled past j)) b (ap not (unsettled (not-true (is_settled (e ∷ past) j) (second_so (list_any (is_begun_entry j.name) (e ∷ past)) (not (is_settled (e ∷ past) j)) h)) (is_settled past j) refl))))
     where
       unsettled : is_settled (e ∷ past) j ≡ false → (b : Bool) → is_settled past j ≡ b → is_settled past j ≡ false
       unsettled f false g = g
@@ -97,20 +99,20 @@ module _ (gives : Giving) (d : Document) where
     where
       idle : (k : Job) → (b : Bool) → runs [] j k ≡ b → runs [] j k ≡ false
       idle k false e = e
-      idle k true e = absurd (true≠false (sym (right_true (of_step j k) (is_running [] k) e)))
+      idle k true e = absurd (true≠false (sym (second_so (of_step j k) (is_running [] k) e)))
   within (e ∷ past) l j i = on_test (list_any (begins-at e past j) m.jobs) (λ f. let k = some_in (begins-at e past j) m.jobs f in one-more k.0 k.1 k.2) (λ f. omega (arith, tally-weaken (runs (e ∷ past) j) (runs past j) m.jobs (as-before f), (within past legal j i)))
     where
       legal : is_legal gives m past ≡ true
-      legal = left_true (is_legal gives m past) (is_legal_after gives m past e) l
+      legal = first_so (is_legal gives m past) (is_legal_after gives m past e) l
 
       after : is_legal_after gives m past e ≡ true
-      after = right_true (is_legal gives m past) (is_legal_after gives m past e) l
+      after = second_so (is_legal gives m past) (is_legal_after gives m past e) l
 
       as-before : list_any (begins-at e past j) m.jobs ≡ false → (k : Job) → In k m.jobs → runs (e ∷ past) j k ≡ true → runs past j k ≡ true
-      as-before none k h r = on_either (ran-before past e k (right_true (of_step j k) (is_running (e ∷ past) k) r)) (λ f. both_true (of_step j k) (is_running past k) at-step f) (λ f. both_true (of_step j k) (is_running past k) at-step (running-now f (is_running past k) refl))
+      as-before none k h r = on_either (ran-before past e k (second_so (of_step j k) (is_running (e ∷ past) k) r)) (λ f. both_true (of_step j k) (is_running past k) at-step f) (λ f. both_true (of_step j k) (is_running past k) at-step (running-now f (is_running past k) refl))
         where
           at-step : of_step j k ≡ true
-          at-step = left_true (of_step j k) (is_running (e ∷ past) k) r
+          at-step = first_so (of_step j k) (is_running (e ∷ past) k) r
 
           running-now : is_begun_entry k.name e ≡ true → (b : Bool) → is_running past k ≡ b → is_running past k ≡ true
           running-now g true f = f
@@ -120,22 +122,22 @@ module _ (gives : Giving) (d : Document) where
       one-more k h b = omega (arith, more, same-count past j k at-step, free, same-limit j k i h at-step)
         where
           at-step : of_step j k ≡ true
-          at-step = left_true (of_step j k) (is_begun_entry k.name e && not (is_running past k)) b
+          at-step = first_so (of_step j k) (is_begun_entry k.name e && not (is_running past k)) b
 
           begun : is_begun_entry k.name e ≡ true
-          begun = left_true (is_begun_entry k.name e) (not (is_running past k)) (right_true (of_step j k) (is_begun_entry k.name e && not (is_running past k)) b)
+          begun = first_so (is_begun_entry k.name e) (not (is_running past k)) (second_so (of_step j k) (is_begun_entry k.name e && not (is_running past k)) b)
 
           not-running : is_running past k ≡ false
-          not-running = not-true (is_running past k) (right_true (is_begun_entry k.name e) (not (is_running past k)) (right_true (of_step j k) (is_begun_entry k.name e && not (is_running past k)) b))
+          not-running = not-true (is_running past k) (second_so (is_begun_entry k.name e) (not (is_running past k)) (second_so (of_step j k) (is_begun_entry k.name e && not (is_running past k)) b))
 
           free : tally (runs past k) m.jobs < k.limit
-          free = subst (λ n. n < k.limit) (count-tally (runs past k) m.jobs) (ltb-true (count_by (runs past k) m.jobs) k.limit (on_or (is_idle past k) (is_ready m past k && not (is_bounced k.ending) && has_place m past k) (begins gives m (all-sound gives AnyNumber m [] (any-whole gives d)) (are-jobs gives AnyNumber m [] (any-whole gives d)) past k h (legal-of gives m past e after) begun) (λ q. let r = idle_begun gives m (all-sound gives AnyNumber m [] (any-whole gives d)) (are-jobs gives AnyNumber m [] (any-whole gives d)) past k q in absurd (true≠false (sym (both_true (list_any (is_begun_entry k.name) past) (not (is_settled past k)) r.0 (ap not r.1)) ∙ not-running))) (λ q. right_true (is_ready m past k && not (is_bounced k.ending)) (has_place m past k) q)))
+          free = subst (λ n. n < k.limit) (count-tally (runs past k) m.jobs) (ltb-true (count_by (runs past k) m.jobs) k.limit (on_or (is_idle past k) (is_ready m past k && not (is_bounced k.ending) && has_place m past k) (begins gives m (all-sound gives AnyNumber m [] (any-whole gives d)) (are-jobs gives AnyNumber m [] (any-whole gives d)) past k h (legal-of gives m past e after) begun) (λ q. let r = idle_begun gives m (all-sound gives AnyNumber m [] (any-whole gives d)) (are-jobs gives AnyNumber m [] (any-whole gives d)) past k q in absurd (true≠false (sym (both_true (list_any (is_begun_entry k.name) past) (not (is_settled past k)) r.0 (ap not r.1)) ∙ not-running))) (λ q. second_so (is_ready m past k && not (is_bounced k.ending)) (has_place m past k) q)))
 
           more : tally (runs (e ∷ past) j) m.jobs ≤ suc (tally (runs past j) m.jobs)
-          more = tally-one_more (λ (z : Job). z.name) (runs (e ∷ past) j) (runs past j) k m.jobs (any-whole gives d).jobs_apart (λ x u r. cases x u r (ran-before past e x (right_true (of_step j x) (is_running (e ∷ past) x) r)))
+          more = tally-one_more (λ (z : Job). z.name) (runs (e ∷ past) j) (runs past j) k m.jobs (any-whole gives d).jobs_apart (λ x u r. cases x u r (ran-before past e x (second_so (of_step j x) (is_running (e ∷ past) x) r)))
             where
               cases : (x : Job) → In x m.jobs → runs (e ∷ past) j x ≡ true → (is_running past x ≡ true) ⊎ (is_begun_entry x.name e ≡ true) → (runs past j x ≡ true) ⊎ (x ≡ k)
-              cases x u r (inl f) = inl (both_true (of_step j x) (is_running past x) (left_true (of_step j x) (is_running (e ∷ past) x) r) f)
+              cases x u r (inl f) = inl (both_true (of_step j x) (is_running past x) (first_so (of_step j x) (is_running (e ∷ past) x) r) f)
               cases x u r (inr f) = inr (same-entry e x k u h f begun)
 
   -- of a step at most its limit run in an instance
@@ -144,7 +146,7 @@ module _ (gives : Giving) (d : Document) where
 
   -- and of these at most as many have an open instance
   pub open-limit : (past : History) → is_legal gives m past ≡ true → (j : Job) → In j m.jobs → count_by (λ k. same_job k.instance j.instance && same_name k.step j.step && has_open_instance past k) m.jobs ≤ j.limit
-  open-limit past l j i = subst (λ n. n ≤ j.limit) (sym (count-tally (λ k. same_job k.instance j.instance && same_name k.step j.step && has_open_instance past k) m.jobs)) (through (tally (λ k. same_job k.instance j.instance && same_name k.step j.step && has_open_instance past k) m.jobs) (tally (runs past j) m.jobs) j.limit (tally-weaken (λ k. same_job k.instance j.instance && same_name k.step j.step && has_open_instance past k) (runs past j) m.jobs (λ k h e. both_true (of_step j k) (is_running past k) (left_true (of_step j k) (has_open_instance past k) e) (open-running gives AnyNumber m (any-whole gives d) past l k h (right_true (of_step j k) (has_open_instance past k) e)))) (within past l j i))
+  open-limit past l j i = subst (λ n. n ≤ j.limit) (sym (count-tally (λ k. same_job k.instance j.instance && same_name k.step j.step && has_open_instance past k) m.jobs)) (through (tally (λ k. same_job k.instance j.instance && same_name k.step j.step && has_open_instance past k) m.jobs) (tally (runs past j) m.jobs) j.limit (tally-weaken (λ k. same_job k.instance j.instance && same_name k.step j.step && has_open_instance past k) (runs past j) m.jobs (λ k h e. both_true (of_step j k) (is_running past k) (first_so (of_step j k) (has_open_instance past k) e) (open-running gives AnyNumber m (any-whole gives d) past l k h (second_so (of_step j k) (has_open_instance past k) e)))) (within past l j i))
     where
       through : (a b c : ℕ) → a ≤ b → b ≤ c → a ≤ c
       through a b c h k = omega arith

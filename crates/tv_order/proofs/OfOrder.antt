@@ -3,8 +3,7 @@ use Rattle.std.specs.Prelude.{◌≡◌, refl, ℕ, zero, suc, ◌+◌, ◌<◌,
 use Rattle.std.specs.Option.{option_map_or}
 use Rattle.std.specs.Cmp.Lexicographic.{bytes_decides}
 use Rattle.std.proofs.Common.{arith, sym, ap, subst, ◌∙◌, inl, inr, append_assoc, append-nil, eq-eqb, ne_eqb, length-append}
-use Rattle.std.proofs.lemmas.Bool.{lt-ltb, false_from_ne_true}
-use Rattle.tv_dispatch.proofs.Turns.{left_if, taken_if}
+use Rattle.std.proofs.lemmas.Bool.{lt-ltb, false_from_ne_true, cond-true, cond-false}
 use Rattle.tv_lemmas.proofs.Cases.{on_either}
 use Rattle.tv_value.specs.Activities.{Activity, nested, service}
 use Rattle.tv_value.specs.Nested.{leaf, list, no_trees, tree, Place, nodes, nodes_below, nodes_from}
@@ -55,13 +54,13 @@ pairs-map R S f (x ∷ xs) p = (each-map (R x) (S x) (f x) xs p.0, pairs-map R S
 
 place-same : (q r s : Place) → place_before (q ++ r) (q ++ s) ≡ place_before r s
 place-same [] r s = refl
-place-same (i ∷ q) r s = taken_if (i == i) (place_before (q ++ r) (q ++ s)) (nat_lt i i) (eq-eqb i i refl) ∙ place-same q r s
+place-same (i ∷ q) r s = cond-true (i == i) (place_before (q ++ r) (q ++ s)) (nat_lt i i) (eq-eqb i i refl) ∙ place-same q r s
 
 place-longer : (q : Place) (i : ℕ) (r : Place) → place_before q (q ++ i ∷ r) ≡ true
 place-longer q i r = subst (λ p. place_before p (q ++ i ∷ r) ≡ true) (append-nil q) (place-same q [] (i ∷ r))
 
 place-less : (q : Place) (i j : ℕ) (r s : Place) → i < j → place_before (q ++ i ∷ r) (q ++ j ∷ s) ≡ true
-place-less q i j r s h = place-same q (i ∷ r) (j ∷ s) ∙ left_if (i == j) (place_before r s) (nat_lt i j) (ne_eqb i j (λ e. (omega (arith, h, e)))) ∙ lt-ltb i j h
+place-less q i j r s h = place-same q (i ∷ r) (j ∷ s) ∙ cond-false (i == j) (place_before r s) (nat_lt i j) (ne_eqb i j (λ e. (omega (arith, h, e)))) ∙ lt-ltb i j h
 
 abbrev pub Node : Type 0
 Node = Place × Iteration
@@ -152,7 +151,7 @@ module _ (gives : Giving) (inside : Name → JobName → List (Name × Value) �
       where
         irreflexive : (p : Place) → place_before p p ≡ true → ⊥
         irreflexive [] e = true≠false (sym e)
-        irreflexive (i ∷ p) e = irreflexive p (sym (taken_if (i == i) (place_before p p) (nat_lt i i) (eq-eqb i i refl)) ∙ e)
+        irreflexive (i ∷ p) e = irreflexive p (sym (cond-true (i == i) (place_before p p) (nat_lt i i) (eq-eqb i i refl)) ∙ e)
 
     same-name : (n : Name) → same_name n n ≡ true
     same-name n = (bytes_decides n n).1 refl
@@ -167,7 +166,7 @@ module _ (gives : Giving) (inside : Name → JobName → List (Name × Value) �
         one (q, list r ts) = tt
 
         cross : (x z : Node) → NodeBefore x z → (o u : Opened) → IsAt n s x.0 o → IsAt n s z.0 u → OwnBefore o u
-        cross x z b o u f g = ((n, x.0), (n, z.0), f.name, g.name, both-apart, taken_if (same_name n n) (place_before x.0 z.0) (nat_lt (rank_in all n) (rank_in all n)) (same-name n) ∙ b)
+        cross x z b o u f g = ((n, x.0), (n, z.0), f.name, g.name, both-apart, cond-true (same_name n n) (place_before x.0 z.0) (nat_lt (rank_in all n) (rank_in all n)) (same-name n) ∙ b)
           where
             both-apart : same_spot (n, x.0) (n, z.0) ≡ false
             both-apart = ap (λ c. c && same_name x.0 z.0) (same-name n) ∙ before-not_same x.0 z.0 b
@@ -200,7 +199,7 @@ module _ (gives : Giving) (inside : Name → JobName → List (Name × Value) �
             let y = each_in (λ o. (q : Place) × IsAt r.0.step.step s.0 q o) r.0.jobs s.2 u r.2 in
             let l = rank-below ms a.2 r.0 r.1 in
             let d = apart m.step.step r.0.step.step (length ms) a.1 l in
-            ((m.step.step, x.0), (r.0.step.step, y.0), x.1.name, y.1.name, ap (λ c. c && same_name x.0 y.0) d, left_if (same_name m.step.step r.0.step.step) (place_before x.0 y.0) (nat_lt (rank_in all r.0.step.step) (rank_in all m.step.step)) d ∙ lt-ltb (rank_in all r.0.step.step) (rank_in all m.step.step) (subst (λ z. rank_in all r.0.step.step < z) (sym a.1) l))
+            ((m.step.step, x.0), (r.0.step.step, y.0), x.1.name, y.1.name, ap (λ c. c && same_name x.0 y.0) d, cond-false (same_name m.step.step r.0.step.step) (place_before x.0 y.0) (nat_lt (rank_in all r.0.step.step) (rank_in all m.step.step)) d ∙ lt-ltb (rank_in all r.0.step.step) (rank_in all m.step.step) (subst (λ z. rank_in all r.0.step.step < z) (sym a.1) l))
 
     pub steps-each : (ms : List Made) → AreMade ms → (o : Opened) → In o (flat_map (λ m. m.jobs) ms) → IsOf o
     steps-each [] a o h = absurd h
@@ -208,8 +207,8 @@ module _ (gives : Giving) (inside : Name → JobName → List (Name × Value) �
 
     -- the steps taken so far, the first first
     found-here : (n : Name) (s : Step) (done ss : List (Name × Step)) → Each (λ d. same_name n d.0 ≡ false) done → (named n (done ++ (n, s) ∷ ss) ≡ Some s) × (rank_in (done ++ (n, s) ∷ ss) n ≡ length done)
-    found-here n s [] ss h = (taken_if (same_name n n) (Some s) (named n ss) (same-name n), taken_if (same_name n n) 0 (suc (rank_in ss n)) (same-name n))
-    found-here n s (d ∷ done) ss h = let r = found-here n s done ss h.1 in (left_if (same_name n d.0) (Some d.1) (named n (done ++ (n, s) ∷ ss)) h.0 ∙ r.0, left_if (same_name n d.0) 0 (suc (rank_in (done ++ (n, s) ∷ ss) n)) h.0 ∙ ap suc r.1)
+    found-here n s [] ss h = (cond-true (same_name n n) (Some s) (named n ss) (same-name n), cond-true (same_name n n) 0 (suc (rank_in ss n)) (same-name n))
+    found-here n s (d ∷ done) ss h = let r = found-here n s done ss h.1 in (cond-false (same_name n d.0) (Some d.1) (named n (done ++ (n, s) ∷ ss)) h.0 ∙ r.0, cond-false (same_name n d.0) 0 (suc (rank_in (done ++ (n, s) ∷ ss) n)) h.0 ∙ ap suc r.1)
 
     pub made-all : (given : List (Name × Delivered)) (done : List (Name × Step)) (ms : List Made) (ns : List Name) (ss : List (Name × Step)) → all ≡ done ++ ss → length done ≡ length ms → Each (λ d. is_among ns d.0 ≡ true) done → FreshNames ns ss → AreMade ms → AreMade (steps_made gives inside I given ms ss)
     made-all given done ms ns [] e l h f a = a
@@ -287,13 +286,13 @@ module _ (gives : Giving) (flows : List (Name × Flow)) where
 
     deeper : (x : Name × Place) (s : Step) (g : Name) (a b : JobName) → named x.0 all ≡ Some s → first_nested s.activities ≡ Some g → job_before flows k g a b ≡ true → job_before flows (suc k) f (x ∷ a) (x ∷ b) ≡ true
     deeper x s g a b e h p =
-        at-flow (x ∷ a) (x ∷ b) (taken_if (same_spot x x) (option_map_or (λ h. job_before flows k h a b) (step_flow all x.0) false) (spot_before all x x) (same-spot x) ∙ ap (λ o. option_map_or (λ h. job_before flows k h a b) o false) (opens-it (named x.0 all) e) ∙ p)
+        at-flow (x ∷ a) (x ∷ b) (cond-true (same_spot x x) (option_map_or (λ h. job_before flows k h a b) (step_flow all x.0) false) (spot_before all x x) (same-spot x) ∙ ap (λ o. option_map_or (λ h. job_before flows k h a b) o false) (opens-it (named x.0 all) e) ∙ p)
       where
         opens-it : (o : Option Step) → o ≡ Some s → option_and_then (λ (s : Step). first_nested s.activities) o ≡ Some g
         opens-it o q = ap (λ o. option_and_then (λ (s : Step). first_nested s.activities) o) q ∙ h
 
     apart : (x y : Name × Place) (a b : JobName) → same_spot x y ≡ false → spot_before all x y ≡ true → job_before flows (suc k) f (x ∷ a) (y ∷ b) ≡ true
-    apart x y a b e h = at-flow (x ∷ a) (y ∷ b) (left_if (same_spot x y) (option_map_or (λ h. job_before flows k h a b) (step_flow all x.0) false) (spot_before all x y) e ∙ h)
+    apart x y a b e h = at-flow (x ∷ a) (y ∷ b) (cond-false (same_spot x y) (option_map_or (λ h. job_before flows k h a b) (step_flow all x.0) false) (spot_before all x y) e ∙ h)
 
     -- a job of a block: the job itself, or one inside it
     block-name : (o : Opened) → Own o → (x : Name × Place) → o.job.name ≡ I ++ x ∷ [] → (j : Job) → In j (jobs_with_inside o) → (r : JobName) × (j.name ≡ I ++ x ∷ r) × (length r < suc k)

@@ -2,6 +2,7 @@
 use Rattle.std.specs.Prelude.{◌≡◌, refl, ◌+◌, ◌*◌, ◌<◌, ◌≤◌, List, [], ◌∷◌, ◌++◌, length, Bool, true, false, ◌&&◌, ◌||◌, if◌then◌else◌, count_by}
 use Rattle.std.proofs.Common.{arith, sym, ap, subst, ◌∙◌, length-append}
 use Rattle.std.proofs.lemmas.Bool.{and_right}
+use Rattle.std.specs.Cmp.{first_so, second_so}
 use Rattle.tv_value.specs.Nested.{Place}
 use Rattle.tv_value.specs.Values.{JobName, Name}
 use Rattle.tv_flow.specs.Flows.{Document}
@@ -12,7 +13,7 @@ use Rattle.tv_model.specs.Meanings.{meaning, nesting_limit}
 use Rattle.tv_history.specs.Entries.{History, is_out}
 use Rattle.tv_model.specs.Levels.{levels}
 use Rattle.tv_history.specs.Histories.{is_open, is_offered, can_open, instances, can_settle_more, is_legal}
-use Rattle.tv_model.proofs.Tests.{true≠false, left_true, right_true, both_true}
+use Rattle.tv_model.proofs.Tests.{true≠false, both_true}
 use Rattle.tv_model.proofs.Turns.{In}
 use Rattle.tv_model.proofs.Members.{Apart}
 use Rattle.tv_history.proofs.Ready.{meaning-whole}
@@ -28,7 +29,7 @@ use Rattle.tv_order.proofs.OfDocuments.{name-length}
 
 -- ---- how many
 
-inside-of : (J : JobName) (c : Name × Place) (r : JobName) → is_inside J (J ++ c ∷ r) ≡ true
+pub inside-of : (J : JobName) (c : Name × Place) (r : JobName) → is_inside J (J ++ c ∷ r) ≡ true
 inside-of [] c r = refl
 inside-of (x ∷ J) c r = both_true (same_spot x x) (is_inside J (J ++ c ∷ r)) (spot-itself x) (inside-of J c r)
 
@@ -37,8 +38,8 @@ inside-parts [] [] h = absurd (true≠false (sym h))
 inside-parts [] (c ∷ n) h = (c, n, refl)
 inside-parts (x ∷ J) [] h = absurd (true≠false (sym h))
 inside-parts (x ∷ J) (y ∷ n) h =
-    let p = inside-parts J n (right_true (same_spot x y) (is_inside J n) h) in
-    let e = same-spots x y (left_true (same_spot x y) (is_inside J n) h) in (p.0, p.1, λ i. sym e i ∷ p.2 i)
+    let p = inside-parts J n (second_so (same_spot x y) (is_inside J n) h) in
+    let e = same-spots x y (first_so (same_spot x y) (is_inside J n) h) in (p.0, p.1, λ i. sym e i ∷ p.2 i)
 
 -- first parts of one name that are as long are the same
 same-part : (J K n : JobName) → is_inside J n ≡ true → is_inside K n ≡ true → length J ≡ length K → J ≡ K
@@ -47,9 +48,9 @@ same-part [] (y ∷ K) n h k e = absurd (omega (arith, e))
 same-part (x ∷ J) [] n h k e = absurd (omega (arith, e))
 same-part (x ∷ J) (y ∷ K) [] h k e = absurd (true≠false (sym h))
 same-part (x ∷ J) (y ∷ K) (z ∷ n) h k e =
-    let p = same-spots x z (left_true (same_spot x z) (is_inside J n) h) in
-    let q = same-spots y z (left_true (same_spot y z) (is_inside K n) k) in
-    let r = same-part J K n (right_true (same_spot x z) (is_inside J n) h) (right_true (same_spot y z) (is_inside K n) k) (omega (arith, e)) in
+    let p = same-spots x z (first_so (same_spot x z) (is_inside J n) h) in
+    let q = same-spots y z (first_so (same_spot y z) (is_inside K n) k) in
+    let r = same-part J K n (second_so (same_spot x z) (is_inside J n) h) (second_so (same_spot y z) (is_inside K n) k) (omega (arith, e)) in
     λ i. (p ∙ sym q) i ∷ r i
 
 module _ (gives : Giving) (d : Document) (f : IsWellFormed d) (past : History) (legal : is_legal gives (meaning gives d) past ≡ true) (quiet : can_settle_more (meaning gives d) past ≡ false) where
@@ -86,8 +87,8 @@ module _ (gives : Giving) (d : Document) (f : IsWellFormed d) (past : History) (
       most : (k : Job) → In k m.jobs → tally (λ J. is_inside J k.name && is_out past k.name) Js ≤ nesting_limit
       most k h =
           tally-below (λ J. J) (λ J. is_inside J k.name && is_out past k.name) (λ (J : JobName). length J) Js a
-          (λ J K i j p q e. same-part J K k.name (left_true (is_inside J k.name) (is_out past k.name) p) (left_true (is_inside K k.name) (is_out past k.name) q) e) nesting_limit
-          (λ J i p. let r = inside-parts J k.name (left_true (is_inside J k.name) (is_out past k.name) p) in (omega (arith, ap (λ (l : JobName). length l) r.2 ∙ length-append J (r.0 ∷ r.1), name-length gives d k h)))
+          (λ J K i j p q e. same-part J K k.name (first_so (is_inside J k.name) (is_out past k.name) p) (first_so (is_inside K k.name) (is_out past k.name) q) e) nesting_limit
+          (λ J i p. let r = inside-parts J k.name (first_so (is_inside J k.name) (is_out past k.name) p) in (omega (arith, ap (λ (l : JobName). length l) r.2 ∙ length-append J (r.0 ∷ r.1), name-length gives d k h)))
 
       none : (k : Job) → is_out past k.name ≡ false → tally (λ J. is_inside J k.name && is_out past k.name) Js ≡ 0
       none k e = tally-none (λ J. is_inside J k.name && is_out past k.name) Js (λ J h. and_right (is_inside J k.name) (is_out past k.name) e)

@@ -4,13 +4,14 @@ use Rattle.std.specs.Option.{option_map_or}
 use Rattle.std.specs.Cmp.Lexicographic.{bytes_decides}
 use Rattle.std.proofs.Common.{arith, sym, ap, subst, ◌∙◌, inl, inr, eqb-true}
 use Rattle.std.proofs.lemmas.Bool.{ltb-true, false_from_ne_true}
+use Rattle.std.specs.Cmp.{first_so, second_so}
 use Rattle.tv_value.specs.Nested.{Place}
 use Rattle.tv_value.specs.Orders.{named, same_name}
 use Rattle.tv_value.specs.Values.{JobName, Name}
 use Rattle.tv_flow.specs.Flows.{Flow, Step}
 use Rattle.tv_depths.specs.Ranks.{ranked}
 use Rattle.tv_model.specs.Jobs.{Job}
-use Rattle.tv_model.proofs.Tests.{true≠false, left_true, right_true, both_true}
+use Rattle.tv_model.proofs.Tests.{true≠false, both_true}
 use Rattle.tv_model.proofs.Turns.{In}
 use Rattle.tv_model.proofs.Members.{each_in}
 use Rattle.tv_model.proofs.Whole.{not-longer}
@@ -49,8 +50,8 @@ spot-strict steps x y h k = by (same_name x.0 y.0) (same_name y.0 x.0) refl refl
 
 pub same-spots : (x y : Name × Place) → same_spot x y ≡ true → x ≡ y
 same-spots x y h =
-    let e = (bytes_decides x.0 y.0).0 (left_true (same_name x.0 y.0) (same_name x.1 y.1) h) in
-    let f = (bytes_decides x.1 y.1).0 (right_true (same_name x.0 y.0) (same_name x.1 y.1) h) in λ i. (e i, f i)
+    let e = (bytes_decides x.0 y.0).0 (first_so (same_name x.0 y.0) (same_name x.1 y.1) h) in
+    let f = (bytes_decides x.1 y.1).0 (second_so (same_name x.0 y.0) (same_name x.1 y.1) h) in λ i. (e i, f i)
 
 pub spot-itself : (x : Name × Place) → same_spot x x ≡ true
 spot-itself x = both_true (same_name x.0 x.0) (same_name x.1 x.1) ((bytes_decides x.0 x.0).1 refl) ((bytes_decides x.1 x.1).1 refl)

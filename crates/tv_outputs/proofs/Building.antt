@@ -1,9 +1,11 @@
 -- The values of whole trees, list by list.
-use Rattle.std.proofs.Common.{◌≡◌, ◌≤◌, ◌<◌, ℕ, zero, suc, ◌+◌, ◌-◌, Bool, true, false, ◌&&◌, List, [], ◌∷◌, ◌++◌, length, take, drop, Some, refl, sym, ap, ◌∙◌, subst, true≢false, add-one, append_assoc, length-drop, min, arith, get_or}
+use Rattle.std.proofs.Common.{◌≡◌, ◌≤◌, ◌<◌, ℕ, zero, suc, ◌+◌, ◌-◌, Bool, true, false, ◌&&◌, List, [], ◌∷◌, ◌++◌, length, take, drop, Some, refl, sym, ap, ◌∙◌, subst, add-one, append_assoc, length-drop, min, arith, get_or}
 use Rattle.std.specs.Prelude.{cond, slice_get}
 use Rattle.std.specs.List.{slice_range}
 use Rattle.std.proofs.lemmas.Option.{slice_get_within, get_or_from_slice_get}
 use Rattle.std.proofs.lemmas.List.{take_more, take_all, get_or-drop, length-take}
+use Rattle.std.specs.Cmp.{first_so, second_so}
+use Rattle.tv_lemmas.proofs.Tests.{from-false_true}
 use Rattle.tv_value.specs.Nested.{Place, no_trees, tree, trees_of}
 use Rattle.tv_value.specs.Values.{Value, list_value}
 use Rattle.tv_parts.specs.Partials.{Partial, wanting, item, growing, closed, Parts, no_parts, part, part_count, part_of, part_at, known_at, whole, all_whole}
@@ -12,17 +14,6 @@ use Rattle.tv_parts.specs.Changes.{with_part, filled, arrive, close_here, close_
 use Rattle.tv_parts.proofs.Changes.{close-there}
 use Rattle.tv_stream.proofs.Counting.{part-with}
 use Rattle.tv_outputs.specs.PartValues.{part_values, list_values}
-
-left : (a b : Bool) → (a && b) ≡ true → a ≡ true
-left true b h = refl
-left false b h = h
-
-right : (a b : Bool) → (a && b) ≡ true → b ≡ true
-right true b h = h
-right false b h = absurd (true≢false (sym h))
-
-never : {C : Type 0} → false ≡ true → C
-never h = absurd (true≢false (sym h))
 
 -- ---- lists of values
 
@@ -36,13 +27,13 @@ values-count (part p ps) = ap suc (values-count ps)
 
 -- a whole part is one of the list
 part-there : (ps : Parts Value) (i : ℕ) → whole (part_of ps i) ≡ true → slice_get (part_values ps) i ≡ Some (value_in (part_of ps i))
-part-there no_parts i h = never h
+part-there no_parts i h = from-false_true h
 part-there (part p ps) zero h = refl
 part-there (part p ps) (suc i) h = part-there ps i h
 
 pub value-there : (r : Partial Value) (i : ℕ) → whole (part_at r i) ≡ true → slice_get (list_values r) i ≡ Some (value_in (part_at r i))
-value-there wanting i h = never h
-value-there (item v) i h = never h
+value-there wanting i h = from-false_true h
+value-there (item v) i h = from-false_true h
 value-there (growing ps) i h = part-there ps i h
 value-there (closed ps) i h = part-there ps i h
 
@@ -52,8 +43,8 @@ part-whole no_parts i h lt = absurd (none i lt)
   where
     none : (i : ℕ) → i < 0 → ⊥
     none i h = omega arith
-part-whole (part p ps) zero h lt = left (whole p) (all_whole ps) h
-part-whole (part p ps) (suc i) h lt = part-whole ps i (right (whole p) (all_whole ps) h) (down i (part_count ps) lt)
+part-whole (part p ps) zero h lt = first_so (whole p) (all_whole ps) h
+part-whole (part p ps) (suc i) h lt = part-whole ps i (second_so (whole p) (all_whole ps) h) (down i (part_count ps) lt)
   where
     down : (i n : ℕ) → suc i < suc n → i < n
     down i n h = omega arith
@@ -127,10 +118,10 @@ with-whole x y (part p ps) (suc i) e = ap (λ b. whole p && b) (with-whole x y p
 
 -- the part is whole where the list is, and so are all others
 pub with-inner : (x : Partial Value) (ps : Parts Value) (i : ℕ) → all_whole (with_part x ps i) ≡ true → whole x ≡ true
-with-inner x no_parts zero h = left (whole x) true h
-with-inner x no_parts (suc i) h = never h
-with-inner x (part p ps) zero h = left (whole x) (all_whole ps) h
-with-inner x (part p ps) (suc i) h = with-inner x ps i (right (whole p) (all_whole (with_part x ps i)) h)
+with-inner x no_parts zero h = first_so (whole x) true h
+with-inner x no_parts (suc i) h = from-false_true h
+with-inner x (part p ps) zero h = first_so (whole x) (all_whole ps) h
+with-inner x (part p ps) (suc i) h = with-inner x ps i (second_so (whole p) (all_whole (with_part x ps i)) h)
 
 pub with-others : (x : Partial Value) (ps : Parts Value) (i j : ℕ) → all_whole (with_part x ps i) ≡ true → j < part_count ps → (j ≡ i → ⊥) → whole (part_of ps j) ≡ true
 with-others x no_parts i j h lt ne = absurd (none j lt)
@@ -138,12 +129,12 @@ with-others x no_parts i j h lt ne = absurd (none j lt)
     none : (i : ℕ) → i < 0 → ⊥
     none i h = omega arith
 with-others x (part p ps) zero zero h lt ne = absurd (ne refl)
-with-others x (part p ps) zero (suc j) h lt ne = part-whole ps j (right (whole x) (all_whole ps) h) (down j (part_count ps) lt)
+with-others x (part p ps) zero (suc j) h lt ne = part-whole ps j (second_so (whole x) (all_whole ps) h) (down j (part_count ps) lt)
   where
     down : (i n : ℕ) → suc i < suc n → i < n
     down i n h = omega arith
-with-others x (part p ps) (suc i) zero h lt ne = left (whole p) (all_whole (with_part x ps i)) h
-with-others x (part p ps) (suc i) (suc j) h lt ne = with-others x ps i j (right (whole p) (all_whole (with_part x ps i)) h) (down j (part_count ps) lt) (λ e. ne (ap suc e))
+with-others x (part p ps) (suc i) zero h lt ne = first_so (whole p) (all_whole (with_part x ps i)) h
+with-others x (part p ps) (suc i) (suc j) h lt ne = with-others x ps i j (second_so (whole p) (all_whole (with_part x ps i)) h) (down j (part_count ps) lt) (λ e. ne (ap suc e))
   where
     down : (i n : ℕ) → suc i < suc n → i < n
     down i n h = omega arith
@@ -203,16 +194,16 @@ pub record Around (i : ℕ) (q : Place) (v : Value) (r : Partial Value) : Type 0
 -- of a test with two ways
 test-holds : (b c : Bool) → (cond b c false) ≡ true → (b ≡ true) × (c ≡ true)
 test-holds true c h = (refl, h)
-test-holds false c h = never h
+test-holds false c h = from-false_true h
 
 test-true : (b : Bool) → b ≡ true → (cond b true false) ≡ true
 test-true true h = refl
 test-true false h = h
 
 pub around : (i : ℕ) (q : Place) (v : Value) (r : Partial Value) → is_place (i ∷ q) r ≡ true → whole (arrive (i ∷ q) v r) ≡ true → Around i q v r
-around i q v wanting p h = never h
-around i q v (item w) p h = never p
-around i q v (growing ps) p h = never h
+around i q v wanting p h = from-false_true h
+around i q v (item w) p h = from-false_true p
+around i q v (growing ps) p h = from-false_true h
 around i q v (closed ps) p h =
     let t = test-holds _ _ p in
     let inner = with-inner (arrive q v (part_of ps i)) ps i h in
@@ -229,8 +220,8 @@ around i q v (closed ps) p h =
 -- a list that is whole once it is filled had all its parts
 filled-same : (ps : Parts Value) (n : ℕ) → all_whole (filled ps n) ≡ true → filled ps n ≡ ps
 filled-same ps zero h = refl
-filled-same no_parts (suc n) h = never h
-filled-same (part p ps) (suc n) h = ap (part p) (filled-same ps n (right (whole p) (all_whole (filled ps n)) h))
+filled-same no_parts (suc n) h = from-false_true h
+filled-same (part p ps) (suc n) h = ap (part p) (filled-same ps n (second_so (whole p) (all_whole (filled ps n)) h))
 
 filled-count : (ps : Parts Value) (n : ℕ) → part_count ps ≤ n → all_whole (filled ps n) ≡ true → part_count ps ≡ n
 filled-count no_parts zero le h = refl
@@ -238,8 +229,8 @@ filled-count (part p ps) zero le h = absurd (none (part_count ps) le)
   where
     none : (n : ℕ) → suc n ≤ 0 → ⊥
     none n h = omega arith
-filled-count no_parts (suc n) le h = never h
-filled-count (part p ps) (suc n) le h = ap suc (filled-count ps n (down (part_count ps) n le) (right (whole p) (all_whole (filled ps n)) h))
+filled-count no_parts (suc n) le h = from-false_true h
+filled-count (part p ps) (suc n) le h = ap suc (filled-count ps n (down (part_count ps) n le) (second_so (whole p) (all_whole (filled ps n)) h))
   where
     down : (i n : ℕ) → suc i ≤ suc n → i ≤ n
     down i n h = omega arith
@@ -288,9 +279,9 @@ ended-at [] n r can h = record {
   there = refl;
   arrives = λ w e. (refl, e);
 }
-ended-at (i ∷ q) n wanting can h = never h
+ended-at (i ∷ q) n wanting can h = from-false_true h
 ended-at (i ∷ q) n (item v) can h = absurd can
-ended-at (i ∷ q) n (growing ps) can h = never h
+ended-at (i ∷ q) n (growing ps) can h = from-false_true h
 ended-at (i ∷ q) n (closed ps) can h =
     let x = close_at q n (part_of ps i) in
     let inner = ended-at q n (part_of ps i) can.1 (with-inner x ps i h) in

@@ -2,7 +2,7 @@
 use Rattle.std.proofs.Common.{◌≡◌, ◌<◌, ◌+◌, ℕ, zero, suc, Bool, true, false, ◌&&◌, List, [], ◌∷◌, length, map, get_or, Option, Some, None, refl, sym, ap, ◌∙◌, subst, true≢false, arith, inl, inr}
 use Rattle.std.specs.Prelude.{◌↔◌, IsTrue, slice_get, if◌then◌else◌}
 use Rattle.std.specs.Option.{option_map, option_map_or}
-use Rattle.std.proofs.lemmas.Bool.{cases_eq}
+use Rattle.std.proofs.lemmas.Bool.{cases_eq, and_from}
 use Rattle.std.proofs.lemmas.Option.{none-some, same_Some, slice_get-map, slice_get_read}
 use Rattle.tv_value.specs.Nested.{Place, Tree, Trees, at, children, items, leaf, list, no_trees, tree, trees_of}
 use Rattle.tv_value.specs.Values.{Scalar, Value, fault, list_value, text}
@@ -13,6 +13,7 @@ use Rattle.tv_value.specs.declared.value.Value.TheVariants as plain
 use Rattle.tv_value.specs.declared.value.Value.TheViews as held
 use Rattle.tv_value.specs.declared.value.Value.TheFolds.{fold-roll-Value}
 use Rattle.tv_value.specs.declared.value.Value.TheOpen.{Value-F}
+use Rattle.tv_value.proofs.OfItems.{items-trees_of}
 use Rattle.tv_parts.specs.Partials.{Partial, wanting, item, growing, closed, Parts, no_parts, part, part_count, part_of, part_at, whole, all_whole}
 use Rattle.tv_parts.specs.Below.{value_in, values_in}
 use Rattle.tv_stream.specs.declared.held.PartKind.TheVariants.{Closed}
@@ -22,7 +23,7 @@ use Rattle.tv_cell.specs.declared.piece.Piece.{Piece}
 use Rattle.tv_cell.specs.PieceValues.{piece_value}
 use Rattle.tv_cell.specs.Sameness.{is_at, same_value}
 use Rattle.tv_cell.proofs.OfPieces.{list-view}
-use Rattle.tv_cell.proofs.OfSameness.{both, test-decides}
+use Rattle.tv_cell.proofs.OfSameness.{test-decides}
 use Rattle.tv_outputs.specs.Known.{item_value, shown}
 use Rattle.tv_outputs.specs.FoundIn.{found_in}
 use Rattle.tv_outputs.specs.PartValues.{part_values, list_values, AreParts}
@@ -113,7 +114,7 @@ all-parts (part p ps) [] e h = absurd (never (part_count ps) e)
 all-parts (part p ps) (v ∷ vs) e h =
     let first = found-whole p v (h 0 (positive (part_count ps))) in
     let rest = all-parts ps vs (down (length vs) (part_count ps) e) (λ i lt. h (suc i) (up i (part_count ps) lt)) in
-    (both (whole p) (all_whole ps) first.0 rest.0, (λ i. first.1 i ∷ rest.1 i))
+    (and_from (whole p) (all_whole ps) first.0 rest.0, (λ i. first.1 i ∷ rest.1 i))
   where
     positive : (n : ℕ) → 0 < suc n
     positive n = omega arith
@@ -124,12 +125,8 @@ all-parts (part p ps) (v ∷ vs) e h =
     up : (n m : ℕ) → n < m → suc n < suc m
     up n m h = omega arith
 
-pub items-of : (vs : List Value) → items (trees_of vs) ≡ vs
-items-of [] = refl
-items-of (v ∷ vs) = ap (λ us. v ∷ us) (items-of vs)
-
 pub same-items : (us vs : List Value) → list_value (trees_of us) ≡ list_value (trees_of vs) → us ≡ vs
-same-items us vs e = sym (items-of us) ∙ ap (λ t. items (children t)) e ∙ items-of vs
+same-items us vs e = sym (items-trees_of us) ∙ ap (λ t. items (children t)) e ∙ items-trees_of vs
 
 module _ (r : Partial Value) (n : ℕ) (c : Closes r n) where
   list-is : value_in r ≡ list_value (trees_of (list_values r))
@@ -182,18 +179,6 @@ module _ (r : Partial (Marked Piece)) (vs : List Value) where
   -- where one part isn't found, they are not all
   pub one-other : (n i : ℕ) (v : Value) → i < n → slice_get vs i ≡ Some v → (found_in [] (shown (part_at r i)) ≡ Some v → ⊥) → IsTrue false ↔ AreParts (shown r) n vs
   one-other n i v lt g never = told-no (λ a. never (sym (ap (found_in []) (map-part_at item_value r i)) ∙ a.each i lt ∙ g))
-
--- what stands in a list at an index
-pub there-at : {A : Type 0} (vs : List A) (i : ℕ) → i < length vs → (v : A) × (slice_get vs i ≡ Some v)
-there-at [] i h = absurd (none i h)
-  where
-    none : (i : ℕ) → i < 0 → ⊥
-    none i h = omega arith
-there-at (v ∷ vs) zero h = (v, refl)
-there-at (v ∷ vs) (suc i) h = there-at vs i (down i (length vs) h)
-  where
-    down : (i n : ℕ) → suc i < suc n → i < n
-    down i n h = omega arith
 
 -- ---- how large a value is
 

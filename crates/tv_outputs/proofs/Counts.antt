@@ -1,7 +1,8 @@
 -- Counts of faults, one pushed after the other.
-use Rattle.std.proofs.Common.{◌≡◌, ◌≢◌, ◌<◌, ◌≤◌, ◌+◌, ◌||◌, ℕ, zero, suc, List, [], ◌∷◌, ◌++◌, length, take, append_assoc, inl, inr, refl, sym, ap, ◌∙◌, subst, arith}
+use Rattle.std.proofs.Common.{◌≡◌, ◌≢◌, ◌<◌, ◌+◌, ◌||◌, ℕ, zero, suc, List, [], ◌∷◌, ◌++◌, length, take, append_assoc, inl, inr, refl, sym, ap, ◌∙◌, subst, arith, le_refl}
 use Rattle.std.specs.Prelude.{nat_lt, slice_index_or}
 use Rattle.std.proofs.lemmas.Bool.{cases_eq}
+use Rattle.std.proofs.lemmas.List.{length-map}
 use Rattle.tv_value.specs.Nested.{Place}
 use Rattle.tv_value.specs.Values.{Value, holds_fault}
 use Rattle.tv_parts.specs.Changes.{arrive, CanArrive}
@@ -12,7 +13,7 @@ use Rattle.tv_cell.specs.PieceValues.{piece_value, piece_values}
 use Rattle.tv_outputs.specs.Known.{tree_in}
 use Rattle.tv_outputs.specs.Changes.{AllCanArrive, AreMarked, HoldsFaults, Counted, no_value}
 use Rattle.tv_outputs.proofs.Faults.{arrive-levels}
-use Rattle.tv_outputs.proofs.Lists.{length-more, mapped-length}
+use Rattle.tv_outputs.proofs.Lists.{length-more}
 
 get-before : (ns : List ℕ) (n k : ℕ) → k < length ns → slice_index_or (ns ++ n ∷ []) k 0 ≡ slice_index_or ns k 0
 get-before [] n k h = absurd (none k h)
@@ -49,14 +50,11 @@ all-of : (q : Place) → take (length q) q ≡ q
 all-of [] = refl
 all-of (i ∷ q) = ap (λ r. i ∷ r) (all-of q)
 
-self : (n : ℕ) → n ≤ n
-self n = omega arith
-
 -- the place itself holds a fault exactly where what arrived holds one
 arrived-mark : (q : Place) (w : Value) (r : Partial Value) (n : ℕ) → CanArrive q r → HoldsFaults q (arrive q w r) n → nat_lt (length q) n ≡ holds_fault w
 arrived-mark q w r n can h =
-    h (length q) (self (length q))
-    ∙ arrive-levels holds_fault q w r can (length q) (self (length q))
+    h (length q) (le_refl (length q))
+    ∙ arrive-levels holds_fault q w r can (length q) (le_refl (length q))
     ∙ ap (λ p. holds_some holds_fault (known_at p r) || holds_fault w) (all-of q)
     ∙ ap (λ p. holds_some holds_fault p || holds_fault w) (arrive-there q r can).1
 
@@ -65,7 +63,7 @@ pub counts-mark :
     → Counted (length ps) q [] ns (λ k. arrive q (slice_index_or (piece_values ps) k no_value) (tree_in trees (first + k)))
     → AreMarked q (piece_values ps) ns
 counts-mark q first ps ds trees ns can c =
-    let many : length (piece_values ps) ≡ length ps = mapped-length piece_value ps in
+    let many : length (piece_values ps) ≡ length ps = length-map ps piece_value in
     let added : length ns ≡ length ps = ap length c.all ∙ c.many in
     record {
       many = omega (arith, many, added);

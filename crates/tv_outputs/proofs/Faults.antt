@@ -1,5 +1,5 @@
 -- Where faults stand after a change.
-use Rattle.std.proofs.Common.{◌≡◌, ◌≤◌, ℕ, zero, suc, Bool, true, false, ◌||◌, [], ◌∷◌, length, take, refl, sym, ap, ◌∙◌, arith}
+use Rattle.std.proofs.Common.{◌≡◌, ◌≤◌, ℕ, zero, suc, Bool, true, false, ◌||◌, [], ◌∷◌, length, take, refl, sym, ap, ◌∙◌, le_of_suc-le-suc, not-suc-le-zero}
 use Rattle.tv_value.specs.Nested.{Place}
 use Rattle.tv_parts.specs.Partials.{Partial, wanting, item, growing, closed, no_parts, part_of, part_at, known_at, holds_some, some_holds}
 use Rattle.tv_parts.specs.Changes.{arrive, close_at, CanArrive, CanClose}
@@ -54,23 +54,17 @@ close-inside i q n (item y) can = absurd can
 close-inside i q n (growing ps) can = (part-with (close_at q n (part_of ps i)) ps i, can)
 close-inside i q n (closed ps) can = (part-with (close_at q n (part_of ps i)) ps i, can.1)
 
-no-less : (m : ℕ) → suc m ≤ 0 → ⊥
-no-less m h = omega arith
-
-down : (m n : ℕ) → suc m ≤ suc n → m ≤ n
-down m n h = omega arith
-
 -- at each prefix of the place
 pub arrive-levels : {A : Type 0} (test : A → Bool) (q : Place) (x : A) (r : Partial A) → CanArrive q r → (m : ℕ) → m ≤ length q → holds_some test (known_at (take m q) (arrive q x r)) ≡ (holds_some test (known_at (take m q) r) || test x)
 arrive-levels test q x r can zero h = arrive-holds test q x r can
-arrive-levels test [] x r can (suc m) h = absurd (no-less m h)
+arrive-levels test [] x r can (suc m) h = absurd (not-suc-le-zero {n = m} h)
 arrive-levels test (i ∷ q) x r can (suc m) h =
     let inside = arrive-inside i q x r can in
-    ap (λ t. holds_some test (known_at (take m q) t)) inside.0 ∙ arrive-levels test q x (part_at r i) inside.1 m (down m (length q) h)
+    ap (λ t. holds_some test (known_at (take m q) t)) inside.0 ∙ arrive-levels test q x (part_at r i) inside.1 m (le_of_suc-le-suc {n = m} {m = (length q)} h)
 
 pub close-levels : {A : Type 0} (test : A → Bool) (q : Place) (n : ℕ) (r : Partial A) → CanClose q n r → (m : ℕ) → m ≤ length q → holds_some test (known_at (take m q) (close_at q n r)) ≡ holds_some test (known_at (take m q) r)
 close-levels test q n r can zero h = close-holds test q n r can
-close-levels test [] n r can (suc m) h = absurd (no-less m h)
+close-levels test [] n r can (suc m) h = absurd (not-suc-le-zero {n = m} h)
 close-levels test (i ∷ q) n r can (suc m) h =
     let inside = close-inside i q n r can in
-    ap (λ t. holds_some test (known_at (take m q) t)) inside.0 ∙ close-levels test q n (part_at r i) inside.1 m (down m (length q) h)
+    ap (λ t. holds_some test (known_at (take m q) t)) inside.0 ∙ close-levels test q n (part_at r i) inside.1 m (le_of_suc-le-suc {n = m} {m = (length q)} h)

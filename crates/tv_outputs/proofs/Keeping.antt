@@ -3,6 +3,7 @@ use Rattle.std.proofs.Common.{◌≡◌, ◌≢◌, ℕ, zero, suc, ◌+◌, ◌
 use Rattle.std.specs.Prelude.{slice_get, ◌==◌, if◌then◌else◌}
 use Rattle.std.proofs.lemmas.Bool.{cases_eq, eq-eqb, ne_eqb}
 use Rattle.std.proofs.lemmas.Option.{same_Some}
+use Rattle.std.proofs.lemmas.List.{length-map}
 use Rattle.tv_value.specs.Values.{Value}
 use Rattle.tv_parts.specs.Partials.{Partial, wanting}
 use Rattle.tv_pool.specs.Pool.{item_in, region_of, slot_of, number_of}
@@ -19,7 +20,7 @@ use Rattle.tv_cell.specs.declared.piece.Piece.{Piece}
 use Rattle.tv_outputs.specs.Known.{Nodes, all_nodes, item_value, shown, known_of, known_in}
 use Rattle.tv_outputs.specs.Kept.{IsNoted, EachItem, IsKept, AreKept, AreKeptBeside}
 use Rattle.tv_outputs.specs.Changes.{Turns}
-use Rattle.tv_outputs.proofs.Lists.{tree-at, same-in, all-same, mapped-length, map-more, get-cases}
+use Rattle.tv_outputs.proofs.Lists.{tree-at, same-in, all-same, map-more, get-cases}
 
 abbrev with_slots : (ℕ → ℕ → Option Spot) → ℕ → (ℕ → Option Spot) → ℕ → ℕ → Option Spot
 with_slots slots k new j = if j == k then new else slots j
@@ -123,7 +124,7 @@ module _ (beside : ℕ) (old new : Nodes) (region : Region) (trees : List (Handl
     turns-grown t is = record {
       turned = tree-at new trees k tree there ∙ is;
       others = λ j ne. same-in old new trees j (λ u e. ap shown (others-stay j u ne e));
-      as_many = mapped-length (known_of new) trees ∙ sym (mapped-length (known_of old) trees);
+      as_many = length-map trees (known_of new) ∙ sym (length-map trees (known_of old));
     }
 
   -- one more tree started

@@ -28,10 +28,6 @@ pub all-same : (old new : Nodes) (trees : List (Handle Piece)) → ((j : ℕ) (t
 all-same old new [] h = refl
 all-same old new (tree ∷ trees) h = ap (λ t. t ∷ known_in new trees) (h 0 tree refl) ∙ ap (λ ts. known_of old tree ∷ ts) (all-same old new trees (λ j t e. h (suc j) t e))
 
-pub mapped-length : {A B : Type 0} (f : A → B) (xs : List A) → length (map f xs) ≡ length xs
-mapped-length f [] = refl
-mapped-length f (x ∷ xs) = ap suc (mapped-length f xs)
-
 -- ---- one more tree in turn
 
 pub arrive-none : (first : ℕ) (q : Place) (ts : List (Partial Value)) → Arrive first q [] ts ts

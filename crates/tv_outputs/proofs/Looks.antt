@@ -1,7 +1,8 @@
 -- What is asked of one tree of a list.
-use Rattle.std.proofs.Common.{◌≡◌, ◌≤◌, ◌<◌, ◌+◌, ℕ, Bool, true, false, ◌||◌, List, length, take, Option, Some, refl, sym, ap, ◌∙◌, arith}
+use Rattle.std.proofs.Common.{◌≡◌, ◌≤◌, ◌<◌, ◌+◌, ℕ, true, false, ◌||◌, List, length, take, Option, Some, sym, ap, ◌∙◌, arith}
 use Rattle.std.specs.Prelude.{slice_get, nat_lt}
 use Rattle.std.proofs.lemmas.Bool.{lt-ltb}
+use Rattle.std.proofs.Math.Bool.{or-false, or-true}
 use Rattle.tv_value.specs.Nested.{Place}
 use Rattle.tv_value.specs.Values.{Value, holds_fault}
 use Rattle.tv_parts.specs.Partials.{Partial, known_at, whole, holds_some}
@@ -51,14 +52,6 @@ module _ (pool : Nodes) (region : Region) (trees : List (Handle Piece)) (a : Are
       ∙ marks (known_at (take m q) (tree_of pool tree)) (each-known IsNoted (take m q) (tree_of pool tree) (a.kept k tree there).items)
       ∙ ap (λ t. holds_some holds_fault t) (sym (map-known item_value (take m q) (tree_of pool tree)))
       ∙ ap (λ t. holds_some holds_fault (known_at (take m q) t)) (sym (tree-at pool trees k tree there))
-
-or-false : (b : Bool) → (b || false) ≡ b
-or-false true = refl
-or-false false = refl
-
-or-true : (b : Bool) → (b || true) ≡ true
-or-true true = refl
-or-true false = refl
 
 -- no further level holds a fault where a value without one arrives, and all do where one with a fault does
 pub levels-arrived : (q : Place) (v : Value) (t : Partial Value) (n : ℕ) → CanArrive q t → holds_fault v ≡ false → HoldsFaults q t n → HoldsFaults q (arrive q v t) n

@@ -4,6 +4,7 @@ use Rattle.std.specs.List.{list_all, slice_range}
 use Rattle.std.proofs.lemmas.Bool.{lt-ltb}
 use Rattle.std.proofs.lemmas.List.Folds.{list_all-append}
 use Rattle.std.proofs.lemmas.Option.{same_Some}
+use Rattle.std.proofs.lemmas.List.{length-map}
 use Rattle.tv_value.specs.Nested.{Place, at, trees_of}
 use Rattle.tv_value.specs.Values.{Value, list_value}
 use Rattle.tv_value.specs.Readings.{length_limit}
@@ -26,7 +27,7 @@ use Rattle.tv_outputs.specs.Kept.{IsNoted, EachItem}
 use Rattle.tv_outputs.specs.FoundIn.{found_in}
 use Rattle.tv_outputs.specs.PartValues.{list_values}
 use Rattle.tv_outputs.proofs.Mapping.{map-count, map-part_at}
-use Rattle.tv_outputs.proofs.Lists.{map-more, mapped-length, length-more}
+use Rattle.tv_outputs.proofs.Lists.{map-more, length-more}
 use Rattle.tv_outputs.proofs.Building.{Around, Closes, around, value-there, range-none, range-more, range-few, ended}
 
 -- ---- an item
@@ -168,7 +169,7 @@ pushed-with a b x row p3 p2 p1 p0 e3 h3 e2 h1 e0 =
     ∙ ap (λ us. us ++ b) (ap piece_values e2 ∙ map-more piece_value p1 x ∙ ap (λ us. us ++ piece_value x ∷ []) (h1 ∙ ap (λ ps. piece_values ps ++ a) e0))
 
 few : (m : ℕ) (ps : List Piece) (vs : List Value) (n : ℕ) → piece_values ps ≡ vs → length vs ≤ n → n < m → length ps < m
-few m ps vs n e h lt = subst (λ k. k < m) (sym (ap length e) ∙ mapped-length piece_value ps) (below (length vs) n m h lt)
+few m ps vs n e h lt = subst (λ k. k < m) (sym (ap length e) ∙ length-map ps piece_value) (below (length vs) n m h lt)
   where
     below : (a b c : ℕ) → a ≤ b → b < c → a < c
     below a b c h k = omega arith

@@ -1,7 +1,7 @@
 -- A change of one tree of a list, as its call leaves it.
 use Rattle.std.proofs.Common.{◌≡◌, ◌<◌, ◌≤◌, ◌+◌, ℕ, List, length, Some, refl, sym, ap, ◌∙◌, subst, get_or}
 use Rattle.std.specs.Prelude.{slice_get, slice_set}
-use Rattle.std.proofs.lemmas.List.{set-get_or}
+use Rattle.std.proofs.lemmas.List.{set-get_or, length-map}
 use Rattle.std.proofs.lemmas.Option.{slice_get_read}
 use Rattle.tv_value.specs.Nested.{Place}
 use Rattle.tv_value.specs.Values.{Value, holds_fault}
@@ -22,12 +22,12 @@ use Rattle.tv_cell.specs.Soundness.{IsSound}
 use Rattle.tv_outputs.specs.Known.{Nodes, item_value, shown, known_of, known_in, tree_in}
 use Rattle.tv_outputs.specs.Kept.{IsNoted, EachItem, AreKept}
 use Rattle.tv_outputs.specs.Changes.{Turns}
-use Rattle.tv_outputs.proofs.Lists.{tree-at, mapped-length}
+use Rattle.tv_outputs.proofs.Lists.{tree-at}
 use Rattle.tv_outputs.proofs.Mapping.{map-arrive, map-close, can-arrive, can-close, each-arrive, each-close}
 use Rattle.tv_outputs.proofs.Keeping.{kept-grown, turns-grown}
 
 pub within : (pool : Nodes) (trees : List (Handle Piece)) (k : ℕ) → k < length (known_in pool trees) → k < length trees
-within pool trees k h = subst (λ n. k < n) (mapped-length (known_of pool) trees) h
+within pool trees k h = subst (λ n. k < n) (length-map trees (known_of pool)) h
 
 pub fits : (k n m : ℕ) → k < n → m ≡ n → k < m
 fits k n m h e = subst (λ x. k < x) (sym e) h

@@ -1,5 +1,5 @@
 -- What looks see of a tree and of its parts, and how many levels of lists stand there.
-use Rattle.std.proofs.Common.{◌≡◌, ◌≤◌, ℕ, zero, suc, ◌-◌, max, Bool, true, Option, Some, None, refl, sym, ap, ◌∙◌, subst, true≢false, arith}
+use Rattle.std.proofs.Common.{◌≡◌, ◌≤◌, ℕ, zero, suc, ◌-◌, max, Bool, true, Option, Some, None, refl, sym, ap, ◌∙◌, subst, true≢false, arith, zero-le}
 use Rattle.tv_parts.specs.Partials.{Partial, wanting, item, growing, closed, Parts, no_parts, part, part_of, part_at, whole}
 use Rattle.tv_pool.specs.Pool.{Pool, slot_of}
 use Rattle.tv_nodes.specs.declared.nodes.Entry.{Entry}
@@ -38,12 +38,9 @@ further a b n h k = omega arith
 below : (a b n : ℕ) → a ≤ b → suc b ≤ n → (1 ≤ n) × (a ≤ n - 1)
 below a b n h k = (omega arith, omega arith)
 
-none-few : (n : ℕ) → 0 ≤ n
-none-few n = omega arith
-
 part-levels : {A : Type 0} (r : Partial A) (i n : ℕ) → levels_in r ≤ n → levels_in (part_at r i) ≤ n
-part-levels wanting i n h = none-few n
-part-levels (item x) i n h = none-few n
+part-levels wanting i n h = zero-le
+part-levels (item x) i n h = zero-le
 part-levels (growing ps) i n h = further (levels_in (part_of ps i)) (levels_of ps) n (part-few ps i) h
 part-levels (closed ps) i n h = further (levels_in (part_of ps i)) (levels_of ps) n (part-few ps i) h
 
@@ -69,7 +66,7 @@ whole-part r i w = ap whole (sym (map-part_at item_value r i)) ∙ w
 -- ---- a look from the top
 
 listed-few : {A : Type 0} (n : ℕ) (f : ℕ → Partial A) (h : ℕ) → ((i : ℕ) → levels_in (f i) ≤ h) → levels_of (listed n f) ≤ h
-listed-few zero f h k = none-few h
+listed-few zero f h k = zero-le
 listed-few (suc n) f h k = both (levels_in (f 0)) (levels_of (listed n (λ i. f (suc i)))) h (k 0) (listed-few n (λ i. f (suc i)) h (λ i. k (suc i)))
   where
     both : (a b c : ℕ) → a ≤ c → b ≤ c → max a b ≤ c
@@ -77,8 +74,8 @@ listed-few (suc n) f h k = both (levels_in (f 0)) (levels_of (listed n (λ i. f 
 
 module _ {T : Type 0} (m : ℕ → Option (Entry (Held T))) where
   leaf-few : (s : ℕ) (marked : Bool) (w : Part T) → IsLeaf m s marked w → levels_in (tree_by (λ t. wanting) m s marked w) ≤ 0
-  leaf-few s marked Wanting h = none-few 0
-  leaf-few s marked (Item v) h = none-few 0
+  leaf-few s marked Wanting h = zero-le
+  leaf-few s marked (Item v) h = zero-le
   leaf-few s marked (Numbered c) h = absurd h
 
   list-few : {A : Type 0} (o : Option ℕ) (ps : Parts A) (h : ℕ) → levels_of ps ≤ h → levels_in (list_of o ps) ≤ suc h
@@ -92,12 +89,12 @@ module _ {T : Type 0} (m : ℕ → Option (Entry (Held T))) where
       up a b h = omega arith
 
   inner-few : (h s : ℕ) (marked : Bool) (w : Part T) → IsCounted (IsSound h m) (tree_at h m) m s marked w → ((t : ℕ) → IsSound h m t → levels_in (tree_at h m t) ≤ h) → levels_in (tree_by (tree_at h m) m s marked w) ≤ suc h
-  inner-few h s marked Wanting k few = none-few (suc h)
-  inner-few h s marked (Item v) k few = none-few (suc h)
+  inner-few h s marked Wanting k few = zero-le
+  inner-few h s marked (Item v) k few = zero-le
   inner-few h s marked (Numbered c) k few = list-few c.length (listed (count_of c) (λ i. optional (tree_at h m) (part_in m s i))) h (listed-few (count_of c) (λ i. optional (tree_at h m) (part_in m s i)) h (λ i. by i (part_in m s i) refl))
     where
       by : (i : ℕ) (o : Option ℕ) → part_in m s i ≡ o → levels_in (optional (tree_at h m) o) ≤ h
-      by i None e = none-few h
+      by i None e = zero-le
       by i (Some t) e = few t (k.sound i t e)
 
   tree-few : (h s : ℕ) → IsSound h m s → levels_in (tree_at h m s) ≤ h

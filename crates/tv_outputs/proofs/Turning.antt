@@ -1,5 +1,6 @@
 -- The loops over the trees of a range: what holds in between, what the next call asks for, and what it leaves.
-use Rattle.std.proofs.Common.{◌≡◌, ◌≤◌, ◌<◌, ◌+◌, ◌-◌, ℕ, List, [], ◌∷◌, ◌++◌, length, map, inr, refl, sym, ap, ◌∙◌, subst, arith}
+use Rattle.std.proofs.Common.{◌≡◌, ◌≤◌, ◌<◌, ◌+◌, ◌-◌, ℕ, List, [], ◌∷◌, ◌++◌, length, map, inr, refl, sym, ap, ◌∙◌, subst, arith, le_refl}
+use Rattle.std.proofs.lemmas.List.{length-map}
 use Rattle.tv_value.specs.Nested.{Place}
 use Rattle.tv_value.specs.Values.{Value}
 use Rattle.tv_parts.specs.Partials.{Partial}
@@ -13,7 +14,7 @@ use Rattle.tv_cell.specs.PieceValues.{piece_value}
 use Rattle.tv_outputs.specs.Known.{Nodes, known_in, depths_in, tree_in, depth_in, needed}
 use Rattle.tv_outputs.specs.Kept.{AreKept}
 use Rattle.tv_outputs.specs.Changes.{Arrive, Close, Turns, AllCanArrive, AllCanClose}
-use Rattle.tv_outputs.proofs.Lists.{arrive-none, arrive-more, close-none, close-more, needed-more, needed-part, mapped-length, map-more, length-more}
+use Rattle.tv_outputs.proofs.Lists.{arrive-none, arrive-more, close-none, close-more, needed-more, needed-part, map-more, length-more}
 
 pub keeps-then : (old mid new : Nodes) (number : ℕ) → KeepsRegions old mid number → KeepsRegions mid new number → KeepsRegions old new number
 keeps-then old mid new number a b = record { live = λ r h. b.live r (a.live r h); others = λ j ne. b.others j ne ∙ a.others j ne }
@@ -54,9 +55,6 @@ spare-left ds first done old mid now h k = by (needed ds first done) (needed ds 
 inside : (first done count n m : ℕ) → done < count → first + count ≤ n → m ≡ n → first + done < m
 inside first done count n m h k e = omega arith
 
-self : (n : ℕ) → n ≤ n
-self n = omega arith
-
 pub leaves-at : (mid new : Nodes) (region : Region) (trees trees' : List (Handle Piece)) (change : Partial Value → Partial Value) (n m : ℕ) → n ≡ m → Leaves mid new region trees trees' n (change (tree_in (known_in mid trees) n)) → Leaves mid new region trees trees' m (change (tree_in (known_in mid trees) m))
 leaves-at mid new region trees trees' change n m e l = subst (λ k. Leaves mid new region trees trees' k (change (tree_in (known_in mid trees) k))) e l
 
@@ -96,10 +94,10 @@ pub record Arriving (old now : Nodes) (region : Region) (trees0 trees : List (Ha
 
 module _ (old now : Nodes) (region : Region) (trees0 trees : List (Handle Piece)) (first : ℕ) (q : Place) (done : List Piece) (a : Arriving old now region trees0 trees first q done) where
   same-length : length (map piece_value done) ≡ length done
-  same-length = mapped-length piece_value done
+  same-length = length-map done piece_value
 
   untouched : tree_in (known_in now trees) (first + length done) ≡ tree_in (known_in old trees0) (first + length done)
-  untouched = a.changed.others (first + length done) (inr (subst (λ n. first + n ≤ first + length done) (sym same-length) (self (first + length done))))
+  untouched = a.changed.others (first + length done) (inr (subst (λ n. first + n ≤ first + length done) (sym same-length) (le_refl (first + length done))))
 
   pub arriving-asks : (count : ℕ) → AllCanArrive first count q (depths_in trees0) (known_in old trees0) → needed (depths_in trees0) first count ≤ old.spare → length done < count → Asks q now.spare (first + length done) (depths_in trees) (known_in now trees) (λ d. length q ≤ d) (CanArrive q)
   arriving-asks count can room more = record {
@@ -138,7 +136,7 @@ pub record Closing (old now : Nodes) (region : Region) (trees0 trees : List (Han
 
 module _ (old now : Nodes) (region : Region) (trees0 trees : List (Handle Piece)) (first : ℕ) (q : Place) (size done : ℕ) (a : Closing old now region trees0 trees first q size done) where
   unclosed : tree_in (known_in now trees) (first + done) ≡ tree_in (known_in old trees0) (first + done)
-  unclosed = a.changed.others (first + done) (inr (self (first + done)))
+  unclosed = a.changed.others (first + done) (inr (le_refl (first + done)))
 
   pub closing-asks : (count : ℕ) → AllCanClose first count q size (depths_in trees0) (known_in old trees0) → needed (depths_in trees0) first count ≤ old.spare → done < count → Asks q now.spare (first + done) (depths_in trees) (known_in now trees) (λ d. length q < d) (CanClose q size)
   closing-asks count can room more = record {

@@ -1,7 +1,9 @@
 -- What changes a partial tree: it stays below its value, what was known stays, and nothing whole is changed.
 use Rattle.std.specs.Prelude.{◌≡◌, refl, ℕ, zero, suc, ◌<◌, nat_lt, Bool, true, false, ◌||◌, ◌&&◌, ◌==◌, if◌then◌else◌, [], ◌∷◌, Option, Some, None, option_and_then}
 use Rattle.std.proofs.Common.{arith, sym, ap, subst, ◌∙◌}
-use Rattle.std.proofs.lemmas.Bool.{eqb-true, eq-eqb, lt-ltb, ltb-true}
+use Rattle.std.proofs.lemmas.Bool.{eqb-true, eq-eqb, lt-ltb, ne_eqb}
+use Rattle.std.proofs.lemmas.Option.{same_Some}
+use Rattle.tv_lemmas.proofs.Tests.{or-nothing, less-if}
 use Rattle.tv_value.specs.Nested.{leaf, list, no_trees, tree, Place, count, at, item_at}
 use Rattle.tv_value.specs.Values.{Value}
 use Rattle.tv_value.specs.Orders.{is_prefix}
@@ -10,40 +12,33 @@ use Rattle.tv_parts.specs.Below.{Values, Below, FirstBelow, EachBelow}
 use Rattle.tv_parts.specs.Changes.{with_part, filled, arrive, close_here, close_at, CanArrive, CanClose, is_place, MayClose}
 use Rattle.tv_parts.specs.Stated.{same_place}
 
-some-same : {A : Type 0} (x y : A) → Some x ≡ Some y → x ≡ y
-some-same {A} x y e = ap or_x e
-  where
-    or_x : Option A → A
-    or_x None = x
-    or_x (Some z) = z
-
 -- ---- below the value
 
 first-part : (ps : Parts Value) (vs : Values) (i : ℕ) (v : Value) → FirstBelow ps vs → item_at vs i ≡ Some v → Below (part_of ps i) v
 first-part no_parts vs i v h e = tt
 first-part (part p ps) no_trees i v h e = absurd h
-first-part (part p ps) (tree u vs) zero v h e = subst (Below p) (some-same u v e) h.0
+first-part (part p ps) (tree u vs) zero v h e = subst (Below p) (same_Some u v e) h.0
 first-part (part p ps) (tree u vs) (suc i) v h e = first-part ps vs i v h.1 e
 
 each-part : (ps : Parts Value) (vs : Values) (i : ℕ) (v : Value) → EachBelow ps vs → item_at vs i ≡ Some v → Below (part_of ps i) v
 each-part no_parts vs i v h e = tt
 each-part (part p ps) no_trees i v h e = absurd h
-each-part (part p ps) (tree u vs) zero v h e = subst (Below p) (some-same u v e) h.0
+each-part (part p ps) (tree u vs) zero v h e = subst (Below p) (same_Some u v e) h.0
 each-part (part p ps) (tree u vs) (suc i) v h e = each-part ps vs i v h.1 e
 
 first-with : (p : Partial Value) (ps : Parts Value) (vs : Values) (i : ℕ) (v : Value) → FirstBelow ps vs → item_at vs i ≡ Some v → Below p v → FirstBelow (with_part p ps i) vs
 first-with p no_parts no_trees i v h e b = absurd (cc)
-first-with p no_parts (tree u vs) zero v h e b = (subst (Below p) (sym (some-same u v e)) b, tt)
+first-with p no_parts (tree u vs) zero v h e b = (subst (Below p) (sym (same_Some u v e)) b, tt)
 first-with p no_parts (tree u vs) (suc i) v h e b = (tt, first-with p no_parts vs i v tt e b)
 first-with p (part r ps) no_trees i v h e b = absurd h
-first-with p (part r ps) (tree u vs) zero v h e b = (subst (Below p) (sym (some-same u v e)) b, h.1)
+first-with p (part r ps) (tree u vs) zero v h e b = (subst (Below p) (sym (same_Some u v e)) b, h.1)
 first-with p (part r ps) (tree u vs) (suc i) v h e b = (h.0, first-with p ps vs i v h.1 e b)
 
 each-with : (p : Partial Value) (ps : Parts Value) (vs : Values) (i : ℕ) (v : Value) → EachBelow ps vs → item_at vs i ≡ Some v → Below p v → EachBelow (with_part p ps i) vs
 each-with p no_parts no_trees i v h e b = absurd (cc)
 each-with p no_parts (tree u vs) i v h e b = absurd h
 each-with p (part r ps) no_trees i v h e b = absurd h
-each-with p (part r ps) (tree u vs) zero v h e b = (subst (Below p) (sym (some-same u v e)) b, h.1)
+each-with p (part r ps) (tree u vs) zero v h e b = (subst (Below p) (sym (same_Some u v e)) b, h.1)
 each-with p (part r ps) (tree u vs) (suc i) v h e b = (h.0, each-with p ps vs i v h.1 e b)
 
 -- the item of a list at an index, where something stands at a place inside it
@@ -58,7 +53,7 @@ stands vs i q w h = by (item_at vs i) refl h
     by (Some v) e k = (v, e, k)
 
 pub arrive-below : (q : Place) (w : Value) (r : Partial Value) (v : Value) → Below r v → at v q ≡ Some w → Below (arrive q w r) v
-arrive-below [] w r v h e = sym (some-same v w e)
+arrive-below [] w r v h e = sym (same_Some v w e)
 arrive-below (i ∷ q) w wanting (leaf n a) h e = absurd (cc)
 arrive-below (i ∷ q) w wanting (list n vs) h e = let s = stands vs i q w e in first-with (arrive q w wanting) no_parts vs i s.0 tt s.1 (arrive-below q w wanting s.0 tt s.2)
 arrive-below (i ∷ q) w (item u) v h e = h
@@ -92,7 +87,7 @@ close_here-below n (growing ps) m vs e h = filled-below ps vs n h e
 close_here-below n (closed ps) m vs e h = h
 
 pub close-below : (q : Place) (n : ℕ) (r : Partial Value) (v : Value) (m : Unit {0}) (us : Values) → Below r v → at v q ≡ Some (list m us) → count us ≡ n → Below (close_at q n r) v
-close-below [] n r v m us h e c = subst (Below (close_here n r)) (sym (some-same v (list m us) e)) (close_here-below n r m us c (subst (Below r) (some-same v (list m us) e) h))
+close-below [] n r v m us h e c = subst (Below (close_here n r)) (sym (same_Some v (list m us) e)) (close_here-below n r m us c (subst (Below r) (same_Some v (list m us) e) h))
 close-below (i ∷ q) n wanting (leaf l a) m us h e c = absurd (cc)
 close-below (i ∷ q) n wanting (list l vs) m us h e c = let s = stands vs i q (list m us) e in first-with (close_at q n wanting) no_parts vs i s.0 tt s.1 (close-below q n wanting s.0 m us tt s.2 c)
 close-below (i ∷ q) n (item u) v m us h e c = h
@@ -102,13 +97,6 @@ close-below (i ∷ q) n (closed ps) (leaf l a) m us h e c = absurd h
 close-below (i ∷ q) n (closed ps) (list l vs) m us h e c = let s = stands vs i q (list m us) e in each-with (close_at q n (part_of ps i)) ps vs i s.0 h s.1 (close-below q n (part_of ps i) s.0 m us (each-part ps vs i s.0 h s.1) s.2 c)
 
 -- ---- what is known after
-
-differ : (m n : ℕ) → (m ≡ n → ⊥) → (m == n) ≡ false
-differ m n h = test (m == n) refl
-  where
-    test : (c : Bool) → (m == n) ≡ c → (m == n) ≡ false
-    test false f = f
-    test true f = absurd (h (eqb-true m n f))
 
 pred-same : (m n : ℕ) → (m == n) ≡ (suc m == suc n)
 pred-same m n = test (m == n) refl
@@ -121,7 +109,7 @@ pred-same m n = test (m == n) refl
 
     test : (b : Bool) → (m == n) ≡ b → (m == n) ≡ (suc m == suc n)
     test true e = e ∙ sym (eq-eqb (suc m) (suc n) (up m n (eqb-true m n e)))
-    test false e = e ∙ sym (differ (suc m) (suc n) (λ k. apart (m == n) e (eq-eqb m n (down m n k))))
+    test false e = e ∙ sym (ne_eqb (suc m) (suc n) (λ k. apart (m == n) e (eq-eqb m n (down m n k))))
       where
         apart : (b : Bool) → b ≡ false → b ≡ true → ⊥
         apart true i j = absurd (cc)
@@ -129,29 +117,25 @@ pred-same m n = test (m == n) refl
 
 of-with : {A : Type 0} (p : Partial A) (ps : Parts A) (i j : ℕ) (b : Bool) → (j == i) ≡ b → part_of (with_part p ps i) j ≡ (if b then p else part_of ps j)
 of-with p no_parts zero zero b e = ap (λ c. if c then p else wanting) (sym (eq-eqb 0 0 refl) ∙ e)
-of-with p no_parts zero (suc j) b e = ap (λ c. if c then p else wanting) (sym (differ (suc j) 0 (λ k. nonzero j k)) ∙ e)
+of-with p no_parts zero (suc j) b e = ap (λ c. if c then p else wanting) (sym (ne_eqb (suc j) 0 (λ k. nonzero j k)) ∙ e)
   where
     nonzero : (j : ℕ) → suc j ≡ 0 → ⊥
     nonzero j e = omega arith
-of-with p no_parts (suc i) zero b e = ap (λ c. if c then p else wanting) (sym (differ 0 (suc i) (λ k. nonzero i k)) ∙ e)
+of-with p no_parts (suc i) zero b e = ap (λ c. if c then p else wanting) (sym (ne_eqb 0 (suc i) (λ k. nonzero i k)) ∙ e)
   where
     nonzero : (j : ℕ) → 0 ≡ suc j → ⊥
     nonzero j e = omega arith
 of-with p no_parts (suc i) (suc j) b e = of-with p no_parts i j b (pred-same j i ∙ e)
 of-with p (part r ps) zero zero b e = ap (λ c. if c then p else r) (sym (eq-eqb 0 0 refl) ∙ e)
-of-with p (part r ps) zero (suc j) b e = ap (λ c. if c then p else part_of ps j) (sym (differ (suc j) 0 (λ k. nonzero j k)) ∙ e)
+of-with p (part r ps) zero (suc j) b e = ap (λ c. if c then p else part_of ps j) (sym (ne_eqb (suc j) 0 (λ k. nonzero j k)) ∙ e)
   where
     nonzero : (j : ℕ) → suc j ≡ 0 → ⊥
     nonzero j e = omega arith
-of-with p (part r ps) (suc i) zero b e = ap (λ c. if c then p else r) (sym (differ 0 (suc i) (λ k. nonzero i k)) ∙ e)
+of-with p (part r ps) (suc i) zero b e = ap (λ c. if c then p else r) (sym (ne_eqb 0 (suc i) (λ k. nonzero i k)) ∙ e)
   where
     nonzero : (j : ℕ) → 0 ≡ suc j → ⊥
     nonzero j e = omega arith
 of-with p (part r ps) (suc i) (suc j) b e = of-with p ps i j b (pred-same j i ∙ e)
-
-or_none : (b : Bool) → b ≡ (b || false)
-or_none true = refl
-or_none false = refl
 
 clash : (b : Bool) → b ≡ false → b ≡ true → ⊥
 clash true i j = absurd (cc)
@@ -163,7 +147,7 @@ at-index p ps i j s more h = ap (λ r. shows r s) (of-with p ps i j (j == i) ref
   where
     by : (b : Bool) → (j == i) ≡ b → shows (if b then p else part_of ps j) s ≡ (shows (part_of ps j) s || ((i == j) && more))
     by true e = h ∙ ap (λ k. shows (part_of ps k) s || more) (sym (eqb-true j i e)) ∙ ap (λ b. shows (part_of ps j) s || (b && more)) (sym (eq-eqb i j (sym (eqb-true j i e))))
-    by false e = or_none (shows (part_of ps j) s) ∙ ap (λ b. shows (part_of ps j) s || (b && more)) (sym (differ i j (λ k. clash (j == i) e (eq-eqb j i (sym k)))))
+    by false e = or-nothing (shows (part_of ps j) s) ∙ ap (λ b. shows (part_of ps j) s || (b && more)) (sym (ne_eqb i j (λ k. clash (j == i) e (eq-eqb j i (sym k)))))
 
 free : (A : Type 0) (q : Place) → CanArrive {A = A} q wanting
 free A [] = tt
@@ -201,7 +185,7 @@ close-shows [] n wanting h [] = refl
 close-shows [] n wanting h (j ∷ s) = ap (λ r. shows r s) (of-filled no_parts n j)
 close-shows [] n (item v) h s = absurd h
 close-shows [] n (growing ps) h [] = refl
-close-shows [] n (growing ps) h (j ∷ s) = ap (λ r. shows r s) (of-filled ps n j) ∙ or_none (shows (part_of ps j) s)
+close-shows [] n (growing ps) h (j ∷ s) = ap (λ r. shows r s) (of-filled ps n j) ∙ or-nothing (shows (part_of ps j) s)
 close-shows [] n (closed ps) h s = absurd h
 close-shows {A} (i ∷ q) n wanting h [] = refl
 close-shows {A} (i ∷ q) n wanting h (j ∷ s) = at-index (close_at q n wanting) no_parts i j s (same_place q s) (close-shows q n wanting (can-close A q n) s)
@@ -249,13 +233,6 @@ close-not_whole (i ∷ q) n (closed ps) h = part-not_whole ps i h.0 (close-not_w
 
 if-less : (i n : ℕ) (b : Bool) → i < n → (if nat_lt i n then b else false) ≡ b
 if-less i n b h = ap (λ c. if c then b else false) (lt-ltb i n h)
-
-less-if : (i n : ℕ) (b : Bool) → (if nat_lt i n then b else false) ≡ true → (i < n) × (b ≡ true)
-less-if i n b h = by (nat_lt i n) refl h
-  where
-    by : (c : Bool) → nat_lt i n ≡ c → (if c then b else false) ≡ true → (i < n) × (b ≡ true)
-    by true e k = (ltb-true i n e, k)
-    by false e k = absurd (cc)
 
 known-wanting : (A : Type 0) (q : Place) → known_at {A = A} q wanting ≡ wanting
 known-wanting A [] = refl

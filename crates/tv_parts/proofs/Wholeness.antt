@@ -2,6 +2,7 @@
 use Rattle.std.specs.Prelude.{◌≡◌, refl, ℕ, zero, suc, ◌+◌, ◌≤◌, Bool, true, false, ◌&&◌, ◌==◌}
 use Rattle.std.proofs.Common.{arith, sym, ap, ◌∙◌}
 use Rattle.std.proofs.lemmas.Bool.{eqb-true, eq-eqb}
+use Rattle.std.specs.Cmp.{first_so, second_so}
 use Rattle.tv_value.specs.Nested.{leaf, list, no_trees, tree}
 use Rattle.tv_value.specs.Values.{Value}
 use Rattle.tv_parts.specs.Partials.{Partial, wanting, item, growing, closed, Parts, no_parts, part, part_count, part_of, whole, all_whole, one_if, whole_count}
@@ -9,14 +10,6 @@ use Rattle.tv_parts.specs.Below.{Values, Below, EachBelow, value_in, values_in}
 use Rattle.tv_parts.specs.Changes.{with_part}
 
 -- ---- a whole part is the value
-
-right_of : (a b : Bool) → (a && b) ≡ true → b ≡ true
-right_of true b h = h
-right_of false b h = absurd (cc)
-
-left_of : (a b : Bool) → (a && b) ≡ true → a ≡ true
-left_of true b h = refl
-left_of false b h = h
 
 mutual
   pub whole-is : (r : Partial Value) (v : Value) → Below r v → whole r ≡ true → value_in r ≡ v
@@ -31,7 +24,7 @@ mutual
   whole-are no_parts (tree v vs) h w = absurd h
   whole-are (part r ps) no_trees h w = absurd h
   whole-are (part r ps) (tree v vs) h w =
-      ap (λ u. tree u (values_in ps)) (whole-is r v h.0 (left_of (whole r) (all_whole ps) w)) ∙ ap (tree v) (whole-are ps vs h.1 (right_of (whole r) (all_whole ps) w))
+      ap (λ u. tree u (values_in ps)) (whole-is r v h.0 (first_so (whole r) (all_whole ps) w)) ∙ ap (tree v) (whole-are ps vs h.1 (second_so (whole r) (all_whole ps) w))
 
 -- ---- whole by counting
 

@@ -5,6 +5,7 @@ use Rattle.std.specs.List.{range_with_len}
 use Rattle.std.proofs.lemmas.Bool.{cases_eq, eq-eqb, ne_eqb}
 use Rattle.std.proofs.lemmas.List.{get_or-set_same, get_or-set_other, map-append}
 use Rattle.std.proofs.lemmas.Option.{same_Some, slice_get-map}
+use Rattle.tv_lemmas.proofs.Lists.{map-after}
 use Rattle.slab.specs.Slab.{Slab, get, slab_len, with_value}
 use Rattle.tv_pool.specs.Pool.{Pool, Contents, Stored, stored_in, item_in, with_lying, contents_written, with_linked, lies_at}
 use Rattle.tv_pool.specs.Layout.{chain_items, find_from, contents_of, contents_at, regions_of, IsLaidOut}
@@ -15,10 +16,6 @@ use Rattle.tv_pool.proofs.Chains.{within}
 use Rattle.tv_pool.proofs.PoolLinks.{lying-stored}
 use Rattle.tv_pool.proofs.Regions.{map_range-same}
 use Rattle.tv_pool.proofs.Steps.{held, Held, Held-item, slab_len-nodes_with, IsLaidOut-write, shown}
-
-map-after : {A B C : Type 0} (g : B → C) (f : A → B) (xs : List A) → map (λ x. g (f x)) xs ≡ map g (map f xs)
-map-after g f [] = refl
-map-after g f (x ∷ xs) = ap (λ l. g (f x) ∷ l) (map-after g f xs)
 
 module _ {T : Type 0} where
   -- what the slots show of a chain before its last item, and that item

@@ -2,7 +2,7 @@
 use Rattle.std.proofs.Common.{◌≡◌, ◌≢◌, ℕ, zero, suc, List, [], ◌∷◌, ◌++◌, get_or, map, eqb, if◌then◌else◌, Bool, true, false, Option, Some, None, refl, sym, ap, ◌∙◌, subst}
 use Rattle.std.specs.List.{slice_get}
 use Rattle.std.specs.Option.{option_map, IsSomeAnd}
-use Rattle.std.proofs.lemmas.Bool.{eq-eqb, eqb-true}
+use Rattle.std.proofs.lemmas.Bool.{eq-eqb, eqb-true, both_ways}
 use Rattle.std.proofs.lemmas.List.{get_or-set_other}
 use Rattle.std.proofs.lemmas.Option.{same_Some}
 use Rattle.tv_pool.specs.Pool.{Pool, Contents, Stored, region_at, stored_in, lying_in, item_in, with_lying, contents_written, with_linked, lies_at, slot_of, number_of, IsLive, Puts, contents_with}
@@ -10,10 +10,6 @@ use Rattle.tv_pool.specs.declared.handles.Region.{Region}
 use Rattle.tv_pool.specs.declared.handles.Node.{Node}
 use Rattle.tv_pool.specs.declared.handles.Link.{Link}
 use Rattle.tv_pool.proofs.PoolLemmas.{region_at-put}
-
-clash : (b : Bool) → b ≡ true → b ≡ false → ⊥
-clash true h k = absurd (cc)
-clash false h k = absurd (cc)
 
 module _ {T : Type 0} where
   -- what lies in a slot is stored at some position
@@ -59,8 +55,8 @@ module _ {T : Type 0} where
     where
       by : lying_in (map (with_lying at item) ss) slot ≡ (if eqb slot at then option_map (λ was. item) (lying_in ss slot) else lying_in ss slot) → (b c d : Bool) → eqb s.slot slot ≡ b → eqb slot at ≡ c → eqb s.slot at ≡ d → (if b then Some (if d then item else s.item) else lying_in (map (with_lying at item) ss) slot) ≡ (if c then option_map (λ was. item) (if b then Some s.item else lying_in ss slot) else (if b then Some s.item else lying_in ss slot))
       by rec true true true h k l = refl
-      by rec true true false h k l = absurd (clash (eqb s.slot at) (eq-eqb s.slot at (eqb-true s.slot slot h ∙ eqb-true slot at k)) l)
-      by rec true false true h k l = absurd (clash (eqb slot at) (eq-eqb slot at (sym (eqb-true s.slot slot h) ∙ eqb-true s.slot at l)) k)
+      by rec true true false h k l = absurd (both_ways (eqb s.slot at) l (eq-eqb s.slot at (eqb-true s.slot slot h ∙ eqb-true slot at k)))
+      by rec true false true h k l = absurd (both_ways (eqb slot at) k (eq-eqb slot at (sym (eqb-true s.slot slot h) ∙ eqb-true s.slot at l)))
       by rec true false false h k l = refl
       by rec false c d h k l = rec ∙ ap (λ e. if e then option_map (λ was. item) (lying_in ss slot) else lying_in ss slot) k
 

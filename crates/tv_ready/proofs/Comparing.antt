@@ -3,13 +3,14 @@ use Rattle.std.specs.Prelude.{◌≡◌, ℕ, ◌<◌, ◌==◌, List, Bool, tru
 use Rattle.std.specs.declared.cmp.Ordering.{Ordering}
 use Rattle.std.proofs.Common.{Less, Equal, Greater}
 use Rattle.std.specs.Cmp.{IsStrictWeakOrder, IsTotalOrder}
-use Rattle.std.specs.Ordering.{is_lt, nat_cmp, ordering_reverse, ordering_then}
+use Rattle.std.specs.Ordering.{is_lt, nat_cmp, ordering_then}
 use Rattle.std.specs.Cmp.Lexicographic.{slice_cmp}
 use Rattle.std.proofs.Common.{arith, ap, sym, ◌∙◌}
 use Rattle.std.proofs.lemmas.Bool.{le-ltb}
 use Rattle.std.proofs.lemmas.Cmp.{nat_cmp_total, nat_list_cmp_total, on_total, then_total}
 use Rattle.std.proofs.lemmas.List.MinMax.{ranks_by}
 use Rattle.std.proofs.lemmas.Map.Lookups.{exact_unsigned}
+use Rattle.tv_lemmas.proofs.Orderings.{not_lt-equal}
 use Rattle.tv_ready.specs.Orders.{is_before, job_cmp, place_at}
 
 pub job_total : IsTotalOrder job_cmp
@@ -17,12 +18,6 @@ job_total = then_total (on_total (λ (x : List ℕ × ℕ). x.0) nat_list_cmp_to
 
 pub before-order : (jobs : List (ℕ × List ℕ)) → IsStrictWeakOrder (is_before jobs)
 before-order jobs = ranks_by job_total (λ (s : ℕ). (place_at jobs s, s))
-
--- neither before the other: the same
-equal-by : (o : Ordering) → is_lt o ≡ false → is_lt (ordering_reverse o) ≡ false → o ≡ Equal
-equal-by Less g h = cc
-equal-by Equal g h = refl
-equal-by Greater g h = cc
 
 second-equal : (o p : Ordering) → ordering_then o p ≡ Equal → p ≡ Equal
 second-equal Less p e = cc
@@ -33,7 +28,7 @@ pub tie : (jobs : List (ℕ × List ℕ)) (a b : ℕ) → is_before jobs a b ≡
 tie jobs a b g h =
     let x : List ℕ × ℕ = (place_at jobs a, a) in
     let y : List ℕ × ℕ = (place_at jobs b, b) in
-    let e : job_cmp x y ≡ Equal = equal-by (job_cmp x y) g (ap is_lt (sym (job_total.antisymm y x)) ∙ h) in
+    let e : job_cmp x y ≡ Equal = not_lt-equal (job_cmp x y) g (ap is_lt (sym (job_total.antisymm y x)) ∙ h) in
     exact_unsigned a b (second-equal (slice_cmp nat_cmp x.0 y.0) (nat_cmp a b) e)
 
 not-less : (c : Bool) → c ≡ false → (d : Bool) → is_lt (cond c Less (cond d Equal Greater)) ≡ false

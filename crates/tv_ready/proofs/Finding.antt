@@ -1,37 +1,26 @@
 -- The first of those that are looked for: in parts of a list, and in a list in order.
 use Rattle.std.specs.Prelude.{◌≡◌, ℕ, zero, suc, ◌+◌, ◌<◌, ◌≤◌, ◌==◌, ◌&&◌, ◌||◌, not, nat_lt, Bool, true, false, List, [], ◌∷◌, ◌++◌, filter, length, map, option_map, slice_get, take, Option, Some, None, cond, if◌then◌else◌, refl}
-use Rattle.std.specs.declared.cmp.Ordering.{Ordering}
 use Rattle.std.specs.Cmp.{IsStrictWeakOrder}
 use Rattle.std.specs.Cmp.Lexicographic.{slice_cmp}
-use Rattle.std.specs.Ordering.{is_lt, nat_cmp, ordering_reverse, ordering_then}
+use Rattle.std.specs.Ordering.{is_lt, nat_cmp}
 use Rattle.std.specs.List.{list_all, list_any}
 use Rattle.std.specs.Option.{ForSome}
-use Rattle.std.proofs.Common.{arith, get_or, ap, sym, ◌∙◌, ◌⊎◌, inl, inr, Less, Equal, Greater}
-use Rattle.std.proofs.lemmas.Bool.{cases_eq, eq-eqb, eqb-true, ltb-false, ltb-true}
+use Rattle.std.proofs.Common.{arith, get_or, ap, sym, ◌∙◌, ◌⊎◌, inl, inr}
+use Rattle.std.proofs.lemmas.Bool.{cases_eq, eq-eqb, eqb-true, ltb-false, ltb-true, and_parts, not-true, or_cases, or_right}
 use Rattle.std.proofs.lemmas.Cmp.{nat_list_cmp_total}
 use Rattle.std.proofs.lemmas.List.MinMax.{ranks_by}
 use Rattle.std.proofs.lemmas.List.Folds.{list_all-append, list_any-append}
 use Rattle.std.proofs.lemmas.Option.{slice_get-map}
+use Rattle.tv_lemmas.proofs.Lists.{filter-map}
+use Rattle.tv_lemmas.proofs.Orderings.{then-not_reversed}
 use Rattle.tv_ready.specs.Laid.{rises}
 use Rattle.tv_ready.specs.Orders.{are_within, in_order, inserted, is_before, job_at, place_at}
 use Rattle.tv_ready.specs.Sought.{IsFirst, is_sought, is_sought_at, lesser, sought, stands_after}
 use Rattle.tv_ready.proofs.Comparing.{before-order, tie}
 use Rattle.tv_ready.proofs.Keeping.{all-at, rises-at}
-use Rattle.tv_ready.proofs.Sorting.{IsOrdered, all-in_order, both, in_order-ordered, itself, none_before, onward}
+use Rattle.tv_ready.proofs.Sorting.{IsOrdered, all-in_order, in_order-ordered, itself, none_before, onward}
 
 -- ---- tests
-
-not-true : (b : Bool) → not b ≡ true → b ≡ false
-not-true true e = cc
-not-true false e = refl
-
-either : (a b : Bool) → (a || b) ≡ true → (a ≡ true) ⊎ (b ≡ true)
-either true b e = inl refl
-either false b e = inr e
-
-or-right : (a b : Bool) → b ≡ true → (a || b) ≡ true
-or-right true b e = refl
-or-right false b e = e
 
 -- one that doesn't pass is no matter
 not-passed : (p b : Bool) → not p ≡ true → not (p && b) ≡ true
@@ -47,28 +36,20 @@ weaker false a b h e = refl
 all-weaker : (p a b : ℕ → Bool) (xs : List ℕ) → ((x : ℕ) → b x ≡ true → a x ≡ true) → list_all (λ x. not (p x && a x)) xs ≡ true → list_all (λ x. not (p x && b x)) xs ≡ true
 all-weaker p a b [] h e = refl
 all-weaker p a b (x ∷ xs) h e =
-    let w = both (not (p x && a x)) (list_all (λ x. not (p x && a x)) xs) e in
+    let w = and_parts (not (p x && a x)) (list_all (λ x. not (p x && a x)) xs) e in
     ap (λ c. c && list_all (λ x. not (p x && b x)) xs) (weaker (p x) (a x) (b x) (h x) w.0) ∙ all-weaker p a b xs h w.1
 
 all-not-passed : (p b : ℕ → Bool) (xs : List ℕ) → list_all (λ x. not (p x)) xs ≡ true → list_all (λ x. not (p x && b x)) xs ≡ true
 all-not-passed p b [] e = refl
 all-not-passed p b (x ∷ xs) e =
-    let w = both (not (p x)) (list_all (λ x. not (p x)) xs) e in
+    let w = and_parts (not (p x)) (list_all (λ x. not (p x)) xs) e in
     ap (λ c. c && list_all (λ x. not (p x && b x)) xs) (not-passed (p x) (b x) w.0) ∙ all-not-passed p b xs w.1
 
 filter-none : (p : ℕ → Bool) (xs : List ℕ) → list_all (λ x. not (p x)) xs ≡ true → filter p xs ≡ []
 filter-none p [] e = refl
 filter-none p (x ∷ xs) e =
-    let w = both (not (p x)) (list_all (λ x. not (p x)) xs) e in
+    let w = and_parts (not (p x)) (list_all (λ x. not (p x)) xs) e in
     ap (λ b. cond b (x ∷ filter p xs) (filter p xs)) (not-true (p x) w.0) ∙ filter-none p xs w.1
-
-filter-map : {A B : Type 0} (p : B → Bool) (f : A → B) (xs : List A) → filter p (map f xs) ≡ map f (filter (λ x. p (f x)) xs)
-filter-map p f [] = refl
-filter-map p f (x ∷ xs) = by (p (f x)) (filter-map p f xs)
-  where
-    by : (b : Bool) → filter p (map f xs) ≡ map f (filter (λ x. p (f x)) xs) → cond b (f x ∷ filter p (map f xs)) (filter p (map f xs)) ≡ map f (cond b (x ∷ filter (λ x. p (f x)) xs) (filter (λ x. p (f x)) xs))
-    by true r = ap (λ l. f x ∷ l) r
-    by false r = r
 
 module _ (lt : ℕ → ℕ → Bool) (o : IsStrictWeakOrder lt) where
   -- ---- of two lists
@@ -76,7 +57,7 @@ module _ (lt : ℕ → ℕ → Bool) (o : IsStrictWeakOrder lt) where
   pub first-both : (p : ℕ → Bool) (xs ys : List ℕ) (a b : Option ℕ) → IsFirst lt p xs a → IsFirst lt p ys b → IsFirst lt p (xs ++ ys) (lesser lt a b)
   first-both p xs ys None None f g = list_all-append (λ s. not (p s)) xs ys ∙ ap (λ c. c && list_all (λ s. not (p s)) ys) f ∙ g
   first-both p xs ys None (Some t) f g = (
-    list_any-append (λ s. s == t) xs ys ∙ or-right (list_any (λ s. s == t) xs) (list_any (λ s. s == t) ys) g.0,
+    list_any-append (λ s. s == t) xs ys ∙ or_right (list_any (λ s. s == t) xs) (list_any (λ s. s == t) ys) g.0,
     g.1,
     list_all-append (λ s. not (p s && lt s t)) xs ys ∙ ap (λ c. c && list_all (λ s. not (p s && lt s t)) ys) (all-not-passed p (λ s. lt s t) xs f) ∙ g.2,
   )
@@ -89,7 +70,7 @@ module _ (lt : ℕ → ℕ → Bool) (o : IsStrictWeakOrder lt) where
     where
       by : (c : Bool) → lt t s ≡ c → IsFirst lt p (xs ++ ys) (if c then Some t else Some s)
       by true e = (
-        list_any-append (λ x. x == t) xs ys ∙ or-right (list_any (λ x. x == t) xs) (list_any (λ x. x == t) ys) g.0,
+        list_any-append (λ x. x == t) xs ys ∙ or_right (list_any (λ x. x == t) xs) (list_any (λ x. x == t) ys) g.0,
         g.1,
         list_all-append (λ x. not (p x && lt x t)) xs ys
             ∙ ap (λ c. c && list_all (λ x. not (p x && lt x t)) ys) (all-weaker p (λ x. lt x s) (λ x. lt x t) xs (λ x h. onward lt o x t s h e) f.2)
@@ -135,12 +116,12 @@ module _ (lt : ℕ → ℕ → Bool) (o : IsStrictWeakOrder lt) where
       by : (b : Bool) → (list_any q (x ∷ ys) ≡ true → list_any q (inserted lt x ys) ≡ true) → list_any q (if b then x ∷ y ∷ ys else y ∷ inserted lt x ys) ≡ true
       by true r = e
       by false r =
-          elim (either (q x) (q y || list_any q ys) e) [
-            | inl h ↦ or-right (q y) (list_any q (inserted lt x ys)) (r (ap (λ b. b || list_any q ys) h))
+          elim (or_cases (q x) (q y || list_any q ys) e) [
+            | inl h ↦ or_right (q y) (list_any q (inserted lt x ys)) (r (ap (λ b. b || list_any q ys) h))
             | inr h ↦
-                elim (either (q y) (list_any q ys) h) [
+                elim (or_cases (q y) (list_any q ys) h) [
                   | inl g ↦ ap (λ b. b || list_any q (inserted lt x ys)) g
-                  | inr g ↦ or-right (q y) (list_any q (inserted lt x ys)) (r (or-right (q x) (list_any q ys) g))
+                  | inr g ↦ or_right (q y) (list_any q (inserted lt x ys)) (r (or_right (q x) (list_any q ys) g))
                 ]
           ]
 
@@ -148,9 +129,9 @@ module _ (lt : ℕ → ℕ → Bool) (o : IsStrictWeakOrder lt) where
   any-in_order q [] e = e
   any-in_order q (x ∷ xs) e =
       any-inserted q x (in_order lt xs)
-      (elim (either (q x) (list_any q xs) e) [
+      (elim (or_cases (q x) (list_any q xs) e) [
         | inl h ↦ ap (λ b. b || list_any q (in_order lt xs)) h
-        | inr h ↦ or-right (q x) (list_any q (in_order lt xs)) (any-in_order q xs h)
+        | inr h ↦ or_right (q x) (list_any q (in_order lt xs)) (any-in_order q xs h)
       ])
 
   module _ (same : (a b : ℕ) → lt a b ≡ false → lt b a ≡ false → a ≡ b) where
@@ -158,17 +139,17 @@ module _ (lt : ℕ → ℕ → Bool) (o : IsStrictWeakOrder lt) where
         → list_all (λ s. not (p s && lt s m)) ys ≡ true → slice_get (filter p ys) 0 ≡ Some m
     ordered-first p m [] r e h n = cc
     ordered-first p m (y ∷ ys) r e h n =
-        by (p y) refl (either (y == m) (list_any (λ s. s == m) ys) e)
-        (λ i. ordered-first p m ys r.1 i h (both (not (p y && lt y m)) (list_all (λ s. not (p s && lt s m)) ys) n).1)
+        by (p y) refl (or_cases (y == m) (list_any (λ s. s == m) ys) e)
+        (λ i. ordered-first p m ys r.1 i h (and_parts (not (p y && lt y m)) (list_all (λ s. not (p s && lt s m)) ys) n).1)
       where
         w : (not (p y && lt y m) ≡ true) × (list_all (λ s. not (p s && lt s m)) ys ≡ true)
-        w = both (not (p y && lt y m)) (list_all (λ s. not (p s && lt s m)) ys) n
+        w = and_parts (not (p y && lt y m)) (list_all (λ s. not (p s && lt s m)) ys) n
 
         among : (zs : List ℕ) → none_before lt y zs ≡ true → list_any (λ s. s == m) zs ≡ true → lt m y ≡ false
         among [] a b = cc
         among (z ∷ zs) a b =
-            let c = both (not (lt z y)) (none_before lt y zs) a in
-            elim (either (z == m) (list_any (λ s. s == m) zs) b) [
+            let c = and_parts (not (lt z y)) (none_before lt y zs) a in
+            elim (or_cases (z == m) (list_any (λ s. s == m) zs) b) [
               | inl i ↦ ap (λ x. lt x y) (sym (eqb-true z m i)) ∙ not-true (lt z y) c.0
               | inr i ↦ among zs c.1 i
             ]
@@ -197,8 +178,8 @@ first-within lt p n ss (Some m) h f x e = let same : m ≡ x = cc in let l = ins
     inside : (xs : List ℕ) → list_all (λ s. nat_lt s n) xs ≡ true → list_any (λ s. s == m) xs ≡ true → m < n
     inside [] a b = cc
     inside (x ∷ xs) a b =
-        let c = both (nat_lt x n) (list_all (λ s. nat_lt s n) xs) a in
-        elim (either (x == m) (list_any (λ s. s == m) xs) b) [
+        let c = and_parts (nat_lt x n) (list_all (λ s. nat_lt s n) xs) a in
+        elim (or_cases (x == m) (list_any (λ s. s == m) xs) b) [
           | inl i ↦ let e = eqb-true x m i in let l = ltb-true x n c.0 in omega (arith, e, l)
           | inr i ↦ inside xs c.1 i
         ]
@@ -206,7 +187,7 @@ first-within lt p n ss (Some m) h f x e = let same : m ≡ x = cc in let l = ins
 pub all-taken : (p : ℕ → Bool) (k : ℕ) (xs : List ℕ) → list_all p xs ≡ true → list_all p (take k xs) ≡ true
 all-taken p zero xs h = refl
 all-taken p (suc k) [] h = refl
-all-taken p (suc k) (x ∷ xs) h = let w = both (p x) (list_all p xs) h in ap (λ b. b && list_all p (take k xs)) w.0 ∙ all-taken p k xs w.1
+all-taken p (suc k) (x ∷ xs) h = let w = and_parts (p x) (list_all p xs) h in ap (λ b. b && list_all p (take k xs)) w.0 ∙ all-taken p k xs w.1
 
 pub some-within : (jobs : List (ℕ × List ℕ)) (p : ℕ → Bool) (xs ys : List ℕ) (a b : Option ℕ) (m : ℕ) → are_within jobs xs ≡ true → are_within jobs ys ≡ true
     → IsFirst (is_before jobs) p xs a → IsFirst (is_before jobs) p ys b → lesser (is_before jobs) a b ≡ Some m → m < length jobs
@@ -219,20 +200,15 @@ some-within jobs p xs ys a b m h g f e is =
 any-at : (xs : List ℕ) (k : ℕ) → k < length xs → list_any (λ s. s == get_or xs k 0) xs ≡ true
 any-at [] k l = absurd (omega arith)
 any-at (x ∷ xs) zero l = ap (λ b. b || list_any (λ s. s == x) xs) (eq-eqb x x refl)
-any-at (x ∷ xs) (suc k) l = or-right (x == get_or xs k 0) (list_any (λ s. s == get_or xs k 0) xs) (any-at xs k (omega arith))
+any-at (x ∷ xs) (suc k) l = or_right (x == get_or xs k 0) (list_any (λ s. s == get_or xs k 0) xs) (any-at xs k (omega arith))
 
 abbrev places : IsStrictWeakOrder stands_after
 places = ranks_by nat_list_cmp_total (λ (p : List ℕ). p)
 
-turned : (o p : Ordering) → is_lt (ordering_then o p) ≡ true → is_lt (ordering_reverse o) ≡ false
-turned Less p e = refl
-turned Equal p e = refl
-turned Greater p e = cc
-
 module _ (jobs : List (ℕ × List ℕ)) where
   earlier-place : (s t : ℕ) → is_before jobs s t ≡ true → stands_after (place_at jobs t) (place_at jobs s) ≡ false
   earlier-place s t h =
-      ap is_lt (nat_list_cmp_total.antisymm (place_at jobs t) (place_at jobs s)) ∙ turned (slice_cmp nat_cmp (place_at jobs s) (place_at jobs t)) (nat_cmp s t) h
+      ap is_lt (nat_list_cmp_total.antisymm (place_at jobs t) (place_at jobs s)) ∙ then-not_reversed (slice_cmp nat_cmp (place_at jobs s) (place_at jobs t)) (nat_cmp s t) h
 
   -- those before one that doesn't stand after a place don't either
   pub none-after : (p qs : List ℕ) (m k : ℕ) → rises (is_before jobs) qs ≡ true → m < length qs → stands_after p (place_at jobs (get_or qs m 0)) ≡ false

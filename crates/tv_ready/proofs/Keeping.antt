@@ -5,7 +5,7 @@ use Rattle.std.specs.List.{list_all}
 use Rattle.std.specs.Ordering.{is_lt, nat_cmp}
 use Rattle.std.proofs.Common.{arith, get_or, ap, sym, ◌∙◌, inl, inr}
 use Rattle.std.proofs.Math.ListN.{get_or-append}
-use Rattle.std.proofs.lemmas.Bool.{cases_eq, lt-ltb, ltb-true}
+use Rattle.std.proofs.lemmas.Bool.{cases_eq, lt-ltb, ltb-true, and_parts}
 use Rattle.std.proofs.lemmas.List.{append-nil, drop_all, get_or_at, length-append, take_all}
 use Rattle.std.proofs.lemmas.List.Folds.{list_all-append}
 use Rattle.std.proofs.lemmas.List.Sorted.{IsPermutation-append_comm, IsPermutation-append_right, IsPermutation-cons, IsPermutation-refl, IsPermutation-trans}
@@ -14,7 +14,7 @@ use Rattle.tv_ready.specs.Laid.{is_late_first, rises}
 use Rattle.tv_ready.specs.Listed.{with_job}
 use Rattle.tv_ready.specs.Orders.{are_within, in_order, inserted, is_before, job_at, job_cmp, place_at}
 use Rattle.tv_ready.proofs.Comparing.{before-order, later-last, tie}
-use Rattle.tv_ready.proofs.Sorting.{all-by, all-in_order, all-same, both, first-in_order, itself, none_before, onward, same-order}
+use Rattle.tv_ready.proofs.Sorting.{all-by, all-in_order, all-same, first-in_order, itself, none_before, onward, same-order}
 
 -- ---- lists by position
 
@@ -24,8 +24,8 @@ all-at p (x ∷ xs) h = ap (λ b. b && list_all p xs) (h 0 (omega arith)) ∙ al
 
 pub at-all : (p : ℕ → Bool) (xs : List ℕ) (k : ℕ) → list_all p xs ≡ true → k < length xs → p (get_or xs k 0) ≡ true
 at-all p [] k h lt = absurd (omega arith)
-at-all p (x ∷ xs) zero h lt = (both (p x) (list_all p xs) h).0
-at-all p (x ∷ xs) (suc k) h lt = at-all p xs k (both (p x) (list_all p xs) h).1 (omega arith)
+at-all p (x ∷ xs) zero h lt = (and_parts (p x) (list_all p xs) h).0
+at-all p (x ∷ xs) (suc k) h lt = at-all p xs k (and_parts (p x) (list_all p xs) h).1 (omega arith)
 
 pub to-front : (xs : List ℕ) (x : ℕ) (ys : List ℕ) → IsPermutation (xs ++ x ∷ ys) (x ∷ (xs ++ ys))
 to-front xs x ys =
@@ -61,7 +61,7 @@ module _ (jobs : List (ℕ × List ℕ)) where
   queue-after [] t ts r h = refl
   queue-after (q ∷ qs) t ts r h =
       ap (λ b. not b && none_before (is_before jobs) t qs) ((before-order jobs).one_way t q h)
-      ∙ not-before t qs (all-by (is_before jobs q) (is_before jobs t) qs (λ y e. onward (is_before jobs) (before-order jobs) t q y h e) (both (list_all (is_before jobs q) qs) (rises (is_before jobs) qs) r).0)
+      ∙ not-before t qs (all-by (is_before jobs q) (is_before jobs t) qs (λ y e. onward (is_before jobs) (before-order jobs) t q y h e) (and_parts (list_all (is_before jobs q) qs) (rises (is_before jobs) qs) r).0)
 
   -- it came late: `rest` is the heap without it
   pub late-first : (queue late rest : List ℕ) → rises (is_before jobs) queue ≡ true → IsHeap jobs late → is_late_first jobs queue late ≡ true
@@ -75,7 +75,7 @@ module _ (jobs : List (ℕ × List ℕ)) where
       let moved : IsPermutation (queue ++ late) (t ∷ (queue ++ rest)) =
       IsPermutation-trans (queue ++ late) (queue ++ t ∷ rest) (t ∷ (queue ++ rest)) (IsPermutation-append_right queue late (t ∷ rest) p) (to-front queue t rest)
       in
-      let others : none_before (is_before jobs) t rest ≡ true = (both (not (is_before jobs t t)) (none_before (is_before jobs) t rest) (all-same (λ y. not (is_before jobs y t)) late (t ∷ rest) p (heap-top late heap))).1 in
+      let others : none_before (is_before jobs) t rest ≡ true = (and_parts (not (is_before jobs t t)) (none_before (is_before jobs) t rest) (all-same (λ y. not (is_before jobs y t)) late (t ∷ rest) p (heap-top late heap))).1 in
       let none : none_before (is_before jobs) t (queue ++ rest) ≡ true =
       list_all-append (λ y. not (is_before jobs y t)) queue rest
       ∙ ap (λ b. b && none_before (is_before jobs) t rest) (queue-after queue t ts r h)
@@ -98,7 +98,7 @@ module _ (jobs : List (ℕ × List ℕ)) where
   queue-first q qs late r heap h =
       let none : none_before (is_before jobs) q (qs ++ late) ≡ true =
       list_all-append (λ y. not (is_before jobs y q)) qs late
-      ∙ ap (λ b. b && none_before (is_before jobs) q late) (not-before q qs (both (list_all (is_before jobs q) qs) (rises (is_before jobs) qs) r).0)
+      ∙ ap (λ b. b && none_before (is_before jobs) q late) (not-before q qs (and_parts (list_all (is_before jobs q) qs) (rises (is_before jobs) qs) r).0)
       ∙ late-after q qs late heap h
       in
       first-in_order (is_before jobs) (before-order jobs) (tie jobs) q (qs ++ late) none
@@ -107,8 +107,8 @@ module _ (jobs : List (ℕ × List ℕ)) where
   pub rises-more : (qs : List ℕ) (n : ℕ) → rises (is_before jobs) qs ≡ true → list_all (λ s. is_before jobs s n) qs ≡ true → rises (is_before jobs) (qs ++ n ∷ []) ≡ true
   rises-more [] n r h = refl
   rises-more (q ∷ qs) n r h =
-      let a = both (list_all (is_before jobs q) qs) (rises (is_before jobs) qs) r in
-      let b = both (is_before jobs q n) (list_all (λ s. is_before jobs s n) qs) h in
+      let a = and_parts (list_all (is_before jobs q) qs) (rises (is_before jobs) qs) r in
+      let b = and_parts (is_before jobs q n) (list_all (λ s. is_before jobs s n) qs) h in
       ap (λ c. c && rises (is_before jobs) (qs ++ n ∷ []))
       (list_all-append (is_before jobs q) qs (n ∷ []) ∙ ap (λ c. c && (is_before jobs q n && true)) a.0 ∙ ap (λ c. c && true) b.0)
       ∙ rises-more qs n a.1 b.1
@@ -116,8 +116,8 @@ module _ (jobs : List (ℕ × List ℕ)) where
   pub rises-at : (qs : List ℕ) (i k : ℕ) → rises (is_before jobs) qs ≡ true → i < k → k < length qs → is_before jobs (get_or qs i 0) (get_or qs k 0) ≡ true
   rises-at [] i k r a b = absurd (omega arith)
   rises-at (q ∷ qs) i zero r a b = absurd (omega arith)
-  rises-at (q ∷ qs) zero (suc k) r a b = at-all (is_before jobs q) qs k (both (list_all (is_before jobs q) qs) (rises (is_before jobs) qs) r).0 (omega arith)
-  rises-at (q ∷ qs) (suc i) (suc k) r a b = rises-at qs i k (both (list_all (is_before jobs q) qs) (rises (is_before jobs) qs) r).1 (omega arith) (omega arith)
+  rises-at (q ∷ qs) zero (suc k) r a b = at-all (is_before jobs q) qs k (and_parts (list_all (is_before jobs q) qs) (rises (is_before jobs) qs) r).0 (omega arith)
+  rises-at (q ∷ qs) (suc i) (suc k) r a b = rises-at qs i k (and_parts (list_all (is_before jobs q) qs) (rises (is_before jobs) qs) r).1 (omega arith) (omega arith)
 
   -- all of a queue stand before what its last stands before
   pub last-all : (qs : List ℕ) (k n : ℕ) → rises (is_before jobs) qs ≡ true → k + 1 ≡ length qs → is_before jobs (get_or qs k 0) n ≡ true → list_all (λ s. is_before jobs s n) qs ≡ true
@@ -150,20 +150,20 @@ module _ (jobs : List (ℕ × List ℕ)) (j : ℕ × List ℕ) where
   inserted-agree : (x : ℕ) (xs : List ℕ) → within x ≡ true → list_all within xs ≡ true → inserted (is_before more) x xs ≡ inserted (is_before jobs) x xs
   inserted-agree x [] h g = refl
   inserted-agree x (y ∷ ys) h g =
-      let b = both (within y) (list_all within ys) g in
+      let b = and_parts (within y) (list_all within ys) g in
       ap (λ c. if c then x ∷ y ∷ ys else y ∷ inserted (is_before more) x ys) (same-before x y h b.0)
       ∙ ap (λ zs. if is_before jobs x y then x ∷ y ∷ ys else y ∷ zs) (inserted-agree x ys h b.1)
 
   order-agree : (xs : List ℕ) → list_all within xs ≡ true → in_order (is_before more) xs ≡ in_order (is_before jobs) xs
   order-agree [] h = refl
   order-agree (x ∷ xs) h =
-      let b = both (within x) (list_all within xs) h in
+      let b = and_parts (within x) (list_all within xs) h in
       ap (inserted (is_before more) x) (order-agree xs b.1) ∙ inserted-agree x (in_order (is_before jobs) xs) b.0 (all-in_order (is_before jobs) within xs b.1)
 
   map-agree : (xs : List ℕ) → list_all within xs ≡ true → map (job_at more) xs ≡ map (job_at jobs) xs
   map-agree [] h = refl
   map-agree (x ∷ xs) h =
-      let b = both (within x) (list_all within xs) h in
+      let b = and_parts (within x) (list_all within xs) h in
       ap (λ k. k ∷ map (job_at more) xs) (same-job x b.0) ∙ ap (λ ks. job_at jobs x ∷ ks) (map-agree xs b.1)
 
   put-by : (c : Bool) (z : ℕ) (zs : List ℕ) → job_at more z ≡ job_at jobs z → map (job_at more) zs ≡ map (job_at jobs) zs
@@ -176,7 +176,7 @@ module _ (jobs : List (ℕ × List ℕ)) (j : ℕ × List ℕ) where
   put-inserted : (zs : List ℕ) → list_all within zs ≡ true → map (job_at more) (inserted (is_before more) (length jobs) zs) ≡ with_job j (map (job_at jobs) zs)
   put-inserted [] h = ap (λ k. k ∷ []) new-job
   put-inserted (z ∷ zs) h =
-      let b = both (within z) (list_all within zs) h in
+      let b = and_parts (within z) (list_all within zs) h in
       let test : is_before more (length jobs) z ≡ is_lt (slice_cmp nat_cmp j.1 (job_at jobs z).1) =
       ap (λ p. is_lt (job_cmp (p.1, length jobs) (place_at more z, z))) new-job
       ∙ ap (λ p. is_lt (job_cmp (j.1, length jobs) (p.1, z))) (same-job z b.0)
@@ -205,15 +205,15 @@ module _ (jobs : List (ℕ × List ℕ)) (j : ℕ × List ℕ) where
   pub before-more : (s : ℕ) (xs : List ℕ) → within s ≡ true → list_all within xs ≡ true → list_all (is_before jobs s) xs ≡ true → list_all (is_before more s) xs ≡ true
   before-more s [] h g e = refl
   before-more s (x ∷ xs) h g e =
-      let b = both (within x) (list_all within xs) g in
-      let d = both (is_before jobs s x) (list_all (is_before jobs s) xs) e in
+      let b = and_parts (within x) (list_all within xs) g in
+      let d = and_parts (is_before jobs s x) (list_all (is_before jobs s) xs) e in
       ap (λ c. c && list_all (is_before more s) xs) (same-before s x h b.0 ∙ d.0) ∙ before-more s xs h b.1 d.1
 
   pub rises-agree : (xs : List ℕ) → list_all within xs ≡ true → rises (is_before jobs) xs ≡ true → rises (is_before more) xs ≡ true
   rises-agree [] h e = refl
   rises-agree (x ∷ xs) h e =
-      let b = both (within x) (list_all within xs) h in
-      let d = both (list_all (is_before jobs x) xs) (rises (is_before jobs) xs) e in
+      let b = and_parts (within x) (list_all within xs) h in
+      let d = and_parts (list_all (is_before jobs x) xs) (rises (is_before jobs) xs) e in
       ap (λ c. c && rises (is_before more) xs) (before-more x xs b.0 b.1 d.0) ∙ rises-agree xs b.1 d.1
 
   pub heap-agree : (xs : List ℕ) → list_all within xs ≡ true → IsHeap jobs xs → IsHeap more xs
@@ -261,11 +261,6 @@ module _ (jobs : List (ℕ × List ℕ)) where
   queue-tail (q ∷ qs) late r heap h = sym (ap (λ ss. drop 1 (map (job_at jobs) ss)) (queue-first jobs q qs late r heap h))
 
 -- ---- lists of the code
-
-pub get-same : (xs : List ℕ) (i d e : ℕ) → i < length xs → get_or xs i d ≡ get_or xs i e
-get-same [] i d e lt = absurd (omega arith)
-get-same (x ∷ xs) zero d e lt = refl
-get-same (x ∷ xs) (suc i) d e lt = get-same xs i d e (omega arith)
 
 -- a slice of all of a vector, written back
 pub written-back : (xs ys : List ℕ) (n : ℕ) → length xs ≡ length ys → n ≡ length ys → take n (xs ++ drop (length xs) ys) ≡ xs

@@ -1,19 +1,13 @@
 -- How places stand in one list of indices.
-use Rattle.std.specs.Prelude.{◌≡◌, ℕ, zero, suc, ◌+◌, ◌-◌, ◌*◌, ◌<◌, ◌≤◌, List, [], ◌∷◌, ◌++◌, length, take, drop, nat_le, Bool, true, ◌&&◌, refl}
+use Rattle.std.specs.Prelude.{◌≡◌, ℕ, ◌+◌, ◌≤◌, List, [], ◌∷◌, ◌++◌, length, take, drop, nat_le, Bool, true, ◌&&◌, refl}
 use Rattle.std.specs.List.{list_all}
-use Rattle.std.proofs.Common.{arith, ap, sym, ◌∙◌}
-use Rattle.std.proofs.Math.Nat.{suc-mul}
+use Rattle.std.proofs.Common.{arith, ap, ◌∙◌}
 use Rattle.std.proofs.Math.Seq.{drop-append_seam}
-use Rattle.std.proofs.lemmas.Bool.{le-leb, leb-true}
+use Rattle.std.proofs.lemmas.Bool.{le-leb, leb-true, and_parts}
 use Rattle.std.proofs.lemmas.List.{drop-append-le, length-append, length-drop, map-append, take-append-le, take_all}
 use Rattle.std.proofs.lemmas.List.Folds.{list_all-append}
 use Rattle.tv_ready.specs.declared.table.Slot.{Slot}
 use Rattle.tv_ready.specs.Slots.{shown}
-use Rattle.tv_ready.proofs.Sorting.{both}
-
-pub split-room : (r l : ℕ) → 0 < r → (r - 1) * l + l ≡ r * l
-split-room zero l h = absurd (omega arith)
-split-room (suc r) l h = let e : suc r - 1 ≡ r = omega arith in ap (λ k. k * l + l) e ∙ sym (suc-mul r l)
 
 module _ (levels : ℕ) (indices place : List ℕ) where
   abbrev lies : Slot → Bool
@@ -22,7 +16,7 @@ module _ (levels : ℕ) (indices place : List ℕ) where
   still-shown : (slots : List Slot) → list_all lies slots ≡ true → shown levels (indices ++ place) slots ≡ shown levels indices slots
   still-shown [] h = refl
   still-shown (s ∷ slots) h =
-      let b = both (lies s) (list_all lies slots) h in
+      let b = and_parts (lies s) (list_all lies slots) h in
       let le : s.start + levels ≤ length indices = leb-true (s.start + levels) (length indices) b.0 in
       let inside : s.start ≤ length indices = omega (arith, le) in
       let rest : levels ≤ length (drop s.start indices) = let e = length-drop s.start indices in omega (arith, e, le) in
@@ -33,7 +27,7 @@ module _ (levels : ℕ) (indices place : List ℕ) where
   still-lies : (slots : List Slot) → list_all lies slots ≡ true → list_all (λ s. nat_le (s.start + levels) (length (indices ++ place))) slots ≡ true
   still-lies [] h = refl
   still-lies (s ∷ slots) h =
-      let b = both (lies s) (list_all lies slots) h in
+      let b = and_parts (lies s) (list_all lies slots) h in
       let le : s.start + levels ≤ length indices = leb-true (s.start + levels) (length indices) b.0 in
       let many = length-append indices place in
       ap (λ c. c && list_all (λ s. nat_le (s.start + levels) (length (indices ++ place))) slots) (le-leb (s.start + levels) (length (indices ++ place)) (omega (arith, le, many)))

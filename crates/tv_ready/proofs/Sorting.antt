@@ -3,7 +3,7 @@ use Rattle.std.specs.Prelude.{◌≡◌, ℕ, suc, ◌+◌, ◌≤◌, List, [],
 use Rattle.std.specs.Cmp.{IsStrictWeakOrder}
 use Rattle.std.specs.List.{list_all}
 use Rattle.std.proofs.Common.{arith, ap, sym, ◌∙◌}
-use Rattle.std.proofs.lemmas.Bool.{eq-eqb, eqb-true}
+use Rattle.std.proofs.lemmas.Bool.{eq-eqb, eqb-true, and_parts}
 use Rattle.std.proofs.lemmas.List.Sorted.{sum_by-IsPermutation}
 use Rattle.std.proofs.lemmas.List.Sums.{sum_by-cons}
 use Rattle.tv_ready.specs.Orders.{in_order, inserted}
@@ -16,14 +16,10 @@ one b = cond b 1 0
 pub count-cons : (p : ℕ → Bool) (x : ℕ) (xs : List ℕ) → count_by p (x ∷ xs) ≡ one (p x) + count_by p xs
 count-cons p x xs = sum_by-cons (λ y. cond (p y) 1 0) x xs
 
-pub both : (a b : Bool) → (a && b) ≡ true → (a ≡ true) × (b ≡ true)
-both true b e = (refl, e)
-both false b e = cc
-
 -- ones that pass, and one that fails, which isn't among them
 pub none-of : (p : ℕ → Bool) (x : ℕ) (xs : List ℕ) → list_all p xs ≡ true → p x ≡ false → count_by (λ y. y == x) xs ≡ 0
 none-of p x [] h f = refl
-none-of p x (y ∷ ys) h f = cases (y == x) refl (both (p y) (list_all p ys) h).0 (none-of p x ys (both (p y) (list_all p ys) h).1 f)
+none-of p x (y ∷ ys) h f = cases (y == x) refl (and_parts (p y) (list_all p ys) h).0 (none-of p x ys (and_parts (p y) (list_all p ys) h).1 f)
   where
     cases : (b : Bool) → (y == x) ≡ b → p y ≡ true → count_by (λ y. y == x) ys ≡ 0 → count_by (λ y. y == x) (y ∷ ys) ≡ 0
     cases true e g r = let s : y ≡ x = eqb-true y x e in let t : false ≡ true = sym f ∙ ap p (sym s) ∙ g in cc
@@ -31,12 +27,12 @@ none-of p x (y ∷ ys) h f = cases (y == x) refl (both (p y) (list_all p ys) h).
 
 pub all-by : (p q : ℕ → Bool) (xs : List ℕ) → ((x : ℕ) → p x ≡ true → q x ≡ true) → list_all p xs ≡ true → list_all q xs ≡ true
 all-by p q [] h e = refl
-all-by p q (x ∷ xs) h e = let b = both (p x) (list_all p xs) e in ap (λ c. c && list_all q xs) (h x b.0) ∙ all-by p q xs h b.1
+all-by p q (x ∷ xs) h e = let b = and_parts (p x) (list_all p xs) e in ap (λ c. c && list_all q xs) (h x b.0) ∙ all-by p q xs h b.1
 
 none-fails : (p : ℕ → Bool) (xs : List ℕ) → list_all p xs ≡ true → count_by (λ x. not (p x)) xs ≡ 0
 none-fails p [] e = refl
 none-fails p (x ∷ xs) e =
-    let b = both (p x) (list_all p xs) e in
+    let b = and_parts (p x) (list_all p xs) e in
     let c = count-cons (λ x. not (p x)) x xs in
     let o : one (not (p x)) ≡ 0 = ap (λ b. one (not b)) b.0 in
     let r = none-fails p xs b.1 in
@@ -64,7 +60,7 @@ module _ (lt : ℕ → ℕ → Bool) where
 
   pub all-inserted : (p : ℕ → Bool) (x : ℕ) (xs : List ℕ) → p x ≡ true → list_all p xs ≡ true → list_all p (inserted lt x xs) ≡ true
   all-inserted p x [] h e = ap (λ b. b && true) h
-  all-inserted p x (y ∷ ys) h e = cases (lt x y) (both (p y) (list_all p ys) e).0 (all-inserted p x ys h (both (p y) (list_all p ys) e).1)
+  all-inserted p x (y ∷ ys) h e = cases (lt x y) (and_parts (p y) (list_all p ys) e).0 (all-inserted p x ys h (and_parts (p y) (list_all p ys) e).1)
     where
       cases : (b : Bool) → p y ≡ true → list_all p (inserted lt x ys) ≡ true → list_all p (if b then x ∷ y ∷ ys else y ∷ inserted lt x ys) ≡ true
       cases true g r = ap (λ b. b && list_all p (y ∷ ys)) h ∙ e
@@ -88,7 +84,7 @@ module _ (lt : ℕ → ℕ → Bool) where
 
   pub all-in_order : (p : ℕ → Bool) (xs : List ℕ) → list_all p xs ≡ true → list_all p (in_order lt xs) ≡ true
   all-in_order p [] e = refl
-  all-in_order p (x ∷ xs) e = let b = both (p x) (list_all p xs) e in all-inserted p x (in_order lt xs) b.0 (all-in_order p xs b.1)
+  all-in_order p (x ∷ xs) e = let b = and_parts (p x) (list_all p xs) e in all-inserted p x (in_order lt xs) b.0 (all-in_order p xs b.1)
 
   -- ---- lists in order
 

@@ -1,20 +1,22 @@
 -- The lines by numbers are those by names, on a board.
-use Rattle.std.specs.Prelude.{◌≡◌, ℕ, zero, suc, ◌<◌, Bool, true, false, not, ◌||◌, ◌&&◌, List, [], ◌∷◌, ◌++◌, Option, None, Some, filter_map, flat_map, map, reverse, is_some, if◌then◌else◌, nat_eq, nat_lt, length, refl}
+use Rattle.std.specs.Prelude.{◌≡◌, ℕ, zero, suc, ◌<◌, true, false, not, ◌&&◌, List, [], ◌∷◌, ◌++◌, Option, None, Some, filter_map, flat_map, map, reverse, is_some, if◌then◌else◌, nat_eq, nat_lt, length, refl}
 use Rattle.std.specs.List.{cons_option, list_all}
 use Rattle.std.specs.Option.{option_map_or}
-use Rattle.std.proofs.Common.{ap, sym, ◌∙◌, true≢false, append_assoc, arith}
-use Rattle.std.proofs.lemmas.Bool.{and_parts, ltb-true, not-true}
+use Rattle.std.proofs.Common.{ap, sym, ◌∙◌, append_assoc}
+use Rattle.std.proofs.lemmas.Bool.{and_parts, ltb-true, not-true, or_parts}
 use Rattle.std.proofs.lemmas.List.{append-nil, map-append, reverse-append}
 use Rattle.std.proofs.lemmas.List.Folds.{flat_map-map}
 use Rattle.std.proofs.Math.Dec.{eqb-suc-zero, eqb-zero-suc, eqb-suc-suc}
+use Rattle.tv_lemmas.proofs.Numbers.{none-below, less-back}
 use Rattle.tv_value.specs.Orders.{same_job}
 use Rattle.tv_value.specs.Values.{JobName}
 use Rattle.tv_gate.specs.Outcomes.{Giving}
 use Rattle.tv_flow.specs.Flows.{Document}
 use Rattle.tv_history.specs.Entries as history
 use Rattle.tv_history.specs.Tries.{NamedTry, all_tries, entry_try}
+use Rattle.tv_history.proofs.Tests.{same-itself}
 use Rattle.tv_entries.specs.Runs.{IsLegalRun, Run, all_distinct, all_have_numbers, has_numbers, instances_of, is_among, name_at, opened_number, with_names}
-use Rattle.tv_entries.proofs.OfNames.{same_job-self, same_job-turned}
+use Rattle.tv_entries.proofs.OfNames.{same_job-turned}
 use Rattle.tv_entries.specs.declared.entry.Entry.{Entry}
 use Rattle.tv_entries.specs.declared.entry.Entry.TheVariants as entry
 use Rattle.tv_report.specs.AskCounts.{accepted_number, numbered_line}
@@ -82,43 +84,33 @@ numbers-below n m (e ∷ es) h =
 
 -- ---- distinct names
 
-none-below : (k : ℕ) → k < 0 → ⊥
-none-below k l = omega (arith, l)
-
-less : (k n : ℕ) → suc k < suc n → k < n
-less k n l = omega (arith, l)
-
-or-false : (a b : Bool) → (a || b) ≡ false → (a ≡ false) × (b ≡ false)
-or-false true b h = absurd (true≢false h)
-or-false false b h = (refl, h)
-
 abbrev at : List JobName → ℕ → JobName
 at names k = name_at names k
 
 none-is : (n : JobName) (ns : List JobName) (k : ℕ) → is_among ns n ≡ false → k < length ns → same_job n (at ns k) ≡ false
 none-is n [] k h l = absurd (none-below k l)
-none-is n (m ∷ ns) zero h l = (or-false (same_job n m) (is_among ns n) h).0
-none-is n (m ∷ ns) (suc k) h l = none-is n ns k (or-false (same_job n m) (is_among ns n) h).1 (less k (length ns) l)
+none-is n (m ∷ ns) zero h l = (or_parts (same_job n m) (is_among ns n) h).0
+none-is n (m ∷ ns) (suc k) h l = none-is n ns k (or_parts (same_job n m) (is_among ns n) h).1 (less-back k (length ns) l)
 
 names-apart : (ns : List JobName) (a b : ℕ) → all_distinct ns ≡ true → a < length ns → b < length ns → same_job (at ns a) (at ns b) ≡ nat_eq a b
 names-apart [] a b h l m = absurd (none-below a l)
-names-apart (n ∷ ns) zero zero h l m = same_job-self n
+names-apart (n ∷ ns) zero zero h l m = same-itself n
 names-apart (n ∷ ns) zero (suc b) h l m =
     let p = and_parts (not (is_among ns n)) (all_distinct ns) h in
-    none-is n ns b (not-true (is_among ns n) p.0) (less b (length ns) m) ∙ sym (eqb-zero-suc b)
+    none-is n ns b (not-true (is_among ns n) p.0) (less-back b (length ns) m) ∙ sym (eqb-zero-suc b)
 names-apart (n ∷ ns) (suc a) zero h l m =
     let p = and_parts (not (is_among ns n)) (all_distinct ns) h in
-    same_job-turned (at ns a) n ∙ none-is n ns a (not-true (is_among ns n) p.0) (less a (length ns) l) ∙ sym (eqb-suc-zero a)
+    same_job-turned (at ns a) n ∙ none-is n ns a (not-true (is_among ns n) p.0) (less-back a (length ns) l) ∙ sym (eqb-suc-zero a)
 names-apart (n ∷ ns) (suc a) (suc b) h l m =
     let p = and_parts (not (is_among ns n)) (all_distinct ns) h in
-    names-apart ns a b p.1 (less a (length ns) l) (less b (length ns) m) ∙ sym (eqb-suc-suc a b)
+    names-apart ns a b p.1 (less-back a (length ns) l) (less-back b (length ns) m) ∙ sym (eqb-suc-suc a b)
 
 -- ---- lines
 
 line-named : (ns : List JobName) (e : ℕ × ℕ) → e.0 < length ns → numbered_line ns e ≡ trace_line (at ns e.0) e.1
 line-named [] e l = absurd (none-below e.0 l)
 line-named (n ∷ ns) (zero, c) l = refl
-line-named (n ∷ ns) (suc k, c) l = line-named ns (k, c) (less k (length ns) l)
+line-named (n ∷ ns) (suc k, c) l = line-named ns (k, c) (less-back k (length ns) l)
 
 lines-named : (ns : List JobName) (es : List (ℕ × ℕ)) → list_all (λ e. nat_lt e.0 (length ns)) es ≡ true → flat_map (numbered_line ns) es ≡ flat_map (λ e. trace_line (at ns e.0) e.1) es
 lines-named ns [] h = refl

@@ -3,6 +3,7 @@ use Rattle.std.specs.Prelude.{◌≡◌, ℕ, zero, suc, ◌+◌, ◌<◌, ◌�
 use Rattle.std.specs.List.{zip}
 use Rattle.std.proofs.Common.{ap, ◌∙◌, sym, arith}
 use Rattle.std.proofs.lemmas.Slice.Zip.{length-zip, get_or-zip}
+use Rattle.std.proofs.lemmas.List.Folds.{flat_map-map}
 use Rattle.tv_value.specs.Values.{Text, Name}
 use Rattle.tv_flow.specs.Flows.{Step, Flow, Document}
 use Rattle.tv_check.specs.Plans.{FlowPlan, flow_plan, flow_plans, step_plan}
@@ -15,10 +16,6 @@ beside : {X Y A : Type 0} (f : X × Y → List A) (g : X → Y) (h : X → List 
 beside f g h e [] = refl
 beside f g h e (x ∷ xs) = ap (λ s. s ++ flat_map f (zip xs (map g xs))) (e x) ∙ ap (λ s. h x ++ s) (beside f g h e xs)
 
-after : {X Y A : Type 0} (f : Y → List A) (g : X → Y) (xs : List X) → flat_map f (map g xs) ≡ flat_map (λ x. f (g x)) xs
-after f g [] = refl
-after f g (x ∷ xs) = ap (λ s. f (g x) ++ s) (after f g xs)
-
 step-plan : (n : Name) (f : Flow) (s : Name × Step) → planned_step n (s, step_plan f s) ≡ step_lines n f s
 step-plan n f s =
     ap (λ t. t ++ flat_map (planned_output n s.0 (step_plan f s).depth) s.1.outputs)
@@ -28,7 +25,7 @@ step-plan n f s =
 pub flow-plan : (n : Name) (f : Flow) → planned_flow n (flow_plan f) ≡ flow_lines (n, f)
 flow-plan n f =
     ap (λ t. t ++ flat_map (planned_end n) (flow_plan f).outputs) (beside (planned_step n) (step_plan f) (step_lines n f) (step-plan n f) f.steps)
-    ∙ ap (λ t. flat_map (step_lines n f) f.steps ++ t) (after (planned_end n) (λ o. (o.0, fed_depth f o.1)) f.outputs)
+    ∙ ap (λ t. flat_map (step_lines n f) f.steps ++ t) (flat_map-map (planned_end n) (λ o. (o.0, fed_depth f o.1)) f.outputs)
 
 below : (i l m n : ℕ) → n ≡ min l m → i < l → i < m → i < n
 below i l m n e h k = omega arith

@@ -1,6 +1,6 @@
 -- An instance is added to a run: where that is refused, the run is as it was.
 use Rattle.std.specs.Global.{Global}
-use Rattle.std.specs.Prelude.{◌≡◌, refl, ℕ, ◌+◌, ◌<◌, ◌≤◌, [], ◌∷◌, Err, List, Ok, None, OnErr, Option, Result, Some, Vec, length, option_map, slice_get, slice_set, vec_capacity}
+use Rattle.std.specs.Prelude.{◌≡◌, refl, ℕ, ◌+◌, ◌<◌, ◌≤◌, [], ◌∷◌, List, None, Option, Some, Vec, length, option_map, slice_get, slice_set, vec_capacity}
 use Rattle.std.proofs.Common.{ap, arith, get_or, subst, sym, ◌∙◌}
 use Rattle.std.proofs.lemmas.Option.{none-some, same_Some, slice_get-get_or, slice_get_within}
 use Rattle.tv_value.specs.Values.{Name}
@@ -19,11 +19,6 @@ use Rattle.tv_run.specs.declared.instances.Instance as code
 use Rattle.tv_run.specs.declared.plans.FlowLook.{FlowLook}
 use Rattle.tv_run.specs.declared.run.OpenRun.{OpenRun}
 use Rattle.tv_run.proofs.OfRooms.{before-but_pool}
-
--- a fact that stands beside a refusal
-pub on-err : {A E P : Type 0} (r : Result A E) → P → OnErr r P
-on-err (Ok x) p = tt
-on-err (Err e) p = p
 
 -- a list of one with another in its place
 pub set-one : (xs : List Open) (x : Open) → length xs ≡ 1 → slice_set xs 0 x ≡ x ∷ []

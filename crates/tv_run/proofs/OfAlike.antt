@@ -4,11 +4,11 @@ use Rattle.std.specs.Prelude.{◌≡◌, refl, ℕ, ◌<◌, ◌≤◌, ◌++◌
 use Rattle.std.proofs.Common.{ap, subst, sym, ◌∙◌}
 use Rattle.std.proofs.lemmas.Option.{slice_get_cases, slice_get_past, slice_get_within}
 use Rattle.tv_lemmas.proofs.Cases.{on_either}
+use Rattle.tv_lemmas.proofs.Lists.{get-within}
 use Rattle.tv_value.specs.Values.{JobName, Name}
 use Rattle.tv_flow.specs.Flows.{Flow}
 use Rattle.tv_check.specs.RunViews.{run_view}
 use Rattle.tv_model.specs.Members.{In}
-use Rattle.tv_frame.proofs.OfHoldAround.{within-get}
 use Rattle.tv_beside.specs.Theirs.{AreTheirs}
 use Rattle.tv_seated.specs.Seated.{spot_of}
 use Rattle.tv_forest.specs.Forest.{AreNumbered, Instance, Instances, IsAt, names_by}
@@ -41,7 +41,7 @@ module _ (r s : OpenRun) (a : AreAlike r s) where
   pub alike-there : (i : ℕ) (e : code.Instance) → slice_get s.instances.items i ≡ Some e
       → (c : code.Instance) × (slice_get r.instances.items i ≡ Some c) × IsAlike c e
   alike-there i e at =
-      let c = within-get r.instances.items i
+      let c = get-within r.instances.items i
       (subst (λ n. i < n) a.as_many (slice_get_within s.instances.items i e at)) in
       (c.0, c.1, a.each i c.0 e c.1 at)
 

@@ -1,16 +1,16 @@
 -- Open instances that take room for all that is out of them leave a run as it was before.
 use Rattle.std.specs.Option.{option_map_or}
 use Rattle.std.specs.Prelude.{◌≡◌, ◌≢◌, refl, ℕ, suc, ◌+◌, ◌<◌, ◌≤◌, List, [], ◌∷◌, None, Option, Some, is_some, length, map, option_and_then, option_map, slice_get, vec_capacity}
-use Rattle.std.proofs.Common.{ap, arith, subst, sym, ◌∙◌}
+use Rattle.std.proofs.Common.{ap, arith, subst, sym, ◌∙◌, suc-ne-zero}
 use Rattle.std.proofs.lemmas.Option.{same_Some, slice_get_cases, slice_get_past, slice_get_within}
 use Rattle.tv_lemmas.proofs.Cases.{on_either}
+use Rattle.tv_lemmas.proofs.Lists.{get-within}
 use Rattle.tv_check.specs.RunViews.{run_view}
 use Rattle.tv_check.specs.declared.plans.FlowPlan.{FlowPlan}
 use Rattle.tv_pool.specs.Pool.{region_at}
 use Rattle.tv_intake.specs.Intaken.{known_jobs}
 use Rattle.tv_model.specs.Members.{In}
 use Rattle.tv_framing.specs.Views.{View}
-use Rattle.tv_frame.proofs.OfHoldAround.{within-get}
 use Rattle.tv_frame.specs.Kept.{Keeps}
 use Rattle.tv_frame.specs.declared.frame.Frame.{Frame}
 use Rattle.tv_beside.specs.Theirs.{AreTheirs}
@@ -37,9 +37,6 @@ seats_by ended (o ∷ os) = o.seats.seats
 
 -- ---- two lists of one length
 
-no-more : (n : ℕ) → suc n ≡ 0 → ⊥
-no-more n e = omega (arith, e)
-
 -- both have a first, or neither has
 record AreFirsts (os ps : List Open) (o : Open) : Type 0 where
   pub other : Open
@@ -48,7 +45,7 @@ record AreFirsts (os ps : List Open) (o : Open) : Type 0 where
   pub many : (os ≡ o ∷ []) → rest ≡ []
 
 first-of : (os ps : List Open) (o : Open) (more : List Open) → os ≡ o ∷ more → length ps ≡ length os → AreFirsts os ps o
-first-of os [] o more e many = absurd (no-more (length more) (sym (many ∙ ap length e)))
+first-of os [] o more e many = absurd (suc-ne-zero (length more) (sym (many ∙ ap length e)))
 first-of os (p ∷ ps) o more e many = record {
   other = p;
   rest = ps;
@@ -65,7 +62,7 @@ first-of os (p ∷ ps) o more e many = record {
 
 none-of : (os ps : List Open) → os ≡ [] → length ps ≡ length os → ps ≡ []
 none-of os [] e many = refl
-none-of os (p ∷ ps) e many = absurd (no-more (length ps) (many ∙ ap length e))
+none-of os (p ∷ ps) e many = absurd (suc-ne-zero (length ps) (many ∙ ap length e))
 
 -- ---- one instance
 
@@ -124,7 +121,7 @@ opens-then c d e a b = record {
   is_busy = b.is_busy ∙ a.is_busy;
   as_many = b.as_many ∙ a.as_many;
   opens = λ o p f g.
-      let q = within-get d.open.items 0 (subst (λ n. 0 < n) (sym a.as_many) (slice_get_within c.open.items 0 o f)) in
+      let q = get-within d.open.items 0 (subst (λ n. 0 < n) (sym a.as_many) (slice_get_within c.open.items 0 o f)) in
       let x = a.opens o q.0 f q.1 in
       let y = b.opens q.0 p q.1 g in
       record {
@@ -188,7 +185,7 @@ rooms-then r s t i a b = record {
   jobs = b.jobs ∙ a.jobs;
   due = b.due ∙ a.due;
   each = λ k c e f g.
-      let d = within-get s.instances.items k
+      let d = get-within s.instances.items k
       (subst (λ n. k < n) (sym a.as_many) (slice_get_within r.instances.items k c f)) in
       same-number k i
       (λ is.

@@ -2,6 +2,7 @@
 use Rattle.std.specs.Prelude.{◌≡◌, refl, ℕ, ◌<◌, Bool, true, IsTrue, is_some, length, List, Option, Some, None, slice_get}
 use Rattle.std.proofs.Common.{Bor, subst, sym}
 use Rattle.std.proofs.lemmas.Bool.{true≢false}
+use Rattle.tv_lemmas.proofs.Lists.{get-within}
 use Rattle.tv_value.specs.Nested.{Place}
 use Rattle.tv_value.specs.Values.{Name, Value}
 use Rattle.tv_flow.specs.Flows.{Flow, Step}
@@ -25,7 +26,6 @@ use Rattle.tv_drawn.specs.Steps.{IsStepAt}
 use Rattle.tv_frame.specs.declared.frame.Frame.{Frame}
 use Rattle.tv_frame.specs.Kept.{HasMatcher, Keeps}
 use Rattle.tv_frame.specs.StepPorts.{ArePortsOf}
-use Rattle.tv_frame.proofs.OfHoldAround.{within-get}
 use Rattle.tv_frame.proofs.OfJobInputs.{are-inputs, call-found, ports-many, step-within}
 use Rattle.tv_frame.proofs.OfOuts.{IsSourcesOf}
 use Rattle.tv_frame.proofs.OfTables.{as-many-code}
@@ -47,13 +47,13 @@ module _ (flows : List (Name × Flow)) (plan : FlowPlan) (pool : Nodes) (f : Fra
   within = step-within flows plan pool f v keeps number n q there said.0 said.1
 
   abbrev planned : (x : StepPlan) × (slice_get plan.steps n ≡ Some x)
-  planned = within-get plan.steps n (subst (λ m. n < m) (sym (as-many-code plan)) within)
+  planned = get-within plan.steps n (subst (λ m. n < m) (sym (as-many-code plan)) within)
 
   abbrev described : (x : Name × CodeStep) × (slice_get plan.flow.steps n ≡ Some x)
-  described = within-get plan.flow.steps n within
+  described = get-within plan.flow.steps n within
 
   abbrev described_ports : (x : List Port) × (slice_get plan.wiring.ports n ≡ Some x)
-  described_ports = within-get plan.wiring.ports n (subst (λ m. n < m) (sym (ports-many plan)) within)
+  described_ports = get-within plan.wiring.ports n (subst (λ m. n < m) (sym (ports-many plan)) within)
 
   abbrev ports : StepPorts
   ports = record {

@@ -4,6 +4,7 @@ use Rattle.std.specs.Option.{option_map_or}
 use Rattle.std.specs.Prelude.{◌≡◌, refl, ℕ, ◌||◌, true, List, [], ◌∷◌, ◌++◌, Some}
 use Rattle.std.specs.Prelude.{codes, if◌then◌else◌, is_none, is_some, map, slice_get}
 use Rattle.std.proofs.Common.{ap, subst, sym, ◌∙◌}
+use Rattle.std.specs.Cmp.{first_so}
 use Rattle.tv_value.specs.Nested.{Place}
 use Rattle.tv_value.specs.Values.{JobName, Name, Text, Value}
 use Rattle.tv_gate.specs.Outcomes.{Giving}
@@ -17,7 +18,6 @@ use Rattle.tv_model.specs.Made.{Meaning}
 use Rattle.tv_model.specs.Meanings.{meaning}
 use Rattle.tv_model.specs.RightDepths.{HaveTheseDepths}
 use Rattle.tv_model.specs.Turns.{is_bounced}
-use Rattle.tv_model.proofs.Tests.{left_true, true≠false}
 use Rattle.tv_history.specs.Entries.{History, bounced, is_bounced_entry, is_ended_entry}
 use Rattle.tv_history.specs.Histories.{is_legal_after, is_ready, is_settled, next_ask}
 use Rattle.tv_history.proofs.Tests.{same-itself}
@@ -33,7 +33,6 @@ use Rattle.tv_frame.specs.Prepared.{MayGive}
 use Rattle.tv_frame.specs.Tables.{levels_in}
 use Rattle.tv_seats.specs.Seats.{Seat, with_stage}
 use Rattle.tv_seats.specs.Stages.{is_waiting}
-use Rattle.tv_seats.specs.declared.stage.Stage.{Stage}
 use Rattle.tv_seats.specs.declared.stage.Stage.TheVariants as stage
 use Rattle.tv_seated.specs.GoingOn.{GoesOn, MaySettle}
 use Rattle.tv_seated.specs.Seated.{Sit, spot_of}
@@ -46,19 +45,12 @@ use Rattle.tv_forest.specs.Forest.{Instance, Instances, IsJobAt, Stand}
 use Rattle.tv_forest.proofs.OfEntries.{settling}
 use Rattle.tv_forest.proofs.OfInstances.{sits}
 use Rattle.tv_open.specs.Firsts.{BindsFault, IsReadySeat}
+use Rattle.tv_run.proofs.OfTellings.{waits-alone}
 
 -- an error document at each output has the depth of that
-errors-deep : (n : JobName) (why : Text) (from : List JobName) (ds : List ℕ) → HaveTheseDepths ds (error_results n why from ds)
+pub errors-deep : (n : JobName) (why : Text) (from : List JobName) (ds : List ℕ) → HaveTheseDepths ds (error_results n why from ds)
 errors-deep n why from [] = tt
 errors-deep n why from (d ∷ ds) = (refl, errors-deep n why from ds)
-
-waits-alone : (x : Stage) → is_waiting x ≡ true → x ≡ stage.Waiting
-waits-alone stage.Waiting h = refl
-waits-alone (stage.Out a t) h = absurd (true≠false (sym h))
-waits-alone (stage.Idle a t) h = absurd (true≠false (sym h))
-waits-alone (stage.Aside a) h = absurd (true≠false (sym h))
-waits-alone (stage.Nested i) h = absurd (true≠false (sym h))
-waits-alone stage.Settled h = absurd (true≠false (sym h))
 
 -- ---- a job of an open instance
 
@@ -115,7 +107,7 @@ module _ (gives : Giving) (d : Document) (past : History) (xs : Instances) (stan
     pub is-waiting : is_waiting s.stage ≡ true
     is-waiting =
         let now = sit.stages n s j is.seat it in
-        left_true (is_waiting s.stage) (is_ready m past j)
+        first_so (is_waiting s.stage) (is_ready m past j)
         (sym (ready-waits m past j s.stage (runs-is past j s.stage now) (over-is past j s.stage now)) ∙ is-ready)
 
     pub legal-bounce : is_legal_after gives m past (bounced j.name) ≡ true

@@ -38,14 +38,6 @@ pub in-last : {A : Type 0} (xs : List A) (y : A) → In y (xs ++ y ∷ [])
 in-last [] y = inl refl
 in-last (z ∷ xs) y = inr (in-last xs y)
 
-pub is-empty : {A : Type 0} (xs : List A) → length xs ≡ 0 → xs ≡ []
-is-empty [] h = refl
-is-empty (x ∷ xs) h = absurd (omega (arith, h))
-
-at-top : {A : Type 0} (xs : List A) (y : A) → slice_get (xs ++ y ∷ []) (length xs) ≡ Some y
-at-top [] y = refl
-at-top (z ∷ xs) y = at-top xs y
-
 -- ---- the last one is left
 
 module _ (r : OpenRun) (bs : List ℕ) (last : ℕ) (busy : r.busy.items ≡ bs ++ last ∷ []) where

@@ -9,6 +9,7 @@ use Rattle.std.proofs.lemmas.Option.{slice_get_cases, slice_get_past, slice_get_
 use Rattle.std.proofs.lemmas.Simd.{map-map}
 use Rattle.tv_lemmas.proofs.Cases.{on_either}
 use Rattle.tv_lemmas.proofs.Counts.{count-cons}
+use Rattle.tv_lemmas.proofs.Lists.{get-within}
 use Rattle.tv_value.specs.Nested.{Place}
 use Rattle.tv_value.specs.Values.{JobName, Name}
 use Rattle.tv_flow.specs.Flows.{Flow, Step}
@@ -18,7 +19,6 @@ use Rattle.tv_intake.specs.Intaken.{known_jobs}
 use Rattle.tv_model.specs.Members.{In}
 use Rattle.tv_model.proofs.Tests.{true≠false}
 use Rattle.tv_framing.specs.Views.{View}
-use Rattle.tv_frame.proofs.OfHoldAround.{within-get}
 use Rattle.tv_frame.specs.Kept.{Keeps}
 use Rattle.tv_frame.specs.Tables.{levels_in}
 use Rattle.tv_frame.specs.declared.frame.Frame.{Frame}
@@ -33,6 +33,7 @@ use Rattle.tv_seated.specs.Seated.{spot_of}
 use Rattle.tv_seated.proofs.OfLists.{get-image, of-image}
 use Rattle.tv_forest.specs.Entries.{called_back}
 use Rattle.tv_forest.specs.Forest.{AreNumbered, Instance, Instances, IsAt, names_by}
+use Rattle.tv_forest.proofs.OfRecalls.{settled-back}
 use Rattle.tv_firsts.specs.Opening.{IsStill}
 use Rattle.tv_firsts.specs.Told.{KeepsSpots}
 use Rattle.tv_firsts.proofs.OfNames.{names-stay}
@@ -50,16 +51,6 @@ use Rattle.tv_run.proofs.OfMoved.{HasSameJobs, at-steps}
 use Rattle.tv_run.proofs.OfRooms.{theirs-as}
 
 -- ---- seats
-
--- settled seats are what they were
-settled-back : (ss : List Seat) → ((n : ℕ) (s : Seat) → slice_get ss n ≡ Some s → s.stage ≡ stage.Settled)
-    → map back ss ≡ ss
-settled-back [] h = refl
-settled-back (s ∷ ss) h =
-    let e = h 0 s refl in
-    ap₂ (λ t ts. t ∷ ts)
-    (ap (λ y. staged (stages.called_back y) s) e ∙ ap (λ y. staged y s) (sym e))
-    (settled-back ss (λ n t g. h (suc n) t g))
 
 none-out : (ss : List Seat) → ((n : ℕ) (s : Seat) → slice_get ss n ≡ Some s → s.stage ≡ stage.Settled)
     → out_count ss ≡ 0
@@ -307,8 +298,8 @@ module _ (r s : OpenRun) (n : ℕ) (all : IsAllBack r s n) (xs : Instances) (fit
   was-there : (i : ℕ) (e : code.Instance) → slice_get s.instances.items i ≡ Some e → WasThere i e
   was-there i e is =
       let low = subst (λ m. i < m) all.as_many (slice_get_within s.instances.items i e is) in
-      let c = within-get r.instances.items i low in
-      let x = within-get xs i (subst (λ m. i < m) fits.as_many low) in
+      let c = get-within r.instances.items i low in
+      let x = get-within xs i (subst (λ m. i < m) fits.as_many low) in
       let kept = fits.kept i c.0 x.0 c.1 x.1 in
       let b = all.each i c.0 e c.1 is in
       record {

@@ -3,6 +3,7 @@ use Rattle.std.specs.Prelude.{◌≡◌, ◌≢◌, refl, ℕ, zero, suc, ◌<�
 use Rattle.std.specs.List.{list_any}
 use Rattle.std.proofs.Common.{ap, arith, subst, sym, ◌∙◌}
 use Rattle.std.proofs.lemmas.Option.{none-some, same_Some, slice_get_cases}
+use Rattle.std.specs.Cmp.{first_so}
 use Rattle.tv_lemmas.proofs.Cases.{on_either}
 use Rattle.tv_value.specs.Nested.{Place}
 use Rattle.tv_value.specs.Values.{Name, Value}
@@ -16,7 +17,6 @@ use Rattle.tv_instance.specs.Events.{has_result, is_taken}
 use Rattle.tv_model.specs.Jobs.{Job}
 use Rattle.tv_model.specs.Meanings.{meaning}
 use Rattle.tv_model.specs.RightDepths.{HaveTheseDepths}
-use Rattle.tv_model.proofs.Tests.{left_true}
 use Rattle.tv_history.specs.Entries.{History, is_begun_entry}
 use Rattle.tv_history.specs.Histories.{can_end, is_settled}
 use Rattle.tv_framing.specs.Answers.{AreOutputs, has_ended_now}
@@ -53,6 +53,7 @@ use Rattle.tv_run.proofs.OfNumbers.{IsJobOfRun, job-at, job-named, settled-there
 use Rattle.tv_run.proofs.OfOpens.{first-open}
 use Rattle.tv_run.proofs.OfPlannedJobs.{result-deep}
 use Rattle.tv_run.proofs.OfPlans.{plan-there}
+use Rattle.tv_run.proofs.OfBouncing.{open-here}
 
 -- ---- by its frame
 
@@ -95,9 +96,6 @@ as-told r i p read b tells xs x v fits at e =
     sym (tells (run_view r.run) w.0 r.pool v w.1)
 
 -- ---- it can end
-
-pub open-here : (gives : Giving) (r : OpenRun) (i : ℕ) (h : IsOpenIn gives r i) → IsOpenHere r h.instances i h.instance h.view
-open-here gives r i h = record { fits = h.stands.fits; there = h.there; is_open = h.is_open }
 
 module _ (gives : Giving) (r : OpenRun) (i : ℕ) (h : IsOpenIn gives r i) (ends : OfOpen r i EndsIn) where
   abbrev pub xs : Instances
@@ -281,7 +279,7 @@ module _ (gives : Giving) (r : OpenRun) (i : ℕ) (h : IsOpenIn gives r i) (ends
     is-taken_now =
         ap (λ (a : Name × Place). is_taken v.events a.0 a.1) (sym spot-so)
         ∙ sym told.begun
-        ∙ left_true (list_any (is_begun_entry q.job.name) past) (not (is_settled past q.job)) goes.runs
+        ∙ first_so (list_any (is_begun_entry q.job.name) past) (not (is_settled past q.job)) goes.runs
 
     pub runs-nested : (is_out q.seat.stage || is_nested q.seat.stage) ≡ true
     runs-nested = ap (λ a. is_out a || is_nested a) q.nested

@@ -4,7 +4,7 @@ use Rattle.std.specs.Global.{Global}
 use Rattle.std.specs.Prelude.{◌≡◌, ◌≢◌, ℕ, suc, ◌+◌, ◌-◌, ◌≤◌, ◌++◌, true, false, if◌then◌else◌, List, [], ◌∷◌, Some, Vec, length, map, slice_get, vec_capacity}
 use Rattle.std.proofs.Common.{ap, arith, length-append, subst, sym, ◌∙◌}
 use Rattle.std.proofs.lemmas.Option.{none-some, same_Some}
-use Rattle.tv_frame.proofs.OfHoldAround.{within-get}
+use Rattle.tv_lemmas.proofs.Lists.{get-within}
 use Rattle.tv_forest.proofs.OfLists.{at-last}
 use Rattle.tv_open.specs.declared.open.Open.{Open}
 use Rattle.tv_run.specs.Following.{CanFollow, Enters, FollowsIn, HasNumbers, IsEntering, numbered_in, unnumbered}
@@ -107,7 +107,7 @@ module _ (r m : OpenRun) (jobs : Vec ℕ Global) (slot : Vec Open Global) (o : O
   module _ (s : OpenRun) (follows : FollowsIn m s i) (idle : e.is_busy ≡ false) where
     its-new : (f : code.Instance) × (slice_get s.instances.items i ≡ Some f)
     its-new =
-        within-get s.instances.items i
+        get-within s.instances.items i
         (let many = follows.others.as_many in
         let long = ap length last.instances ∙ length-append r.instances.items (e ∷ []) in
         omega (arith, many, long))

@@ -6,6 +6,7 @@ use Rattle.std.proofs.lemmas.List.FromFn.{length-range_with_len}
 use Rattle.std.proofs.lemmas.List.Sums.{sum_by_push}
 use Rattle.std.proofs.lemmas.Option.{none-some, slice_get_cases, slice_get_past, slice_get_within}
 use Rattle.tv_lemmas.proofs.Cases.{on_either}
+use Rattle.tv_lemmas.proofs.Lists.{get-within}
 use Rattle.tv_value.specs.Values.{JobName, Value}
 use Rattle.tv_flow.specs.Flows.{Flow}
 use Rattle.tv_flow.specs.Views.{flow_view}
@@ -20,7 +21,6 @@ use Rattle.tv_framing.specs.Views.{View}
 use Rattle.tv_frame.specs.Kept.{named_job}
 use Rattle.tv_frame.specs.Tables.{levels_in}
 use Rattle.tv_frame.specs.declared.frame.Frame.{Frame}
-use Rattle.tv_frame.proofs.OfHoldAround.{within-get}
 use Rattle.tv_beside.specs.Theirs.{AreTheirs, OthersStay}
 use Rattle.tv_beside.proofs.OfFrames.{starts-keep}
 use Rattle.tv_beside.proofs.OfTheirs.{theirs-started}
@@ -137,7 +137,7 @@ module _ (r m t s : OpenRun) (xs : Instances) (flow : ℕ) (f : Flow) (opener : 
   old-at : (k : ℕ) (e : code.Instance) → slice_get t.instances.items k ≡ Some e → IsOld k e
   old-at k e at =
       let low : k < length xs = subst (λ q. k < q) many-t (slice_get_within t.instances.items k e at) in
-      let c = within-get r.instances.items k (subst (λ q. k < q) (sym fits.as_many) low) in
+      let c = get-within r.instances.items k (subst (λ q. k < q) (sym fits.as_many) low) in
       record {
         low = low;
         there = at;
@@ -271,7 +271,7 @@ module _ (r m t s : OpenRun) (xs : Instances) (flow : ℕ) (f : Flow) (opener : 
           omega arith,
         ));
     new = λ q low.
-        let u = within-get o.seats.seats q low in
+        let u = get-within o.seats.seats q low in
         let same : 0 + q ≡ q = omega arith in
         (entered, u.0, at-last xs entered, ap (slice_get o.seats.seats) same ∙ u.1);
     low = λ q z u there sits. absurd (beyond (length xs) z refl there);

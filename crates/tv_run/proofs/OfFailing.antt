@@ -4,10 +4,13 @@ use Rattle.std.specs.Option.{option_map_or}
 use Rattle.std.specs.Prelude.{◌≡◌, refl, ℕ, suc, ◌+◌, ◌==◌, Bool, true, false, cond, not, ◌&&◌, ◌||◌, if◌then◌else◌, List, [], ◌∷◌, ◌++◌, Option, None, Some, count_by, filter, is_none, is_ok, is_some}
 use Rattle.std.proofs.Common.{ap, append-nil, arith, eqb-true, inl, inr, subst, sym, ◌∙◌}
 use Rattle.std.proofs.lemmas.Option.{none-some}
+use Rattle.std.specs.Cmp.{first_so, second_so}
 use Rattle.tv_lemmas.proofs.Cases.{on_test}
 use Rattle.tv_lemmas.proofs.Counts.{count-both, count-cons}
+use Rattle.tv_lemmas.proofs.Options.{map_or-some}
 use Rattle.tv_value.specs.Orders.{same_job}
 use Rattle.tv_value.specs.Values.{JobName, Name}
+use Rattle.tv_value.proofs.OfJobNames.{same_job_decides}
 use Rattle.tv_gate.specs.Outcomes.{Giving}
 use Rattle.tv_flow.specs.Flows.{Document, Flow, Step}
 use Rattle.tv_dispatch.specs.Jobs.{Ask}
@@ -21,7 +24,7 @@ use Rattle.tv_model.specs.Members.{In}
 use Rattle.tv_model.specs.Turns.{is_bounced, is_failed}
 use Rattle.tv_model.proofs.Members.{Apart, any-in, once-of_apart}
 use Rattle.tv_model.proofs.Order.{in-right, some_in}
-use Rattle.tv_model.proofs.Tests.{both_true, left_true, right_true, same_job_decides, true≠false}
+use Rattle.tv_model.proofs.Tests.{both_true, true≠false}
 use Rattle.tv_history.specs.Entries.{Entry, History, accepted, bounced, closed, ended, fault_passed, handed_out, is_bounced_entry, is_ended_entry, is_opened_entry, is_out, opened, recalled}
 use Rattle.tv_history.specs.Histories.{is_ask, is_at, is_legal, is_legal_after, is_right, is_settled, next_ask, same_bool}
 use Rattle.tv_history.specs.ReadOff.{has_failed}
@@ -30,6 +33,7 @@ use Rattle.tv_history.proofs.Done.{settled-none}
 use Rattle.tv_history.proofs.Ready.{AnyNumber, document-whole}
 use Rattle.tv_history.proofs.Sums.{settled-failed}
 use Rattle.tv_history.proofs.Tests.{same-itself}
+use Rattle.tv_history.proofs.Legal.{judged-same}
 use Rattle.tv_seated.proofs.OfStages.{accepted-other, settled-stays}
 use Rattle.tv_tried.specs.NextTries.{IsAfter, accepting, said_after}
 use Rattle.tv_tried.specs.Steps.{IsOwnStep}
@@ -173,15 +177,6 @@ module _ (past : History) (n : JobName) (a t : ℕ) (right : Bool) (i : Job) (ot
 abbrev counts : History → Job → Bool
 counts past i = is_settled past i && has_failed past i.name
 
-holds : {A : Type 0} (p : A → Bool) (o : Option A) → option_map_or p o false ≡ true → (x : A) × (o ≡ Some x) × (p x ≡ true)
-holds p None h = absurd (true≠false (sym h))
-holds p (Some x) h = (x, refl, h)
-
-same-right : (r b : Bool) → same_bool r b ≡ true → b ≡ r
-same-right true b h = h
-same-right false true h = absurd (true≠false (sym h))
-same-right false false h = refl
-
 module _ (gives : Giving) (d : Document) (levels : Flow → Name → ℕ) (past : History) (xs : Instances)
     (stand : Stand gives d levels past xs) where
   abbrev m : Meaning
@@ -228,15 +223,15 @@ module _ (gives : Giving) (d : Document) (levels : Flow → Name → ℕ) (past 
 
     asked-next : (right : Bool) → MayBeNext (accepted j.name a t right) → IsAskedNext right
     asked-next right h =
-        let k = holds is_this (next_ask past j) its in
-        let same = left_true (is_ask a t k.0) (same_bool right (is_right gives k.0)) k.2 in
+        let k = map_or-some is_this (next_ask past j) its in
+        let same = first_so (is_ask a t k.0) (same_bool right (is_right gives k.0)) k.2 in
         record {
           ask = k.0;
           is_next = k.1;
-          activity = sym (eqb-true a k.0.activity (left_true (a == k.0.activity) (t == k.0.attempt) same));
-          attempt = sym (eqb-true t k.0.attempt (right_true (a == k.0.activity) (t == k.0.attempt) same));
-          is_its = same-right right (is_right gives k.0) (right_true (is_ask a t k.0) (same_bool right (is_right gives k.0)) k.2);
-          out = left_true (is_out past j.name) (list_any is_it m.jobs) h;
+          activity = sym (eqb-true a k.0.activity (first_so (a == k.0.activity) (t == k.0.attempt) same));
+          attempt = sym (eqb-true t k.0.attempt (second_so (a == k.0.activity) (t == k.0.attempt) same));
+          is_its = judged-same right (is_right gives k.0) (second_so (is_ask a t k.0) (same_bool right (is_right gives k.0)) k.2);
+          out = first_so (is_out past j.name) (list_any is_it m.jobs) h;
         }
       where
         is_this : Ask → Bool
@@ -246,18 +241,18 @@ module _ (gives : Giving) (d : Document) (levels : Flow → Name → ℕ) (past 
         is_it x = is_at x j.name && option_map_or is_this (next_ask past x) false
 
         found : (x : Job) × In x m.jobs × (is_it x ≡ true)
-        found = some_in is_it m.jobs (right_true (is_out past j.name) (list_any is_it m.jobs) h)
+        found = some_in is_it m.jobs (second_so (is_out past j.name) (list_any is_it m.jobs) h)
 
         itself : found.0 ≡ j
         itself =
             once-of_apart (λ (x : Job). x.name) m.jobs (document-whole gives d).jobs_apart found.0 j found.1 mine
             (sym ((same_job_decides j.name found.0.name).0
-            (left_true (is_at found.0 j.name) (option_map_or is_this (next_ask past found.0) false) found.2)))
+            (first_so (is_at found.0 j.name) (option_map_or is_this (next_ask past found.0) false) found.2)))
 
         its : option_map_or is_this (next_ask past j) false ≡ true
         its =
             subst (λ x. option_map_or is_this (next_ask past x) false ≡ true) itself
-            (right_true (is_at found.0 j.name) (option_map_or is_this (next_ask past found.0) false) found.2)
+            (second_so (is_at found.0 j.name) (option_map_or is_this (next_ask past found.0) false) found.2)
 
     unsettled : (right : Bool) → MayBeNext (accepted j.name a t right) → is_settled past j ≡ false
     unsettled right h =

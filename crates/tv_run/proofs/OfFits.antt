@@ -7,6 +7,7 @@ use Rattle.std.proofs.lemmas.List.FromFn.{length-range_with_len}
 use Rattle.std.proofs.lemmas.List.Sums.{sum_by-append, sum_by-cons}
 use Rattle.std.proofs.lemmas.Option.{none-some, same_Some, slice_get_within}
 use Rattle.tv_lemmas.proofs.Cases.{on_either}
+use Rattle.tv_lemmas.proofs.Lists.{get-within}
 use Rattle.tv_value.specs.Values.{Name}
 use Rattle.tv_flow.specs.Flows.{Flow, Step}
 use Rattle.tv_flow.specs.Views.{flow_view}
@@ -18,7 +19,6 @@ use Rattle.tv_model.specs.Members.{In}
 use Rattle.tv_model.proofs.Tests.{true≠false}
 use Rattle.tv_instance.specs.Events.{Event}
 use Rattle.tv_framing.specs.Views.{View}
-use Rattle.tv_frame.proofs.OfHoldAround.{within-get}
 use Rattle.tv_frame.specs.Tables.{levels_in}
 use Rattle.tv_frame.specs.declared.frame.Frame.{Frame}
 use Rattle.tv_beside.specs.Theirs.{AreTheirs, OthersStay}
@@ -164,7 +164,7 @@ module _ (r t s : OpenRun) (xs : Instances) (i : ℕ) (x : Instance) (v : View) 
 
   new-at : (q : ℕ) → q < more → (u : Seat) × (slice_get (ss ++ tells.new) (length x.seats + q) ≡ Some u)
   new-at q low =
-      let u = within-get tells.new q (subst (λ n. q < n) (sym tells.many) low) in
+      let u = get-within tells.new q (subst (λ n. q < n) (sym tells.many) low) in
       (u.0, ap (λ n. slice_get (ss ++ tells.new) (n + q)) (sym long) ∙ in-behind ss tells.new q ∙ u.1)
 
   are-more : AreMore xs ys i (length x.seats) more
@@ -343,7 +343,7 @@ module _ (r t s : OpenRun) (xs : Instances) (i : ℕ) (x : Instance) (v : View) 
 
   its-new : (f : code.Instance) × (slice_get s.instances.items i ≡ Some f)
   its-new =
-      within-get s.instances.items i
+      get-within s.instances.items i
       (subst (λ n. i < n) (sym many-are) (slice_get_within r.instances.items i turned.before turned.was))
 
   abbrev frame_of : Option code.Instance → Option Frame

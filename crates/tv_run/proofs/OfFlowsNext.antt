@@ -2,17 +2,18 @@
 use Rattle.std.specs.Option.{option_map_or}
 use Rattle.std.specs.Prelude.{◌≡◌, refl, ℕ, ◌<◌, ◌≤◌, Bool, true, false, not, ◌&&◌, ◌||◌, nat_lt, List, [], ◌∷◌, None, Option, Some, is_some, length, map, slice_get, ◌⊎◌}
 use Rattle.std.proofs.Common.{ap, arith, inl, inr, sym, ◌∙◌}
-use Rattle.std.proofs.lemmas.Bool.{leb-true}
+use Rattle.std.proofs.lemmas.Bool.{leb-true, and_parts}
 use Rattle.std.proofs.lemmas.List.{length-map}
 use Rattle.std.proofs.lemmas.Option.{same_Some}
+use Rattle.std.specs.Cmp.{first_so, second_so}
 use Rattle.tv_lemmas.proofs.Cases.{on_either, on_test}
+use Rattle.tv_lemmas.proofs.Options.{not_some-none}
 use Rattle.tv_value.specs.Activities.{Activity, nested, service}
 use Rattle.tv_value.specs.Orders.{named}
 use Rattle.tv_value.specs.Values.{Name}
 use Rattle.tv_gate.specs.Outcomes.{Giving}
 use Rattle.tv_flow.specs.Flows.{Document, Flow, Step}
 use Rattle.tv_flow.specs.Formed.{is_formed}
-use Rattle.tv_naming.proofs.ByPosition.{both}
 use Rattle.tv_naming.proofs.FormedParts.{step-at}
 use Rattle.tv_dispatch.specs.Plans.{kind_of}
 use Rattle.tv_check.specs.RunViews.{run_view}
@@ -20,7 +21,7 @@ use Rattle.tv_model.specs.Jobs.{Job}
 use Rattle.tv_model.specs.Made.{Meaning}
 use Rattle.tv_model.specs.Meanings.{meaning}
 use Rattle.tv_model.specs.Turns.{is_bounced}
-use Rattle.tv_model.proofs.Tests.{left_true, right_true, true≠false}
+use Rattle.tv_model.proofs.Tests.{true≠false}
 use Rattle.tv_history.specs.Entries.{History}
 use Rattle.tv_history.specs.Histories.{is_ready, may_go_on, next_ask}
 use Rattle.tv_order.specs.Moments.{goes_on}
@@ -56,10 +57,6 @@ some-unless : {A : Type 0} (o : Option A) → (o ≡ None → ⊥) → is_some o
 some-unless None h = absurd (h refl)
 some-unless (Some x) h = refl
 
-none-where : {A : Type 0} (o : Option A) → is_some o ≡ false → o ≡ None
-none-where None h = refl
-none-where (Some x) h = absurd (true≠false h)
-
 -- ---- steps
 
 -- those that begin with a service are sought for offers
@@ -76,8 +73,8 @@ pub some-activity : (d : Document) → is_formed d ≡ true → (n : Name) (f : 
     (t : Name × Step) → slice_get f.steps k ≡ Some t → 0 < length (tries_of t.1).activities
 some-activity d formed n f is k t at =
     let h = step-at f (formed-flow d formed n f is) k t at in
-    let listed = (both _ _ (both _ _ (both _ _ (both _ _ h).0).0).0).1 in
-    let least = (both _ _ (both _ _ listed).0).0 in
+    let listed = (and_parts _ _ (and_parts _ _ (and_parts _ _ (and_parts _ _ h).0).0).0).1 in
+    let least = (and_parts _ _ (and_parts _ _ listed).0).0 in
     let one : 1 ≤ length t.1.activities = leb-true 1 (length t.1.activities) least in
     let many = length-map t.1.activities kind_of in
     omega (arith, one, many)
@@ -170,8 +167,8 @@ module _ (gives : Giving) (r : OpenRun) (xs : Instances) (st : Stands gives r xs
         absurd
         (true≠false
         (sym
-        (right_true (is_ready m past j) (not (is_bounced j.ending))
-        (left_true (is_ready m past j && not (is_bounced j.ending)) few h))
+        (second_so (is_ready m past j) (not (is_bounced j.ending))
+        (first_so (is_ready m past j && not (is_bounced j.ending)) few h))
         ∙ ap not b)))
         (λ b. b)
     sound-at (stage.Out a u) w h = absurd (true≠false (sym w))
@@ -209,7 +206,7 @@ module _ (gives : Giving) (r : OpenRun) (xs : Instances) (st : Stands gives r xs
 
     none-at : (y : Stage) → s.stage ≡ y → has_flow_next (tries_of step.1) (Some y) ≡ true → next_ask past j ≡ None
     none-at stage.Waiting e h =
-        none-where (next_ask past j)
+        not_some-none (next_ask past j)
         (begins (ap is_waiting e)
         ∙ on_test (begins_with_service step.1)
         (λ b. absurd (true≠false (sym h ∙ ap not (sought-first step.1 ∙ b)))) (λ b. b))

@@ -1,20 +1,20 @@
 -- A job that is settled by the outcome of its try: it gives its result, and that may be given to its frame.
 use Rattle.std.specs.List.{list_any}
 use Rattle.std.specs.Option.{option_map_or}
-use Rattle.std.specs.Prelude.{◌≡◌, refl, ℕ, Bool, true, false, not, ◌||◌, if◌then◌else◌, List, [], ◌∷◌, ◌++◌, slice_get, unwrap_or}
+use Rattle.std.specs.Prelude.{◌≡◌, refl, Bool, true, false, not, ◌||◌, if◌then◌else◌, List, [], ◌∷◌, ◌++◌, slice_get, unwrap_or}
 use Rattle.std.proofs.Common.{ap, subst, sym, ◌∙◌}
-use Rattle.tv_value.specs.Values.{JobName, Name, Text, Value}
+use Rattle.std.specs.Cmp.{first_so}
+use Rattle.tv_value.specs.Values.{Name, Value}
 use Rattle.tv_gate.specs.Outcomes.{Giving}
 use Rattle.tv_flow.specs.Flows.{Document, Step}
 use Rattle.tv_check.specs.RunViews.{run_view}
 use Rattle.tv_depths.specs.Steps.{declared_depths}
-use Rattle.tv_dispatch.specs.Jobs.{Ask, error_results}
+use Rattle.tv_dispatch.specs.Jobs.{Ask}
 use Rattle.tv_instance.specs.Events.{gave, has_result, is_taken}
 use Rattle.tv_model.specs.Made.{Meaning}
 use Rattle.tv_model.specs.Members.{In}
 use Rattle.tv_model.specs.RightDepths.{HaveTheseDepths}
 use Rattle.tv_model.proofs.Results.{judged-depths}
-use Rattle.tv_model.proofs.Tests.{left_true}
 use Rattle.tv_history.specs.Entries.{History, accepted, is_begun_entry}
 use Rattle.tv_history.specs.Histories.{is_right, is_settled}
 use Rattle.tv_history.specs.Tries.{TryKey, key_of}
@@ -43,6 +43,7 @@ use Rattle.tv_run.specs.declared.run.OpenRun.{OpenRun}
 use Rattle.tv_run.proofs.OfAskedOut.{IsAskedOut, at-step, is-its, out-open, sit}
 use Rattle.tv_run.proofs.OfNumbers.{known-number, stage-is}
 use Rattle.tv_run.proofs.OfOutcomes.{fails-settled, its-after, legal-now, said-now}
+use Rattle.tv_run.proofs.OfBounces.{errors-deep}
 
 -- the try of the ticket is out, and with its outcome, which is right or not, its job is settled and gives these
 pub record SettlesAsked (gives : Giving) (r : OpenRun) (xs : Instances) (t : Ticket) (right : Bool) (vs : List Value)
@@ -104,11 +105,6 @@ module _ (gives : Giving) (r : OpenRun) (t : Ticket) (right : Bool) (vs : List V
       }
 
 -- ---- what it gives
-
-errors-deep : (n : JobName) (why : Text) (from : List JobName) (ds : List ℕ)
-    → HaveTheseDepths ds (error_results n why from ds)
-errors-deep n why from [] = tt
-errors-deep n why from (d ∷ ds) = (refl, errors-deep n why from ds)
 
 module _ (gives : Giving) (r : OpenRun) (xs : Instances) (st : Stands gives r xs) (t : Ticket) (right : Bool)
     (vs : List Value) (a : SettlesAsked gives r xs t right vs) where
@@ -176,7 +172,7 @@ module _ (gives : Giving) (r : OpenRun) (xs : Instances) (st : Stands gives r xs
   pub was-taken : is_taken o.view.events o.step.0 o.seat.place ≡ true
   was-taken =
       sym told-so.1
-      ∙ left_true (list_any (is_begun_entry o.job.name) past) (not (is_settled past o.job)) its-stage.0.runs
+      ∙ first_so (list_any (is_begun_entry o.job.name) past) (not (is_settled past o.job)) its-stage.0.runs
 
   pub its-runs : (is_out o.seat.stage || is_nested o.seat.stage) ≡ true
   its-runs = ap (λ x. is_out x || is_nested x) o.stands

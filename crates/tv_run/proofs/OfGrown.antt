@@ -7,9 +7,9 @@ use Rattle.std.proofs.lemmas.List.{length-map, map-append}
 use Rattle.std.proofs.lemmas.List.FromFn.{get_or-range_with_len, length-range_with_len}
 use Rattle.std.proofs.lemmas.Option.{same_Some, slice_get-get_or, slice_get_within}
 use Rattle.tv_lemmas.proofs.Cases.{on_either}
+use Rattle.tv_lemmas.proofs.Lists.{get-within}
 use Rattle.tv_check.specs.RunViews.{run_view}
 use Rattle.tv_model.specs.Members.{In}
-use Rattle.tv_frame.proofs.OfHoldAround.{within-get}
 use Rattle.tv_beside.specs.Theirs.{AreTheirs}
 use Rattle.tv_seats.specs.Seats.{Seat}
 use Rattle.tv_seated.specs.Seated.{AreAtSteps, spot_of}
@@ -269,11 +269,11 @@ module _ (r s : OpenRun) (xs ys : Instances) (i a n : ℕ) (g : HasGrown r s xs 
       (λ h.
       let w = g.fits.numbered.seats k m.instance m.number (get-image numbered_as r.jobs.items k m h.0) in
       let c =
-      within-get r.instances.items m.instance
+      get-within r.instances.items m.instance
       (subst (λ q. m.instance < q) (sym g.fits.as_many) (slice_get_within xs m.instance w.0 w.2)) in
       g.fits.behind k m c.0 o h.0 c.1 (sym (g.openers m.instance c.0 e c.1 at) ∙ opener))
       (λ h.
-      let y = within-get ys m.instance (subst (λ q. m.instance < q) g.as_many (slice_get_within s.instances.items m.instance e at)) in
+      let y = get-within ys m.instance (subst (λ q. m.instance < q) g.as_many (slice_get_within s.instances.items m.instance e at)) in
       let low : o < length (names_of r) =
       slice_get_within (names_of r) o y.0.name ((g.each m.instance e y.0 at y.1).opener o opener) in
       let long : length (names_of r) ≡ length r.jobs.items =
@@ -287,7 +287,7 @@ module _ (r s : OpenRun) (xs ys : Instances) (i a n : ℕ) (g : HasGrown r s xs 
   named-at k m job =
       let w = numbered.seats k m.instance m.number (get-image numbered_as s.jobs.items k m job) in
       let e =
-      within-get s.instances.items m.instance
+      get-within s.instances.items m.instance
       (subst (λ q. m.instance < q) (sym g.as_many) (slice_get_within ys m.instance w.0 w.2)) in
       let h = g.each m.instance e.0 w.0 e.1 w.2 in
       record {

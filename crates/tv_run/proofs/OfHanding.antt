@@ -5,13 +5,14 @@ use Rattle.std.specs.Prelude.{◌≡◌, refl, ℕ, ◌+◌, ◌==◌, ◌||◌,
 use Rattle.std.proofs.Common.{ap, arith, inl, inr, subst, sym, ◌∙◌}
 use Rattle.std.proofs.lemmas.Bool.{eqb-true}
 use Rattle.std.proofs.lemmas.Option.{none-some, same_Some}
+use Rattle.std.specs.Cmp.{first_so, second_so}
 use Rattle.tv_lemmas.proofs.Cases.{on_test}
 use Rattle.tv_gate.specs.Outcomes.{Giving}
 use Rattle.tv_flow.specs.Flows.{Document}
 use Rattle.tv_check.specs.RunViews.{run_view}
 use Rattle.tv_dispatch.specs.Jobs.{Ask}
 use Rattle.tv_model.specs.Jobs.{Job}
-use Rattle.tv_model.proofs.Tests.{left_true, right_true, true≠false}
+use Rattle.tv_model.proofs.Tests.{true≠false}
 use Rattle.tv_history.specs.Entries as history
 use Rattle.tv_history.specs.Entries.{History}
 use Rattle.tv_history.specs.Histories.{is_ask, is_legal_after, next_ask}
@@ -48,6 +49,7 @@ use Rattle.tv_run.proofs.OfJobs.{number-is}
 use Rattle.tv_run.proofs.OfNext.{IsNotedNext, goes-noted, main-kept, names-kept, names-noted}
 use Rattle.tv_run.proofs.OfNumbers.{job-named, stage-is}
 use Rattle.tv_run.proofs.OfRooms.{before-itself, stays-before}
+use Rattle.tv_run.proofs.OfTellings.{waits-alone}
 
 -- ---- lists
 
@@ -61,14 +63,6 @@ none-any {A} p (x ∷ xs) h = by (p x) (λ e. none-any p xs e) h
     by false rest e = rest e
 
 -- ---- stages
-
-waits-as : (x : Stage) → is_waiting x ≡ true → x ≡ stage.Waiting
-waits-as stage.Waiting h = refl
-waits-as (stage.Out a t) h = absurd (true≠false (sym h))
-waits-as (stage.Idle a t) h = absurd (true≠false (sym h))
-waits-as (stage.Aside a) h = absurd (true≠false (sym h))
-waits-as (stage.Nested i) h = absurd (true≠false (sym h))
-waits-as stage.Settled h = absurd (true≠false (sym h))
 
 -- an idle stage, by its try
 idle-as : (x : Stage) → is_idle x ≡ true → (a : ℕ) × (t : ℕ) × (x ≡ stage.Idle a t)
@@ -84,10 +78,10 @@ next-one : (o : Option Ask) (a t b u : ℕ) → option_map_or (is_ask a t) o fal
     → option_map_or (is_ask b u) o false ≡ true → (a ≡ b) × (t ≡ u)
 next-one None a t b u h k = absurd (true≠false (sym h))
 next-one (Some x) a t b u h k = (
-  eqb-true a x.activity (left_true (a == x.activity) (t == x.attempt) h)
-      ∙ sym (eqb-true b x.activity (left_true (b == x.activity) (u == x.attempt) k)),
-  eqb-true t x.attempt (right_true (a == x.activity) (t == x.attempt) h)
-      ∙ sym (eqb-true u x.attempt (right_true (b == x.activity) (u == x.attempt) k)),
+  eqb-true a x.activity (first_so (a == x.activity) (t == x.attempt) h)
+      ∙ sym (eqb-true b x.activity (first_so (b == x.activity) (u == x.attempt) k)),
+  eqb-true t x.attempt (second_so (a == x.activity) (t == x.attempt) h)
+      ∙ sym (eqb-true u x.attempt (second_so (b == x.activity) (u == x.attempt) k)),
 )
 
 -- where there is a next try, something is asked next
@@ -186,7 +180,7 @@ module _ (gives : Giving) (r : OpenRun) (xs : Instances) (st : Stands gives r xs
     stand-first : is_waiting s.stage ≡ true → Stand gives d levels_in (handed ∷ past) (with_instance xs h.may.outer y)
     stand-first waits =
         handing-out_first gives d levels_in past xs st.stand h.may.outer n x s h.job v h.may.is_number.is_job h.may.is_open
-        t.activity t.attempt takes.view (waits-as s.stage waits) h.is_next is-legal
+        t.activity t.attempt takes.view (waits-alone s.stage waits) h.is_next is-legal
         (takes.waited s h.may.is_number.is_job.seat waits)
 
     stand-again : is_waiting s.stage ≡ false → Stand gives d levels_in (handed ∷ past) (with_instance xs h.may.outer y)

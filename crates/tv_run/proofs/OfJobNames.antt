@@ -1,5 +1,5 @@
 -- The names of known jobs: that of the job that opened the instance, and then the step and place.
-use Rattle.std.specs.Prelude.{◌≡◌, ℕ, ◌<◌, ◌++◌, [], ◌∷◌, Err, None, Ok, OnOk, Result, Some, length, slice_get}
+use Rattle.std.specs.Prelude.{◌≡◌, ℕ, ◌<◌, ◌++◌, [], ◌∷◌, None, Some, length, slice_get}
 use Rattle.std.proofs.Common.{ap, append_assoc, arith, sym, ◌∙◌}
 use Rattle.std.proofs.lemmas.Option.{same_Some}
 use Rattle.tv_value.specs.Nested.{Place}
@@ -74,7 +74,3 @@ module _ (r : OpenRun) (xs : Instances) (fits : Fits r xs) (k : ℕ) (m : Number
           (ap (λ (l : JobName). l ++ spot ∷ [])
           (sym (w.3.kept.main (ap (λ (u : code.Instance). u.opener) itself-is ∙ none)).1)
           ∙ same_Some (w.0.name ++ spot ∷ []) n (sym name-known ∙ h))
-
-pub on-ok : {A E : Type 0} (r : Result A E) (P Q : Type 0) → (P → Q) → OnOk r P → OnOk r Q
-on-ok (Ok a) P Q f h = f h
-on-ok (Err e) P Q f h = h

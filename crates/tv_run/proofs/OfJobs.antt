@@ -3,11 +3,11 @@ use Rattle.std.specs.Option.{option_map_or}
 use Rattle.std.specs.Prelude.{◌≡◌, refl, ℕ, ◌<◌, ◌≤◌, ◌++◌, true, List, [], ◌∷◌, None, Option, Some, is_some, length, option_and_then, option_map, slice_get}
 use Rattle.std.proofs.Common.{ap, subst, sym, ◌∙◌}
 use Rattle.std.proofs.lemmas.Option.{none-some, same_Some, slice_get-map, slice_get_past, slice_get_within}
+use Rattle.tv_lemmas.proofs.Lists.{get-within}
 use Rattle.tv_value.specs.Values.{JobName, Name}
 use Rattle.tv_flow.specs.Flows.{Flow, Step}
 use Rattle.tv_check.specs.RunViews.{run_view}
 use Rattle.tv_framing.specs.Views.{View}
-use Rattle.tv_frame.proofs.OfHoldAround.{within-get}
 use Rattle.tv_seats.specs.Seats.{Seat}
 use Rattle.tv_seats.specs.Tables.{Rows}
 use Rattle.tv_seats.specs.declared.stage.Stage.{Stage}
@@ -118,13 +118,13 @@ module _ (r : OpenRun) (xs : Instances) (fits : Fits r xs) where
   pub instance-there : (i : ℕ) (x : Instance) → IsAt xs i x
       → (c : code.Instance) × (slice_get r.instances.items i ≡ Some c) × IsKept r i c x
   instance-there i x at =
-      let c = within-get r.instances.items i (subst (λ m. i < m) (sym fits.as_many) (slice_get_within xs i x at)) in
+      let c = get-within r.instances.items i (subst (λ m. i < m) (sym fits.as_many) (slice_get_within xs i x at)) in
       (c.0, c.1, fits.kept i c.0 x c.1 at)
 
   pub instance-told : (i : ℕ) (c : code.Instance) → slice_get r.instances.items i ≡ Some c
       → (x : Instance) × IsAt xs i x × IsKept r i c x
   instance-told i c e =
-      let x = within-get xs i (subst (λ m. i < m) fits.as_many (slice_get_within r.instances.items i c e)) in
+      let x = get-within xs i (subst (λ m. i < m) fits.as_many (slice_get_within r.instances.items i c e)) in
       (x.0, x.1, fits.kept i c x.0 e x.1)
 
   -- job n of an instance, by its number
@@ -156,7 +156,7 @@ module _ (r : OpenRun) (xs : Instances) (fits : Fits r xs) where
 
   pub known : (k : ℕ) → k < length r.jobs.items → IsKnown r xs k
   known k low =
-      let m = within-get r.jobs.items k low in
+      let m = get-within r.jobs.items k low in
       let w = known-at k m.0 m.1 in
       record {
         outer = m.0.instance;
@@ -188,7 +188,7 @@ module _ (r : OpenRun) (xs : Instances) (fits : Fits r xs) where
   number-listed k i n c x s at_code at sits e =
       let kept = fits.kept i c x at_code at in
       let l =
-      within-get c.jobs.items n (subst (λ m. n < m) (sym kept.as_many) (slice_get_within x.seats n s sits)) in
+      get-within c.jobs.items n (subst (λ m. n < m) (sym kept.as_many) (slice_get_within x.seats n s sits)) in
       l.1 ∙ ap Some (fits.numbered.apart l.0 k i n (kept.numbered n l.0 l.1) e)
 
   -- ---- what is looked up of it

@@ -2,10 +2,10 @@
 use Rattle.std.specs.Prelude.{◌≡◌, refl, ℕ, ◌-◌, ◌<◌, Bool, true, false, List, [], ◌∷◌, Some, length, slice_get, slice_index_or}
 use Rattle.std.proofs.Common.{ap, arith, subst, sym, ◌∙◌}
 use Rattle.std.proofs.lemmas.Option.{get_or_from_slice_get, same_Some, slice_get-get_or}
+use Rattle.tv_lemmas.proofs.Lists.{get-within}
 use Rattle.tv_gate.specs.Outcomes.{Giving}
 use Rattle.tv_seated.proofs.OfLists.{is-member}
 use Rattle.tv_forest.specs.Forest.{Instances, IsAt}
-use Rattle.tv_frame.proofs.OfHoldAround.{within-get}
 use Rattle.tv_open.specs.declared.open.Open.{Open}
 use Rattle.tv_run.specs.Settlements.{IsOpenIn, LastIsStill, SettlesIn, SettlesLast, last_busy}
 use Rattle.tv_run.specs.Standing.{Fits, StandsOpen}
@@ -13,10 +13,6 @@ use Rattle.tv_run.specs.declared.instances.Instance as code
 use Rattle.tv_run.specs.declared.run.OpenRun.{OpenRun}
 use Rattle.tv_run.proofs.OfJobs.{instance-told, open-is, view-is}
 use Rattle.tv_run.proofs.OfOpens.{nothing-open}
-
-pub none-there : {A : Type 0} (l : List A) → length l ≡ 0 → l ≡ []
-none-there [] h = refl
-none-there (x ∷ l) h = absurd (omega (arith, h))
 
 pub some-there : {A : Type 0} (l : List A) → (length l ≡ 0 → ⊥) → (x : A) × (m : List A) × (l ≡ x ∷ m)
 some-there [] h = absurd (h refl)
@@ -39,7 +35,7 @@ module _ (r : OpenRun) (some : 0 < length r.busy.items) (k n : ℕ) (last : n �
   module _ (g : code.Instance) (at : g ≡ slice_index_or r.instances.items k g) where
     last-there : (xs : Instances) → Fits r xs → slice_get r.instances.items k ≡ Some g
     last-there xs fits =
-        let c = within-get r.instances.items k (last-low xs fits) in
+        let c = get-within r.instances.items k (last-low xs fits) in
         c.1 ∙ ap Some (sym (at ∙ get_or_from_slice_get r.instances.items k c.0 g c.1))
 
     -- one that has ended is still

@@ -36,12 +36,9 @@ use Rattle.tv_run.proofs.OfRoomed.{ready-to_settle, roomed, still-open}
 use Rattle.tv_run.proofs.OfRooms.{before-rooms, open-before, stands-before, stays-before}
 use Rattle.tv_run.proofs.OfSettled.{at-some, stays-from}
 use Rattle.tv_run.proofs.OfSettlings.{level-goes, settles-in}
+use Rattle.tv_run.proofs.OfBouncing.{open-here}
 
 -- ---- an instance that is open
-
-pub open-here : (gives : Giving) (r : OpenRun) (i : ℕ) (o : IsOpenIn gives r i)
-    → IsOpenHere r o.instances i o.instance o.view
-open-here gives r i o = record { fits = o.stands.fits; there = o.there; is_open = o.is_open }
 
 pub open-low : (gives : Giving) (r : OpenRun) (i : ℕ) → IsOpenIn gives r i → i < length r.instances.items
 open-low gives r i o = number-low r i o.instances o.instance o.view (open-here gives r i o)

@@ -2,6 +2,7 @@
 use Rattle.std.specs.Prelude.{List, None, Option, Some, option_and_then, option_map, refl, slice_get, suc, true, zero, ℕ, ◌<◌, ◌≡◌}
 use Rattle.std.proofs.Common.{ap, arith, subst, sym, ◌∙◌}
 use Rattle.std.proofs.lemmas.Option.{same_Some, slice_get_within}
+use Rattle.tv_lemmas.proofs.Lists.{get-within}
 use Rattle.tv_gate.specs.Outcomes.{Giving}
 use Rattle.tv_check.specs.RunViews.{run_view}
 use Rattle.tv_pool.specs.Pool.{live_count}
@@ -10,7 +11,6 @@ use Rattle.tv_history.specs.Histories.{is_done}
 use Rattle.tv_framing.specs.Views.{View}
 use Rattle.tv_frame.specs.Tables.{levels_in}
 use Rattle.tv_frame.specs.declared.frame.Frame.{Frame}
-use Rattle.tv_frame.proofs.OfHoldAround.{within-get}
 use Rattle.tv_beside.proofs.OfTheirs as beside
 use Rattle.tv_seats.specs.Stages.{is_nested}
 use Rattle.tv_seats.specs.declared.stage.Stage.TheVariants as stage
@@ -59,7 +59,7 @@ module _ (gives : Giving) (r : OpenRun) (xs : Instances) (st : Stands gives r xs
       by None e = refl
       by (Some c) e =
           let low = slice_get_within r.instances.items i c e in
-          let y = within-get xs i (subst (λ n. i < n) st.fits.as_many low) in
+          let y = get-within xs i (subst (λ n. i < n) st.fits.as_many low) in
           let kept = st.fits.kept i c y.0 e y.1 in
           let life = subst (λ w. IsLife r c y.0 w) (all-shut i y.0 y.1) kept.life in
           ap (λ (os : List Open). option_map (λ (o : Open). o.frame) (slice_get os 0)) life.0

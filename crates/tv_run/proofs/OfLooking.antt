@@ -3,12 +3,14 @@ use Rattle.std.specs.Prelude.{◌≡◌, refl, ℕ, zero, suc, ◌+◌, ◌<◌,
 use Rattle.std.proofs.Common.{ap, arith, length-append, subst, sym, ◌∙◌}
 use Rattle.std.proofs.lemmas.List.{drop_more, length-map}
 use Rattle.std.proofs.lemmas.Option.{get_or_from_slice_get, none-some, same_Some, slice_get-get_or}
+use Rattle.std.specs.Cmp.{first_so, second_so}
 use Rattle.tv_lemmas.proofs.Cases.{on_either}
 use Rattle.tv_value.specs.Activities.{Activity}
 use Rattle.tv_value.specs.Orders.{named, same_name}
 use Rattle.tv_value.specs.Values.{Name}
+use Rattle.tv_value.proofs.OfNames.{same_name-refl}
 use Rattle.tv_naming.specs.Numbers.{number_in}
-use Rattle.tv_naming.proofs.ByPosition.{number-absent, number-found, same_name-refl}
+use Rattle.tv_naming.proofs.ByPosition.{number-absent, number-found}
 use Rattle.tv_naming.proofs.FormedParts.{ascending, each-names, few}
 use Rattle.tv_flow.specs.Formed.{are_entries, are_named, is_ascending, is_between, is_flow, is_formed, is_value}
 use Rattle.tv_flow.specs.DocumentViews.{document_view}
@@ -18,7 +20,7 @@ use Rattle.tv_flow.specs.Views.{each, flow_view, step_view}
 use Rattle.tv_flow.specs.declared.document.Document as code_document
 use Rattle.tv_flow.specs.declared.document.Flow as code_flow
 use Rattle.tv_flow.specs.declared.document.Step as code_step
-use Rattle.tv_model.proofs.Tests.{left_true, right_true, true≠false}
+use Rattle.tv_model.proofs.Tests.{true≠false}
 use Rattle.tv_seated.proofs.OfLists.{get-image, of-image}
 use Rattle.tv_entries.specs.Runs.{first_flow}
 use Rattle.tv_check.specs.RunViews.{run_view}
@@ -207,5 +209,5 @@ flows-are run doc is = record {
 
     named-so : are_named is_flow 1 256 d.flows ≡ true
     named-so =
-        right_true (is_between 1 1 d.format && is_name d.main) (are_named is_flow 1 256 d.flows)
-        (left_true (is_between 1 1 d.format && is_name d.main && are_named is_flow 1 256 d.flows) (are_entries is_value d.inputs) formed)
+        second_so (is_between 1 1 d.format && is_name d.main) (are_named is_flow 1 256 d.flows)
+        (first_so (is_between 1 1 d.format && is_name d.main && are_named is_flow 1 256 d.flows) (are_entries is_value d.inputs) formed)

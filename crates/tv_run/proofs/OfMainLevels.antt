@@ -1,7 +1,6 @@
 -- The lists and passed faults of the main instance are those that the document means.
-use Rattle.std.specs.Prelude.{◌≡◌, refl, ℕ, ◌∷◌, Bool, List, [], Some, false, filter, if◌then◌else◌, map, true}
-use Rattle.std.proofs.Common.{ap, inl, inr, subst, sym, ◌∙◌}
-use Rattle.std.proofs.lemmas.Bool.{true≢false}
+use Rattle.std.specs.Prelude.{◌≡◌, ℕ, List, [], Some, map}
+use Rattle.std.proofs.Common.{subst, sym, ◌∙◌}
 use Rattle.std.proofs.lemmas.Option.{same_Some}
 use Rattle.tv_value.specs.Orders.{named}
 use Rattle.tv_value.specs.Values.{JobName, Name}
@@ -9,7 +8,6 @@ use Rattle.tv_gate.specs.Outcomes.{Giving}
 use Rattle.tv_flow.specs.Flows.{Document, Flow}
 use Rattle.tv_depths.specs.Delivered.{StepMeaning}
 use Rattle.tv_matching.proofs.OfMembers.{in-map}
-use Rattle.tv_model.specs.Lineages.{is_outermost}
 use Rattle.tv_model.specs.Made.{Meaning}
 use Rattle.tv_model.specs.Meanings.{meaning}
 use Rattle.tv_model.specs.Members.{In}
@@ -23,24 +21,8 @@ use Rattle.tv_levels.specs.Levels.{AreLevels, Level}
 use Rattle.tv_levels.specs.MainSteps.{main_steps}
 use Rattle.tv_open.specs.Levels.{AreItsLevels}
 use Rattle.tv_run.specs.Ended.{AreMainLevels}
-
-outermost : (n : JobName) → is_outermost n ≡ true → n ≡ []
-outermost [] h = refl
-outermost (k ∷ n) h = absurd (true≢false (sym h))
-
-of-main : (f : StepMeaning) (ss : List StepMeaning) → In f (filter (λ s. is_outermost s.instance) ss)
-    → In f ss × (is_outermost f.instance ≡ true)
-of-main f [] i = absurd i
-of-main f (s ∷ ss) i = by (is_outermost s.instance) refl i (of-main f ss)
-  where
-    rest : List StepMeaning
-    rest = filter (λ t. is_outermost t.instance) ss
-
-    by : (b : Bool) → is_outermost s.instance ≡ b → In f (if b then s ∷ rest else rest)
-        → (In f rest → In f ss × (is_outermost f.instance ≡ true)) → In f (s ∷ ss) × (is_outermost f.instance ≡ true)
-    by true e (inl same) rec = (inl same, ap (λ (t : StepMeaning). is_outermost t.instance) same ∙ e)
-    by true e (inr j) rec = let r = rec j in (inr r.0, r.1)
-    by false e j rec = let r = rec j in (inr r.0, r.1)
+use Rattle.tv_marked.proofs.OfRecords.{outermost}
+use Rattle.tv_marked.proofs.OfKnown.{of-main}
 
 -- of any meaning, so that a document's isn't unfolded
 levels-in : (gives : Giving) (flows : List (Name × Flow)) (m : Meaning) (past : History) (levels : Name → ℕ) (v : View)

@@ -7,13 +7,13 @@ use Rattle.std.proofs.lemmas.List.{length-map, length-set}
 use Rattle.std.proofs.lemmas.List.Sums.{sum_by-cons}
 use Rattle.std.proofs.lemmas.Option.{none-some, same_Some, slice_get_cases, slice_get_past, slice_get_within, slice_get-map}
 use Rattle.tv_lemmas.proofs.Cases.{on_either}
+use Rattle.tv_lemmas.proofs.Lists.{get-within}
 use Rattle.tv_value.specs.Nested.{Place}
 use Rattle.tv_value.specs.Values.{JobName, Name}
 use Rattle.tv_flow.specs.Flows.{Flow, Step}
 use Rattle.tv_check.specs.RunViews.{run_view}
 use Rattle.tv_model.specs.Members.{In}
 use Rattle.tv_framing.specs.Views.{View}
-use Rattle.tv_frame.proofs.OfHoldAround.{within-get}
 use Rattle.tv_beside.specs.Theirs.{AreTheirs}
 use Rattle.tv_seats.specs.Seats.{Seat}
 use Rattle.tv_seated.specs.Seated.{AreAtSteps, spot_of}
@@ -129,7 +129,7 @@ module _ (r s : OpenRun) (i : ℕ) (m : IsMoved r s i) where
   there-before : (k : ℕ) (e : code.Instance) → slice_get s.instances.items k ≡ Some e
       → (c : code.Instance) × (slice_get r.instances.items k ≡ Some c) × HasSameJobs c e
   there-before k e at =
-      let c = within-get r.instances.items k
+      let c = get-within r.instances.items k
       (subst (λ n. k < n) m.others.as_many (slice_get_within s.instances.items k e at)) in
       (c.0, c.1, each k c.0 e c.1 at)
 

@@ -1,28 +1,25 @@
 -- The names of a run's seats are distinct names of jobs, and every ready job has one.
 use Rattle.std.specs.List.{list_all, list_any}
-use Rattle.std.specs.Prelude.{◌≡◌, refl, Bool, true, not, List, [], ◌∷◌, filter}
-use Rattle.std.proofs.Common.{ap, inl, inr, sym}
+use Rattle.std.specs.Prelude.{◌≡◌, refl, true, not, List, [], ◌∷◌, filter}
+use Rattle.std.proofs.Common.{ap, sym}
 use Rattle.std.proofs.lemmas.Bool.{false_from_ne_true}
 use Rattle.tv_value.specs.Orders.{same_job}
 use Rattle.tv_value.specs.Values.{JobName}
+use Rattle.tv_value.proofs.OfJobNames.{same_job_decides}
 use Rattle.tv_gate.specs.Outcomes.{Giving}
 use Rattle.tv_flow.specs.Flows.{Document}
 use Rattle.tv_model.specs.Jobs.{Job}
 use Rattle.tv_model.specs.Meanings.{meaning}
-use Rattle.tv_model.specs.Members.{In}
 use Rattle.tv_model.proofs.Members.{any-in}
 use Rattle.tv_model.proofs.Order.{of-map, some_in}
-use Rattle.tv_model.proofs.Tests.{both_true, same_job_decides}
+use Rattle.tv_model.proofs.Tests.{both_true}
+use Rattle.tv_model.proofs.OfMembers.{all-in}
 use Rattle.tv_history.specs.Entries.{History}
 use Rattle.tv_history.specs.Histories.{is_ready}
 use Rattle.tv_outcomes.specs.Agreed.{ready}
 use Rattle.tv_order.specs.JobOrder.{Apart}
 use Rattle.tv_standing.specs.States.{AreNamesOfJobs}
 use Rattle.tv_entries.specs.Runs.{all_distinct, is_among}
-
-all-of : {A : Type 0} (p : A → Bool) (xs : List A) → ((x : A) → In x xs → p x ≡ true) → list_all p xs ≡ true
-all-of p [] h = refl
-all-of p (x ∷ xs) h = both_true (p x) (list_all p xs) (h x (inl refl)) (all-of p xs (λ y i. h y (inr i)))
 
 distinct-apart : (ns : List JobName) → Apart (λ n. n) ns → all_distinct ns ≡ true
 distinct-apart [] a = refl
@@ -38,12 +35,12 @@ module _ (gives : Giving) (d : Document) (past : History) (ns : List JobName) (n
 
   pub are-jobs : list_all (λ n. list_any (λ (j : Job). same_job n j.name) (meaning gives d).jobs) ns ≡ true
   are-jobs =
-      all-of (λ n. list_any (λ (j : Job). same_job n j.name) (meaning gives d).jobs) ns
+      all-in (λ n. list_any (λ (j : Job). same_job n j.name) (meaning gives d).jobs) ns
       (λ n i. let r = names.jobs n i in
       any-in (λ (j : Job). same_job n j.name) r.0 (meaning gives d).jobs r.1 ((same_job_decides n r.0.name).1 (sym r.2)))
 
   pub are-numbered : list_all (is_among ns) (ready (meaning gives d) past) ≡ true
   are-numbered =
-      all-of (is_among ns) (ready (meaning gives d) past)
+      all-in (is_among ns) (ready (meaning gives d) past)
       (λ n i. let r = of-map (λ (j : Job). j.name) n (filter (is_ready (meaning gives d) past) (meaning gives d).jobs) i in
       any-in (same_job n) r.0.name ns (names.ready r.0 r.1) ((same_job_decides n r.0.name).1 r.2))

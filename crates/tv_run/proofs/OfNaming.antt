@@ -4,10 +4,10 @@ use Rattle.std.specs.Prelude.{◌≡◌, refl, ℕ, ◌<◌, ◌++◌, List, [],
 use Rattle.std.proofs.Common.{ap, append-nil, append_assoc, subst, sym, ◌∙◌}
 use Rattle.std.proofs.lemmas.List.{length-map, map-append}
 use Rattle.std.proofs.lemmas.Option.{none-some, same_Some}
+use Rattle.tv_lemmas.proofs.Lists.{get-within}
 use Rattle.tv_value.specs.Values.{JobName, Name}
 use Rattle.tv_flow.specs.Flows.{Document, Flow}
 use Rattle.tv_check.specs.RunViews.{run_view}
-use Rattle.tv_frame.proofs.OfHoldAround.{within-get}
 use Rattle.tv_seats.specs.Seats.{Seat}
 use Rattle.tv_seated.specs.Seated.{spot_of}
 use Rattle.tv_seated.proofs.OfLists.{in-front}
@@ -64,7 +64,7 @@ module _ (s : OpenRun) (ys : Instances) where
     opener-among m e =
         let o = w.opener m e in
         let low : m < length (named_by so_far) = subst (λ n. m < n) (sym (long so_far)) o.0 in
-        let x = within-get (named_by so_far) m low in
+        let x = get-within (named_by so_far) m low in
         let told : slice_get (names_by ys (numbers_of s)) m ≡ Some x.0 =
         ap (λ l. slice_get (named_by l) m) all
         ∙ ap (λ l. slice_get l m) (named-more so_far (k ∷ rest))

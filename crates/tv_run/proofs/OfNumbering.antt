@@ -5,12 +5,13 @@ use Rattle.std.proofs.Common.{ap, append-nil, append_assoc, arith, get_or, lengt
 use Rattle.std.proofs.lemmas.List.{length-map}
 use Rattle.std.proofs.lemmas.List.FromFn.{length-range_with_len, map-range_with_len_more}
 use Rattle.std.proofs.lemmas.Option.{get_or_from_slice_get, same_Some, slice_get_within}
+use Rattle.tv_lemmas.proofs.Lists.{get-within, range-more}
 use Rattle.tv_open.specs.declared.open.Open.{Open}
-use Rattle.tv_frame.proofs.OfHoldAround.{within-get}
 use Rattle.tv_run.specs.Following.{AddsNumber, CanFollow, CanNumber, FollowsIn, HasNumbers, HasSameAround, LooksInto, Numbers, OthersAreSame, numbered_in, unnumbered}
 use Rattle.tv_run.specs.declared.instances.Instance as code
 use Rattle.tv_run.specs.declared.run.OpenRun.{OpenRun}
 use Rattle.tv_run.proofs.OfFits.{unnumbered_by}
+use Rattle.tv_run.proofs.OfBackRooms.{around-then}
 
 -- those below k have theirs, and nothing else has changed
 pub record AreNumbering (r s : OpenRun) (i k : ℕ) : Type 0 where
@@ -40,17 +41,6 @@ known-open cs i c d o p at opened e f =
     found d.open.items 0 o p
     (ap (λ (a : code.Instance). slice_get a.open.items 0) (found cs i c d at e) ∙ ap (λ l. slice_get l 0) opened) f
 
--- numbers in a row, with one more
-pub range-more : (a n : ℕ) → range_with_len a (n + 1) ≡ range_with_len a n ++ (a + n) ∷ []
-range-more a n =
-    sym (map-itself (range_with_len a (n + 1)))
-    ∙ map-range_with_len_more (λ x. x) a n (a + n) refl
-    ∙ ap (λ l. l ++ (a + n) ∷ []) (map-itself (range_with_len a n))
-  where
-    map-itself : (l : List ℕ) → map (λ x. x) l ≡ l
-    map-itself [] = refl
-    map-itself (x ∷ l) = ap (λ m. x ∷ m) (map-itself l)
-
 same-around : (r : OpenRun) → HasSameAround r r
 same-around r = record {
   alloc = refl;
@@ -62,15 +52,6 @@ same-around r = record {
   outs = refl;
 }
 
-around-then : (r s t : OpenRun) → HasSameAround r s → HasSameAround s t → HasSameAround r t
-around-then r s t a b = record {
-  alloc = b.alloc ∙ a.alloc;
-  run = b.run ∙ a.run;
-  looks = b.looks ∙ a.looks;
-  pool = b.pool ∙ a.pool;
-  entries = b.entries ∙ a.entries;
-  failed = b.failed ∙ a.failed;
-  outs = b.outs ∙ a.outs;
 }
 
 pub others-then : (r s t : OpenRun) (i : ℕ) → OthersAreSame r s i → OthersAreSame s t i → OthersAreSame r t i
@@ -156,7 +137,7 @@ module _ (r : OpenRun) (i : ℕ) (can : CanFollow r i) where
     pub one-numbered : (t : OpenRun) → k < length can.opened.seats.seats → AddsNumber s t i k
         → AreNumbering r t i (k + 1)
     one-numbered t h adds =
-        let there = within-get t.instances.items i
+        let there = get-within t.instances.items i
         (subst (λ n. i < n) (sym adds.others.as_many) (slice_get_within s.instances.items i a.after a.there)) in
         let more = left h in
         let next = a.next in
@@ -271,5 +252,5 @@ followed r s t i can a b = record {
     between : (c : code.Instance) → slice_get r.instances.items i ≡ Some c
         → (d : code.Instance) × (slice_get s.instances.items i ≡ Some d)
     between c at =
-        within-get s.instances.items i
+        get-within s.instances.items i
         (subst (λ n. i < n) (sym a.others.as_many) (slice_get_within r.instances.items i c at))

@@ -3,6 +3,7 @@
 use Rattle.std.specs.Prelude.{◌≡◌, refl, ℕ, suc, ◌<◌, Bool, true, false, if◌then◌else◌, List, [], ◌∷◌, None, Some, length, map, option_map, slice_get}
 use Rattle.std.proofs.Common.{ap, subst, sym, ◌∙◌}
 use Rattle.std.proofs.lemmas.Option.{none-some, same_Some}
+use Rattle.tv_lemmas.proofs.Options.{is_some-some}
 use Rattle.tv_value.specs.Orders.{named, same_name}
 use Rattle.tv_value.specs.Values.{Name, Value}
 use Rattle.tv_gate.specs.Outcomes.{Giving}
@@ -39,7 +40,6 @@ use Rattle.tv_seated.specs.Seated.{spot_of}
 use Rattle.tv_seated.proofs.OfLists.{is-member}
 use Rattle.tv_forest.specs.Entries.{IsFresh, IsTakenFor}
 use Rattle.tv_forest.specs.Forest.{Instance, Instances, IsJobAt}
-use Rattle.tv_forest.proofs.OfLists.{is-some}
 use Rattle.tv_firsts.proofs.OfHistories.{opening-is_legal}
 use Rattle.tv_entries.specs.Runs.{meant, past_of}
 use Rattle.tv_open.specs.Events.{WaitsReady}
@@ -126,7 +126,7 @@ module _ (gives : Giving) (r : OpenRun) (k : ℕ) (q : OpensFirst gives r k) whe
   goes-on = (find-passes (goes_on gives d past) (all_jobs gives d) j q.goes.first).1
 
   pub opener : (g : Name) × (j.opens ≡ Some g)
-  opener = is-some j.opens (next.opens-next gives r xs st k j may goes-on q.no_ask)
+  opener = is_some-some j.opens (next.opens-next gives r xs st k j may goes-on q.no_ask)
 
   opened-first : opened_flow step.1 ≡ Some opener.0
   opened-first =

@@ -40,7 +40,7 @@ use Rattle.tv_run.proofs.OfOver.{done-is}
 -- ---- the main flow by its number
 
 -- what stands at the number of a name has that name
-named-at : {A : Type 0} (n : Name) (xs : List (Name × A)) (y : Name × A) → slice_get xs (position n xs) ≡ Some y
+pub named-at : {A : Type 0} (n : Name) (xs : List (Name × A)) (y : Name × A) → slice_get xs (position n xs) ≡ Some y
     → named n xs ≡ Some y.1
 named-at n [] y e = absurd (none-some y e)
 named-at {A = A} n (x ∷ xs) y e = by (same_name n x.0) (named-at n xs y) e

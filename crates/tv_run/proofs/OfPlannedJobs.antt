@@ -1,17 +1,16 @@
 -- A job by its step as the check's plan states it: what it gives has the depths that the step declares, and the flow that it opens is
 -- the first among the step's activities.
 use Rattle.std.specs.Option.{option_map_or}
-use Rattle.std.specs.Prelude.{◌≡◌, refl, ℕ, zero, suc, List, [], ◌∷◌, Some, find, option_and_then, slice_get}
+use Rattle.std.specs.Prelude.{◌≡◌, refl, ℕ, zero, suc, [], ◌∷◌, Some, find, option_and_then, slice_get}
 use Rattle.std.proofs.Common.{ap, ap₂, inl, subst, sym, ◌∙◌}
 use Rattle.std.proofs.lemmas.Option.{same_Some}
-use Rattle.tv_value.specs.Activities.{Activity, nested, service}
 use Rattle.tv_value.specs.Orders.{named, same_job}
 use Rattle.tv_value.specs.Values.{JobName, Name}
+use Rattle.tv_value.proofs.OfJobNames.{same_job_decides}
 use Rattle.tv_gate.specs.Outcomes.{Giving}
 use Rattle.tv_flow.specs.Flows.{Document, Flow, Step}
 use Rattle.tv_depths.specs.Steps.{declared_depths}
 use Rattle.tv_agreed.specs.InstanceFlows.{StandsIn, instance_flow}
-use Rattle.tv_agreed.specs.Opening.{first_nested}
 use Rattle.tv_agreed.specs.PlannedDepths.{JobIsPlanned}
 use Rattle.tv_agreed.proofs.Planned.{meanings-planned}
 use Rattle.tv_model.specs.Jobs.{Job}
@@ -20,7 +19,6 @@ use Rattle.tv_model.specs.Meanings.{meaning}
 use Rattle.tv_model.specs.Members.{In}
 use Rattle.tv_model.specs.RightDepths.{HaveTheseDepths}
 use Rattle.tv_model.proofs.Members.{each_in, no-nil, once-of_apart}
-use Rattle.tv_model.proofs.Tests.{same_job_decides}
 use Rattle.tv_history.specs.Entries.{History}
 use Rattle.tv_history.proofs.Ready.{document-whole}
 use Rattle.tv_history.proofs.Tests.{same-itself}
@@ -30,12 +28,7 @@ use Rattle.tv_seats.specs.Seats.{Seat}
 use Rattle.tv_seated.proofs.OfLists.{is-member}
 use Rattle.tv_forest.specs.Forest.{Instance, Instances, IsAt, IsJobAt, Stand}
 use Rattle.tv_entries.specs.Runs.{first_flow}
-
--- the two words for the flow that a step opens
-same-first : (as' : List Activity) → first_flow as' ≡ first_nested as'
-same-first [] = refl
-same-first (service s ∷ as') = same-first as'
-same-first (nested f ∷ as') = refl
+use Rattle.tv_firsts.proofs.OfFlows.{same-first}
 
 module _ (gives : Giving) (d : Document) (levels : Flow → Name → ℕ) (past : History) (xs : Instances)
     (stand : Stand gives d levels past xs) where

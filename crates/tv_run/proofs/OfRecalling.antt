@@ -1,6 +1,6 @@
 -- A run once all tries that were out are taken back.
 use Rattle.std.specs.Option.{option_map_or}
-use Rattle.std.specs.Prelude.{◌≡◌, refl, ℕ, zero, suc, ◌+◌, ◌<◌, ◌≤◌, ◌==◌, nat_lt, Bool, true, false, List, [], ◌∷◌, Option, Result, Ok, Err, OnErr, count_by, is_none, length, map, slice_get, vec_capacity}
+use Rattle.std.specs.Prelude.{◌≡◌, refl, ℕ, ◌+◌, ◌<◌, ◌≤◌, ◌==◌, nat_lt, Bool, true, false, List, [], ◌∷◌, Option, count_by, is_none, length, map, slice_get, vec_capacity}
 use Rattle.std.proofs.Common.{ap, append-nil, arith, subst, sym, ◌∙◌}
 use Rattle.std.proofs.lemmas.Bool.{eq-eqb, lt-ltb}
 use Rattle.std.proofs.lemmas.Simd.{map-map}
@@ -47,15 +47,6 @@ use Rattle.tv_run.proofs.OfJobs.{known-as}
 use Rattle.tv_run.proofs.OfRooms.{stands-before}
 use Rattle.tv_run.proofs.OfStates.{at-number, state-of_job, state-of_run}
 use Rattle.tv_run.proofs.OfTellings.{state_by}
-
--- said of a refusal, where it holds anyway
-pub on-err : {T E P : Type 0} (x : Result T E) → P → OnErr x P
-on-err (Ok y) p = tt
-on-err (Err e) p = p
-
-pub some-out : (n : ℕ) → (n ≡ 0 → ⊥) → 0 < n
-some-out zero h = absurd (h refl)
-some-out (suc n) h = omega arith
 
 -- this try is out
 abbrev IsOutAt : JobState → Type 0

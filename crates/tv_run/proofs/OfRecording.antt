@@ -1,8 +1,8 @@
 -- What is recorded of a run: of its main instance while it is open, as far as it is known, and all of it at the end.
 use Rattle.std.specs.Option.{option_map_or}
-use Rattle.std.specs.Prelude.{◌≡◌, refl, ◌||◌, ◌+◌, ◌<◌, ◌≤◌, ◌⊎◌, ℕ, zero, suc, Bool, true, false, filter, is_none, List, [], ◌∷◌, map, Option, None, Some, length, option_map, slice_get, ◌++◌, take}
+use Rattle.std.specs.Prelude.{◌≡◌, refl, ◌+◌, ◌<◌, ◌≤◌, ◌⊎◌, ℕ, zero, suc, Bool, true, false, filter, is_none, List, [], ◌∷◌, map, Option, None, Some, length, option_map, slice_get, ◌++◌, take}
 use Rattle.std.proofs.Common.{ap, ap₂, arith, get_or, inl, inr, subst, sym, ◌∙◌}
-use Rattle.std.proofs.lemmas.Bool.{true≢false}
+use Rattle.std.proofs.lemmas.Bool.{true≢false, or_right}
 use Rattle.std.proofs.lemmas.List.{map-append, take_all}
 use Rattle.std.proofs.lemmas.Option.{none-some, same_Some, slice_get_cases, slice_get_within}
 use Rattle.tv_value.specs.Nested.{Place}
@@ -67,10 +67,6 @@ use Rattle.tv_run.proofs.OfJobs.{seats-open}
 use Rattle.tv_run.proofs.OfOutputs.{main-plan}
 use Rattle.tv_marked.specs.Seen.{AreKnownBy, Spot}
 use Rattle.tv_run.specs.Tracing.{is_settled_stage, settled_spots}
-
-or-true : (a b : Bool) → b ≡ true → (a || b) ≡ true
-or-true true b h = refl
-or-true false b h = h
 
 -- ---- seats and spots
 
@@ -243,7 +239,7 @@ module _ (gives : Giving) (d : Document) (past : History) (levels : Name → ℕ
       all n t q e h =
           let known : In {A = Name × Place} (t.0, q) v.jobs =
           ends-known gives d.flows (meaning gives d) past [] levels v r (t.0, q)
-          (ends-told [] (steps_here gives d.flows (meaning gives d) past [] levels v r) (t.0, q) v.events legal (or-true (is_taken v.events t.0 q) (has_result v.events t.0 q) h))
+          (ends-told [] (steps_here gives d.flows (meaning gives d) past [] levels v r) (t.0, q) v.events legal (or_right (is_taken v.events t.0 q) (has_result v.events t.0 q) h))
           in
           let s = of-mapped (spot_of v.flow.steps) ss (t.0, q) (subst (In {A = Name × Place} (t.0, q)) (sym sit.jobs) known) in
           let u = sit.steps s.0 s.1 s.2 in

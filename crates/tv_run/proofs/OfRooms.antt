@@ -6,9 +6,9 @@ use Rattle.std.specs.Prelude.{◌≡◌, refl, ℕ, ◌+◌, ◌<◌, ◌≤◌,
 use Rattle.std.proofs.Common.{ap, ap₂, arith, subst, sym, ◌∙◌}
 use Rattle.std.proofs.lemmas.List.{length-set}
 use Rattle.std.proofs.lemmas.Option.{same_Some, slice_get-get_or, slice_get_cases, slice_get_past, slice_get_within}
-use Rattle.tv_frame.proofs.OfHoldAround.{within-get}
 use Rattle.tv_forest.proofs.OfLists.{at-set, same-number, to-set}
 use Rattle.tv_lemmas.proofs.Cases.{on_either}
+use Rattle.tv_lemmas.proofs.Lists.{get-within}
 use Rattle.tv_gate.specs.Outcomes.{Giving}
 use Rattle.tv_check.specs.RunViews.{run_view}
 use Rattle.tv_pool.specs.Pool.{number_of, region_at}
@@ -282,7 +282,7 @@ rooms-after r s t a b = record {
     between : (i : ℕ) (c : code.Instance) → slice_get r.instances.items i ≡ Some c
         → (d : code.Instance) × (slice_get s.instances.items i ≡ Some d)
     between i c was =
-        within-get s.instances.items i
+        get-within s.instances.items i
         (subst (λ n. i < n) (sym a.as_many) (slice_get_within r.instances.items i c was))
 
 -- with other room for the numbers of one instance

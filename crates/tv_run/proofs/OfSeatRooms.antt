@@ -1,6 +1,6 @@
 -- The room of an open instance's seats: that it is taken changes nothing, and what it is of a job that is out.
 use Rattle.std.specs.Option.{option_map_or}
-use Rattle.std.specs.Prelude.{◌≡◌, ℕ, ◌<◌, true, false, Err, Ok, OnOk, Result, Some, length, map, slice_get, slice_index_or}
+use Rattle.std.specs.Prelude.{◌≡◌, ℕ, ◌<◌, true, false, Some, length, map, slice_get, slice_index_or}
 use Rattle.std.proofs.Common.{ap, subst, sym, ◌∙◌}
 use Rattle.std.proofs.lemmas.List.{length-map}
 use Rattle.std.proofs.lemmas.Option.{same_Some}
@@ -31,10 +31,6 @@ use Rattle.tv_run.proofs.OfOpenSet.{HasOpen, others-set, set-there}
 use Rattle.tv_run.proofs.OfPlans.{plan-there}
 use Rattle.tv_run.proofs.OfPrepared.{prepared}
 use Rattle.tv_run.proofs.OfTaking.{IsItself, its-code, open-read, seats-are}
-
-pub ok-then : {T E P Q : Type 0} (r : Result T E) → (P → Q) → OnOk r P → OnOk r Q
-ok-then (Ok x) f p = f p
-ok-then (Err e) f p = tt
 
 module _ (r : OpenRun) (i : ℕ) (xs : Instances) (x : Instance) (v : View) (here : IsOpenHere r xs i x v) where
   abbrev its : IsItself r i xs x v here

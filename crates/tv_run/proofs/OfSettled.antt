@@ -1,5 +1,5 @@
 -- What is settled in a run that stands, and what is left as it was.
-use Rattle.std.specs.Prelude.{◌≡◌, ℕ, Bool, true, false, [], Err, IfSome, Ok, OnErr, Option, Result, Some}
+use Rattle.std.specs.Prelude.{◌≡◌, ℕ, Bool, true, false, [], IfSome, Option, Some}
 use Rattle.std.proofs.Common.{subst, ◌∙◌}
 use Rattle.tv_lemmas.proofs.Cases.{on_test}
 use Rattle.tv_gate.specs.Outcomes.{Giving}
@@ -17,10 +17,6 @@ use Rattle.tv_run.specs.Standing.{Stands, run_of}
 use Rattle.tv_run.specs.Turns.{SettlesTo, StaysAs}
 use Rattle.tv_run.specs.declared.run.OpenRun.{OpenRun}
 use Rattle.tv_run.proofs.OfJobs.{instance-there, open-is}
-
-pub when-refused : {T E P : Type 0} (r : Result T E) → P → OnErr r P
-when-refused (Ok x) p = tt
-when-refused (Err e) p = p
 
 pub at-some : {A : Type 0} (P : A → Type 0) (o : Option A) (x : A) → o ≡ Some x → IfSome o P → P x
 at-some P o x e h = subst (λ p. IfSome p P) e h

@@ -1,6 +1,6 @@
 -- A job that is out is at another stage from now on, and its frame is told nothing: the run fits that.
 use Rattle.std.specs.Option.{option_map_or}
-use Rattle.std.specs.Prelude.{◌≡◌, refl, ℕ, ◌+◌, true, false, List, [], ◌∷◌, None, Option, Some, cond, count_by, map, option_and_then, option_map, slice_get, slice_set}
+use Rattle.std.specs.Prelude.{◌≡◌, refl, ℕ, ◌+◌, true, false, List, [], ◌∷◌, Option, Some, cond, count_by, map, option_and_then, option_map, slice_get, slice_set}
 use Rattle.std.proofs.Common.{ap, append-nil, arith, subst, sym, ◌∙◌}
 use Rattle.std.proofs.lemmas.Option.{same_Some}
 use Rattle.tv_flow.specs.Views.{flow_view}
@@ -17,7 +17,6 @@ use Rattle.tv_seats.specs.Seats.{Seat, staged, with_stage}
 use Rattle.tv_seats.specs.Stages.{is_out, is_waiting}
 use Rattle.tv_seats.specs.declared.stage.Stage.{Stage}
 use Rattle.tv_seats.specs.declared.stage.Stage.TheVariants as stage
-use Rattle.tv_seated.proofs.OfLists.{same-images}
 use Rattle.tv_forest.specs.Entries.{seated, with_instance}
 use Rattle.tv_forest.specs.Forest.{Instance, Instances}
 use Rattle.tv_forest.proofs.OfLists.{at-set, of-set, one-at, same-number}
@@ -26,6 +25,7 @@ use Rattle.tv_open.specs.Standing.{IsOpen, job_of}
 use Rattle.tv_open.specs.Tries.{HasStage}
 use Rattle.tv_open.proofs.OfTries.{kept-with, quiet-staged}
 use Rattle.tv_open.specs.declared.open.Open.{Open}
+use Rattle.tv_open.proofs.OfSeats.{staged-jobs}
 use Rattle.tv_run.specs.Accepting.{IsOutHere, MovesTo}
 use Rattle.tv_run.specs.Standing.{IsLife, IsOpenOf, frame_at, is_due, names_of, seats_of}
 use Rattle.tv_run.specs.declared.instances.Instance as code
@@ -39,14 +39,6 @@ use Rattle.tv_run.proofs.OfMoved.{HasSameJobs, IsMoved, IsMovedTo, fits-moved, n
 pub seat-staged : (n : ℕ) (y : Stage) (ss : List Seat) (s : Seat) → slice_get ss n ≡ Some s
     → with_stage n y ss ≡ slice_set ss n (staged y s)
 seat-staged n y ss s e = ap (λ o. option_map_or (λ z. slice_set ss n (staged y z)) o ss) e
-
-pub jobs-staged : (n : ℕ) (y : Stage) (ss : List Seat) → map job_of (with_stage n y ss) ≡ map job_of ss
-jobs-staged n y ss = by (slice_get ss n) refl
-  where
-    by : (o : Option Seat) → slice_get ss n ≡ o
-        → map job_of (option_map_or (λ z. slice_set ss n (staged y z)) o ss) ≡ map job_of ss
-    by None e = refl
-    by (Some s) e = same-images job_of ss n s (staged y s) e refl
 
 -- one more is due
 due-more : (ss : List Seat) (n : ℕ) (y : Stage) (s : Seat) → slice_get ss n ≡ Some s → is_due s.stage ≡ false
@@ -127,7 +119,7 @@ module _ (r s : OpenRun) (i n : ℕ) (y : Stage) (before : code.Instance) (old n
           opener = w.set.opener;
           numbers = ap (λ l. l.items) w.set.numbers;
           is_busy = w.set.is_busy;
-          jobs = ap (map job_of) seats-then ∙ jobs-staged n y (seats_of before);
+          jobs = ap (map job_of) seats-then ∙ staged-jobs n y (seats_of before);
         }));
   }
 
@@ -172,7 +164,7 @@ module _ (r s : OpenRun) (i n : ℕ) (y : Stage) (before : code.Instance) (old n
           keeps = subst (λ f. Keeps (run_view r.run).flows plan r.pool f v) (sym w.has_stage.frame) k.keeps;
           known =
               ap (map job_of) w.has_stage.seats
-              ∙ jobs-staged n y old.seats.seats
+              ∙ staged-jobs n y old.seats.seats
               ∙ k.known
               ∙ ap (λ (f : Frame). known_jobs f.intakes) (sym w.has_stage.frame);
           levels = w.has_stage.levels ∙ k.levels;
@@ -198,7 +190,7 @@ module _ (r s : OpenRun) (i n : ℕ) (y : Stage) (before : code.Instance) (old n
     moved-to = record {
       name = refl;
       flow = refl;
-      jobs = jobs-staged n y x.seats;
+      jobs = staged-jobs n y x.seats;
       seats = λ e is.
           ap seats_of (sym (at-after e is))
           ∙ seats-then

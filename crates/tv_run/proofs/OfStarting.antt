@@ -1,9 +1,10 @@
 -- A run of which nothing is done stands: it has the main instance alone.
-use Rattle.std.specs.Prelude.{◌≡◌, refl, ℕ, suc, ◌+◌, ◌<◌, ◌≤◌, Bool, true, false, if◌then◌else◌, List, [], ◌∷◌, None, Option, Some, count_by, filter, is_none, is_some, length, map, option_and_then, option_map, slice_get, vec_capacity}
+use Rattle.std.specs.Prelude.{◌≡◌, refl, ℕ, ◌+◌, ◌<◌, ◌≤◌, Bool, true, false, if◌then◌else◌, List, [], ◌∷◌, None, Option, Some, count_by, filter, is_none, is_some, length, map, option_and_then, option_map, slice_get, vec_capacity}
 use Rattle.std.proofs.Common.{ap, arith, inl, inr, subst, sym, ◌∙◌}
 use Rattle.std.proofs.lemmas.Option.{none-some, same_Some}
 use Rattle.std.proofs.lemmas.Simd.{map-map}
-use Rattle.tv_value.specs.Orders.{named, same_name}
+use Rattle.tv_lemmas.proofs.Lists.{get-within}
+use Rattle.tv_value.specs.Orders.{named}
 use Rattle.tv_value.specs.Values.{Name, Value}
 use Rattle.tv_value.specs.Views.{view}
 use Rattle.tv_value.specs.declared.value.Value as code_value
@@ -18,7 +19,6 @@ use Rattle.tv_check.specs.RunViews.{run_view}
 use Rattle.tv_check.specs.declared.run.CheckedRun.{CheckedRun}
 use Rattle.tv_frame.specs.Tables.{levels_in}
 use Rattle.tv_frame.specs.declared.frame.Frame.{Frame}
-use Rattle.tv_frame.proofs.OfHoldAround.{within-get}
 use Rattle.tv_beside.proofs.OfTheirs.{first-theirs}
 use Rattle.tv_model.specs.Agreeing.{FlowAgrees}
 use Rattle.tv_model.specs.Jobs.{Job}
@@ -49,6 +49,7 @@ use Rattle.tv_run.specs.Standing.{Fits, OutsAre, Stands, StandsOpen, failed_coun
 use Rattle.tv_run.specs.declared.instances.Instance as code
 use Rattle.tv_run.specs.declared.run.OpenRun.{OpenRun}
 use Rattle.tv_run.proofs.OfNames.{are-distinct, are-jobs, are-numbered}
+use Rattle.tv_run.proofs.OfOutputs.{named-at}
 
 -- ---- nothing is settled
 
@@ -106,22 +107,12 @@ module _ (r : OpenRun) (instances : r.instances.items ≡ []) (jobs : r.jobs.ite
 
 -- ---- the main flow
 
-named-at : {A : Type 0} (n : Name) (xs : List (Name × A)) (y : Name × A) → slice_get xs (position n xs) ≡ Some y
-    → named n xs ≡ Some y.1
-named-at n [] y e = absurd (none-some y e)
-named-at {A = A} n (x ∷ xs) y e = by (same_name n x.0) (named-at n xs y) e
-  where
-    by : (b : Bool) → (slice_get xs (position n xs) ≡ Some y → named n xs ≡ Some y.1)
-        → slice_get (x ∷ xs) (if b then 0 else suc (position n xs)) ≡ Some y → (if b then Some x.1 else named n xs) ≡ Some y.1
-    by true r h = ap (option_map (λ (z : Name × A). z.1)) h
-    by false r h = r h
-
 -- the main flow of a checked run, by its number
 pub main-there : (run : CheckedRun) (k : ℕ) → k ≡ position (run_view run).main (run_view run).flows
     → k < length (run_view run).flows
     → (f : Name × Flow) × (slice_get (run_view run).flows k ≡ Some f) × IsMainFlow (run_view run) f.1
 main-there run k is low =
-    let f = within-get (run_view run).flows k low in (
+    let f = get-within (run_view run).flows k low in (
       f.0,
       f.1,
       record {

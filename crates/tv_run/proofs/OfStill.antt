@@ -1,7 +1,8 @@
 -- Where nothing can be settled of an instance, nothing can be once one of its jobs no longer waits, or is taken.
 use Rattle.std.specs.Option.{option_map_or}
-use Rattle.std.specs.Prelude.{◌≡◌, refl, ℕ, zero, suc, ◌==◌, ◌&&◌, ◌||◌, Bool, true, false, if◌then◌else◌, List, [], ◌∷◌, Some, slice_get}
+use Rattle.std.specs.Prelude.{◌≡◌, refl, ℕ, zero, suc, ◌==◌, ◌&&◌, ◌||◌, true, false, if◌then◌else◌, List, [], ◌∷◌, Some, slice_get}
 use Rattle.std.proofs.Common.{ap, subst, sym, ◌∙◌}
+use Rattle.tv_lemmas.proofs.Tests.{or-second}
 use Rattle.tv_value.specs.Nested.{Place}
 use Rattle.tv_value.specs.Values.{JobName, Name}
 use Rattle.tv_flow.specs.Flows.{Flow, Step}
@@ -63,10 +64,6 @@ module _ (t : Name) (r : Place) (es : Events) where
     fresh = fresh-so e k h.fresh;
   }
 
-right-none : (a b : Bool) → (a || b) ≡ false → b ≡ false
-right-none true b h = absurd (true≠false h)
-right-none false b h = h
-
 -- ---- a seat at another stage
 
 module _ (levels : Flow → Name → ℕ) (x : Instance) (v : View) (n : ℕ) (s : Seat) (y : Stage)
@@ -97,7 +94,7 @@ module _ (levels : Flow → Name → ℕ) (x : Instance) (v : View) (n : ℕ) (s
 
     ready-before : (j : Name × Place) → IsReadyJob (levels x.flow) later j → IsReadyJob (levels x.flow) v j
     ready-before j h = record {
-      idle = right-none (is_spot j.0 j.1 t r) (is_taken v.events j.0 j.1) h.idle;
+      idle = or-second (is_spot j.0 j.1 t r) (is_taken v.events j.0 j.1) h.idle;
       without_result = h.without_result;
       after =
           sym (ended-so t r v.events (levels x.flow) (last_first (ranked v.flow.steps) []) (after_of v j.0)) ∙ h.after;

@@ -2,6 +2,7 @@
 use Rattle.std.specs.Option.{option_map_or}
 use Rattle.std.specs.Prelude.{◌≡◌, refl, ℕ, ◌==◌, ◌&&◌, Bool, true, false, if◌then◌else◌, None, Option, Some, is_some}
 use Rattle.std.proofs.Common.{ap, eq-eqb, eqb-true, sym, ◌∙◌}
+use Rattle.std.specs.Cmp.Derive.{one_truth}
 use Rattle.tv_value.specs.Values.{Name}
 use Rattle.tv_gate.specs.Outcomes.{Giving}
 use Rattle.tv_flow.specs.Flows.{Document}
@@ -11,7 +12,6 @@ use Rattle.tv_model.specs.Made.{Meaning}
 use Rattle.tv_model.proofs.Tests.{true≠false}
 use Rattle.tv_history.specs.Entries.{History, is_out}
 use Rattle.tv_history.specs.Histories.{has_open_instance, is_ask, is_ready, is_running, is_settled, next_ask}
-use Rattle.tv_history.proofs.Tests.{same_tests}
 use Rattle.tv_outcomes.specs.Activities.{last_activity}
 use Rattle.tv_framing.specs.Views.{View}
 use Rattle.tv_seats.specs.Stages.{is_waiting}
@@ -106,7 +106,7 @@ module _ (gives : Giving) (d : Document) (m : Meaning) (past : History) (levels 
 
       eqb-turned : (k l : ℕ) → (k == l) ≡ (l == k)
       eqb-turned k l =
-          same_tests (k == l) (l == k) (λ e. eq-eqb l k (sym (eqb-true k l e))) (λ e. eq-eqb k l (sym (eqb-true l k e)))
+          one_truth (k == l) (l == k) (λ e. eq-eqb l k (sym (eqb-true k l e))) (λ e. eq-eqb k l (sym (eqb-true l k e)))
   out-is a t (stage.Idle b u) h w = not-out m past j a t h.0.is_out
   out-is a t (stage.Aside b) h w = not-out m past j a t h.0.is_out
   out-is a t (stage.Nested k) h w = not-out m past j a t h.is_out

@@ -1,12 +1,13 @@
 -- A job of which a try is out: what it asks next, and the stage of its seat.
 use Rattle.std.specs.Option.{option_map_or}
-use Rattle.std.specs.Prelude.{◌≡◌, refl, ℕ, ◌==◌, ◌&&◌, Bool, true, false, if◌then◌else◌, is_some, None, Option, Some}
+use Rattle.std.specs.Prelude.{◌≡◌, refl, ℕ, ◌==◌, ◌&&◌, Bool, true, false, if◌then◌else◌, None, Option, Some}
 use Rattle.std.proofs.Common.{ap, eqb-true, subst, sym, ◌∙◌}
 use Rattle.std.proofs.lemmas.Option.{none-some, same_Some}
+use Rattle.std.specs.Cmp.{first_so, second_so}
 use Rattle.tv_dispatch.specs.Jobs.{Ask}
 use Rattle.tv_model.specs.Jobs.{Job}
 use Rattle.tv_model.specs.Made.{Meaning}
-use Rattle.tv_model.proofs.Tests.{left_true, right_true, true≠false}
+use Rattle.tv_model.proofs.Tests.{true≠false}
 use Rattle.tv_history.specs.Entries.{History, is_out}
 use Rattle.tv_history.specs.Histories.{is_ask, next_ask}
 use Rattle.tv_seats.specs.declared.stage.Stage.{Stage}
@@ -16,8 +17,8 @@ use Rattle.tv_entries.specs.Calls.{try_out}
 
 is_ask-parts : (a u : ℕ) (k : Ask) → is_ask a u k ≡ true → (a ≡ k.activity) × (u ≡ k.attempt)
 is_ask-parts a u k h = (
-  eqb-true a k.activity (left_true (a == k.activity) (u == k.attempt) h),
-  eqb-true u k.attempt (right_true (a == k.activity) (u == k.attempt) h),
+  eqb-true a k.activity (first_so (a == k.activity) (u == k.attempt) h),
+  eqb-true u k.attempt (second_so (a == k.activity) (u == k.attempt) h),
 )
 
 -- the try is out, and is what the job asks next
@@ -56,7 +57,3 @@ out-stage past j (stage.Idle b w) a u k h o = absurd (true≠false (sym o.out �
 out-stage past j (stage.Aside b) a u k h o = absurd (true≠false (sym o.out ∙ h.0.is_out))
 out-stage past j (stage.Nested i) a u k h o = absurd (true≠false (sym o.out ∙ h.is_out))
 out-stage past j stage.Settled a u k h o = absurd (true≠false (sym o.out ∙ h.1))
-
-pub none-there : {A : Type 0} (o : Option A) → is_some o ≡ false → o ≡ None
-none-there None h = refl
-none-there (Some x) h = absurd (true≠false h)

@@ -4,8 +4,10 @@ use Rattle.std.specs.Option.{option_map_or}
 use Rattle.std.proofs.Common.{ap, inl, inr, subst, sym, ◌∙◌}
 use Rattle.std.proofs.lemmas.Bool.{false_from_ne_true}
 use Rattle.std.proofs.lemmas.Option.{none-some, same_Some}
+use Rattle.std.specs.Cmp.{first_so, second_so}
 use Rattle.tv_value.specs.Orders.{same_job}
 use Rattle.tv_value.specs.Values.{JobName, Name}
+use Rattle.tv_value.proofs.OfJobNames.{same_job_decides}
 use Rattle.tv_gate.specs.Outcomes.{Giving}
 use Rattle.tv_flow.specs.Flows.{Document}
 use Rattle.tv_depths.specs.Steps.{spot}
@@ -13,7 +15,7 @@ use Rattle.tv_model.specs.Jobs.{Job}
 use Rattle.tv_model.specs.Made.{Meaning}
 use Rattle.tv_model.specs.Meanings.{meaning}
 use Rattle.tv_model.specs.Members.{In}
-use Rattle.tv_model.proofs.Tests.{both_true, left_true, right_true, same_job_decides, true≠false}
+use Rattle.tv_model.proofs.Tests.{both_true, true≠false}
 use Rattle.tv_history.specs.Entries.{History}
 use Rattle.tv_history.specs.Histories.{has_open_instance}
 use Rattle.tv_history.proofs.OneWorker.{found-first}
@@ -53,10 +55,10 @@ module _ (gives : Giving) (d : Document) (passes : Job → Bool) where
   is-both I j h k = both_true (is_inside I j.name) (passes j) h k
 
   within : (I : JobName) (j : Job) → passes_in I j ≡ true → is_inside I j.name ≡ true
-  within I j h = left_true (is_inside I j.name) (passes j) h
+  within I j h = first_so (is_inside I j.name) (passes j) h
 
   does : (I : JobName) (j : Job) → passes_in I j ≡ true → passes j ≡ true
-  does I j h = right_true (is_inside I j.name) (passes j) h
+  does I j h = second_so (is_inside I j.name) (passes j) h
 
   pub one-first : (I : JobName) (o : Option Job) → IsFirstWithin gives d passes I o → first_inside I ≡ o
   one-first I None w =

@@ -4,7 +4,9 @@ use Rattle.std.specs.Prelude.{◌≡◌, refl, ℕ, Bool, true, false, not, nat_
 use Rattle.std.proofs.Common.{ap, inl, inr, subst, sym, ◌∙◌}
 use Rattle.std.proofs.lemmas.Bool.{lt-ltb, ltb-true, not-true}
 use Rattle.std.proofs.lemmas.Option.{same_Some}
+use Rattle.std.specs.Cmp.{first_so, second_so}
 use Rattle.tv_lemmas.proofs.Cases.{on_either, on_or, on_test}
+use Rattle.tv_lemmas.proofs.Tests.{from-false_true}
 use Rattle.tv_value.specs.Activities.{Activity, nested, service}
 use Rattle.tv_value.specs.Nested.{Place}
 use Rattle.tv_value.specs.Values.{Name}
@@ -18,7 +20,7 @@ use Rattle.tv_model.specs.Made.{Meaning}
 use Rattle.tv_model.specs.Meanings.{meaning}
 use Rattle.tv_model.specs.Members.{In}
 use Rattle.tv_model.specs.Turns.{is_bounced}
-use Rattle.tv_model.proofs.Tests.{left_true, or_left, or_right, right_true, true≠false}
+use Rattle.tv_model.proofs.Tests.{or_left, or_right, true≠false}
 use Rattle.tv_history.specs.Entries.{History}
 use Rattle.tv_history.specs.Histories.{has_open_instance, is_ready, may_go_on, next_ask}
 use Rattle.tv_history.proofs.Ready.{AnyNumber, document-whole}
@@ -53,19 +55,9 @@ use Rattle.tv_run.specs.Standing.{Stands, run_of}
 use Rattle.tv_run.specs.Walking.{IsNumber, MayBegin, is_service_kind, is_sought, passes}
 use Rattle.tv_run.specs.declared.run.OpenRun.{OpenRun}
 use Rattle.tv_run.proofs.OfWalkOpen.{is-open, sit-there, spot-known, there, viewed}
+use Rattle.tv_run.proofs.OfTellings.{waits-alone}
 
 -- ---- stages
-
-never : {A : Type 0} → false ≡ true → A
-never e = absurd (true≠false (sym e))
-
-pub waits-alone : (x : Stage) → is_waiting x ≡ true → x ≡ stage.Waiting
-waits-alone stage.Waiting h = refl
-waits-alone (stage.Out a t) h = never h
-waits-alone (stage.Idle a t) h = never h
-waits-alone (stage.Aside a) h = never h
-waits-alone (stage.Nested i) h = never h
-waits-alone stage.Settled h = never h
 
 pub idle-waits : (x : Stage) → is_idle x ≡ true → is_waiting x ≡ true → ⊥
 idle-waits x h k = true≠false (sym h ∙ ap is_idle (waits-alone x k))
@@ -136,7 +128,7 @@ module _ (gives : Giving) (r : OpenRun) (xs : Instances) (st : Stands gives r xs
 
     pub ready-waiting : is_ready m past j ≡ true → is_waiting s.stage ≡ true
     ready-waiting h =
-        left_true (is_waiting s.stage) (is_ready m past j)
+        first_so (is_waiting s.stage) (is_ready m past j)
         (sym (ready-waits m past j s.stage (runs-is past j s.stage stage-is) (over-is past j s.stage stage-is)) ∙ h)
 
     bound-told : IsBoundAsTold v j spot_now
@@ -217,15 +209,15 @@ module _ (gives : Giving) (r : OpenRun) (xs : Instances) (st : Stands gives r xs
           (is_waiting s.stage && is_ready m past j && not (is_bounced j.ending) && fewer) (sym by-seat.goes_on ∙ h)
           (λ e. on_or (is_idle s.stage) (is_aside s.stage) e (λ q. inl q) (λ q. inr (inl q)))
           (λ e.
-          let a = left_true (is_waiting s.stage && is_ready m past j && not (is_bounced j.ending)) fewer e in
-          let b = left_true (is_waiting s.stage && is_ready m past j) (not (is_bounced j.ending)) a in
+          let a = first_so (is_waiting s.stage && is_ready m past j && not (is_bounced j.ending)) fewer e in
+          let b = first_so (is_waiting s.stage && is_ready m past j) (not (is_bounced j.ending)) a in
           let good = not-true (is_bounced j.ending)
-          (right_true (is_waiting s.stage && is_ready m past j) (not (is_bounced j.ending)) a) in
+          (second_so (is_waiting s.stage && is_ready m past j) (not (is_bounced j.ending)) a) in
           inr
           (inr (
             ltb-true (running_count s.step x.seats) t.1.jobs
-                (right_true (is_waiting s.stage && is_ready m past j && not (is_bounced j.ending)) fewer e),
-            ready-seat (right_true (is_waiting s.stage) (is_ready m past j) b),
+                (second_so (is_waiting s.stage && is_ready m past j && not (is_bounced j.ending)) fewer e),
+            ready-seat (second_so (is_waiting s.stage) (is_ready m past j) b),
             subst (BindsFault v s) good binds,
           )))
 
@@ -276,7 +268,7 @@ module _ (gives : Giving) (r : OpenRun) (xs : Instances) (st : Stands gives r xs
 
       pub by-passes : (k : Seeking) → GoesOnAt v x.seats t.1.jobs (asides k) (sought k) s → passes gives r k j ≡ true
       by-passes seeking.Offers (inl e) = by-next.offered (next-seat.idle e) ∙ by-going (inl e)
-      by-passes seeking.Offers (inr (inl e)) = never e.0
+      by-passes seeking.Offers (inr (inl e)) = from-false_true e.0
       by-passes seeking.Offers (inr (inr c)) =
           let w = begins-now c.1 in
           by-next.offered ((next-seat.waits w.0 w.2).0 ∙ sym (sought-first t.1.activities) ∙ c.0)

@@ -4,6 +4,7 @@ use Rattle.std.proofs.Common.{ap, arith, inl, inr, length-append, subst, sym, �
 use Rattle.std.proofs.lemmas.Bool.{false_from_ne_true, ltb-false, ltb-true}
 use Rattle.std.proofs.lemmas.Option.{same_Some, slice_get_within}
 use Rattle.tv_lemmas.proofs.Cases.{on_test}
+use Rattle.tv_lemmas.proofs.Lists.{get-within}
 use Rattle.tv_value.specs.Nested.{Place}
 use Rattle.tv_value.specs.Values.{JobName, Name}
 use Rattle.tv_gate.specs.Outcomes.{Giving}
@@ -13,16 +14,16 @@ use Rattle.tv_model.proofs.Tests.{true≠false}
 use Rattle.tv_history.specs.Entries.{History}
 use Rattle.tv_order.specs.JobOrder.{place_before}
 use Rattle.tv_order.proofs.OfDocuments.{name-length}
+use Rattle.tv_order.proofs.OfStill.{inside-parts}
 use Rattle.tv_framing.specs.Views.{View}
 use Rattle.tv_frame.specs.Tables.{levels_in}
-use Rattle.tv_frame.proofs.OfHoldAround.{within-get}
 use Rattle.tv_turn.specs.FirstReady.{by_falling_rank}
 use Rattle.tv_seats.specs.Seats.{Seat}
 use Rattle.tv_seated.proofs.OfLists.{in-front}
 use Rattle.tv_standing.specs.Offers.{ComesNotBefore}
 use Rattle.tv_forest.specs.Forest.{Instance, Instances, IsAt, IsJobAt}
 use Rattle.tv_firsts.specs.FirstWithin.{IsFirstOfSeats, IsFirstWithin, IsFoundAt, Passing}
-use Rattle.tv_firsts.proofs.OfFirsts.{first-by_seats, inside-parts}
+use Rattle.tv_firsts.proofs.OfFirsts.{first-by_seats}
 use Rattle.tv_firsts.proofs.OfHistories.{first-of_all_jobs}
 use Rattle.tv_entries.specs.Runs.{past_of}
 use Rattle.tv_open.specs.Quiet.{AreGoing}
@@ -66,7 +67,7 @@ module _ (gives : Giving) (r : OpenRun) (xs : Instances) (st : Stands gives r xs
 
       was : slice_get g.passed p ≡ Some step
       was =
-          let u = within-get g.passed p (let m = as-many in omega (arith, low, m)) in
+          let u = get-within g.passed p (let m = as-many in omega (arith, low, m)) in
           u.1
           ∙ ap Some
           (same_Some u.0 step

@@ -2,7 +2,7 @@
 use Rattle.std.specs.Prelude.{◌≡◌, ℕ, ◌<◌, List, Some, length, slice_get}
 use Rattle.std.proofs.Common.{ap, get_or, subst, sym, ◌∙◌}
 use Rattle.std.proofs.lemmas.Option.{get_or_from_slice_get}
-use Rattle.tv_frame.proofs.OfHoldAround.{within-get}
+use Rattle.tv_lemmas.proofs.Lists.{get-within}
 use Rattle.tv_forest.specs.Forest.{Instance, Instances, IsAt}
 use Rattle.tv_run.specs.Standing.{Fits, numbers_of}
 use Rattle.tv_run.specs.declared.instances.Instance as code
@@ -28,7 +28,7 @@ module _ (r : OpenRun) (xs : Instances) (fits : Fits r xs) (i n : ℕ) (x : Inst
   pub number-is : n < length e.jobs.items → (k : ℕ) → k ≡ get_or e.jobs.items n k → slice_get (numbers_of r) k ≡ Some (i, n)
   number-is low k is =
       let c = instance-there r xs fits i x at in
-      let l = within-get e.jobs.items n low in
+      let l = get-within e.jobs.items n low in
       let same = at-index e.jobs.items n l.0 k is l.1 in
       c.2.numbered n k
       (ap (λ (q : code.Instance). slice_get q.jobs.items n) (sym itself-is) ∙ l.1 ∙ ap Some (sym same))

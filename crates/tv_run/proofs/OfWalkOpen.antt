@@ -1,34 +1,30 @@
 -- An open instance of a run that stands: its code, its seats and jobs, and its steps in turn.
-use Rattle.std.specs.Prelude.{◌≡◌, refl, ℕ, ◌+◌, ◌<◌, true, List, [], ◌∷◌, ◌++◌, None, Option, Some, length, map, option_map, slice_get}
+use Rattle.std.specs.Prelude.{◌≡◌, ℕ, ◌+◌, ◌<◌, true, List, [], ◌∷◌, ◌++◌, Some, length, map, slice_get}
 use Rattle.std.proofs.Common.{ap, get_or, subst, sym, ◌∙◌}
 use Rattle.std.proofs.lemmas.List.{length-map}
-use Rattle.std.proofs.lemmas.Option.{get_or_from_slice_get, none-some, same_Some, slice_get_within}
+use Rattle.std.proofs.lemmas.Option.{get_or_from_slice_get, same_Some, slice_get_within}
+use Rattle.tv_lemmas.proofs.Lists.{get-within}
 use Rattle.tv_value.specs.Values.{JobName, Name}
 use Rattle.tv_gate.specs.Outcomes.{Giving}
 use Rattle.tv_flow.specs.Flows.{Document, Flow, Step}
 use Rattle.tv_flow.specs.Formed.{is_ascending}
 use Rattle.tv_flow.specs.Views.{flow_view}
 use Rattle.tv_naming.specs.Numbers.{position}
-use Rattle.tv_check.specs.FlowPlanViews.{flow_plan_view}
-use Rattle.tv_check.specs.Plans as plans
-use Rattle.tv_check.specs.Plans.{flow_plan}
 use Rattle.tv_check.specs.RunViews.{run_view}
 use Rattle.tv_check.specs.declared.plans.FlowPlan.{FlowPlan}
-use Rattle.tv_check.specs.declared.run.CheckedRun.{CheckedRun}
 use Rattle.tv_outputs.specs.Known.{Nodes}
 use Rattle.tv_model.specs.Jobs.{Job}
 use Rattle.tv_model.specs.Members.{In}
 use Rattle.tv_history.specs.Entries.{History}
 use Rattle.tv_framing.specs.Views.{View}
 use Rattle.tv_frame.specs.Tables.{levels_in}
-use Rattle.tv_frame.proofs.OfHoldAround.{within-get}
 use Rattle.tv_frame.proofs.OfKeeping.{kept-wired}
 use Rattle.tv_seats.specs.Seats.{Seat}
 use Rattle.tv_turn.specs.FirstReady.{by_falling_rank}
 use Rattle.tv_turn.proofs.OfRanks.{at-in, has-number, number-of, numbers-step}
 use Rattle.tv_viewed.specs.InRun.{IsJobThere}
 use Rattle.tv_seated.specs.Seated.{Sit, spot_of}
-use Rattle.tv_seated.proofs.OfLists.{get-image, in-behind, is-member, of-image, place-of}
+use Rattle.tv_seated.proofs.OfLists.{in-behind, is-member, place-of}
 use Rattle.tv_standing.specs.Seats.{IsJobOf}
 use Rattle.tv_standing.proofs.OfSeats.{seat-job}
 use Rattle.tv_standing.proofs.OfTold.{steps-rise}
@@ -37,35 +33,17 @@ use Rattle.tv_entries.specs.Runs.{past_of}
 use Rattle.tv_open.specs.Quiet.{AreGoing}
 use Rattle.tv_open.specs.Standing.{IsOpen, IsSome}
 use Rattle.tv_open.specs.declared.open.Open.{Open}
-use Rattle.tv_run.specs.Looks.{IsFlow}
 use Rattle.tv_run.specs.Standing.{IsKept, IsOpenOf, Stands, run_of}
 use Rattle.tv_run.specs.declared.instances.Instance as code
 use Rattle.tv_run.specs.declared.run.OpenRun.{OpenRun}
 use Rattle.tv_run.proofs.OfJobs.{instance-there, open-is, seats-open}
+use Rattle.tv_run.proofs.OfPlans.{plan-there}
 
 -- ---- plans
 
--- each flow of a checked document has a plan
-pub flow-planned : (run : CheckedRun) (k : ℕ) (f : Flow) → IsFlow (run_view run) k f
-    → (plan : FlowPlan) × (flow_view plan.flow ≡ f)
-flow-planned run k f e = by (slice_get (run_view run).flows k) (λ g h. there g h) e
-  where
-    there : (g : Name × Flow) → slice_get (run_view run).flows k ≡ Some g → (plan : FlowPlan) × (flow_view plan.flow ≡ g.1)
-    there g h =
-        let p = of-image flow_plan_view run.plans k (flow_plan g.1)
-        (ap (λ (ps : List plans.FlowPlan). slice_get ps k) run.kept.1.0
-        ∙ get-image (λ (w : Name × Flow). flow_plan w.1) (run_view run).flows k g h) in
-        (p.0, ap (λ (q : plans.FlowPlan). q.flow) p.2)
-
-    by : (o : Option (Name × Flow))
-        → ((g : Name × Flow) → o ≡ Some g → (plan : FlowPlan) × (flow_view plan.flow ≡ g.1))
-        → option_map (λ (x : Name × Flow). x.1) o ≡ Some f → (plan : FlowPlan) × (flow_view plan.flow ≡ f)
-    by None t h = absurd (none-some f h)
-    by (Some g) t h = let p = t g refl in (p.0, p.1 ∙ same_Some g.1 f h)
-
 pub get-at : (ns : List ℕ) (n : ℕ) → n < length ns → slice_get ns n ≡ Some (get_or ns n 0)
 get-at ns n low =
-    let e = within-get ns n low in
+    let e = get-within ns n low in
     e.1 ∙ ap Some (sym (get_or_from_slice_get ns n e.0 0 e.1))
 
 -- the code has instance i open as p
@@ -137,7 +115,7 @@ module _ (gives : Giving) (r : OpenRun) (xs : Instances) (st : Stands gives r xs
   seats-there = sym (seats-open there.itself there.opened.itself [] there.opened.there) ∙ there.kept.seats
 
   abbrev pub planned : (plan : FlowPlan) × (flow_view plan.flow ≡ x.flow)
-  planned = flow-planned r.run there.itself.flow x.flow there.kept.flow
+  planned = plan-there r.run there.itself.flow x.flow there.kept.flow
 
   pub is-open : IsOpen d planned.0 r.pool there.opened.itself v
   is-open = there.opened.is_open planned.0 planned.1

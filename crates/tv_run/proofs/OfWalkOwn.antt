@@ -2,6 +2,7 @@
 use Rattle.std.specs.Option.{option_map_or}
 use Rattle.std.specs.Prelude.{◌≡◌, ℕ, ◌<◌, Bool, Option, Some, length, slice_get}
 use Rattle.std.proofs.Common.{ap, subst, ◌∙◌}
+use Rattle.tv_lemmas.proofs.Lists.{get-within}
 use Rattle.tv_value.specs.Values.{Name}
 use Rattle.tv_gate.specs.Outcomes.{Giving}
 use Rattle.tv_flow.specs.Flows.{Document, Flow, Step}
@@ -10,7 +11,6 @@ use Rattle.tv_dispatch.specs.declared.plan.Plan.{Plan}
 use Rattle.tv_check.specs.RunViews.{run_view}
 use Rattle.tv_check.specs.declared.plans.FlowPlan.{FlowPlan}
 use Rattle.tv_framing.specs.Views.{View}
-use Rattle.tv_frame.proofs.OfHoldAround.{within-get}
 use Rattle.tv_forest.specs.Forest.{Instance, Instances, IsAt}
 use Rattle.tv_open.specs.Firsts.{IsFirstOwn, asides, step_limit}
 use Rattle.tv_open.specs.Standing.{IsOpen}
@@ -36,7 +36,7 @@ module _ (gives : Giving) (r : OpenRun) (xs : Instances) (st : Stands gives r xs
     limit = step_limit (flow_view plan.flow) step
 
     step-at : (t : Name × Step) × (slice_get x.flow.steps step ≡ Some t)
-    step-at = within-get x.flow.steps step low
+    step-at = get-within x.flow.steps step low
 
     at-step : slice_get v.flow.steps step ≡ Some step-at.0
     at-step = ap (λ (f : Flow). slice_get f.steps step) (same-flow gives r xs st i x v at told) ∙ step-at.1

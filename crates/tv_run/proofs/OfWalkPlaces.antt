@@ -10,19 +10,13 @@ use Rattle.tv_lemmas.proofs.Cases.{on_test}
 use Rattle.tv_value.specs.Nested.{Place}
 use Rattle.tv_model.proofs.Tests.{true≠false}
 use Rattle.tv_order.specs.JobOrder.{place_before}
-use Rattle.tv_turn.proofs.OfRanks.{place-is}
+use Rattle.tv_open.proofs.OfFirstSeats.{before-chain, before-turned}
 
 abbrev is_before : Place → Place → Bool
 is_before p q = is_lt (slice_cmp nat_cmp p q)
 
 places : IsStrictWeakOrder is_before
 places = ranks_by nat_list_cmp_total (λ (p : Place). p)
-
-pub before-chain : (p q r : Place) → place_before p q ≡ false → place_before q r ≡ false → place_before p r ≡ false
-before-chain p q r h k = place-is p r ∙ places.chain p q r (sym (place-is p q) ∙ h) (sym (place-is q r) ∙ k)
-
-pub before-turned : (p q : Place) → place_before p q ≡ true → place_before q p ≡ false
-before-turned p q h = place-is q p ∙ places.one_way p q (sym (place-is p q) ∙ h)
 
 pub before-then : (p q r : Place) → place_before p q ≡ true → place_before q r ≡ true → place_before p r ≡ true
 before-then p q r h k =

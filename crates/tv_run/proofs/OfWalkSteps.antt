@@ -25,6 +25,7 @@ use Rattle.tv_firsts.specs.FirstWithin.{IsFirstWithin}
 use Rattle.tv_entries.specs.Runs.{past_of}
 use Rattle.tv_open.specs.Firsts.{GoesOnAt, IsFirstAt, asides, stands_before}
 use Rattle.tv_open.specs.declared.firsts.Seeking.{Seeking}
+use Rattle.tv_open.proofs.OfFirstSeats.{before-chain, before-turned}
 use Rattle.tv_run.specs.Jobs.{AreInRun}
 use Rattle.tv_run.specs.Looks.{tries_of}
 use Rattle.tv_run.specs.Standing.{Stands, numbers_of, run_of}
@@ -32,7 +33,7 @@ use Rattle.tv_run.specs.Walking.{IsFoundAtJob, IsFoundAtStep, IsFoundBefore, IsF
 use Rattle.tv_run.specs.declared.run.OpenRun.{OpenRun}
 use Rattle.tv_run.proofs.OfWalkGoing.{by-passes, may-begin, opens-by, passes-by, passes-shut}
 use Rattle.tv_run.proofs.OfWalkOpen.{job-there, step-there}
-use Rattle.tv_run.proofs.OfWalkPlaces.{before-chain, before-itself, before-then, before-turned}
+use Rattle.tv_run.proofs.OfWalkPlaces.{before-itself, before-then}
 
 -- nothing is found at the first so many seats of a list
 abbrev pub NoneAmong : Giving → OpenRun → Instances → Seeking → ℕ → Instance → List ℕ → ℕ → Type 0

@@ -3,10 +3,12 @@ use Rattle.std.specs.Prelude.{◌≡◌, refl, ℕ, List, [], ◌∷◌, Bool, t
 use Rattle.std.specs.List.{list_any}
 use Rattle.std.proofs.Common.{ap, subst, sym, ◌∙◌}
 use Rattle.std.proofs.lemmas.Bool.{false_from_ne_true, not-true}
+use Rattle.std.specs.Cmp.{first_so, second_so}
 use Rattle.tv_lemmas.proofs.Cases.{on_either}
 use Rattle.tv_value.specs.Nested.{Place}
 use Rattle.tv_value.specs.Orders.{same_job}
 use Rattle.tv_value.specs.Values.{JobName, Name}
+use Rattle.tv_value.proofs.OfJobNames.{same_job_decides}
 use Rattle.tv_gate.specs.Outcomes.{Giving}
 use Rattle.tv_flow.specs.Flows.{Document, Flow}
 use Rattle.tv_model.specs.Jobs.{Job}
@@ -14,7 +16,7 @@ use Rattle.tv_model.specs.Made.{Meaning}
 use Rattle.tv_model.specs.Meanings.{meaning}
 use Rattle.tv_model.specs.Members.{In}
 use Rattle.tv_model.proofs.Members.{not-longer}
-use Rattle.tv_model.proofs.Tests.{both_true, left_true, or_right, right_true, same_job_decides, true≠false}
+use Rattle.tv_model.proofs.Tests.{both_true, or_right, true≠false}
 use Rattle.tv_history.specs.Entries.{Entry, History, accepted, ended, handed_out, is_ended_entry, is_out, recalled}
 use Rattle.tv_history.specs.Histories.{all_known, can_end, is_legal, is_legal_after, is_open, is_running, is_settled, may_go_on}
 use Rattle.tv_history.proofs.Done.{ended-all}
@@ -114,7 +116,7 @@ module _ (gives : Giving) (d : Document) (past : History) where
       let shut = is_open past j.instance && not (is_running past j) in
       on_either (going_on gives the sound jobs past j h) (λ e. (idle_begun gives the sound jobs past j e).1)
       (λ e. not-true (is_settled past j)
-      (right_true shut (not (is_settled past j)) (left_true (shut && not (is_settled past j)) (all_known the past j.waits) e)))
+      (second_so shut (not (is_settled past j)) (first_so (shut && not (is_settled past j)) (all_known the past j.waits) e)))
 
   -- nothing of a settled job goes out
   stays-in : (j : Job) → In j the.jobs → is_settled past j ≡ true → is_out past j.name ≡ false

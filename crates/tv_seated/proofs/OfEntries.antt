@@ -3,9 +3,11 @@ use Rattle.std.specs.Prelude.{◌≡◌, ◌≢◌, refl, ℕ, List, [], ◌∷�
 use Rattle.std.specs.List.{list_any}
 use Rattle.std.proofs.Common.{ap, append-nil, subst, sym, ◌∙◌}
 use Rattle.std.proofs.lemmas.Bool.{false_from_ne_true}
+use Rattle.std.specs.Cmp.{first_so, second_so}
 use Rattle.tv_value.specs.Nested.{Place}
 use Rattle.tv_value.specs.Orders.{same_job}
 use Rattle.tv_value.specs.Values.{JobName, Name}
+use Rattle.tv_value.proofs.OfJobNames.{same_job_decides}
 use Rattle.tv_gate.specs.Outcomes.{Giving}
 use Rattle.tv_flow.specs.Flows.{Document}
 use Rattle.tv_instance.specs.Events.{Event, gave, is_taken, took}
@@ -16,7 +18,7 @@ use Rattle.tv_model.specs.Members.{In}
 use Rattle.tv_model.specs.Turns.{is_bounced}
 use Rattle.tv_model.proofs.Members.{not-longer}
 use Rattle.tv_model.proofs.Order.{some_in}
-use Rattle.tv_model.proofs.Tests.{both_true, left_true, right_true, same_job_decides}
+use Rattle.tv_model.proofs.Tests.{both_true}
 use Rattle.tv_history.specs.Entries.{Entry, History, accepted, bounced, ended, handed_out, is_begun_entry, is_ended_entry, is_opened_entry, is_out, opened}
 use Rattle.tv_history.specs.Histories.{can_bounce, has_open_instance, is_at, is_legal_after, is_open, is_ready, is_running, is_settled, may_go_on, next_ask}
 use Rattle.tv_history.proofs.Done.{opens-it}
@@ -103,8 +105,8 @@ module _ (gives : Giving) (d : Document) (past : History) (j : Job) (listed : In
       let can =
       opens-it gives AnyNumber m (document-whole gives d) past j listed (legal-of gives m past (opened j.name) legal)
       (same-itself j.name) in
-      right_true (is_none (next_ask past j)) (is_some j.opens)
-      (left_true (is_none (next_ask past j) && is_some j.opens) (may_go_on m past j) can)
+      second_so (is_none (next_ask past j)) (is_some j.opens)
+      (first_so (is_none (next_ask past j) && is_some j.opens) (may_go_on m past j) can)
 
   -- once its flow is opened its instance is open
   opened-inside : is_settled past j ≡ false → is_legal_after gives (meaning gives d) past (opened j.name) ≡ true
@@ -152,7 +154,7 @@ module _ (gives : Giving) (d : Document) (past : History) (I : JobName) (levels 
   is-taken : is_running past j ≡ true → is_taken v.events p.0 p.1 ≡ true
   is-taken runs =
       sym (taken-is_running gives d past I levels v sit.in_run p j is.job).begun
-      ∙ left_true (list_any (is_begun_entry j.name) past) (not (is_settled past j)) runs
+      ∙ first_so (list_any (is_begun_entry j.name) past) (not (is_settled past j)) runs
 
   handed-again :
       (a t : ℕ) → x ≡ stage.Idle a t
@@ -252,11 +254,11 @@ module _ (gives : Giving) (d : Document) (past : History) (I : JobName) (levels 
   to-bounce : is_legal_after gives m past (bounced j.name) ≡ true → is_bounced j.ending ≡ true
   to-bounce legal =
       let r = some_in (λ k. is_at k j.name && can_bounce m past k) m.jobs legal in
-      let named = left_true (is_at r.0 j.name) (can_bounce m past r.0) r.2 in
-      let can = right_true (is_at r.0 j.name) (can_bounce m past r.0) r.2 in
+      let named = first_so (is_at r.0 j.name) (can_bounce m past r.0) r.2 in
+      let can = second_so (is_at r.0 j.name) (can_bounce m past r.0) r.2 in
       let jobs = are-jobs gives AnyNumber m [] (document-whole gives d) in
       let same = same-job gives m jobs r.0 j r.1 is.job.listed named in
-      right_true (is_ready m past j) (is_bounced j.ending) (subst (λ k. can_bounce m past k ≡ true) same can)
+      second_so (is_ready m past j) (is_bounced j.ending) (subst (λ k. can_bounce m past k ≡ true) same can)
 
   -- a job isn't the one that opened its instance
   opens-another : same_job I j.name ≡ false
@@ -278,7 +280,7 @@ module _ (gives : Giving) (d : Document) (past : History) (I : JobName) (levels 
   end-of_it goes =
       settles-by (ended j.name) (λ k y it ne. ended-other past k j.name (others k y it ne)) goes.is_out
       (λ settled. ending-settles gives d past I j p.0 p.1 is.job
-      (left_true (is_some j.opens) (is_open past j.name) goes.inside)) refl opens-another
+      (first_so (is_some j.opens) (is_open past j.name) goes.inside)) refl opens-another
 
   settles : (e : Entry) → MaySettle j x e → Settling e
   settles e f = by x (stage-is x refl) f
@@ -293,7 +295,7 @@ module _ (gives : Giving) (d : Document) (past : History) (I : JobName) (levels 
 
   end-settles : (i : ℕ) → x ≡ stage.Nested i → is_settled (ended j.name ∷ past) j ≡ true
   end-settles i nested =
-      let opens = left_true (is_some j.opens) (is_open past j.name) (stage-is (stage.Nested i) nested).inside in
+      let opens = first_so (is_some j.opens) (is_open past j.name) (stage-is (stage.Nested i) nested).inside in
       settled-by_end gives d j is.job.listed opens (ended j.name ∷ past)
       ∙ ap (λ b. b || list_any (is_ended_entry j.name) past) (same-itself j.name)
 
@@ -309,7 +311,7 @@ module _ (gives : Giving) (d : Document) (past : History) (I : JobName) (levels 
       record {
         unsettled = unsettled;
         runs =
-            both_true begun (not (is_settled (e ∷ past) j)) (left_true begun (not (is_settled past j)) stands.0.runs)
+            both_true begun (not (is_settled (e ∷ past) j)) (first_so begun (not (is_settled past j)) stands.0.runs)
             (ap not unsettled);
         is_out = not-out a t false;
         inside = inside-stays past e j refl refl ∙ stands.0.inside;

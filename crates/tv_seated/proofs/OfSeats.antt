@@ -6,9 +6,11 @@ use Rattle.std.proofs.lemmas.Bool.{false_from_ne_true}
 use Rattle.std.proofs.lemmas.List.{map-append}
 use Rattle.std.proofs.lemmas.Option.{slice_get_within}
 use Rattle.tv_lemmas.proofs.Cases.{on_either}
+use Rattle.tv_lemmas.proofs.Tests.{or-second}
 use Rattle.tv_value.specs.Nested.{Place}
 use Rattle.tv_value.specs.Orders.{same_job}
 use Rattle.tv_value.specs.Values.{JobName, Name}
+use Rattle.tv_value.proofs.OfJobNames.{same_job_decides}
 use Rattle.tv_gate.specs.Outcomes.{Giving}
 use Rattle.tv_flow.specs.Flows.{Document, Flow, Step}
 use Rattle.tv_instance.specs.Events.{Event, has_result, is_taken}
@@ -17,12 +19,12 @@ use Rattle.tv_model.specs.Made.{Meaning}
 use Rattle.tv_model.specs.Meanings.{meaning}
 use Rattle.tv_model.specs.Members.{In}
 use Rattle.tv_model.proofs.Sound.{spot-step}
-use Rattle.tv_model.proofs.Tests.{both_true, same_job_decides, true≠false}
+use Rattle.tv_model.proofs.Tests.{both_true, true≠false}
 use Rattle.tv_history.specs.Entries.{Entry, History, is_begun_entry, is_out}
 use Rattle.tv_history.specs.Histories.{has_open_instance, is_legal, is_legal_after, is_running, is_settled}
 use Rattle.tv_history.proofs.Ready.{AnyNumber, all-sound, are-jobs, document-whole}
 use Rattle.tv_history.proofs.Running.{AreJobs, instance-begun, out-begun}
-use Rattle.tv_history.proofs.Tests.{false_left, false_right}
+use Rattle.tv_history.proofs.Tests.{false_left}
 use Rattle.tv_framing.specs.Frames.{IsFrame}
 use Rattle.tv_framing.specs.Stated.{IsOfDepths}
 use Rattle.tv_framing.specs.Views.{View}
@@ -138,7 +140,7 @@ module _ (gives : Giving) (d : Document) (past : History) (I : JobName) (levels 
       (λ h. unknown (begun-is_known gives d past I levels v sit.in_run y j it h)) in
       let begun = list_any (is_begun_entry j.name) past in
       let idle = false_left (is_running past j) (is_settled past j) neither in
-      let unsettled = false_right (is_running past j) (is_settled past j) neither in
+      let unsettled = or-second (is_running past j) (is_settled past j) neither in
       let untold =
       false_from_ne_true begun
       (λ h. true≠false (sym (both_true begun (not (is_settled past j)) h (ap not unsettled)) ∙ idle)) in

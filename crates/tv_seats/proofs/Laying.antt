@@ -1,20 +1,14 @@
 -- How places stand in one list of indices.
-use Rattle.std.specs.Prelude.{◌≡◌, ℕ, zero, suc, ◌+◌, ◌-◌, ◌*◌, ◌<◌, ◌≤◌, List, [], ◌∷◌, ◌++◌, Some, length, take, drop, nat_le, Bool, true, ◌&&◌, slice_get, slice_set, refl}
+use Rattle.std.specs.Prelude.{◌≡◌, ℕ, zero, suc, ◌+◌, ◌≤◌, List, [], ◌∷◌, ◌++◌, Some, length, take, drop, nat_le, Bool, true, ◌&&◌, slice_get, slice_set, refl}
 use Rattle.std.specs.List.{list_all}
 use Rattle.std.proofs.Common.{arith, ap, sym, ◌∙◌}
-use Rattle.std.proofs.Math.Nat.{suc-mul}
 use Rattle.std.proofs.Math.Seq.{drop-append_seam}
-use Rattle.std.proofs.lemmas.Bool.{le-leb, leb-true}
+use Rattle.std.proofs.lemmas.Bool.{le-leb, leb-true, and_parts}
 use Rattle.std.proofs.lemmas.List.{drop-append-le, length-append, length-drop, map-append, take-append-le, take_all}
 use Rattle.std.proofs.lemmas.List.Folds.{list_all-append}
 use Rattle.tv_seats.specs.declared.table.Row.{Row}
 use Rattle.tv_seats.specs.Laid.{seat_of, shown}
-use Rattle.tv_seats.proofs.Listing.{both}
 use Rattle.tv_seats.proofs.Staging.{some-same}
-
-pub split-room : (r l : ℕ) → 0 < r → (r - 1) * l + l ≡ r * l
-split-room zero l h = absurd (omega arith)
-split-room (suc r) l h = let e : suc r - 1 ≡ r = omega arith in ap (λ k. k * l + l) e ∙ sym (suc-mul r l)
 
 abbrev pub lies : List ℕ → Row → Bool
 lies indices r = nat_le (r.start + r.levels) (length indices)
@@ -32,7 +26,7 @@ module _ (indices place : List ℕ) where
   still-shown : (rows : List Row) → list_all (lies indices) rows ≡ true → shown (indices ++ place) rows ≡ shown indices rows
   still-shown [] h = refl
   still-shown (r ∷ rows) h =
-      let b = both (lies indices r) (list_all (lies indices) rows) h in
+      let b = and_parts (lies indices r) (list_all (lies indices) rows) h in
       let le = leb-true (r.start + r.levels) (length indices) b.0 in
       ap (λ s. s ∷ shown (indices ++ place) rows) (still-seat r le)
       ∙ ap (λ ss. seat_of indices r ∷ ss) (still-shown rows b.1)
@@ -40,7 +34,7 @@ module _ (indices place : List ℕ) where
   still-lies : (rows : List Row) → list_all (lies indices) rows ≡ true → list_all (lies (indices ++ place)) rows ≡ true
   still-lies [] h = refl
   still-lies (r ∷ rows) h =
-      let b = both (lies indices r) (list_all (lies indices) rows) h in
+      let b = and_parts (lies indices r) (list_all (lies indices) rows) h in
       let le : r.start + r.levels ≤ length indices = leb-true (r.start + r.levels) (length indices) b.0 in
       let many = length-append indices place in
       ap (λ c. c && list_all (lies (indices ++ place)) rows) (le-leb (r.start + r.levels) (length (indices ++ place)) (omega (arith, le, many)))
@@ -72,9 +66,9 @@ shown-long indices (r ∷ rows) = ap suc (shown-long indices rows)
 pub lies-at : (indices : List ℕ) (rows : List Row) (n : ℕ) (r : Row) → list_all (lies indices) rows ≡ true → slice_get rows n ≡ Some r → r.start + r.levels ≤ length indices
 lies-at indices [] n r h e = cc
 lies-at indices (t ∷ rows) zero r h e =
-    let b = both (lies indices t) (list_all (lies indices) rows) h in
+    let b = and_parts (lies indices t) (list_all (lies indices) rows) h in
     leb-true (r.start + r.levels) (length indices) (ap (lies indices) (sym (some-same e)) ∙ b.0)
-lies-at indices (t ∷ rows) (suc n) r h e = lies-at indices rows n r (both (lies indices t) (list_all (lies indices) rows) h).1 e
+lies-at indices (t ∷ rows) (suc n) r h e = lies-at indices rows n r (and_parts (lies indices t) (list_all (lies indices) rows) h).1 e
 
 pub shown-at : (indices : List ℕ) (rows : List Row) (n : ℕ) (r : Row) → slice_get rows n ≡ Some r → slice_get (shown indices rows) n ≡ Some (seat_of indices r)
 shown-at indices [] n r e = cc
@@ -89,7 +83,7 @@ shown-set indices (t ∷ rows) (suc n) r = ap (λ ss. seat_of indices t ∷ ss) 
 -- one that lies as before
 pub set-lies : (indices : List ℕ) (rows : List Row) (n : ℕ) (r : Row) → list_all (lies indices) rows ≡ true → lies indices r ≡ true → list_all (lies indices) (slice_set rows n r) ≡ true
 set-lies indices [] n r h e = h
-set-lies indices (t ∷ rows) zero r h e = ap (λ b. b && list_all (lies indices) rows) e ∙ (both (lies indices t) (list_all (lies indices) rows) h).1
+set-lies indices (t ∷ rows) zero r h e = ap (λ b. b && list_all (lies indices) rows) e ∙ (and_parts (lies indices t) (list_all (lies indices) rows) h).1
 set-lies indices (t ∷ rows) (suc n) r h e =
-    let b = both (lies indices t) (list_all (lies indices) rows) h in
+    let b = and_parts (lies indices t) (list_all (lies indices) rows) h in
     ap (λ c. c && list_all (lies indices) (slice_set rows n r)) b.0 ∙ set-lies indices rows n r b.1 e

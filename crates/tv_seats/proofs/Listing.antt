@@ -1,14 +1,15 @@
 -- The jobs of one step at such a stage, where one seat stands at another.
 use Rattle.std.specs.Prelude.{◌≡◌, ◌≢◌, ℕ, zero, suc, ◌<◌, ◌≤◌, ◌&&◌, ◌⊎◌, if◌then◌else◌, Bool, true, false, List, [], ◌∷◌, Some, length, slice_get, refl}
-use Rattle.std.specs.declared.cmp.Ordering.{Ordering}
 use Rattle.std.specs.Cmp.{IsStrictWeakOrder}
 use Rattle.std.specs.Cmp.Lexicographic.{slice_cmp}
 use Rattle.std.specs.List.{insert, list_all, remove}
-use Rattle.std.specs.Ordering.{is_lt, nat_cmp, ordering_reverse}
-use Rattle.std.proofs.Common.{Less, Equal, Greater, arith, ap, subst, sym, ◌∙◌, inl, inr}
+use Rattle.std.specs.Ordering.{is_lt, nat_cmp}
+use Rattle.std.proofs.Common.{arith, ap, subst, sym, ◌∙◌, inl, inr}
 use Rattle.std.proofs.lemmas.Cmp.{nat_list_cmp_total}
 use Rattle.std.proofs.lemmas.List.MinMax.{ranks_by}
 use Rattle.std.proofs.lemmas.Map.Lookups.{exact_bytes}
+use Rattle.std.proofs.lemmas.Bool.{and_parts}
+use Rattle.tv_lemmas.proofs.Orderings.{not_lt-equal}
 use Rattle.tv_ready.specs.Listed.{with_job}
 use Rattle.tv_seats.specs.declared.stage.Stage.{Stage}
 use Rattle.tv_seats.specs.Kept.{AreApart, AreJobsAt, AreNumbersAt, IsJobAt, IsOneOf, IsSeatAt, numbers_of, rises}
@@ -17,10 +18,6 @@ use Rattle.tv_seats.proofs.Staging.{at-after, at-before, some-same, staged-here}
 
 abbrev pub Job : Type 0
 Job = ℕ × List ℕ
-
-pub both : (a b : Bool) → (a && b) ≡ true → (a ≡ true) × (b ≡ true)
-both true b e = (refl, e)
-both false b e = cc
 
 -- ---- the order of places
 
@@ -40,23 +37,18 @@ onward j k m g h = by (lt j m) refl
     by true e = e
     by false e = let f : false ≡ true = sym (order.chain j m k e (order.one_way k m h)) ∙ g in cc
 
-equal-by : (o : Ordering) → is_lt o ≡ false → is_lt (ordering_reverse o) ≡ false → o ≡ Equal
-equal-by Less g h = cc
-equal-by Equal g h = refl
-equal-by Greater g h = cc
-
 -- neither stands before the other: they have one place
 tie : (j k : Job) → lt j k ≡ false → lt k j ≡ false → j.1 ≡ k.1
 tie j k g h =
     exact_bytes j.1 k.1
-    (equal-by (slice_cmp nat_cmp j.1 k.1) g (ap is_lt (sym (nat_list_cmp_total.antisymm k.1 j.1)) ∙ h))
+    (not_lt-equal (slice_cmp nat_cmp j.1 k.1) g (ap is_lt (sym (nat_list_cmp_total.antisymm k.1 j.1)) ∙ h))
 
 -- ---- lists of jobs
 
 pub all-one : (p : Job → Bool) (j : Job) (js : List Job) → list_all p js ≡ true → IsOneOf j js → p j ≡ true
 all-one p j [] h o = absurd o
 all-one p j (k ∷ ks) h o =
-    let b = both (p k) (list_all p ks) h in
+    let b = and_parts (p k) (list_all p ks) h in
     elim o [
       | inl e ↦ ap p e ∙ b.0
       | inr there ↦ all-one p j ks b.1 there
@@ -107,10 +99,10 @@ put-one m j (k ∷ ks) o = by (lt j k) (put-one m j ks) o
 -- where none has its place, one more stands in its order
 pub put-rises : (j : Job) (js : List Job) → ((k : Job) → IsOneOf k js → k.1 ≢ j.1) → rises js ≡ true → rises (with_job j js) ≡ true
 put-rises j [] free h = refl
-put-rises j (k ∷ ks) free h = by (lt j k) refl (put-rises j ks (λ m o. free m (inr o)) (both (list_all (lt k) ks) (rises ks) h).1)
+put-rises j (k ∷ ks) free h = by (lt j k) refl (put-rises j ks (λ m o. free m (inr o)) (and_parts (list_all (lt k) ks) (rises ks) h).1)
   where
     later : (list_all (lt k) ks ≡ true) × (rises ks ≡ true)
-    later = both (list_all (lt k) ks) (rises ks) h
+    later = and_parts (list_all (lt k) ks) (rises ks) h
 
     by : (b : Bool) → lt j k ≡ b → rises (with_job j ks) ≡ true → rises (if b then j ∷ k ∷ ks else k ∷ with_job j ks) ≡ true
     by true e r =
@@ -169,10 +161,10 @@ earlier-before [] p q j k h l e f = cc
 earlier-before (i ∷ js) zero zero j k h l e f = absurd (omega (arith, l))
 earlier-before (i ∷ js) zero (suc q) j k h l e f =
     ap (λ m. lt m k) (sym (some-same e))
-    ∙ all-one (lt i) k js (both (list_all (lt i) js) (rises js) h).0 (get-one js q k f)
+    ∙ all-one (lt i) k js (and_parts (list_all (lt i) js) (rises js) h).0 (get-one js q k f)
 earlier-before (i ∷ js) (suc p) zero j k h l e f = absurd (omega (arith, l))
 earlier-before (i ∷ js) (suc p) (suc q) j k h l e f =
-    earlier-before js p q j k (both (list_all (lt i) js) (rises js) h).1 (omega (arith, l)) e f
+    earlier-before js p q j k (and_parts (list_all (lt i) js) (rises js) h).1 (omega (arith, l)) e f
 
 -- just so many, the first ones, stand before a job
 pub record IsPlaced (js : List Job) (j : Job) (p : ℕ) : Type 0 where
@@ -189,12 +181,12 @@ placed-there (k ∷ ks) zero j h o w =
     elim o [
       | inl e ↦ ap Some (sym e)
       | inr there ↦
-          let g : true ≡ false = sym (all-one (lt k) j ks (both (list_all (lt k) ks) (rises ks) h).0 there) ∙ w.behind k refl in cc
+          let g : true ≡ false = sym (all-one (lt k) j ks (and_parts (list_all (lt k) ks) (rises ks) h).0 there) ∙ w.behind k refl in cc
     ]
 placed-there (k ∷ ks) (suc p) j h o w =
     elim o [
       | inl e ↦ absurd (itself j (ap (λ i. lt i j) e ∙ w.before 0 k (omega arith) refl))
-      | inr there ↦ placed-there ks p j (both (list_all (lt k) ks) (rises ks) h).1 there (placed-later k ks j p w)
+      | inr there ↦ placed-there ks p j (and_parts (list_all (lt k) ks) (rises ks) h).1 there (placed-later k ks j p w)
     ]
 
 -- and one more is put there
@@ -250,9 +242,9 @@ left-other m (k ∷ ks) (suc p) o =
 pub left-rises : (js : List Job) (p : ℕ) → rises js ≡ true → rises (remove js p) ≡ true
 left-rises [] zero h = refl
 left-rises [] (suc p) h = refl
-left-rises (k ∷ ks) zero h = (both (list_all (lt k) ks) (rises ks) h).1
+left-rises (k ∷ ks) zero h = (and_parts (list_all (lt k) ks) (rises ks) h).1
 left-rises (k ∷ ks) (suc p) h =
-    let b = both (list_all (lt k) ks) (rises ks) h in
+    let b = and_parts (list_all (lt k) ks) (rises ks) h in
     ap (λ c. c && rises (remove ks p)) (all-by (lt k) (remove ks p) (λ m o. all-one (lt k) m ks b.0 (left-one m ks p o)))
     ∙ left-rises ks p b.1
 
@@ -260,12 +252,12 @@ left-rises (k ∷ ks) (suc p) h =
 pub left-apart : (js : List Job) (p : ℕ) (j m : Job) → rises js ≡ true → slice_get js p ≡ Some j → IsOneOf m (remove js p) → m.1 ≢ j.1
 left-apart [] p j m h e o same = cc
 left-apart (k ∷ ks) zero j m h e o same =
-    let b = both (list_all (lt k) ks) (rises ks) h in
+    let b = and_parts (list_all (lt k) ks) (rises ks) h in
     itself m
     (ap (λ q. is_lt (slice_cmp nat_cmp q m.1)) (same ∙ ap (λ (i : Job). i.1) (sym (some-same e)))
     ∙ all-one (lt k) m ks b.0 o)
 left-apart (k ∷ ks) (suc p) j m h e o same =
-    let b = both (list_all (lt k) ks) (rises ks) h in
+    let b = and_parts (list_all (lt k) ks) (rises ks) h in
     elim o [
       | inl is ↦
           itself j
@@ -300,7 +292,7 @@ module _ (p : Stage → Bool) (seats : List Seat) (k : ℕ) where
               | inl e ↦ ap (λ (i : Job). lt i j) e ∙ not-itself (lt j j) refl
               | inr there ↦
                   order.one_way j (m, t.place)
-                  (all-one (lt j) (m, t.place) js (both (list_all (lt j) js) (rises js) a.in_order).0 there)
+                  (all-one (lt j) (m, t.place) js (and_parts (list_all (lt j) js) (rises js) a.in_order).0 there)
             ];
       }
     where
@@ -316,7 +308,7 @@ module _ (p : Stage → Bool) (seats : List Seat) (k : ℕ) where
         | inl e ↦ (js, ap (λ (i : Job). i ∷ js) (sym e))
         | inr there ↦
             let here = a.each j (inl refl) in
-            let before : lt j (n, f.seat.place) ≡ true = all-one (lt j) (n, f.seat.place) js (both (list_all (lt j) js) (rises js) a.in_order).0 there in
+            let before : lt j (n, f.seat.place) ≡ true = all-one (lt j) (n, f.seat.place) js (and_parts (list_all (lt j) js) (rises js) a.in_order).0 there in
             let not_before : lt j (n, f.seat.place) ≡ false =
             ap (λ q. is_lt (slice_cmp nat_cmp q f.seat.place)) (sym here.2) ∙ f.first j.0 here.0 here.1
             in

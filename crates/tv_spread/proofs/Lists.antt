@@ -1,13 +1,12 @@
 -- What is so of each of a list, and tests on ranges.
 use Rattle.std.specs.List.{range_with_len}
-use Rattle.std.specs.Prelude.{◌≡◌, ℕ, zero, suc, ◌+◌, ◌<◌, ◌≤◌, Bool, true, false, cond, List, [], ◌∷◌, ◌++◌, drop, filter, flat_map, length, map, take, refl}
+use Rattle.std.specs.Prelude.{◌≡◌, ℕ, zero, suc, ◌+◌, ◌<◌, ◌≤◌, Bool, true, false, cond, List, [], ◌∷◌, ◌++◌, drop, filter, flat_map, length, take, refl}
 use Rattle.std.proofs.Common.{arith, get_or, ap, sym, subst, ◌∙◌, append-nil}
 use Rattle.std.proofs.lemmas.List.Elements.{filter-append}
+use Rattle.tv_lemmas.proofs.Numbers.{none-below}
+use Rattle.tv_lemmas.proofs.Lists.{range-more}
 use Rattle.tv_strategy.specs.Sources.{Each}
 use Rattle.tv_matching.specs.Items.{if_so}
-
-pub none : {A : Type 0} (i : ℕ) → i < 0 → A
-none i p = absurd (omega arith)
 
 module _ {A : Type 0} (P : A → Type 0) where
   pub each-front : (xs ys : List A) → Each P (xs ++ ys) → Each P xs
@@ -19,7 +18,7 @@ module _ {A : Type 0} (P : A → Type 0) where
   each-behind (x ∷ xs) ys h = each-behind xs ys h.1
 
   pub each-at : (xs : List A) (i : ℕ) (d : A) → Each P xs → i < length xs → P (get_or xs i d)
-  each-at [] i d h l = none i l
+  each-at [] i d h l = none-below i l
   each-at (x ∷ xs) zero d h l = h.0
   each-at (x ∷ xs) (suc i) d h l = each-at xs i d h.1 (omega arith)
 
@@ -57,10 +56,6 @@ pub each-unflat : {A B : Type 0} (P : B → Type 0) (f : A → List B) (xs : Lis
 each-unflat P f [] h = tt
 each-unflat P f (x ∷ xs) h = (each-front P (f x) (flat_map f xs) h, each-unflat P f xs (each-behind P (f x) (flat_map f xs) h))
 
-pub each-unmap : {A B : Type 0} (P : B → Type 0) (f : A → B) (xs : List A) → Each P (map f xs) → Each (λ x. P (f x)) xs
-each-unmap P f [] h = tt
-each-unmap P f (x ∷ xs) h = (h.0, each-unmap P f xs h.1)
-
 -- those that pass where none does
 pub filter-none : {A : Type 0} (p : A → Bool) (xs : List A) → Each (λ x. p x ≡ false) xs → filter p xs ≡ []
 filter-none p [] h = refl
@@ -81,16 +76,6 @@ filter-among p q h (x ∷ xs) = by (q x) refl (filter-among p q h xs)
     by false e r = r ∙ sym (ap (λ b. cond b (x ∷ filter p xs) (filter p xs)) (h x e))
 
 -- ---- ranges
-
-range-more : (a b : ℕ) → range_with_len a (b + 1) ≡ range_with_len a b ++ (a + b) ∷ []
-range-more a zero = let e : a ≡ a + 0 = omega arith in ap (λ n. n ∷ []) e
-range-more a (suc b) =
-    let e : a + 1 + b ≡ a + suc b = omega arith in
-    ap (λ n. range_with_len a n) (plus b)
-    ∙ ap (λ l. a ∷ l) (range-more (a + 1) b ∙ ap (λ n. range_with_len (a + 1) b ++ n ∷ []) e)
-  where
-    plus : (b : ℕ) → suc b + 1 ≡ suc (b + 1)
-    plus b = omega arith
 
 module _ (p : ℕ → Bool) where
   -- the passing ones below one more
@@ -125,7 +110,7 @@ pub each-within : (P : ℕ → Type 0) (p : ℕ → Bool) (c n : ℕ) → c < n 
 each-within P p c n l t h = by 0 n c (omega arith) l t h
   where
     by : (a n k : ℕ) → a + k ≡ c → k < n → p c ≡ true → Each P (filter p (range_with_len a n)) → P c
-    by a zero k e l t h = none k l
+    by a zero k e l t h = none-below k l
     by a (suc n) zero e l t h =
         let same : a ≡ c = omega (arith, e) in
         subst P same (subst (λ b. Each P (cond b (a ∷ filter p (range_with_len (a + 1) n)) (filter p (range_with_len (a + 1) n)))) (subst (λ x. p x ≡ true) (sym same) t) h).0
@@ -145,7 +130,7 @@ module _ {A : Type 0} where
       plus i = omega arith
 
       by : (xs : List A) (i : ℕ) → i < length xs → drop i xs ≡ get_or xs i d ∷ drop (suc i) xs
-      by [] i l = none i l
+      by [] i l = none-below i l
       by (x ∷ xs) zero l = refl
       by (x ∷ xs) (suc i) l = by xs i (omega arith)
 
@@ -156,6 +141,6 @@ module _ {A : Type 0} where
       plus i = omega arith
 
       by : (xs : List A) (i : ℕ) → i < length xs → take (suc i) xs ≡ take i xs ++ get_or xs i d ∷ []
-      by [] i l = none i l
+      by [] i l = none-below i l
       by (x ∷ xs) zero l = refl
       by (x ∷ xs) (suc i) l = ap (λ ys. x ∷ ys) (by xs i (omega arith))

@@ -1,14 +1,17 @@
 -- Matchers that hold what they are told, step by step.
 use Rattle.std.specs.List.{range_with_len}
 use Rattle.std.specs.Option.{option_copied}
-use Rattle.std.specs.Prelude.{◌≡◌, ℕ, zero, suc, ◌+◌, ◌<◌, ◌≤◌, ◌⊎◌, Bool, true, false, List, [], ◌∷◌, ◌++◌, Option, Some, None, drop, filter, length, map, slice_get, take, refl}
+use Rattle.std.specs.Prelude.{◌≡◌, ℕ, zero, suc, ◌+◌, ◌<◌, ◌≤◌, true, false, List, [], ◌∷◌, ◌++◌, Option, Some, None, drop, filter, length, map, slice_get, take, refl}
 use Rattle.std.proofs.Common.{Bor, arith, get_or, inl, inr, ap, sym, subst, ◌∙◌, append_assoc, append-nil}
 use Rattle.std.proofs.lemmas.List.{take-append-drop}
+use Rattle.std.proofs.lemmas.Bool.{both_ways, cases_lt}
+use Rattle.tv_lemmas.proofs.Numbers.{none-below}
 use Rattle.tv_strategy.specs.Sources.{Each}
 use Rattle.tv_matching.specs.Items.{if_so}
 use Rattle.tv_strategy.specs.Measures.{leaf_names}
+use Rattle.tv_strategy.proofs.OfSources.{each-append}
 use Rattle.tv_matching.specs.Matchers.{CanTellAll}
-use Rattle.tv_matching.proofs.Lists.{each-append, each-weaken}
+use Rattle.tv_matching.proofs.Lists.{each-weaken}
 use Rattle.tv_match.specs.declared.matchers.Matcher.{Matcher}
 use Rattle.tv_match.specs.declared.told.Told as code
 use Rattle.tv_match.specs.Seen.{matching}
@@ -22,7 +25,7 @@ use Rattle.tv_spread.specs.Along.{is_walked, way_of, ways_into}
 use Rattle.tv_spread.specs.Arounds.{IsAround, is_told, ports_at, told_at, told_steps, ways_at, wholes_at, wires_along}
 use Rattle.tv_spread.specs.Runs.{AreSortedFrom, StartsElsewhere}
 use Rattle.tv_spread.specs.Spreads.{CanBeTold, CanHoldThese, HoldTold, HoldsAt, StaysAt}
-use Rattle.tv_spread.proofs.Lists.{none, passing-more, passing-until}
+use Rattle.tv_spread.proofs.Lists.{passing-more, passing-until}
 use Rattle.tv_spread.proofs.OfRuns.{run-ways, sorted-behind, sorted-each, sorted-first}
 use Rattle.tv_spread.proofs.OfLeaves.{leaves-named}
 use Rattle.tv_spread.proofs.OfTold.{along-sorted, along-ways, along-within, untold, ways-leaf, wholes-leaf}
@@ -80,15 +83,6 @@ pub record Told_at (a : Around) (s : ℕ) (e : Event) (c : ℕ) (j k : Intakes) 
   pub waiting : waiting_things k ≡ waiting_things j
   pub intaken : AreIntaken k
 
-clash : (b : Bool) → b ≡ true → b ≡ false → ⊥
-clash true f g = absurd (cc)
-clash false f g = absurd (cc)
-
-below-or : (m n : ℕ) → (m < n) ⊎ (n ≤ m)
-below-or m zero = inr (omega arith)
-below-or zero (suc n) = inl (omega arith)
-below-or (suc m) (suc n) = elim (below-or m n) [ inl p ↦ inl (omega (arith, p)) | inr p ↦ inr (omega (arith, p)) ]
-
 pub at-test : (c d : ℕ) → {C : Type 0} → (c ≡ d → C) → ((c ≡ d → ⊥) → C) → C
 at-test zero zero f g = f refl
 at-test zero (suc d) f g = g (λ e. omega (arith, e))
@@ -106,8 +100,8 @@ module _ (a : Around) (s : ℕ) (e : Event) (h : IsAround a s e) (i : Intakes) w
         sorted = subst (AreSortedFrom 0) (sym r) (along-sorted a s e h);
         within = omega arith;
         touched_are = t;
-        told = λ c l. none c l;
-        can = λ c l. none c l;
+        told = λ c l. none-below c l;
+        can = λ c l. none-below c l;
         beyond = λ c l. refl;
         others = λ c f. refl;
         stays = λ c. stays-same (matcher_at i c);
@@ -129,7 +123,7 @@ module _ (a : Around) (s : ℕ) (e : Event) (h : IsAround a s e) (i : Intakes) w
       bound-on = subst (λ k. v.bound ≤ k) first (first-on rest v.sorted more)
         where
           first-on : (ws : List Wire) → AreSortedFrom v.bound ws → 0 < length ws → v.bound ≤ (get_or ws 0 d).step
-          first-on [] h l = none 0 l
+          first-on [] h l = none-below 0 l
           first-on (w ∷ ws) h l = h.0
 
       pub there : c < length a.wiring.now.ports
@@ -140,7 +134,7 @@ module _ (a : Around) (s : ℕ) (e : Event) (h : IsAround a s e) (i : Intakes) w
           behind-in (x ∷ xs) ys h = behind-in xs ys h.1
 
           first-in : (ws : List Wire) → Each (λ (w : Wire). w.step < length a.wiring.now.ports) ws → 0 < length ws → (get_or ws 0 d).step < length a.wiring.now.ports
-          first-in [] h l = none 0 l
+          first-in [] h l = none-below 0 l
           first-in (w ∷ ws) h l = h.0
 
       before-c : Each (λ (w : Wire). w.step < c) v.done
@@ -205,7 +199,7 @@ module _ (a : Around) (s : ℕ) (e : Event) (h : IsAround a s e) (i : Intakes) w
           }
         where
           known : (x : ℕ) → x < c → is_told a s e x ≡ true → x < v.bound
-          known x l f = elim (below-or x v.bound) as (λ _. x < v.bound) [ inl p ↦ p | inr p ↦ absurd (clash (is_told a s e x) f (between x p l)) ]
+          known x l f = elim (cases_lt x v.bound) as (λ _. x < v.bound) [ inl p ↦ p | inr p ↦ absurd (both_ways (is_told a s e x) (between x p l) f) ]
 
           early : (x : ℕ) → x < c → (x ≡ c → ⊥) → is_told a s e x ≡ true → HoldsAt (told_at a s e x) (matcher_at i x) (matcher_at k x)
           early x l ne f = subst (HoldsAt (told_at a s e x) (matcher_at i x)) (sym (t.others x ne)) (v.told x (known x l f) f)
@@ -233,7 +227,7 @@ module _ (a : Around) (s : ℕ) (e : Event) (h : IsAround a s e) (i : Intakes) w
       hold-told = record { told = λ c f. v.told c (known c f) f; can = λ c f. v.can c (known c f) f; others = v.others }
         where
           known : (c : ℕ) → is_told a s e c ≡ true → c < v.bound
-          known c f = elim (below-or c v.bound) as (λ _. c < v.bound) [ inl p ↦ p | inr p ↦ absurd (clash (is_told a s e c) f (past c p)) ]
+          known c f = elim (cases_lt c v.bound) as (λ _. c < v.bound) [ inl p ↦ p | inr p ↦ absurd (both_ways (is_told a s e c) (past c p) f) ]
 
 -- a list without a first one has none
 pub no-first : (o : Option (Bor Wire)) (ws : List Wire) → option_copied o ≡ slice_get ws 0 → ((w : Bor Wire) → o ≡ Some w → ⊥) → length ws ≤ 0

@@ -3,7 +3,7 @@ use Rattle.std.specs.List.{range_with_len}
 use Rattle.std.specs.Option.{option_map_or}
 use Rattle.std.specs.Prelude.{◌≡◌, ℕ, zero, suc, ◌==◌, ◌<◌, ◌≤◌, ◌||◌, not, if◌then◌else◌, Bool, true, false, List, [], ◌∷◌, ◌++◌, Option, Some, None, filter, length, map, slice_set, refl}
 use Rattle.std.proofs.Common.{arith, ap, sym, subst, ◌∙◌, append-nil, length-set}
-use Rattle.std.proofs.lemmas.Bool.{ne_eqb}
+use Rattle.std.proofs.lemmas.Bool.{ne_eqb, both_ways}
 use Rattle.std.proofs.lemmas.List.{length-map}
 use Rattle.tv_value.specs.Strategies.{Strategy}
 use Rattle.tv_matching.specs.Told.{Told}
@@ -48,10 +48,6 @@ wirings-wired f = ap (λ n. from_each (range_with_len 0 n) (all_wires (all_ports
 
 -- ---- held and then shown
 
-clash : (b : Bool) → b ≡ true → b ≡ false → ⊥
-clash true f g = absurd (cc)
-clash false f g = absurd (cc)
-
 -- a step that is told something was told that
 held-made : (tellings : Strategy → List Told) (o p q : Option Matcher) → HoldsAt tellings o p → IsMadeAt p q → IsToldAt tellings (option_map_or brought p []) o q
 held-made tellings None p q h m = absurd h
@@ -81,8 +77,8 @@ some-long x xs = ne_eqb (length (x ∷ xs)) 0 (λ e. omega (arith, e))
 
 nothing-by : (e : Event) (ways : List Way) (whole : List Whole) → tells_some ways whole ≡ false → (s : Strategy) → tellings_by e ways whole s ≡ []
 nothing-by e [] [] f s = refl
-nothing-by e [] (w ∷ whole) f s = absurd (clash true refl (ap (λ b. not b) (sym (some-long w whole)) ∙ f))
-nothing-by e (w ∷ ways) whole f s = absurd (clash true refl (ap (λ b. not b || not (length whole == 0)) (sym (some-long w ways)) ∙ f))
+nothing-by e [] (w ∷ whole) f s = absurd (both_ways true (ap (λ b. not b) (sym (some-long w whole)) ∙ f) refl)
+nothing-by e (w ∷ ways) whole f s = absurd (both_ways true (ap (λ b. not b || not (length whole == 0)) (sym (some-long w ways)) ∙ f) refl)
 
 pub all-told : AllAreTold
 all-told a s e i j k h m c l = by (is_told a s e c) refl
@@ -90,7 +86,7 @@ all-told a s e i j k h m c l = by (is_told a s e c) refl
     by : (b : Bool) → is_told a s e c ≡ b → IsToldAt (told_at a s e c) (if b then brought_at j c else []) (matcher_at i c) (matcher_at k c)
     by true f = held-made (told_at a s e c) (matcher_at i c) (matcher_at j c) (matcher_at k c) (h.told c f) (each-within (λ d. IsMadeAt (matcher_at j d) (matcher_at k d)) (is_told a s e) c (length a.wiring.now.ports) l f m.made)
     by false f =
-        let same : matcher_at k c ≡ matcher_at i c = m.others c (each-weaken (λ d. is_told a s e d ≡ true) (λ d. d ≡ c → ⊥) (λ d t g. clash (is_told a s e c) (subst (λ x. is_told a s e x ≡ true) g t) f) (told_steps a s e) (passing-pass (is_told a s e) (range_with_len 0 (length a.wiring.now.ports)))) ∙ h.others c f in
+        let same : matcher_at k c ≡ matcher_at i c = m.others c (each-weaken (λ d. is_told a s e d ≡ true) (λ d. d ≡ c → ⊥) (λ d t g. both_ways (is_told a s e c) f (subst (λ x. is_told a s e x ≡ true) g t)) (told_steps a s e) (passing-pass (is_told a s e) (range_with_len 0 (length a.wiring.now.ports)))) ∙ h.others c f in
         subst (IsToldAt (told_at a s e c) [] (matcher_at i c)) (sym same) (none-told (told_at a s e c) (nothing-by e (ways_at a s c) (wholes_at a s e c) f) (matcher_at i c))
 
 pub flags-told : FlagsAreTold

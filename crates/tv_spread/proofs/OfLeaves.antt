@@ -1,17 +1,20 @@
 -- Tellings that are made of leaves name leaves of the strategy that they are told.
 use Rattle.std.specs.Prelude.{◌≡◌, ℕ, zero, suc, ◌-◌, ◌<◌, Bool, true, false, if◌then◌else◌, nat_le, nat_lt, List, [], ◌∷◌, ◌++◌, flat_map, get_or, length, map, take, refl}
 use Rattle.std.proofs.Common.{arith, sym, subst, ◌∙◌}
+use Rattle.tv_lemmas.proofs.Numbers.{none-below}
 use Rattle.tv_value.specs.Nested.{Tree, leaf, list, Trees, no_trees, tree, Place}
 use Rattle.tv_value.specs.Strategies.{Strategy, Strategies, cross, port, strategy, no_strategies}
 use Rattle.tv_value.specs.Values.{Name, Scalar, fault, holds_fault, text}
 use Rattle.tv_strategy.specs.Sources.{Each}
+use Rattle.tv_strategy.proofs.OfSources.{each-append}
 use Rattle.tv_matching.specs.Items.{if_so}
 use Rattle.tv_matching.specs.Matchers.{leaf_name}
 use Rattle.tv_matching.specs.Told.{Told, told_leaf}
-use Rattle.tv_matching.proofs.Lists.{each-append, each-map, each-weaken}
+use Rattle.tv_matching.proofs.Lists.{each-map, each-weaken}
 use Rattle.tv_matching.proofs.Onces.{each-flat}
 use Rattle.tv_match.specs.declared.told.Told as code
 use Rattle.tv_match.specs.Seen.{leaf_of, told_view}
+use Rattle.tv_match.proofs.Seeing.{each-of-map}
 use Rattle.tv_telling.specs.declared.ways.Event.{Event}
 use Rattle.tv_telling.specs.declared.ways.Way.{Way}
 use Rattle.tv_telling.specs.declared.ways.Whole.{Whole}
@@ -19,7 +22,6 @@ use Rattle.tv_telling.specs.ValueTellings.{bound_told, value_told, values_told}
 use Rattle.tv_telling.specs.Views.{AreTellings, happening, way_tellings, whole_telling}
 use Rattle.tv_telling.specs.WayTellings.{Happening, closed, gave, passed, place_of_item, told_on_way, told_there}
 use Rattle.tv_spread.specs.Arounds.{tellings_by}
-use Rattle.tv_spread.proofs.Lists.{each-unmap, none}
 
 -- ---- a strategy of so many leaves, each of this name
 
@@ -31,7 +33,7 @@ many zero = no_strategies
 many (suc n) = strategy (port one) (many n)
 
 named : (n i : ℕ) → i < n → leaf_name (cross (many n)) i ≡ one
-named zero i l = none i l
+named zero i l = none-below i l
 named (suc n) zero l = refl
 named (suc n) (suc i) l = named n i (omega arith)
 
@@ -99,4 +101,4 @@ module _ (n : ℕ) (e : Event) (ways : List Way) (whole : List Whole) (of_ways :
   leaves-named ts are =
       each-weaken (λ t. IsOf one (told_view (cross (many n)) t)) (λ t. leaf_of t < n)
       (λ t h. unnamed n (leaf_of t) (sym (leaf-seen (cross (many n)) t) ∙ h)) ts
-      (each-unmap (IsOf one) (told_view (cross (many n))) ts (subst (Each (IsOf one)) (sym (are (cross (many n)))) all-of))
+      (each-of-map (IsOf one) (told_view (cross (many n))) ts (subst (Each (IsOf one)) (sym (are (cross (many n)))) all-of))

@@ -3,12 +3,13 @@ use Rattle.std.specs.Prelude.{◌≡◌, ℕ, zero, suc, ◌+◌, ◌<◌, ◌�
 use Rattle.std.proofs.Common.{arith, get_or, ap, sym, subst, ◌∙◌, append-nil}
 use Rattle.std.proofs.lemmas.Bool.{eq-eqb, ne_eqb}
 use Rattle.std.proofs.lemmas.List.Elements.{filter-append}
+use Rattle.tv_lemmas.proofs.Numbers.{none-below}
 use Rattle.tv_strategy.specs.Sources.{Each}
 use Rattle.tv_matching.proofs.Lists.{each-weaken}
 use Rattle.tv_wires.specs.declared.wires.Wire.{Wire}
 use Rattle.tv_spread.specs.Along.{is_walked, leads_into, way_of, ways_into}
 use Rattle.tv_spread.specs.Runs.{AreSortedFrom, StartsElsewhere}
-use Rattle.tv_spread.proofs.Lists.{filter-among, filter-none, filter-same, none}
+use Rattle.tv_spread.proofs.Lists.{filter-among, filter-none, filter-same}
 
 -- from a lesser step on too
 pub sorted-lower : (a b : ℕ) (ws : List Wire) → a ≤ b → AreSortedFrom b ws → AreSortedFrom a ws
@@ -32,7 +33,7 @@ sorted-behind c (w ∷ ws) zero h r s = (omega (arith, h.0, s), h.1)
 sorted-behind c (w ∷ ws) (suc n) h r s = sorted-behind c ws n (subst (λ k. AreSortedFrom k ws) r.0 h.1) r.1 s
 
 pub sorted-first : (b : ℕ) (ws : List Wire) (d : Wire) → AreSortedFrom b ws → 0 < length ws → AreSortedFrom (get_or ws 0 d).step ws
-sorted-first b [] d h l = none 0 l
+sorted-first b [] d h l = none-below 0 l
 sorted-first b (w ∷ ws) d h l = (omega arith, h.1)
 
 -- some of them are sorted too

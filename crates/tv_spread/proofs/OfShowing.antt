@@ -13,11 +13,12 @@ use Rattle.tv_lemmas.proofs.Counts.{count-map}
 use Rattle.tv_strategy.specs.Sources.{Each}
 use Rattle.tv_strategy.specs.Conditions.{number_of}
 use Rattle.tv_strategy.specs.Measures.{strategy_depth}
+use Rattle.tv_strategy.proofs.OfSources.{each-append}
 use Rattle.tv_matching.specs.Items.{Kind, ends, closes, passes, Item}
 use Rattle.tv_matching.specs.Levels.{KindAt}
 use Rattle.tv_matching.specs.Matchers.{Outcome, fault_at, job_at, list_at, all_out, out}
 use Rattle.tv_matching.specs.Told.{Spot, faulty_at, matched_after}
-use Rattle.tv_matching.proofs.Lists.{each-append, each-map, each-weaken}
+use Rattle.tv_matching.proofs.Lists.{each-map, each-weaken, each-all}
 use Rattle.tv_matching.proofs.OfLaws.{matches-once}
 use Rattle.tv_matching.proofs.OfMembers.{each-permutes}
 use Rattle.tv_match.specs.declared.matchers.Matcher.{Matcher}
@@ -72,7 +73,7 @@ brought-at m n e a =
 
 -- ---- one step
 
-new-at : (c : ℕ) (levels : ℕ) (qs : List Place) → Each (λ q. length q ≡ levels) qs → Each (IsAt c levels) (map (λ q. (c, q)) qs)
+pub new-at : (c : ℕ) (levels : ℕ) (qs : List Place) → Each (λ q. length q ≡ levels) qs → Each (IsAt c levels) (map (λ q. (c, q)) qs)
 new-at c levels [] h = tt
 new-at c levels (q ∷ qs) h = ((refl, h.0), new-at c levels qs h.1)
 
@@ -96,7 +97,7 @@ made-faulty None p h q = absurd h
 made-faulty (Some m) None h q = absurd h
 made-faulty (Some m) (Some n) h q = λ i. faulty_at (h.strategy i) (h.told i) q
 
-made-levels : (o p : Option Matcher) → IsMadeAt o p → IsSoundAt p → (s : StepIdle) → IsLevelled o s → Each (λ q. length q ≡ s.levels) (job_places (option_map_or brought o []))
+pub made-levels : (o p : Option Matcher) → IsMadeAt o p → IsSoundAt p → (s : StepIdle) → IsLevelled o s → Each (λ q. length q ≡ s.levels) (job_places (option_map_or brought o []))
 made-levels None p h a s l = absurd h
 made-levels (Some m) None h a s l = absurd h
 made-levels (Some m) (Some n) h a s l = subst (λ d. Each (λ q. length q ≡ d) (job_places (brought m))) (sym l) (brought-at m n h a)
@@ -171,17 +172,13 @@ pub record Showing (i j : Intakes) (idle now : Idles) (done rest : List ℕ) : T
   pub ready : CanShowAll rest j now
   pub intaken : AreIntaken j
 
-each-none : {A : Type 0} (P : A → Type 0) → ((x : A) → P x) → (xs : List A) → Each P xs
-each-none P f [] = tt
-each-none P f (x ∷ xs) = (f x, each-none P f xs)
-
 pub showing-none : (i : Intakes) (idle : Idles) (cs : List ℕ) → AreIntaken i → CanShowAll cs i idle → Showing i i idle idle [] cs
 showing-none i idle cs a r =
     record {
       made = tt;
       others = λ c h. refl;
-      same = each-none (λ c. matcher_at i c ≡ matcher_at i c) (λ c. refl) cs;
-      apart = each-none (λ c. Unit {0}) (λ c. tt) cs;
+      same = each-all (λ c. matcher_at i c ≡ matcher_at i c) (λ c. refl) cs;
+      apart = each-all (λ c. Unit {0}) (λ c. tt) cs;
       jobs = sym (append-nil (known_jobs i));
       waiting = sym (append-nil (waiting_things i));
       idle_is = refl;

@@ -1,12 +1,14 @@
 -- Two lists of which as many count, since each that counts in one has a partner of its key in the other.
 use Rattle.std.specs.Prelude.{◌≡◌, refl, ℕ, suc, ◌≤◌, ◌+◌, ◌⊎◌, List, [], ◌∷◌, Bool, true, false, not, ◌&&◌, count_by}
 use Rattle.std.proofs.Common.{ap, arith, inl, inr, sym, ◌∙◌}
+use Rattle.std.specs.Cmp.{first_so, second_so}
 use Rattle.tv_value.specs.Orders.{same_job}
 use Rattle.tv_value.specs.Values.{JobName}
+use Rattle.tv_value.proofs.OfJobNames.{same_job_decides}
 use Rattle.tv_lemmas.proofs.Cases.{on_test}
 use Rattle.tv_model.specs.Members.{In}
 use Rattle.tv_model.proofs.Members.{Apart, once-of_apart}
-use Rattle.tv_model.proofs.Tests.{both_true, left_true, right_true, same_job_decides, true≠false}
+use Rattle.tv_model.proofs.Tests.{both_true, true≠false}
 use Rattle.tv_history.proofs.Counts.{bit, count-tally, tally}
 use Rattle.tv_order.proofs.OfTallies.{tally-none, tally-one_more}
 
@@ -29,7 +31,7 @@ module _ {A B : Type 0} (a : A → JobName) (b : B → JobName) (q : B → Bool)
   not-it : (p : A → Bool) (y : B) (x : A) → but p y x ≡ true → a x ≡ b y → ⊥
   not-it p y x h e =
       true≠false
-      (sym (right_true (p x) (not (same_job (a x) (b y))) h) ∙ ap not ((same_job_decides (a x) (b y)).1 e))
+      (sym (second_so (p x) (not (same_job (a x) (b y))) h) ∙ ap not ((same_job_decides (a x) (b y)).1 e))
 
   pub at-most : (p : A → Bool) (ys : List B) → Apart b ys → ArePartnered a b p q xs ys → ArePartnered b a q p ys xs
       → tally p xs ≤ tally q ys
@@ -62,7 +64,7 @@ module _ {A B : Type 0} (a : A → JobName) (b : B → JobName) (q : B → Bool)
           (λ e. inl (both_true (p x) (not (same_job (a x) (b y))) h (ap not e)))
 
       there_but : ArePartnered a b (but p y) q xs ys
-      there_but x i h = by (there x i (left_true (p x) (not (same_job (a x) (b y))) h))
+      there_but x i h = by (there x i (first_so (p x) (not (same_job (a x) (b y))) h))
         where
           by : (z : B) × In z (y ∷ ys) × (q z ≡ true) × (b z ≡ a x) → (z : B) × In z ys × (q z ≡ true) × (b z ≡ a x)
           by (z, inl e, f, g) = absurd (not-it p y x h (sym g ∙ ap b e))

@@ -4,9 +4,12 @@ use Rattle.std.specs.List.{list_any}
 use Rattle.std.specs.Option.{option_map_or}
 use Rattle.std.proofs.Common.{ap, subst, sym, ◌∙◌}
 use Rattle.std.proofs.lemmas.Bool.{false_from_ne_true}
+use Rattle.std.specs.Cmp.{first_so, second_so}
+use Rattle.tv_lemmas.proofs.Tests.{or-second}
 use Rattle.tv_value.specs.Activities.{Activity, nested, service}
 use Rattle.tv_value.specs.Orders.{same_job}
 use Rattle.tv_value.specs.Values.{JobName, Name}
+use Rattle.tv_value.proofs.OfJobNames.{same_job_decides}
 use Rattle.tv_gate.specs.Outcomes.{Giving}
 use Rattle.tv_flow.specs.Flows.{Document, Step}
 use Rattle.tv_dispatch.specs.Jobs.{Ask}
@@ -16,11 +19,10 @@ use Rattle.tv_model.specs.Jobs.{Job}
 use Rattle.tv_model.specs.Made.{Meaning}
 use Rattle.tv_model.specs.Meanings.{meaning}
 use Rattle.tv_model.specs.Turns.{is_bounced}
-use Rattle.tv_model.proofs.Tests.{left_true, right_true, same_job_decides, true≠false}
+use Rattle.tv_model.proofs.Tests.{true≠false}
 use Rattle.tv_history.specs.Entries.{Entry, History, accepted, is_accepted, is_begun_entry, is_out}
 use Rattle.tv_history.specs.Histories.{is_ask, is_legal, is_legal_after, is_settled, next_ask}
 use Rattle.tv_history.proofs.Running.{out-begun}
-use Rattle.tv_history.proofs.Tests.{false_right}
 use Rattle.tv_framing.specs.Views.{View}
 use Rattle.tv_seats.specs.Seats.{Seat}
 use Rattle.tv_seats.specs.Stages.{is_aside, is_idle, is_waiting}
@@ -41,10 +43,10 @@ pub none-accepted : (gives : Giving) (m : Meaning) (past : History) (n : JobName
     → list_any (is_begun_entry n) past ≡ false → list_any (is_accepted n) past ≡ false
 none-accepted gives m [] n l h = refl
 none-accepted gives m (e ∷ past) n l h =
-    by e (right_true (is_legal gives m past) (is_legal_after gives m past e) l)
-    (false_right (is_begun_entry n e) (list_any (is_begun_entry n) past) h)
-    (none-accepted gives m past n (left_true (is_legal gives m past) (is_legal_after gives m past e) l)
-    (false_right (is_begun_entry n e) (list_any (is_begun_entry n) past) h))
+    by e (second_so (is_legal gives m past) (is_legal_after gives m past e) l)
+    (or-second (is_begun_entry n e) (list_any (is_begun_entry n) past) h)
+    (none-accepted gives m past n (first_so (is_legal gives m past) (is_legal_after gives m past e) l)
+    (or-second (is_begun_entry n e) (list_any (is_begun_entry n) past) h))
   where
     by : (e : Entry) → is_legal_after gives m past e ≡ true → list_any (is_begun_entry n) past ≡ false
         → list_any (is_accepted n) past ≡ false → list_any (is_accepted n) (e ∷ past) ≡ false
@@ -52,7 +54,7 @@ none-accepted gives m (e ∷ past) n l h =
         let other : same_job n k ≡ false =
         false_from_ne_true (same_job n k)
         (λ q.
-        let out = subst (λ i. is_out past i ≡ true) (sym ((same_job_decides n k).0 q)) (left_true (is_out past k) _ now) in
+        let out = subst (λ i. is_out past i ≡ true) (sym ((same_job_decides n k).0 q)) (first_so (is_out past k) _ now) in
         true≠false (sym (out-begun past n out) ∙ unbegun))
         in
         ap (λ b. b || list_any (is_accepted n) past) other ∙ rec

@@ -3,6 +3,8 @@ use Rattle.std.specs.Prelude.{◌≡◌, refl, ℕ, Bool, true, false, not, nat_
 use Rattle.std.specs.Option.{option_map_or}
 use Rattle.std.proofs.Common.{ap, ap₂, subst, sym, ◌∙◌}
 use Rattle.std.proofs.lemmas.Option.{same_Some}
+use Rattle.std.specs.Cmp.{first_so, second_so}
+use Rattle.std.proofs.Math.Bool.{and-false}
 use Rattle.tv_value.specs.Orders.{named, same_job, same_name}
 use Rattle.tv_value.specs.Values.{JobName, Name}
 use Rattle.tv_gate.specs.Outcomes.{Giving}
@@ -15,7 +17,6 @@ use Rattle.tv_model.specs.Made.{Meaning}
 use Rattle.tv_model.specs.Meanings.{flow_meaning, meaning}
 use Rattle.tv_model.specs.Turns.{is_bounced}
 use Rattle.tv_model.proofs.Members.{each_in}
-use Rattle.tv_model.proofs.Tests.{left_true, right_true}
 use Rattle.tv_model.proofs.Whole.{rank-each}
 use Rattle.tv_history.specs.Entries.{History}
 use Rattle.tv_history.specs.Histories as histories
@@ -36,7 +37,7 @@ use Rattle.tv_seated.proofs.OfLists.{is-member}
 use Rattle.tv_standing.specs.Offers.{BouncesBySeat, GoesOnBySeat, GoingBySeat}
 use Rattle.tv_standing.specs.Seats.{IsJobOf, is_over}
 use Rattle.tv_standing.specs.Stated.{StepsOfSeats}
-use Rattle.tv_standing.proofs.OfStages.{and-false, idle-is, over-is, runs-is}
+use Rattle.tv_standing.proofs.OfStages.{idle-is, over-is, runs-is}
 use Rattle.tv_standing.proofs.OfTold.{running-at}
 
 -- a ready job waits
@@ -151,5 +152,5 @@ going-by_seat gives d past I levels v ss sit n s j there it t at_step =
 pub bounces-by_seat : BouncesBySeat
 bounces-by_seat gives d past I levels v ss sit n s j there it h =
     let m = meaning gives d in
-    bounce-legal gives d past j it.listed (left_true (is_ready m past j) (is_bounced j.ending) h)
-    (right_true (is_ready m past j) (is_bounced j.ending) h)
+    bounce-legal gives d past j it.listed (first_so (is_ready m past j) (is_bounced j.ending) h)
+    (second_so (is_ready m past j) (is_bounced j.ending) h)

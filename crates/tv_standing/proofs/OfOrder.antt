@@ -1,5 +1,5 @@
 -- Which of two jobs of an instance stands behind the other, by their seats.
-use Rattle.std.specs.Prelude.{◌≡◌, refl, ℕ, zero, suc, ◌<◌, ◌≤◌, ◌⊎◌, Bool, true, false, nat_lt, List, [], ◌∷◌, ◌++◌, Option, Some, None, if◌then◌else◌, slice_get}
+use Rattle.std.specs.Prelude.{◌≡◌, refl, ℕ, zero, suc, ◌<◌, ◌≤◌, ◌⊎◌, Bool, true, false, nat_lt, List, [], ◌∷◌, ◌++◌, Some, if◌then◌else◌, slice_get}
 use Rattle.std.specs.Cmp.Lexicographic.{bytes_decides}
 use Rattle.std.specs.Option.{option_map_or}
 use Rattle.std.proofs.Common.{ap, arith, inl, inr, subst, sym, ◌∙◌}
@@ -7,10 +7,10 @@ use Rattle.std.proofs.lemmas.Bool.{le-ltb}
 use Rattle.std.proofs.lemmas.Option.{none-some, same_Some}
 use Rattle.tv_lemmas.proofs.Cases.{on_either}
 use Rattle.tv_value.specs.Nested.{Place}
-use Rattle.tv_value.specs.Orders.{named, same_name}
+use Rattle.tv_value.specs.Orders.{same_name}
 use Rattle.tv_value.specs.Values.{JobName, Name}
 use Rattle.tv_gate.specs.Outcomes.{Giving}
-use Rattle.tv_flow.specs.Flows.{Document, Flow, Step}
+use Rattle.tv_flow.specs.Flows.{Document, Step}
 use Rattle.tv_naming.specs.Numbers.{position}
 use Rattle.tv_depths.specs.Ranks.{ranked}
 use Rattle.tv_instance.specs.ByResults.{last_first}
@@ -21,13 +21,15 @@ use Rattle.tv_model.specs.Members.{In}
 use Rattle.tv_model.proofs.Members.{once-of_apart}
 use Rattle.tv_model.proofs.Order.{in-map}
 use Rattle.tv_model.proofs.Tests.{true≠false}
+use Rattle.tv_model.proofs.OfMembers.{named-in}
 use Rattle.tv_history.specs.Entries.{History}
 use Rattle.tv_history.proofs.OneWorker.{Before, one-first}
 use Rattle.tv_history.proofs.Ready.{document-whole}
 use Rattle.tv_order.specs.FirstIn.{StandsBefore}
-use Rattle.tv_order.specs.JobOrder.{job_before, names_before, place_before, rank_in, same_spot, spot_before, step_flow, steps_at, steps_in}
+use Rattle.tv_order.specs.JobOrder.{job_before, place_before, rank_in, spot_before, steps_at}
 use Rattle.tv_order.proofs.OfOrder.{jobs-in_order}
-use Rattle.tv_order.proofs.OfStrict.{pair-before, same-spots, spot-itself}
+use Rattle.tv_order.proofs.OfStrict.{pair-before}
+use Rattle.tv_order.proofs.OfInstances.{spots-of}
 use Rattle.tv_framing.specs.Views.{View}
 use Rattle.tv_seats.specs.Seats.{Seat}
 use Rattle.tv_turn.specs.FirstReady.{by_falling_rank}
@@ -39,58 +41,6 @@ use Rattle.tv_standing.specs.Offers.{ComesNotBefore, OrderBySeats}
 use Rattle.tv_standing.specs.Seats.{IsJobOf}
 use Rattle.tv_standing.proofs.OfOffers.{step-name, step-ranked}
 use Rattle.tv_standing.proofs.OfTold.{steps-rise}
-
--- ---- names of one instance
-
--- within an instance job order is that of spots, or the spots are the same
-spots-of : (flows : List (Name × Flow)) (k : ℕ) (f : Name) (I : JobName) (x y : Name × Place)
-    → job_before flows k f (I ++ x ∷ []) (I ++ y ∷ []) ≡ true
-    → (x ≡ y) ⊎ (spot_before (steps_at flows k f I) x y ≡ true)
-spots-of flows zero f I x y h = absurd (true≠false (sym h))
-spots-of flows (suc k) f I x y h = by (named f flows) h I refl (λ g J e. spots-of flows k g J x y e)
-  where
-    -- what is so with one level less
-    Deeper : Type 0
-    Deeper =
-        (g : Name) (J : JobName) → job_before flows k g (J ++ x ∷ []) (J ++ y ∷ []) ≡ true
-        → (x ≡ y) ⊎ (spot_before (steps_at flows k g J) x y ≡ true)
-
-    own : (steps : List (Name × Step)) (b : Bool) → same_spot x y ≡ b
-        → (if b then option_map_or (λ g. job_before flows k g [] []) (step_flow steps x.0) false else spot_before steps x y) ≡ true
-        → (x ≡ y) ⊎ (spot_before steps x y ≡ true)
-    own steps true e q = inl (same-spots x y e)
-    own steps false e q = inr q
-
-    inner : (J : JobName) (o : Option Name)
-        → option_map_or (λ g. job_before flows k g (J ++ x ∷ []) (J ++ y ∷ [])) o false ≡ true
-        → Deeper → (x ≡ y) ⊎ (spot_before (option_map_or (λ g. steps_at flows k g J) o []) x y ≡ true)
-    inner J None q rec = absurd (true≠false (sym q))
-    inner J (Some g) q rec = rec g J q
-
-    deeper : (steps : List (Name × Step)) (z : Name × Place) (J : JobName) (b : Bool) → b ≡ true
-        → (
-        if b then option_map_or (λ g. job_before flows k g (J ++ x ∷ []) (J ++ y ∷ [])) (step_flow steps z.0) false
-        else spot_before steps z z
-        )
-        ≡ true
-        → option_map_or (λ g. job_before flows k g (J ++ x ∷ []) (J ++ y ∷ [])) (step_flow steps z.0) false ≡ true
-    deeper steps z J true e q = q
-    deeper steps z J false e q = absurd (true≠false (sym e))
-
-    by : (o : Option Flow)
-        → option_map_or (λ (fl : Flow). names_before (job_before flows k) (ranked fl.steps) (I ++ x ∷ []) (I ++ y ∷ [])) o false ≡ true
-        → (J : JobName) → I ≡ J → Deeper
-        → (x ≡ y) ⊎ (spot_before (option_map_or (λ (fl : Flow). steps_in (steps_at flows k) (ranked fl.steps) I) o []) x y ≡ true)
-    by None q J e rec = absurd (true≠false (sym q))
-    by (Some fl) q [] e rec =
-        subst (λ l. (x ≡ y) ⊎ (spot_before (steps_in (steps_at flows k) (ranked fl.steps) l) x y ≡ true)) (sym e)
-        (own (ranked fl.steps) (same_spot x y) refl
-        (subst (λ l. names_before (job_before flows k) (ranked fl.steps) (l ++ x ∷ []) (l ++ y ∷ []) ≡ true) e q))
-    by (Some fl) q (z ∷ J) e rec =
-        subst (λ l. (x ≡ y) ⊎ (spot_before (steps_in (steps_at flows k) (ranked fl.steps) l) x y ≡ true)) (sym e)
-        (inner J (step_flow (ranked fl.steps) z.0)
-        (deeper (ranked fl.steps) z J (same_spot z z) (spot-itself z)
-        (subst (λ l. names_before (job_before flows k) (ranked fl.steps) (l ++ x ∷ []) (l ++ y ∷ []) ≡ true) e q)) rec)
 
 -- ---- ranks
 
@@ -110,15 +60,6 @@ falls-at rank (k ∷ ks) f zero (suc n) a b e g l =
     less x y z p q = omega arith
 falls-at rank (k ∷ ks) f (suc i) zero a b e g l = absurd (omega (arith, l))
 falls-at rank (k ∷ ks) f (suc i) (suc n) a b e g l = falls-at rank ks f.1 i n a b e g (omega (arith, l))
-
-named-in : (n : Name) (xs : List (Name × Step)) (s : Step) → named n xs ≡ Some s → In (n, s) xs
-named-in n [] s e = absurd (none-some s e)
-named-in n (x ∷ xs) s e = by (same_name n x.0) refl e (named-in n xs s)
-  where
-    by : (b : Bool) → same_name n x.0 ≡ b → (if b then Some x.1 else named n xs) ≡ Some s
-        → (named n xs ≡ Some s → In (n, s) xs) → In (n, s) (x ∷ xs)
-    by true h g rec = let first = (bytes_decides n x.0).0 h in inl (λ i. (first i, sym (same_Some x.1 s g) i))
-    by false h g rec = inr (rec g)
 
 module _ (gives : Giving) (d : Document) (past : History) (I : JobName) (levels : Name → ℕ) (v : View)
     (ss : List Seat) (sit : Sit gives d past I levels v ss) where

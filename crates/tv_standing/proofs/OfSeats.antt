@@ -3,6 +3,7 @@ use Rattle.std.specs.Prelude.{◌≡◌, ℕ, true, not, ◌&&◌, ◌||◌, Lis
 use Rattle.std.specs.List.{list_any}
 use Rattle.std.specs.Option.{option_map_or}
 use Rattle.std.proofs.Common.{ap, ap₂, subst, sym, ◌∙◌}
+use Rattle.std.specs.Cmp.{first_so}
 use Rattle.tv_lemmas.proofs.Cases.{on_or, on_test}
 use Rattle.tv_value.specs.Nested.{Place}
 use Rattle.tv_value.specs.Values.{JobName, Name}
@@ -16,7 +17,7 @@ use Rattle.tv_model.specs.Members.{In}
 use Rattle.tv_model.specs.Turns.{is_bounced}
 use Rattle.tv_model.proofs.Members.{Apart}
 use Rattle.tv_model.proofs.Sound.{spot-step}
-use Rattle.tv_model.proofs.Tests.{both_true, left_true, or_left, or_right}
+use Rattle.tv_model.proofs.Tests.{both_true, or_left, or_right}
 use Rattle.tv_history.specs.Entries.{History, is_begun_entry, is_out}
 use Rattle.tv_history.specs.Histories.{has_open_instance, has_place, is_idle, is_ready, is_running, is_settled, may_go_on}
 use Rattle.tv_history.proofs.Ready.{AnyNumber, document-whole}
@@ -121,12 +122,12 @@ module _ (gives : Giving) (d : Document) (past : History) (I : JobName) (levels 
         on_or (is_idle past j) (is_ready m past j && not (is_bounced j.ending) && has_place m past j) h
         (λ k.
         running-seat
-        (left_true (is_running past j) (not (is_out past j.name))
-        (left_true (is_running past j && not (is_out past j.name)) (not (has_open_instance past j)) k)))
+        (first_so (is_running past j) (not (is_out past j.name))
+        (first_so (is_running past j && not (is_out past j.name)) (not (has_open_instance past j)) k)))
         (λ k.
         ready-seat
-        (left_true (is_ready m past j) (not (is_bounced j.ending))
-        (left_true (is_ready m past j && not (is_bounced j.ending)) (has_place m past j) k)))
+        (first_so (is_ready m past j) (not (is_bounced j.ending))
+        (first_so (is_ready m past j && not (is_bounced j.ending)) (has_place m past j) k)))
 
   -- ---- no two are one
 

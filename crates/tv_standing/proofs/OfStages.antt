@@ -1,7 +1,8 @@
 -- What the stage of a seat tells of where its job stands.
-use Rattle.std.specs.Prelude.{◌≡◌, refl, Bool, true, false, not, ◌&&◌, ◌||◌}
+use Rattle.std.specs.Prelude.{◌≡◌, Bool, true, false, not, ◌&&◌, ◌||◌}
 use Rattle.std.specs.List.{list_any}
 use Rattle.std.proofs.Common.{ap, ◌∙◌}
+use Rattle.std.proofs.Math.Bool.{and-false}
 use Rattle.tv_model.specs.Jobs.{Job}
 use Rattle.tv_history.specs.Entries as entries
 use Rattle.tv_history.specs.Entries.{History, is_begun_entry}
@@ -12,10 +13,6 @@ use Rattle.tv_seats.specs.declared.stage.Stage.{Stage}
 use Rattle.tv_seats.specs.declared.stage.Stage.TheVariants as stage
 use Rattle.tv_seated.specs.Seated.{GoesAs, IsStage}
 use Rattle.tv_standing.specs.Seats.{is_over}
-
-pub and-false : (b : Bool) → (b && false) ≡ false
-and-false true = refl
-and-false false = refl
 
 module _ (past : History) (j : Job) where
   pub out-is : (x : Stage) → IsStage past j x → entries.is_out past j.name ≡ is_out x

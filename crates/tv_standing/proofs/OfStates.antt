@@ -3,6 +3,8 @@ use Rattle.std.specs.Prelude.{◌≡◌, refl, ℕ, Bool, true, false, not, ◌&
 use Rattle.std.specs.List.{list_any}
 use Rattle.std.specs.Option.{option_map_or}
 use Rattle.std.proofs.Common.{ap, eqb-true, sym, ◌∙◌}
+use Rattle.std.specs.Cmp.{first_so, second_so}
+use Rattle.std.specs.Cmp.Derive.{one_truth}
 use Rattle.tv_value.specs.Nested.{Place}
 use Rattle.tv_value.specs.Values.{JobName, Name}
 use Rattle.tv_gate.specs.Outcomes.{Giving}
@@ -14,10 +16,9 @@ use Rattle.tv_instance.specs.Counting.{have_ended_by}
 use Rattle.tv_model.specs.Jobs.{Job}
 use Rattle.tv_model.specs.Made.{Meaning}
 use Rattle.tv_model.specs.Meanings.{meaning}
-use Rattle.tv_model.proofs.Tests.{left_true, right_true, true≠false}
+use Rattle.tv_model.proofs.Tests.{true≠false}
 use Rattle.tv_history.specs.Entries.{History, is_begun_entry}
 use Rattle.tv_history.specs.Histories.{is_ask, is_ready, is_settled, next_ask}
-use Rattle.tv_history.proofs.Tests.{same_tests}
 use Rattle.tv_framing.specs.Answers.{after_of}
 use Rattle.tv_framing.specs.Views.{View}
 use Rattle.tv_seats.specs.Seats.{Seat}
@@ -40,8 +41,8 @@ next-is past j a t h = by (next_ask past j) refl h
     by (Some ask) e k = record {
       ask = ask;
       is_next = e;
-      activity = sym (eqb-true a ask.activity (left_true (a == ask.activity) (t == ask.attempt) k));
-      attempt = sym (eqb-true t ask.attempt (right_true (a == ask.activity) (t == ask.attempt) k));
+      activity = sym (eqb-true a ask.activity (first_so (a == ask.activity) (t == ask.attempt) k));
+      attempt = sym (eqb-true t ask.attempt (second_so (a == ask.activity) (t == ask.attempt) k));
     }
 
 -- what neither runs nor is settled wasn't begun
@@ -78,7 +79,7 @@ module _ (gives : Giving) (d : Document) (past : History) (I : JobName) (levels 
         out = h.is_out;
         nothing_open = h.inside;
         ready =
-            same_tests (is_ready m past j) (have_ended x.0) (λ r. (told.told r).1.after)
+            one_truth (is_ready m past j) (have_ended x.0) (λ r. (told.told r).1.after)
             (λ e.
             told.ready known
             (record { idle = sym begun.begun ∙ none; without_result = sym begun.settled ∙ h.unsettled; after = e }))

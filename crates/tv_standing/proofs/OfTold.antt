@@ -4,8 +4,11 @@ use Rattle.std.specs.Cmp.Lexicographic.{bytes_decides}
 use Rattle.std.specs.Option.{option_map_or}
 use Rattle.std.proofs.Common.{ap, eq-eqb, eqb-true, sym, ◌∙◌}
 use Rattle.std.proofs.lemmas.Option.{same_Some}
+use Rattle.std.specs.Cmp.{first_so, second_so}
+use Rattle.std.specs.Cmp.Derive.{one_truth}
 use Rattle.tv_value.specs.Orders.{same_job, same_name}
 use Rattle.tv_value.specs.Values.{JobName, Name}
+use Rattle.tv_value.proofs.OfJobNames.{same_job_decides}
 use Rattle.tv_gate.specs.Outcomes.{Giving}
 use Rattle.tv_flow.specs.Flows.{Document, Step}
 use Rattle.tv_flow.specs.Formed.{is_ascending}
@@ -16,11 +19,9 @@ use Rattle.tv_model.specs.Jobs.{Job}
 use Rattle.tv_model.specs.Made.{Meaning}
 use Rattle.tv_model.specs.Meanings.{meaning}
 use Rattle.tv_model.specs.Members.{In}
-use Rattle.tv_model.proofs.Tests.{left_true, right_true, same_job_decides}
 use Rattle.tv_history.specs.Entries.{History}
 use Rattle.tv_history.specs.Histories.{is_running}
 use Rattle.tv_history.proofs.Ready.{document-whole}
-use Rattle.tv_history.proofs.Tests.{same_tests}
 use Rattle.tv_framing.specs.Views.{View}
 use Rattle.tv_seats.specs.Seats.{Seat}
 use Rattle.tv_seats.specs.Stages.{runs}
@@ -69,8 +70,8 @@ pub counts-by_seats : CountsBySeats
 counts-by_seats gives d past I levels v ss sit counts seat_counts told =
     counted-by gives d past I levels v ss sit (λ j. same_job j.instance I && counts j) seat_counts
     (λ j i h.
-    told.seated j i ((same_job_decides j.instance I).0 (left_true (same_job j.instance I) (counts j) h))
-    (right_true (same_job j.instance I) (counts j) h))
+    told.seated j i ((same_job_decides j.instance I).0 (first_so (same_job j.instance I) (counts j) h))
+    (second_so (same_job j.instance I) (counts j) h))
     (λ n s j e it.
     let own = (same_job_decides j.instance I).1 it.within in
     ap (λ b. b && counts j) own ∙ told.alike n s j e it)
@@ -91,7 +92,7 @@ module _ (gives : Giving) (d : Document) (past : History) (I : JobName) (levels 
     step-is l s j e it =
         let u = sit.steps l s e in
         let name : j.step ≡ u.0.0 = it.step ∙ ap (λ o. option_map_or (λ w. w.0) o []) u.1 in
-        same_tests (same_name j.step t.0) (s.step == k)
+        one_truth (same_name j.step t.0) (s.step == k)
         (λ h.
         eq-eqb s.step k
         (one-place v.flow.steps s.step k u.0 t steps-rise u.1 there (sym name ∙ (bytes_decides j.step t.0).0 h)))
@@ -106,9 +107,9 @@ module _ (gives : Giving) (d : Document) (past : History) (I : JobName) (levels 
     running-at =
         counted-by gives d past I levels v ss sit runs_at (λ s. s.step == k && runs s.stage)
         (λ j i h.
-        let own = left_true (same_job j.instance I) (same_name j.step t.0) (left_true (same_job j.instance I && same_name j.step t.0) (is_running past j) h) in
+        let own = first_so (same_job j.instance I) (same_name j.step t.0) (first_so (same_job j.instance I && same_name j.step t.0) (is_running past j) h) in
         running-seat gives d past I levels v ss sit j i ((same_job_decides j.instance I).0 own)
-        (right_true (same_job j.instance I && same_name j.step t.0) (is_running past j) h))
+        (second_so (same_job j.instance I && same_name j.step t.0) (is_running past j) h))
         (λ l s j e it.
         let own = (same_job_decides j.instance I).1 it.within in
         let step = step-is l s j e it in

@@ -1,13 +1,12 @@
 -- The place of a job splits where the leaves begin.
 use Rattle.std.specs.Prelude.{◌≡◌, refl, ℕ, ◌+◌, [], ◌++◌, drop, map, take}
 use Rattle.std.proofs.Common.{arith, ap, sym, ◌∙◌}
-use Rattle.std.proofs.lemmas.List.{drop-drop, drop-take, take-take, take_all}
+use Rattle.std.proofs.lemmas.List.{drop-drop, drop-take, take-take, take_all, map-append}
 use Rattle.tv_value.specs.Nested.{Place}
 use Rattle.tv_value.specs.Strategies.{Strategy, port, cross, dot, Strategies, no_strategies, strategy}
 use Rattle.tv_value.specs.Values.{Name}
 use Rattle.tv_strategy.specs.Measures.{AllDotsAgree, DotsAgree, HaveOneDepth, first_depth, strategy_depth, sum_of_depths}
 use Rattle.tv_strategy.specs.Splits.{split, split_cross, split_dot}
-use Rattle.tv_matching.proofs.Lists.{map-append}
 use Rattle.tv_starts.specs.Starts.{cross_starts, dot_starts, starts}
 use Rattle.tv_starts.specs.Stated.{PlacesSplitAtStarts}
 

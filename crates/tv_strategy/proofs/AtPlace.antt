@@ -1,6 +1,7 @@
 -- The place of a job splits into the places of its ports' values.
 use Rattle.std.specs.Prelude.{◌≡◌, refl, ℕ, zero, suc, ◌≤◌, List, [], ◌∷◌, ◌++◌, take, drop, Option, Some, None, option_map, option_and_then}
 use Rattle.std.proofs.Common.{arith, sym, ap, subst, ◌∙◌}
+use Rattle.std.proofs.lemmas.List.{append-nil}
 use Rattle.tv_value.specs.Nested.{leaf, list, Trees, no_trees, tree, Place, at, item_at, map_tree, map_trees}
 use Rattle.tv_value.specs.Values.{Name, ErrorDoc}
 use Rattle.tv_value.specs.Strategies.{Strategy, port, cross, dot, Strategies, no_strategies, strategy}
@@ -125,10 +126,6 @@ JobsAt ports (r ∷ rs) b = (c : Binding) × (d : Binding) × (b ≡ c ++ d) × 
 ++-assoc [] ys zs = refl
 ++-assoc (x ∷ xs) ys zs = ap (λ l. x ∷ l) (++-assoc xs ys zs)
 
-++-nil : {A : Type 0} (xs : List A) → xs ++ [] ≡ xs
-++-nil [] = refl
-++-nil (x ∷ xs) = ap (λ l. x ∷ l) (++-nil xs)
-
 both-jobs : (ports : Name → Iteration) (rs ss : List (Name × Place)) (b c : Binding) → JobsAt ports rs b → JobsAt ports ss c → JobsAt ports (rs ++ ss) (b ++ c)
 both-jobs ports [] ss b c h k = subst (λ d. JobsAt ports ss (d ++ c)) (sym h) k
 both-jobs ports (r ∷ rs) ss b c h k = (h.0, h.1 ++ c, ap (λ d. d ++ c) h.2 ∙ ++-assoc h.0 h.1 c, h.3, both-jobs ports rs ss h.1 c h.4 k)
@@ -147,7 +144,7 @@ job-place (i ∷ q) (list s ts) (suc d) l b h = ap (λ r. i ∷ r) (inner (λ t 
     inner rec (Some t) k j = rec t k j
 
 job-is : (ports : Name → Iteration) (p : Name) (q : Place) (b : Binding) → IsJob (at (ports p) q) b → JobsAt ports ((p, q) ∷ []) b
-job-is ports p q b h = (b, [], sym (++-nil b), h, refl)
+job-is ports p q b h = (b, [], sym (append-nil b), h, refl)
 
 -- of no port
 only : (q : Place) (b : Binding) → IsJob (at (leaf [] (job [])) q) b → b ≡ []
@@ -172,7 +169,7 @@ module _ (ports : Name → Iteration) (mismatch : Name → ℕ) (walks : (p : Na
     split_dot-jobs : (cs : Strategies) → AllDotsAgree mismatch cs → HaveOneDepth mismatch cs → (q : Place) (b : Binding) → IsJob (at (dot_of ports cs) q) b → JobsAt ports (split_dot mismatch cs q) b
     split_dot-jobs no_strategies a w q b h = only q b h
     split_dot-jobs (strategy c no_strategies) a w q b h =
-        subst (λ rs. JobsAt ports rs b) (sym (++-nil (split mismatch c q))) (split-jobs c a.0 q b h)
+        subst (λ rs. JobsAt ports rs b) (sym (append-nil (split mismatch c q))) (split-jobs c a.0 q b h)
     split_dot-jobs (strategy c (strategy d ds)) a w q b h =
         let levels = dot_of-levels ports mismatch walks (strategy d ds) a.1 w.1 in
         let r = paired-at q (iteration ports c) (dot_of ports (strategy d ds)) (strategy_depth mismatch c) (strategy_depth mismatch d) (subst (λ n. strategy_depth mismatch c ≤ n) w.0 (omega arith)) (iteration-levels ports mismatch walks c a.0) levels b h in

@@ -2,6 +2,7 @@
 use Rattle.std.specs.Prelude.{◌≡◌, ◌≢◌, ◌⊎◌, refl, ℕ, ◌+◌, ◌-◌, min, List, [], ◌∷◌, ◌++◌, length, take, drop, Bool, true, false, if◌then◌else◌, Option, Some, None, IfSome, IsNone, is_some, ◌↔◌, Result, Ok, Err, IfOk}
 use Rattle.std.proofs.Common.{arith, ap, sym, subst, ◌∙◌, inl, inr, length-append, length-take, length-drop}
 use Rattle.std.proofs.lemmas.List.{take-append-drop}
+use Rattle.tv_lemmas.proofs.Cases.{on_either}
 use Rattle.tv_value.specs.Nested.{Place}
 use Rattle.tv_value.specs.Values.{Name}
 use Rattle.tv_value.specs.Strategies.{Strategy, port, cross, dot, Strategies, no_strategies, strategy}
@@ -155,10 +156,6 @@ module _ (mismatch : Name → ℕ) (ports : Name → Place) where
 
 -- ---- where nothing comes of joining
 
-pick : {A B C : Type 0} → A ⊎ B → (A → C) → (B → C) → C
-pick (inl x) f g = f x
-pick (inr y) f g = g y
-
 one_after-none : (o p : Option Place) → one_after o p ≡ None → (o ≡ None) ⊎ (p ≡ None)
 one_after-none None p h = inl refl
 one_after-none (Some q) None h = inr refl
@@ -214,14 +211,14 @@ module _ (ports : Name → Place) where
     cross-differs : (cs : Strategies) → joined_cross ports cs ≡ None → SomeDotDiffers ports cs
     cross-differs no_strategies h = absurd (cc)
     cross-differs (strategy c cs) h =
-        pick (one_after-none (joined ports c) (joined_cross ports cs) h) (λ k. inl (none-differs c k)) (λ k. inr (cross-differs cs k))
+        on_either (one_after-none (joined ports c) (joined_cross ports cs) h) (λ k. inl (none-differs c k)) (λ k. inr (cross-differs cs k))
 
     dot-differs : (cs : Strategies) → joined_dot ports cs ≡ None → SomeDotDiffers ports cs ⊎ HaveTwoPlaces ports cs
     dot-differs no_strategies h = absurd (cc)
     dot-differs (strategy c no_strategies) h = inl (inl (none-differs c h))
     dot-differs (strategy c (strategy d ds)) h =
-        pick (in_common-none (joined ports c) (joined_dot ports (strategy d ds)) h) (λ k. inl (inl (none-differs c k)))
-        (λ k. pick k (λ j. pick (dot-differs (strategy d ds) j) (λ x. inl (inr x)) (λ y. inr (inr y))) (λ j. inr (inl (two-first c d ds j))))
+        on_either (in_common-none (joined ports c) (joined_dot ports (strategy d ds)) h) (λ k. inl (inl (none-differs c k)))
+        (λ k. on_either k (λ j. on_either (dot-differs (strategy d ds) j) (λ x. inl (inr x)) (λ y. inr (inr y))) (λ j. inr (inl (two-first c d ds j))))
 
   two-none : (c d : Strategy) (ds : Strategies) → Differ (joined ports c) (joined ports d) → (o : Option Place) → joined_dot ports (strategy d ds) ≡ o → in_common (joined ports c) o ≡ None
   two-none c d ds h None e = in_common-nothing (joined ports c)
@@ -235,24 +232,24 @@ module _ (ports : Name → Place) where
     pub differs-none : (s : Strategy) → DotDiffers ports s → joined ports s ≡ None
     differs-none (port p) h = absurd h
     differs-none (cross cs) h = some-none cs h
-    differs-none (dot cs) h = pick h (λ k. child-none cs k) (λ k. places-none cs k)
+    differs-none (dot cs) h = on_either h (λ k. child-none cs k) (λ k. places-none cs k)
 
     some-none : (cs : Strategies) → SomeDotDiffers ports cs → joined_cross ports cs ≡ None
     some-none no_strategies h = absurd h
     some-none (strategy c cs) h =
-        pick h (λ k. ap (λ o. one_after o (joined_cross ports cs)) (differs-none c k)) (λ k. ap (one_after (joined ports c)) (some-none cs k) ∙ one_after-nothing (joined ports c))
+        on_either h (λ k. ap (λ o. one_after o (joined_cross ports cs)) (differs-none c k)) (λ k. ap (one_after (joined ports c)) (some-none cs k) ∙ one_after-nothing (joined ports c))
 
     child-none : (cs : Strategies) → SomeDotDiffers ports cs → joined_dot ports cs ≡ None
     child-none no_strategies h = absurd h
-    child-none (strategy c no_strategies) h = pick h (λ k. differs-none c k) (λ k. absurd k)
+    child-none (strategy c no_strategies) h = on_either h (λ k. differs-none c k) (λ k. absurd k)
     child-none (strategy c (strategy d ds)) h =
-        pick h (λ k. ap (λ o. in_common o (joined_dot ports (strategy d ds))) (differs-none c k)) (λ k. ap (in_common (joined ports c)) (child-none (strategy d ds) k) ∙ in_common-nothing (joined ports c))
+        on_either h (λ k. ap (λ o. in_common o (joined_dot ports (strategy d ds))) (differs-none c k)) (λ k. ap (in_common (joined ports c)) (child-none (strategy d ds) k) ∙ in_common-nothing (joined ports c))
 
     places-none : (cs : Strategies) → HaveTwoPlaces ports cs → joined_dot ports cs ≡ None
     places-none no_strategies h = absurd h
     places-none (strategy c no_strategies) h = absurd h
     places-none (strategy c (strategy d ds)) h =
-        pick h (λ k. two-none c d ds k (joined_dot ports (strategy d ds)) refl) (λ k. ap (in_common (joined ports c)) (places-none (strategy d ds) k) ∙ in_common-nothing (joined ports c))
+        on_either h (λ k. two-none c d ds k (joined_dot ports (strategy d ds)) refl) (λ k. ap (in_common (joined ports c)) (places-none (strategy d ds) k) ∙ in_common-nothing (joined ports c))
 
   pub none-exactly : (s : Strategy) (o : Option Place) → o ≡ joined ports s → IsNone o ↔ DotDiffers ports s
   none-exactly s o e = (λ h. none-differs s (sym e ∙ none-is o h), λ h. ap is_some (e ∙ differs-none s h))

@@ -1,6 +1,8 @@
 -- What stands at a place of a cross or a dot, from what stands there in its children.
 use Rattle.std.specs.Prelude.{◌≡◌, refl, ℕ, zero, suc, ◌<◌, min, List, [], ◌∷◌, ◌++◌, length, Option, Some, None, option_map, option_and_then}
 use Rattle.std.proofs.Common.{arith, ap, sym, subst, ◌∙◌}
+use Rattle.std.proofs.lemmas.List.{append-nil}
+use Rattle.std.proofs.lemmas.Option.{same_Some}
 use Rattle.tv_value.specs.Nested.{leaf, list, no_trees, tree, count, Place, at, item_at}
 use Rattle.tv_value.specs.Values.{Name, ErrorDoc, fault}
 use Rattle.tv_value.specs.Strategies.{no_strategies, strategy}
@@ -15,12 +17,8 @@ use Rattle.tv_strategy.proofs.OfEnds.{item_at-walk_each}
 
 -- ---- a cross of one child
 
-append-nothing : {A : Type 0} (xs : List A) → xs ++ [] ≡ xs
-append-nothing [] = refl
-append-nothing (x ∷ xs) = ap (λ ys. x ∷ ys) (append-nothing xs)
-
 crossed_end-one : (s : List Origin) (e : End) → crossed_end s e one_job ≡ leaf s e
-crossed_end-one s (job b) = ap (λ r. leaf r (job (b ++ []))) (append-nothing s) ∙ ap (λ c. leaf s (job c)) (append-nothing b)
+crossed_end-one s (job b) = ap (λ r. leaf r (job (b ++ []))) (append-nil s) ∙ ap (λ c. leaf s (job c)) (append-nil b)
 crossed_end-one s (passed m e) = refl
 
 mutual
@@ -41,11 +39,8 @@ crossed-there_item : (u : Iteration) (q : Place) (v : Iteration) → ((t : Itera
 crossed-there_item u q v rec None h = absurd (cc)
 crossed-there_item u q v rec (Some t) h = rec t h
 
-pub some-is : {A : Type 0} (x y : A) → Some x ≡ Some y → x ≡ y
-some-is x y h = cc
-
 pub crossed-there : (u : Iteration) (q : Place) (t v : Iteration) → at t q ≡ Some v → at (crossed t u) q ≡ Some (crossed v u)
-crossed-there u [] t v h = ap (λ w. Some (crossed w u)) (some-is t v h)
+crossed-there u [] t v h = ap (λ w. Some (crossed w u)) (same_Some t v h)
 crossed-there u (i ∷ q) (leaf s e) v h = absurd (cc)
 crossed-there u (i ∷ q) (list s ts) v h =
     ap (option_and_then (λ t. at t q)) (item_at-each_crossed ts u i) ∙ crossed-there_item u q v (λ t k. crossed-there u q t v k) (item_at ts i) h
@@ -64,7 +59,7 @@ paired-there_item q v w rec (Some t) None h k = absurd (cc)
 paired-there_item q v w rec (Some t) (Some u) h k = rec t u h k
 
 pub paired-there : (q : Place) (t u v w : Iteration) → at t q ≡ Some v → at u q ≡ Some w → at (paired t u) q ≡ Some (paired v w)
-paired-there [] t u v w h k = ap (λ x. Some (paired x u)) (some-is t v h) ∙ ap (λ x. Some (paired v x)) (some-is u w k)
+paired-there [] t u v w h k = ap (λ x. Some (paired x u)) (same_Some t v h) ∙ ap (λ x. Some (paired v x)) (same_Some u w k)
 paired-there (i ∷ q) (leaf s e) u v w h k = absurd (cc)
 paired-there (i ∷ q) (list s ts) (leaf r e) v w h k = absurd (cc)
 paired-there (i ∷ q) (list s ts) (list r us) v w h k =
@@ -87,7 +82,7 @@ walk-fault p zero v q o e h l = absurd (none (length q) l)
   where
     none : (n : ℕ) → n < 0 → ⊥
     none n p = omega arith
-walk-fault p (suc k) v [] o e h l = ap (λ w. Some (walk p (suc k) w)) (some-is v (leaf o (fault e)) h)
+walk-fault p (suc k) v [] o e h l = ap (λ w. Some (walk p (suc k) w)) (same_Some v (leaf o (fault e)) h)
 walk-fault p (suc k) (leaf n a) (i ∷ q) o e h l = absurd (cc)
 walk-fault p (suc k) (list n vs) (i ∷ q) o e h l =
     ap (option_and_then (λ t. at t q)) (item_at-walk_each p k vs i) ∙ walk-fault_item p k q o e (λ v j. walk-fault p k v q o e j (omega arith)) (item_at vs i) h

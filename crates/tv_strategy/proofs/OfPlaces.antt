@@ -1,7 +1,8 @@
 -- Joining the places of a list of strategies, child by child.
-use Rattle.std.specs.Prelude.{◌≡◌, refl, [], ◌∷◌, ◌++◌, Bool, true, false, ◌==◌, ◌&&◌, if◌then◌else◌, Option, Some, None}
+use Rattle.std.specs.Prelude.{◌≡◌, refl, [], ◌∷◌, ◌++◌, Bool, true, false, ◌==◌, if◌then◌else◌, Option, Some, None}
 use Rattle.std.proofs.Common.{sym, ap, subst, ◌∙◌, append_assoc}
-use Rattle.std.proofs.lemmas.Bool.{eqb-true, eq-eqb}
+use Rattle.std.proofs.lemmas.Bool.{eqb-true, eq-eqb, and_from}
+use Rattle.std.specs.Cmp.{first_so, second_so}
 use Rattle.tv_value.specs.Nested.{Place}
 use Rattle.tv_value.specs.Values.{Name}
 use Rattle.tv_value.specs.Strategies.{Strategy, Strategies, no_strategies, strategy}
@@ -9,27 +10,16 @@ use Rattle.tv_strategy.specs.Splits.{same_place, one_after, in_common, joined, j
 
 -- ---- equal places
 
-left_true : (a b : Bool) → (a && b) ≡ true → a ≡ true
-left_true true b h = refl
-left_true false b h = h
-
-right_true : (a b : Bool) → (a && b) ≡ true → b ≡ true
-right_true true b h = h
-right_true false b h = absurd (cc)
-
-both_true : (a b : Bool) → a ≡ true → b ≡ true → (a && b) ≡ true
-both_true a b h k = subst (λ c. (c && b) ≡ true) (sym h) k
-
 pub same-equal : (q r : Place) → same_place q r ≡ true → q ≡ r
 same-equal [] [] h = refl
 same-equal [] (j ∷ r) h = absurd (cc)
 same-equal (i ∷ q) [] h = absurd (cc)
 same-equal (i ∷ q) (j ∷ r) h =
-    ap (λ k. k ∷ q) (eqb-true i j (left_true (i == j) (same_place q r) h)) ∙ ap (λ s. j ∷ s) (same-equal q r (right_true (i == j) (same_place q r) h))
+    ap (λ k. k ∷ q) (eqb-true i j (first_so (i == j) (same_place q r) h)) ∙ ap (λ s. j ∷ s) (same-equal q r (second_so (i == j) (same_place q r) h))
 
 pub same-itself : (q : Place) → same_place q q ≡ true
 same-itself [] = refl
-same-itself (i ∷ q) = both_true (i == i) (same_place q q) (eq-eqb i i refl) (same-itself q)
+same-itself (i ∷ q) = and_from (i == i) (same_place q q) (eq-eqb i i refl) (same-itself q)
 
 -- ---- a cross
 

@@ -2,6 +2,7 @@
 use Rattle.std.specs.Prelude.{◌≡◌, refl, ℕ, zero, suc, List, [], ◌∷◌, ◌++◌, length, take, drop, Option, Some, None, IsSome, option_map, option_and_then}
 use Rattle.std.proofs.Common.{arith, ap, sym, subst, ◌∙◌}
 use Rattle.std.proofs.lemmas.List.{take-append-drop}
+use Rattle.std.proofs.lemmas.Option.{same_Some}
 use Rattle.tv_value.specs.Nested.{leaf, list, Place, notes, at, item_at}
 use Rattle.tv_value.specs.Values.{Name}
 use Rattle.tv_value.specs.Strategies.{Strategy, port, cross, dot, Strategies, no_strategies, strategy}
@@ -14,7 +15,7 @@ use Rattle.tv_strategy.specs.Sources.{Each}
 use Rattle.tv_strategy.specs.Stated.{JobStandsWhereAllAreThere}
 use Rattle.tv_strategy.proofs.AtPlace.{item_at-map}
 use Rattle.tv_strategy.proofs.OfEnds.{item_at-walk_each}
-use Rattle.tv_strategy.proofs.OfLists.{crossed-there, paired-there, some-is}
+use Rattle.tv_strategy.proofs.OfLists.{crossed-there, paired-there}
 use Rattle.tv_strategy.proofs.OfJoins.{length-front, length-back}
 
 pub record JobThere (o : Option Iteration) : Type 0 where
@@ -22,7 +23,7 @@ pub record JobThere (o : Option Iteration) : Type 0 where
   pub binding : Binding
   pub is : o ≡ Some (leaf sources (job binding))
 
-each-parts : {A : Type 0} (P : A → Type 0) (xs ys : List A) → Each P (xs ++ ys) → Each P xs × Each P ys
+pub each-parts : {A : Type 0} (P : A → Type 0) (xs ys : List A) → Each P (xs ++ ys) → Each P xs × Each P ys
 each-parts P [] ys h = (tt, h)
 each-parts P (x ∷ xs) ys h = let p = each-parts P xs ys h.1 in ((h.0, p.0), p.1)
 
@@ -47,7 +48,7 @@ at-on_item q r u rec None h = absurd (cc)
 at-on_item q r u rec (Some t) h = rec t h
 
 at-on : (q r : Place) (t u : Iteration) → at t q ≡ Some u → at t (q ++ r) ≡ at u r
-at-on [] r t u h = ap (λ v. at v r) (some-is t u h)
+at-on [] r t u h = ap (λ v. at v r) (same_Some t u h)
 at-on (i ∷ q) r (leaf s e) u h = absurd (cc)
 at-on (i ∷ q) r (list s ts) u h = at-on_item q r u (λ t k. at-on q r t u k) (item_at ts i) h
 
@@ -56,7 +57,7 @@ added-there_item s b q v rec None h = absurd (cc)
 added-there_item s b q v rec (Some t) h = rec t h
 
 added-there : (s : List Origin) (b : Binding) (q : Place) (t v : Iteration) → at t q ≡ Some v → at (added s b t) q ≡ Some (added s b v)
-added-there s b [] t v h = ap (λ w. Some (added s b w)) (some-is t v h)
+added-there s b [] t v h = ap (λ w. Some (added s b w)) (same_Some t v h)
 added-there s b (i ∷ q) (leaf r e) v h = absurd (cc)
 added-there s b (i ∷ q) (list r ts) v h =
     ap (option_and_then (λ t. at t q)) (item_at-map (λ r. s ++ r) (end_with b) ts i) ∙ added-there_item s b q v (λ t k. added-there s b q t v k) (item_at ts i) h

@@ -5,6 +5,8 @@ use Rattle.std.specs.Result.{OnErr}
 use Rattle.std.proofs.lemmas.Bool.{cases_eq}
 use Rattle.std.proofs.lemmas.List.{append-nil}
 use Rattle.std.proofs.lemmas.Option.{same_Some}
+use Rattle.tv_lemmas.proofs.Tests.{or-nothing}
+use Rattle.tv_lemmas.proofs.Options.{some-not_none}
 use Rattle.tv_parts.specs.Partials.{Partial, wanting, item, growing, closed, Parts, no_parts, part, part_count, whole, whole_count, holds_some, some_holds}
 use Rattle.tv_parts.specs.Changes.{filled, arrive, close_here, close_at, CanArrive, CanClose}
 use Rattle.tv_parts.proofs.Wholeness.{whole-counts}
@@ -25,12 +27,8 @@ use Rattle.tv_stream.specs.Answers.{LastIsKnown}
 use Rattle.tv_stream.specs.Inside.{counts_ended, counts_whole, counts_of, has_index, nothing, InTree, Below, Parted, Changes, Changed}
 use Rattle.tv_stream.proofs.Listed.{listed-same, filled-listed, count-filled, holds-filled, count-listed, part-listed}
 use Rattle.tv_stream.proofs.Same.{Agrees, same-tree, same-sound, tree-suc, tree-zero, sound-suc, sound-zero, sound-from, sound-leaf}
-use Rattle.tv_stream.proofs.Counting.{some-clash, list-like, beyond, whole-as}
+use Rattle.tv_stream.proofs.Counting.{list-like, beyond, whole-as}
 use Rattle.tv_stream.proofs.Steps.{not-own}
-
-or-false : (b : Bool) → b ≡ (b || false)
-or-false true = refl
-or-false false = refl
 
 pub no-some : (o : Option ℕ) → is_some o ≡ false → o ≡ None
 no-some None h = refl
@@ -69,7 +67,7 @@ module _ {T : Type 0} where
       fresh = λ u none. inl none;
       parts = λ u q j k apart. sets.parts u j;
       bodies = λ u q k apart. ap (option_map (λ x. x.body)) (sets.others u (own-not u q k apart));
-      others = λ u none. sets.others u (λ same. some-clash (spots u) inside.spot (ap spots same ∙ inside.known) none);
+      others = λ u none. sets.others u (λ same. some-not_none (spots u) inside.spot (ap spots same ∙ inside.known) none);
     }
 
     no-parts-after : HasNoParts m s → HasNoParts m' s
@@ -224,7 +222,7 @@ module _ {T : Type 0} where
             ap (holds_some is_marked) close-tree
             ∙ holds-filled is_marked (listed (count_of c) F) n
             ∙ sym (ap (holds_some is_marked) (tree-suc h m s b body) ∙ (list-like (IsSound h m) (tree_at h m) m s 0 b.marked b.part has (counted-as h m s b body inside.sound)).holds)
-            ∙ or-false (holds_some is_marked (tree_at (suc h) m s));
+            ∙ or-nothing (holds_some is_marked (tree_at (suc h) m s));
         least_is = ap (least_whole []) (close-tree ∙ ap closed filled-is) ∙ ap (λ x. if x then Some 0 else None) (whole-as d G whole-is);
       },
     )
@@ -327,10 +325,10 @@ module _ {T : Type 0} where
   }
     where
       apart : (u : ℕ) (q : Spot) → spots u ≡ Some q → u ≢ n
-      apart u q k same = let e = nodes.entries u q k in some-clash (m u) e.entry e.lies (ap m same ∙ h.fresh)
+      apart u q k same = let e = nodes.entries u q k in some-not_none (m u) e.entry e.lies (ap m same ∙ h.fresh)
 
       new : (u : ℕ) → with_spot spots n h.spot u ≡ None → u ≢ n
-      new u k same = some-clash (with_spot spots n h.spot u) h.spot (ap (with_spot spots n h.spot) same ∙ spot-here spots n h.spot) k
+      new u k same = some-not_none (with_spot spots n h.spot u) h.spot (ap (with_spot spots n h.spot) same ∙ spot-here spots n h.spot) k
 
       fresh : (u : ℕ) → spots u ≡ None → (with_spot spots n h.spot u ≡ None) ⊎ (m u ≡ None)
       fresh u k = elim (cases_eq u n) [

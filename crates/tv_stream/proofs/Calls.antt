@@ -1,6 +1,7 @@
 -- The calls, for the whole tree.
 use Rattle.std.proofs.Common.{◌≡◌, ℕ, ◌<◌, ◌≤◌, ◌^◌, arith, length, Bool, List, refl, sym, ap, ◌∙◌, subst, Option, Some, None, inl, Result, Ok, Err}
 use Rattle.std.specs.Result.{OnErr}
+use Rattle.std.proofs.lemmas.Bool.{false≢true}
 use Rattle.tv_parts.specs.Partials.{Partial, wanting, item, growing, closed, Parts, known_at}
 use Rattle.tv_parts.specs.Changes.{MayClose}
 use Rattle.tv_parts.proofs.Changes.{arrive-there, close-there}
@@ -21,7 +22,6 @@ use Rattle.tv_stream.specs.Answers.{IsItem, RefusesArrival, RefusesClose}
 use Rattle.tv_stream.specs.Inside.{nothing, InTree, Changed, ArrivesIn, ClosesIn, RefusesArrivalIn, RefusesCloseIn}
 use Rattle.tv_stream.proofs.Bases.{same-memory}
 use Rattle.tv_stream.proofs.Steps.{nothing-sound, nothing-tree}
-use Rattle.tv_stream.proofs.Ways.{false-true}
 
 -- a result, by what it is
 pub by-result : {A E : Type 0} (Q : Type 0) (r : Result A E) → ((x : A) → r ≡ Ok x → Q) → ((e : E) → r ≡ Err e → Q) → Q
@@ -86,7 +86,7 @@ module _ {T : Type 0} where
       }
 
   pub refuses-arrival : (spare depth : ℕ) (q : List ℕ) (x : T) (r : Partial (Marked T)) (e : ArriveRefused T) → length q ≤ depth → RefusesArrivalIn spare q x r e → RefusesArrival spare depth q x r e
-  refuses-arrival spare depth q x r (NoSuchPlace y) short h = (h.0, λ place. false-true (sym h.1 ∙ place.there))
+  refuses-arrival spare depth q x r (NoSuchPlace y) short h = (h.0, λ place. false≢true (sym h.1 ∙ place.there))
   refuses-arrival spare depth q x r (Occupied y) short h = (h.0, record { short = short; there = h.1 }, h.2)
   refuses-arrival spare depth q x r (NoMemory y) short h = (h.0, record { short = short; there = (arrive-there q r h.1).0 }, h.1, less-equal spare (length q) depth h.2 short)
 

@@ -1,7 +1,9 @@
 -- What a list's counts say once a part was exchanged.
 use Rattle.std.proofs.Common.{◌≡◌, ◌≢◌, ℕ, zero, suc, ◌+◌, ◌<◌, ◌≤◌, ◌^◌, ◌==◌, max, nat_lt, arith, Bool, true, false, ◌||◌, if◌then◌else◌, List, ◌∷◌, refl, sym, ap, ◌∙◌, subst, Option, Some, None, ltb-true, inl, inr}
 use Rattle.std.specs.Option.{option_map}
-use Rattle.std.proofs.lemmas.Bool.{cases_eq}
+use Rattle.std.proofs.lemmas.Bool.{cases_eq, both_ways}
+use Rattle.tv_lemmas.proofs.Numbers.{zero-not_suc}
+use Rattle.tv_lemmas.proofs.Options.{some-not_none}
 use Rattle.tv_parts.specs.Partials.{Partial, wanting, Parts, no_parts, part, part_count, part_of, part_at, whole, one_if, whole_count, holds_some, some_holds}
 use Rattle.tv_parts.specs.Changes.{with_part}
 use Rattle.tv_parts.proofs.Wholeness.{whole-counts, count-with}
@@ -15,14 +17,6 @@ use Rattle.tv_stream.specs.Trees.{Marked, listed, count_of, list_of, optional, p
 use Rattle.tv_stream.specs.Stands.{is_marked, AreCounted, IsCounted, HasNoParts}
 use Rattle.tv_stream.specs.Inside.{counts_with, counts_whole, counts_of, has_index}
 use Rattle.tv_stream.proofs.Listed.{cover, cover-max, cover-less, part-listed, count-listed, with-listed, holds-with, stepped}
-
-pub bool-clash : (b : Bool) → b ≡ true → b ≡ false → ⊥
-bool-clash true h k = absurd (cc)
-bool-clash false h k = absurd (cc)
-
-pub some-clash : {A : Type 0} (o : Option A) (x : A) → o ≡ Some x → o ≡ None → ⊥
-some-clash None x h k = absurd (cc)
-some-clash (Some y) x h k = absurd (cc)
 
 pub part-with : {A : Type 0} (t : Partial A) (ps : Parts A) (i : ℕ) → part_of (with_part t ps i) i ≡ t
 part-with t no_parts zero = refl
@@ -79,9 +73,6 @@ more-few c i w small counted few = by c.length counted few
     by None counted few = both c.most few
     by (Some n) counted few = few
 
-no-last : (j : ℕ) → 0 ≡ suc j → ⊥
-no-last j h = omega arith
-
 module _ {T : Type 0} where
   pub length-has : (w : Part T) (i : ℕ) → has_index w i ≡ true → LengthHas (counts_of w) i
   length-has Wanting i h n is = absurd (cc)
@@ -103,7 +94,7 @@ module _ {T : Type 0} where
     pub inner : part_at (tree_by f m s marked w) i ≡ part_of (parts_by f m s (count_of (counts_of w))) i
 
   some-none : (m : ℕ → Option (Entry (Held T))) (s : ℕ) → HasNoParts m s → (i t : ℕ) → part_in m s i ≡ Some t → ⊥
-  some-none m s h i t e = some-clash (part_in m s i) t e (h i)
+  some-none m s h i t e = some-not_none (part_in m s i) t e (h i)
 
   stepped-list : (o : Option ℕ) (t : Partial (Marked T)) (i : ℕ) (ps : Parts (Marked T)) → stepped t i (list_of o ps) ≡ list_of o (with_part t ps i)
   stepped-list None t i ps = refl
@@ -117,14 +108,14 @@ module _ {T : Type 0} where
       counted = omega arith;
       few = omega arith;
       within = λ j t e. absurd (some-none m s k.1 j t e);
-      last = λ j e. absurd (no-last j e);
+      last = λ j e. absurd (zero-not_suc j e);
       sound = λ j t e. absurd (some-none m s k.1 j t e);
     };
     steps = λ t. refl;
     holds = refl;
     inner = refl;
   }
-  list-like P f m s i marked (Item v) h k = absurd (bool-clash false h refl)
+  list-like P f m s i marked (Item v) h k = absurd (both_ways false refl h)
   list-like P f m s i marked (Numbered c) h k = record {
     counts = k;
     steps = λ t. stepped-list c.length t i (parts_by f m s (count_of c));

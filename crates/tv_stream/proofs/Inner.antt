@@ -1,5 +1,5 @@
 -- A change inside a part, and then the node, as one change of the node.
-use Rattle.std.proofs.Common.{◌≡◌, ℕ, zero, suc, ◌+◌, ◌<◌, ◌≤◌, ◌^◌, ◌==◌, arith, length, Bool, true, false, if◌then◌else◌, List, [], ◌∷◌, refl, sym, ap, ◌∙◌, subst, Option, Some, None}
+use Rattle.std.proofs.Common.{◌≡◌, ℕ, zero, suc, ◌+◌, ◌<◌, ◌≤◌, ◌^◌, ◌==◌, arith, length, Bool, true, false, if◌then◌else◌, List, [], ◌∷◌, refl, sym, ap, ◌∙◌, subst, Option, Some, None, le_of_suc-le-suc, not-suc-le-zero}
 use Rattle.std.specs.Option.{option_map}
 use Rattle.std.proofs.lemmas.Bool.{ne_eqb}
 use Rattle.tv_parts.specs.Partials.{Partial, Parts, no_parts, part, part_count, part_at, whole, whole_count, one_if}
@@ -21,12 +21,6 @@ use Rattle.tv_stream.proofs.Counting.{length-has, ListLike, list-like, part-with
 use Rattle.tv_stream.proofs.Steps.{part-in-tree, part-known, part-tree-is, body-after, node-after, known-after, step}
 use Rattle.tv_stream.proofs.Bases.{changed-least, counted-as}
 use Rattle.tv_stream.proofs.Places.{arrive-can, close-can}
-
-no-less : (n : ℕ) → suc n ≤ 0 → ⊥
-no-less n h = omega arith
-
-down : (n h : ℕ) → suc n ≤ suc h → n ≤ h
-down n h e = omega arith
 
 -- the least prefix is the empty one where the whole tree is whole
 pub least-zero : {A : Type 0} (q : List ℕ) (r : Partial A) (least : Option ℕ) → least_whole q r ≡ least → is_zero least ≡ whole r
@@ -84,11 +78,11 @@ module _ {T : Type 0} where
       short false h = one-more out (length q) (next-first out h) inner.short
 
       all : (spots : ℕ → Option Spot) (height : ℕ) (inside : InTree m spots s height) → suc (length q) ≤ height → CanArrive (i ∷ q) (tree_at height m s) × Changed m m3 spots s inside.spot height (i ∷ q) x.marked (arrive (i ∷ q) x (tree_at height m s)) (Some out)
-      all spots zero inside tall = absurd (no-less (length q) tall)
+      all spots zero inside tall = absurd (not-suc-le-zero {n = (length q)} tall)
       all spots (suc h) inside tall =
           let parted = parts spots inside.spot inside.nodes inside.known in
           let it = part-in-tree m mid spots s i t h inside parted in
-          let r = inner.all parted.more h it (down (length q) h tall) in
+          let r = inner.all parted.more h it (le_of_suc-le-suc {n = (length q)} {m = h} tall) in
           let same : tree_at h mid t ≡ part_at (tree_at (suc h) m s) i = part-tree-is m mid spots s i t h inside parted in
           let suc-is : tree_at (suc h) m s ≡ tree_by (tree_at h m) m s b.marked b.part = tree-suc h m s b body in
           let can : CanArrive (i ∷ q) (tree_at (suc h) m s) = subst (CanArrive (i ∷ q)) (sym suc-is) (arrive-can (tree_at h m) m s b.marked i b.part q has (subst (λ y. CanArrive q (part_at y i)) suc-is (subst (CanArrive q) same r.0))) in
@@ -127,7 +121,7 @@ module _ {T : Type 0} where
       all spots (suc h) inside tall =
           let parted = parts spots inside.spot inside.nodes inside.known in
           let it = part-in-tree m mid spots s i t h inside parted in
-          let r = inner.all parted.more h it (down (suc (length q)) h tall) in
+          let r = inner.all parted.more h it (le_of_suc-le-suc {n = (suc (length q))} {m = h} tall) in
           let same : tree_at h mid t ≡ part_at (tree_at (suc h) m s) i = part-tree-is m mid spots s i t h inside parted in
           let suc-is : tree_at (suc h) m s ≡ tree_by (tree_at h m) m s b.marked b.part = tree-suc h m s b body in
           let can : CanClose (i ∷ q) n (tree_at (suc h) m s) = subst (CanClose (i ∷ q) n) (sym suc-is) (close-can (tree_at h m) m s b.marked i b.part q n has (subst (λ y. CanClose q n (part_at y i)) suc-is (subst (CanClose q n) same r.0))) in

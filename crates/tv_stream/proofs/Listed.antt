@@ -1,5 +1,6 @@
 -- Lists of parts that are given by their indices, and a change of one of them.
-use Rattle.std.proofs.Common.{◌≡◌, ◌≢◌, ℕ, zero, suc, ◌+◌, ◌<◌, ◌≤◌, max, arith, Bool, true, false, ◌||◌, if◌then◌else◌, List, ◌∷◌, refl, sym, ap, ◌∙◌}
+use Rattle.std.proofs.Common.{◌≡◌, ◌≢◌, ℕ, zero, suc, ◌+◌, ◌<◌, ◌≤◌, max, arith, Bool, true, false, ◌||◌, if◌then◌else◌, List, ◌∷◌, refl, sym, ap, ◌∙◌, zero-le, suc-le-suc, suc-ne-zero}
+use Rattle.tv_lemmas.proofs.Numbers.{zero-not_suc}
 use Rattle.tv_parts.specs.Partials.{Partial, wanting, item, growing, closed, Parts, no_parts, part, part_count, part_of, part_at, whole, one_if, whole_count, holds_some, some_holds}
 use Rattle.tv_parts.specs.Changes.{with_part, filled, arrive, close_at}
 use Rattle.tv_stream.specs.Trees.{listed}
@@ -29,23 +30,11 @@ cover-less (suc n) (suc i) h = ap suc (cover-less n i (down i n h))
     down : (i n : ℕ) → suc i < suc n → i < n
     down i n h = omega arith
 
-no-suc-zero : (i : ℕ) → suc i ≡ 0 → ⊥
-no-suc-zero i h = omega arith
-
-no-zero-suc : (i : ℕ) → 0 ≡ suc i → ⊥
-no-zero-suc i h = omega arith
-
 suc-apart : (j i : ℕ) → j ≢ i → suc j ≢ suc i
 suc-apart j i ne h = ne (down j i h)
   where
     down : (j i : ℕ) → suc j ≡ suc i → j ≡ i
     down j i h = omega arith
-
-suc-le : (n j : ℕ) → n ≤ j → suc n ≤ suc j
-suc-le n j h = omega arith
-
-zero-le : (j : ℕ) → 0 ≤ j
-zero-le j = omega arith
 
 module _ {A : Type 0} where
   pub listed-same : (n : ℕ) (f g : ℕ → Partial A) → ((i : ℕ) → f i ≡ g i) → listed n f ≡ listed n g
@@ -53,9 +42,9 @@ module _ {A : Type 0} where
   listed-same (suc n) f g h = ap (λ p. part p (listed n (λ i. f (suc i)))) (h 0) ∙ ap (part (g 0)) (listed-same n (λ i. f (suc i)) (λ i. g (suc i)) (λ i. h (suc i)))
 
   pub part-listed : (n : ℕ) (f : ℕ → Partial A) (i : ℕ) → ((j : ℕ) → n ≤ j → f j ≡ wanting) → part_of (listed n f) i ≡ f i
-  part-listed zero f i h = sym (h i (zero-le i))
+  part-listed zero f i h = sym (h i (zero-le))
   part-listed (suc n) f zero h = refl
-  part-listed (suc n) f (suc i) h = part-listed n (λ j. f (suc j)) i (λ j k. h (suc j) (suc-le n j k))
+  part-listed (suc n) f (suc i) h = part-listed n (λ j. f (suc j)) i (λ j k. h (suc j) (suc-le-suc {m = n} k))
 
   pub count-listed : (n : ℕ) (f : ℕ → Partial A) → part_count (listed n f) ≡ n
   count-listed zero f = refl
@@ -64,12 +53,12 @@ module _ {A : Type 0} where
   pub with-listed : (n : ℕ) (f g : ℕ → Partial A) (i : ℕ) → ((j : ℕ) → j ≢ i → g j ≡ f j) → ((j : ℕ) → n ≤ j → f j ≡ wanting) → with_part (g i) (listed n f) i ≡ listed (cover n i) g
   with-listed zero f g zero same none = refl
   with-listed zero f g (suc i) same none =
-      ap (λ p. part p (with_part (g (suc i)) no_parts i)) (sym (none 0 (zero-le 0)) ∙ sym (same 0 (no-zero-suc i)))
-      ∙ ap (part (g 0)) (with-listed zero (λ j. f (suc j)) (λ j. g (suc j)) i (λ j ne. same (suc j) (suc-apart j i ne)) (λ j h. none (suc j) (zero-le (suc j))))
-  with-listed (suc n) f g zero same none = ap (part (g 0)) (listed-same n (λ j. f (suc j)) (λ j. g (suc j)) (λ j. sym (same (suc j) (no-suc-zero j))))
+      ap (λ p. part p (with_part (g (suc i)) no_parts i)) (sym (none 0 (zero-le)) ∙ sym (same 0 (zero-not_suc i)))
+      ∙ ap (part (g 0)) (with-listed zero (λ j. f (suc j)) (λ j. g (suc j)) i (λ j ne. same (suc j) (suc-apart j i ne)) (λ j h. none (suc j) (zero-le)))
+  with-listed (suc n) f g zero same none = ap (part (g 0)) (listed-same n (λ j. f (suc j)) (λ j. g (suc j)) (λ j. sym (same (suc j) (suc-ne-zero j))))
   with-listed (suc n) f g (suc i) same none =
-      ap (λ p. part p (with_part (g (suc i)) (listed n (λ j. f (suc j))) i)) (sym (same 0 (no-zero-suc i)))
-      ∙ ap (part (g 0)) (with-listed n (λ j. f (suc j)) (λ j. g (suc j)) i (λ j ne. same (suc j) (suc-apart j i ne)) (λ j h. none (suc j) (suc-le n j h)))
+      ap (λ p. part p (with_part (g (suc i)) (listed n (λ j. f (suc j))) i)) (sym (same 0 (zero-not_suc i)))
+      ∙ ap (part (g 0)) (with-listed n (λ j. f (suc j)) (λ j. g (suc j)) i (λ j ne. same (suc j) (suc-apart j i ne)) (λ j h. none (suc j) (suc-le-suc {m = n} h)))
 
   pub filled-listed : (n most : ℕ) (f : ℕ → Partial A) → most ≤ n → ((j : ℕ) → most ≤ j → f j ≡ wanting) → filled (listed most f) n ≡ listed n f
   filled-listed zero zero f h none = refl
@@ -78,9 +67,9 @@ module _ {A : Type 0} where
       never : (m : ℕ) → suc m ≤ 0 → ⊥
       never m h = omega arith
   filled-listed (suc n) zero f h none =
-      ap (λ p. part p (filled no_parts n)) (sym (none 0 (zero-le 0)))
-      ∙ ap (part (f 0)) (filled-listed n zero (λ j. f (suc j)) (zero-le n) (λ j k. none (suc j) (zero-le (suc j))))
-  filled-listed (suc n) (suc most) f h none = ap (part (f 0)) (filled-listed n most (λ j. f (suc j)) (down most n h) (λ j k. none (suc j) (suc-le most j k)))
+      ap (λ p. part p (filled no_parts n)) (sym (none 0 (zero-le)))
+      ∙ ap (part (f 0)) (filled-listed n zero (λ j. f (suc j)) (zero-le) (λ j k. none (suc j) (zero-le)))
+  filled-listed (suc n) (suc most) f h none = ap (part (f 0)) (filled-listed n most (λ j. f (suc j)) (down most n h) (λ j k. none (suc j) (suc-le-suc {m = most} k)))
     where
       down : (m n : ℕ) → suc m ≤ suc n → m ≤ n
       down m n h = omega arith

@@ -3,6 +3,7 @@ use Rattle.std.proofs.Common.{◌≡◌, ℕ, zero, suc, ◌<◌, ◌≤◌, ◌
 use Rattle.std.specs.Option.{option_map}
 use Rattle.std.proofs.lemmas.Bool.{ne_eqb}
 use Rattle.std.proofs.lemmas.Option.{same_Some}
+use Rattle.tv_lemmas.proofs.Options.{some-not_none}
 use Rattle.tv_parts.specs.Partials.{Partial, wanting, Parts, no_parts, part_at, whole, all_whole, holds_some}
 use Rattle.tv_parts.specs.Changes.{filled, arrive, close_at, CanArrive, CanClose}
 use Rattle.tv_parts.proofs.Changes.{arrive-not_whole, close-not_whole}
@@ -23,7 +24,7 @@ use Rattle.tv_stream.specs.Answers.{kind_of, item_of}
 use Rattle.tv_stream.specs.Inside.{counts_of, counts_with, counts_whole, has_index, held_kind, held_whole, is_zero, outer_least, InTree, IsAt}
 use Rattle.tv_stream.proofs.Listed.{count-listed, arrive-step, close-step}
 use Rattle.tv_stream.proofs.Same.{tree-suc, tree-zero, sound-zero, part-tree}
-use Rattle.tv_stream.proofs.Counting.{some-clash, whole-as, list-holds, part-with}
+use Rattle.tv_stream.proofs.Counting.{whole-as, list-holds, part-with}
 use Rattle.tv_stream.proofs.Steps.{part-sound}
 use Rattle.tv_stream.proofs.Bases.{body-tree, counted-as}
 use Rattle.tv_stream.proofs.Places.{can-arrive, can-close}
@@ -52,7 +53,7 @@ module _ {T : Type 0} where
   walk-part m s i t q r at found = by at.spots at.height at.inside at.is
     where
       by : (spots : ℕ → Option Spot) (h : ℕ) → InTree m spots s h → tree_at h m s ≡ r → IsAt m t (part_at r i)
-      by spots zero inside is = let x = sound-zero m s inside.sound in absurd (some-clash (part_in m s i) t found (leaf-none m s x.0.marked x.0.part x.2 i))
+      by spots zero inside is = let x = sound-zero m s inside.sound in absurd (some-not_none (part_in m s i) t found (leaf-none m s x.0.marked x.0.part x.2 i))
       by spots (suc h) inside is = record {
         spots = spots;
         height = h;

@@ -1,5 +1,6 @@
 -- How many nodes a tree has after a change, and how many a change inside a part takes.
 use Rattle.std.proofs.Common.{◌≡◌, ◌≢◌, ℕ, zero, suc, ◌+◌, ◌<◌, ◌≤◌, max, arith, length, true, List, [], ◌∷◌, refl, sym, ap, ap₂, ◌∙◌, subst, Option, Some, None, ◌⊎◌, inl, inr}
+use Rattle.tv_lemmas.proofs.Numbers.{is-plus_zero}
 use Rattle.tv_parts.specs.Partials.{Partial, wanting, item, growing, closed, Parts, no_parts, part, part_of, part_at, map_partial, map_parts}
 use Rattle.tv_parts.specs.Changes.{with_part, filled, arrive, close_here, close_at, CanArrive, CanClose}
 use Rattle.tv_pool.specs.Pool.{Pool}
@@ -16,9 +17,6 @@ use Rattle.tv_stream.proofs.Same.{part-tree}
 use Rattle.tv_stream.proofs.Steps.{part-in-tree, part-tree-is}
 
 -- ---- trees
-
-none-more : (n : ℕ) → n ≡ n + 0
-none-more n = omega arith
 
 module _ {A : Type 0} where
   -- of a part nothing else is known, or it is a node
@@ -148,7 +146,7 @@ module _ {A : Type 0} where
   close-nodes : (q : List ℕ) (n : ℕ) (r : Partial A) → CanClose q n r → tree_nodes (close_at q n r) ≡ tree_nodes r + new_nodes q r
   close-nodes [] n wanting can = ap (λ k. max 1 (suc k)) (filled-nodes no_parts n)
   close-nodes [] n (item v) can = absurd can
-  close-nodes [] n (growing ps) can = ap (λ k. max 1 (suc k)) (filled-nodes ps n) ∙ none-more (tree_nodes (let g : Partial A = growing ps in g))
+  close-nodes [] n (growing ps) can = ap (λ k. max 1 (suc k)) (filled-nodes ps n) ∙ is-plus_zero (tree_nodes (let g : Partial A = growing ps in g))
   close-nodes [] n (closed ps) can = absurd can
   close-nodes (i ∷ q) n r can =
       let w = close-part i q n r can in

@@ -2,6 +2,7 @@
 use Rattle.std.proofs.Common.{◌≡◌, ◌≢◌, ℕ, Option, Some, None, ◌⊎◌, inl, inr, sym, ap, ◌∙◌, subst, List, get_or}
 use Rattle.std.proofs.lemmas.List.{get_or-set_other}
 use Rattle.std.specs.Option.{option_map}
+use Rattle.tv_lemmas.proofs.Options.{some-not_none}
 use Rattle.tv_pool.specs.Pool.{Pool, item_in, lying_in, stored_in, region_at, regions_with, region_of, slot_of}
 use Rattle.tv_nodes.specs.declared.nodes.Entry.{Entry}
 use Rattle.tv_nodes.specs.Stands.{Spot}
@@ -11,7 +12,6 @@ use Rattle.tv_stream.specs.declared.partial.Partial.{Partial as Handle}
 use Rattle.tv_stream.specs.Trees.{memory_of}
 use Rattle.tv_stream.specs.Stands.{StandsOn, Grows, Starts, Apart, Stays}
 use Rattle.tv_stream.proofs.Same.{Agrees, same-tree, same-sound}
-use Rattle.tv_stream.proofs.Counting.{some-clash}
 
 module _ {T : Type 0} where
   -- a tree stays where what lies in its slots does
@@ -35,7 +35,7 @@ module _ {T : Type 0} where
       }
 
   lies-there : (pool : Pool (Entry (Held T))) (q : Handle T) (spots : ℕ → Option Spot) → StandsOn pool q spots → (s : ℕ) (x : Spot) → spots s ≡ Some x → memory_of pool q s ≡ None → ⊥
-  lies-there pool q spots stands s x known none = let e = stands.nodes.entries s x known in some-clash (memory_of pool q s) e.entry e.lies none
+  lies-there pool q spots stands s x known none = let e = stands.nodes.entries s x known in some-not_none (memory_of pool q s) e.entry e.lies none
 
   pub stays-grown : (old new : Pool (Entry (Held T))) (p q : Handle T) (spots others : ℕ → Option Spot) → region_of p.root ≡ region_of q.root → Apart spots others → StandsOn old q others → (g : Grows old new p spots) → Stays old new q others × Apart g.more others
   stays-grown old new p q spots others region apart stands g = (stays-on old new q others stands same, apart-after)

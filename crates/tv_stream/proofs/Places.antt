@@ -1,5 +1,6 @@
 -- Where a change can be, and where it can't, step by step.
 use Rattle.std.proofs.Common.{◌≡◌, ℕ, ◌<◌, nat_lt, Bool, true, false, if◌then◌else◌, List, [], ◌∷◌, refl, sym, ap, ◌∙◌, subst, Option, Some, None, lt-ltb, ltb-true}
+use Rattle.std.proofs.lemmas.Bool.{false≢true}
 use Rattle.tv_parts.specs.Partials.{Partial, wanting, part_count, part_of, part_at, known_at}
 use Rattle.tv_parts.specs.Changes.{is_place, CanArrive, CanClose}
 use Rattle.tv_nodes.specs.declared.nodes.Entry.{Entry}
@@ -28,9 +29,6 @@ pub close-wanting : (A : Type 0) (q : List ℕ) (n : ℕ) → CanClose {A = A} q
 close-wanting A [] n = tt
 close-wanting A (i ∷ q) n = tt
 
-false-true : false ≡ true → ⊥
-false-true h = cc
-
 module _ {T : Type 0} (f : ℕ → Partial (Marked T)) (m : ℕ → Option (Entry (Held T))) (s : ℕ) (marked : Bool) (i : ℕ) where
   less-count : (c : Counts) (n : ℕ) → c.length ≡ Some n → part_count (parts_by f m s (count_of c)) ≡ n
   less-count c n is = count-listed (count_of c) (λ j. optional f (part_in m s j)) ∙ ap (λ o. elim o [ None ↦ c.most | Some k ↦ k ]) is
@@ -38,7 +36,7 @@ module _ {T : Type 0} (f : ℕ → Partial (Marked T)) (m : ℕ → Option (Entr
   -- a place inside the part is one inside the node
   pub place-step : (w : Part T) (q : List ℕ) → has_index w i ≡ true → is_place (i ∷ q) (tree_by f m s marked w) ≡ is_place q (part_at (tree_by f m s marked w) i)
   place-step Wanting q h = sym (place-wanting (Marked T) q)
-  place-step (Item v) q h = absurd (false-true h)
+  place-step (Item v) q h = absurd (false≢true h)
   place-step (Numbered c) q h = by c.length refl h
     where
       by : (o : Option ℕ) → c.length ≡ o → (elim o [ None ↦ true | Some n ↦ nat_lt i n ]) ≡ true → is_place (i ∷ q) (list_of o (parts_by f m s (count_of c))) ≡ is_place q (part_at (list_of o (parts_by f m s (count_of c))) i)
@@ -46,17 +44,17 @@ module _ {T : Type 0} (f : ℕ → Partial (Marked T)) (m : ℕ → Option (Entr
       by (Some n) is h = ap (λ b. if b then is_place q (part_of (parts_by f m s (count_of c)) i) else false) (ap (nat_lt i) (less-count c n is) ∙ h)
 
   pub place-none : (w : Part T) (q : List ℕ) → has_index w i ≡ false → is_place (i ∷ q) (tree_by f m s marked w) ≡ false
-  place-none Wanting q h = absurd (false-true (sym h))
+  place-none Wanting q h = absurd (false≢true (sym h))
   place-none (Item v) q h = refl
   place-none (Numbered c) q h = by c.length refl h
     where
       by : (o : Option ℕ) → c.length ≡ o → (elim o [ None ↦ true | Some n ↦ nat_lt i n ]) ≡ false → is_place (i ∷ q) (list_of o (parts_by f m s (count_of c))) ≡ false
-      by None is h = absurd (false-true (sym h))
+      by None is h = absurd (false≢true (sym h))
       by (Some n) is h = ap (λ b. if b then is_place q (part_of (parts_by f m s (count_of c)) i) else false) (ap (nat_lt i) (less-count c n is) ∙ h)
 
   pub arrive-can : (w : Part T) (q : List ℕ) → has_index w i ≡ true → CanArrive q (part_at (tree_by f m s marked w) i) → CanArrive (i ∷ q) (tree_by f m s marked w)
   arrive-can Wanting q h k = tt
-  arrive-can (Item v) q h k = absurd (false-true h)
+  arrive-can (Item v) q h k = absurd (false≢true h)
   arrive-can (Numbered c) q h k = by c.length refl h k
     where
       by : (o : Option ℕ) → c.length ≡ o → (elim o [ None ↦ true | Some n ↦ nat_lt i n ]) ≡ true → CanArrive q (part_at (list_of o (parts_by f m s (count_of c))) i) → CanArrive (i ∷ q) (list_of o (parts_by f m s (count_of c)))
@@ -65,7 +63,7 @@ module _ {T : Type 0} (f : ℕ → Partial (Marked T)) (m : ℕ → Option (Entr
 
   pub close-can : (w : Part T) (q : List ℕ) (l : ℕ) → has_index w i ≡ true → CanClose q l (part_at (tree_by f m s marked w) i) → CanClose (i ∷ q) l (tree_by f m s marked w)
   close-can Wanting q l h k = tt
-  close-can (Item v) q l h k = absurd (false-true h)
+  close-can (Item v) q l h k = absurd (false≢true h)
   close-can (Numbered c) q l h k = by c.length refl h k
     where
       by : (o : Option ℕ) → c.length ≡ o → (elim o [ None ↦ true | Some n ↦ nat_lt i n ]) ≡ true → CanClose q l (part_at (list_of o (parts_by f m s (count_of c))) i) → CanClose (i ∷ q) l (list_of o (parts_by f m s (count_of c)))

@@ -4,6 +4,7 @@ use Rattle.std.specs.Option.{option_map}
 use Rattle.std.proofs.lemmas.Bool.{cases_eq}
 use Rattle.std.proofs.lemmas.List.{append-nil, append_cancel_left}
 use Rattle.std.proofs.lemmas.Option.{same_Some}
+use Rattle.tv_lemmas.proofs.Options.{some-not_none}
 use Rattle.tv_parts.specs.Partials.{Partial, Parts, wanting, part_at, whole, holds_some}
 use Rattle.tv_parts.specs.Changes.{with_part}
 use Rattle.tv_nodes.specs.declared.nodes.Entry.{Entry}
@@ -20,7 +21,7 @@ use Rattle.tv_stream.specs.Stands.{is_marked, IsCounted, IsSound}
 use Rattle.tv_stream.specs.Inside.{counts_with, counts_whole, counts_of, has_index, nothing, noted, InTree, Below, Parted, Changes, Changed}
 use Rattle.tv_stream.proofs.Listed.{stepped, holds-with}
 use Rattle.tv_stream.proofs.Same.{Agrees, same-tree, same-sound, tree-suc, tree-zero, sound-suc, sound-from, sound-leaf, part-tree}
-use Rattle.tv_stream.proofs.Counting.{some-clash, length-has, ListLike, list-like, list-holds, tree-with, counted-with, least-with}
+use Rattle.tv_stream.proofs.Counting.{length-has, ListLike, list-like, list-holds, tree-with, counted-with, least-with}
 
 nil-cons : (i : ℕ) (y : List ℕ) → [] ≡ i ∷ y → ⊥
 nil-cons i y h = cc
@@ -45,8 +46,8 @@ module _ {T : Type 0} where
   part-sound h m s i t sound found = let b = sound-suc h m s sound in by b.0.marked b.0.part b.2
     where
       by : (marked : Bool) (w : Part T) → IsCounted (IsSound h m) (tree_at h m) m s marked w → IsSound h m t
-      by marked Wanting k = absurd (some-clash (part_in m s i) t found (k.1 i))
-      by marked (Item v) k = absurd (some-clash (part_in m s i) t found (k i))
+      by marked Wanting k = absurd (some-not_none (part_in m s i) t found (k.1 i))
+      by marked (Item v) k = absurd (some-not_none (part_in m s i) t found (k i))
       by marked (Numbered c) k = k.sound i t found
 
   -- a node that holds nothing
@@ -208,7 +209,7 @@ module _ {T : Type 0} where
           fresh = λ u none. by_parted u (parted.fresh u none);
           parts = λ u v j k apart. sets.parts u j ∙ changes.parts u v j (parted.known u v k) (outside v apart) ∙ parted.parts u v j k (λ same. absurd (own-not u v k apart same));
           bodies = λ u v k apart. ap (option_map (λ x. x.body)) (sets.others u (own-not u v k apart)) ∙ changes.bodies u v (parted.known u v k) (outside v apart) ∙ parted.bodies u v k;
-          others = λ u none. sets.others u (λ same. some-clash (changes.more u) p (ap changes.more same ∙ s-known) none) ∙ changes.others u none ∙ parted.others u (unknown u none (parted.more u) refl);
+          others = λ u none. sets.others u (λ same. some-not_none (changes.more u) p (ap changes.more same ∙ s-known) none) ∙ changes.others u none ∙ parted.others u (unknown u none (parted.more u) refl);
         }
           where
             by_parted : (u : ℕ) → (parted.more u ≡ None) ⊎ (m u ≡ None) → (changes.more u ≡ None) ⊎ (m u ≡ None)
@@ -227,7 +228,7 @@ module _ {T : Type 0} where
 
             unknown : (u : ℕ) → changes.more u ≡ None → (o : Option Spot) → parted.more u ≡ o → parted.more u ≡ None
             unknown u none None is = is
-            unknown u none (Some v) is = absurd (some-clash (changes.more u) v (changes.known u v is) none)
+            unknown u none (Some v) is = absurd (some-not_none (changes.more u) v (changes.known u v is) none)
 
         pub step : whole (tree_at (suc h) m s) ≡ false → Changed m m3 spots s p (suc h) (i ∷ q) mark (stepped new i (tree_at (suc h) m s)) (if counts_whole (counts_with c i (whole new)) then Some 0 else option_map suc least)
         step open_before = record {

@@ -1,5 +1,6 @@
 -- The way to a part and back, as the calls go it.
-use Rattle.std.proofs.Common.{◌≡◌, ℕ, zero, suc, ◌<◌, ◌≤◌, ◌^◌, arith, length, true, false, List, [], ◌∷◌, refl, sym, ap, ◌∙◌, subst, Option, Some, None, ◌⊎◌, inl, inr, get_or}
+use Rattle.std.proofs.Common.{◌≡◌, ℕ, zero, suc, ◌<◌, ◌≤◌, ◌^◌, arith, length, true, false, List, [], ◌∷◌, refl, sym, ap, ◌∙◌, subst, Option, Some, None, ◌⊎◌, inl, inr, get_or, le_of_suc-le-suc, not-suc-le-zero}
+use Rattle.std.proofs.lemmas.Bool.{false≢true}
 use Rattle.tv_pool.specs.Pool.{Pool, item_in}
 use Rattle.tv_parts.specs.Partials.{Partial, wanting, item, growing, closed, Parts, part_at, known_at, whole_count, part_count}
 use Rattle.tv_parts.specs.Changes.{is_place, CanArrive, CanClose}
@@ -21,15 +22,6 @@ use Rattle.tv_stream.proofs.Counting.{list-like}
 use Rattle.tv_stream.proofs.Steps.{part-in-tree, part-tree-is, body-after, node-after, known-after}
 use Rattle.tv_stream.proofs.Bases.{counted-as}
 use Rattle.tv_stream.proofs.Places.{place-wanting, known-wanting, place-step, arrive-can, close-can}
-
-no-less : (n : ℕ) → suc n ≤ 0 → ⊥
-no-less n h = omega arith
-
-down : (n h : ℕ) → suc n ≤ suc h → n ≤ h
-down n h e = omega arith
-
-pub false-true : false ≡ true → ⊥
-false-true h = cc
 
 pub nil-of : (l : List ℕ) → length l ≡ 0 → [] ≡ l
 nil-of [] h = refl
@@ -76,10 +68,10 @@ module _ {T : Type 0} where
   module _ (m mid : ℕ → Option (Entry (Held T))) (s t i : ℕ) (q : List ℕ) (parts : (spots : ℕ → Option Spot) (p : Spot) → AreNodes m spots → spots s ≡ Some p → Parted m mid spots s i t) where
     -- into the part
     pub enter : (spots : ℕ → Option Spot) (height : ℕ) → InTree m spots s height → suc (length q) ≤ height → (more : ℕ → Option Spot) × ((h : ℕ) × (InTree mid more t h × (length q ≤ h)))
-    enter spots zero inside tall = absurd (no-less (length q) tall)
+    enter spots zero inside tall = absurd (not-suc-le-zero {n = (length q)} tall)
     enter spots (suc h) inside tall =
         let parted = parts spots inside.spot inside.nodes inside.known in
-        (parted.more, (h, (part-in-tree m mid spots s i t h inside parted, down (length q) h tall)))
+        (parted.more, (h, (part-in-tree m mid spots s i t h inside parted, le_of_suc-le-suc {n = (length q)} {m = h} tall)))
 
     pub enter-close : (spots : ℕ → Option Spot) (height : ℕ) → InTree m spots s height → suc (length q) < height → (more : ℕ → Option Spot) × ((h : ℕ) × (InTree mid more t h × (length q < h)))
     enter-close spots zero inside tall = absurd (never (length q) tall)
@@ -88,7 +80,7 @@ module _ {T : Type 0} where
         never n h = omega arith
     enter-close spots (suc h) inside tall =
         let parted = parts spots inside.spot inside.nodes inside.known in
-        (parted.more, (h, (part-in-tree m mid spots s i t h inside parted, down (suc (length q)) h tall)))
+        (parted.more, (h, (part-in-tree m mid spots s i t h inside parted, le_of_suc-le-suc {n = (suc (length q))} {m = h} tall)))
 
     module _ (m2 : ℕ → Option (Entry (Held T))) (b : Held T) (body : body_in m s ≡ Some b) (has : has_index b.part i ≡ true) (small : i < 2 ^ 32) where
       -- the node after the part was changed, and what it counts
@@ -101,10 +93,10 @@ module _ {T : Type 0} where
         pub whole : (counts_of b.part).whole < 2 ^ 63
 
       pub arrive-after : (x : Marked T) (least : ℕ) → ArrivesIn mid m2 t q x least → (spots : ℕ → Option Spot) (height : ℕ) → InTree m spots s height → suc (length q) ≤ height → After
-      arrive-after x least inner spots zero inside tall = absurd (no-less (length q) tall)
+      arrive-after x least inner spots zero inside tall = absurd (not-suc-le-zero {n = (length q)} tall)
       arrive-after x least inner spots (suc h) inside tall =
           let parted = parts spots inside.spot inside.nodes inside.known in
-          let r = (inner.all parted.more h (part-in-tree m mid spots s i t h inside parted) (down (length q) h tall)).1 in
+          let r = (inner.all parted.more h (part-in-tree m mid spots s i t h inside parted) (le_of_suc-le-suc {n = (length q)} {m = h} tall)).1 in
           record {
             more = r.changes.more;
             spot = inside.spot;
@@ -121,7 +113,7 @@ module _ {T : Type 0} where
           never n h = omega arith
       close-after n least inner spots (suc h) inside tall =
           let parted = parts spots inside.spot inside.nodes inside.known in
-          let r = (inner.all parted.more h (part-in-tree m mid spots s i t h inside parted) (down (suc (length q)) h tall)).1 in
+          let r = (inner.all parted.more h (part-in-tree m mid spots s i t h inside parted) (le_of_suc-le-suc {n = (suc (length q))} {m = h} tall)).1 in
           record {
             more = r.changes.more;
             spot = inside.spot;
@@ -178,7 +170,7 @@ module _ {T : Type 0} where
 
   -- an item is not refused where nothing is known and there is room, nor is a close
   pub never-refused : (q : List ℕ) (spare : ℕ) (x : T) (r : Partial (Marked T)) (e : ArriveRefused T) → r ≡ wanting → length q ≤ spare → RefusesArrivalIn spare q x r e → ⊥
-  never-refused q spare x r (NoSuchPlace y) is room h = false-true (sym h.1 ∙ ap (is_place q) is ∙ place-wanting (Marked T) q)
+  never-refused q spare x r (NoSuchPlace y) is room h = false≢true (sym h.1 ∙ ap (is_place q) is ∙ place-wanting (Marked T) q)
   never-refused q spare x r (Occupied y) is room h = h.2 (ap (known_at q) is ∙ known-wanting (Marked T) q)
   never-refused q spare x r (NoMemory y) is room h = less (length q) spare room h.2
     where

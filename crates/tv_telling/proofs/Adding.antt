@@ -1,16 +1,11 @@
 -- Tellings that are added to a list, whatever strategy has the leaf.
-use Rattle.std.specs.Prelude.{◌≡◌, List, ◌++◌, map, Result, Ok, Err, OnOk}
+use Rattle.std.specs.Prelude.{◌≡◌, List, ◌++◌, map}
 use Rattle.std.proofs.Common.{ap, ◌∙◌, append_assoc}
 use Rattle.tv_value.specs.Strategies.{Strategy}
 use Rattle.tv_matching.specs.Told.{Told}
 use Rattle.tv_match.specs.declared.told.Told as code
 use Rattle.tv_match.specs.Seen.{told_view}
 use Rattle.tv_telling.specs.Views.{AddsTellings}
-
--- what follows of an answer's value
-pub ok-along : {T E P Q : Type 0} (r : Result T E) → (P → Q) → OnOk r P → OnOk r Q
-ok-along (Ok v) f h = f h
-ok-along (Err e) f h = h
 
 -- some tellings, and then others
 pub adds-both : (a b c : List code.Told) (f g h : Strategy → List Told) → AddsTellings a b f → AddsTellings b c g → ((s : Strategy) → f s ++ g s ≡ h s) → AddsTellings a c h

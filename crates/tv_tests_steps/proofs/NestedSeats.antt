@@ -4,6 +4,7 @@ use Rattle.std.proofs.Common.{subst, sym, ◌∙◌}
 use Rattle.std.proofs.lemmas.Option.{same_Some}
 use Rattle.std.specs.Cmp.Lexicographic.{slice_cmp}
 use Rattle.std.specs.Ordering.{is_lt, nat_cmp}
+use Rattle.std.proofs.lemmas.Bool.{false≢true}
 use Rattle.tv_seats.specs.declared.stage.Stage.TheVariants.{Aside, Nested, Out}
 use Rattle.tv_seats.specs.Firsts.{IsAsideSeat, IsFirstAside}
 use Rattle.tv_seats.specs.Seats.{Seat, back, new_seat, with_stage}
@@ -24,11 +25,8 @@ second = record { step = 0; place = 0 ∷ []; stage = Nested 8 }
 abbrev third : Seat
 third = record { step = 0; place = 1 ∷ []; stage = Aside 1 }
 
-never : false ≡ true → ⊥
-never h = cc
-
 open-one : (x t : Seat) → is_aside x.stage ≡ false → Some x ≡ Some t → is_aside t.stage ≡ true → ⊥
-open-one x t h e a = never (sym h ∙ subst (λ (y : Seat). is_aside y.stage ≡ true) (sym (same_Some x t e)) a)
+open-one x t h e a = false≢true (sym h ∙ subst (λ (y : Seat). is_aside y.stage ≡ true) (sym (same_Some x t e)) a)
 
 alone : (m : ℕ) (t : Seat) → IsAsideSeat called_back 0 m t → is_lt (slice_cmp nat_cmp t.place third.place) ≡ false
 alone zero t a = absurd (open-one first t refl a.there a.aside)

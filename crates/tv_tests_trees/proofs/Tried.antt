@@ -1,5 +1,5 @@
 -- The script of the tests, step by step.
-use Rattle.std.proofs.Common.{◌≡◌, ◌≤◌, ◌<◌, ◌+◌, ℕ, zero, suc, List, [], ◌∷◌, length, map, Some, true, inl, inr, refl, sym, ap, ◌∙◌, subst, arith}
+use Rattle.std.proofs.Common.{◌≡◌, ◌≤◌, ◌<◌, ◌+◌, ℕ, zero, suc, List, [], ◌∷◌, length, map, Some, true, inl, inr, refl, sym, ap, ◌∙◌, subst, arith, ne_of_lt}
 use Rattle.std.specs.Prelude.{is_some, slice_get, slice_index_or}
 use Rattle.tv_value.specs.Nested.{Place}
 use Rattle.tv_value.specs.Values.{Value}
@@ -61,12 +61,9 @@ one-case P a (suc k) h = absurd (never k h)
     never : (k : ℕ) → suc k < 1 → ⊥
     never k h = omega arith
 
-unequal : (n m : ℕ) → n < m → n ≡ m → ⊥
-unequal n m h e = omega arith
-
 two-values : (vs : List Value) → length vs ≡ 2 → (v : Value) × ((w : Value) × ((slice_get vs 0 ≡ Some v) × (slice_get vs 1 ≡ Some w)))
-two-values [] h = absurd (unequal 0 2 (omega arith) h)
-two-values (v ∷ []) h = absurd (unequal 1 2 (omega arith) h)
+two-values [] h = absurd (ne_of_lt {a = 0} {b = 2} (omega arith) h)
+two-values (v ∷ []) h = absurd (ne_of_lt {a = 1} {b = 2} (omega arith) h)
 two-values (v ∷ w ∷ vs) h = (v, (w, (refl, refl)))
 
 -- ---- what may come

@@ -1,13 +1,13 @@
 -- What is told of values and along ways, as the code and as the theory has it.
 use Rattle.std.specs.Prelude.{◌≡◌, refl, ℕ, zero, suc, ◌+◌, ◌-◌, ◌≤◌, Bool, true, false, nat_le, nat_lt, if◌then◌else◌, List, [], ◌∷◌, ◌++◌, length, take}
 use Rattle.std.proofs.Common.{arith, ap, sym, ◌∙◌, append_assoc, append-nil}
+use Rattle.std.proofs.lemmas.List.{map-append}
 use Rattle.tv_value.specs.Nested.{Place, Trees, count, leaf, list, no_trees, tree}
 use Rattle.tv_value.specs.Values.{Name, Scalar, Value, fault, holds_fault, text}
 use Rattle.tv_value.specs.Orders.{same_name}
 use Rattle.tv_flow.specs.Flows.{Feed, Link, constant, input, link, merge, output}
 use Rattle.tv_matching.specs.Items.{if_so}
 use Rattle.tv_matching.specs.Told.{arrival, close, telling, tellings}
-use Rattle.tv_matching.proofs.Lists.{map-append}
 use Rattle.tv_instance.specs.Events as events
 use Rattle.tv_instance.specs.Events.{Event, event_place, event_step, fault_set, is_telling, took}
 use Rattle.tv_framing.specs.PortTellings as framing

@@ -2,6 +2,7 @@
 use Rattle.std.specs.Prelude.{Bool, List, None, Option, Some, [], false, if◌then◌else◌, is_some, map, option_and_then, option_map, true, ◌≡◌, ◌∷◌, refl}
 use Rattle.std.specs.Option.{option_map_or}
 use Rattle.std.proofs.Common.{ap, inr, sym, ◌∙◌}
+use Rattle.tv_lemmas.proofs.Options.{is_some-map}
 use Rattle.tv_value.specs.Nested.{Place, at}
 use Rattle.tv_value.specs.Orders.{named, same_name}
 use Rattle.tv_value.specs.Values.{Name, Value}
@@ -37,15 +38,11 @@ pub given-so : {A : Type 0} (f : A → Value) (p : Name) (q : Place) (xs : List 
     → option_and_then (λ v. at v q) (named p (map (λ x. (x.0, f x.1)) xs)) ≡ option_and_then (λ a. at (f a) q) o
 given-so f p q xs o e = ap (option_and_then (λ v. at v q)) (named-each f p xs ∙ ap (option_map f) (sym e)) ∙ seen-at f q o
 
-some-seen : {A B : Type 0} (f : A → B) (o : Option A) → is_some (option_map f o) ≡ is_some o
-some-seen f None = refl
-some-seen f (Some a) = refl
-
 -- it is there where something stands in what was found
 pub is-there : {A B : Type 0} (f : A → Value) (g : B → Value) (p : Name) (q : Place) (xs : List (Name × A)) (a : A) → Some a ≡ named p xs
     → (o : Option B) → option_map g o ≡ at (f a) q
     → is_some o ≡ is_some (option_and_then (λ v. at v q) (named p (map (λ x. (x.0, f x.1)) xs)))
-is-there f g p q xs a e o h = sym (some-seen g o) ∙ ap is_some (h ∙ sym (given-so f p q xs (Some a) e))
+is-there f g p q xs a e o h = sym (is_some-map g o) ∙ ap is_some (h ∙ sym (given-so f p q xs (Some a) e))
 
 pub not-there : {A : Type 0} (f : A → Value) (p : Name) (q : Place) (xs : List (Name × A)) → None ≡ named p xs
     → false ≡ is_some (option_and_then (λ v. at v q) (named p (map (λ x. (x.0, f x.1)) xs)))

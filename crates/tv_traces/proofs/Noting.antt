@@ -1,5 +1,5 @@
 -- What the calls that note jobs and share parts give.
-use Rattle.std.specs.Prelude.{◌≡◌, ℕ, ◌-◌, suc, Option, Some, None, option_map, Result, Ok, Err, IfOk, OnOk}
+use Rattle.std.specs.Prelude.{◌≡◌, ℕ, ◌-◌, suc, Option, Some, None, option_map, Result, Ok, Err, OnOk}
 use Rattle.std.proofs.Common.{arith, sym, ap, subst, ◌∙◌}
 use Rattle.tv_value.specs.Nested.{Place}
 use Rattle.tv_lineage.specs.Kept.{Kept}
@@ -25,7 +25,3 @@ next-level n h = omega (arith, h)
 
 pub at-level : (t : Telling) (m n : ℕ) (q r : Place) (old new : Kept) (u : Rattle.tv_marked.specs.Shapes.Shape) → m ≡ n → r ≡ q → IsBuilt t m r old new u → IsBuilt t n q old new u
 at-level t m n q r old new u e f h = subst (λ k. IsBuilt t k q old new u) e (subst (λ p. IsBuilt t m p old new u) f h)
-
-pub if-told : {T E : Type 0} {P Q : T → Type 0} (r : Result T E) → ((x : T) → P x → Q x) → IfOk r P → IfOk r Q
-if-told (Ok x) f h = f x h
-if-told (Err e) f h = tt

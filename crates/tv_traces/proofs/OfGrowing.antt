@@ -7,9 +7,13 @@ use Rattle.std.proofs.Common.{append_assoc, arith, sym, ap, ap₂, subst, ◌∙
 use Rattle.std.proofs.lemmas.List.{map-append, take_all}
 use Rattle.std.proofs.lemmas.Option.{none-some, same_Some}
 use Rattle.std.specs.Cmp.Lexicographic.{texts_ties}
+use Rattle.tv_lemmas.proofs.Numbers.{none-below}
+use Rattle.tv_lemmas.proofs.Tests.{from-true_false}
+use Rattle.tv_lemmas.proofs.Lists.{take-next}
 use Rattle.tv_value.specs.Nested.{Place}
 use Rattle.tv_value.specs.Orders.{place_cmp, same_name}
-use Rattle.tv_naming.proofs.ByPosition.{same_name-is, same_name-refl}
+use Rattle.tv_value.proofs.OfNames.{same_name-refl}
+use Rattle.tv_naming.proofs.ByPosition.{same_name-is}
 use Rattle.tv_levels.specs.Levels as levels
 use Rattle.tv_levels.specs.Levels.{IsAmong, closed}
 use Rattle.tv_levels.specs.Views.{level_view}
@@ -32,39 +36,14 @@ rest (i ∷ q) = q
 pub same-key : (n m : ℕ) (q p : Place) → n ∷ q ≡ m ∷ p → (n ≡ m) × (q ≡ p)
 same-key n m q p e = (ap (front 0) e, ap rest e)
 
-pub no : {A : Type 0} → true ≡ false → A
-no h = absurd cc
-
 pub at-key : (key r : Place) → (r ≡ key) ⊎ (r ≡ key → ⊥)
 at-key key r = by (same_name r key) refl
   where
     by : (b : Bool) → same_name r key ≡ b → (r ≡ key) ⊎ (r ≡ key → ⊥)
     by true e = inl (same_name-is r key e)
-    by false e = inr (λ f. no (sym (subst (λ k. same_name r k ≡ true) f (same_name-refl r)) ∙ e))
+    by false e = inr (λ f. from-true_false (sym (subst (λ k. same_name r k ≡ true) f (same_name-refl r)) ∙ e))
 
 -- ---- lists
-
-pub take-next : {A : Type 0} (xs : List A) (i : ℕ) (x : A) → i < length xs → x ≡ get_or xs i x → take (suc i) xs ≡ take i xs ++ x ∷ []
-take-next [] i x h e = absurd (none i h)
-  where
-    none : (i : ℕ) → i < 0 → ⊥
-    none i h = omega arith
-take-next (y ∷ xs) zero x h e = ap (λ z. z ∷ []) (sym e)
-take-next (y ∷ xs) (suc i) x h e = ap (λ l. y ∷ l) (take-next xs i x (less i (length xs) h) e)
-  where
-    less : (a b : ℕ) → suc a < suc b → a < b
-    less a b h = omega arith
-
-pub get-any : (xs : List ℕ) (i a b : ℕ) → i < length xs → get_or xs i a ≡ get_or xs i b
-get-any [] i a b h = absurd (none i h)
-  where
-    none : (i : ℕ) → i < 0 → ⊥
-    none i h = omega arith
-get-any (x ∷ xs) zero a b h = refl
-get-any (x ∷ xs) (suc i) a b h = get-any xs i a b (less i (length xs) h)
-  where
-    less : (a b : ℕ) → suc a < suc b → a < b
-    less a b h = omega arith
 
 pub none-at : {X : Type 0} (m : BTreeMap Place X) → m.entries ≡ [] → (k : Place) → get place_cmp m k ≡ None
 none-at m e k = ap (lookup (is_at (place_cmp k))) e
@@ -122,14 +101,14 @@ module _ (R : Items) (step : ℕ) (place : Place) (index count : ℕ) (is : coun
 
 -- by the test
 pub long-there : (count : ℕ) (o : Option ℕ) → at_least count o ≡ true → (least : ℕ) × (o ≡ Some least) × (count ≤ least)
-long-there count None h = no (sym h)
+long-there count None h = from-true_false (sym h)
 long-there count (Some m) h = (m, refl, by (nat_lt m count) refl h)
   where
     le : (a b : ℕ) → nat_lt a b ≡ false → b ≤ a
     le a b e = ltb-false a b e
 
     by : (b : Bool) → nat_lt m count ≡ b → not b ≡ true → count ≤ m
-    by true e g = no (sym g)
+    by true e g = from-true_false (sym g)
     by false e g = le m count e
 
 pub short-there : (count : ℕ) (o : Option ℕ) → at_least count o ≡ false → (m : ℕ) → o ≡ Some m → m < count
@@ -137,7 +116,7 @@ short-there count o h m e = by (nat_lt m count) refl (sym (ap (at_least count) e
   where
     by : (b : Bool) → nat_lt m count ≡ b → not b ≡ false → m < count
     by true f g = ltb-true m count f
-    by false f g = no g
+    by false f g = from-true_false g
 
 pub item-updated : (s t : BTreeMap Place ℕ) (key : Place) (step : ℕ) (place : Place) (index count : ℕ) → key ≡ step ∷ place → count ≡ index + 1 → at_least count (get place_cmp s key) ≡ false → Updates place_cmp s t key (Some count) → (R : Items) → AreGrownBy R (get place_cmp s) → AreGrownBy (WithItem R step place index) (get place_cmp t)
 item-updated s t key step place index count e f h u R =
@@ -162,19 +141,16 @@ item-kept s key step place index count e f h R =
 
 -- ---- all around a place
 
-nothing-less : (a : ℕ) → a < 0 → ⊥
-nothing-less a h = omega arith
-
 pub around-none : (R : Items) (step : ℕ) (place : Place) (found : Place → Option ℕ) → AreGrownBy R found → AreGrownBy (WithAround R step place 0) found
 around-none R step place = same-items R (WithAround R step place 0) (λ n q i r. inl r) back
   where
     back : (n : ℕ) (q : Place) (i : ℕ) → WithAround R step place 0 n q i → R n q i
     back n q i (inl r) = r
-    back n q i (inr x) = absurd (nothing-less (length q) x.1.less)
+    back n q i (inr x) = absurd (none-below (length q) x.1.less)
 
 -- the item at that depth
 take-whole : (place : Place) (depth index : ℕ) → depth < length place → index ≡ get_or place depth index → place ≡ take depth place ++ index ∷ drop (suc depth) place
-take-whole [] depth index h e = absurd (nothing-less depth h)
+take-whole [] depth index h e = absurd (none-below depth h)
 take-whole (j ∷ place) zero index h e = ap (λ k. k ∷ place) (sym e)
 take-whole (j ∷ place) (suc depth) index h e = ap (λ l. j ∷ l) (take-whole place depth index (less depth (length place) h) e)
   where
@@ -182,7 +158,7 @@ take-whole (j ∷ place) (suc depth) index h e = ap (λ l. j ∷ l) (take-whole 
     less a b h = omega arith
 
 take-long : (place : Place) (depth : ℕ) → depth < length place → length (take depth place) ≡ depth
-take-long [] depth h = absurd (nothing-less depth h)
+take-long [] depth h = absurd (none-below depth h)
 take-long (j ∷ place) zero h = refl
 take-long (j ∷ place) (suc depth) h = ap suc (take-long place depth (less depth (length place) h))
   where

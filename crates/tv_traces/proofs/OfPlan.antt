@@ -3,6 +3,7 @@ use Rattle.std.specs.Prelude.{◌≡◌, ℕ, zero, suc, ◌<◌, List, [], ◌�
 use Rattle.std.proofs.Common.{sym, ap, ap₂, subst, ◌∙◌, get_or}
 use Rattle.std.proofs.lemmas.List.{length-map}
 use Rattle.std.proofs.lemmas.Option.{same_Some}
+use Rattle.tv_lemmas.proofs.Lists.{get-map_read, get-read}
 use Rattle.tv_value.specs.Values.{Name}
 use Rattle.tv_value.specs.Views.{strategy_view}
 use Rattle.tv_flow.specs.Flows as spec
@@ -22,7 +23,6 @@ use Rattle.tv_check.specs.declared.plans.StepPlan.{StepPlan}
 use Rattle.tv_frame.proofs.OfPlans.{numbers-are}
 use Rattle.tv_frame.proofs.OfTables.{as-many-code, as-many-steps, step-of, wiring-is}
 use Rattle.tv_marked.specs.Walking.{begins_of}
-use Rattle.tv_traces.proofs.Telling.{got, got-own}
 
 -- the plan of step s
 pub record IsPlanOf (f : spec.Flow) (s : Name × spec.Step) (q : StepPlan) : Type 0 where
@@ -45,16 +45,16 @@ module _ (p : FlowPlan) (k : ℕ) (lt : k < length p.steps) where
   module _ (s : Name × spec.Step) (here : slice_get (flow_view p.flow).steps k ≡ Some s) where
     pub step-plan : (xs : List StepPlan) → xs ≡ p.steps → (q : StepPlan) → q ≡ get_or xs k q → IsPlanOf (flow_view p.flow) s q
     step-plan xs e q is =
-        let r = step-of p k q (got-own p.steps k q lt (is ∙ ap (λ l. get_or l k q) e)) in
+        let r = step-of p k q (get-read p.steps k q lt (is ∙ ap (λ l. get_or l k q) e)) in
         plan-of (flow_view p.flow) s q (r.1.1 ∙ ap (plan.step_plan (flow_view p.flow)) (same_Some r.0 s (sym r.1.0 ∙ here)))
 
     pub step-name : (xs : List (Name × Step)) → xs ≡ p.flow.steps → (x : Name × Step) → x ≡ get_or xs k x → x.0 ≡ s.0
-    step-name xs e x is = ap (λ (y : Name × spec.Step). y.0) (same_Some (x.0, step_view x.1) s (sym (got (λ (y : Name × Step). (y.0, step_view y.1)) p.flow.steps k x in-code (is ∙ ap (λ l. get_or l k x) e)) ∙ here))
+    step-name xs e x is = ap (λ (y : Name × spec.Step). y.0) (same_Some (x.0, step_view x.1) s (sym (get-map_read (λ (y : Name × Step). (y.0, step_view y.1)) p.flow.steps k x in-code (is ∙ ap (λ l. get_or l k x) e)) ∙ here))
 
     pub step-ports : (xs : List (List Port)) → xs ≡ p.wiring.ports → (x : List Port) → x ≡ get_or xs k x → x ≡ ports_of (flow_view p.flow) s.1
     step-ports xs e x is =
         same_Some x (ports_of (flow_view p.flow) s.1)
-        (sym (got-own xs k x (in-ports xs e) is) ∙ ap (λ l. slice_get l k) (e ∙ ap (λ (w : Wiring). w.ports) (wiring-is p)) ∙ get-map (λ y. ports_of (flow_view p.flow) y.1) (flow_view p.flow).steps k s here)
+        (sym (get-read xs k x (in-ports xs e) is) ∙ ap (λ l. slice_get l k) (e ∙ ap (λ (w : Wiring). w.ports) (wiring-is p)) ∙ get-map (λ y. ports_of (flow_view p.flow) y.1) (flow_view p.flow).steps k s here)
       where
         get-map : {A B : Type 0} (f : A → B) (xs : List A) (k : ℕ) (x : A) → slice_get xs k ≡ Some x → slice_get (map f xs) k ≡ Some (f x)
         get-map f [] k x e = absurd (Rattle.std.proofs.lemmas.Option.none-some x e)

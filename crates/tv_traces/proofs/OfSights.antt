@@ -6,6 +6,7 @@ use Rattle.std.specs.Prelude.{◌≡◌, refl, ℕ, suc, ◌+◌, ◌<◌, ◌�
 use Rattle.std.proofs.Common.{arith, sym, ap, ap₂, subst, ◌∙◌, get_or, inl, inr}
 use Rattle.std.proofs.lemmas.List.{map-append}
 use Rattle.std.specs.Cmp.Lexicographic.{texts_ties}
+use Rattle.tv_lemmas.proofs.Lists.{take-next}
 use Rattle.tv_value.specs.Nested.{Place}
 use Rattle.tv_value.specs.Orders.{place_cmp, same_name}
 use Rattle.tv_value.specs.Values.{JobName}
@@ -23,7 +24,7 @@ use Rattle.tv_marked.proofs.OfTables.{so_far-seen, whole-seen}
 use Rattle.tv_traces.specs.Sights.{done_by, grown_in, job_view}
 use Rattle.tv_traces.specs.Tabled.{told_in}
 use Rattle.tv_traces.specs.declared.settled.SettledJob.{SettledJob}
-use Rattle.tv_traces.proofs.OfGrowing.{at-key, in-end, in-front, in-last, same-key, take-next}
+use Rattle.tv_traces.proofs.OfGrowing.{at-key, in-end, in-front, in-last, same-key}
 
 -- ---- settled jobs
 

@@ -1,5 +1,5 @@
 -- The loop over the steps by rank.
-use Rattle.std.specs.Prelude.{◌≡◌, refl, ◌⊎◌, ℕ, zero, suc, ◌<◌, List, [], ◌∷◌, length, replicate, filter, Bool, true, Option, Some, slice_get, slice_index_or, Result, Ok, Err, IfOk}
+use Rattle.std.specs.Prelude.{◌≡◌, refl, ◌⊎◌, ℕ, zero, suc, ◌<◌, List, [], ◌∷◌, length, replicate, Bool, true, Option, Some, slice_get, slice_index_or, Result, Ok, Err, IfOk}
 use Rattle.std.proofs.Common.{arith, sym, ap, subst, ◌∙◌, set, inl, inr}
 use Rattle.std.proofs.lemmas.Option.{none-some, same_Some}
 use Rattle.tv_value.specs.Nested.{Place}
@@ -13,7 +13,6 @@ use Rattle.tv_strategy.specs.Conditions.{number_of}
 use Rattle.tv_strategy.specs.Measures.{strategy_depth}
 use Rattle.tv_naming.specs.Numbers.{position}
 use Rattle.tv_depths.specs.Ranks.{ranked}
-use Rattle.tv_depths.proofs.OfRanked.{same-or-not}
 use Rattle.tv_depths.specs.Steps.{strategy_of}
 use Rattle.tv_wires.specs.Ports.{mismatches}
 use Rattle.tv_check.specs.Plans as plan
@@ -26,6 +25,8 @@ use Rattle.tv_strategy.specs.Origins.{Origin}
 use Rattle.tv_followed.specs.Recorded.{main_records}
 use Rattle.tv_model.specs.Meanings.{meaning}
 use Rattle.std.proofs.lemmas.List.Sorted.{IsPermutation-sym}
+use Rattle.std.proofs.lemmas.Bool.{cases_eq}
+use Rattle.tv_lemmas.proofs.Lists.{get-within, filter-all}
 use Rattle.tv_naming.proofs.OfForms.{steps-named}
 use Rattle.tv_matching.specs.Members as matching
 use Rattle.tv_matching.proofs.OfMembers.{in-permutes}
@@ -46,7 +47,6 @@ use Rattle.tv_traces.specs.Traced.{AreTraces, AreTracesBy}
 use Rattle.tv_traces.specs.Views.{node_view, shapes_view}
 use Rattle.tv_traces.specs.declared.node.Node.{Node}
 use Rattle.tv_traces.specs.declared.traces.Traces.{Traces}
-use Rattle.tv_traces.proofs.Telling.{some-out}
 
 -- ---- no shapes
 
@@ -95,11 +95,11 @@ module _ (p : FlowPlan) (n r : ℕ) (lt : n < length p.steps) (rank : (q : StepP
   flow = flow_view p.flow
 
   here : (s : Name × spec.Step) × (slice_get flow.steps n ≡ Some s)
-  here = some-out flow.steps n (subst (λ m. n < m) (as-many-steps p) lt)
+  here = get-within flow.steps n (subst (λ m. n < m) (as-many-steps p) lt)
 
   of-rank : position here.0.0 (ranked flow.steps) ≡ r
   of-rank =
-      let q = some-out p.steps n lt in
+      let q = get-within p.steps n lt in
       let w = step-of p n q.0 q.1 in
       let same : w.0 ≡ here.0 = same_Some w.0 here.0 (sym w.1.0 ∙ here.1) in
       ap (λ (s : Name × spec.Step). position s.0 (ranked flow.steps)) (sym same) ∙ sym (ap (λ (z : plan.StepPlan). z.rank) w.1.1) ∙ rank q.0 q.1
@@ -116,7 +116,7 @@ module _ (p : FlowPlan) (n r : ℕ) (lt : n < length p.steps) (rank : (q : StepP
       (strategy_depth (number_of (mismatches flow here.0.1)) (strategy_of here.0.1)) refl (node_view u) (built here.0 here.1) at-n others
 
   pub more-grouped : AllAreGrouped flow old.groups (shapes_view us) → AllAreGrouped flow now.groups (shapes_view vs)
-  more-grouped all k s h = by (same-or-not k n)
+  more-grouped all k s h = by (cases_eq k n)
     where
       grown : Grows old.groups now.groups
       grown = (built here.0 here.1).grows
@@ -134,10 +134,10 @@ pub rank-there : (p : FlowPlan) (r : ℕ) → r < length p.steps → ((n : ℕ) 
 rank-there p r lt none =
     let flow = flow_view p.flow in
     let wired = plan-wired p in
-    let s = some-out (ranked flow.steps) r (subst (λ m. r < m) (as-many-steps p ∙ sym wired.ranked) lt) in
+    let s = get-within (ranked flow.steps) r (subst (λ m. r < m) (as-many-steps p ∙ sym wired.ranked) lt) in
     let i = in-permutes s.0 flow.steps (ranked flow.steps) (IsPermutation-sym _ _ (ranked-permutes flow.steps (steps-named flow wired.formed).rise wired.ranked)) (over (ranked flow.steps) r s.0 s.1) in
     let n = in-at s.0 flow.steps (under s.0 flow.steps i) in
-    let q = some-out p.steps n.0 (inside p n.0 s.0 n.1) in
+    let q = get-within p.steps n.0 (inside p n.0 s.0 n.1) in
     let w = step-of p n.0 q.0 q.1 in
     let same : w.0 ≡ s.0 = same_Some w.0 s.0 (sym w.1.0 ∙ n.1) in
     none n.0 q.0 q.1 (ap (λ (z : plan.StepPlan). z.rank) w.1.1 ∙ ap (λ (x : Name × spec.Step). position x.0 (ranked flow.steps)) same ∙ rank-is flow wired r s.0 s.1)
@@ -173,11 +173,6 @@ all-staged known settled gives d p r t is e h =
     let stage = subst (λ n. IsStage gives d (flow_view p.flow) known settled n t.records (shapes_view t.shapes.items)) (e ∙ as-many-steps p) h in
     record { flow_is = is; records = stage-end gives d (flow_view p.flow) is known settled t.records (shapes_view t.shapes.items) stage; shapes = stage.shapes }
 
--- where all jobs are settled, the records are those of all
-all-pass : {A : Type 0} (xs : List A) → filter (λ x. true) xs ≡ xs
-all-pass [] = refl
-all-pass (x ∷ xs) = ap (λ l. x ∷ l) (all-pass xs)
-
 pub all-traced : {E : Type 0} (gives : Giving) (d : Document) (p : FlowPlan) (o : Result Traces E) → IsMainFlow d (flow_view p.flow) → IfOk o (AreTracesBy (λ o. true) (λ n. true) gives d (flow_view p.flow)) → IfOk o (AreTraces gives d (flow_view p.flow))
-all-traced gives d p (Ok t) is h = record { flow_is = is; records = subst (HaveSame (records_of t.records)) (all-pass (main_records (meaning gives d))) h.records; shapes = h.shapes }
+all-traced gives d p (Ok t) is h = record { flow_is = is; records = subst (HaveSame (records_of t.records)) (filter-all (main_records (meaning gives d))) h.records; shapes = h.shapes }
 all-traced gives d p (Err e) is h = tt

@@ -1,15 +1,16 @@
 -- What stands in the outputs used what the traces tell.
-use Rattle.std.specs.Prelude.{◌≡◌, refl, ℕ, zero, suc, ◌≤◌, ◌<◌, Bool, true, false, if◌then◌else◌, is_some, length, flat_map, List, [], ◌∷◌, ◌++◌, map, take, ◌+◌, Some, None, option_map, slice_get}
+use Rattle.std.specs.Prelude.{◌≡◌, refl, ℕ, suc, ◌≤◌, ◌<◌, Bool, true, false, if◌then◌else◌, is_some, length, flat_map, List, [], ◌∷◌, ◌++◌, map, take, ◌+◌, Some, None, option_map, slice_get}
 use Rattle.std.proofs.Common.{arith, sym, ap, ap₂, subst, ◌∙◌, get_or}
 use Rattle.std.proofs.lemmas.List.{length-map, take_all}
-use Rattle.std.proofs.lemmas.Option.{none-some, same_Some}
+use Rattle.std.proofs.lemmas.Option.{same_Some}
+use Rattle.tv_lemmas.proofs.Lists.{get-map, get-within, get-map_read, get-read}
 use Rattle.tv_value.specs.Nested.{Place, at}
 use Rattle.tv_value.specs.Orders.{same_name}
 use Rattle.tv_value.specs.Values.{Name, Value}
 use Rattle.tv_gate.specs.Outcomes.{Giving}
 use Rattle.tv_flow.specs.Flows as spec
 use Rattle.tv_flow.specs.Flows.{Document}
-use Rattle.tv_flow.specs.Views.{each, feed_view, flow_view}
+use Rattle.tv_flow.specs.Views.{feed_view, flow_view}
 use Rattle.tv_strategy.specs.Origins.{Traced, plain}
 use Rattle.tv_cell.specs.PieceValues.{piece_value, piece_values}
 use Rattle.tv_cell.specs.declared.piece.Piece.{Piece}
@@ -29,16 +30,7 @@ use Rattle.tv_marked.proofs.OfOutputs.{leaves-are, leaves_told, named-output, no
 use Rattle.tv_traces.specs.Traced.{AreTraces}
 use Rattle.tv_traces.specs.Views.{shapes_view}
 use Rattle.tv_traces.specs.declared.traces.Traces.{Traces}
-use Rattle.tv_traces.proofs.Telling.{got, got-own, some-out}
-
-position-each : {A B : Type 0} (f : A → B) (n : Name) (xs : List (Name × A)) → position n (each f xs) ≡ position n xs
-position-each f n [] = refl
-position-each f n (x ∷ xs) = ap (λ k. if same_name n x.0 then 0 else suc k) (position-each f n xs)
-
-get-map : {A B : Type 0} (f : A → B) (xs : List A) (k : ℕ) (x : A) → slice_get xs k ≡ Some x → slice_get (map f xs) k ≡ Some (f x)
-get-map f [] k x e = absurd (none-some x e)
-get-map f (y ∷ xs) zero x e = ap (λ z. Some (f z)) (same_Some y x e)
-get-map f (y ∷ xs) (suc k) x e = get-map f xs k x e
+use Rattle.tv_depths.proofs.OfNested.{position-each}
 
 both-at : {A B C : Type 0} (f : B → C) (g : A → B) (xs : List A) (k : ℕ) (x : A) → slice_get xs k ≡ Some x → slice_get (map f (map g xs)) k ≡ Some (f (g x))
 both-at f g xs k x e = get-map f (map g xs) k (g x) (get-map g xs k x e)
@@ -67,15 +59,15 @@ module _ (gives : Giving) (d : Document) (p : FlowPlan) (t : Traces) (a : AreTra
 
   module _ (k : ℕ) (lt : k < length p.flow.outputs) where
     pub here : (o : Name × spec.Feed) × (slice_get flow.outputs k ≡ Some o)
-    here = some-out flow.outputs k (subst (λ n. k < n) (sym as-many) lt)
+    here = get-within flow.outputs k (subst (λ n. k < n) (sym as-many) lt)
 
     pub feed-is : (xs : List NumberedFeed) → xs ≡ p.wiring.outputs → (x : NumberedFeed) → k < length xs → x ≡ get_or xs k x → x ≡ feed_numbered flow here.0.1
-    feed-is xs e x h is = same_Some x (feed_numbered flow here.0.1) (sym (got-own xs k x h is) ∙ ap (λ l. slice_get l k) (e ∙ ap (λ (w : Wiring). w.outputs) (wiring-is p)) ∙ get-map (λ o. feed_numbered flow o.1) flow.outputs k here.0 here.1)
+    feed-is xs e x h is = same_Some x (feed_numbered flow here.0.1) (sym (get-read xs k x h is) ∙ ap (λ l. slice_get l k) (e ∙ ap (λ (w : Wiring). w.outputs) (wiring-is p)) ∙ get-map (λ o. feed_numbered flow o.1) flow.outputs k here.0 here.1)
 
     pub piece-is : (outs : List Piece) → piece_values outs ≡ map plain_of (meaning gives d).outputs → (y : Piece) → k < length outs → y ≡ get_or outs k y → piece_value y ≡ plain (value gives d flow a.flow_is here.0.1)
     piece-is outs e y h is =
         same_Some (piece_value y) (plain (value gives d flow a.flow_is here.0.1))
-        (sym (got piece_value outs k y h is) ∙ ap (λ l. slice_get l k) (e ∙ ap (map plain_of) (outputs-are gives d flow a.flow_is)) ∙ both-at plain_of (output gives d flow a.flow_is) flow.outputs k here.0 here.1)
+        (sym (get-map_read piece_value outs k y h is) ∙ ap (λ l. slice_get l k) (e ∙ ap (map plain_of) (outputs-are gives d flow a.flow_is)) ∙ both-at plain_of (output gives d flow a.flow_is) flow.outputs k here.0 here.1)
 
   -- no output of that name
   pub none-named : (port : Name) (q : Place) → position port p.flow.outputs ≡ length p.flow.outputs → output_at (meaning gives d) port q ≡ None
@@ -138,7 +130,7 @@ module _ (gives : Giving) (d : Document) (p : FlowPlan) (t : Traces) (a : AreTra
   pub leaves-next : (outs : List Piece) → piece_values outs ≡ map plain_of (meaning gives d).outputs → (k : ℕ) (lt : k < length p.flow.outputs) (os : List (Name × Feed)) → os ≡ p.flow.outputs → (x : Name × Feed) → x ≡ get_or os k x → (xs : List NumberedFeed) → xs ≡ p.wiring.outputs → (f : NumberedFeed) → k < length xs → f ≡ get_or xs k f → (y : Piece) → k < length outs → y ≡ get_or outs k y → (places : List Place) → places ≡ leaf_places [] (piece_value y) → (old new : List lineages.Leaf) → old ≡ leaves_until k → new ≡ old ++ map (λ q. record { port = x.0; place = q; used = feed_marks flow (shapes_view t.shapes.items) f q }) places → new ≡ leaves_until (k + 1)
   leaves-next outs e k lt os g x xi xs ge f fl fi y yl yi places pe old new h n =
       let o = here k lt in
-      let name : x.0 ≡ o.0.0 = ap (λ (z : Name × spec.Feed). z.0) (same_Some (x.0, feed_view x.1) o.0 (sym (got (λ (z : Name × Feed). (z.0, feed_view z.1)) p.flow.outputs k x lt (xi ∙ ap (λ l. get_or l k x) g)) ∙ o.1)) in
+      let name : x.0 ≡ o.0.0 = ap (λ (z : Name × spec.Feed). z.0) (same_Some (x.0, feed_view x.1) o.0 (sym (get-map_read (λ (z : Name × Feed). (z.0, feed_view z.1)) p.flow.outputs k x lt (xi ∙ ap (λ l. get_or l k x) g)) ∙ o.1)) in
       n ∙ ap₂ (λ a b. a ++ b) h
       (ap (map (λ q. record { port = x.0; place = q; used = feed_marks flow (shapes_view t.shapes.items) f q })) (pe ∙ ap (leaf_places []) (piece-is k lt outs e y yl yi))
       ∙ ap₂ (λ m z. map (λ (q : Place). record { port = m; place = q; used = feed_marks flow (shapes_view t.shapes.items) z q }) (leaf_places [] (plain (value gives d flow a.flow_is o.0.1)))) name (feed-is k lt xs ge f fl fi))

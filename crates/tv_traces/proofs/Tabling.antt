@@ -1,10 +1,11 @@
 -- The table of levels: with one more.
 use Rattle.std.specs.BTreeMap.{BTreeMap, Updates, get}
 use Rattle.std.specs.Ordering.{is_eq}
-use Rattle.std.specs.Prelude.{◌≡◌, refl, ℕ, zero, suc, ◌+◌, ◌<◌, ◌⊎◌, Bool, true, false, List, [], ◌∷◌, ◌++◌, length, map, take, Option, Some, None, option_map}
+use Rattle.std.specs.Prelude.{◌≡◌, refl, ℕ, suc, ◌+◌, ◌<◌, ◌⊎◌, Bool, true, false, List, [], ◌∷◌, ◌++◌, length, map, take, Option, Some, None, option_map}
 use Rattle.std.proofs.Common.{arith, sym, ap, subst, ◌∙◌, get_or, inl, inr}
 use Rattle.std.proofs.lemmas.Option.{none-some, same_Some}
 use Rattle.std.specs.Cmp.Lexicographic.{texts_ties}
+use Rattle.tv_lemmas.proofs.Lists.{take-next}
 use Rattle.tv_value.specs.Nested.{Place}
 use Rattle.tv_value.specs.Orders.{place_cmp, same_name}
 use Rattle.tv_naming.proofs.ByPosition.{same_name-is}
@@ -15,25 +16,7 @@ use Rattle.tv_levels.specs.declared.level.What.{What}
 use Rattle.tv_model.specs.Members.{In}
 use Rattle.tv_marked.specs.Tables.{IsFrom, IsTableOf}
 use Rattle.tv_traces.specs.Tabled.{told_in}
-
-in-end : {A : Type 0} (x y : A) (xs : List A) → In x (xs ++ y ∷ []) → In x xs ⊎ (x ≡ y)
-in-end x y [] (inl e) = inr e
-in-end x y [] (inr i) = absurd i
-in-end x y (z ∷ xs) (inl e) = inl (inl e)
-in-end {A = A} x y (z ∷ xs) (inr i) = by (in-end x y xs i)
-  where
-    by : In x xs ⊎ (x ≡ y) → In x (z ∷ xs) ⊎ (x ≡ y)
-    by (inl j) = inl (inr j)
-    by (inr e) = inr e
-
-in-front : {A : Type 0} (x y : A) (xs : List A) → In x xs → In x (xs ++ y ∷ [])
-in-front x y [] i = absurd i
-in-front x y (z ∷ xs) (inl e) = inl e
-in-front x y (z ∷ xs) (inr i) = inr (in-front x y xs i)
-
-in-last : {A : Type 0} (y : A) (xs : List A) → In y (xs ++ y ∷ [])
-in-last y [] = inl refl
-in-last y (z ∷ xs) = inr (in-last y xs)
+use Rattle.tv_traces.proofs.OfGrowing.{in-end, in-front, in-last}
 
 abbrev front : ℕ → Place → ℕ
 front d [] = d
@@ -82,17 +65,6 @@ module _ (found more : Place → Option What) (key : Place) (l : Level) (key_is 
       from n q w e (inr f) =
           let x = h.from n q w (sym (ap (option_map what_view) (there (n ∷ q) f)) ∙ e) in
           record { level = x.level; among = in-front x.level (level_view l) ls x.among; of_step = x.of_step; place = x.place; is = x.is }
-
-take-next : {A : Type 0} (xs : List A) (i : ℕ) (x : A) → i < length xs → x ≡ get_or xs i x → take (suc i) xs ≡ take i xs ++ x ∷ []
-take-next [] i x h e = absurd (none i h)
-  where
-    none : (i : ℕ) → i < 0 → ⊥
-    none i h = omega arith
-take-next (y ∷ xs) zero x h e = ap (λ z. z ∷ []) (sym e)
-take-next (y ∷ xs) (suc i) x h e = ap (λ l. y ∷ l) (take-next xs i x (less i (length xs) h) e)
-  where
-    less : (a b : ℕ) → suc a < suc b → a < b
-    less a b h = omega arith
 
 pub table-none : (found : Place → Option What) → ((q : Place) → found q ≡ None) → IsTableOf [] (told_in found)
 table-none found f = record { told = λ x i. absurd i; from = λ n q w e. absurd (none-some w (sym (ap (option_map what_view) (f (n ∷ q))) ∙ e)) }

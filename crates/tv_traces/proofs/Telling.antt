@@ -1,7 +1,10 @@
 -- What the flow and the shapes of its steps tell, case by case.
 use Rattle.std.specs.Option.{option_map_or}
 use Rattle.std.specs.Prelude.{◌≡◌, refl, ℕ, zero, suc, ◌≤◌, ◌<◌, List, [], ◌∷◌, ◌++◌, length, map, Option, Some, None, Result, slice_get, slice_index_or, OnOk}
-use Rattle.std.proofs.Common.{arith, sym, ap, subst, ◌∙◌, append-nil, get_or}
+use Rattle.std.proofs.Common.{sym, ap, subst, ◌∙◌, append-nil, get_or, le_of_suc-le-suc, not-suc-le-zero}
+use Rattle.std.proofs.lemmas.Option.{slice_get_past}
+use Rattle.tv_lemmas.proofs.Numbers.{none-below, less-back}
+use Rattle.tv_lemmas.proofs.Lists.{get-within, get-map_read, get-read}
 use Rattle.tv_value.specs.Nested.{Place}
 use Rattle.tv_value.specs.Values.{Name}
 use Rattle.tv_flow.specs.Flows as spec
@@ -16,52 +19,20 @@ use Rattle.tv_marked.specs.Shapes.{Shape, no_shape, reached}
 use Rattle.tv_traces.specs.Views.{node_view, shapes_view}
 use Rattle.tv_traces.specs.declared.node.Node.{Node}
 
-nothing-below : {A : Type 0} (n : ℕ) → n < 0 → A
-nothing-below n h = absurd (omega arith)
-
-less : (a b : ℕ) → suc a < suc b → a < b
-less a b h = omega arith
-
-less_too : (a b : ℕ) → suc a ≤ suc b → a ≤ b
-less_too a b h = omega arith
-
-not-none : (a : ℕ) → suc a ≤ 0 → ⊥
-not-none a h = omega arith
-
-pub got : {A B : Type 0} (g : A → B) (xs : List A) (n : ℕ) (x : A) → n < length xs → x ≡ get_or xs n x → slice_get (map g xs) n ≡ Some (g x)
-got g [] n x h e = nothing-below n h
-got g (y ∷ xs) zero x h e = ap (λ z. Some (g z)) (sym e)
-got g (y ∷ xs) (suc n) x h e = got g xs n x (less n (length xs) h) e
-
 pub got-not : {A B : Type 0} (g : A → B) (xs : List A) (n : ℕ) → length xs ≤ n → slice_get (map g xs) n ≡ None
 got-not g [] n h = refl
-got-not g (y ∷ xs) zero h = absurd (not-none (length xs) h)
-got-not g (y ∷ xs) (suc n) h = got-not g xs n (less_too (length xs) n h)
-
-itself : {A : Type 0} (xs : List A) → map (λ x. x) xs ≡ xs
-itself [] = refl
-itself (x ∷ xs) = ap (λ l. x ∷ l) (itself xs)
-
-pub got-own : {A : Type 0} (xs : List A) (n : ℕ) (x : A) → n < length xs → x ≡ get_or xs n x → slice_get xs n ≡ Some x
-got-own xs n x h e = ap (λ l. slice_get l n) (sym (itself xs)) ∙ got (λ y. y) xs n x h e
-
-pub got-not_own : {A : Type 0} (xs : List A) (n : ℕ) → length xs ≤ n → slice_get xs n ≡ None
-got-not_own xs n h = ap (λ l. slice_get l n) (sym (itself xs)) ∙ got-not (λ y. y) xs n h
-
-pub some-out : {A : Type 0} (xs : List A) (n : ℕ) → n < length xs → (x : A) × (slice_get xs n ≡ Some x)
-some-out [] n h = nothing-below n h
-some-out (x ∷ xs) zero h = (x, refl)
-some-out (x ∷ xs) (suc n) h = some-out xs n (less n (length xs) h)
+got-not g (y ∷ xs) zero h = absurd (not-suc-le-zero {n = (length xs)} h)
+got-not g (y ∷ xs) (suc n) h = got-not g xs n (le_of_suc-le-suc {n = (length xs)} {m = n} h)
 
 shape-at : (us : List Node) (n : ℕ) (u : Node) → n < length us → u ≡ get_or us n u → slice_index_or (shapes_view us) n no_shape ≡ node_view u
-shape-at [] n u h e = nothing-below n h
+shape-at [] n u h e = none-below n h
 shape-at (v ∷ us) zero u h e = ap node_view (sym e)
-shape-at (v ∷ us) (suc n) u h e = shape-at us n u (less n (length us) h) e
+shape-at (v ∷ us) (suc n) u h e = shape-at us n u (less-back n (length us) h) e
 
 shape-none : (us : List Node) (n : ℕ) → length us ≤ n → slice_index_or (shapes_view us) n no_shape ≡ no_shape
 shape-none [] n h = refl
-shape-none (v ∷ us) zero h = absurd (not-none (length us) h)
-shape-none (v ∷ us) (suc n) h = shape-none us n (less_too (length us) n h)
+shape-none (v ∷ us) zero h = absurd (not-suc-le-zero {n = (length us)} h)
+shape-none (v ∷ us) (suc n) h = shape-none us n (le_of_suc-le-suc {n = (length us)} {m = n} h)
 
 -- ---- to push nothing, or what was pushed
 
@@ -80,20 +51,20 @@ module _ {A : Type 0} (of_element : Name → Place → List A) (of_node : Name �
 
   module _ (xs : List (Name × Step)) (e : xs ≡ f.steps) (x : Name × Step) (h : n < length xs) (is : x ≡ get_or xs n x) where
     step-is : slice_get (flow_view f).steps n ≡ Some (x.0, step_view x.1)
-    step-is = got (λ (s : Name × Step). (s.0, step_view s.1)) f.steps n x (subst (λ l. n < length l) e h) (is ∙ ap (λ l. get_or l n x) e)
+    step-is = get-map_read (λ (s : Name × Step). (s.0, step_view s.1)) f.steps n x (subst (λ l. n < length l) e h) (is ∙ ap (λ l. get_or l n x) e)
 
     told-of : told ≡ inner (x.0, step_view x.1)
     told-of = ap (λ p. option_map_or inner p []) step-is
 
     pub no-out : (os : List (Name × ℕ)) → os ≡ x.1.outputs → length os ≤ o → told ≡ []
-    no-out os g k = told-of ∙ ap (λ p. option_map_or (λ (p : Name × ℕ). option_map_or (λ (y : Place × Shape). of_node x.0 y.0 y.1) (reached [] (slice_index_or (shapes_view us) n no_shape) q) []) p []) (got-not_own x.1.outputs o (subst (λ l. length l ≤ o) g k))
+    no-out os g k = told-of ∙ ap (λ p. option_map_or (λ (p : Name × ℕ). option_map_or (λ (y : Place × Shape). of_node x.0 y.0 y.1) (reached [] (slice_index_or (shapes_view us) n no_shape) q) []) p []) (slice_get_past x.1.outputs o (subst (λ l. length l ≤ o) g k))
 
     module _ (os : List (Name × ℕ)) (g : os ≡ x.1.outputs) (k : o < length os) where
       abbrev there : Option (Place × Shape) → List A
       there r = option_map_or (λ (y : Place × Shape). of_node x.0 y.0 y.1) r []
 
       told-there : told ≡ there (reached [] (slice_index_or (shapes_view us) n no_shape) q)
-      told-there = let p = some-out x.1.outputs o (subst (λ l. o < length l) g k) in told-of ∙ ap (λ r. option_map_or (λ (p : Name × ℕ). there (reached [] (slice_index_or (shapes_view us) n no_shape) q)) r []) p.1
+      told-there = let p = get-within x.1.outputs o (subst (λ l. o < length l) g k) in told-of ∙ ap (λ r. option_map_or (λ (p : Name × ℕ). there (reached [] (slice_index_or (shapes_view us) n no_shape) q)) r []) p.1
 
       pub no-node : (vs : List Node) → vs ≡ us → length vs ≤ n → told ≡ []
       no-node vs w l = told-there ∙ ap (λ u. there (reached [] u q)) (shape-none us n (subst (λ l. length l ≤ n) w l)) ∙ by q
@@ -117,17 +88,17 @@ on-told r a b x told h e = subst (λ z. OnOk r (a ≡ b ++ z)) (sym e) h
 
 module _ {A : Type 0} (of_element : Name → Place → List A) (f : Flow) (n : ℕ) (q : Place) (xs : List (Name × ℕ)) (e : xs ≡ f.inputs) where
   pub no-input : length xs ≤ n → input_told of_element (flow_view f) n q ≡ []
-  no-input h = ap (λ p. option_map_or (λ (i : Name × ℕ). of_element i.0 q) p []) (got-not_own f.inputs n (subst (λ l. length l ≤ n) e h))
+  no-input h = ap (λ p. option_map_or (λ (i : Name × ℕ). of_element i.0 q) p []) (slice_get_past f.inputs n (subst (λ l. length l ≤ n) e h))
 
   pub some-input : (x : Name × ℕ) → n < length xs → x ≡ get_or xs n x → input_told of_element (flow_view f) n q ≡ of_element x.0 q
-  some-input x h is = ap (λ p. option_map_or (λ (i : Name × ℕ). of_element i.0 q) p []) (got-own f.inputs n x (subst (λ l. n < length l) e h) (is ∙ ap (λ l. get_or l n x) e))
+  some-input x h is = ap (λ p. option_map_or (λ (i : Name × ℕ). of_element i.0 q) p []) (get-read f.inputs n x (subst (λ l. n < length l) e h) (is ∙ ap (λ l. get_or l n x) e))
 
 -- ---- merges
 
 module _ {A : Type 0} (of_element : Name → Place → List A) (of_node : Name → Place → Shape → List A) (f : spec.Flow) (us : List Shape) where
   -- no link of that number
   pub no-link : (d : NumberedFeed) (ls xs : List NumberedLink) → d ≡ Merge ls → xs ≡ ls → (q : Place) → 1 ≤ length q → length xs ≤ get_or q 0 0 → feed_told of_element of_node f us d q ≡ []
-  no-link d ls xs e g [] h k = absurd (not-none 0 h)
+  no-link d ls xs e g [] h k = absurd (not-suc-le-zero {n = 0} h)
   no-link d ls xs e g (i ∷ q) h k =
       ap (λ z. feed_told of_element of_node f us z (i ∷ q)) e
-      ∙ ap (λ p. option_map_or (λ l. link_told of_element of_node f us l q) p []) (got-not_own ls i (subst (λ l. length l ≤ i) g k))
+      ∙ ap (λ p. option_map_or (λ l. link_told of_element of_node f us l q) p []) (slice_get_past ls i (subst (λ l. length l ≤ i) g k))

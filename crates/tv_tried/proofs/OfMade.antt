@@ -2,6 +2,7 @@
 use Rattle.std.specs.Prelude.{◌≡◌, refl, List, [], ◌∷◌, ◌++◌, false, Some}
 use Rattle.std.specs.Cmp.Lexicographic.{bytes_decides}
 use Rattle.std.proofs.Common.{sym, ap, subst, ◌∙◌, inl, inr}
+use Rattle.std.proofs.lemmas.Bool.{cond-true, cond-false}
 use Rattle.tv_value.specs.Nested.{Place, leaf, list, nodes}
 use Rattle.tv_value.specs.Orders.{named, same_name}
 use Rattle.tv_value.specs.Values.{JobName, Name, Value}
@@ -9,7 +10,6 @@ use Rattle.tv_gate.specs.Outcomes.{Giving}
 use Rattle.tv_flow.specs.Flows.{Flow, Step}
 use Rattle.tv_strategy.specs.Iterations.{Iteration, job, passed}
 use Rattle.tv_strategy.specs.Origins.{Origin, Traced}
-use Rattle.tv_dispatch.proofs.Turns.{left_if, taken_if}
 use Rattle.tv_depths.specs.Delivered.{Delivered}
 use Rattle.tv_depths.specs.Ranks.{is_among, ranked}
 use Rattle.tv_depths.specs.Steps.{bound_values}
@@ -22,7 +22,8 @@ use Rattle.tv_model.proofs.Members.{of-flat}
 use Rattle.tv_model.proofs.Order.{in-append}
 use Rattle.tv_model.proofs.Sound.{FreshNames}
 use Rattle.tv_lemmas.proofs.Cases.{on_either}
-use Rattle.tv_history.proofs.Tests.{false_left, false_right}
+use Rattle.tv_lemmas.proofs.Tests.{or-second}
+use Rattle.tv_history.proofs.Tests.{false_left}
 
 -- ---- a step is the first of its name
 
@@ -31,7 +32,7 @@ fresh-among :
     → is_among ns x.0 ≡ false
 fresh-among ns [] f x h = absurd h
 fresh-among ns (y ∷ ss) f x (inl e) = ap (λ (z : Name × Step). is_among ns z.0) e ∙ f.0
-fresh-among ns (y ∷ ss) f x (inr h) = false_right (same_name x.0 y.0) (is_among ns x.0) (fresh-among (y.0 ∷ ns) ss f.1 x h)
+fresh-among ns (y ∷ ss) f x (inr h) = or-second (same_name x.0 y.0) (is_among ns x.0) (fresh-among (y.0 ∷ ns) ss f.1 x h)
 
 fresh-named :
     (ns : List Name) (ss : List (Name × Step)) → FreshNames ns ss → (x : Name × Step) → In x ss
@@ -39,9 +40,9 @@ fresh-named :
 fresh-named ns [] f x h = absurd h
 fresh-named ns (y ∷ ss) f x (inl e) =
     subst (λ (z : Name × Step). named z.0 (y ∷ ss) ≡ Some z.1) (sym e)
-    (taken_if (same_name y.0 y.0) (Some y.1) (named y.0 ss) ((bytes_decides y.0 y.0).1 refl))
+    (cond-true (same_name y.0 y.0) (Some y.1) (named y.0 ss) ((bytes_decides y.0 y.0).1 refl))
 fresh-named ns (y ∷ ss) f x (inr h) =
-    left_if (same_name x.0 y.0) (Some y.1) (named x.0 ss) (false_left (same_name x.0 y.0) (is_among ns x.0) (fresh-among (y.0 ∷ ns) ss f.1 x h))
+    cond-false (same_name x.0 y.0) (Some y.1) (named x.0 ss) (false_left (same_name x.0 y.0) (is_among ns x.0) (fresh-among (y.0 ∷ ns) ss f.1 x h))
     ∙ fresh-named (y.0 ∷ ns) ss f.1 x h
 
 module _ (gives : Giving) (inside : Name → JobName → List (Name × Value) → Meaning) (I : JobName) where

@@ -4,6 +4,7 @@ use Rattle.std.specs.List.{list_any}
 use Rattle.std.proofs.Common.{sym, ap, subst, ◌∙◌, inl, inr}
 use Rattle.std.proofs.lemmas.Option.{none-some, same_Some}
 use Rattle.tv_lemmas.proofs.Cases.{on_either}
+use Rattle.tv_lemmas.proofs.Tests.{or-second}
 use Rattle.tv_value.specs.Values.{JobName}
 use Rattle.tv_gate.specs.Outcomes.{Giving}
 use Rattle.tv_flow.specs.Flows.{Document, Step}
@@ -17,7 +18,7 @@ use Rattle.tv_model.specs.Members.{In}
 use Rattle.tv_history.specs.Entries.{Entry, History, is_accepted}
 use Rattle.tv_history.specs.Histories.{asks_left, next_ask}
 use Rattle.tv_history.proofs.Ready.{asks_left-none, left-in}
-use Rattle.tv_history.proofs.Tests.{false_left, false_right}
+use Rattle.tv_history.proofs.Tests.{false_left}
 use Rattle.tv_outcomes.proofs.Few.{activities-few}
 use Rattle.tv_tried.specs.Steps.{IsAskOf, IsOfPlan, IsOwnStep, IsPlanOf}
 use Rattle.tv_tried.proofs.OfJobs.{IsTried, own-job, taken_of}
@@ -41,7 +42,7 @@ pub all-left :
 all-left [] n as' h = refl
 all-left (e ∷ past) n as' h =
     left-kept past e n as' (false_left (is_accepted n e) (list_any (is_accepted n) past) h)
-    ∙ all-left past n as' (false_right (is_accepted n e) (list_any (is_accepted n) past) h)
+    ∙ all-left past n as' (or-second (is_accepted n e) (list_any (is_accepted n) past) h)
 
 first-in : (k : Ask) (l : List Ask) → first_of_list l ≡ Some k → In k l
 first-in k [] h = absurd (none-some k h)

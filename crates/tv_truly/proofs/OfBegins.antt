@@ -9,10 +9,10 @@ use Rattle.tv_value.specs.Nested.{Place, Trees, all_leaves, at, item_at, leaves,
 use Rattle.tv_value.specs.Values.{Name, Scalar, holds_fault, is_fault, Value}
 use Rattle.tv_flow.specs.Flows.{Feed, Link, constant, input, link, merge, output}
 use Rattle.tv_strategy.specs.Origins.{Origin, Traced, fixed, plain}
+use Rattle.tv_strategy.proofs.OfSources.{each-append}
 use Rattle.tv_depths.specs.Delivered.{Delivered, ported, wrapped}
 use Rattle.tv_matching.specs.Items.{if_so}
 use Rattle.tv_matching.specs.Told.{TellsFaults, Told}
-use Rattle.tv_matching.proofs.Lists.{each-append}
 use Rattle.tv_telling.specs.ValueTellings.{bound_told}
 use Rattle.tv_begun.proofs.OfFeeds.{FeedStarts, LinkStarts, LinksStart}
 use Rattle.tv_begun.proofs.OfPlain.{plain-traced, same-faults}

@@ -4,16 +4,18 @@ use Rattle.std.specs.Prelude.{◌≡◌, refl, ℕ, suc, Bool, true, false, ◌|
 use Rattle.std.proofs.Common.{arith, sym, ap, subst, ◌∙◌, inl, inr}
 use Rattle.std.proofs.lemmas.Bool.{or_right, true≢false}
 use Rattle.std.proofs.lemmas.Option.{none-some, same_Some}
+use Rattle.std.specs.Cmp.Derive.{one_truth}
+use Rattle.tv_lemmas.proofs.Options.{is_some-some}
 use Rattle.tv_value.specs.Orders.{named, same_name}
 use Rattle.tv_value.specs.Values.{Name, holds_fault}
+use Rattle.tv_value.proofs.OfNames.{same_name-refl}
 use Rattle.tv_flow.specs.Flows.{StepInput}
 use Rattle.tv_strategy.specs.Conditions.{EachOnce, times}
 use Rattle.tv_strategy.specs.Iterations.{Binding}
 use Rattle.tv_strategy.specs.Origins.{Traced}
 use Rattle.tv_model.specs.Members.{In}
 use Rattle.tv_matching.proofs.OfMembers.{in-map}
-use Rattle.tv_naming.proofs.ByPosition.{same_name-is, same_name-refl}
-use Rattle.tv_instance.proofs.OfWholeness.{same_tests}
+use Rattle.tv_naming.proofs.ByPosition.{same_name-is}
 
 -- some member passes a test
 some-in : {A : Type 0} (p : A → Bool) (xs : List A) → list_any p xs ≡ true → (x : A) × In x xs × (p x ≡ true)
@@ -88,20 +90,16 @@ named-in {A = A} n (y ∷ xs) x h = by (same_name n y.0) refl h (λ k. named-in 
     by true e k rec = inl (λ i. (same_name-is n y.0 e i, sym (same_Some y.1 x k) i))
     by false e k rec = inr (rec k)
 
-is-there : {A : Type 0} (o : Option A) → is_some o ≡ true → (x : A) × (o ≡ Some x)
-is-there None h = absurd (true≢false (sym h))
-is-there (Some x) h = (x, refl)
-
 -- all leaves are inputs, each once, and the job binds each leaf
 pub binding-holds : (ns : List Name) (is : List (Name × StepInput)) (b : Binding) → map (λ r. r.0) b ≡ ns → EachOnce ns ns → ((n : Name) → In n ns → is_some (named n is) ≡ true) → list_any (λ (r : Name × Traced). holds_fault r.1) b ≡ list_any (λ x. holds_fault x) (filter_map (λ (i : Name × StepInput). named i.0 b) is)
 binding-holds ns is b names once inputs =
-    same_tests (list_any (λ (r : Name × Traced). holds_fault r.1) b) (list_any (λ x. holds_fault x) (filter_map (λ (i : Name × StepInput). named i.0 b) is)) to from
+    one_truth (list_any (λ (r : Name × Traced). holds_fault r.1) b) (list_any (λ x. holds_fault x) (filter_map (λ (i : Name × StepInput). named i.0 b) is)) to from
   where
     to : list_any (λ (r : Name × Traced). holds_fault r.1) b ≡ true → list_any (λ x. holds_fault x) (filter_map (λ (i : Name × StepInput). named i.0 b) is) ≡ true
     to h =
         let r = some-in (λ (r : Name × Traced). holds_fault r.1) b h in
         let member : In r.0.0 ns = subst (In r.0.0) names (in-map (λ (y : Name × Traced). y.0) r.0 b r.1) in
-        let input = is-there (named r.0.0 is) (inputs r.0.0 member) in
+        let input = is_some-some (named r.0.0 is) (inputs r.0.0 member) in
         let found : named r.0.0 b ≡ Some r.0.1 = named-once b r.0 r.1 (ap (times r.0.0) names ∙ once-in ns ns once r.0.0 member) in
         in-some (λ x. holds_fault x) r.0.1 (filter_map (λ (i : Name × StepInput). named i.0 b) is)
         (in-filter_map (λ (i : Name × StepInput). named i.0 b) (r.0.0, input.0) r.0.1 is (named-in r.0.0 is input.0 input.1) found) r.2

@@ -14,13 +14,13 @@ use Rattle.tv_strategy.specs.Iterations.{Iteration}
 use Rattle.tv_strategy.specs.Levels.{HasLevels}
 use Rattle.tv_strategy.specs.Origins.{Origin, Traced, fixed, input_value}
 use Rattle.tv_strategy.specs.Sources.{Each}
+use Rattle.tv_strategy.proofs.OfSources.{each-append}
 use Rattle.tv_naming.specs.Naming.{feed_links, has_name}
 use Rattle.tv_naming.specs.Numbers.{position}
 use Rattle.tv_depths.specs.Delivered.{Delivered, feed_delivers, link_delivers}
 use Rattle.tv_model.specs.Instances.{given_of, value_given}
 use Rattle.tv_model.specs.Members.{In}
 use Rattle.tv_matching.specs.Told.{TellsFaults}
-use Rattle.tv_matching.proofs.Lists.{each-append}
 use Rattle.tv_matching.proofs.OfMembers.{each-in}
 use Rattle.tv_parts.specs.Partials.{Partial, holds_some}
 use Rattle.tv_telling.specs.WayTellings.{told_on_way}

@@ -12,15 +12,17 @@ use Rattle.tv_strategy.specs.Conditions.{EachOnce}
 use Rattle.tv_strategy.specs.Measures.{leaf_names}
 use Rattle.tv_strategy.specs.Origins.{Traced}
 use Rattle.tv_strategy.specs.Sources.{Each}
+use Rattle.tv_strategy.proofs.OfSources.{each-append}
 use Rattle.tv_naming.proofs.FormedParts.{passes}
 use Rattle.tv_depths.specs.Delivered.{Delivered, Ported, feed_delivers, ported, wrapped}
 use Rattle.tv_depths.specs.Steps.{endings_of, strategy_of}
 use Rattle.tv_model.specs.Instances.{given_of}
 use Rattle.tv_model.specs.Members.{In}
+use Rattle.tv_model.proofs.OfMembers.{get-in}
 use Rattle.tv_matching.specs.Items.{Bound, Item, Stopped, known_items}
 use Rattle.tv_matching.specs.Matchers.{leaf_name}
 use Rattle.tv_matching.specs.Told.{TellsFaults, Told, faulty_at}
-use Rattle.tv_matching.proofs.Lists.{each-append, each-map, each-weaken}
+use Rattle.tv_matching.proofs.Lists.{each-map, each-weaken}
 use Rattle.tv_matching.proofs.OfMembers.{each-from, each-in, each-permutes, in-map, in-permutes}
 use Rattle.tv_matching.proofs.Onces.{each-flat}
 use Rattle.tv_telling.specs.declared.ways.Event as code
@@ -53,7 +55,7 @@ use Rattle.tv_truly.proofs.OfBegins.{start-truly, wrapped-faults}
 use Rattle.tv_truly.proofs.OfEvents.{event-feeds, feed-holds, port-truly}
 use Rattle.tv_truly.proofs.OfJobs.{delivered, job-holds, node-job, values}
 use Rattle.tv_truly.proofs.OfValues.{bound-truly}
-use Rattle.tv_truly.proofs.OfWires.{by-ports, get-in}
+use Rattle.tv_truly.proofs.OfWires.{by-ports}
 
 -- ---- what a port of a step is delivered
 

@@ -1,13 +1,12 @@
 -- What the code finds by numbers of faults and of whole ports is so by events.
 use Rattle.std.specs.List.{list_all, list_any}
 use Rattle.std.specs.Option.{option_map_or}
-use Rattle.std.specs.Prelude.{get_or, unwrap_or, ◌≡◌, refl, ℕ, suc, ◌≤◌, ◌&&◌, ◌||◌, Bool, true, false, if◌then◌else◌, is_some, List, [], ◌∷◌, filter, map, Option, Some, None, slice_get}
-use Rattle.std.proofs.Common.{arith, sym, ap, ap₂, subst, ◌∙◌}
+use Rattle.std.specs.Prelude.{get_or, unwrap_or, ◌≡◌, refl, ℕ, suc, ◌&&◌, ◌||◌, Bool, true, false, if◌then◌else◌, is_some, List, [], ◌∷◌, filter, map, Option, Some, None, slice_get}
+use Rattle.std.proofs.Common.{sym, ap, ap₂, subst, ◌∙◌, zero-le}
 use Rattle.std.proofs.lemmas.Bool.{and_parts, true≢false}
-use Rattle.std.proofs.lemmas.Option.{get_or_from_slice_get}
+use Rattle.std.proofs.lemmas.Option.{get_or_from_slice_get, slice_get_within}
 use Rattle.tv_value.specs.Nested.{Place}
 use Rattle.tv_flow.specs.Formed.{is_ascending, is_depth}
-use Rattle.tv_depths.proofs.OfRanked.{inside}
 use Rattle.tv_value.specs.Orders.{named, same_name}
 use Rattle.tv_value.specs.Values.{Name, Value, holds_fault}
 use Rattle.tv_joined.specs.WiredFlows.{IsWired}
@@ -51,7 +50,7 @@ at-position {A = A} n (y ∷ xs) h = by (same_name n y.0) refl h (λ k. at-posit
     by false e k rec = rec k
 
 -- an output that is there
-step-there : (f : Flow) (t o : Name) → is_there f (output t o) ≡ true → (has_name f.steps t ≡ true) × (has_name (outputs_of f t) o ≡ true)
+pub step-there : (f : Flow) (t o : Name) → is_there f (output t o) ≡ true → (has_name f.steps t ≡ true) × (has_name (outputs_of f t) o ≡ true)
 step-there f t o h = by (named t f.steps) refl h
   where
     by : (x : Option Step) → named t f.steps ≡ x → option_map_or (λ (s : Step). has_name s.outputs o) x false ≡ true → (has_name f.steps t ≡ true) × (has_name (outputs_of f t) o ≡ true)
@@ -132,14 +131,11 @@ other-stays s k levels declared (events.closed t q n) p h = not-taken (same_name
 other-stays s k levels declared (fault_set t q d) p h = not-taken (same_name s t) _ p h
 other-stays s k levels declared (took t q) p h = refl
 
-least : (n : ℕ) → 0 ≤ n
-least n = omega arith
-
 pub trees-are_by_events : TreesAreByEvents
 trees-are_by_events levels v e =
     record {
       stays = λ t o h. other-stays t _ _ _ e (tree_of v.flow levels v.inputs v.events t o) h;
-      own = λ faults from c w o h. w.hold o h 0 (least _);
+      own = λ faults from c w o h. w.hold o h 0 (zero-le);
     }
 
 -- ---- trees by numbers
@@ -154,7 +150,7 @@ module _ (f : Flow) (wired : IsWired f) (n : ℕ) (s : Name × Step) (there : sl
   module _ (levels : Name → ℕ) (given : List (Name × Value)) (es : Events) where
     numbered-tree : (k : ℕ) (o : Name × ℕ) → slice_get s.1.outputs k ≡ Some o → tree_of f levels given es s.0 o.0 ≡ part_so_far s.0 k (levels s.0) o.1 es
     numbered-tree k o e =
-        let l = inside s.1.outputs k o e in
+        let l = slice_get_within s.1.outputs k o e in
         let same = get_or_from_slice_get s.1.outputs k o o e in
         let number : position o.0 s.1.outputs ≡ k = ap (λ (x : Name × ℕ). position x.0 s.1.outputs) (sym same) ∙ position-at s.1.outputs k o outputs-rise l in
         let found : named o.0 s.1.outputs ≡ Some o.1 = subst (λ (x : Name × ℕ). named x.0 s.1.outputs ≡ Some x.1) same (named-at s.1.outputs k o outputs-rise l) in

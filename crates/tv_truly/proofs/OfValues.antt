@@ -1,28 +1,24 @@
 -- What is told of a value that stands at a place is told truly.
 use Rattle.std.specs.Prelude.{◌≡◌, refl, ℕ, zero, suc, ◌+◌, Bool, true, false, List, [], ◌∷◌, ◌++◌, Option, Some, None, option_and_then}
 use Rattle.std.proofs.Common.{arith, sym, ap, ap₂, subst, ◌∙◌}
-use Rattle.tv_value.specs.Nested.{Place, Tree, Trees, at, count, item_at, leaf, list, map_tree, map_trees, no_trees, tree}
+use Rattle.tv_value.specs.Nested.{Place, Tree, Trees, at, item_at, leaf, list, map_tree, map_trees, no_trees, tree}
 use Rattle.tv_value.specs.Values.{Name, Scalar, Value, fault, holds_fault, text}
 use Rattle.tv_strategy.specs.Origins.{Origin, Traced, plain}
 use Rattle.tv_strategy.specs.Sources.{Each}
+use Rattle.tv_strategy.proofs.OfSources.{each-append}
 use Rattle.tv_matching.specs.Told.{TellsFaults, Told, close, value_there}
-use Rattle.tv_matching.proofs.Lists.{each-append}
 use Rattle.tv_telling.specs.ValueTellings.{bound_told, value_told, values_told}
-use Rattle.tv_framing.proofs.OfTellings.{at-append}
+use Rattle.tv_framing.proofs.OfTellings.{at-append, map_count}
 use Rattle.tv_begun.proofs.OfPlain.{same-faults}
 
 -- ---- origins aren't told
-
-same-count : {N M : Type 0} (f : N → M) (vs : Trees N Scalar) → count (map_trees f (λ a. a) vs) ≡ count vs
-same-count f no_trees = refl
-same-count f (tree v vs) = ap (λ x. suc x) (same-count f vs)
 
 mutual
   pub told-mapped : {N M : Type 0} (p : Name) (k : ℕ) (q : Place) (f : N → M) (v : Tree N Scalar) → value_told p k q (map_tree f (λ a. a) v) ≡ value_told p k q v
   told-mapped p zero q f v = ap (λ b. bound_told p q b ∷ []) (same-faults f v)
   told-mapped p (suc k) q f (leaf n (text t)) = refl
   told-mapped p (suc k) q f (leaf n (fault e)) = refl
-  told-mapped p (suc k) q f (list n vs) = ap₂ (λ a b. close p q a ∷ b) (same-count f vs) (all-mapped p k q 0 f vs)
+  told-mapped p (suc k) q f (list n vs) = ap₂ (λ a b. close p q a ∷ b) (map_count f vs) (all-mapped p k q 0 f vs)
 
   all-mapped : {N M : Type 0} (p : Name) (k : ℕ) (q : Place) (i : ℕ) (f : N → M) (vs : Trees N Scalar) → values_told p k q i (map_trees f (λ a. a) vs) ≡ values_told p k q i vs
   all-mapped p k q i f no_trees = refl

@@ -2,19 +2,22 @@
 use Rattle.std.specs.List.{list_any}
 use Rattle.std.specs.Prelude.{◌≡◌, refl, ℕ, zero, suc, ◌+◌, ◌-◌, ◌<◌, ◌==◌, Bool, true, false, filter, get_or, if◌then◌else◌, List, [], ◌∷◌, ◌++◌, length, map, nat_le, nat_lt, not, Option, Some, slice_get, take}
 use Rattle.std.proofs.Common.{arith, sym, ap, subst, ◌∙◌, eqb-true, inl, inr}
-use Rattle.std.proofs.lemmas.Bool.{and_parts, true≢false}
+use Rattle.std.proofs.lemmas.Bool.{and_parts}
 use Rattle.std.proofs.lemmas.Option.{none-some, same_Some}
+use Rattle.tv_lemmas.proofs.Lists.{get-map}
 use Rattle.tv_value.specs.Nested.{Place}
 use Rattle.tv_value.specs.Orders.{same_name}
 use Rattle.tv_value.specs.Values.{Name}
+use Rattle.tv_value.proofs.OfNames.{same_name-refl}
 use Rattle.tv_flow.specs.Flows.{Flow, Step, StepInput}
 use Rattle.tv_strategy.specs.Measures.{leaf_names}
 use Rattle.tv_strategy.specs.Sources.{Each}
 use Rattle.tv_naming.specs.Naming.{has_name, numbered}
 use Rattle.tv_naming.specs.Numbers.{position}
-use Rattle.tv_naming.proofs.ByPosition.{same_name-refl, there}
+use Rattle.tv_naming.proofs.ByPosition.{there}
 use Rattle.tv_depths.specs.Steps.{strategy_of}
 use Rattle.tv_model.specs.Members.{In}
+use Rattle.tv_model.proofs.OfMembers.{in-filter}
 use Rattle.tv_matching.specs.Items.{if_so}
 use Rattle.tv_matching.specs.Matchers.{leaf_name}
 use Rattle.tv_matching.specs.Told.{Told, told_leaf}
@@ -35,7 +38,8 @@ use Rattle.tv_wires.specs.Wirings.{all_ports, wiring}
 use Rattle.tv_joined.proofs.OfLists.{at-range}
 use Rattle.tv_joined.proofs.OfWires.{leaf-named}
 use Rattle.tv_joined.specs.AlongWires.{leads_into, of_leaf, told_along, way_of, ways_into, wires_from}
-use Rattle.tv_begun.proofs.OfLeaves.{IsTo, bound-to, value-to}
+use Rattle.tv_joined.proofs.OfTold.{bound-to}
+use Rattle.tv_begun.proofs.OfLeaves.{IsTo, value-to}
 
 -- ---- members of lists
 
@@ -47,26 +51,6 @@ of-filter p x (y ∷ xs) h = by (p y) refl h (λ g. of-filter p x xs g)
     by true e (inl w) rec = (inl w, ap p w ∙ e)
     by true e (inr g) rec = let r = rec g in (inr r.0, r.1)
     by false e g rec = let r = rec g in (inr r.0, r.1)
-
-in-filter : {A : Type 0} (p : A → Bool) (x : A) (xs : List A) → In x xs → p x ≡ true → In x (filter p xs)
-in-filter p x [] h e = absurd h
-in-filter p x (y ∷ xs) h e = by (p y) refl h (λ g. in-filter p x xs g e)
-  where
-    by : (b : Bool) → p y ≡ b → In x (y ∷ xs) → (In x xs → In x (filter p xs)) → In x (if b then y ∷ filter p xs else filter p xs)
-    by true w (inl g) rec = inl g
-    by true w (inr g) rec = inr (rec g)
-    by false w (inl g) rec = absurd (true≢false (sym (ap p (sym g) ∙ e) ∙ w))
-    by false w (inr g) rec = rec g
-
-pub get-in : {A : Type 0} (x : A) (xs : List A) → In x xs → (k : ℕ) × (slice_get xs k ≡ Some x)
-get-in x [] h = absurd h
-get-in x (y ∷ xs) (inl e) = (0, ap Some (sym e))
-get-in x (y ∷ xs) (inr h) = let r = get-in x xs h in (suc r.0, r.1)
-
-mapped-get : {A B : Type 0} (g : A → B) (xs : List A) (k : ℕ) (x : A) → slice_get xs k ≡ Some x → slice_get (map g xs) k ≡ Some (g x)
-mapped-get g [] k x e = absurd (none-some x e)
-mapped-get g (y ∷ xs) zero x e = ap (λ z. Some (g z)) (same_Some y x e)
-mapped-get g (y ∷ xs) (suc k) x e = mapped-get g xs k x e
 
 of-mapped : {A B : Type 0} (g : A → B) (xs : List A) (k : ℕ) (z : B) → slice_get (map g xs) k ≡ Some z → (x : A) × In x xs × (z ≡ g x)
 of-mapped g [] k z e = absurd (none-some z e)
@@ -100,7 +84,7 @@ module _ (f : Flow) (n : ℕ) (s : Name × Step) (stands : slice_get f.steps n �
 
   ports-at : (m : ℕ) (ps : List Port) → m ≡ n → slice_get (all_ports f) m ≡ Some ps → ps ≡ ports_of f s.1
   ports-at m ps e h =
-      same_Some ps (ports_of f s.1) (sym h ∙ ap (slice_get (all_ports f)) e ∙ mapped-get (λ (t : Name × Step). ports_of f t.1) f.steps n s stands)
+      same_Some ps (ports_of f s.1) (sym h ∙ ap (slice_get (all_ports f)) e ∙ get-map (λ (t : Name × Step). ports_of f t.1) f.steps n s stands)
 
   port-of : (x : ℕ × Wire) → In x (all_wires (all_ports f)) → x.1.step ≡ n → LeadsToPort x.1.leaf
   port-of x i e =
@@ -134,12 +118,12 @@ module _ (f : Flow) (n : ℕ) (s : Name × Step) (stands : slice_get f.steps n �
 
 -- ---- tellings and their leaves
 
-there-to : (m : Name) (k : ℕ) (q : Place) (h : Happening) → IsTo m (told_there m k q h)
+pub there-to : (m : Name) (k : ℕ) (q : Place) (h : Happening) → IsTo m (told_there m k q h)
 there-to m k q (gave v) = value-to m k q v
 there-to m k q (closed n) = (refl, tt)
 there-to m k q passed = (refl, tt)
 
-way-to : (m : Name) (k : ℕ) (q : Place) (from faults : ℕ) (r : Place) (h : Happening) → IsTo m (told_on_way m k q from faults r h)
+pub way-to : (m : Name) (k : ℕ) (q : Place) (from faults : ℕ) (r : Place) (h : Happening) → IsTo m (told_on_way m k q from faults r h)
 way-to m k q from faults r h = by (nat_le k (length r))
   where
     by : (a : Bool) → IsTo m (if a then if_so (nat_le from k) (bound_told m (q ++ take k r) (nat_lt k faults)) else told_there m (k - length r) (q ++ r) h)

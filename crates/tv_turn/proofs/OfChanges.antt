@@ -1,18 +1,19 @@
 -- Idle jobs stay those of a frame.
-use Rattle.std.specs.Prelude.{◌≡◌, ◌⊎◌, refl, ℕ, zero, suc, ◌<◌, ◌==◌, ◌&&◌, ◌||◌, not, Bool, true, false, if◌then◌else◌, List, [], ◌∷◌, ◌++◌, length, Some, slice_get, slice_set}
+use Rattle.std.specs.Prelude.{◌≡◌, ◌⊎◌, refl, ℕ, zero, suc, ◌<◌, ◌==◌, ◌&&◌, not, Bool, true, false, if◌then◌else◌, List, [], ◌∷◌, ◌++◌, length, Some, slice_get, slice_set}
 use Rattle.std.specs.Cmp.Lexicographic.{slice_cmp}
 use Rattle.std.specs.Ordering.{is_lt, nat_cmp}
 use Rattle.std.proofs.Common.{ap, sym, subst, ◌∙◌, inl, inr}
-use Rattle.std.proofs.lemmas.Bool.{cases_eq, eq-eqb, ne_eqb}
+use Rattle.std.proofs.lemmas.Bool.{cases_eq, eq-eqb, ne_eqb, and_parts, not-true, or_parts, both_ways, false_from_ne_true, or_from, not_from_false}
 use Rattle.std.proofs.lemmas.List.{get_or-set_other, get_or-set_same}
 use Rattle.tv_value.specs.Nested.{Place}
 use Rattle.tv_value.specs.Orders.{same_name}
 use Rattle.tv_value.specs.Values.{Name}
+use Rattle.tv_value.proofs.OfNames.{same_name-refl}
 use Rattle.tv_flow.specs.Flows.{Step}
 use Rattle.tv_flow.specs.Formed.{is_ascending}
 use Rattle.tv_naming.specs.Naming.{has_name}
 use Rattle.tv_naming.specs.Numbers.{position}
-use Rattle.tv_naming.proofs.ByPosition.{names_of, same_name-is, same_name-refl}
+use Rattle.tv_naming.proofs.ByPosition.{names_of, same_name-is}
 use Rattle.tv_naming.proofs.OfForms.{steps-named}
 use Rattle.tv_depths.proofs.OfRanked.{one-place}
 use Rattle.tv_ready.specs.Listed.{with_job}
@@ -27,22 +28,6 @@ use Rattle.tv_turn.specs.Changes.{AreIdleStill, AreIdleWithOneMore, AreIdleWitho
 use Rattle.tv_turn.specs.IdleJobs.{AreInOrder, IsIdle}
 use Rattle.tv_turn.proofs.OfRanks.{in-at, named-step, number-of}
 use Rattle.tv_turn.proofs.OfTurns.{Job, in-passed, passed-in, passed-order}
-
-neither : (a b : Bool) → (a || b) ≡ false → (a ≡ false) × (b ≡ false)
-neither true b e = cc
-neither false b e = (refl, e)
-
-nor : (a b : Bool) → a ≡ false → b ≡ false → (a || b) ≡ false
-nor true b e f = cc
-nor false b e f = f
-
-not-false : (b : Bool) → b ≡ false → not b ≡ true
-not-false true e = cc
-not-false false e = refl
-
-not-true : (b : Bool) → not b ≡ true → b ≡ false
-not-true true e = cc
-not-true false e = refl
 
 -- ---- one step
 
@@ -103,8 +88,8 @@ idle-without n st j (inl i) = let m = in-passed (λ j. not (j.0 == n)) st.good j
 idle-without n st j (inr i) = let m = in-passed (λ j. not (j.0 == n)) st.faulty j i in (inr m.0, not-true (j.0 == n) m.1)
 
 without-idle : (n : ℕ) (st : StepIdle) (j : Job) → IsAt st j → (j.0 == n) ≡ false → IsAt (without n st) j
-without-idle n st j (inl i) h = inl (passed-in (λ j. not (j.0 == n)) st.good j i (not-false (j.0 == n) h))
-without-idle n st j (inr i) h = inr (passed-in (λ j. not (j.0 == n)) st.faulty j i (not-false (j.0 == n) h))
+without-idle n st j (inl i) h = inl (passed-in (λ j. not (j.0 == n)) st.good j i (not_from_false (j.0 == n) h))
+without-idle n st j (inr i) h = inr (passed-in (λ j. not (j.0 == n)) st.faulty j i (not_from_false (j.0 == n) h))
 
 good-with : (b : Bool) (x : Job) (st : StepIdle) → are_in_order st.good ≡ true → are_in_order (with_idle b x st).good ≡ true
 good-with true x st h = h
@@ -259,22 +244,18 @@ pub still : AreIdleStill
 still v ss a e leaves = record {
   order = a.order;
   steps = a.steps;
-  all = λ n x h t r. a.all n x h (neither (takes_at x.0 x.1 e) (is_taken v.events x.0 x.1) t).1 (neither (gives_at x.0 x.1 e) (has_result v.events x.0 x.1) r).1;
+  all = λ n x h t r. a.all n x h (or_parts (takes_at x.0 x.1 e) (is_taken v.events x.0 x.1) t).1 (or_parts (gives_at x.0 x.1 e) (has_result v.events x.0 x.1) r).1;
   known = a.known;
   free = λ k s j h i.
       let f = a.free k s j h i in
       let o = leaves s.0 j.1 f.0 f.1 in
-      (nor (takes_at s.0 j.1 e) (is_taken v.events s.0 j.1) o.0 f.0, nor (gives_at s.0 j.1 e) (has_result v.events s.0 j.1) o.1 f.1);
+      (or_from (takes_at s.0 j.1 e) (is_taken v.events s.0 j.1) o.0 f.0, or_from (gives_at s.0 j.1 e) (has_result v.events s.0 j.1) o.1 f.1);
 }
 
 -- ---- one goes
 
-parts : (a b : Bool) → (a && b) ≡ true → (a ≡ true) × (b ≡ true)
-parts true b e = (refl, e)
-parts false b e = cc
-
 spot : (a : Name) (b : Place) (s : Name) (q : Place) → (a ≡ s) × (b ≡ q) → (t : Name) (r : Place) → is_spot t r a b ≡ true → (t ≡ s) × (r ≡ q)
-spot a b s q o t r h = let p = parts (same_name t a) (same_name r b) h in (same_name-is t a p.0 ∙ o.0, same_name-is r b p.1 ∙ o.1)
+spot a b s q o t r h = let p = and_parts (same_name t a) (same_name r b) h in (same_name-is t a p.0 ∙ o.0, same_name-is r b p.1 ∙ o.1)
 
 itself : (a : Name) (b : Place) (s : Name) (q : Place) → (a ≡ s) × (b ≡ q) → is_spot s q a b ≡ true
 itself a b s q o =
@@ -299,21 +280,13 @@ is-own (took a b) s q o = inl (itself a b s q o)
 is-own (events.closed a b n) s q o = absurd o
 is-own (fault_set a b x) s q o = absurd o
 
-false-by : (b : Bool) → (b ≡ true → ⊥) → b ≡ false
-false-by true h = absurd (h refl)
-false-by false h = refl
-
-no-both : (b : Bool) → b ≡ true → b ≡ false → ⊥
-no-both true e f = cc
-no-both false e f = cc
-
 pub without-one : AreIdleWithoutOne
 without-one v wired ss a k s h l n q is only e own = record {
   order = in-order ss k y l a.order (passed-order (λ j. not (j.0 == n)) (of_step ss k).good (a.order.good k)) (passed-order (λ j. not (j.0 == n)) (of_step ss k).faulty (a.order.faulty k));
   steps = a.steps;
   all = λ m x g t r.
-      let t2 = neither (takes_at x.0 x.1 e) (is_taken v.events x.0 x.1) t in
-      let r2 = neither (gives_at x.0 x.1 e) (has_result v.events x.0 x.1) r in
+      let t2 = or_parts (takes_at x.0 x.1 e) (is_taken v.events x.0 x.1) t in
+      let r2 = or_parts (gives_at x.0 x.1 e) (has_result v.events x.0 x.1) r in
       let i = a.all m x g t2.1 r2.1 in
       placed ss k y l (position x.0 v.flow.steps) (m, x.1)
       (λ same. without-idle n (of_step ss k) (m, x.1) (subst (λ c. IsIdle ss c (m, x.1)) same i) (ne_eqb m n (other m x g t2.0 r2.0)))
@@ -321,8 +294,8 @@ without-one v wired ss a k s h l n q is only e own = record {
   known = λ i t j g at. a.known i t j g (before i j at);
   free = λ i t j g at.
       let f = a.free i t j g (before i j at) in (
-        nor (takes_at t.0 j.1 e) (is_taken v.events t.0 j.1) (false-by (takes_at t.0 j.1 e) (λ u. apart i t j g at (own-spot e s.0 q own t.0 j.1 (inl u)))) f.0,
-        nor (gives_at t.0 j.1 e) (has_result v.events t.0 j.1) (false-by (gives_at t.0 j.1 e) (λ u. apart i t j g at (own-spot e s.0 q own t.0 j.1 (inr u)))) f.1,
+        or_from (takes_at t.0 j.1 e) (is_taken v.events t.0 j.1) (false_from_ne_true (takes_at t.0 j.1 e) (λ u. apart i t j g at (own-spot e s.0 q own t.0 j.1 (inl u)))) f.0,
+        or_from (gives_at t.0 j.1 e) (has_result v.events t.0 j.1) (false_from_ne_true (gives_at t.0 j.1 e) (λ u. apart i t j g at (own-spot e s.0 q own t.0 j.1 (inr u)))) f.1,
       );
 }
   where
@@ -338,8 +311,8 @@ without-one v wired ss a k s h l n q is only e own = record {
         let both : Some x ≡ Some (s.0, q) = sym g ∙ ap (numbered v) same ∙ is in
         let spot : x ≡ (s.0, q) = cc in
         elim (is-own e s.0 q own) [
-          | inl u ↦ no-both (takes_at x.0 x.1 e) (ap (λ (z : Name × Place). takes_at z.0 z.1 e) spot ∙ u) t
-          | inr u ↦ no-both (gives_at x.0 x.1 e) (ap (λ (z : Name × Place). gives_at z.0 z.1 e) spot ∙ u) r
+          | inl u ↦ both_ways (takes_at x.0 x.1 e) t (ap (λ (z : Name × Place). takes_at z.0 z.1 e) spot ∙ u)
+          | inr u ↦ both_ways (gives_at x.0 x.1 e) r (ap (λ (z : Name × Place). gives_at z.0 z.1 e) spot ∙ u)
         ]
 
     before : (i : ℕ) (j : Job) → IsIdle (slice_set ss k y) i j → IsIdle ss i j
@@ -353,7 +326,7 @@ without-one v wired ss a k s h l n q is only e own = record {
     apart i t j g at o =
         let same = only j.0 (a.known i t j g (before i j at) ∙ (λ w. Some (o.0 w, o.1 w))) in
         elim (parted ss k y l i j at) [
-          | inl p ↦ no-both (j.0 == n) (ap (λ m. j.0 == m) (sym same) ∙ own-eq j.0) (idle-without n (of_step ss k) j p.1).1
+          | inl p ↦ both_ways (j.0 == n) (idle-without n (of_step ss k) j p.1).1 (ap (λ m. j.0 == m) (sym same) ∙ own-eq j.0)
           | inr p ↦ p.0 (one-place v.flow.steps i k t s rise g h o.0)
         ]
       where

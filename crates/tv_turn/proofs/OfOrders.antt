@@ -1,23 +1,19 @@
 -- The steps by falling rank are steps of the flow.
-use Rattle.std.specs.Prelude.{◌≡◌, refl, ℕ, ◌<◌, ◌&&◌, nat_lt, Bool, true, List, [], ◌∷◌, length, map}
-use Rattle.std.specs.List.{list_all}
-use Rattle.std.proofs.Common.{ap, sym, subst, ◌∙◌, inl, inr}
+use Rattle.std.specs.Prelude.{◌≡◌, ℕ, ◌<◌, nat_lt, true, length, map}
+use Rattle.std.proofs.Common.{sym, subst, ◌∙◌}
 use Rattle.std.proofs.lemmas.Bool.{lt-ltb}
 use Rattle.std.proofs.lemmas.List.{length-map}
+use Rattle.std.proofs.lemmas.Option.{slice_get_within}
 use Rattle.tv_value.specs.Values.{Name}
 use Rattle.tv_flow.specs.Flows.{Step}
 use Rattle.tv_naming.specs.Numbers.{position}
 use Rattle.tv_naming.proofs.OfForms.{steps-named}
-use Rattle.tv_depths.proofs.OfRanked.{inside}
 use Rattle.tv_wires.specs.Wirings.{after_of}
 use Rattle.tv_model.specs.Members.{In}
+use Rattle.tv_model.proofs.OfMembers.{all-in}
 use Rattle.tv_turn.specs.FirstReady.{by_falling_rank}
 use Rattle.tv_turn.specs.Stated.{OrderIsOfSteps}
 use Rattle.tv_turn.proofs.OfRanks.{at-in, number-of, numbers-step}
-
-all-in : {A : Type 0} (p : A → Bool) (xs : List A) → ((x : A) → In x xs → p x ≡ true) → list_all p xs ≡ true
-all-in p [] h = refl
-all-in p (x ∷ xs) h = ap (λ b. b && list_all p xs) (h x (inl refl)) ∙ all-in p xs (λ y i. h y (inr i))
 
 pub order-of-steps : OrderIsOfSteps
 order-of-steps f wired = all-in (λ k. nat_lt k (length (map (λ (s : Name × Step). after_of f.steps s.1) f.steps))) (by_falling_rank f) below
@@ -26,7 +22,7 @@ order-of-steps f wired = all-in (λ k. nat_lt k (length (map (λ (s : Name × St
     below k i =
         let m = numbers-step f.steps (λ s. position s.0 f.steps) k i in
         let at = at-in f.steps m.0 m.1 in
-        let low : at.0 < length f.steps = inside f.steps at.0 m.0 at.1 in
+        let low : at.0 < length f.steps = slice_get_within f.steps at.0 m.0 at.1 in
         let same = m.2 ∙ number-of f.steps at.0 m.0 (steps-named f wired.formed).rise at.1 in
         lt-ltb k (length (map (λ (s : Name × Step). after_of f.steps s.1) f.steps))
         (subst (λ n. k < n) (sym (length-map f.steps (λ (s : Name × Step). after_of f.steps s.1))) (subst (λ n. n < length f.steps) (sym same) low))

@@ -6,17 +6,18 @@ use Rattle.std.specs.Ordering.{is_lt, nat_cmp, ordering_then}
 use Rattle.std.specs.Cmp.Lexicographic.{slice_cmp}
 use Rattle.std.proofs.Common.{arith, ap, sym, subst, ◌∙◌, inl, inr, Less, Equal, Greater}
 use Rattle.std.proofs.lemmas.Bool.{eqb-true, ltb-true}
-use Rattle.std.proofs.lemmas.Option.{get_or_from_slice_get}
+use Rattle.std.proofs.lemmas.Option.{get_or_from_slice_get, slice_get_within}
 use Rattle.tv_value.specs.Nested.{Place}
 use Rattle.tv_value.specs.Orders.{named, same_name}
 use Rattle.tv_value.specs.Values.{Name}
+use Rattle.tv_value.proofs.OfNames.{same_name-refl}
 use Rattle.tv_flow.specs.Flows.{Step}
 use Rattle.tv_flow.specs.Formed.{is_ascending}
 use Rattle.tv_naming.specs.Naming.{has_name}
 use Rattle.tv_naming.specs.Numbers.{position}
-use Rattle.tv_naming.proofs.ByPosition.{names_of, position-at, same_name-is, same_name-refl}
+use Rattle.tv_naming.proofs.ByPosition.{names_of, position-at, same_name-is}
 use Rattle.tv_depths.specs.Ranks.{by_rank, earlier_steps, is_among, ranked}
-use Rattle.tv_depths.proofs.OfRanked.{IsOrdered, all-ranked, inside, ranked-ordered, ranks-apart}
+use Rattle.tv_depths.proofs.OfRanked.{IsOrdered, all-ranked, ranked-ordered, ranks-apart}
 use Rattle.tv_ready.specs.Sought.{stands_after}
 use Rattle.tv_instance.specs.ByResults.{last_first}
 use Rattle.tv_model.specs.Members.{In}
@@ -56,7 +57,7 @@ step-at (x ∷ xs) n h = by (same_name n x.0) refl h (step-at xs n)
     by false e g rec = rec g
 
 pub number-of : (xs : Steps) (k : ℕ) (s : Name × Step) → is_ascending (names_of xs) ≡ true → slice_get xs k ≡ Some s → position s.0 xs ≡ k
-number-of xs k s rise e = ap (λ (t : Name × Step). position t.0 xs) (sym (get_or_from_slice_get xs k s s e)) ∙ position-at xs k s rise (inside xs k s e)
+number-of xs k s rise e = ap (λ (t : Name × Step). position t.0 xs) (sym (get_or_from_slice_get xs k s s e)) ∙ position-at xs k s rise (slice_get_within xs k s e)
 
 pub in-at : (xs : Steps) (k : ℕ) (s : Name × Step) → slice_get xs k ≡ Some s → In s xs
 in-at [] k s e = cc

@@ -1,13 +1,16 @@
 -- A step's jobs may settle, by counters and by what was told.
-use Rattle.std.specs.Prelude.{◌≡◌, refl, ℕ, zero, suc, length, Bool, true, false, ◌&&◌, ◌||◌, if◌then◌else◌, List, [], ◌∷◌, ◌++◌, find, flat_map, Option, Some, None, slice_get}
+use Rattle.std.specs.Prelude.{◌≡◌, refl, ℕ, zero, suc, length, Bool, true, false, ◌&&◌, ◌||◌, if◌then◌else◌, List, [], ◌∷◌, find, flat_map, Option, Some, None, slice_get}
 use Rattle.std.specs.List.{list_all}
 use Rattle.std.proofs.Common.{ap, sym, subst, ◌∙◌, inl, inr}
+use Rattle.std.proofs.lemmas.Bool.{and_parts}
+use Rattle.tv_lemmas.proofs.Lists.{all-second}
 use Rattle.tv_value.specs.Orders.{same_name}
 use Rattle.tv_value.specs.Values.{Name}
+use Rattle.tv_value.proofs.OfNames.{same_name-refl}
 use Rattle.tv_flow.specs.Flows.{Step}
 use Rattle.tv_flow.specs.Formed.{is_ascending}
 use Rattle.tv_naming.specs.Naming.{has_name}
-use Rattle.tv_naming.proofs.ByPosition.{names_of, same_name-is, same_name-refl}
+use Rattle.tv_naming.proofs.ByPosition.{names_of, same_name-is}
 use Rattle.tv_naming.proofs.OfForms.{steps-named}
 use Rattle.tv_depths.specs.Ranks.{earlier_steps, feed_steps, is_among, ranked}
 use Rattle.tv_depths.proofs.OfRanked.{IsOrdered, all-ranked, one-place, ranked-ordered}
@@ -26,10 +29,6 @@ use Rattle.tv_joined.proofs.OfEndings.{at-number}
 use Rattle.tv_joined.proofs.OfSteps.{endings-are}
 use Rattle.tv_turn.specs.Turns.{may_settle}
 use Rattle.tv_turn.proofs.OfRanks.{at-in, in-at, named-step, ranked-in}
-
-both : (a b : Bool) → (a && b) ≡ true → (a ≡ true) × (b ≡ true)
-both true b e = (refl, e)
-both false b e = cc
 
 -- ---- the step that is found by its name
 
@@ -56,13 +55,9 @@ found xs k s rise e = by (find (λ t. same_name s.0 t.0) xs) refl (first xs k e)
 
 -- ---- what a step runs after are steps
 
-all-right : (p : Name → Bool) (xs ys : List Name) → list_all p (xs ++ ys) ≡ true → list_all p ys ≡ true
-all-right p [] ys h = h
-all-right p (x ∷ xs) ys h = all-right p xs ys (both (p x) (list_all p (xs ++ ys)) h).1
-
 all-by : (p q : Name → Bool) (xs : List Name) → ((x : Name) → p x ≡ true → q x ≡ true) → list_all p xs ≡ true → list_all q xs ≡ true
 all-by p q [] h e = refl
-all-by p q (x ∷ xs) h e = let b = both (p x) (list_all p xs) e in ap (λ c. c && list_all q xs) (h x b.0) ∙ all-by p q xs h b.1
+all-by p q (x ∷ xs) h e = let b = and_parts (p x) (list_all p xs) e in ap (λ c. c && list_all q xs) (h x b.0) ∙ all-by p q xs h b.1
 
 module _ (steps : List (Name × Step)) where
   earlier-named : (done : List Name) (rs : List (Name × Step)) → IsOrdered done rs → ((n : Name) → is_among done n ≡ true → has_name steps n ≡ true)
@@ -91,7 +86,7 @@ module _ (steps : List (Name × Step)) where
 
   after-named : is_ascending (names_of steps) ≡ true → length (ranked steps) ≡ length steps → (k : ℕ) (s : Name × Step) → slice_get steps k ≡ Some s → list_all (has_name steps) s.1.after ≡ true
   after-named rise all k s e =
-      all-right (has_name steps) (flat_map (λ i. feed_steps i.1.from) s.1.inputs) s.1.after (earlier-steps rise all s (in-at steps k s e))
+      all-second (has_name steps) (flat_map (λ i. feed_steps i.1.from) s.1.inputs) s.1.after (earlier-steps rise all s (in-at steps k s e))
 
 -- ---- by counters as by what was told
 

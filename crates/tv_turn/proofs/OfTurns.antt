@@ -5,11 +5,12 @@ use Rattle.std.specs.Cmp.{IsStrictWeakOrder}
 use Rattle.std.specs.Cmp.Lexicographic.{slice_cmp}
 use Rattle.std.specs.List.{list_all}
 use Rattle.std.specs.Option.{option_or}
-use Rattle.std.specs.Ordering.{is_lt, nat_cmp, ordering_reverse, ordering_then}
+use Rattle.std.specs.Ordering.{is_lt, nat_cmp, ordering_then}
 use Rattle.std.proofs.Common.{arith, ap, sym, subst, ◌∙◌, inl, inr, Less, Equal, Greater}
-use Rattle.std.proofs.lemmas.Bool.{cases_eq, eq-eqb, le-ltb, lt-ltb, ne_eqb}
+use Rattle.std.proofs.lemmas.Bool.{cases_eq, eq-eqb, le-ltb, lt-ltb, ne_eqb, and_parts, not-true, false≢true}
 use Rattle.std.proofs.lemmas.Cmp.{nat_list_cmp_total}
 use Rattle.std.proofs.lemmas.List.MinMax.{ranks_by}
+use Rattle.tv_lemmas.proofs.Orderings.{then-not_reversed}
 use Rattle.tv_ready.specs.Sought.{stands_after}
 use Rattle.tv_idle.specs.Idles as idles
 use Rattle.tv_idle.specs.Idles.{StepIdle, first_after, first_number, first_of, of_step, standing_after}
@@ -45,33 +46,17 @@ module _ (rank : ℕ → ℕ) where
   IsFirstOf Wanted ks None = (t : ℕ) (j : ℕ × List ℕ) → In t ks → Wanted t j → ⊥
   IsFirstOf Wanted ks (Some n) = IsTheFirst Wanted ks n
 
-both : (a b : Bool) → (a && b) ≡ true → (a ≡ true) × (b ≡ true)
-both true b e = (refl, e)
-both false b e = cc
-
-not-true : (b : Bool) → not b ≡ true → b ≡ false
-not-true true e = cc
-not-true false e = refl
-
-no : false ≡ true → ⊥
-no e = cc
-
 -- ---- places
 
 abbrev places : IsStrictWeakOrder stands_after
 places = ranks_by nat_list_cmp_total (λ (p : List ℕ). p)
 
-itself : (p : List ℕ) → stands_after p p ≡ false
+pub itself : (p : List ℕ) → stands_after p p ≡ false
 itself p = by (stands_after p p) refl
   where
     by : (b : Bool) → stands_after p p ≡ b → stands_after p p ≡ false
     by true e = places.one_way p p e
     by false e = e
-
-turned : (o p : Ordering) → is_lt (ordering_then o p) ≡ true → is_lt (ordering_reverse o) ≡ false
-turned Less p e = refl
-turned Equal p e = refl
-turned Greater p e = cc
 
 kept : (o p : Ordering) → is_lt (ordering_then o p) ≡ false → is_lt o ≡ false
 kept Less p e = cc
@@ -80,7 +65,7 @@ kept Greater p e = refl
 
 -- one that comes before another at one place or at a lesser
 not-after : (f g : Job) → idles.is_before f g ≡ true → stands_after g.1 f.1 ≡ false
-not-after f g e = ap is_lt (nat_list_cmp_total.antisymm g.1 f.1) ∙ turned (slice_cmp nat_cmp f.1 g.1) (nat_cmp f.0 g.0) e
+not-after f g e = ap is_lt (nat_list_cmp_total.antisymm g.1 f.1) ∙ then-not_reversed (slice_cmp nat_cmp f.1 g.1) (nat_cmp f.0 g.0) e
 
 not-before : (f g : Job) → idles.is_before f g ≡ false → stands_after f.1 g.1 ≡ false
 not-before f g e = kept (slice_cmp nat_cmp f.1 g.1) (nat_cmp f.0 g.0) e
@@ -89,12 +74,12 @@ not-before f g e = kept (slice_cmp nat_cmp f.1 g.1) (nat_cmp f.0 g.0) e
 
 head-first : (x : Job) (xs : List Job) (j : Job) → are_in_order (x ∷ xs) ≡ true → In j (x ∷ xs) → stands_after j.1 x.1 ≡ false
 head-first x xs j o (inl e) = ap (λ (k : Job). stands_after k.1 x.1) e ∙ itself x.1
-head-first x xs j o (inr i) = among xs (both (list_all (λ k. not (stands_after k.1 x.1)) xs) (are_in_order xs) o).0 i
+head-first x xs j o (inr i) = among xs (and_parts (list_all (λ k. not (stands_after k.1 x.1)) xs) (are_in_order xs) o).0 i
   where
     among : (ys : List Job) → list_all (λ k. not (stands_after k.1 x.1)) ys ≡ true → In j ys → stands_after j.1 x.1 ≡ false
     among [] h i = absurd i
-    among (y ∷ ys) h (inl e) = ap (λ (k : Job). stands_after k.1 x.1) e ∙ not-true (stands_after y.1 x.1) (both (not (stands_after y.1 x.1)) (list_all (λ k. not (stands_after k.1 x.1)) ys) h).0
-    among (y ∷ ys) h (inr i) = among ys (both (not (stands_after y.1 x.1)) (list_all (λ k. not (stands_after k.1 x.1)) ys) h).1 i
+    among (y ∷ ys) h (inl e) = ap (λ (k : Job). stands_after k.1 x.1) e ∙ not-true (stands_after y.1 x.1) (and_parts (not (stands_after y.1 x.1)) (list_all (λ k. not (stands_after k.1 x.1)) ys) h).0
+    among (y ∷ ys) h (inr i) = among ys (and_parts (not (stands_after y.1 x.1)) (list_all (λ k. not (stands_after k.1 x.1)) ys) h).1 i
 
 -- the first of the jobs of one step that are wanted
 pub record IsTheFirstHere (Wanted : Job → Type 0) (n : ℕ) : Type 0 where
@@ -161,19 +146,19 @@ passed-in p (x ∷ xs) j (inr r) h = by (p x) (passed-in p xs j r h)
 
 all-passed : (p q : Job → Bool) (xs : List Job) → list_all q xs ≡ true → list_all q (filter p xs) ≡ true
 all-passed p q [] h = refl
-all-passed p q (x ∷ xs) h = by (p x) (all-passed p q xs (both (q x) (list_all q xs) h).1)
+all-passed p q (x ∷ xs) h = by (p x) (all-passed p q xs (and_parts (q x) (list_all q xs) h).1)
   where
     by : (b : Bool) → list_all q (filter p xs) ≡ true → list_all q (cond b (x ∷ filter p xs) (filter p xs)) ≡ true
-    by true r = ap (λ b. b && list_all q (filter p xs)) (both (q x) (list_all q xs) h).0 ∙ r
+    by true r = ap (λ b. b && list_all q (filter p xs)) (and_parts (q x) (list_all q xs) h).0 ∙ r
     by false r = r
 
 pub passed-order : (p : Job → Bool) (xs : List Job) → are_in_order xs ≡ true → are_in_order (filter p xs) ≡ true
 passed-order p [] o = refl
-passed-order p (x ∷ xs) o = by (p x) (passed-order p xs (both (list_all (λ k. not (stands_after k.1 x.1)) xs) (are_in_order xs) o).1)
+passed-order p (x ∷ xs) o = by (p x) (passed-order p xs (and_parts (list_all (λ k. not (stands_after k.1 x.1)) xs) (are_in_order xs) o).1)
   where
     by : (b : Bool) → are_in_order (filter p xs) ≡ true → are_in_order (cond b (x ∷ filter p xs) (filter p xs)) ≡ true
     by true r =
-        ap (λ b. b && are_in_order (filter p xs)) (all-passed p (λ k. not (stands_after k.1 x.1)) xs (both (list_all (λ k. not (stands_after k.1 x.1)) xs) (are_in_order xs) o).0)
+        ap (λ b. b && are_in_order (filter p xs)) (all-passed p (λ k. not (stands_after k.1 x.1)) xs (and_parts (list_all (λ k. not (stands_after k.1 x.1)) xs) (are_in_order xs) o).0)
         ∙ r
     by false r = r
 
@@ -230,7 +215,7 @@ module _ (rank : ℕ → ℕ) where
         by true e =
             same-here (IsIdle ss k) (Waits k) (λ j i. (e, i)) (λ j w. w.1) (first_of (of_step ss k).good (of_step ss k).faulty)
             (first-is (of_step ss k).good (of_step ss k).faulty (o.good k) (o.faulty k))
-        by false e = λ j w. no (sym e ∙ w.0)
+        by false e = λ j w. false≢true (sym e ∙ w.0)
 
     -- any that are those that wait at these steps
     all-steps : (W : ℕ → Job → Type 0) (ks : List ℕ) → Falls rank ks → ((t : ℕ) → In t ks → (j : Job) → Waits t j → W t j) → ((t : ℕ) → In t ks → (j : Job) → W t j → Waits t j)
@@ -272,7 +257,7 @@ module _ (rank : ℕ → ℕ) where
               (first-is (standing_after p (of_step ss s).good) (standing_after p (of_step ss s).faulty)
               (passed-order (λ j. stands_after p j.1) (of_step ss s).good (o.good s))
               (passed-order (λ j. stands_after p j.1) (of_step ss s).faulty (o.faulty s)))
-          by false e = λ j w. no (sym e ∙ w.0.0)
+          by false e = λ j w. false≢true (sym e ∙ w.0.0)
 
       all-after : (ks : List ℕ) → Falls rank ks → In s ks → IsFirstOf rank Follows ks (first_of_steps_after may ss s p ks)
       all-after [] f i = absurd i
@@ -287,7 +272,7 @@ module _ (rank : ℕ → ℕ) where
                 subst (λ b. IsFirstOf rank Follows (k ∷ ks) (if b then option_or (first_of_step_after may ss p k) (first_of_steps may ss ks) else first_of_steps_after may ss s p ks)) (sym (ne_eqb k s ne))
                 (let rest = other k ks ne i in
                 one-more Follows k ks None (first_of_steps_after may ss s p ks) f.0
-                (λ j w. no (sym (later-not-before s k p j.1 (f.0 s rest)) ∙ w.1))
+                (λ j w. false≢true (sym (later-not-before s k p j.1 (f.0 s rest)) ∙ w.1))
                 (all-after ks f.1 rest))
           ]
         where

@@ -2,11 +2,9 @@
 use Rattle.std.specs.Prelude.{◌≡◌, ℕ, zero, suc, ◌+◌, ◌<◌, ◌≤◌, List, [], ◌∷◌, length, drop, true, false, if◌then◌else◌, Some, None}
 use Rattle.std.proofs.Common.{arith, get_or, ap, sym, ◌∙◌}
 use Rattle.std.proofs.lemmas.List.{drop_all}
+use Rattle.std.proofs.Math.Numerals.{suc-eq-add-one}
 use Rattle.tv_value.specs.Values.{Name}
 use Rattle.tv_value.specs.Orders.{same_name, named}
-
-next : (i : ℕ) → suc i ≡ i + 1
-next i = omega arith
 
 module _ {A : Type 0} (n : Name) where
   named-drop : (xs : List (Name × A)) (i : ℕ) (x : Name × A) → i < length xs → x ≡ get_or xs i x → named n (drop i xs) ≡ (if same_name n x.0 then Some x.1 else named n (drop (suc i) xs))
@@ -24,7 +22,7 @@ module _ {A : Type 0} (n : Name) where
   named-passed xs i x h e s =
       named-drop xs i x h e
       ∙ ap (λ b. if b then Some x.1 else named n (drop (suc i) xs)) s
-      ∙ ap (λ k. named n (drop k xs)) (next i)
+      ∙ ap (λ k. named n (drop k xs)) (suc-eq-add-one i)
 
   pub named-nowhere : (xs : List (Name × A)) (i : ℕ) → length xs ≤ i → named n (drop i xs) ≡ None
   named-nowhere xs i h = ap (named n) (drop_all i xs h)

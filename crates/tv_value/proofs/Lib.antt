@@ -6,3 +6,5 @@ pub mod OfDepths
 pub mod Computed
 pub mod ByName
 pub mod OfTrees
+pub mod OfNames
+pub mod OfJobNames

@@ -1,7 +1,8 @@
 -- Looking at a place, index by index, and prefixes of places.
-use Rattle.std.specs.Prelude.{◌≡◌, ℕ, zero, suc, ◌<◌, ◌≤◌, List, [], ◌∷◌, length, take, map, refl, Some, None, Bool, true, false, ◌==◌, ◌&&◌}
+use Rattle.std.specs.Prelude.{◌≡◌, ℕ, zero, suc, ◌<◌, ◌≤◌, List, [], ◌∷◌, length, take, map, refl, Some, None, false, ◌==◌, ◌&&◌}
 use Rattle.std.proofs.Common.{arith, ap, ◌∙◌, get_or, nat_eq}
 use Rattle.std.specs.Cmp.Lexicographic.{pointwise}
+use Rattle.std.proofs.Math.Bool.{and-false}
 use Rattle.tv_value.specs.Nested.{Tree, trees_of, item_at, Place}
 use Rattle.tv_value.specs.Orders.{is_prefix}
 
@@ -31,14 +32,10 @@ is_prefix-take (i ∷ q) [] h = absurd (none (length q) h)
     none n p = omega arith
 is_prefix-take (i ∷ q) (j ∷ r) h = ap (λ b. (i == j) && b) (is_prefix-take q r (omega arith))
 
-and_false : (b : Bool) → (b && false) ≡ false
-and_false true = refl
-and_false false = refl
-
 pub is_prefix-longer : (q r : Place) → length r < length q → is_prefix q r ≡ false
 is_prefix-longer [] r h = absurd (none (length r) h)
   where
     none : (n : ℕ) → n < 0 → ⊥
     none n p = omega arith
 is_prefix-longer (i ∷ q) [] h = refl
-is_prefix-longer (i ∷ q) (j ∷ r) h = ap (λ b. (i == j) && b) (is_prefix-longer q r (omega arith)) ∙ and_false (i == j)
+is_prefix-longer (i ∷ q) (j ∷ r) h = ap (λ b. (i == j) && b) (is_prefix-longer q r (omega arith)) ∙ and-false (i == j)

@@ -1,19 +1,11 @@
 -- The depths of a value are those that it has, and the least of them is the least.
-use Rattle.std.specs.Prelude.{◌≡◌, refl, ℕ, zero, suc, ◌+◌, ◌≤◌, ◌<◌, ◌↔◌, Bool, true, false, ◌&&◌, ◌==◌, nat_lt, nat_le, if◌then◌else◌, Some, None, is_some}
+use Rattle.std.specs.Prelude.{◌≡◌, refl, ℕ, zero, suc, ◌+◌, ◌≤◌, ◌<◌, ◌↔◌, Bool, true, false, ◌==◌, nat_lt, nat_le, if◌then◌else◌, Some, None, is_some}
 use Rattle.std.proofs.Common.{arith, sym, subst, ap, ◌∙◌, true≢false}
-use Rattle.std.proofs.lemmas.Bool.{ltb-false, leb-true, leb-false, eqb-true, eqb-false, eq-eqb}
+use Rattle.std.proofs.lemmas.Bool.{ltb-false, leb-true, leb-false, eqb-true, eqb-false, eq-eqb, and_parts, and_from}
 use Rattle.tv_value.specs.Nested.{leaf, list, Trees, no_trees, tree}
 use Rattle.tv_value.specs.Values.{Scalar, Value, scalar_depth, HasDepth, AllHaveDepth, has_depth, all_have_depth}
 use Rattle.tv_value.specs.DepthSets.{DepthSet, exactly, at_least, no_depth, IsOneOf, common, one_deeper, depths, common_depths, least_of, depth_limit}
 use Rattle.tv_value.specs.Laws.{TestDecidesDepth, DepthsAreThose, LeastDepthIsLeast, RaggedHasNoDepth}
-
-both-true : (a b : Bool) → (a && b) ≡ true → (a ≡ true) × (b ≡ true)
-both-true true b h = (refl, h)
-both-true false b h = absurd (true≢false (sym h))
-
-true-both : (a b : Bool) → a ≡ true → b ≡ true → (a && b) ≡ true
-true-both true b h k = k
-true-both false b h k = h
 
 mutual
   test : (v : Value) (d : ℕ) → (has_depth v d ≡ true) ↔ HasDepth v d
@@ -24,8 +16,8 @@ mutual
   all-test : (ts : Trees (Unit {0}) Scalar) (d : ℕ) → (all_have_depth ts d ≡ true) ↔ AllHaveDepth ts d
   all-test no_trees d = (λ h. tt, λ h. refl)
   all-test (tree t ts) d = (
-    λ h. let p = both-true (has_depth t d) (all_have_depth ts d) h in ((test t d).0 p.0, (all-test ts d).0 p.1),
-    λ h. true-both (has_depth t d) (all_have_depth ts d) ((test t d).1 h.0) ((all-test ts d).1 h.1),
+    λ h. let p = and_parts (has_depth t d) (all_have_depth ts d) h in ((test t d).0 p.0, (all-test ts d).0 p.1),
+    λ h. and_from (has_depth t d) (all_have_depth ts d) ((test t d).1 h.0) ((all-test ts d).1 h.1),
   )
 
 pub test-decides : TestDecidesDepth

@@ -23,7 +23,7 @@ pub hold_fault-each : (vs : List Value) → list_any is_fault (all_leaves (trees
 hold_fault-each [] = refl
 hold_fault-each (v ∷ vs) = any-append (leaves (view v)) (all_leaves (trees_of (map view vs))) ∙ ap (λ b. holds_fault (view v) || b) (hold_fault-each vs)
 
-makers-append : (as' bs : List Scalar) → makers_of (as' ++ bs) ≡ makers_of as' ++ makers_of bs
+pub makers-append : (as' bs : List Scalar) → makers_of (as' ++ bs) ≡ makers_of as' ++ makers_of bs
 makers-append [] bs = refl
 makers-append (text t ∷ as') bs = makers-append as' bs
 makers-append (fault e ∷ as') bs = ap (λ ns. e.at ∷ ns) (makers-append as' bs)

@@ -17,7 +17,7 @@ all_have_depth-each (v ∷ vs) d = ap (λ b. has_depth (view v) d && b) (all_hav
 pub items_view-each : (vs : Items) → items_view vs ≡ trees_of (map view vs.values.items)
 items_view-each vs = fold_out-Items _ _ value_step items_step vs
 
-items-trees_of : {N A : Type 0} (ts : List (Tree N A)) → items (trees_of ts) ≡ ts
+pub items-trees_of : {N A : Type 0} (ts : List (Tree N A)) → items (trees_of ts) ≡ ts
 items-trees_of [] = refl
 items-trees_of (t ∷ ts) = ap (λ us. t ∷ us) (items-trees_of ts)
 

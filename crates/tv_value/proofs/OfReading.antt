@@ -1,6 +1,6 @@
 -- Reading a list of JSON trees, item by item.
 use Rattle.std.specs.Prelude.{◌≡◌, ℕ, zero, suc, drop, ◌+◌, ◌<◌, ◌≤◌, ◌^◌, List, [], ◌∷◌, ◌++◌, length, refl, Result, Ok, Err, nat_lt, if◌then◌else◌}
-use Rattle.std.proofs.Common.{arith, get_or, ap, sym, subst, ◌∙◌}
+use Rattle.std.proofs.Common.{arith, get_or, ap, sym, subst, ◌∙◌, add-one}
 use Rattle.std.proofs.lemmas.List.{drop_all}
 use Rattle.tv_value.specs.declared.reading.ValueFault.{ValueFault}
 use Rattle.tv_value.specs.declared.reading.ValueFault.TheVariants.{NotText, Ragged, NoMemory}
@@ -45,28 +45,25 @@ read_short xs h = short (item_count (json_items xs)) _ _ (subst (λ n. n < 2 ^ 3
 pub read_long : (xs : List Json) → 2 ^ 32 ≤ length xs → read (array (json_items xs)) ≡ Err (ragged [])
 read_long xs h = long (item_count (json_items xs)) (read_list (read_items 0 (json_items xs))) (Err (ragged [])) (subst (λ n. 2 ^ 32 ≤ n) (sym (item_count-each xs)) h)
 
-split_at : (xs : List Json) (i : ℕ) (d : Json) → i < length xs → json_items (drop i xs) ≡ item (json_view (get_or xs i d)) (json_items (drop (suc i) xs))
-split_at [] zero d h = absurd (empty h)
+pub item-at : (xs : List Json) (i : ℕ) (d : Json) → i < length xs → json_items (drop i xs) ≡ item (json_view (get_or xs i d)) (json_items (drop (suc i) xs))
+item-at [] zero d h = absurd (empty h)
   where
     empty : 0 < 0 → ⊥
     empty p = omega arith
-split_at [] (suc i) d h = absurd (empty i h)
+item-at [] (suc i) d h = absurd (empty i h)
   where
     empty : (i : ℕ) → suc i < 0 → ⊥
     empty i p = omega arith
-split_at (x ∷ xs) zero d h = refl
-split_at (x ∷ xs) (suc i) d h = split_at xs i d (omega arith)
-
-next : (i : ℕ) → i + 1 ≡ suc i
-next i = omega arith
+item-at (x ∷ xs) zero d h = refl
+item-at (x ∷ xs) (suc i) d h = item-at xs i d (omega arith)
 
 pub read_step : (xs : List Json) (i : ℕ) (d : Json) (vs : List spec.Value) (v : spec.Value) → i < length xs → read (json_view (get_or xs i d)) ≡ Ok v → put_before vs (read_items i (json_items (drop i xs))) ≡ put_before (vs ++ v ∷ []) (read_items (i + 1) (json_items (drop (i + 1) xs)))
 read_step xs i d vs v h e =
     let rest = json_items (drop (suc i) xs) in
-    ap (λ js. put_before vs (read_items i js)) (split_at xs i d h)
+    ap (λ js. put_before vs (read_items i js)) (item-at xs i d h)
     ∙ ap (λ r. put_before vs (first_read i r (read_items (suc i) rest))) e
     ∙ sym (put_before-push vs v i (read_items (suc i) rest))
-    ∙ ap (λ k. put_before (vs ++ v ∷ []) (read_items k (json_items (drop k xs)))) (sym (next i))
+    ∙ ap (λ k. put_before (vs ++ v ∷ []) (read_items k (json_items (drop k xs)))) (sym (add-one i))
 
 pub read_end : (xs : List Json) (i : ℕ) (vs : List spec.Value) → length xs ≤ i → put_before vs (read_items i (json_items (drop i xs))) ≡ Ok (trees_of vs)
 read_end xs i vs h = ap (λ ys. put_before vs (read_items i (json_items ys))) (drop_all i xs h) ∙ put_before-end vs

@@ -2,6 +2,7 @@
 use Rattle.std.specs.Prelude.{◌≡◌, ℕ, zero, suc, ◌+◌, ◌<◌, ◌≤◌, List, [], ◌∷◌, length, drop, map}
 use Rattle.std.proofs.Common.{arith, get_or, ap, sym, subst, ◌∙◌}
 use Rattle.std.proofs.lemmas.List.{drop_all}
+use Rattle.std.proofs.Math.Numerals.{suc-eq-add-one}
 use Rattle.tv_value.specs.Strategies.{Strategy, port, cross, dot, Strategies, no_strategies, strategy}
 use Rattle.tv_value.specs.Views.{strategies_of}
 
@@ -16,9 +17,6 @@ abbrev mutual
   sizes no_strategies = 0
   sizes (strategy c cs) = suc (size c + sizes cs)
 
-next : (i : ℕ) → suc i ≡ i + 1
-next i = omega arith
-
 module _ {X : Type 0} (f : X → Strategy) where
   drop-here : (xs : List X) (i : ℕ) (x : X) → i < length xs → x ≡ get_or xs i x → strategies_of (map f (drop i xs)) ≡ strategy (f x) (strategies_of (map f (drop (suc i) xs)))
   drop-here [] i x h e = absurd (none i h)
@@ -30,7 +28,7 @@ module _ {X : Type 0} (f : X → Strategy) where
 
   -- the strategies from an index on are that one and those after it
   pub strategies_of-drop : (xs : List X) (i : ℕ) (x : X) → i < length xs → x ≡ get_or xs i x → strategies_of (map f (drop i xs)) ≡ strategy (f x) (strategies_of (map f (drop (i + 1) xs)))
-  strategies_of-drop xs i x h e = drop-here xs i x h e ∙ ap (λ k. strategy (f x) (strategies_of (map f (drop k xs)))) (next i)
+  strategies_of-drop xs i x h e = drop-here xs i x h e ∙ ap (λ k. strategy (f x) (strategies_of (map f (drop k xs)))) (suc-eq-add-one i)
 
   pub strategies_of-end : (xs : List X) (i : ℕ) → length xs ≤ i → strategies_of (map f (drop i xs)) ≡ no_strategies
   strategies_of-end xs i h = ap (λ ys. strategies_of (map f ys)) (drop_all i xs h)

@@ -4,18 +4,19 @@ use Rattle.std.specs.Cmp.Lexicographic.{bytes_decides}
 use Rattle.std.specs.List.{list_all}
 use Rattle.std.specs.Option.{option_map_or}
 use Rattle.std.proofs.Common.{sym, ap, ap₂, subst, ◌∙◌, inl, inr}
-use Rattle.std.proofs.lemmas.Bool.{and_from, true≢false}
+use Rattle.std.proofs.lemmas.Bool.{true≢false}
+use Rattle.std.specs.Cmp.Derive.{one_truth}
+use Rattle.std.proofs.lemmas.Simd.{map-map}
 use Rattle.tv_value.specs.Orders.{named, same_job, same_name}
 use Rattle.tv_value.specs.Values.{JobName, Name, Value}
+use Rattle.tv_value.proofs.OfJobNames.{same_job_decides}
 use Rattle.tv_gate.specs.Outcomes.{Giving}
 use Rattle.tv_flow.specs.Flows.{Feed, Flow, Link, constant, input, link, merge, output}
 use Rattle.tv_strategy.specs.Origins.{Origin, plain}
-use Rattle.tv_naming.proofs.OfLists.{map-map}
 use Rattle.tv_depths.specs.Delivered.{Delivered, StepMeaning, feed_delivers, link_delivers, merged, nothing_delivered}
 use Rattle.tv_instance.specs.ByResults.{InstanceStep, step_of}
 use Rattle.tv_instance.specs.Endings.{IsOwn, has_ended}
 use Rattle.tv_instance.specs.Events.{known_by}
-use Rattle.tv_instance.proofs.OfWholeness.{same_tests}
 use Rattle.tv_model.specs.Instances.{given_of}
 use Rattle.tv_model.specs.Jobs.{Job}
 use Rattle.tv_model.specs.Made.{Made, Meaning, feed_value, step_in}
@@ -23,8 +24,8 @@ use Rattle.tv_model.specs.Meanings.{flow_meaning, instance_meaning, no_meaning}
 use Rattle.tv_model.specs.Members.{In}
 use Rattle.tv_model.proofs.Members.{each_in, once-of_apart}
 use Rattle.tv_model.proofs.Order.{in-map, of-map}
-use Rattle.tv_model.proofs.Tests.{same_job_decides}
 use Rattle.tv_model.proofs.Whole.{step_key}
+use Rattle.tv_model.proofs.OfMembers.{all-in, found-in}
 use Rattle.tv_history.specs.Entries.{History}
 use Rattle.tv_history.specs.Histories.{all_known, can_end}
 use Rattle.tv_history.proofs.Tests.{all_in}
@@ -36,15 +37,10 @@ use Rattle.tv_instances.proofs.OfResults.{feed-map, itself}
 use Rattle.tv_framing.specs.Answers.{AreOutputs, has_ended_now}
 use Rattle.tv_framing.specs.Views.{View}
 use Rattle.tv_framing.proofs.OfEndings.{all_ended-in_all}
-use Rattle.tv_viewed.proofs.OfJobs.{found}
 use Rattle.tv_viewed.proofs.OfOpened.{IsOpenedAs}
 use Rattle.tv_viewed.proofs.OfReady.{all-own}
 use Rattle.tv_viewed.proofs.OfRuns.{Runs, in-all, steps_here}
 use Rattle.tv_viewed.proofs.OfSteps.{of-made, of-step, own-alike, own_made}
-
-from_all : {A : Type 0} (p : A → Bool) (xs : List A) → ((x : A) → In x xs → p x ≡ true) → list_all p xs ≡ true
-from_all p [] h = refl
-from_all p (x ∷ xs) h = and_from (p x) (list_all p xs) (h x (inl refl)) (from_all p xs (λ y i. h y (inr i)))
 
 -- ---- what is found by a step's name
 
@@ -68,11 +64,11 @@ module _ (xs ys : List StepMeaning) (there : (s : StepMeaning) → In s xs → I
     where
       by : (o u : Option StepMeaning) → find (of_name n) xs ≡ o → find (of_name n) ys ≡ u → o ≡ u
       by None None e f = refl
-      by None (Some b) e f = let w = found (of_name n) ys b f in absurd (none-found (of_name n) xs e b (here b w.0) w.1)
-      by (Some a) None e f = let w = found (of_name n) xs a e in absurd (none-found (of_name n) ys f a (there a w.0) w.1)
+      by None (Some b) e f = let w = found-in (of_name n) ys b f in absurd (none-found (of_name n) xs e b (here b w.0) w.1)
+      by (Some a) None e f = let w = found-in (of_name n) xs a e in absurd (none-found (of_name n) ys f a (there a w.0) w.1)
       by (Some a) (Some b) e f =
-          let v = found (of_name n) xs a e in
-          let w = found (of_name n) ys b f in
+          let v = found-in (of_name n) xs a e in
+          let w = found-in (of_name n) ys b f in
           ap Some (once a b v.0 (here b w.0) (sym ((bytes_decides n a.step).0 v.1) ∙ (bytes_decides n b.step).0 w.1))
 
   link-same : (given : List (Name × Delivered)) (l : Link)
@@ -130,7 +126,7 @@ module _ (gives : Giving) (flows : List (Name × Flow)) (m : Meaning) (past : Hi
   ends s = if same_job I s.instance then all_known m past s.ending else true
 
   of-run : list_all ends m.steps ≡ true → list_all (has_ended known) fs ≡ true
-  of-run h = from_all (has_ended known) fs (λ f i. sym (ended-same f i) ∙ by f (same_job I f.step.instance) ((same_job_decides I f.step.instance).1 (sym (own-instance f i))) (all_in ends m.steps h f.step (step-listed f i)))
+  of-run h = all-in (has_ended known) fs (λ f i. sym (ended-same f i) ∙ by f (same_job I f.step.instance) ((same_job_decides I f.step.instance).1 (sym (own-instance f i))) (all_in ends m.steps h f.step (step-listed f i)))
     where
       by : (f : InstanceStep) (b : Bool) → b ≡ true → (if b then all_known m past f.step.ending else true) ≡ true
           → all_known m past f.step.ending ≡ true
@@ -138,7 +134,7 @@ module _ (gives : Giving) (flows : List (Name × Flow)) (m : Meaning) (past : Hi
       by f false e k = absurd (true≢false (sym e))
 
   of-view : list_all (has_ended known) fs ≡ true → list_all ends m.steps ≡ true
-  of-view h = from_all ends m.steps (λ s i. by s i (same_job I s.instance) refl)
+  of-view h = all-in ends m.steps (λ s i. by s i (same_job I s.instance) refl)
     where
       by : (s : StepMeaning) → In s m.steps → (b : Bool) → same_job I s.instance ≡ b
           → (if b then all_known m past s.ending else true) ≡ true
@@ -149,7 +145,7 @@ module _ (gives : Giving) (flows : List (Name × Flow)) (m : Meaning) (past : Hi
 
   pub ending-told : can_end m past I ≡ has_ended_now levels v
   ending-told =
-      ap₂ (λ a b. a && b) r.is_open (same_tests (list_all ends m.steps) (list_all (has_ended known) fs) of-run of-view)
+      ap₂ (λ a b. a && b) r.is_open (one_truth (list_all ends m.steps) (list_all (has_ended known) fs) of-run of-view)
       ∙ in-all gives flows m past I levels v r (λ instance results fs. list_all (has_ended (known_by instance v.events)) fs ≡ has_ended_now levels v)
       (all_ended-in_all flows v r.frame r.depths.flow r.depths.inputs levels r.depths.levels_are)
 

@@ -1,10 +1,11 @@
 -- Known jobs are jobs of the run, and those that were begun are known.
-use Rattle.std.specs.Prelude.{◌≡◌, refl, ℕ, ◌&&◌, ◌||◌, not, Bool, true, false, List, [], ◌∷◌, Option, Some, None, find, flat_map, option_and_then, if◌then◌else◌, IsPermutation}
+use Rattle.std.specs.Prelude.{◌≡◌, refl, ℕ, ◌&&◌, ◌||◌, not, Bool, true, false, List, [], ◌∷◌, Option, Some, None, find, flat_map, option_and_then, IsPermutation}
 use Rattle.std.specs.Cmp.Lexicographic.{bytes_decides}
 use Rattle.std.specs.List.{list_all, list_any}
-use Rattle.std.proofs.Common.{sym, ap, ap₂, subst, ◌∙◌, inl, inr}
+use Rattle.std.proofs.Common.{sym, ap, ap₂, subst, ◌∙◌, inl}
 use Rattle.std.proofs.lemmas.Bool.{and_parts, true≢false, or_right}
 use Rattle.std.proofs.lemmas.List.Sorted.{IsPermutation-sym}
+use Rattle.tv_lemmas.proofs.Lists.{all-weaken}
 use Rattle.tv_value.specs.Nested.{Place, at, leaf, list, nodes, note}
 use Rattle.tv_value.specs.Orders.{same_name}
 use Rattle.tv_value.specs.Values.{JobName, Name, Value, holds_fault}
@@ -27,7 +28,7 @@ use Rattle.tv_model.specs.Members.{In}
 use Rattle.tv_model.specs.Turns.{is_bounced}
 use Rattle.tv_model.proofs.Members.{each_in, in-flat, of-flat}
 use Rattle.tv_model.proofs.Sound.{all-stand, nodes-stand, spot-step, StandsAt}
-use Rattle.tv_model.proofs.Tests.{all_weaken}
+use Rattle.tv_model.proofs.OfMembers.{found-in}
 use Rattle.tv_history.specs.Entries.{History, is_begun_entry}
 use Rattle.tv_history.specs.Histories.{is_running, is_settled, is_settled_name}
 use Rattle.tv_instances.proofs.OfEvents.{hits, one-more}
@@ -37,16 +38,6 @@ use Rattle.tv_framing.specs.Views.{View}
 use Rattle.tv_framing.proofs.OfFrames.{in-finds, job-end, known-stands, stands-known, steps-distinct}
 use Rattle.tv_viewed.proofs.OfRuns.{Runs, in-all, results_here, settled-same, steps_here}
 use Rattle.tv_viewed.proofs.OfSteps.{Standing, StandsAtEnd, as_made, as_step, job-bounced, job-inputs, job-is_at, job-made, made-in, made_job, of-jobs, of-made, of-step, own_made, step-in}
-
--- what is found passes, and is there
-pub found : {A : Type 0} (p : A → Bool) (xs : List A) (x : A) → find p xs ≡ Some x → In x xs × (p x ≡ true)
-found p [] x e = cc
-found {A = A} p (y ∷ ys) x e = by (p y) refl e (λ k. found p ys x k)
-  where
-    by : (b : Bool) → p y ≡ b → (if b then Some y else find p ys) ≡ Some x
-        → (find p ys ≡ Some x → In x ys × (p x ≡ true)) → In x (y ∷ ys) × (p x ≡ true)
-    by true q k rec = let same : y ≡ x = cc in (inl (sym same), ap p (sym same) ∙ q)
-    by false q k rec = let r = rec k in (inr r.0, r.1)
 
 -- what stands at a place is a node there, and the other way round
 pub node-at : (t : Iteration) (q : Place) (u : Iteration) → In (q, u) (nodes t) → at t q ≡ Some u
@@ -70,7 +61,7 @@ pub record EndsThere (I : JobName) (fs : List InstanceStep) (es : Events) (x : N
 
 more-known : (I : JobName) (e : Event) (es : Events) (os : List Origin) → list_all (known_by I es) os ≡ true
     → list_all (known_by I (e ∷ es)) os ≡ true
-more-known I e es os h = all_weaken (known_by I es) (known_by I (e ∷ es)) (λ o k. one-more I e es o ∙ or_right (hits I e o) (known_by I es o) k) os h
+more-known I e es os h = all-weaken (known_by I es) (known_by I (e ∷ es)) (λ o k. one-more I e es o ∙ or_right (hits I e o) (known_by I es o) k) os h
 
 pub ends-still : (I : JobName) (fs : List InstanceStep) (e : Event) (es : Events) (x : Name × Place)
     → EndsThere I fs es x → EndsThere I fs (e ∷ es) x
@@ -91,7 +82,7 @@ module _ (I : JobName) (fs : List InstanceStep) (es : Events) (x : Name × Place
   ends-found s q n p (Some f) g h k = by (at f.step.iteration q) refl h k
     where
       there : In f fs × (same_name s f.step.step ≡ true)
-      there = found (λ (f : InstanceStep). same_name s f.step.step) fs f g
+      there = found-in (λ (f : InstanceStep). same_name s f.step.step) fs f g
 
       by : (u : Option Iteration) → at f.step.iteration q ≡ u → FitsNode (took s q) u → HasSources (known_by I es) u
           → EndsThere I fs es x

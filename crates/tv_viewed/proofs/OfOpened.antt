@@ -4,6 +4,7 @@ use Rattle.std.specs.List.{list_any}
 use Rattle.std.specs.Option.{option_map_or}
 use Rattle.std.proofs.Common.{sym, ap, ap₂, subst, ◌∙◌, inl, inr, append_assoc, append-nil}
 use Rattle.std.proofs.lemmas.Option.{none-some, same_Some}
+use Rattle.std.proofs.lemmas.Simd.{map-map}
 use Rattle.tv_value.specs.Nested.{Place}
 use Rattle.tv_value.specs.Orders.{named}
 use Rattle.tv_value.specs.Values.{JobName, Name, Value, holds_fault}
@@ -13,7 +14,6 @@ use Rattle.tv_flow.specs.Formed.{is_formed}
 use Rattle.tv_strategy.specs.Origins.{Origin, Traced, plain}
 use Rattle.tv_strategy.specs.Sources.{Each}
 use Rattle.tv_dispatch.specs.Jobs.{Fate, Taken, opens, right, taken, tries, wrong}
-use Rattle.tv_naming.proofs.OfLists.{map-map}
 use Rattle.tv_depths.specs.CheckedDepths.{steps_depths}
 use Rattle.tv_depths.specs.Delivered.{StepMeaning}
 use Rattle.tv_depths.specs.Ranks.{ranked}

@@ -1,9 +1,10 @@
 -- Which jobs of the run are ready, by the view.
-use Rattle.std.specs.Prelude.{◌≡◌, refl, ℕ, ◌&&◌, ◌||◌, ◌++◌, not, Bool, true, false, List, [], ◌∷◌, Option, Some, None, find, length, if◌then◌else◌}
+use Rattle.std.specs.Prelude.{◌≡◌, refl, ℕ, ◌&&◌, ◌++◌, not, Bool, true, false, List, [], ◌∷◌, Option, Some, None, find, length, if◌then◌else◌}
 use Rattle.std.specs.Cmp.Lexicographic.{bytes_decides}
 use Rattle.std.specs.List.{list_all}
 use Rattle.std.proofs.Common.{sym, ap, ap₂, subst, ◌∙◌}
-use Rattle.std.proofs.lemmas.Bool.{and_from, and_parts, not-true, or_right, true≢false}
+use Rattle.std.proofs.lemmas.Bool.{and_from, and_parts, not-true, or_right}
+use Rattle.tv_lemmas.proofs.Lists.{all-second}
 use Rattle.tv_value.specs.Nested.{Place, leaf}
 use Rattle.tv_value.specs.Orders.{named, same_name}
 use Rattle.tv_value.specs.Values.{JobName, Name, Value}
@@ -16,7 +17,7 @@ use Rattle.tv_strategy.proofs.OfSources.{each-append}
 use Rattle.tv_depths.specs.Delivered.{Delivered}
 use Rattle.tv_depths.specs.Ranks.{is_among, ranked}
 use Rattle.tv_depths.specs.Steps.{endings_of}
-use Rattle.tv_depths.proofs.OfRanked.{IsOrdered}
+use Rattle.tv_depths.proofs.OfRanked.{IsOrdered, not-among}
 use Rattle.tv_instance.specs.ByResults.{InstanceStep, Results, last_first, step_by, step_of, steps_by}
 use Rattle.tv_instance.specs.Counting.{have_ended_by}
 use Rattle.tv_instance.specs.Endings.{IsOwn, has_ended, have_ended}
@@ -50,26 +51,12 @@ use Rattle.tv_viewed.proofs.OfSteps.{Standing, as_step, earlier-in, job-waits, s
 
 -- ---- the steps after which a job runs
 
--- what is taken by rank later is among none of these
-not-among : (done ns : List Name) (n : Name) → list_all (is_among done) ns ≡ true → is_among done n ≡ false
-    → is_among ns n ≡ false
-not-among done [] n h f = refl
-not-among done (m ∷ ns) n h f = by (same_name n m) refl (not-among done ns n (and_parts (is_among done m) (list_all (is_among done) ns) h).1 f)
-  where
-    by : (b : Bool) → same_name n m ≡ b → is_among ns n ≡ false → (b || is_among ns n) ≡ false
-    by true e k = absurd (true≢false (sym (subst (λ x. is_among done x ≡ true) (sym ((bytes_decides n m).0 e)) (and_parts (is_among done m) (list_all (is_among done) ns) h).0) ∙ f))
-    by false e k = k
-
 still-among : (done : List Name) (n : Name) (ns : List Name) → list_all (is_among done) ns ≡ true
     → list_all (is_among (n ∷ done)) ns ≡ true
 still-among done n [] h = refl
 still-among done n (m ∷ ns) h =
     let p = and_parts (is_among done m) (list_all (is_among done) ns) h in
     and_from (is_among (n ∷ done) m) (list_all (is_among (n ∷ done)) ns) (or_right (same_name m n) (is_among done m) p.0) (still-among done n ns p.1)
-
-right-all : (p : Name → Bool) (ms ns : List Name) → list_all p (ms ++ ns) ≡ true → list_all p ns ≡ true
-right-all p [] ns h = h
-right-all p (m ∷ ms) ns h = right-all p ms ns (and_parts (p m) (list_all p (ms ++ ns)) h).1
 
 module _ (known : Origin → Bool) (I : JobName) (results : Results) (given : List (Name × Delivered)) where
   -- steps that are taken later don't change whether earlier ones have ended
@@ -129,7 +116,7 @@ module _ (gives : Giving) (flows : List (Name × Flow)) (m : Meaning) (past : Hi
       → have_ended (known_by I v.events) t.earlier t.step.1.after ≡ have_ended_by v.events levels (last_first (ranked v.flow.steps) []) t.step.1.after
   ended-told t =
       let known = known_by I v.events in
-      sym (ended-earlier known I (results_here gives flows m past I levels v r) (given_of v.flow v.inputs) t.done t.earlier t.step.1.after (t.step ∷ t.later) (right-all (is_among t.done) _ t.step.1.after t.ordered.0) t.ordered)
+      sym (ended-earlier known I (results_here gives flows m past I levels v r) (given_of v.flow v.inputs) t.done t.earlier t.step.1.after (t.step ∷ t.later) (all-second (is_among t.done) _ t.step.1.after t.ordered.0) t.ordered)
       ∙ ap (λ gs. have_ended known gs t.step.1.after) t.all_steps
       ∙ in-all gives flows m past I levels v r (λ instance results fs. have_ended (known_by instance v.events) fs t.step.1.after ≡ have_ended_by v.events levels (last_first (ranked v.flow.steps) []) t.step.1.after)
       (ended-in_all flows v r.frame r.depths.flow r.depths.inputs levels r.depths.levels_are t.step.1.after)

@@ -1,11 +1,11 @@
 -- A run in which a frame is, of any meaning: what is so of the instance by the results of its own jobs.
 use Rattle.std.specs.Prelude.{◌≡◌, ℕ, List, [], true}
+use Rattle.std.specs.Cmp.Derive.{one_truth}
 use Rattle.tv_value.specs.Values.{JobName, Name}
 use Rattle.tv_gate.specs.Outcomes.{Giving}
 use Rattle.tv_flow.specs.Flows.{Document, Flow}
 use Rattle.tv_instance.specs.ByResults.{InstanceStep, Results}
 use Rattle.tv_instance.specs.Events.{Extends}
-use Rattle.tv_instance.proofs.OfWholeness.{same_tests}
 use Rattle.tv_model.specs.Jobs.{Job}
 use Rattle.tv_model.specs.Made.{Meaning}
 use Rattle.tv_model.specs.Meanings.{flow_meaning, meaning}
@@ -74,6 +74,6 @@ module _ (gives : Giving) (flows : List (Name × Flow)) (m : Meaning) (past : Hi
   -- a job is settled where the job of its name is
   pub settled-same : (j : Job) → In j m.jobs → is_settled_name m past j.name ≡ is_settled past j
   settled-same j h =
-      same_tests (is_settled_name m past j.name) (is_settled past j)
+      one_truth (is_settled_name m past j.name) (is_settled past j)
       (settled_of_name gives m (all-sound gives AnyNumber m [] r.whole) (are-jobs gives AnyNumber m [] r.whole) past j h)
       (settled-name gives AnyNumber m r.whole past j h)

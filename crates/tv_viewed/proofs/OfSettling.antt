@@ -25,6 +25,7 @@ use Rattle.tv_model.specs.Made.{Meaning}
 use Rattle.tv_model.specs.Members.{In}
 use Rattle.tv_model.proofs.Formed.{level-instance}
 use Rattle.tv_model.proofs.Members.{each_in, of-flat, of-options}
+use Rattle.tv_model.proofs.OfMembers.{found-in}
 use Rattle.tv_history.specs.Entries.{History, closed, fault_passed}
 use Rattle.tv_history.specs.Histories.{can_settle, is_legal_after}
 use Rattle.tv_instances.specs.InHistory.{Finds, IsStepHere}
@@ -37,7 +38,7 @@ use Rattle.tv_framing.specs.Views.{View}
 use Rattle.tv_framing.proofs.OfFrames.{in-finds, steps-distinct}
 use Rattle.tv_viewed.specs.Stated.{entry_of}
 use Rattle.tv_viewed.proofs.OfEndings.{listed-step, own-instance, step-listed}
-use Rattle.tv_viewed.proofs.OfJobs.{found, node-at}
+use Rattle.tv_viewed.proofs.OfJobs.{node-at}
 use Rattle.tv_viewed.proofs.OfReady.{all-own}
 use Rattle.tv_viewed.proofs.OfRuns.{Runs, in-all, results_here, steps_here}
 
@@ -73,7 +74,7 @@ module _ (gives : Giving) (flows : List (Name × Flow)) (m : Meaning) (past : Hi
           → HasSources known (option_and_then (λ (f : InstanceStep). at f.step.iteration (event_place e)) o)
           → (f : InstanceStep) × In f fs × (event_step e ≡ f.step.step)
       by None k h = absurd h
-      by (Some f) k h = let w = found (λ (g : InstanceStep). same_name (event_step e) g.step.step) fs f k in (f, w.0, (bytes_decides (event_step e) f.step.step).0 w.1)
+      by (Some f) k h = let w = found-in (λ (g : InstanceStep). same_name (event_step e) g.step.step) fs f k in (f, w.0, (bytes_decides (event_step e) f.step.step).0 w.1)
 
   pub settling-legal : (e : Event) → CanSettle v e → is_legal_after gives m past (entry_of I e) ≡ true
   settling-legal e h = by e h.0 (in-all gives flows m past I depths v r (λ instance results fs. IsLegalNext instance fs v.events e) h.1)

@@ -2,6 +2,7 @@
 use Rattle.std.specs.Prelude.{◌≡◌, refl, ◌&&◌, ℕ, true, List, [], ◌∷◌, Some, None, length, map, if◌then◌else◌}
 use Rattle.std.specs.Cmp.Lexicographic.{bytes_decides}
 use Rattle.std.proofs.Common.{sym, ap, subst}
+use Rattle.std.proofs.lemmas.Bool.{and_parts}
 use Rattle.tv_value.specs.Orders.{named}
 use Rattle.tv_value.specs.Values.{JobName, Name, Value}
 use Rattle.tv_gate.specs.Outcomes.{Giving}
@@ -10,7 +11,6 @@ use Rattle.tv_flow.specs.Formed.{is_flow, is_formed}
 use Rattle.tv_flow.specs.Forms.{is_name}
 use Rattle.tv_strategy.specs.Sources.{Each}
 use Rattle.tv_naming.proofs.FormedParts.{all-pass, document-flows, steps-ascend}
-use Rattle.tv_naming.proofs.OfLists.{both}
 use Rattle.tv_depths.specs.Delivered.{Delivered}
 use Rattle.tv_depths.specs.Ranks.{ranked}
 use Rattle.tv_check.specs.Plans.{IsAccepted}
@@ -24,10 +24,9 @@ use Rattle.tv_model.specs.RightDepths.{AreRight}
 use Rattle.tv_model.proofs.Delivers.{depths_of, forget, forget-step, given-depths, given-right}
 use Rattle.tv_model.proofs.Results.{Delivers}
 use Rattle.tv_model.proofs.Whole.{rank-each}
-use Rattle.tv_agreed.specs.PlannedDepths.{OutputsGive}
 use Rattle.tv_agreed.proofs.Accepted.{accepted-agrees}
 use Rattle.tv_agreed.proofs.Lists.{all-each, named-each}
-use Rattle.tv_agreed.proofs.OneInstance.{AllSound, flow-delivers}
+use Rattle.tv_agreed.proofs.OneInstance.{AllSound, flow-delivers, gives-right}
 use Rattle.tv_agreed.proofs.OneStep.{AnyMeaning, made-is, results}
 use Rattle.tv_instances.specs.OwnResults.{AllMadeGive}
 
@@ -39,7 +38,7 @@ formed-flow d formed n flow e = named-each (λ f. is_flow f.1 ≡ true) n d.flow
   where
     forms : Each (λ (f : Name × Flow). is_flow f.1 ≡ true) d.flows
     forms =
-        each-by _ (λ (f : Name × Flow). is_flow f.1 ≡ true) d.flows (λ f b. (both (is_name f.0) (is_flow f.1) b).1)
+        each-by _ (λ (f : Name × Flow). is_flow f.1 ≡ true) d.flows (λ f b. (and_parts (is_name f.0) (is_flow f.1) b).1)
         (all-each (λ f. is_name f.0 && is_flow f.1) d.flows (all-pass is_flow 1 256 d.flows (document-flows d formed)))
 
 -- each step is the one of its name
@@ -54,13 +53,6 @@ pub accepted-sound : (d : Document) → is_formed d ≡ true → IsAccepted d �
 accepted-sound d formed accepted f flow e = ((accepted-agrees d formed accepted).flows f flow e, formed-named flow (formed-flow d formed f flow e))
 
 -- ---- one step after another
-
-gives-right : (levels : ℕ) (os : List (Name × ℕ)) (ds : List (Name × Delivered)) → OutputsGive levels os ds
-    → AreRight ds
-gives-right levels [] [] h = tt
-gives-right levels [] (d ∷ ds) h = absurd h
-gives-right levels (o ∷ os) [] h = absurd h
-gives-right levels (o ∷ os) (d ∷ ds) h = (h.2, gives-right levels os ds h.3)
 
 own-name : (n : Name) (s : Step) → named n ((n, s) ∷ []) ≡ Some s
 own-name n s = ap (λ b. if b then Some s else None) ((bytes_decides n n).1 refl)

@@ -17,11 +17,7 @@ use Rattle.tv_naming.proofs.FormedParts.{few, step-inputs, step-outputs}
 use Rattle.tv_wires.specs.Feeds.{link_numbered, outputs_of}
 use Rattle.tv_wires.specs.declared.feeds.NumberedLink.{NumberedLink}
 use Rattle.tv_wires.specs.declared.feeds.NumberedLink.TheVariants.{Output}
-
--- things of the code, and what they stand for
-pub position-each : {A B : Type 0} (v : A → B) (n : Name) (xs : List (Name × A)) → position n (each v xs) ≡ position n xs
-position-each v n [] = refl
-position-each v n (x ∷ xs) = ap (λ k. if same_name n x.0 then 0 else suc k) (position-each v n xs)
+use Rattle.tv_depths.proofs.OfNested.{position-each}
 
 module _ {A : Type 0} (n : Name) where
   past : (xs : List (Name × A)) → named n xs ≡ None → position n xs ≡ length xs

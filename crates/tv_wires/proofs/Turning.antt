@@ -4,7 +4,7 @@ use Rattle.std.specs.Global.{Global}
 use Rattle.std.specs.List.{range_with_len}
 use Rattle.std.proofs.Common.{arith, get_or, ap, sym, subst, ◌∙◌, append_assoc}
 use Rattle.std.proofs.lemmas.Bool.{eq-eqb, ne_eqb}
-use Rattle.std.proofs.lemmas.List.{append-nil, map-append, take_all}
+use Rattle.std.proofs.lemmas.List.{append-nil, map-append, take_all, get_or_default}
 use Rattle.std.proofs.lemmas.Grind.{flat_map-append}
 use Rattle.tv_naming.specs.Naming.{numbered}
 use Rattle.tv_naming.proofs.OfLists.{take-step}
@@ -21,16 +21,6 @@ length-taken [] zero le = refl
 length-taken [] (suc i) le = absurd (omega arith)
 length-taken (x ∷ xs) zero le = refl
 length-taken (x ∷ xs) (suc i) le = ap suc (length-taken xs i (omega arith))
-
-pub length-numbered : {X : Type 0} (k : ℕ) (xs : List X) → length (numbered k xs) ≡ length xs
-length-numbered k [] = refl
-length-numbered k (x ∷ xs) = ap suc (length-numbered (suc k) xs)
-
--- what stands inside a list stands there whatever stands past it
-pub get-same : {X : Type 0} (xs : List X) (i : ℕ) (d e : X) → i < length xs → get_or xs i d ≡ get_or xs i e
-get-same [] i d e lt = absurd (omega arith)
-get-same (x ∷ xs) zero d e lt = refl
-get-same (x ∷ xs) (suc i) d e lt = get-same xs i d e (omega arith)
 
 module _ {A : Type 0} where
   -- ---- what is put into the lists of the code
@@ -80,7 +70,7 @@ module _ {A : Type 0} where
       h
       ∙ ap (λ r. with_item r (g x)) e
       ∙ sym (with_items-append old (map g (take i xs)) (g x ∷ []))
-      ∙ ap (with_items old) (sym (map-append g (take i xs) (x ∷ [])) ∙ ap (map g) (sym (take-step xs i x lt (get-same xs i d x lt))))
+      ∙ ap (with_items old) (sym (map-append g (take i xs) (x ∷ [])) ∙ ap (map g) (sym (take-step xs i x lt (get_or_default xs i d x lt))))
 
   -- ---- the lists that come of it
 

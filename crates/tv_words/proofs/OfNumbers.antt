@@ -1,9 +1,9 @@
 -- Numbers as `parse` reads them, and as they are written.
-use Rattle.std.specs.Prelude.{◌≡◌, ◌≢◌, ◌⊎◌, ℕ, ◌^◌, ◌<◌, ◌≤◌, ◌==◌, ◌&&◌, ◌||◌, Bool, true, false, nat_lt, nat_le, [], ◌∷◌, length, Some, None, Result, Ok, Err, decimal, if◌then◌else◌, unwrap_or}
+use Rattle.std.specs.Prelude.{◌≡◌, ◌≢◌, ℕ, ◌^◌, ◌<◌, ◌≤◌, ◌==◌, ◌&&◌, ◌||◌, Bool, true, false, nat_lt, nat_le, [], ◌∷◌, length, Some, None, Result, Ok, Err, decimal, if◌then◌else◌, unwrap_or}
 use Rattle.std.proofs.Common.{arith, ap, inl, inr, refl, subst, sym, get_or, ◌∙◌, eq-eqb, eqb-true, le-leb, leb-true, lt-ltb, ltb-true, true≢false}
 use Rattle.std.specs.Result.{OkIff, result_ok}
 use Rattle.std.specs.Str.Parse.{AllDigits, ParsesUnsigned, digits_value}
-use Rattle.std.proofs.lemmas.Bool.{cases_lt}
+use Rattle.std.proofs.lemmas.Bool.{cases_lt, and_parts, or_parts, or_cases}
 use Rattle.std.proofs.lemmas.Str.Parse.{digit_from_value}
 use Rattle.std.proofs.lemmas.Fmt.{decimal_digit, decimal_is_IsNumeral, decimal-digits_value, first_decimal}
 use Rattle.std.proofs.lemmas.Str.Parse.{IsNumeralModel, numerals_by_value, parse_plain, tells_digits}
@@ -15,10 +15,6 @@ use Rattle.tv_words.specs.Stated.{ReadsFrom}
 own : IsNumeralModel (AllDigits 10) (digits_value 10)
 own = numerals_by_value _ tells_digits
 
-both : (a b : Bool) → (a && b) ≡ true → (a ≡ true) × (b ≡ true)
-both true b e = (refl, e)
-both false b e = absurd (true≢false (sym e))
-
 -- ---- texts compared byte by byte
 
 same-itself : (t : Text) → same_name t t ≡ true
@@ -29,7 +25,7 @@ same-text : (s t : Text) → same_name s t ≡ true → s ≡ t
 same-text [] [] e = refl
 same-text [] (b ∷ t) e = absurd (true≢false (sym e))
 same-text (b ∷ s) [] e = absurd (true≢false (sym e))
-same-text (b ∷ s) (d ∷ t) e = let h = both (b == d) (same_name s t) e in rw (eqb-true b d h.0, same-text s t h.1) refl
+same-text (b ∷ s) (d ∷ t) e = let h = and_parts (b == d) (same_name s t) e in rw (eqb-true b d h.0, same-text s t h.1) refl
 
 -- ---- numbers that are written
 
@@ -87,8 +83,8 @@ pub number-unread : (least most : ℕ) (t : Text) → most < 2 ^ 32 → (IsPlain
 number-unread least most t fits other =
     let n = digits_value 10 t in
     by-test (writes n t && (nat_le least n && nat_le n most)) n (λ e.
-    let written = both (writes n t) _ e in
-    let within = both (nat_le least n) _ written.1 in
+    let written = and_parts (writes n t) _ e in
+    let within = and_parts (nat_le least n) _ written.1 in
     let small : n < 2 ^ 32 = omega (arith, fits, leb-true n most within.1) in
     other (written-plain t small written.0))
 
@@ -110,26 +106,17 @@ unparsed t r reads no_plus e p = by r (parse_plain own 32 t r reads no_plus) e
     by (Ok y) h e = absurd cc
     by (Err x) h e = h (p.digits, p.some, p.small)
 
--- a sign or a needless zero stands first
-either : (a b : Bool) → (a || b) ≡ true → (a ≡ true) ⊎ (b ≡ true)
-either true b e = inl refl
-either false b e = inr e
-
-neither : (a b : Bool) → (a || b) ≡ false → (a ≡ false) × (b ≡ false)
-neither true b e = absurd (true≢false e)
-neither false b e = (refl, e)
-
 pub marked : (t : Text) → (get_or t 0 0 == 43 || (get_or t 0 0 == 48 && nat_lt 1 (length t))) ≡ true → IsPlain t → ⊥
 marked [] e p = omega (arith, p.some)
-marked (b ∷ t) e p = elim (either (b == 43) _ e) [
+marked (b ∷ t) e p = elim (or_cases (b == 43) _ e) [
   | inl plus ↦ let first = eqb-true b 43 plus in omega (arith, digit_from_value b p.digits.0)
-  | inr padded ↦ let h = both (b == 48) _ padded in let one = p.alone (eqb-true b 48 h.0) in let more = ltb-true 1 (length (b ∷ t)) h.1 in omega arith
+  | inr padded ↦ let h = and_parts (b == 48) _ padded in let one = p.alone (eqb-true b 48 h.0) in let more = ltb-true 1 (length (b ∷ t)) h.1 in omega arith
 ]
 
 pub unmarked : (t : Text) → (get_or t 0 0 == 43 || (get_or t 0 0 == 48 && nat_lt 1 (length t))) ≡ false
     → (get_or t 0 0 ≢ 43) × (get_or t 0 0 ≡ 48 → length t ≤ 1)
 unmarked t e =
-    let h = neither (get_or t 0 0 == 43) _ e in (
+    let h = or_parts (get_or t 0 0 == 43) _ e in (
       λ plus. true≢false (sym (eq-eqb (get_or t 0 0) 43 plus) ∙ h.0),
       λ zero. elim (cases_lt 1 (length t)) [
         | inl more ↦ absurd (true≢false (sym (rw (eq-eqb (get_or t 0 0) 48 zero) (lt-ltb 1 (length t) more)) ∙ h.1))
@@ -150,8 +137,8 @@ reads-from least most fits t n = (only, all)
     only e =
         let m = digits_value 10 t in
         let test = by-then (writes m t && (nat_le least m && nat_le m most)) m n e in
-        let written = both (writes m t) _ test.0 in
-        let within = both (nat_le least m) _ written.1 in
+        let written = and_parts (writes m t) _ test.0 in
+        let within = and_parts (nat_le least m) _ written.1 in
         let low = leb-true least m within.0 in
         let high = leb-true m most within.1 in
         (same-text t (decimal m) written.0 ∙ ap decimal test.1, omega (arith, test.1), omega (arith, test.1))

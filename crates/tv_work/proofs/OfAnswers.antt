@@ -3,10 +3,12 @@ use Rattle.std.specs.Option.{option_map_or}
 use Rattle.std.specs.Prelude.{Bool, List, None, Option, Some, [], false, find, if◌then◌else◌, is_some, length, option_and_then, refl, slice_get, suc, true, unwrap_or, zero, ℕ, ◌&&◌, ◌++◌, ◌<◌, ◌==◌, ◌∷◌, ◌≡◌}
 use Rattle.std.proofs.Common.{ap, arith, inl, inr, subst, sym, ◌∙◌}
 use Rattle.std.proofs.lemmas.Bool.{eqb-true, lt-ltb}
+use Rattle.std.specs.Cmp.{first_so, second_so}
 use Rattle.tv_history.proofs.Ready.{left-in}
 use Rattle.tv_history.proofs.Tests.{find-passes, first-in}
 use Rattle.tv_value.specs.Orders.{same_job}
 use Rattle.tv_value.specs.Values.{JobName}
+use Rattle.tv_value.proofs.OfJobNames.{same_job_decides}
 use Rattle.tv_gate.specs.Calls.{Call, IsCalled}
 use Rattle.tv_gate.specs.Outcomes.{Giving}
 use Rattle.tv_dispatch.specs.Jobs.{Ask}
@@ -15,7 +17,7 @@ use Rattle.tv_model.specs.Made.{Meaning}
 use Rattle.tv_model.specs.Meanings.{meaning}
 use Rattle.tv_model.specs.Members.{In}
 use Rattle.tv_model.proofs.Order.{some_in}
-use Rattle.tv_model.proofs.Tests.{left_true, right_true, same_job_decides, true≠false}
+use Rattle.tv_model.proofs.Tests.{true≠false}
 use Rattle.tv_history.specs.Entries as history
 use Rattle.tv_history.specs.Entries.{History, is_out}
 use Rattle.tv_history.specs.Histories.{asks_left, is_ask, is_at, is_legal, is_legal_after, is_right, next_ask, same_bool}
@@ -72,18 +74,18 @@ module _ (gives : Giving) (s : Run) (q : Question) (task : IsTask gives s q) whe
       let n = some-of (λ n. find (λ (k : Job). same_job n k.name) (meant gives s).jobs) (slice_get s.names q.ticket.job) j.0 j.1 in
       let found = find-passes (λ (k : Job). same_job n.0 k.name) (meant gives s).jobs j.0 n.2 in
       let tried = some-if (is_out (past_of s) j.0.name && is_it j.0) (next_ask (past_of s) j.0) task.asked j.2 in
-      let same = subst (λ o. option_map_or (is_ask q.ticket.activity q.ticket.attempt) o false ≡ true) tried.1 (right_true (is_out (past_of s) j.0.name) (is_it j.0) tried.0) in
+      let same = subst (λ o. option_map_or (is_ask q.ticket.activity q.ticket.attempt) o false ≡ true) tried.1 (second_so (is_out (past_of s) j.0.name) (is_it j.0) tried.0) in
       record {
         job = j.0;
         name = n.0;
         number = n.1;
         named = (same_job_decides n.0 j.0.name).0 found.1;
         among = found.0;
-        out = left_true (is_out (past_of s) j.0.name) (is_it j.0) tried.0;
+        out = first_so (is_out (past_of s) j.0.name) (is_it j.0) tried.0;
         next = tried.1;
         its_own = left-in (past_of s) j.0.name j.0.asks task.asked (first-in task.asked (asks_left (past_of s) j.0.name j.0.asks) tried.1);
-        activity = eqb-true q.ticket.activity task.asked.activity (left_true (q.ticket.activity == task.asked.activity) (q.ticket.attempt == task.asked.attempt) same);
-        attempt = eqb-true q.ticket.attempt task.asked.attempt (right_true (q.ticket.activity == task.asked.activity) (q.ticket.attempt == task.asked.attempt) same);
+        activity = eqb-true q.ticket.activity task.asked.activity (first_so (q.ticket.activity == task.asked.activity) (q.ticket.attempt == task.asked.attempt) same);
+        attempt = eqb-true q.ticket.attempt task.asked.attempt (second_so (q.ticket.activity == task.asked.activity) (q.ticket.attempt == task.asked.attempt) same);
       }
 
   -- its call is that of the ask
@@ -95,21 +97,21 @@ module _ (gives : Giving) (s : Run) (q : Question) (task : IsTask gives s q) whe
 module _ (gives : Giving) (m : Meaning) (are : AreJobs gives m) (past : History) where
   -- its right is that of the job's next ask
   right-as : (n : JobName) (c t : ℕ) (b : Bool) → is_legal_after gives m past (history.accepted n c t b) ≡ true → (j : Job) → In j m.jobs → n ≡ j.name → (a : Ask) → next_ask past j ≡ Some a → (c, t, b) ≡ key_of gives a
-  right-as n c t b l j i e a next = λ z. (eqb-true c a.activity (left_true (c == a.activity) (t == a.attempt) asks) z, eqb-true t a.attempt (right_true (c == a.activity) (t == a.attempt) asks) z, same b (is_right gives a) (right_true (is_ask c t a) (same_bool b (is_right gives a)) both) z)
+  right-as n c t b l j i e a next = λ z. (eqb-true c a.activity (first_so (c == a.activity) (t == a.attempt) asks) z, eqb-true t a.attempt (second_so (c == a.activity) (t == a.attempt) asks) z, same b (is_right gives a) (second_so (is_ask c t a) (same_bool b (is_right gives a)) both) z)
     where
       found : (x : Job) × In x m.jobs × ((is_at x n && option_map_or (λ k. is_ask c t k && same_bool b (is_right gives k)) (next_ask past x) false) ≡ true)
-      found = some_in (λ x. is_at x n && option_map_or (λ k. is_ask c t k && same_bool b (is_right gives k)) (next_ask past x) false) m.jobs (right_true (is_out past n) _ l)
+      found = some_in (λ x. is_at x n && option_map_or (λ k. is_ask c t k && same_bool b (is_right gives k)) (next_ask past x) false) m.jobs (second_so (is_out past n) _ l)
 
       its-own : found.0 ≡ j
-      its-own = are.once found.0 j found.1 i (sym ((same_job_decides n found.0.name).0 (left_true (is_at found.0 n) _ found.2)) ∙ e)
+      its-own = are.once found.0 j found.1 i (sym ((same_job_decides n found.0.name).0 (first_so (is_at found.0 n) _ found.2)) ∙ e)
 
       both : (is_ask c t a && same_bool b (is_right gives a)) ≡ true
       both =
           subst (λ o. option_map_or (λ k. is_ask c t k && same_bool b (is_right gives k)) o false ≡ true) (ap (next_ask past) its-own ∙ next)
-          (right_true (is_at found.0 n) (option_map_or (λ k. is_ask c t k && same_bool b (is_right gives k)) (next_ask past found.0) false) found.2)
+          (second_so (is_at found.0 n) (option_map_or (λ k. is_ask c t k && same_bool b (is_right gives k)) (next_ask past found.0) false) found.2)
 
       asks : (c == a.activity && t == a.attempt) ≡ true
-      asks = left_true (is_ask c t a) (same_bool b (is_right gives a)) both
+      asks = first_so (is_ask c t a) (same_bool b (is_right gives a)) both
 
       same : (x y : Bool) → same_bool x y ≡ true → x ≡ y
       same true y h = sym h
@@ -131,7 +133,7 @@ module _ (gives : Giving) (s u : Run) (q : Question) (right : Bool) (l : IsLegal
   was-legal = by (meant gives u) (meant gives s) (past_of u) (past_of s) (history.accepted (name_at u.names q.ticket.job) q.ticket.activity q.ticket.attempt right) (ap (meaning gives) a.document) (one-newer gives s u (accepts q.ticket right) l a) lu.legal
     where
       by : (m k : Meaning) (now past : History) (e : history.Entry) → m ≡ k → now ≡ e ∷ past → is_legal gives m now ≡ true → is_legal_after gives k past e ≡ true
-      by m k now past e p w h = right_true (is_legal gives k past) (is_legal_after gives k past e) (sym (λ i. is_legal gives (p i) (w i)) ∙ h)
+      by m k now past e p w h = second_so (is_legal gives k past) (is_legal_after gives k past e) (sym (λ i. is_legal gives (p i) (w i)) ∙ h)
 
   its-key : (q.ticket.activity, q.ticket.attempt, right) ≡ key_of gives task.asked
   its-key = right-as gives (meant gives s) (jobs-of gives s.document) (past_of s) (name_at u.names q.ticket.job) q.ticket.activity q.ticket.attempt right was-legal its.job its.among named-so task.asked its.next

@@ -1,5 +1,5 @@
 -- A worker's calls, one turn after another.
-use Rattle.std.specs.Prelude.{Err, List, Ok, OnErr, Option, Result, Some, [], map, refl, true, ◌++◌, ◌≡◌, ◌⊎◌}
+use Rattle.std.specs.Prelude.{List, Option, Some, [], map, refl, true, ◌++◌, ◌≡◌, ◌⊎◌}
 use Rattle.std.proofs.Common.{ap, inl, inr, subst, sym, ◌∙◌}
 use Rattle.std.proofs.lemmas.List.{append-nil, append_assoc, map-append}
 use Rattle.tv_lemmas.proofs.Cases.{on_either}
@@ -22,11 +22,6 @@ use Rattle.tv_entries.specs.declared.ticket.Ticket.{Ticket}
 use Rattle.tv_flow.specs.Flows.{Document}
 use Rattle.tv_work.specs.Asked.{AreAsksOf, AsksAtMostOneMore, AsksEach, accepted_tries, call_of}
 use Rattle.tv_entries.proofs.OfOneMore.{named, one-newer}
-
--- after an error that was passed on
-pub on-err : {A E P : Type 0} (r : Result A E) → P → OnErr r P
-on-err (Ok x) p = tt
-on-err (Err e) p = p
 
 -- ---- tries that were accepted
 

@@ -4,9 +4,11 @@ use Rattle.std.specs.Option.{option_map_or}
 use Rattle.std.specs.Prelude.{Bool, List, None, Option, Some, [], cond, false, find, is_none, not, refl, true, ℕ, ◌&&◌, ◌==◌, ◌||◌, ◌∷◌, ◌≡◌}
 use Rattle.std.proofs.Common.{ap, inl, inr, subst, sym, ◌∙◌}
 use Rattle.std.proofs.lemmas.Bool.{eq-eqb, false_from_ne_true}
+use Rattle.std.specs.Cmp.{first_so}
 use Rattle.tv_lemmas.proofs.Cases.{on_test}
 use Rattle.tv_value.specs.Orders.{same_job}
 use Rattle.tv_value.specs.Values.{JobName}
+use Rattle.tv_value.proofs.OfJobNames.{same_job_decides}
 use Rattle.tv_gate.specs.Outcomes.{Giving}
 use Rattle.tv_flow.specs.Flows.{Document}
 use Rattle.tv_model.specs.Jobs.{Job}
@@ -15,7 +17,7 @@ use Rattle.tv_model.specs.Made.{Meaning}
 use Rattle.tv_model.specs.Meanings.{meaning}
 use Rattle.tv_model.specs.Members.{In}
 use Rattle.tv_model.proofs.Order.{some_in}
-use Rattle.tv_model.proofs.Tests.{both_true, left_true, same_job_decides, true≠false}
+use Rattle.tv_model.proofs.Tests.{both_true, true≠false}
 use Rattle.tv_model.proofs.Members.{any-in}
 use Rattle.tv_history.specs.Alone.{is_by_one, is_by_one_after, nobody_out}
 use Rattle.tv_history.specs.Entries as history
@@ -102,7 +104,7 @@ module _ (gives : Giving) (m : Meaning) (past : History) (quiet : (e : history.E
       both_true (not (can_settle_more m past) && option_map_or (λ j. is_at j n) (find (λ j. is_offered m past j || can_open m past j) m.jobs) false) (nobody_out m past)
       (both_true (not (can_settle_more m past)) (option_map_or (λ j. is_at j n) (find (λ j. is_offered m past j || can_open m past j) m.jobs) false) (ap not settled-out)
       (first-of_either (is_offered m past) (can_open m past) (λ j. is_at j n) m.jobs
-      (weaken-found (λ j. is_at j n && option_map_or (is_ask a t) (next_ask past j) false) (λ j. is_at j n) (λ j k. left_true (is_at j n) (option_map_or (is_ask a t) (next_ask past j) false) k) (find (is_offered m past) m.jobs) h) none-opens))
+      (weaken-found (λ j. is_at j n && option_map_or (is_ask a t) (next_ask past j) false) (λ j. is_at j n) (λ j k. first_so (is_at j n) (option_map_or (is_ask a t) (next_ask past j) false) k) (find (is_offered m past) m.jobs) h) none-opens))
       none
 
 -- ---- one entry more

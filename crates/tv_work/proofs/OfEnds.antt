@@ -3,6 +3,7 @@ use Rattle.std.specs.Option.{option_map_or}
 use Rattle.std.specs.Prelude.{false, nat_le, refl, true, ◌&&◌, ◌≡◌, ◌≤◌}
 use Rattle.std.proofs.Common.{ap, sym, ◌∙◌}
 use Rattle.std.proofs.lemmas.Bool.{leb-true}
+use Rattle.std.specs.Cmp.{first_so, second_so}
 use Rattle.tv_outcomes.proofs.Read.{named-pass}
 use Rattle.tv_entries.proofs.OfTotals.{accepted-told}
 use Rattle.tv_history.proofs.Counts.{uncounted}
@@ -14,7 +15,7 @@ use Rattle.tv_model.specs.Jobs.{Job}
 use Rattle.tv_model.specs.Members.{In}
 use Rattle.tv_model.proofs.Order.{some_in}
 use Rattle.tv_model.proofs.Turns.{each-map}
-use Rattle.tv_model.proofs.Tests.{Each, left_true, right_true, same_job_decides, true≠false}
+use Rattle.tv_model.proofs.Tests.{Each, true≠false}
 use Rattle.tv_model.proofs.Members.{any-in}
 use Rattle.tv_history.specs.Entries as history
 use Rattle.tv_history.specs.Entries.{is_out}
@@ -26,20 +27,21 @@ use Rattle.tv_history.proofs.Tests.{found_in}
 use Rattle.tv_entries.specs.Calls.{IsNothingOffered, NothingSettles}
 use Rattle.tv_entries.specs.Runs.{Run, meant, past_of}
 use Rattle.tv_work.specs.Working.{IsFree, IsWorkedOff}
+use Rattle.tv_value.proofs.OfJobNames.{same_job_decides}
 
 -- every step of a document that was read has a place
 places : (s : Step) → is_step s ≡ true → 1 ≤ s.jobs
-places s h = leb-true 1 s.jobs (left_true (nat_le 1 s.jobs) (nat_le s.jobs 64) (right_true _ (is_between 1 64 s.jobs) (left_true _ (are_names s.after) h)))
+places s h = leb-true 1 s.jobs (first_so (nat_le 1 s.jobs) (nat_le s.jobs 64) (second_so _ (is_between 1 64 s.jobs) (first_so _ (are_names s.after) h)))
 
 flow-places : (f : Flow) → is_flow f ≡ true → Each (λ s. 1 ≤ s.1.jobs) f.steps
 flow-places f h =
     each-map (λ s. is_step s.1 ≡ true) (λ s. 1 ≤ s.1.jobs) (λ s. places s.1) f.steps
-    (named-pass is_step 0 1000 f.steps (right_true _ (are_named is_step 0 1000 f.steps) (left_true _ (are_named is_feed 0 16 f.outputs) h)))
+    (named-pass is_step 0 1000 f.steps (second_so _ (are_named is_step 0 1000 f.steps) (first_so _ (are_named is_feed 0 16 f.outputs) h)))
 
 pub well-formed : (d : Document) → is_formed d ≡ true → IsWellFormed d
 well-formed d h = record {
   places = each-map (λ f. is_flow f.1 ≡ true) (λ f. Each (λ s. 1 ≤ s.1.jobs) f.1.steps) (λ f. flow-places f.1) d.flows
-      (named-pass is_flow 1 256 d.flows (right_true _ (are_named is_flow 1 256 d.flows) (left_true _ (are_entries is_value d.inputs) h)));
+      (named-pass is_flow 1 256 d.flows (second_so _ (are_named is_flow 1 256 d.flows) (first_so _ (are_entries is_value d.inputs) h)));
 }
 
 module _ (gives : Giving) (r : Run) (f : IsFree gives r) where
@@ -52,8 +54,8 @@ module _ (gives : Giving) (r : Run) (f : IsFree gives r) where
       let x = found_in (λ j. is_at j n && option_map_or (is_ask a t) (next_ask (past_of r) j) false) (is_offered (meant gives r) (past_of r)) (meant gives r).jobs l in
       sym (any-in (is_offered (meant gives r) (past_of r)) x.0 (meant gives r).jobs x.1 x.2) ∙ idle
   none-next quiet idle (history.accepted n a t b) l h =
-      let x = some_in (λ y. is_at y n && option_map_or (λ k. is_ask a t k && same_bool b (is_right gives k)) (next_ask (past_of r) y) false) (meant gives r).jobs (right_true (is_out (past_of r) n) _ l) in
-      sym (left_true (is_out (past_of r) n) _ l) ∙ ap (is_out (past_of r)) ((same_job_decides n x.0.name).0 (left_true (is_at x.0 n) _ x.2)) ∙ none-out x.0 x.1
+      let x = some_in (λ y. is_at y n && option_map_or (λ k. is_ask a t k && same_bool b (is_right gives k)) (next_ask (past_of r) y) false) (meant gives r).jobs (second_so (is_out (past_of r) n) _ l) in
+      sym (first_so (is_out (past_of r) n) _ l) ∙ ap (is_out (past_of r)) ((same_job_decides n x.0.name).0 (first_so (is_at x.0 n) _ x.2)) ∙ none-out x.0 x.1
   none-next quiet idle (history.bounced n) l h = sym l ∙ quiet (history.bounced n) refl
   none-next quiet idle (history.closed n k) l h = sym l ∙ quiet (history.closed n k) refl
   none-next quiet idle (history.fault_passed n) l h = sym l ∙ quiet (history.fault_passed n) refl

@@ -7,6 +7,7 @@ use Rattle.std.proofs.lemmas.Bool.{eq-eqb}
 use Rattle.std.proofs.lemmas.List.{append-nil, append_assoc, map-append}
 use Rattle.std.proofs.lemmas.List.Sorted.{Contains-permutation}
 use Rattle.tv_value.specs.Values.{JobName}
+use Rattle.tv_value.proofs.OfJobNames.{same_job_decides}
 use Rattle.tv_gate.specs.Calls.{Call, IsCalled, IsSameCalls}
 use Rattle.tv_gate.specs.Outcomes.{Giving}
 use Rattle.tv_dispatch.specs.Jobs.{Ask}
@@ -21,7 +22,7 @@ use Rattle.tv_model.specs.Members.{In}
 use Rattle.tv_model.proofs.Members.{of-flat, any-in}
 use Rattle.tv_model.proofs.Order.{in-append, of-map}
 use Rattle.tv_model.proofs.Ordered.{flow-ordered}
-use Rattle.tv_model.proofs.Tests.{both_true, same_job_decides, true≠false}
+use Rattle.tv_model.proofs.Tests.{both_true, true≠false}
 use Rattle.tv_history.specs.Alone.{IsFirstPart, is_by_one}
 use Rattle.tv_history.specs.Entries as history
 use Rattle.tv_history.specs.Entries.{History, is_out}

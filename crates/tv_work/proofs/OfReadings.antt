@@ -2,14 +2,16 @@
 use Rattle.std.specs.Prelude.{List, Some, [], find, map, option_and_then, option_map, refl, ◌&&◌, ◌==◌, ◌∷◌, ◌≡◌}
 use Rattle.std.proofs.Common.{ap, inl, inr, subst, sym, ◌∙◌}
 use Rattle.std.proofs.lemmas.Bool.{eq-eqb, eqb-true}
+use Rattle.std.specs.Cmp.{first_so, second_so}
 use Rattle.tv_value.specs.Orders.{same_job}
 use Rattle.tv_value.specs.Values.{JobName}
+use Rattle.tv_value.proofs.OfJobNames.{same_job_decides}
 use Rattle.tv_gate.specs.Outcomes.{Giving}
 use Rattle.tv_dispatch.specs.Jobs.{Ask}
 use Rattle.tv_model.specs.Jobs.{Job}
 use Rattle.tv_model.specs.Made.{Meaning}
 use Rattle.tv_model.specs.Members.{In}
-use Rattle.tv_model.proofs.Tests.{both_true, left_true, right_true, same_job_decides}
+use Rattle.tv_model.proofs.Tests.{both_true}
 use Rattle.tv_model.specs.Turns.{ask_order}
 use Rattle.tv_history.specs.Alone.{IsFirstPart}
 use Rattle.tv_history.specs.Tries.{ask_try}
@@ -39,7 +41,7 @@ module _ (gives : Giving) (m : Meaning) (are : AreJobs gives m) (own : AllHaveTr
       its-ask =
           find-it (λ (a : Ask). p.1.activity == a.activity && p.1.attempt == a.attempt) p.1 h.0.asks h.3
           (both_true (p.1.activity == p.1.activity) (p.1.attempt == p.1.attempt) (eq-eqb p.1.activity p.1.activity refl) (eq-eqb p.1.attempt p.1.attempt refl))
-          (λ a i e. (own h.0 h.1).apart a p.1 i h.3 (sym (eqb-true p.1.activity a.activity (left_true (p.1.activity == a.activity) (p.1.attempt == a.attempt) e))) (sym (eqb-true p.1.attempt a.attempt (right_true (p.1.activity == a.activity) (p.1.attempt == a.attempt) e))))
+          (λ a i e. (own h.0 h.1).apart a p.1 i h.3 (sym (eqb-true p.1.activity a.activity (first_so (p.1.activity == a.activity) (p.1.attempt == a.attempt) e))) (sym (eqb-true p.1.attempt a.attempt (second_so (p.1.activity == a.activity) (p.1.attempt == a.attempt) e))))
 
   reads-all : (ps : List (JobName × Ask)) → AreAsksOf m.jobs ps → map (ask_of_try m) (map (ask_try gives) ps) ≡ map Some ps
   reads-all [] of = refl

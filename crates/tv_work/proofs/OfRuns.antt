@@ -6,11 +6,13 @@ use Rattle.std.proofs.Common.{ap, arith, subst, sym, ◌∙◌}
 use Rattle.std.proofs.lemmas.Bool.{lt-ltb}
 use Rattle.std.proofs.lemmas.List.{append_assoc}
 use Rattle.std.proofs.lemmas.List.Sums.{sum_by_push, sum_by-append}
+use Rattle.std.specs.Cmp.{first_so, second_so}
 use Rattle.tv_entries.proofs.OfOneMore.{before, named, newest, past-mapped}
 use Rattle.tv_entries.proofs.OfPasts.{name-more}
 use Rattle.tv_entries.proofs.OfTotals.{count-told}
 use Rattle.tv_value.specs.Orders.{same_job}
 use Rattle.tv_value.specs.Values.{JobName, Name}
+use Rattle.tv_value.proofs.OfJobNames.{same_job_decides}
 use Rattle.tv_gate.specs.Outcomes.{Giving}
 use Rattle.tv_flow.specs.Flows.{Document}
 use Rattle.tv_flow.specs.Formed.{is_formed}
@@ -18,7 +20,7 @@ use Rattle.tv_model.specs.Jobs.{Job}
 use Rattle.tv_model.specs.Meanings.{meaning}
 use Rattle.tv_model.specs.Members.{In}
 use Rattle.tv_model.proofs.Order.{some_in}
-use Rattle.tv_model.proofs.Tests.{both_true, left_true, right_true, same_job_decides, true≠false}
+use Rattle.tv_model.proofs.Tests.{both_true, true≠false}
 use Rattle.tv_model.proofs.Whole.{AnyNumber}
 use Rattle.tv_history.specs.Alone.{IsFirstPart}
 use Rattle.tv_history.specs.Entries as history
@@ -65,7 +67,7 @@ has_number n e = true
 pub out-kept : (d : Document) (ns more is js : List JobName) (es : List Entry) → list_all (has_number (length ns)) es ≡ true → (n : JobName) → is_out (map (with_names d (ns ++ more) js) es) n ≡ is_out (map (with_names d ns is) es) n
 out-kept d ns more is js [] h n = refl
 out-kept d ns more is js (e ∷ es) h n =
-    by e (left_true (has_number (length ns) e) (list_all (has_number (length ns)) es) h) (out-kept d ns more is js es (right_true (has_number (length ns) e) (list_all (has_number (length ns)) es) h) n)
+    by e (first_so (has_number (length ns) e) (list_all (has_number (length ns)) es) h) (out-kept d ns more is js es (second_so (has_number (length ns) e) (list_all (has_number (length ns)) es) h) n)
   where
     by : (e : Entry) → has_number (length ns) e ≡ true → is_out (map (with_names d (ns ++ more) js) es) n ≡ is_out (map (with_names d ns is) es) n → is_out (map (with_names d (ns ++ more) js) (e ∷ es)) n ≡ is_out (map (with_names d ns is) (e ∷ es)) n
     by (entry.HandedOut k a t) w p = λ i. if same_job n (name-more ns more k w i) then true else p i
@@ -94,18 +96,18 @@ module _ (gives : Giving) (d : Document) where
   number-of : (ns is : List JobName) (past : History) (e : Entry) → is_legal_after gives (meaning gives d) past (with_names d ns is e) ≡ true → has_number (length ns) e ≡ true
   number-of ns is past (entry.HandedOut k a t) h =
       let r = found_in (λ j. is_at j (name_at ns k) && option_map_or (is_ask a t) (next_ask past j) false) (is_offered (meaning gives d) past) (meaning gives d).jobs h in
-      job-number ns k r.0 r.1 (left_true (is_at r.0 (name_at ns k)) _ r.3)
+      job-number ns k r.0 r.1 (first_so (is_at r.0 (name_at ns k)) _ r.3)
   number-of ns is past (entry.Accepted k a t s) h =
-      let r = some_in (λ x. is_at x (name_at ns k) && option_map_or (λ y. is_ask a t y && same_bool s (is_right gives y)) (next_ask past x) false) (meaning gives d).jobs (right_true (is_out past (name_at ns k)) _ h) in
-      job-number ns k r.0 r.1 (left_true (is_at r.0 (name_at ns k)) _ r.2)
+      let r = some_in (λ x. is_at x (name_at ns k) && option_map_or (λ y. is_ask a t y && same_bool s (is_right gives y)) (next_ask past x) false) (meaning gives d).jobs (second_so (is_out past (name_at ns k)) _ h) in
+      job-number ns k r.0 r.1 (first_so (is_at r.0 (name_at ns k)) _ r.2)
   number-of ns is past e h = refl
 
   pub have-numbers : (ns is : List JobName) (es : List Entry) → is_legal gives (meaning gives d) (map (with_names d ns is) es) ≡ true → list_all (has_number (length ns)) es ≡ true
   have-numbers ns is [] l = refl
   have-numbers ns is (e ∷ es) l =
       both_true (has_number (length ns) e) (list_all (has_number (length ns)) es)
-      (number-of ns is (map (with_names d ns is) es) e (right_true (is_legal gives (meaning gives d) (map (with_names d ns is) es)) _ l))
-      (have-numbers ns is es (left_true _ (is_legal_after gives (meaning gives d) (map (with_names d ns is) es) (with_names d ns is e)) l))
+      (number-of ns is (map (with_names d ns is) es) e (second_so (is_legal gives (meaning gives d) (map (with_names d ns is) es)) _ l))
+      (have-numbers ns is es (first_so _ (is_legal_after gives (meaning gives d) (map (with_names d ns is) es) (with_names d ns is e)) l))
 
 -- ---- one entry more
 

@@ -3,15 +3,17 @@ use Rattle.std.specs.Option.{option_map_or}
 use Rattle.std.specs.Prelude.{Bool, List, None, Option, Some, [], cond, count_by, false, find, if◌then◌else◌, is_some, length, option_and_then, refl, slice_get, suc, true, unwrap_or, zero, ℕ, ◌&&◌, ◌<◌, ◌∷◌, ◌≡◌, ◌≤◌}
 use Rattle.std.proofs.Common.{ap, arith, inl, inr, subst, sym, ◌∙◌}
 use Rattle.std.proofs.lemmas.Bool.{lt-ltb}
+use Rattle.std.specs.Cmp.{first_so, second_so}
 use Rattle.tv_entries.proofs.OfPasts.{and-some, name-more}
 use Rattle.tv_value.specs.Orders.{same_job}
 use Rattle.tv_value.specs.Values.{JobName, Name}
+use Rattle.tv_value.proofs.OfJobNames.{same_job_decides}
 use Rattle.tv_gate.specs.Outcomes.{Giving}
 use Rattle.tv_dispatch.specs.Jobs.{Ask}
 use Rattle.tv_model.specs.Jobs.{Job}
 use Rattle.tv_model.specs.Meanings.{meaning}
 use Rattle.tv_model.specs.Members.{In}
-use Rattle.tv_model.proofs.Tests.{both_true, left_true, right_true, same_job_decides, true≠false}
+use Rattle.tv_model.proofs.Tests.{both_true, true≠false}
 use Rattle.tv_history.specs.Entries as history
 use Rattle.tv_history.specs.Entries.{History, is_out}
 use Rattle.tv_history.specs.Histories.{is_ask, is_at, is_legal, is_legal_after, is_offered, next_ask}
@@ -62,14 +64,14 @@ module _ (gives : Giving) (r s : Run) (t : Ticket) (l : IsLegalRun gives s) (a :
 
   -- it was legal
   pub handed : is_legal_after gives (meant gives s) older (history.handed_out (name_at s.names t.job) t.activity t.attempt) ≡ true
-  handed = right_true (is_legal gives (meant gives s) older) _ (subst (λ p. is_legal gives (meant gives s) p ≡ true) (newest r s (hands_out t) a) l.legal)
+  handed = second_so (is_legal gives (meant gives s) older) _ (subst (λ p. is_legal gives (meant gives s) p ≡ true) (newest r s (hands_out t) a) l.legal)
 
   -- so a job has the name, and this try is its next
   its-job : (j : Job) × In j (meant gives s).jobs × (is_offered (meant gives s) older j ≡ true) × ((is_at j (name_at s.names t.job) && option_map_or (is_ask t.activity t.attempt) (next_ask older j) false) ≡ true)
   its-job = found_in (λ j. is_at j (name_at s.names t.job) && option_map_or (is_ask t.activity t.attempt) (next_ask older j) false) (is_offered (meant gives s) older) (meant gives s).jobs handed
 
   its-name : name_at s.names t.job ≡ its-job.0.name
-  its-name = (same_job_decides (name_at s.names t.job) its-job.0.name).0 (left_true (is_at its-job.0 (name_at s.names t.job)) _ its-job.3)
+  its-name = (same_job_decides (name_at s.names t.job) its-job.0.name).0 (first_so (is_at its-job.0 (name_at s.names t.job)) _ its-job.3)
 
   found-job : job_of gives s t.job ≡ Some its-job.0
   found-job =
@@ -86,7 +88,7 @@ module _ (gives : Giving) (r s : Run) (t : Ticket) (l : IsLegalRun gives s) (a :
       (subst (λ p. is_some (try_out (meant gives s) p t.activity t.attempt j) ≡ true) (sym (newest r s (hands_out t) a))
       (some-try (is_out (history.handed_out (name_at s.names t.job) t.activity t.attempt ∷ older) j.name) (is_ask t.activity t.attempt) (next_ask older j)
       (ap (λ b. if b then true else is_out older j.name) ((same_job_decides j.name (name_at s.names t.job)).1 (sym its-name)))
-      (right_true (is_at j (name_at s.names t.job)) _ its-job.3)))
+      (second_so (is_at j (name_at s.names t.job)) _ its-job.3)))
 
   module _ (was : IsLegalRun gives r) (none : out_count gives r ≡ 0) where
     none-out : (j : Job) → In j (meant gives s).jobs → is_out (past_of r) j.name ≡ false

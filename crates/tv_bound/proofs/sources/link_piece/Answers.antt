@@ -1,13 +1,13 @@
 use Rattle.std.proofs.Common.{◌≡◌, ◌<◌, ◌≤◌, ◌^◌, ℕ, is_some, length, sym, ap, ◌∙◌, subst, arith}
 use Rattle.std.proofs.Math.Facts.{Fits-of_lt}
 use Rattle.std.proofs.lemmas.Result.{IfOk-weaker}
+use Rattle.std.proofs.lemmas.List.{length-map}
 use Rattle.tv_cell.specs.declared.piece.Piece.{Piece}
 use Rattle.tv_value.specs.Nested.{at}
 use Rattle.tv_cell.specs.PieceValues.{piece_value}
 use Rattle.tv_cell.specs.Soundness.{IsSound}
 use Rattle.tv_cell.proofs.OfPieces.{piece-sound}
 use Rattle.tv_outputs.specs.Known.{known, known_of}
-use Rattle.tv_outputs.proofs.Lists.{mapped-length}
 use Rattle.tv_bound.specs.Found.{link_found}
 use Rattle.tv_bound.specs.Sourced.{known_by}
 use Rattle.tv_bound.proofs.OfSources.{input-within, input-is, output-there}
@@ -25,7 +25,7 @@ overflow_add-number c =
     let q = c.args.place.now in
     let h = (output-there (known s.pool.now s.outputs.now) s.firsts.now c.in-Output.step c.in-Output.output q (sym (ap (λ l. is_some (link_found (known_by s) l q)) c.in-Output.is) ∙ c.requires.found)).tree in
     let ts = s.outputs.now.trees in
-    Fits-of_lt (small _ (length (known s.pool.now s.outputs.now)) (length ts.items) ts.len ts.cap h (mapped-length (known_of s.pool.now) ts.items) ts.ok.0 ts.ok.1 ts.small)
+    Fits-of_lt (small _ (length (known s.pool.now s.outputs.now)) (length ts.items) ts.len ts.cap h (length-map ts.items (known_of s.pool.now)) ts.ok.0 ts.ok.1 ts.small)
   where
     small : (n k m l c : ℕ) → n < k → k ≡ m → l ≡ m → l ≤ c → c < 2 ^ 63 → n < 2 ^ 64
     small n k m l c h e f g i = omega arith

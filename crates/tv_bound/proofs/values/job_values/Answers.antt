@@ -3,9 +3,9 @@ use Rattle.std.specs.Prelude.{option_map}
 use Rattle.std.proofs.lemmas.Option.{get_or_from_slice_get, slice_get_within}
 use Rattle.tv_value.specs.Nested.{items}
 use Rattle.tv_value.specs.Views.{strategy_view, view}
+use Rattle.tv_value.proofs.OfItems.{items-trees_of}
 use Rattle.tv_strategy.specs.Conditions.{number_of}
 use Rattle.tv_strategy.specs.Splits.{split}
-use Rattle.tv_outputs.proofs.Comparing.{items-of}
 use Rattle.tv_bound.specs.Constants.{constant_of_port, constants_view}
 use Rattle.tv_bound.specs.Delivered.{wrapped_value}
 use Rattle.tv_bound.specs.Found.{feed_found}
@@ -64,4 +64,4 @@ returns c =
     let s = c.args.step.now in
     let f = port_found (known_by c.args.sources.now) (constants_view c.args.constants.now) s (split (number_of s.mismatch.now) (strategy_view s.tree.now) c.args.place.now) in
     values-all f s.ports.now (map view c.loop-number.values.items) c.loop-number.number c.loop-number.invariant c.loop-number-test.false
-    ∙ ap Some (sym (ap items c.of.ensures ∙ items-of (map view c.loop-number.values.items)))
+    ∙ ap Some (sym (ap items c.of.ensures ∙ items-trees_of (map view c.loop-number.values.items)))

@@ -1,13 +1,15 @@
 use Rattle.std.proofs.Common.{◌<◌, ◌∙◌, ap, sym, subst, length, map}
+use Rattle.std.proofs.lemmas.Simd.{map-map}
+use Rattle.tv_lemmas.proofs.Lists.{get-map, get-read}
 use Rattle.tv_flow.specs.DocumentViews.{document_view}
 use Rattle.tv_flow.specs.Views.{each, flow_view}
 use Rattle.tv_check.specs.FlowPlanViews.{flow_plan_view}
 use Rattle.tv_check.specs.Plannable.{IsToPlan}
 use Rattle.tv_check.specs.Plans.{flow_plan}
 use Rattle.tv_naming.proofs.OfForms.{length-each}
-use Rattle.tv_naming.proofs.OfLists.{map-map, map-more, map-now}
+use Rattle.tv_naming.proofs.OfLists.{map-more, map-now}
 use Rattle.tv_depths.proofs.OfNested.{worked-length}
-use Rattle.tv_naming.proofs.OfTold.{got, got-in, get-map}
+use Rattle.tv_naming.proofs.OfTold.{got-in}
 use Rattle.tv_check.proofs.ToPlan.{orders-many, to-plan}
 use Rattle.tv_check.proofs.accepted.plans_of.Goals as goal
 
@@ -35,7 +37,7 @@ plan_of-requires c =
     let below_measured = subst (λ n. i < n) (inside ∙ sym (worked-length (each flow_view d.flows) ws c.requires.worked)) c.loop-number-test.true in
     let at = get-map (λ e. (e.0, flow_view e.1)) d.flows i x (got-in c.as_slice-flows.result.now d.flows i x c.as_slice-flows.ensures c.loop-number-test.true c.index-flows-number.is) in
     subst (λ ks. IsToPlan (flow_view x.1) ks w) (sym c.as_slice-order.ensures.value)
-    (to-plan (document_view d) os ws c.requires i (x.0, flow_view x.1) at o w (got os i o below_orders c.index-orders-number.is) (got ws i w below_measured c.index-measured-number.is))
+    (to-plan (document_view d) os ws c.requires i (x.0, flow_view x.1) at o w (get-read os i o below_orders c.index-orders-number.is) (get-read ws i w below_measured c.index-measured-number.is))
 
 pub loop-number-preserved : goal.loop-number-preserved
 loop-number-preserved c =

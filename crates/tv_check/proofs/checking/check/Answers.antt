@@ -1,4 +1,5 @@
 use Rattle.std.proofs.Common.{◌≡◌, ◌∙◌, ◌++◌, [], ap, sym, subst}
+use Rattle.std.proofs.lemmas.Bool.{and_parts}
 use Rattle.tv_flow.specs.DocumentViews.{document_view}
 use Rattle.tv_naming.specs.Naming.{naming_complaints}
 use Rattle.tv_depths.specs.Cycles.{cycle_complaints, nesting_complaints, link_cycle_complaints}
@@ -8,7 +9,6 @@ use Rattle.tv_naming.specs.Faulty.{first_of}
 use Rattle.tv_check.specs.Plannable.{AreByRank, IsPlannable}
 use Rattle.tv_check.proofs.Accepting.{accepted, left-nil, right-nil}
 use Rattle.tv_check.proofs.Inside.{names-inside}
-use Rattle.tv_naming.proofs.OfLists.{both}
 use Rattle.tv_check.proofs.Prepared.{prepared}
 use Rattle.tv_check.proofs.ToPlan.{plannable}
 use Rattle.tv_check.proofs.checking.check.Goals as goal
@@ -18,7 +18,7 @@ orders_of-requires g c =
     let d = document_view c.args.document in
     let knows = g.V.Services.knows in
     let named : naming_complaints knows d ≡ [] = left-nil _ _ (left-nil _ _ (left-nil _ _ c.in_ok-levels.ensures.told)) in
-    (both _ _ (names-inside knows d named)).1
+    (and_parts _ _ (names-inside knows d named)).1
 
 pub document_measured-requires : goal.document_measured-requires
 document_measured-requires g c =

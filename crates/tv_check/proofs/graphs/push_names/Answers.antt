@@ -1,7 +1,8 @@
 use Rattle.std.proofs.Common.{◌++◌, ◌∷◌, [], ap, ◌∙◌}
+use Rattle.tv_lemmas.proofs.Lists.{flat-singles}
 use Rattle.tv_naming.specs.Numbers.{number_in}
 use Rattle.tv_check.specs.NamedGraphs.{numbers_of}
-use Rattle.tv_naming.proofs.OfLists.{one-more, all-now, singles}
+use Rattle.tv_naming.proofs.OfLists.{one-more, all-now}
 use Rattle.tv_check.proofs.graphs.push_names.Goals as goal
 
 pub loop-name-preserved : goal.loop-name-preserved
@@ -11,4 +12,4 @@ loop-name-preserved g c =
 pub returns : goal.returns
 returns g c =
     all-now (number_in c.args.entries.now) (λ n. n ∷ []) c.args.numbers.now.items c.loop-name.numbers.items c.as_slice-name-items.result.now c.loop-name.name-index c.loop-name-test.false c.loop-name.invariant
-    ∙ ap (λ xs. c.args.numbers.now.items ++ numbers_of c.args.entries.now xs) (singles c.as_slice-name-items.result.now ∙ ap (λ ns. ns) c.as_slice-name-items.ensures)
+    ∙ ap (λ xs. c.args.numbers.now.items ++ numbers_of c.args.entries.now xs) (flat-singles c.as_slice-name-items.result.now ∙ ap (λ ns. ns) c.as_slice-name-items.ensures)

@@ -1,10 +1,10 @@
 use Rattle.std.proofs.Common.{◌∙◌, ◌≡◌, sym, ap, map, slice_get, Some}
+use Rattle.tv_lemmas.proofs.Lists.{get-map, get-read}
 use Rattle.tv_flow.specs.Views.{flow_view, link_view}
 use Rattle.tv_depths.specs.CheckedDepths.{link_depth}
 use Rattle.tv_naming.specs.AtViews.{at_view}
 use Rattle.tv_depths.specs.Tables.{known}
 use Rattle.tv_depths.proofs.OfLinks.{differs-next, same-more}
-use Rattle.tv_naming.proofs.OfTold.{got, get-map}
 use Rattle.tv_depths.proofs.delivered.same_depths.Goals as goal
 
 pub returns-then-depth-first : goal.returns-then-depth-first
@@ -14,7 +14,7 @@ returns-then-depth-first c =
     let ds = map depth (map link_view c.args.links.now) in
     let i = c.loop-link.link-index in
     let x = c.link-item.result in
-    let here : slice_get ds i ≡ Some c.link_depth-depth.result = get-map depth (map link_view c.args.links.now) i (link_view x) (get-map link_view c.args.links.now i x (got c.args.links.now i x c.loop-link-test.true c.link-item.is)) ∙ ap Some (sym c.link_depth-depth.ensures.depth) in
+    let here : slice_get ds i ≡ Some c.link_depth-depth.result = get-map depth (map link_view c.args.links.now) i (link_view x) (get-map link_view c.args.links.now i x (get-read c.args.links.now i x c.loop-link-test.true c.link-item.is)) ∙ ap Some (sym c.link_depth-depth.ensures.depth) in
     differs-next (at_view c.args.at) c.args.first c.link_depth-depth.result ds i c.refused.result here c.loop-link.invariant c.if-depth-first.true c.refused.ensures
 
 pub loop-link-preserved : goal.loop-link-preserved
@@ -24,5 +24,5 @@ loop-link-preserved c =
     let ds = map depth (map link_view c.args.links.now) in
     let i = c.loop-link.link-index in
     let x = c.link-item.result in
-    let here : slice_get ds i ≡ Some c.link_depth-depth.result = get-map depth (map link_view c.args.links.now) i (link_view x) (get-map link_view c.args.links.now i x (got c.args.links.now i x c.loop-link-test.true c.link-item.is)) ∙ ap Some (sym c.link_depth-depth.ensures.depth) in
+    let here : slice_get ds i ≡ Some c.link_depth-depth.result = get-map depth (map link_view c.args.links.now) i (link_view x) (get-map link_view c.args.links.now i x (get-read c.args.links.now i x c.loop-link-test.true c.link-item.is)) ∙ ap Some (sym c.link_depth-depth.ensures.depth) in
     same-more c.args.first c.link_depth-depth.result ds i here c.loop-link.invariant c.if-depth-first.false

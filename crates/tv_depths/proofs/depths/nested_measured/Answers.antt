@@ -1,6 +1,9 @@
 use Rattle.std.proofs.Common.{◌≡◌, ◌∙◌, sym, ap, subst, length, Bool, true, false, arith, eq-eqb, ◌+◌}
 use Rattle.std.proofs.lemmas.Result.{err_from_is_err_and}
 use Rattle.std.specs.Prelude.{◌≤◌, ◌<◌, ◌==◌}
+use Rattle.std.proofs.lemmas.Bool.{ne_eqb}
+use Rattle.std.proofs.lemmas.Option.{slice_get_within}
+use Rattle.tv_lemmas.proofs.Lists.{get-read}
 use Rattle.tv_value.specs.Values.{Name}
 use Rattle.tv_flow.specs.Flows.{Flow}
 use Rattle.tv_flow.specs.DocumentViews.{document_view}
@@ -10,11 +13,10 @@ use Rattle.tv_depths.specs.Depthwise.{flow_complaints}
 use Rattle.tv_depths.specs.Tables.{AreAt}
 use Rattle.tv_naming.specs.Told.{StopsAt}
 use Rattle.tv_depths.specs.Measured.{IsReady, IsProgress, flow_nesting}
-use Rattle.tv_depths.proofs.OfDepths.{below}
 use Rattle.tv_depths.proofs.OfLinks.{each-get, length-each}
 use Rattle.tv_depths.proofs.OfNested.{worked-length}
-use Rattle.tv_depths.proofs.OfProgress.{only, filtered, only-is, only-not, ready, orders-at, orders-length, nesting-is, progress-put, progress-skip, progress-next, not-same}
-use Rattle.tv_naming.proofs.OfTold.{got, got-in, silent-more, silent-all, stops-next}
+use Rattle.tv_depths.proofs.OfProgress.{only, filtered, only-is, only-not, ready, orders-at, orders-length, nesting-is, progress-put, progress-skip, progress-next}
+use Rattle.tv_naming.proofs.OfTold.{got-in, silent-more, silent-all, stops-next}
 use Rattle.tv_depths.proofs.depths.nested_measured.Goals as goal
 
 pub bounds-orders-number : goal.bounds-orders-number
@@ -23,7 +25,7 @@ bounds-orders-number c =
     let j = c.loop-number.number in
     let x : Name × Flow = (c.entry-item.result.0, flow_view c.entry-item.result.1) in
     let here = each-get flow_view c.args.document.now.flows j c.entry-item.result (got-in _ _ j c.entry-item.result c.as_slice-entry-items.ensures c.loop-number-test.true c.entry-item.is) in
-    omega (arith, below d.flows j x here, orders-length d.flows c.args.orders.now c.requires.prepared.orders_are)
+    omega (arith, slice_get_within d.flows j x here, orders-length d.flows c.args.orders.now c.requires.prepared.orders_are)
 
 pub flow_measured-requires-clause-ready : goal.flow_measured-requires-clause-ready
 flow_measured-requires-clause-ready c =
@@ -41,9 +43,9 @@ flow_measured-requires-clause-order c =
     let j = c.loop-number.number in
     let x : Name × Flow = (c.entry-item.result.0, flow_view c.entry-item.result.1) in
     let here = each-get flow_view c.args.document.now.flows j c.entry-item.result (got-in _ _ j c.entry-item.result c.as_slice-entry-items.ensures c.loop-number-test.true c.entry-item.is) in
-    let lt : j < length c.args.orders.now = omega (arith, below d.flows j x here, orders-length d.flows c.args.orders.now c.requires.prepared.orders_are) in
+    let lt : j < length c.args.orders.now = omega (arith, slice_get_within d.flows j x here, orders-length d.flows c.args.orders.now c.requires.prepared.orders_are) in
     let o = c.index-orders-number.result in
-    subst (λ ks. AreAt x.1.steps ks (ranked x.1.steps)) (sym c.as_slice-order.ensures.value) (orders-at d.flows c.args.orders.now j x o c.requires.prepared.orders_are here (got c.args.orders.now j o lt c.index-orders-number.is))
+    subst (λ ks. AreAt x.1.steps ks (ranked x.1.steps)) (sym c.as_slice-order.ensures.value) (orders-at d.flows c.args.orders.now j x o c.requires.prepared.orders_are here (get-read c.args.orders.now j o lt c.index-orders-number.is))
 
 pub returns-in_err-work-clause-told : goal.returns-in_err-work-clause-told
 returns-in_err-work-clause-told c =
@@ -65,7 +67,7 @@ put-requires c =
     let j = c.loop-number.number in
     let x : Name × Flow = (c.entry-item.result.0, flow_view c.entry-item.result.1) in
     let here = each-get flow_view c.args.document.now.flows j c.entry-item.result (got-in _ _ j c.entry-item.result c.as_slice-entry-items.ensures c.loop-number-test.true c.entry-item.is) in
-    omega (arith, below d.flows j x here, worked-length d.flows c.loop-number.measured.items c.loop-number.invariant.progress.worked, c.loop-number.measured.ok.0)
+    omega (arith, slice_get_within d.flows j x here, worked-length d.flows c.loop-number.measured.items c.loop-number.invariant.progress.worked, c.loop-number.measured.ok.0)
 
 pub loop-number-preserved : goal.loop-number-preserved
 loop-number-preserved c =
@@ -102,7 +104,7 @@ loop-number-preserved-then-nestings-number c =
     let here = each-get flow_view c.args.document.now.flows j c.entry-item.result (got-in _ _ j c.entry-item.result c.as_slice-entry-items.ensures c.loop-number-test.true c.entry-item.is) in
     let other : flow_nesting d x.0 ≡ c.args.nesting → ⊥ = λ e. c.if-nestings-number.true (nesting-is d c.args.orders.now c.args.nestings.now c.requires.prepared j x here ∙ e) in
     let test : Name × Flow → Bool = λ f. flow_nesting d f.0 == c.args.nesting in
-    let failed : test x ≡ false = not-same _ _ other in
+    let failed : test x ≡ false = ne_eqb _ _ other in
     record {
       progress = progress-skip d c.loop-number.measured.items c.args.nesting j c.loop-number.invariant.progress x here other;
       told = silent-more (only test (flow_complaints d)) d.flows j x here c.loop-number.invariant.told (only-not test (flow_complaints d) x failed);

@@ -1,11 +1,12 @@
 use Rattle.std.proofs.lemmas.Result.{err_from_is_err_and}
+use Rattle.tv_lemmas.proofs.Lists.{get-map}
 use Rattle.tv_value.specs.Values.{Name}
 use Rattle.tv_flow.specs.declared.document.StepInput.{StepInput}
 use Rattle.tv_flow.specs.Views.{each, flow_view, step_input_view}
 use Rattle.tv_naming.specs.Faulty.{at_input}
 use Rattle.tv_depths.specs.Depthwise.{fed_complaints}
 use Rattle.tv_depths.specs.Tables.{known}
-use Rattle.tv_naming.proofs.OfTold.{got-in, get-map, silent-more, stops-next}
+use Rattle.tv_naming.proofs.OfTold.{got-in, silent-more, stops-next}
 use Rattle.tv_depths.proofs.levels.inputs_fed.Goals as goal
 
 pub returns-in_err-fed : goal.returns-in_err-fed

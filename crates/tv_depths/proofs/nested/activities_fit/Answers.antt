@@ -1,5 +1,6 @@
 use Rattle.std.proofs.Common.{◌≤◌, ◌∙◌, sym, ap, map, length, arith}
 use Rattle.std.proofs.lemmas.List.{length-map}
+use Rattle.tv_lemmas.proofs.Lists.{get-map}
 use Rattle.tv_flow.specs.DocumentViews.{document_view}
 use Rattle.tv_flow.specs.Views.{step_view, activity_view}
 use Rattle.tv_depths.specs.Depthwise.{nested_complaints}
@@ -7,7 +8,7 @@ use Rattle.tv_naming.specs.Naming.{numbered}
 use Rattle.tv_depths.specs.Measured.{opens_measured}
 use Rattle.tv_naming.proofs.FormedParts.{passes}
 use Rattle.tv_depths.proofs.OfNested.{activity-silent, activity-stops}
-use Rattle.tv_naming.proofs.OfTold.{got-in, get-map, get-numbered, length-numbered, silent-more, silent-all, stops-next}
+use Rattle.tv_naming.proofs.OfTold.{got-in, get-numbered, length-numbered, silent-more, silent-all, stops-next}
 use Rattle.tv_depths.proofs.nested.activities_fit.Goals as goal
 
 pub fits_activity-requires-clause-opened : goal.fits_activity-requires-clause-opened

@@ -2,8 +2,9 @@ use Rattle.std.proofs.Common.{◌≡◌, ◌∙◌, sym, ap, subst, true}
 use Rattle.tv_flow.specs.DocumentViews.{document_view}
 use Rattle.tv_flow.specs.Views.{step_view, activity_view}
 use Rattle.tv_depths.specs.Measured.{opens_measured, fits_activity}
-use Rattle.tv_depths.proofs.OfNested.{flows-ascend, entry-there, entry-worked, entry-measured, flow-there, flow-absent}
+use Rattle.tv_depths.proofs.OfNested.{entry-there, entry-worked, entry-measured, flow-there, flow-absent}
 use Rattle.tv_depths.proofs.nested.fits_activity.Goals as goal
+use Rattle.tv_naming.proofs.Kept.{flows-ascend}
 
 pub number_of-requires : goal.number_of-requires
 number_of-requires c = flows-ascend c.args.document.now

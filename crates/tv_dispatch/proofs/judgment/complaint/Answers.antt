@@ -1,7 +1,7 @@
 use Rattle.std.proofs.Common.{◌≡◌, ℕ, ◌++◌, codes, decimal, Some, None, ap, sym, ◌∙◌, append_assoc}
+use Rattle.std.proofs.lemmas.Bool.{cond-false}
 use Rattle.tv_value.specs.Values.{holds_fault, has_depth}
 use Rattle.tv_value.specs.Views.{view}
-use Rattle.tv_dispatch.proofs.Turns.{left_if}
 use Rattle.tv_dispatch.proofs.judgment.complaint.Goals as goal
 
 lacks_text : (n d : ℕ) → codes "outcome value " ++ (decimal n ++ (codes " lacks depth " ++ decimal d)) ≡ codes "outcome value " ++ decimal n ++ codes " lacks depth " ++ decimal d
@@ -14,5 +14,5 @@ returns c =
     let d = c.args.depth in
     let lacks = Some (codes "outcome value " ++ decimal n ++ codes " lacks depth " ++ decimal d) in
     ap Some (c.of-2.ensures ∙ c.in_ok-why-2.ensures.ok ∙ lacks_text n d)
-    ∙ sym (left_if (holds_fault v) (Some (codes "outcome value " ++ decimal n ++ codes " holds an error")) _ (sym c.if-holds_fault.ensures)
-    ∙ left_if (has_depth v d) None lacks (sym c.if-has_depth.ensures))
+    ∙ sym (cond-false (holds_fault v) (Some (codes "outcome value " ++ decimal n ++ codes " holds an error")) _ (sym c.if-holds_fault.ensures)
+    ∙ cond-false (has_depth v d) None lacks (sym c.if-has_depth.ensures))

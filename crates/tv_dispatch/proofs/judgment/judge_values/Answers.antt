@@ -1,5 +1,5 @@
 use Rattle.std.proofs.Common.{◌≡◌, ℕ, ◌+◌, ◌<◌, ◌==◌, length, map, get_or, Option, Some, ap, sym, ◌∙◌, arith, List}
-use Rattle.std.proofs.lemmas.Bool.{eq-eqb}
+use Rattle.std.proofs.lemmas.Bool.{eq-eqb, cond-true}
 use Rattle.std.proofs.lemmas.List.{length-map}
 use Rattle.tv_value.specs.Values.{Name, Text}
 use Rattle.tv_value.specs.Values as spec
@@ -9,14 +9,13 @@ use Rattle.tv_gate.specs.Outcomes.{good}
 use Rattle.tv_dispatch.specs.Jobs.{value_complaint, or_else, ok_unless, judged}
 use Rattle.tv_dispatch.specs.Verdicts.{verdict_of}
 use Rattle.tv_dispatch.specs.declared.judgment.Verdict.TheVariants.{Wrong}
-use Rattle.tv_dispatch.proofs.Turns.{taken_if}
 use Rattle.tv_dispatch.proofs.Complaints.{depths_of, complaint_from, complaint-step}
 use Rattle.tv_dispatch.proofs.judgment.judge_values.Goals as goal
 
 -- as many values as outputs are judged one by one
 by_value : (os : List (Name × ℕ)) (vs : List Value) → length vs ≡ length os → judged (depths_of os) (good (map view vs)) ≡ ok_unless (map view vs) (complaint_from 0 os vs)
 by_value os vs e =
-    taken_if (length (map view vs) == length (depths_of os)) _ _ (eq-eqb _ _ (length-map vs view ∙ e ∙ sym (length-map os (λ (o : Name × ℕ). o.1))))
+    cond-true (length (map view vs) == length (depths_of os)) _ _ (eq-eqb _ _ (length-map vs view ∙ e ∙ sym (length-map os (λ (o : Name × ℕ). o.1))))
 
 wrong_at : (vs : List spec.Value) (why : Text) (o : Option Text) → o ≡ Some why → Wrong why ≡ verdict_of (ok_unless vs o)
 wrong_at vs why o e = sym (ap (λ p. verdict_of (ok_unless vs p)) e)

@@ -1,10 +1,10 @@
 use Rattle.std.specs.Prelude.{◌-◌, length, map}
 use Rattle.std.proofs.Common.{arith, ◌∙◌, ap}
+use Rattle.tv_lemmas.proofs.Lists.{get-read}
 use Rattle.tv_cell.specs.PieceValues.{piece_values}
 use Rattle.tv_match.specs.Seen.{told_view}
 use Rattle.tv_bound.specs.Constants.{constant_of_port, constants_view}
 use Rattle.tv_opening.specs.Openings.{numbered_port_start}
-use Rattle.tv_naming.proofs.OfTold.{got}
 use Rattle.tv_frame.proofs.OfStarting.{fed-lent, fixed-lent, ports-all, ports-next}
 use Rattle.tv_frame.proofs.starting.step_start.Goals as goal
 
@@ -15,7 +15,7 @@ port_start-requires c =
     record {
       fed =
           fed-lent c.of_port-fixed.result (constants number) c.of_port-fixed.ensures (length c.args.inputs.now) c.index-ports-number.result.feed
-          (c.requires.fed number c.index-ports-number.result (got c.args.ports.now number c.index-ports-number.result (omega (arith, c.loop-back-test.true)) c.index-ports-number.is));
+          (c.requires.fed number c.index-ports-number.result (get-read c.args.ports.now number c.index-ports-number.result (omega (arith, c.loop-back-test.true)) c.index-ports-number.is));
       faulty = c.requires.faulty;
     }
 

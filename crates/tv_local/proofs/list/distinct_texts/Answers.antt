@@ -1,10 +1,11 @@
 use Rattle.std.proofs.Common.{◌≡◌, ◌++◌, ◌∷◌, [], ◌+◌, ◌<◌, length, get_or, Bool, true, false, not, map, take, ap, sym, ◌∙◌}
 use Rattle.std.specs.BTreeSet.{contains}
+use Rattle.std.proofs.lemmas.List.{take_more}
 use Rattle.tv_value.specs.Values.{text_value}
 use Rattle.tv_value.specs.Views.{view}
 use Rattle.tv_local.specs.Lists.{is_among}
 use Rattle.tv_local.specs.Reading.{text_of}
-use Rattle.tv_local.proofs.OfLists.{ref_cmp, put-among, text_at, texts-long, text_next, distinct-new, distinct-old}
+use Rattle.tv_local.proofs.OfLists.{ref_cmp, put-among, text_at, texts-long, distinct-new, distinct-old}
 use Rattle.tv_local.proofs.list.distinct_texts.Goals as goal
 use Rattle.tv_local.proofs.list.distinct_texts.Goals.{then-branch+in_ok-push_text, else-branch}
 
@@ -25,7 +26,7 @@ loop-value-preserved c =
     let d = text_of (view c.value-item.result) in
     let long : i < length ts = texts-long vs i c.loop-value-test.true in
     let here : r.now ≡ get_or ts i d = c.text_of-text.ensures ∙ ap (λ v. text_of (view v)) c.value-item.is ∙ sym (text_at vs i c.value-item.result c.loop-value-test.true) in
-    let more : take i ts ++ r.now ∷ [] ≡ take (i + 1) ts = ap (λ u. take i ts ++ u ∷ []) here ∙ sym (text_next ts i d long) in
+    let more : take i ts ++ r.now ∷ [] ≡ take (i + 1) ts = ap (λ u. take i ts ++ u ∷ []) here ∙ sym (take_more ts i d long) in
     let inv = c.loop-value.invariant in
     let old = map view c.loop-value.texts.items in
     let was : is_among (take i ts) (get_or ts i d) ≡ contains ref_cmp c.loop-value.seen r = sym (ap (is_among (take i ts)) here) ∙ sym (inv.0 r) in (

@@ -1,9 +1,10 @@
 use Rattle.std.proofs.Common.{◌≡◌, ◌++◌, ◌∷◌, [], ◌<◌, length, get_or, map, take, ap, sym, ◌∙◌}
+use Rattle.std.proofs.lemmas.List.{take_more}
 use Rattle.tv_value.specs.Values.{text_value}
 use Rattle.tv_value.specs.Views.{view}
 use Rattle.tv_local.specs.Lists.{is_among}
 use Rattle.tv_local.specs.Reading.{text_of}
-use Rattle.tv_local.proofs.OfLists.{put-among, text_at, texts-long, text_next, texts-all, shared-new, shared-old}
+use Rattle.tv_local.proofs.OfLists.{put-among, text_at, texts-long, texts-all, shared-new, shared-old}
 use Rattle.tv_local.proofs.list.shared_texts.Goals as goal
 use Rattle.tv_local.proofs.list.shared_texts.Goals.{then-contains+in_ok-push_text, else-contains}
 
@@ -16,7 +17,7 @@ loop-other-preserved c = λ q.
     let d = text_of (view c.other-item.result) in
     let here : r.now ≡ get_or ts i d = c.text_of.ensures ∙ ap (λ v. text_of (view v)) c.other-item.is ∙ sym (text_at vs i c.other-item.result c.loop-other-test.true) in
     put-among c.loop-other.wanted c.insert.new.self r (take i ts) c.in_ok-insert.ensures.keys c.loop-other.invariant q
-    ∙ ap (λ us. is_among us q.now) (ap (λ u. take i ts ++ u ∷ []) here ∙ sym (text_next ts i d (texts-long vs i c.loop-other-test.true)))
+    ∙ ap (λ us. is_among us q.now) (ap (λ u. take i ts ++ u ∷ []) here ∙ sym (take_more ts i d (texts-long vs i c.loop-other-test.true)))
 
 pub loop-value-preserved : goal.loop-value-preserved
 loop-value-preserved c =

@@ -1,9 +1,10 @@
 use Rattle.std.proofs.Common.{rules, ◌≤◌, ◌++◌, [], ◌∷◌, length, ap, ◌∙◌}
+use Rattle.tv_lemmas.proofs.Lists.{flat-singles}
 use Rattle.tv_match.specs.Entries.{kepts}
-use Rattle.tv_match.proofs.Putting.{puts-end, flat-itself}
+use Rattle.tv_match.proofs.Putting.{puts-end}
 use Rattle.tv_match.proofs.joins.push_all.Goals as goal
 
 pub returns-clause-ok : goal.returns-clause-ok
 returns-clause-ok c =
     let past : length c.args.xs.now ≤ c.loop-i.i = search rules in
-    puts-end c.args.number (λ x. x ∷ []) c.args.xs.now c.loop-i.i c.args.out.now c.loop-i.out c.loop-i.invariant past ∙ ap (λ l. kepts c.args.out.now ++ l) (flat-itself (kepts c.args.xs.now))
+    puts-end c.args.number (λ x. x ∷ []) c.args.xs.now c.loop-i.i c.args.out.now c.loop-i.out c.loop-i.invariant past ∙ ap (λ l. kepts c.args.out.now ++ l) (flat-singles (kepts c.args.xs.now))

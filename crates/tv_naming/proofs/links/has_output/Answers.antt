@@ -1,9 +1,10 @@
 use Rattle.std.proofs.Common.{◌≡◌, ◌∙◌, ap, sym, is_some, Some, None, false, option_map}
 use Rattle.std.specs.Option.{option_map_or}
+use Rattle.tv_lemmas.proofs.Options.{is_some-map}
 use Rattle.tv_value.specs.Orders.{named}
 use Rattle.tv_flow.specs.Views.{each, step_view}
 use Rattle.tv_naming.specs.Naming.{has_name}
-use Rattle.tv_naming.proofs.Kept.{named-found, is_some-map}
+use Rattle.tv_naming.proofs.Kept.{named-found}
 use Rattle.tv_naming.proofs.links.has_output.Goals as goal
 
 pub returns-in-Some : goal.returns-in-Some

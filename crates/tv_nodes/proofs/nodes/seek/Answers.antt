@@ -1,5 +1,5 @@
-use Rattle.std.proofs.Common.{◌≡◌, ◌≢◌, ℕ, suc, ◌+◌, ◌-◌, ◌<◌, ◌≤◌, ◌==◌, arith, Bool, true, false, Some, refl, sym, ap, ◌∙◌, subst}
-use Rattle.std.proofs.lemmas.Bool.{eqb-true, eq-eqb}
+use Rattle.std.proofs.Common.{◌≡◌, ◌≢◌, ℕ, suc, ◌+◌, ◌-◌, ◌<◌, ◌≤◌, ◌==◌, arith, Bool, false, Some, refl, sym, ap, ◌∙◌, subst}
+use Rattle.std.proofs.lemmas.Bool.{eqb-true, eq-eqb, both_ways}
 use Rattle.tv_pool.specs.Pool.{item_in, nowhere}
 use Rattle.tv_nodes.specs.declared.nodes.Entry.{Entry}
 use Rattle.tv_nodes.specs.Nodes.{part_found, leads}
@@ -21,12 +21,8 @@ bounds-at-by g c = (c.digits.invariant c.requires.0 c.requires.1).way.bound
 pub offset_bounds-at-by : goal.offset_bounds-at-by
 offset_bounds-at-by g c = let b : c.digits.by < 5 = (c.digits.invariant c.requires.0 c.requires.1).way.bound in omega arith
 
-clash : (b : Bool) → b ≡ true → b ≡ false → ⊥
-clash true h k = absurd (cc)
-clash false h k = absurd (cc)
-
 apart : (b : Bool) (t u : ℕ) → b ≡ (t == u) → b ≡ false → t ≢ u
-apart b t u h k same = clash b (h ∙ eq-eqb t u same) k
+apart b t u h k same = both_ways b k (h ∙ eq-eqb t u same)
 
 one : (s : ℕ) → s < 17 → 17 - s ≡ suc (17 - (s + 1))
 one s h = omega arith

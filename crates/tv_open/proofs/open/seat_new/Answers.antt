@@ -1,7 +1,7 @@
 use Rattle.std.specs.Prelude.{length, ◌<◌}
 use Rattle.std.proofs.Common.{arith, subst}
+use Rattle.tv_lemmas.proofs.Lists.{get-within}
 use Rattle.tv_intake.specs.Intaken.{known_jobs}
-use Rattle.tv_frame.proofs.OfIdling.{stands}
 use Rattle.tv_open.proofs.OfSeating.{first-sitting, next-sitting}
 use Rattle.tv_open.proofs.OfTurns.{none-more, one-more}
 use Rattle.tv_open.proofs.open.seat_new.Goals as goal
@@ -17,7 +17,7 @@ loop-number-preserved c =
     let i = c.loop-number.invariant in
     let low =
     subst (λ n. c.loop-number.number < n) c.known-number-end.ensures (omega (arith, c.loop-number-test.true)) in
-    let j = stands (known_jobs c.args.frame.now.intakes) c.loop-number.number low in (
+    let j = get-within (known_jobs c.args.frame.now.intakes) c.loop-number.number low in (
       next-sitting c.args.frame.now c.args.seats.now c.loop-number.seats c.seat_job.new.seats c.loop-number.number i.0 low
           (λ j e. c.seat_job.ensures.seats j e) c.seat_job.ensures.levels c.seat_job.ensures.room
           c.seat_job.ensures.back_rooms,

@@ -1,4 +1,4 @@
-use Rattle.std.proofs.Common.{◌≡◌, ℕ, ◌<◌, ◌*◌, suc, true, length, sym, ap, ◌∙◌, subst, arith}
+use Rattle.std.proofs.Common.{◌≡◌, ℕ, ◌<◌, ◌*◌, suc, true, length, sym, ap, ◌∙◌, subst, arith, lt-suc_self}
 use Rattle.std.specs.Prelude.{IfOk}
 use Rattle.std.proofs.lemmas.Result.{IfOk-weaker}
 use Rattle.tv_parts.specs.Partials.{part_at, whole}
@@ -13,9 +13,6 @@ use Rattle.tv_outputs.proofs.Mapping.{map-part_at}
 use Rattle.tv_outputs.proofs.OfPieces.{around-at, kind-closes, none-arrives, whole-closes}
 use Rattle.tv_outputs.proofs.Seeing.{sees-part}
 use Rattle.tv_outputs.proofs.pieces.+piece_around.Goals as goal
-
-below : (n : ℕ) → n < suc n
-below n = omega arith
 
 shorter : (n : ℕ) → suc (2 * n) < 2 * suc n
 shorter n = omega arith
@@ -74,7 +71,7 @@ part_around-piece_around-requires t c =
     let i = c.args.index in
     let q = c.args.place.now in
     let same = map-part_at item_value n.0 i in (
-      subst (λ m. 2 * length q < m) c.decreases (below (2 * length q)),
+      subst (λ m. 2 * length q < m) c.decreases (lt-suc_self (2 * length q)),
       (
         (
           part_at n.0 i,

@@ -1,7 +1,8 @@
-use Rattle.std.proofs.Common.{ℕ, ◌≤◌, ◌<◌, ◌-◌, ◌*◌, ◌++◌, suc, true, refl, sym, ap, ◌∙◌, subst, arith, true≢false}
+use Rattle.std.proofs.Common.{◌<◌, ◌-◌, ◌*◌, ◌++◌, suc, true, refl, sym, ap, ◌∙◌, subst, true≢false, zero-le, lt-suc_self}
 use Rattle.std.specs.Prelude.{slice_range}
 use Rattle.std.proofs.lemmas.List.{append-nil}
 use Rattle.std.proofs.lemmas.Result.{IfOk-weaker}
+use Rattle.tv_lemmas.proofs.Numbers.{thrice-less}
 use Rattle.tv_parts.specs.Partials.{part_at, whole}
 use Rattle.tv_parts.specs.Below.{value_in}
 use Rattle.tv_cell.specs.declared.piece.Piece.{Piece}
@@ -18,15 +19,6 @@ use Rattle.tv_outputs.proofs.OfPieces.{more-sound, pushed, pushed-all, pieces-so
 use Rattle.tv_outputs.proofs.Seeing.{sees-whole, whole-part}
 use Rattle.tv_outputs.proofs.pieces.+whole_piece.Goals as goal
 
-below : (n : ℕ) → n < suc n
-below n = omega arith
-
-fewer : (n : ℕ) → 1 ≤ n → suc (suc (3 * (n - 1))) < 3 * n
-fewer n h = omega arith
-
-none-below : (n : ℕ) → 0 ≤ n
-none-below n = omega arith
-
 pub push_parts-unreachable-requires : goal.push_parts-unreachable-requires
 push_parts-unreachable-requires t c =
     let n = c.requires.seen in
@@ -40,7 +32,7 @@ push_parts-whole_piece-requires t c =
     let i = c.loop-index.index in
     let w = n.2 i c.loop-index.auto.index c.loop-index-test.true in
     let s = sees-whole c.args.look.now c.in-Some.part c.args.levels n.0 i n.1 (c.in-Some.ensures {u = tt} n.0 n.1.shows) w in (
-      subst (λ m. suc (suc (3 * (c.args.levels - 1))) < m) c.decreases (fewer c.args.levels s.0),
+      subst (λ m. suc (suc (3 * (c.args.levels - 1))) < m) c.decreases (thrice-less c.args.levels s.0),
       (part_at n.0 i, s.1, whole-part n.0 i w),
     )
 
@@ -67,8 +59,8 @@ push_parts-loop-index-preserved t c =
 pub list_piece-push_parts-requires : goal.list_piece-push_parts-requires
 list_piece-push_parts-requires t c =
     let n = c.requires in (
-      subst (λ m. 3 * c.args.levels < m) c.decreases (below _),
-      (none-below c.args.length, ((n.0, n.1, λ i lo lt. n.2 i lt), subst AreSound (sym c.in_ok-parts.ensures.items) refl)),
+      subst (λ m. 3 * c.args.levels < m) c.decreases (lt-suc_self _),
+      (zero-le, ((n.0, n.1, λ i lo lt. n.2 i lt), subst AreSound (sym c.in_ok-parts.ensures.items) refl)),
     )
 
 pub list_piece-returns-clause-value : goal.list_piece-returns-clause-value
@@ -85,7 +77,7 @@ list_piece-returns-clause-sound t c =
 pub whole_piece-list_piece-requires : goal.whole_piece-list_piece-requires
 whole_piece-list_piece-requires t c =
     let n = c.requires in (
-      subst (λ m. suc (3 * c.args.levels) < m) c.decreases (below _),
+      subst (λ m. suc (3 * c.args.levels) < m) c.decreases (lt-suc_self _),
       (n.0, n.1, closes-whole (shown n.0) c.in-Closed.length (kind-closes n.0 c.in-Closed.length (sym (c.kind.ensures n.0 n.1.shows) ∙ c.in-Closed.is)) n.2),
     )
 

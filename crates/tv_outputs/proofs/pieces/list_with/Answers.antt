@@ -20,9 +20,6 @@ apart-above i j h e = omega arith
 then : (a b c : ℕ) → a < b → b < c → a < c
 then a b c h k = omega arith
 
-none-below : (n : ℕ) → 0 ≤ n
-none-below n = omega arith
-
 pub push_parts-requires-clause-seen : goal.push_parts-requires-clause-seen
 push_parts-requires-clause-seen c =
     let n = c.requires.seen in

@@ -1,12 +1,13 @@
 use Rattle.std.proofs.Common.{◌<◌, length, map, sym, ap, ◌∙◌, subst, true≢false, []}
 use Rattle.std.proofs.lemmas.List.{length-map}
+use Rattle.tv_lemmas.proofs.Lists.{get-within}
 use Rattle.tv_value.specs.Nested.{trees_of}
 use Rattle.tv_value.specs.Views.{view}
 use Rattle.tv_parts.specs.Partials.{part_at}
 use Rattle.tv_outputs.specs.Known.{shown}
 use Rattle.tv_outputs.specs.FoundIn.{found_in}
 use Rattle.tv_outputs.specs.Kept.{IsNoted}
-use Rattle.tv_outputs.proofs.Comparing.{fault-view, found-none, item-smaller, item-told, leaf-told, list-smaller, list-told, list_of-view, more-found, one-other, open-told, size, sizes, text-view, there-at, value-at}
+use Rattle.tv_outputs.proofs.Comparing.{fault-view, found-none, item-smaller, item-told, leaf-told, list-smaller, list-told, list_of-view, more-found, one-other, open-told, size, sizes, text-view, value-at}
 use Rattle.tv_outputs.proofs.Mapping.{each-part_at}
 use Rattle.tv_outputs.proofs.OfPieces.{item-sound, kind-closes}
 use Rattle.tv_outputs.proofs.same.+whole_is.Goals as goal
@@ -52,7 +53,7 @@ pub parts_are-returns-in_default : goal.parts_are-returns-in_default
 parts_are-returns-in_default t c r shows each =
     let vs = map view c.args.values.now in
     let i = c.loop-index.index in
-    let v = there-at vs i (subst (λ n. i < n) (sym (length-map c.args.values.now view ∙ c.if-values-count.false)) c.loop-index-test.true) in
+    let v = get-within vs i (subst (λ n. i < n) (sym (length-map c.args.values.now view ∙ c.if-values-count.false)) c.loop-index-test.true) in
     one-other r vs c.args.count i v.0 c.loop-index-test.true v.1 (λ e. found-none [] v.0 (ap (λ x. found_in [] (shown x)) (sym (c.in_default.ensures {u = tt} r shows)) ∙ e))
 
 pub parts_are-whole_is-requires : goal.parts_are-whole_is-requires

@@ -1,7 +1,8 @@
-use Rattle.std.proofs.Common.{ℕ, ◌≤◌, ◌<◌, ◌-◌, ◌*◌, ◌++◌, map, suc, sym, ap, ◌∙◌, subst, arith, true≢false}
+use Rattle.std.proofs.Common.{◌<◌, ◌-◌, ◌*◌, ◌++◌, map, suc, sym, ap, ◌∙◌, subst, true≢false, lt-suc_self}
 use Rattle.std.specs.Prelude.{slice_range}
 use Rattle.std.proofs.lemmas.List.{append-nil}
 use Rattle.std.proofs.lemmas.Result.{IfOk-weaker}
+use Rattle.tv_lemmas.proofs.Numbers.{thrice-less}
 use Rattle.tv_value.specs.Nested.{trees_of}
 use Rattle.tv_value.specs.Values.{list_value}
 use Rattle.tv_value.specs.Views.{view}
@@ -17,12 +18,6 @@ use Rattle.tv_outputs.proofs.OfPieces.{item-is, item-sound, kind-closes, values-
 use Rattle.tv_outputs.proofs.Seeing.{sees-whole, whole-part}
 use Rattle.tv_outputs.proofs.values.+whole_value.Goals as goal
 
-below : (n : ℕ) → n < suc n
-below n = omega arith
-
-fewer : (n : ℕ) → 1 ≤ n → suc (suc (3 * (n - 1))) < 3 * n
-fewer n h = omega arith
-
 pub push_values-unreachable-requires : goal.push_values-unreachable-requires
 push_values-unreachable-requires t c =
     let n = c.requires in
@@ -36,7 +31,7 @@ push_values-whole_value-requires t c =
     let i = c.loop-index.index in
     let w = n.2 i c.loop-index-test.true in
     let s = sees-whole c.args.look.now c.in-Some.part c.args.levels n.0 i n.1 (c.in-Some.ensures {u = tt} n.0 n.1.shows) w in (
-      subst (λ m. suc (suc (3 * (c.args.levels - 1))) < m) c.decreases (fewer c.args.levels s.0),
+      subst (λ m. suc (suc (3 * (c.args.levels - 1))) < m) c.decreases (thrice-less c.args.levels s.0),
       (part_at n.0 i, s.1, whole-part n.0 i w),
     )
 
@@ -57,7 +52,7 @@ push_values-loop-index-preserved t c r sees all =
 
 pub whole_list-push_values-requires : goal.whole_list-push_values-requires
 whole_list-push_values-requires t c =
-    (subst (λ m. 3 * c.args.levels < m) c.decreases (below _), c.requires)
+    (subst (λ m. 3 * c.args.levels < m) c.decreases (lt-suc_self _), c.requires)
 
 pub whole_list-returns : goal.whole_list-returns
 whole_list-returns t c r sees all =
@@ -71,7 +66,7 @@ whole_list-returns t c r sees all =
 pub whole_value-whole_list-requires : goal.whole_value-whole_list-requires
 whole_value-whole_list-requires t c =
     let n = c.requires in (
-      subst (λ m. suc (3 * c.args.levels) < m) c.decreases (below _),
+      subst (λ m. suc (3 * c.args.levels) < m) c.decreases (lt-suc_self _),
       (n.0, n.1, closes-whole (shown n.0) c.in-Closed.length (kind-closes n.0 c.in-Closed.length (sym (c.kind.ensures n.0 n.1.shows) ∙ c.in-Closed.is)) n.2),
     )
 

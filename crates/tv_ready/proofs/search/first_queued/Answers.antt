@@ -1,7 +1,7 @@
 use Rattle.std.proofs.Common.{◌≡◌, ◌<◌, sym, ◌∙◌, arith, length}
+use Rattle.std.proofs.lemmas.List.{get_or_default}
 use Rattle.tv_ready.specs.Sought.{is_sought_at}
 use Rattle.tv_ready.proofs.Finding.{queue-found, queue-none}
-use Rattle.tv_ready.proofs.Keeping.{get-same}
 use Rattle.tv_ready.proofs.search.first_queued.Goals as goal
 
 pub returns-then-is_sought : goal.returns-then-is_sought
@@ -11,7 +11,7 @@ returns-then-is_sought c =
     let k = c.loop-position.position in
     let inside : k < length qs = let a = c.loop-position-test.true in let b = c.len-position-end.ensures in omega (arith, a, b, c.args.queue.now.ok.0) in
     queue-found jobs (is_sought_at c.args.place.now c.args.gone.now jobs) qs k c.index-at.result.now c.requires.rises inside c.loop-position.invariant
-    (c.index-at.ensures ∙ get-same qs k c.index-at.result.now 0 inside) (sym c.is_sought.ensures ∙ c.if-is_sought.true)
+    (c.index-at.ensures ∙ get_or_default qs k c.index-at.result.now 0 inside) (sym c.is_sought.ensures ∙ c.if-is_sought.true)
 
 pub returns : goal.returns
 returns c =

@@ -1,8 +1,8 @@
 use Rattle.std.proofs.Common.{◌-◌, ◌/◌, ◌+◌, ◌<◌, ap, sym, ◌∙◌, arith, length}
+use Rattle.std.proofs.lemmas.List.{get_or_default}
 use Rattle.tv_ready.specs.Orders.{place_at}
 use Rattle.tv_ready.specs.Sought.{stands_after}
 use Rattle.tv_ready.proofs.Finding.{none-after}
-use Rattle.tv_ready.proofs.Keeping.{get-same}
 use Rattle.tv_ready.proofs.search.up_to.Goals as goal
 
 pub loop-low-preserved : goal.loop-low-preserved
@@ -21,6 +21,6 @@ loop-low-preserved c =
       before =
           λ k l.
           none-after jobs c.args.place.now qs m k c.requires.rises inside
-          (ap (λ s. stands_after c.args.place.now (place_at jobs s)) (sym (c.index.ensures ∙ get-same qs m c.index.result.now 0 inside)) ∙ sym c.stands_after.ensures ∙ c.if-stands_after.false)
+          (ap (λ s. stands_after c.args.place.now (place_at jobs s)) (sym (c.index.ensures ∙ get_or_default qs m c.index.result.now 0 inside)) ∙ sym c.stands_after.ensures ∙ c.if-stands_after.false)
           l;
     }

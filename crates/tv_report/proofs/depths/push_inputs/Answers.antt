@@ -1,6 +1,7 @@
-use Rattle.std.proofs.Common.{◌≡◌, ℕ, ◌<◌, ap, sym, ◌∙◌, length, min, string_bytes, arith}
+use Rattle.std.proofs.Common.{◌≡◌, ap, sym, ◌∙◌, length, min, string_bytes}
 use Rattle.std.proofs.Math.ListN.{get_or-map}
 use Rattle.std.proofs.lemmas.List.{length-map}
+use Rattle.tv_lemmas.proofs.Numbers.{min-first, min-second}
 use Rattle.tv_value.specs.Values.{Name}
 use Rattle.tv_flow.specs.Flows as spec
 use Rattle.tv_flow.specs.Views.{each, step_input_view}
@@ -12,12 +13,6 @@ use Rattle.tv_report.proofs.depths.push_inputs.Goals as goal
 abbrev seen : Name × StepInput → Name × spec.StepInput
 seen i = (i.0, step_input_view i.1)
 
-left : (i n l m : ℕ) → n ≡ min l m → i < n → i < l
-left i n l m e h = omega arith
-
-right : (i n l m : ℕ) → n ≡ min l m → i < n → i < m
-right i n l m e h = omega arith
-
 pub loop-index-preserved : goal.loop-index-preserved
 loop-index-preserved c =
     let i = c.loop-index.index in
@@ -26,8 +21,8 @@ loop-index-preserved c =
     let x = c.index-inputs-index.result in
     let e : c.shorter-both.result ≡ min (length (each step_input_view xs)) (length ys) = c.shorter-both.ensures ∙ ap (λ n. min n (length ys)) (sym (length-map xs seen)) in
     grown-pair (planned_input c.args.flow.now c.args.step.now) (string_bytes c.args.text.now) (string_bytes c.loop-index.text) (string_bytes c.push_input.new.text) (each step_input_view xs) ys i (seen x) c.index-delivered-index.result
-    (left i c.shorter-both.result (length (each step_input_view xs)) (length ys) e c.loop-index-test.true)
-    (right i c.shorter-both.result (length (each step_input_view xs)) (length ys) e c.loop-index-test.true)
+    (min-first i c.shorter-both.result (length (each step_input_view xs)) (length ys) e c.loop-index-test.true)
+    (min-second i c.shorter-both.result (length (each step_input_view xs)) (length ys) e c.loop-index-test.true)
     (ap seen c.index-inputs-index.is ∙ sym (get_or-map seen xs i x)) c.index-delivered-index.is c.loop-index.invariant c.in_ok-push_input.ensures
 
 pub returns : goal.returns

@@ -1,8 +1,8 @@
 use Rattle.std.proofs.Common.{ap, map, ◌∙◌}
 use Rattle.std.proofs.lemmas.Result.{IfOk-weaker}
+use Rattle.tv_lemmas.proofs.Lists.{map-after as mapped-twice}
 use Rattle.tv_value.specs.Values.{fault_value}
 use Rattle.tv_cell.specs.Found.{document_of, with_depth}
-use Rattle.tv_results.proofs.OfMakers.{mapped-twice}
 use Rattle.tv_results.proofs.errors.error_pieces.Goals as goal
 
 pub returns-clause-values : goal.returns-clause-values

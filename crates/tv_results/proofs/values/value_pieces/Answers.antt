@@ -2,7 +2,7 @@ use Rattle.std.proofs.Common.{ap, map, sym, ◌∙◌}
 use Rattle.std.proofs.lemmas.Result.{IfOk-weaker}
 use Rattle.tv_value.specs.Nested.{items}
 use Rattle.tv_value.specs.Views.{view}
-use Rattle.tv_results.proofs.OfMakers.{items-trees_of}
+use Rattle.tv_value.proofs.OfItems.{items-trees_of}
 use Rattle.tv_results.proofs.values.value_pieces.Goals as goal
 
 pub returns-clause-values : goal.returns-clause-values

@@ -2,8 +2,8 @@ use Rattle.std.proofs.Common.{ap, map, ◌∙◌, arith}
 use Rattle.std.proofs.lemmas.List.{take_all}
 use Rattle.tv_value.specs.Nested.{items}
 use Rattle.tv_value.specs.Views.{view}
+use Rattle.tv_value.proofs.OfItems.{items-trees_of}
 use Rattle.tv_cell.specs.PieceValues.{piece_values}
-use Rattle.tv_results.proofs.OfMakers.{items-trees_of}
 use Rattle.tv_results.proofs.values.values_of.Goals as goal
 
 pub returns : goal.returns

@@ -1,4 +1,5 @@
 use Rattle.std.proofs.Common.{◌≡◌, ◌<◌, ◌≤◌, ◌+◌, length, drop, length-append, Bool, not, refl, Some, None, false, true, arith, ap, sym, subst, ◌∙◌}
+use Rattle.tv_lemmas.proofs.Tests.{from-false_true}
 use Rattle.tv_value.specs.Views.{strategy_view}
 use Rattle.tv_value.proofs.OfTrees.{size, sizes, size-item, strategies_of-drop, strategies_of-end}
 use Rattle.tv_strategy.specs.Conditions.{place_of}
@@ -15,9 +16,6 @@ join_cross-join_tree-requires t c =
     let x = c.tree-item.result in
     (subst (λ n. size (strategy_view x) < n) c.decreases (size-item strategy_view xs c.loop-tree.tree-index x c.loop-tree-test.true c.tree-item.is), tt)
 
-no-error : {A : Type 0} → false ≡ true → A
-no-error h = absurd (cc)
-
 pub join_cross-returns-in_err-append-clause-short : goal.join_cross-returns-in_err-append-clause-short
 join_cross-returns-in_err-append-clause-short t c h =
     let ports = place_of c.args.places.now in
@@ -26,7 +24,7 @@ join_cross-returns-in_err-append-clause-short t c h =
     let i = c.loop-tree.tree-index in
     let is : Some c.in-Some.place ≡ joined ports (strategy_view x) = sym c.in-Some.is ∙ c.in_ok-place.ensures.place in
     let left = room-left ports _ (strategy_view x) _ c.in-Some.place (length c.loop-tree.whole) _ (strategies_of-drop strategy_view xs i x c.loop-tree-test.true c.tree-item.is) is c.loop-tree.invariant.1 in
-    no-error (c.in_err-append.ensures.short (omega (arith, left, h)))
+    from-false_true (c.in_err-append.ensures.short (omega (arith, left, h)))
 
 pub join_cross-loop-tree-preserved : goal.join_cross-loop-tree-preserved
 join_cross-loop-tree-preserved t c =

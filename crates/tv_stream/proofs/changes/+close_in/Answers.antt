@@ -1,5 +1,8 @@
 use Rattle.std.proofs.Common.{◌≡◌, ◌≢◌, ◌<◌, ◌≤◌, ◌+◌, ◌^◌, ◌⊎◌, inl, inr, ℕ, zero, suc, arith, sym, ap, ◌∙◌, subst, true, false, Some, None, Option, List, ◌∷◌, length}
 use Rattle.std.proofs.lemmas.Result.{IfOk-weaker, IfErr-weaker, err_from_is_err_and}
+use Rattle.std.proofs.lemmas.Bool.{false≢true}
+use Rattle.tv_lemmas.proofs.Numbers.{none-below, less-positive}
+use Rattle.tv_lemmas.proofs.Lists.{rest-less}
 use Rattle.tv_pool.specs.Pool.{item_in, number_of, lies_at}
 use Rattle.tv_nodes.specs.declared.nodes.Entry.{Entry}
 use Rattle.tv_nodes.specs.Nodes.{part_in, body_in}
@@ -18,17 +21,8 @@ use Rattle.tv_stream.proofs.Same.{tree-suc, part-tree}
 use Rattle.tv_stream.proofs.Steps.{part-in-tree}
 use Rattle.tv_stream.proofs.Inner.{closes-step}
 use Rattle.tv_stream.proofs.NodeCounts.{as-many, then-same, close-nodes-in}
-use Rattle.tv_stream.proofs.Ways.{false-true, nil-of, head-fits, pool-spare, same-regions, node-of, enter-close, close-after, inner-new, refuse-close, never-refused-close}
+use Rattle.tv_stream.proofs.Ways.{nil-of, head-fits, pool-spare, same-regions, node-of, enter-close, close-after, inner-new, refuse-close, never-refused-close}
 use Rattle.tv_stream.proofs.changes.+close_in.Goals as goal
-
-above : (a h : ℕ) → a < h → 0 < h
-above a h e = omega arith
-
-under : (a : ℕ) → a < 0 → ⊥
-under a h = omega arith
-
-tall-list : (l : List ℕ) (i : ℕ) (q : List ℕ) (h : ℕ) → l ≡ i ∷ q → length l < h → suc (length q) < h
-tall-list l i q h e k = subst (λ x. length x < h) e k
 
 pub returns-in_default-clause-ok : goal.returns-in_default-clause-ok
 returns-in_default-clause-ok g t c =
@@ -42,7 +36,7 @@ pub returns-in_default-clause-refused : goal.returns-in_default-clause-refused
 returns-in_default-clause-refused g t c =
     let k = number_of c.args.region.now in
     let nil = nil-of c.args.place.now c.in_default.ensures.cases in
-    IfErr-weaker c.end.result _ _ (λ e f spots height inside tall. subst (λ l. RefusesCloseIn c.args.pool.now.spare l c.args.length (tree_at height (item_in c.args.pool.now k) (lies_at c.args.node)) e) nil (f k spots height inside (above (length c.args.place.now) height tall))) c.end.ensures.refused
+    IfErr-weaker c.end.result _ _ (λ e f spots height inside tall. subst (λ l. RefusesCloseIn c.args.pool.now.spare l c.args.length (tree_at height (item_in c.args.pool.now k) (lies_at c.args.node)) e) nil (f k spots height inside (less-positive (length c.args.place.now) height tall))) c.end.ensures.refused
 
 pub returns-then-not-has_place-clause-refused : goal.returns-then-not-has_place-clause-refused
 returns-then-not-has_place-clause-refused g t c spots height inside tall =
@@ -55,11 +49,11 @@ returns-then-not-has_place-clause-refused g t c spots height inside tall =
     let b = c.body.result.now in
     let tree = body-tree height m s b (c.body.ensures k (node-of c.args.pool.now k spots s height inside)) in
     let none = place-none tree.0 m s b.marked i b.part q (sym c.has_place.ensures ∙ c.if-not-has_place.true) in
-    λ there. absurd (false-true (sym (subst (λ l. is_place l (tree_at height m s) ≡ false) (sym place.0) (ap (is_place (i ∷ q)) tree.1 ∙ none)) ∙ there))
+    λ there. absurd (false≢true (sym (subst (λ l. is_place l (tree_at height m s) ≡ false) (sym place.0) (ap (is_place (i ∷ q)) tree.1 ∙ none)) ∙ there))
 
 -- where nothing is known of the part yet, an item can arrive there
 can-new : {T : Type 0} (m : ℕ → Option (Entry (Held T))) (spots : ℕ → Option Spot) (s i : ℕ) (q l : List ℕ) (n : ℕ) (b : Held T) → l ≡ i ∷ q → body_in m s ≡ Some b → has_index b.part i ≡ true → part_in m s i ≡ None → (height : ℕ) → InTree m spots s height → length l < height → CanClose l n (tree_at height m s)
-can-new m spots s i q l n b e body has none zero inside tall = absurd (under (length l) tall)
+can-new m spots s i q l n b e body has none zero inside tall = absurd (none-below (length l) tall)
 can-new {T} m spots s i q l n b e body has none (suc h) inside tall =
     let is = tree-suc h m s b body in
     let new : part_at (tree_by (tree_at h m) m s b.marked b.part) i ≡ wanting = ap (λ r. part_at r i) (sym is) ∙ part-tree h m s inside.sound i ∙ ap (optional (tree_at h m)) none in
@@ -88,18 +82,18 @@ close_in-requires g t c κs bound =
     let s = lies_at c.args.node in
     let m = item_in c.args.pool.now k in
     let mid = item_in c.part_or_new.new.pool k in
-    let e = enter-close m mid s (lies_at c.in-Ok.part) i q c.in-Ok.ensures.ok n.0 n.1.0 n.1.1.0 (tall-list c.args.place.now i q n.1.0 place.0 n.1.1.1) in
+    let e = enter-close m mid s (lies_at c.in-Ok.part) i q c.in-Ok.ensures.ok n.0 n.1.0 n.1.1.0 (rest-less c.args.place.now i q n.1.0 place.0 n.1.1.1) in
     let shorter : length q < length c.args.place.now = omega arith in
     let short : length q < 2 ^ 32 = omega arith in
     (subst (λ x. length q < x) c.decreases shorter, (bound, (c.in-Ok.ensures.kept.live c.args.region.now c.requires.live, (e, short))))
 
 -- a refusal inside the part is one of the node, and none comes where the part is new
 refused-inside : {T : Type 0} (m mid : ℕ → Option (Entry (Held T))) (s t i : ℕ) (q l : List ℕ) (parts : (spots : ℕ → Option Spot) (p : Spot) → AreNodes m spots → spots s ≡ Some p → Parted m mid spots s i t) (b : Held T) → l ≡ i ∷ q → body_in m s ≡ Some b → has_index b.part i ≡ true → (spare inner : ℕ) → (part_in m s i ≡ None) ⊎ (inner ≡ spare) → (part_in m s i ≡ None → length l ≤ inner + 1) → (n : ℕ) (e : CloseRefused) → ((spots : ℕ → Option Spot) (height : ℕ) → InTree mid spots t height → length q < height → RefusesCloseIn inner q n (tree_at height mid t) e) → (spots : ℕ → Option Spot) (height : ℕ) → InTree m spots s height → length l < height → RefusesCloseIn spare l n (tree_at height m s) e × (part_in m s i ≢ None)
-refused-inside m mid s t i q l parts b e body has spare inner same room n refusal refuses spots zero inside tall = absurd (under (length l) tall)
+refused-inside m mid s t i q l parts b e body has spare inner same room n refusal refuses spots zero inside tall = absurd (none-below (length l) tall)
 refused-inside m mid s t i q l parts b e body has spare inner same room n refusal refuses spots (suc h) inside tall = (by same, not-new)
   where
     fits : length q < h
-    fits = less (length q) h (tall-list l i q (suc h) e tall)
+    fits = less (length q) h (rest-less l i q (suc h) e tall)
       where
         less : (n h : ℕ) → suc n < suc h → n < h
         less n h k = omega arith
@@ -157,7 +151,7 @@ note_part-whole-requires g t c =
     let b = c.body.result.now in
     let n = c.requires.node in
     let body = c.body.ensures k (node-of c.args.pool.now k n.0 s n.1.0 n.1.1.0) in
-    let a = close-after m mid s (lies_at c.in-Ok.part) i q c.in-Ok.ensures.ok m2 b body (sym c.has_place.ensures ∙ c.if-not-has_place.false) (head-fits c.args.place.now i q place.0 (c.type_inv.place 0).fits) c.args.length c.in_ok-least.least c.in_ok-least.ensures.ok n.0 n.1.0 n.1.1.0 (tall-list c.args.place.now i q n.1.0 place.0 n.1.1.1) in
+    let a = close-after m mid s (lies_at c.in-Ok.part) i q c.in-Ok.ensures.ok m2 b body (sym c.has_place.ensures ∙ c.if-not-has_place.false) (head-fits c.args.place.now i q place.0 (c.type_inv.place 0).fits) c.args.length c.in_ok-least.least c.in_ok-least.ensures.ok n.0 n.1.0 n.1.1.0 (rest-less c.args.place.now i q n.1.0 place.0 n.1.1.1) in
     (k, record { spots = a.more; nodes = a.nodes; spot = a.spot; known = a.known }, (b, a.held, a.whole))
 
 pub outward-requires : goal.outward-requires
@@ -185,7 +179,7 @@ returns-clause-ok g t c =
     let body = c.body.ensures k (node-of c.args.pool.now k n.0 s n.1.0 n.1.1.0) in
     let has = sym c.has_place.ensures ∙ c.if-not-has_place.false in
     let small = head-fits c.args.place.now i q place.0 (c.type_inv.place 0).fits in
-    let a = close-after m mid s (lies_at c.in-Ok.part) i q c.in-Ok.ensures.ok m2 b body has small c.args.length c.in_ok-least.least c.in_ok-least.ensures.ok n.0 n.1.0 n.1.1.0 (tall-list c.args.place.now i q n.1.0 place.0 n.1.1.1) in
+    let a = close-after m mid s (lies_at c.in-Ok.part) i q c.in-Ok.ensures.ok m2 b body has small c.args.length c.in_ok-least.least c.in_ok-least.ensures.ok n.0 n.1.0 n.1.1.0 (rest-less c.args.place.now i q n.1.0 place.0 n.1.1.1) in
     let here = c.is_here.ensures in
     let whole : c.note_part-whole.result ≡ counts_whole (counts_with (counts_of b.part) i (is_zero c.in_ok-least.least)) = c.note_part-whole.ensures.whole k b (record { spots = a.more; nodes = a.nodes; spot = a.spot; known = a.known }) a.held ∙ ap (λ w. counts_whole (counts_with (counts_of b.part) i w)) here in
     let done = closes-step m mid m2 m3 s (lies_at c.in-Ok.part) i q c.args.length b body has small c.in_ok-least.least c.in-Ok.ensures.ok (λ spots p nodes known held. subst (λ w. Sets m2 m3 s (noted b i w false)) here (c.note_part-whole.ensures.sets k b (record { spots = spots; nodes = nodes; spot = p; known = known }) held)) c.in_ok-least.ensures.ok in
@@ -207,7 +201,7 @@ returns-clause-kept g t c =
     let body = c.body.ensures k (node-of c.args.pool.now k n.0 s n.1.0 n.1.1.0) in
     let has = sym c.has_place.ensures ∙ c.if-not-has_place.false in
     let small = head-fits c.args.place.now i q place.0 (c.type_inv.place 0).fits in
-    let a = close-after m mid s (lies_at c.in-Ok.part) i q c.in-Ok.ensures.ok m2 b body has small c.args.length c.in_ok-least.least c.in_ok-least.ensures.ok n.0 n.1.0 n.1.1.0 (tall-list c.args.place.now i q n.1.0 place.0 n.1.1.1) in
+    let a = close-after m mid s (lies_at c.in-Ok.part) i q c.in-Ok.ensures.ok m2 b body has small c.args.length c.in_ok-least.least c.in_ok-least.ensures.ok n.0 n.1.0 n.1.1.0 (rest-less c.args.place.now i q n.1.0 place.0 n.1.1.1) in
     keeps-both c.args.pool.now c.part_or_new.new.pool c.note_part-whole.new.pool k c.in-Ok.ensures.kept (keeps-both c.part_or_new.new.pool c.close_in.new.pool c.note_part-whole.new.pool k c.in_ok-least.ensures.kept (c.note_part-whole.ensures.kept k (record { spots = a.more; nodes = a.nodes; spot = a.spot; known = a.known })))
 
 pub returns-clause-nodes : goal.returns-clause-nodes

@@ -1,12 +1,12 @@
 use Rattle.std.proofs.Common.{◌≡◌, ◌<◌, ◌==◌, ◌+◌, ◌^◌, ℕ, suc, arith, sym, ap, ◌∙◌, subst, Some, length}
 use Rattle.std.specs.Option.{option_map}
 use Rattle.std.proofs.lemmas.Option.{same_Some}
+use Rattle.tv_lemmas.proofs.Options.{some-not_none}
 use Rattle.tv_parts.specs.Changes.{arrive, CanArrive}
 use Rattle.tv_pool.specs.Pool.{item_in, lies_at}
 use Rattle.tv_stream.specs.Trees.{tree_at, least_whole}
 use Rattle.tv_stream.specs.Inside.{InTree, counts_with, counts_whole, outer_least}
 use Rattle.tv_stream.proofs.Looks.{peek-arrive, arrive-found, arrive-least}
-use Rattle.tv_stream.proofs.Counting.{some-clash}
 use Rattle.tv_stream.proofs.Ways.{tall-place, node-of}
 use Rattle.tv_stream.proofs.changes.+whole_by_arrival_in.Goals as goal
 use Rattle.tv_stream.proofs.changes.+whole_by_arrival_in.Goals.{in-Found, in-Free}
@@ -50,10 +50,10 @@ returns-then-is_whole-clause-least g t c number spots height inside tall can x =
     let lem = arrive-least m spots s i q b (c.body.ensures number n) c.args.place.now height place.0 inside tall can x c.match-seek.least
     (λ u h found it long may. elim c.match-seek.branch [
       | in-Found w ↦ subst (λ v. InTree m spots v h → CanArrive q (tree_at h m v) → least_whole q (arrive q x (tree_at h m v)) ≡ Some c.match-seek.least) (same_Some _ _ (sym (w.in-Found.ensures number n) ∙ found)) (λ at may_at. w.whole_by_arrival_in-least.ensures.least number spots h at long may_at x ∙ ap Some (sym w.least-is)) it may
-      | in-Free w ↦ absurd (some-clash _ _ found (w.in-Free.ensures number n).0)
+      | in-Free w ↦ absurd (some-not_none _ _ found (w.in-Free.ensures number n).0)
     ])
     (λ none. elim c.match-seek.branch [
-      | in-Found w ↦ absurd (some-clash _ _ (w.in-Found.ensures number n) none)
+      | in-Found w ↦ absurd (some-not_none _ _ (w.in-Found.ensures number n) none)
       | in-Free w ↦ sym w.least-is
     ]) in
     let counts = c.with-counts.ensures ∙ ap (λ y. counts_with y i (c.match-seek.least == 0)) c.counts.ensures in
@@ -71,10 +71,10 @@ returns-else-is_whole-clause-least g t c number spots height inside tall can x =
     let lem = arrive-least m spots s i q b (c.body.ensures number n) c.args.place.now height place.0 inside tall can x c.match-seek.least
     (λ u h found it long may. elim c.match-seek.branch [
       | in-Found w ↦ subst (λ v. InTree m spots v h → CanArrive q (tree_at h m v) → least_whole q (arrive q x (tree_at h m v)) ≡ Some c.match-seek.least) (same_Some _ _ (sym (w.in-Found.ensures number n) ∙ found)) (λ at may_at. w.whole_by_arrival_in-least.ensures.least number spots h at long may_at x ∙ ap Some (sym w.least-is)) it may
-      | in-Free w ↦ absurd (some-clash _ _ found (w.in-Free.ensures number n).0)
+      | in-Free w ↦ absurd (some-not_none _ _ found (w.in-Free.ensures number n).0)
     ])
     (λ none. elim c.match-seek.branch [
-      | in-Found w ↦ absurd (some-clash _ _ (w.in-Found.ensures number n) none)
+      | in-Found w ↦ absurd (some-not_none _ _ (w.in-Found.ensures number n) none)
       | in-Free w ↦ sym w.least-is
     ]) in
     let counts = c.with-counts.ensures ∙ ap (λ y. counts_with y i (c.match-seek.least == 0)) c.counts.ensures in

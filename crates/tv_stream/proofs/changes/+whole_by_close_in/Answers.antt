@@ -1,19 +1,18 @@
-use Rattle.std.proofs.Common.{◌≡◌, ◌<◌, ◌≤◌, ◌==◌, ◌+◌, ◌^◌, ℕ, suc, arith, refl, sym, ap, ◌∙◌, subst, Bool, true, false, if◌then◌else◌, Some, None, Option, List, ◌∷◌, length}
+use Rattle.std.proofs.Common.{◌≡◌, ◌<◌, ◌≤◌, ◌==◌, ◌+◌, ◌^◌, ℕ, suc, arith, refl, sym, ap, ◌∙◌, subst, Bool, true, false, if◌then◌else◌, Some, None, Option, length}
 use Rattle.std.specs.Option.{option_map}
 use Rattle.std.proofs.lemmas.Option.{same_Some}
+use Rattle.tv_lemmas.proofs.Options.{some-not_none}
+use Rattle.tv_lemmas.proofs.Numbers.{less-positive}
+use Rattle.tv_lemmas.proofs.Lists.{rest-less}
 use Rattle.tv_parts.specs.Changes.{close_at, CanClose}
 use Rattle.tv_pool.specs.Pool.{item_in, lies_at}
 use Rattle.tv_stream.specs.Trees.{tree_at, least_whole}
 use Rattle.tv_stream.specs.Inside.{InTree, counts_with, counts_ended, counts_whole, is_zero, outer_least}
 use Rattle.tv_stream.proofs.Bases.{end-least}
-use Rattle.tv_stream.proofs.Counting.{some-clash}
 use Rattle.tv_stream.proofs.Looks.{peek-close, close-found, close-least}
 use Rattle.tv_stream.proofs.Ways.{nil-of, node-of}
 use Rattle.tv_stream.proofs.changes.+whole_by_close_in.Goals as goal
 use Rattle.tv_stream.proofs.changes.+whole_by_close_in.Goals.{in-Found, in-Free}
-
-above : (a h : ℕ) → a < h → 0 < h
-above a h e = omega arith
 
 pub returns-then-is_whole-clause-least : goal.returns-then-is_whole-clause-least
 returns-then-is_whole-clause-least g t c number spots height inside tall can =
@@ -23,7 +22,7 @@ returns-then-is_whole-clause-least g t c number spots height inside tall can =
     let nil = nil-of c.args.place.now c.in_default.ensures.cases in
     let ended = c.ended-counts.ensures ∙ ap (λ y. counts_ended y c.args.length) c.counts.ensures in
     ap (λ l. least_whole l (close_at l c.args.length (tree_at height m s))) (sym nil)
-    ∙ end-least m spots s c.args.length b height inside (above (length c.args.place.now) height tall) (c.body.ensures number (node-of c.args.pool.now number spots s height inside)) (subst (λ l. CanClose l c.args.length (tree_at height m s)) (sym nil) can)
+    ∙ end-least m spots s c.args.length b height inside (less-positive (length c.args.place.now) height tall) (c.body.ensures number (node-of c.args.pool.now number spots s height inside)) (subst (λ l. CanClose l c.args.length (tree_at height m s)) (sym nil) can)
     ∙ ap (λ w. if w then Some 0 else None) (ap counts_whole (sym ended) ∙ sym c.is_whole.ensures ∙ c.if-is_whole.true)
 
 pub returns-else-is_whole-clause-least : goal.returns-else-is_whole-clause-least
@@ -34,7 +33,7 @@ returns-else-is_whole-clause-least g t c number spots height inside tall can =
     let nil = nil-of c.args.place.now c.in_default.ensures.cases in
     let ended = c.ended-counts.ensures ∙ ap (λ y. counts_ended y c.args.length) c.counts.ensures in
     ap (λ l. least_whole l (close_at l c.args.length (tree_at height m s))) (sym nil)
-    ∙ end-least m spots s c.args.length b height inside (above (length c.args.place.now) height tall) (c.body.ensures number (node-of c.args.pool.now number spots s height inside)) (subst (λ l. CanClose l c.args.length (tree_at height m s)) (sym nil) can)
+    ∙ end-least m spots s c.args.length b height inside (less-positive (length c.args.place.now) height tall) (c.body.ensures number (node-of c.args.pool.now number spots s height inside)) (subst (λ l. CanClose l c.args.length (tree_at height m s)) (sym nil) can)
     ∙ ap (λ w. if w then Some 0 else None) (ap counts_whole (sym ended) ∙ sym c.is_whole.ensures ∙ c.if-is_whole.false)
 
 pub whole_by_close_in-least-requires : goal.whole_by_close_in-least-requires
@@ -51,9 +50,6 @@ whole_by_close_in-least-requires g t c κs bound =
     let short : length q < 2 ^ 32 = omega arith in
     (subst (λ x. length q < x) c.decreases shorter, (bound, ((r.0, (r.1.0, (f.inner, (f.inside, f.holds.0, f.holds.1)))), short)))
 
-long-place : (l : List ℕ) (i : ℕ) (q : List ℕ) (h : ℕ) → l ≡ i ∷ q → length l < h → suc (length q) < h
-long-place l i q h e k = subst (λ x. length x < h) e k
-
 pub with-counts-requires : goal.with-counts-requires
 with-counts-requires g t c =
     let r = c.requires.node in
@@ -64,7 +60,7 @@ with-counts-requires g t c =
     let b = c.body-2.result.now in
     let m = item_in c.args.pool.now r.0 in
     let n = node-of c.args.pool.now r.0 r.1.0 s r.1.1.0 r.1.1.1.0 in
-    let p = peek-close m r.1.0 s i q c.args.length b r.1.1.0 r.1.1.1.0 (long-place c.args.place.now i q r.1.1.0 place.0 r.1.1.1.1) (c.body-2.ensures r.0 n) (subst (λ l. CanClose l c.args.length (tree_at r.1.1.0 m s)) place.0 r.1.1.1.2) in
+    let p = peek-close m r.1.0 s i q c.args.length b r.1.1.0 r.1.1.1.0 (rest-less c.args.place.now i q r.1.1.0 place.0 r.1.1.1.1) (c.body-2.ensures r.0 n) (subst (λ l. CanClose l c.args.length (tree_at r.1.1.0 m s)) place.0 r.1.1.1.2) in
     subst (λ x. x.whole < 2 ^ 63) (sym c.counts-2.ensures) p.0.whole
 
 if-some : (b : Bool) (n k : ℕ) → (if b then Some n else None) ≡ Some k → n ≡ k
@@ -120,10 +116,10 @@ returns-clause-least g t c number spots height inside tall can =
     let lem = close-least m spots s i q b (c.body-2.ensures number n) c.args.place.now c.args.length height place.0 inside tall can c.match-seek.least
     (λ u h found it long may. elim c.match-seek.branch [
       | in-Found w ↦ subst (λ v. InTree m spots v h → CanClose q c.args.length (tree_at h m v) → least_whole q (close_at q c.args.length (tree_at h m v)) ≡ c.match-seek.least) (same_Some _ _ (sym (w.in-Found.ensures number n) ∙ found)) (λ at may_at. w.whole_by_close_in-least.ensures.least number spots h at long may_at ∙ sym w.least-is) it may
-      | in-Free w ↦ absurd (some-clash _ _ found (w.in-Free.ensures number n).0)
+      | in-Free w ↦ absurd (some-not_none _ _ found (w.in-Free.ensures number n).0)
     ])
     (λ none. elim c.match-seek.branch [
-      | in-Found w ↦ absurd (some-clash _ _ (w.in-Found.ensures number n) none)
+      | in-Found w ↦ absurd (some-not_none _ _ (w.in-Found.ensures number n) none)
       | in-Free w ↦ sym w.whole_when_new-least.ensures ∙ sym w.least-is
     ]) in
     let counts = c.with-counts.ensures ∙ ap (λ w. counts_with c.counts-2.result i w) c.is_here.ensures ∙ ap (λ y. counts_with y i (is_zero c.match-seek.least)) c.counts-2.ensures in

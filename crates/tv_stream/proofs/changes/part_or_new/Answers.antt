@@ -1,9 +1,9 @@
 use Rattle.std.proofs.Common.{sym, subst, inl}
+use Rattle.tv_lemmas.proofs.Options.{some-not_none}
 use Rattle.tv_pool.specs.Pool.{item_in, number_of, lies_at}
 use Rattle.tv_nodes.specs.Stands.{AreNodes}
 use Rattle.tv_nodes.specs.Calls.{IsGap, HangsPart}
 use Rattle.tv_stream.proofs.Bases.{same-memory, parted-new, parted-old, on-err}
-use Rattle.tv_stream.proofs.Counting.{some-clash}
 use Rattle.tv_stream.proofs.changes.part_or_new.Goals as goal
 
 pub returns-in_err-reserve-in-Free-clause-none : goal.returns-in_err-reserve-in-Free-clause-none
@@ -21,7 +21,7 @@ returns-in-Found-clause-ok g c spots p nodes known =
     parted-old (item_in c.args.pool.now (number_of c.args.region.now)) spots (lies_at c.args.node) c.args.index (lies_at c.in-Found.part) nodes (c.in-Found.ensures (number_of c.args.region.now) c.requires.node)
 
 pub returns-in-Found-clause-left : goal.returns-in-Found-clause-left
-returns-in-Found-clause-left g c none = absurd (some-clash _ _ (c.in-Found.ensures (number_of c.args.region.now) c.requires.node) none)
+returns-in-Found-clause-left g c none = absurd (some-not_none _ _ (c.in-Found.ensures (number_of c.args.region.now) c.requires.node) none)
 
 pub returns-in_ok-reserve-in-Free-clause-ok : goal.returns-in_ok-reserve-in-Free-clause-ok
 returns-in_ok-reserve-in-Free-clause-ok g c spots p nodes known =

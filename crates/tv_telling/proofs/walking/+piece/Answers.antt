@@ -1,4 +1,5 @@
 use Rattle.std.proofs.Common.{subst, ◌≡◌, ◌++◌, ◌+◌, ◌∷◌, [], ◌<◌, map, ap, sym, ◌∙◌, vec_len, arith, length}
+use Rattle.std.proofs.lemmas.Result.{on_ok_weaker}
 use Rattle.tv_value.specs.Nested.{list, trees_of}
 use Rattle.tv_cell.specs.PieceValues.{piece_value, piece_values}
 use Rattle.tv_value.specs.Values.{holds_fault}
@@ -8,7 +9,7 @@ use Rattle.tv_cell.proofs.OfPieces.{count-each, list-holds, list-value, part-val
 use Rattle.tv_matching.specs.Matchers.{leaf_name}
 use Rattle.tv_match.specs.Seen.{told_view}
 use Rattle.tv_telling.specs.ValueTellings.{value_told}
-use Rattle.tv_telling.proofs.Adding.{adds-both, ok-along}
+use Rattle.tv_telling.proofs.Adding.{adds-both}
 use Rattle.tv_telling.proofs.OfSizes.{item-smaller, size, sizes}
 use Rattle.tv_telling.proofs.OfValues.{list-told, none-at, popped, rest-end, rest-step, told_rest}
 use Rattle.tv_telling.proofs.walking.+piece.Goals.{tell_piece-then-faulty-2, tell_piece-else-faulty-2}
@@ -49,7 +50,7 @@ tell_piece-returns-in_ok-tell_list-in-List-clause-told t c =
     let q = c.args.place.now.items in
     let ps = c.as_slice-pieces.result.now in
     let more : 0 < c.args.levels = omega arith in
-    ok-along c.tell_pieces.result
+    on_ok_weaker c.tell_pieces.result
     (λ h. adds-both c.args.tellings.now.items c.tell_list.new.tellings.items c.tell_pieces.new.tellings.items _ _ _
     c.in_ok-tell_list-in-List.ensures h
     (λ s. list-told (leaf_name s c.args.leaf) c.args.levels (length ps) q c.as_slice-in-List.result.now (piece_value c.args.piece.now) (trees_of (piece_values ps)) more c.as_slice-in-List.ensures.value

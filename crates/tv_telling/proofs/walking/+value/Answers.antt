@@ -1,5 +1,6 @@
 use Rattle.std.proofs.Common.{subst, ◌≡◌, ◌++◌, ◌+◌, ◌∷◌, [], ◌<◌, map, ap, sym, ◌∙◌, vec_len, arith, length}
 use Rattle.std.specs.List.{list_any}
+use Rattle.std.proofs.lemmas.Result.{on_ok_weaker}
 use Rattle.tv_value.specs.Nested.{all_leaves, count, trees_of}
 use Rattle.tv_value.specs.Values.{holds_fault, is_fault}
 use Rattle.tv_value.specs.Views.{view, items_view}
@@ -9,7 +10,7 @@ use Rattle.tv_cell.proofs.OfPieces.{count-each, list-view}
 use Rattle.tv_matching.specs.Matchers.{leaf_name}
 use Rattle.tv_match.specs.Seen.{told_view}
 use Rattle.tv_telling.specs.ValueTellings.{value_told, values_told}
-use Rattle.tv_telling.proofs.Adding.{adds-both, ok-along}
+use Rattle.tv_telling.proofs.Adding.{adds-both}
 use Rattle.tv_telling.proofs.OfValues.{list-told, none-at, popped, rest-end, rest-step, told_rest}
 use Rattle.tv_telling.proofs.OfSizes.{item-smaller, size, sizes}
 use Rattle.tv_telling.proofs.walking.+value.Goals as goal
@@ -22,7 +23,7 @@ tell_value-returns-in_ok-tell_list-in-List-clause-told t c =
     let us = c.as_slice-in-List-2.result.now in
     let more : 0 < c.args.levels = omega arith in
     let counted = sym (count-each view us) ∙ ap count c.as_slice-in-List-2.ensures in
-    ok-along c.tell_items.result
+    on_ok_weaker c.tell_items.result
     (λ h. adds-both c.args.tellings.now.items c.tell_list.new.tellings.items c.tell_items.new.tellings.items _ _ _
     c.in_ok-tell_list-in-List.ensures h
     (λ s. list-told (leaf_name s c.args.leaf) c.args.levels (length us) q c.as_slice-in-List.result.now (view c.args.value.now) (items_view vs) more c.as_slice-in-List.ensures.value (ap view c.in-List.is ∙ list-view vs) counted))

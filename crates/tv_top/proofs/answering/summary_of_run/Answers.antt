@@ -1,5 +1,6 @@
 use Rattle.std.proofs.Common.{ap, map, ◌∙◌}
 use Rattle.std.specs.Prelude.{length, ◌≡◌}
+use Rattle.tv_lemmas.proofs.Options.{on-err}
 use Rattle.tv_value.specs.Values.{Text}
 use Rattle.tv_check.specs.RunViews.{run_view}
 use Rattle.tv_generated.specs.Summaries.{summary_text}
@@ -11,7 +12,6 @@ use Rattle.tv_model.specs.Turns.{ask_order}
 use Rattle.tv_report.specs.ResultLines.{line_of_result}
 use Rattle.tv_top.proofs.Plainly.{line-plain}
 use Rattle.tv_work.specs.Asked.{call_of}
-use Rattle.tv_work.proofs.OfAsked.{on-err}
 use Rattle.tv_top.proofs.Questions.{all-begin}
 use Rattle.tv_top.proofs.answering.summary_of_run.Goals as goal
 

@@ -1,11 +1,11 @@
 use Rattle.std.proofs.Common.{ap, map, ◌∙◌}
+use Rattle.tv_lemmas.proofs.Options.{on-err}
 use Rattle.tv_check.specs.RunViews.{run_view}
 use Rattle.tv_model.specs.Meanings.{meaning}
 use Rattle.tv_model.specs.Turns.{ask_order}
 use Rattle.tv_report.specs.TraceLines.{trace_text}
 use Rattle.tv_top.proofs.Traced.{jobs-in_order}
 use Rattle.tv_work.specs.Asked.{call_of}
-use Rattle.tv_work.proofs.OfAsked.{on-err}
 use Rattle.tv_top.proofs.Questions.{all-begin}
 use Rattle.tv_top.proofs.answering.trace_of_run.Goals as goal
 

@@ -1,13 +1,14 @@
 use Rattle.std.proofs.Common.{◌≡◌, arith, length, subst}
 use Rattle.std.specs.BTreeMap.{get}
+use Rattle.std.proofs.lemmas.List.{get_or_default}
 use Rattle.tv_value.specs.Orders.{place_cmp}
 use Rattle.tv_traces.specs.Growing.{AreGrownBy, IsAroundOne, WithAround}
-use Rattle.tv_traces.proofs.OfGrowing.{all-more, around-more, get-any}
+use Rattle.tv_traces.proofs.OfGrowing.{all-more, around-more}
 use Rattle.tv_traces.proofs.growing.grow_around.Goals as goal
 
 pub loop-depth-preserved : goal.loop-depth-preserved
 loop-depth-preserved c = λ js h.
-    around-more (IsAroundOne js) c.args.step c.args.place.now c.loop-depth.depth _ c.loop-depth-test.true (get-any c.args.place.now c.loop-depth.depth 0 _ c.loop-depth-test.true) (get place_cmp c.grow.new.grown) (c.in_ok-grow.ensures js c.args.place.now c.loop-depth.depth (c.loop-depth.invariant js h))
+    around-more (IsAroundOne js) c.args.step c.args.place.now c.loop-depth.depth _ c.loop-depth-test.true (get_or_default c.args.place.now c.loop-depth.depth 0 _ c.loop-depth-test.true) (get place_cmp c.grow.new.grown) (c.in_ok-grow.ensures js c.args.place.now c.loop-depth.depth (c.loop-depth.invariant js h))
 
 pub returns : goal.returns
 returns c = λ js h.

@@ -1,7 +1,7 @@
 use Rattle.std.proofs.Common.{◌≡◌, ◌∙◌, ℕ, ap, sym, subst, map, get_or}
 use Rattle.std.proofs.lemmas.List.{take_all}
+use Rattle.std.proofs.lemmas.Simd.{map-map}
 use Rattle.tv_flow.specs.Views.{flow_view, step_input_view}
-use Rattle.tv_naming.proofs.OfLists.{map-map}
 use Rattle.tv_wires.specs.Ports.{levels_of, port_among}
 use Rattle.tv_wires.specs.declared.feeds.NumberedFeed.{NumberedFeed}
 use Rattle.tv_wires.specs.declared.ports.Port.{Port}

@@ -3,9 +3,9 @@ use Rattle.std.proofs.Common.{◌≡◌, ◌<◌, ◌∙◌, true, Some, map, le
 use Rattle.std.proofs.lemmas.List.{length-map}
 use Rattle.tv_naming.specs.Naming.{numbered}
 use Rattle.tv_naming.proofs.OfLists.{flat_map-map}
+use Rattle.tv_naming.proofs.OfTold.{length-numbered}
 use Rattle.tv_wires.specs.Turned.{links_of, port_wires, wire_of, with_items}
 use Rattle.tv_wires.specs.declared.feeds.NumberedFeed.TheVariants.{Merge}
-use Rattle.tv_wires.proofs.Turning.{length-numbered}
 use Rattle.tv_wires.proofs.wires.push_port.Goals as goal
 
 pub push_links-requires : goal.push_links-requires

@@ -1,6 +1,6 @@
 use Rattle.std.proofs.Common.{◌+◌, ◌<◌, ◌≤◌, [], length, arith, subst, ◌∙◌}
 use Rattle.std.proofs.lemmas.Option.{get_or_from_slice_get}
-use Rattle.tv_wires.proofs.Turning.{get-same}
+use Rattle.std.proofs.lemmas.List.{get_or_default}
 use Rattle.tv_endings.specs.declared.endings.Endings.{Endings}
 use Rattle.tv_endings.specs.Ends.{has_ended}
 use Rattle.tv_endings.specs.Counting.{IsCounting}
@@ -26,7 +26,7 @@ row-requires c =
     let e = c.loop-done.self in
     let k = c.loop-done.done in
     let lt : k < length e.fresh.items = omega (arith, c.loop-done-test.true, c.len.ensures, e.fresh.ok.0) in
-    let same = c.index-ended.ensures ∙ get-same e.fresh.items k c.index-ended.result.now 0 lt in
+    let same = c.index-ended.ensures ∙ get_or_default e.fresh.items k c.index-ended.result.now 0 lt in
     let inside = fresh-inside w.after w.dependents (has_ended c.args.self.now) e [] k k c.loop-done.invariant.counting lt in
     let many = rows-many w.after w.dependents c.requires.turned in
     omega (arith, same, inside, many)
@@ -39,7 +39,7 @@ lower_all-requires c =
     let a = c.index-ended.result.now in
     let was = has_ended c.args.self.now in
     let lt : k < length e.fresh.items = omega (arith, c.loop-done-test.true, c.len.ensures, e.fresh.ok.0) in
-    let same = c.index-ended.ensures ∙ get-same e.fresh.items k a 0 lt in
+    let same = c.index-ended.ensures ∙ get_or_default e.fresh.items k a 0 lt in
     let row = get_or_from_slice_get w.dependents a c.row.result.now [] c.row.ensures in
     (w.after, (w.dependents, (was, (k + 1, subst (λ ns. IsCounting w.after w.dependents was e ns (k + 1)) row (next-step w.after w.dependents was e k a c.loop-done.invariant.counting lt same)))))
 
@@ -51,7 +51,7 @@ loop-done-preserved c =
     let a = c.index-ended.result.now in
     let was = has_ended c.args.self.now in
     let lt : k < length e.fresh.items = omega (arith, c.loop-done-test.true, c.len.ensures, e.fresh.ok.0) in
-    let same = c.index-ended.ensures ∙ get-same e.fresh.items k a 0 lt in
+    let same = c.index-ended.ensures ∙ get_or_default e.fresh.items k a 0 lt in
     let row = get_or_from_slice_get w.dependents a c.row.result.now [] c.row.ensures in
     record {
       counting =

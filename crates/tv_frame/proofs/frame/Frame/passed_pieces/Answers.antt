@@ -1,5 +1,7 @@
 use Rattle.std.proofs.Common.{◌∙◌, ◌++◌, ◌∷◌, [], ap, eqb-true, eq-eqb, length, sym, true≢false}
-use Rattle.tv_frame.proofs.OfFaultingPieces.{each-passed, left-so, none-there, of-fault, of-faults, ok-both, one-passed, one-sound, outputs-so, some-there}
+use Rattle.std.proofs.lemmas.List.{nil_from_length}
+use Rattle.tv_lemmas.proofs.Numbers.{not_zero-positive}
+use Rattle.tv_frame.proofs.OfFaultingPieces.{each-passed, left-so, of-fault, of-faults, ok-both, one-passed, one-sound, outputs-so}
 use Rattle.tv_frame.proofs.OfFaultingRead.{ok-weaken}
 use Rattle.tv_frame.proofs.OfKeeping.{step-there}
 use Rattle.tv_frame.proofs.frame.Frame.passed_pieces.Goals as goal
@@ -14,7 +16,7 @@ returns-then-is_empty c = λ flows v s keeps at waits.
     let d = c.in_ok-fault.ensures.value flows v s keeps at waits in
     let left = left-so flows plan pool f v n s keeps at q c.in_ok-left.left (c.in_ok-left.ensures s (step-there flows plan pool f v n s keeps at)) in
     let outs = outputs-so flows plan pool f v n s keeps at c.as_slice.result.now c.index-as_slice-step.result c.as_slice.ensures c.as_slice-outputs.result.now c.as_slice-outputs.ensures in
-    let none = sym outs ∙ none-there c.as_slice-outputs.result.now (eqb-true (length c.as_slice-outputs.result.now) 0 (sym c.is_empty.ensures ∙ c.if-is_empty.true)) in
+    let none = sym outs ∙ nil_from_length c.as_slice-outputs.result.now (eqb-true (length c.as_slice-outputs.result.now) 0 (sym c.is_empty.ensures ∙ c.if-is_empty.true)) in
     let one = c.of.ensures ∙ c.in_ok-push.ensures.items ∙ ap (λ l. l ++ c.in_ok-with_depth.field-0 ∷ []) c.in_ok-pieces.ensures.items in (
       d.0,
       d.2,
@@ -35,7 +37,7 @@ returns c =
     let d = c.in_ok-fault.ensures.value flows v s keeps at waits in
     let left = left-so flows plan pool f v n s keeps at q c.in_ok-left.left (c.in_ok-left.ensures s (step-there flows plan pool f v n s keeps at)) in
     let outs = outputs-so flows plan pool f v n s keeps at c.as_slice.result.now c.index-as_slice-step.result c.as_slice.ensures c.as_slice-outputs.result.now c.as_slice-outputs.ensures in
-    let some = some-there (length c.as_slice-outputs.result.now) (λ e. true≢false (sym (c.is_empty.ensures ∙ eq-eqb (length c.as_slice-outputs.result.now) 0 e) ∙ c.if-is_empty.false)) in (
+    let some = not_zero-positive (length c.as_slice-outputs.result.now) (λ e. true≢false (sym (c.is_empty.ensures ∙ eq-eqb (length c.as_slice-outputs.result.now) 0 e) ∙ c.if-is_empty.false)) in (
       d.0,
       d.2,
       each-passed v s q d.0 c.in_ok-left.left left ps both.0 c.as_slice-outputs.result.now outs some

@@ -1,8 +1,9 @@
 use Rattle.std.proofs.Common.{◌≡◌, ◌<◌, length, ap, arith, sym, ◌∙◌, Some, get_or, subst}
 use Rattle.std.proofs.lemmas.List.{length-map}
+use Rattle.tv_lemmas.proofs.Lists.{get-map_read}
 use Rattle.tv_intake.specs.declared.found.Found.{Found}
 use Rattle.tv_intake.specs.Intaken.{followed_in, placed, thing_in}
-use Rattle.tv_intake.proofs.OfIntakes.{each-get, item-there, jobs-there, map-get, faulty-there, place-kept, sound-there, step-within, thing-is}
+use Rattle.tv_intake.proofs.OfIntakes.{each-get, item-there, jobs-there, faulty-there, place-kept, sound-there, step-within, thing-is}
 use Rattle.tv_intake.proofs.intakes.Intakes.job.Goals as goal
 
 pub index-requires : goal.index-requires
@@ -45,7 +46,7 @@ returns-clause-job c =
     let here = each-get (λ (f : Found). f.at < length (followed_in ms f.step)) i.jobs.items c.args.number f (jobs-there ms i.jobs.items i.waiting.items c.requires.sound) n c.index-found.ensures in
     let x = c.read.result.now in
     let at : x ≡ get_or ms f.step x = c.read.ensures ∙ c.index.ensures ∙ ap (get_or ms f.step) (sym c.read.ensures) in
-    map-get (λ f. placed (thing_in ms f)) i.jobs.items c.args.number f n c.index-found.ensures
+    get-map_read (λ f. placed (thing_in ms f)) i.jobs.items c.args.number f n c.index-found.ensures
     ∙ ap (λ x. Some (placed x)) (thing-is ms f x (step-within ms f.step f.at here) at here _ c.item-kind.ensures.item)
     ∙ ap (λ q. Some (f.step, q)) (place-kept c.item-kind.result.0.now c.item-kind.result.1)
 

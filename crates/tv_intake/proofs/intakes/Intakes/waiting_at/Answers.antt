@@ -1,8 +1,9 @@
 use Rattle.std.proofs.Common.{◌≡◌, ◌<◌, length, ap, arith, sym, ◌∙◌, Some, get_or, subst}
 use Rattle.std.proofs.lemmas.List.{length-map}
+use Rattle.tv_lemmas.proofs.Lists.{get-map_read}
 use Rattle.tv_intake.specs.declared.found.Found.{Found}
 use Rattle.tv_intake.specs.Intaken.{followed_in, thing_in}
-use Rattle.tv_intake.proofs.OfIntakes.{each-get, item-there, waiting-there, map-get, sound-there, step-within, thing-is}
+use Rattle.tv_intake.proofs.OfIntakes.{each-get, item-there, waiting-there, sound-there, step-within, thing-is}
 use Rattle.tv_intake.proofs.intakes.Intakes.waiting_at.Goals as goal
 
 pub index-requires : goal.index-requires
@@ -45,5 +46,5 @@ returns c =
     let here = each-get (λ (f : Found). f.at < length (followed_in ms f.step)) i.waiting.items c.args.at f (waiting-there ms i.jobs.items i.waiting.items c.requires.sound) n c.index-found.ensures in
     let x = c.read.result.now in
     let at : x ≡ get_or ms f.step x = c.read.ensures ∙ c.index.ensures ∙ ap (get_or ms f.step) (sym c.read.ensures) in
-    map-get (thing_in ms) i.waiting.items c.args.at f n c.index-found.ensures
+    get-map_read (thing_in ms) i.waiting.items c.args.at f n c.index-found.ensures
     ∙ ap Some (thing-is ms f x (step-within ms f.step f.at here) at here _ c.item-kind.ensures.item)

@@ -1,9 +1,10 @@
 use Rattle.std.proofs.Common.{arith, length, map, ◌∙◌, ◌≡◌}
 use Rattle.std.specs.BTreeMap.{get}
+use Rattle.std.proofs.lemmas.Result.{IfOk-weaker}
 use Rattle.tv_value.specs.Orders.{job_name_cmp}
 use Rattle.tv_lineage.specs.SearchViews.{search_view}
 use Rattle.tv_lineage.specs.Views.{mark_part}
-use Rattle.tv_lineage.proofs.Calling.{begun, begun-inside, found-all, if-ok, next-inside, next-search, next-short}
+use Rattle.tv_lineage.proofs.Calling.{begun, begun-inside, found-all, next-inside, next-search, next-short}
 use Rattle.tv_lineage.proofs.records.Records.backward.Goals as goal
 
 pub see_marks-requires : goal.see_marks-requires
@@ -28,4 +29,4 @@ pub loop-number-preserved : goal.loop-number-preserved
 loop-number-preserved c = next-search (get job_name_cmp c.self.inside.numbers) c.self.inside.entries.items c.self.invariant (map mark_part c.args.used.now) (search_view c.loop-number.search) (search_view c.next.new.self) c.in-Some.number c.in-Some.ensures.some c.next.ensures.others c.loop-number.invariant c.index-entry.result.now c.index-entry.ensures c.as_slice-in-Some.result.now c.as_slice-in-Some.ensures (search_view c.see_parts.new.self) c.in_ok-see_parts.ensures
 
 pub returns : goal.returns
-returns c = if-ok c.into_labels.result (λ ls e. e ∙ found-all (get job_name_cmp c.self.inside.numbers) c.self.inside.entries.items c.self.invariant c.args.used.now (search_view c.loop-number.search) (search_view c.next.new.self) (c.next.ensures.none c.in_default.is) c.next.ensures.others c.loop-number.invariant c.args.self.now c.self.view_is) c.into_labels.ensures
+returns c = IfOk-weaker c.into_labels.result _ _ (λ ls e. e ∙ found-all (get job_name_cmp c.self.inside.numbers) c.self.inside.entries.items c.self.invariant c.args.used.now (search_view c.loop-number.search) (search_view c.next.new.self) (c.next.ensures.none c.in_default.is) c.next.ensures.others c.loop-number.invariant c.args.self.now c.self.view_is) c.into_labels.ensures

@@ -1,10 +1,11 @@
 use Rattle.std.proofs.Common.{refl, ◌≡◌, ◌+◌, ◌∷◌, [], drop, ap, ◌∙◌, arith}
 use Rattle.std.proofs.lemmas.Result.{on_err_weaker}
+use Rattle.std.proofs.lemmas.Bool.{both_ways}
 use Rattle.tv_value.specs.Views.{strategy_view}
 use Rattle.tv_match.specs.Entries.{entry}
 use Rattle.tv_match.specs.Filed.{filed}
 use Rattle.tv_match.specs.Seen.{telling_of, tellings_of}
-use Rattle.tv_match.proofs.Calls.{next-sound, not-held, clash}
+use Rattle.tv_match.proofs.Calls.{next-sound, not-held}
 use Rattle.tv_match.proofs.Faults.{order-stays}
 use Rattle.tv_match.proofs.Putting.{from-next}
 use Rattle.tv_match.proofs.Unchanged.{freed-unchanged}
@@ -38,17 +39,17 @@ returns-then-is_next-clause-let_go c other =
 pub returns-in_err-other-clause-held : goal.returns-in_err-other-clause-held
 returns-in_err-other-clause-held c rest h =
     let m = c.args.self.now in
-    absurd (not-held (strategy_view m.tree) m.mismatch (filed m.root) m.log m.out m.told m.given (entry c.args.leaf c.args.place.now c.args.kind) c.requires.sound.keeps c.requires.proper (λ x. clash c.is_next.result (c.is_next.ensures.no x) c.if-is_next.false) rest h)
+    absurd (not-held (strategy_view m.tree) m.mismatch (filed m.root) m.log m.out m.told m.given (entry c.args.leaf c.args.place.now c.args.kind) c.requires.sound.keeps c.requires.proper (λ x. both_ways c.is_next.result c.if-is_next.false (c.is_next.ensures.no x)) rest h)
 
 pub returns-in_err-tell_other-clause-held : goal.returns-in_err-tell_other-clause-held
 returns-in_err-tell_other-clause-held c rest h =
     let m = c.args.self.now in
-    absurd (not-held (strategy_view m.tree) m.mismatch (filed m.root) m.log m.out m.told m.given (entry c.args.leaf c.args.place.now c.args.kind) c.requires.sound.keeps c.requires.proper (λ x. clash c.is_next.result (c.is_next.ensures.no x) c.if-is_next.false) rest h)
+    absurd (not-held (strategy_view m.tree) m.mismatch (filed m.root) m.log m.out m.told m.given (entry c.args.leaf c.args.place.now c.args.kind) c.requires.sound.keeps c.requires.proper (λ x. both_ways c.is_next.result c.if-is_next.false (c.is_next.ensures.no x)) rest h)
 
 pub returns-clause-held : goal.returns-clause-held
 returns-clause-held c rest h =
     let m = c.args.self.now in
-    absurd (not-held (strategy_view m.tree) m.mismatch (filed m.root) m.log m.out m.told m.given (entry c.args.leaf c.args.place.now c.args.kind) c.requires.sound.keeps c.requires.proper (λ x. clash c.is_next.result (c.is_next.ensures.no x) c.if-is_next.false) rest h)
+    absurd (not-held (strategy_view m.tree) m.mismatch (filed m.root) m.log m.out m.told m.given (entry c.args.leaf c.args.place.now c.args.kind) c.requires.sound.keeps c.requires.proper (λ x. both_ways c.is_next.result c.if-is_next.false (c.is_next.ensures.no x)) rest h)
 
 pub returns-then-self-len-clause-refused : goal.returns-then-self-len-clause-refused
 returns-then-self-len-clause-refused c =

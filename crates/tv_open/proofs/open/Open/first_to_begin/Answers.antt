@@ -1,8 +1,8 @@
 use Rattle.std.specs.Prelude.{length, ◌<◌}
 use Rattle.std.proofs.Common.{arith, subst}
+use Rattle.tv_lemmas.proofs.Lists.{get-within}
 use Rattle.tv_flow.specs.Flows.{Flow}
 use Rattle.tv_flow.specs.Views.{flow_view}
-use Rattle.tv_frame.proofs.OfIdling.{stands}
 use Rattle.tv_open.specs.Firsts.{step_limit}
 use Rattle.tv_open.proofs.OfFirsts.{begins-first, limit-is, none-begins}
 use Rattle.tv_open.proofs.OfOpen.{step-too}
@@ -16,7 +16,7 @@ returns-then-running-limit c d v io =
     let pool = c.args.pool.now in
     let n = c.args.step in
     let low = step-too q.0 d plan pool o q.1 v q.2 io n q.3 in
-    let t = stands v.flow.steps n low in
+    let t = get-within v.flow.steps n low in
     let x = c.index-as_slice-step.result in
     let limit =
     limit-is plan c.as_slice.result.now c.as_slice.ensures n (subst (λ (f : Flow). n < length f.steps) io.keeps.flow_is low) x
@@ -33,7 +33,7 @@ returns c d v io =
     let pool = c.args.pool.now in
     let n = c.args.step in
     let low = step-too q.0 d plan pool o q.1 v q.2 io n q.3 in
-    let t = stands v.flow.steps n low in
+    let t = get-within v.flow.steps n low in
     let x = c.index-as_slice-step.result in
     let limit =
     limit-is plan c.as_slice.result.now c.as_slice.ensures n (subst (λ (f : Flow). n < length f.steps) io.keeps.flow_is low) x

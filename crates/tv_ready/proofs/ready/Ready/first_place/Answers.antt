@@ -1,9 +1,10 @@
 use Rattle.std.proofs.Common.{◌≡◌, ◌<◌, [], ◌∷◌, ap, sym, ◌∙◌, arith, refl, length, get_or, Some, None, slice_get, true, false, deque_len}
 use Rattle.std.specs.Prelude.{ℕ, zero, suc, List}
+use Rattle.std.proofs.lemmas.List.{get_or_default}
 use Rattle.tv_ready.specs.Laid.{is_late_first, listed}
 use Rattle.tv_ready.specs.Listed.{Listed}
 use Rattle.tv_ready.specs.Orders.{job_at, place_at}
-use Rattle.tv_ready.proofs.Keeping.{get-same, late-head, late-some, none-first, queue-head}
+use Rattle.tv_ready.proofs.Keeping.{late-head, late-some, none-first, queue-head}
 use Rattle.tv_ready.proofs.ready.Ready.first_place.Goals as goal
 
 place-first : (js : List (ℕ × List ℕ)) (j : ℕ × List ℕ) → slice_get js 0 ≡ Some j → place_at js 0 ≡ j.1
@@ -29,7 +30,7 @@ returns-then-is_late_first c =
     let late : is_late_first jobs r.queue.items r.late.items ≡ true = ap (is_late_first jobs r.queue.items) (sym c.as_slice.ensures.value) ∙ sym c.if-is_late_first.ensures in
     let some = late-some jobs r.queue.items r.late.items late in
     c.place.ensures
-    ∙ ap (place_at jobs) (c.index.ensures ∙ get-same r.late.items 0 c.index.result.now 0 some)
+    ∙ ap (place_at jobs) (c.index.ensures ∙ get_or_default r.late.items 0 c.index.result.now 0 some)
     ∙ sym (ap head (sym c.self.view_is) ∙ place-first (listed r.table r.queue.items r.late.items) (job_at jobs (get_or r.late.items 0 0)) (late-head jobs r.queue.items r.late.items i.queue_rises i.late_heap late))
 
 pub returns-in-Some : goal.returns-in-Some

@@ -1,12 +1,14 @@
 use Rattle.std.proofs.Common.{◌≡◌, ◌<◌, ◌++◌, ◌∷◌, ap, sym, subst, ◌∙◌, arith, drop, length, map, refl, Some, Option, option_map, slice_get, true, false, deque_len}
 use Rattle.std.specs.Prelude.{ℕ, List, nat_lt, IsPermutation}
 use Rattle.std.proofs.lemmas.List.Sorted.{IsPermutation-cons, IsPermutation-swap_remove, IsPermutation-trans}
+use Rattle.std.proofs.lemmas.Bool.{and_parts}
+use Rattle.std.proofs.lemmas.List.{get_or_default}
 use Rattle.tv_ready.specs.Heaps.{IsHeap}
 use Rattle.tv_ready.specs.Laid.{is_late_first}
 use Rattle.tv_ready.specs.Listed.{Listed}
 use Rattle.tv_ready.specs.Orders.{are_within, in_order, is_before, job_at, number_at}
-use Rattle.tv_ready.proofs.Keeping.{get-same, late-first, late-head, late-some, none-first, queue-head, queue-tail, written-back}
-use Rattle.tv_ready.proofs.Sorting.{all-same, both, perm-length}
+use Rattle.tv_ready.proofs.Keeping.{late-first, late-head, late-some, none-first, queue-head, queue-tail, written-back}
+use Rattle.tv_ready.proofs.Sorting.{all-same, perm-length}
 use Rattle.tv_ready.proofs.ready.Ready.take_first.Goals as goal
 use Rattle.tv_ready.proofs.ready.Ready.take_first.Goals.{in-Some, in-None}
 
@@ -37,7 +39,7 @@ invariant_of-self c =
       queue_within = i.queue_within;
       late_within =
           ap (are_within jobs) back
-          ∙ (both (nat_lt t (length jobs)) (are_within jobs sunk) (all-same (λ s. nat_lt s (length jobs)) r.late.items (t ∷ sunk) all i.late_within)).1;
+          ∙ (and_parts (nat_lt t (length jobs)) (are_within jobs sunk) (all-same (λ s. nat_lt s (length jobs)) r.late.items (t ∷ sunk) all i.late_within)).1;
       queue_rises = i.queue_rises;
       late_heap = subst (IsHeap jobs) (sym back) c.sink.ensures.heap;
       queue_room = i.queue_room;
@@ -51,7 +53,7 @@ returns-then-is_late_first-clause-first c =
     let jobs = r.table.jobs in
     let late : is_late_first jobs r.queue.items r.late.items ≡ true = ap (is_late_first jobs r.queue.items) (sym c.as_slice.ensures.value) ∙ sym c.if-is_late_first.ensures in
     let some = late-some jobs r.queue.items r.late.items late in
-    ap Some (c.number.ensures ∙ ap (number_at jobs) (c.swap_remove-at.ensures.value ∙ get-same r.late.items 0 c.swap_remove-at.result 0 some))
+    ap Some (c.number.ensures ∙ ap (number_at jobs) (c.swap_remove-at.ensures.value ∙ get_or_default r.late.items 0 c.swap_remove-at.result 0 some))
     ∙ sym (ap head (sym c.self.view_is) ∙ ap (option_map (λ (j : ℕ × List ℕ). j.0)) (late-head jobs r.queue.items r.late.items i.queue_rises i.late_heap late))
 
 pub returns-then-is_late_first-clause-jobs : goal.returns-then-is_late_first-clause-jobs
@@ -68,7 +70,7 @@ returns-then-is_late_first-clause-jobs c =
     let q = subst (λ ys. IsPermutation ys sunk) c.as_mut_slice.ensures.value c.sink.ensures.same in
     let all = taken r.late.items left sunk t p q in
     let back = written-back sunk left c.swap_remove-at.new.self.len (sym (perm-length left sunk q)) (omega (arith, c.swap_remove-at.new.self.ok.0)) in
-    let first = c.swap_remove-at.ensures.value ∙ get-same r.late.items 0 t 0 some in
+    let first = c.swap_remove-at.ensures.value ∙ get_or_default r.late.items 0 t 0 some in
     ap (λ ss. map (job_at jobs) (in_order (is_before jobs) (r.queue.items ++ ss))) back
     ∙ sym (
     ap (λ (v : Listed). drop 1 v.jobs) (sym c.self.view_is)

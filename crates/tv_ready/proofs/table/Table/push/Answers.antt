@@ -2,10 +2,11 @@ use Rattle.std.proofs.Common.{◌≡◌, ◌+◌, ◌-◌, ◌*◌, ◌<◌, ◌
 use Rattle.std.specs.Prelude.{nat_le}
 use Rattle.std.specs.List.{list_all}
 use Rattle.std.proofs.lemmas.List.{length-append}
+use Rattle.tv_lemmas.proofs.Numbers.{one_less-times}
 use Rattle.tv_ready.specs.declared.table.Slot.{Slot}
 use Rattle.tv_ready.specs.Slots.{shown}
 use Rattle.tv_ready.specs.Tables.{Rows}
-use Rattle.tv_ready.proofs.Laying.{pushed-lies, pushed-shown, room-left, split-room}
+use Rattle.tv_ready.proofs.Laying.{pushed-lies, pushed-shown, room-left}
 use Rattle.tv_ready.proofs.table.Table.push.Goals as goal
 
 pub invariant_of-self : goal.invariant_of-self
@@ -29,7 +30,7 @@ invariant_of-self c =
       slots_room = let a = i.slots_room in let b = c.push_reserved.ensures.capacity in omega (arith, a, b, more_slots, positive);
       indices_room =
           room-left (length t.indices.items) (length c.extend_from_slice.new.self.items) t.levels (vec_capacity t.indices) (vec_capacity c.extend_from_slice.new.self) ((t.room - 1) * t.levels) (t.room * t.levels)
-          (split-room t.room t.levels positive) more_indices i.indices_room c.in-Ok.ensures.capacity;
+          (one_less-times t.room t.levels positive) more_indices i.indices_room c.in-Ok.ensures.capacity;
     }
 
 pub returns-clause-jobs : goal.returns-clause-jobs

@@ -1,12 +1,13 @@
 use Rattle.std.specs.Prelude.{refl, length, None, ◌+◌, ◌<◌, ◌≤◌, vec_capacity}
 use Rattle.std.proofs.Common.{ap, arith, subst, sym, ◌∙◌}
+use Rattle.tv_lemmas.proofs.Options.{on-err}
 use Rattle.tv_cell.specs.PieceValues.{piece_values}
 use Rattle.tv_pool.specs.Pool.{IsLive, number_of, regions_with}
 use Rattle.tv_check.specs.RunViews.{run_view}
 use Rattle.tv_frame.specs.Tables.{AreTables}
 use Rattle.tv_run.specs.Rooms.{HasRoomBeside}
 use Rattle.tv_run.specs.declared.run.OpenRun.{OpenRun}
-use Rattle.tv_run.proofs.OfAdding.{before-given_up, before-room, flow-low, is-entering, looks-low, on-err, only-one, tables-are}
+use Rattle.tv_run.proofs.OfAdding.{before-given_up, before-room, flow-low, is-entering, looks-low, only-one, tables-are}
 use Rattle.tv_run.proofs.OfEnters.{IsStarted, adds-to, entered, opened-on}
 use Rattle.tv_run.proofs.OfFlowPlans.{plan-flow}
 use Rattle.tv_run.proofs.run.OpenRun.add_instance.Goals as goal

@@ -1,9 +1,9 @@
 use Rattle.std.proofs.Common.{arith, refl, ◌∙◌}
+use Rattle.tv_lemmas.proofs.Options.{on-err}
 use Rattle.tv_cell.specs.PieceValues.{piece_values}
 use Rattle.tv_run.specs.Settlements.{bounces_job}
 use Rattle.tv_run.proofs.OfBouncing.{listed-low, may-bounce, may-give, read-job, seat-here, step}
 use Rattle.tv_run.proofs.OfRooms.{stands-before, stays-before}
-use Rattle.tv_run.proofs.OfSettled.{when-refused}
 use Rattle.tv_run.proofs.OfSettlings.{bounce-goes, entry-room, settles-in}
 use Rattle.tv_run.proofs.run.OpenRun.bounce.Goals as goal
 
@@ -42,7 +42,7 @@ room_for_result-requires-clause-may c =
 
 pub returns-in_err-spot-clause-refused : goal.returns-in_err-spot-clause-refused
 returns-in_err-spot-clause-refused c =
-    when-refused c.from_residual-in_err-spot.result
+    on-err c.from_residual-in_err-spot.result
     (λ gives so. stays-before gives c.args.self.now c.room_for_result.new.self c.room_for_result.ensures.same so)
 
 pub give_bounced-requires-clause-may : goal.give_bounced-requires-clause-may

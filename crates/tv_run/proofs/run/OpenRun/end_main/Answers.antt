@@ -1,17 +1,18 @@
 use Rattle.std.specs.Prelude.{vec_capacity}
 use Rattle.std.proofs.Common.{ap, arith, length}
+use Rattle.tv_lemmas.proofs.Options.{on-err}
 use Rattle.tv_run.specs.Changes.{IsOpenHere}
-use Rattle.tv_run.proofs.OfEnding.{ends-now, open-here}
+use Rattle.tv_run.proofs.OfEnding.{ends-now}
 use Rattle.tv_run.proofs.OfEndingMain.{ends-main}
 use Rattle.tv_run.proofs.OfRooms.{before-entries, stays-before}
-use Rattle.tv_run.proofs.OfSettled.{when-refused}
 use Rattle.tv_run.proofs.run.OpenRun.end_main.Goals as goal
+use Rattle.tv_run.proofs.OfBouncing.{open-here}
 
 pub returns-in_err-reserve_entries-clause-refused : goal.returns-in_err-reserve_entries-clause-refused
 returns-in_err-reserve_entries-clause-refused c =
     let r = c.args.self.now in
     let m = c.reserve_entries.new.self in
-    when-refused c.from_residual.result
+    on-err c.from_residual.result
     (λ gives so.
     stays-before gives r m
     (before-entries r m c.reserve_entries.ensures.rest c.reserve_entries.ensures.entries

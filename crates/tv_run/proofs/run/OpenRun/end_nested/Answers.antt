@@ -1,10 +1,10 @@
 use Rattle.std.specs.Prelude.{vec_capacity}
 use Rattle.std.proofs.Common.{ap, arith, length, refl, ◌∙◌}
+use Rattle.tv_lemmas.proofs.Options.{on-err}
 use Rattle.tv_cell.specs.PieceValues.{piece_values}
 use Rattle.tv_run.proofs.OfEnding as ending
 use Rattle.tv_run.proofs.OfEndingNested as nested
 use Rattle.tv_run.proofs.OfRooms.{stays-before}
-use Rattle.tv_run.proofs.OfSettled.{when-refused}
 use Rattle.tv_run.proofs.run.OpenRun.end_nested.Goals as goal
 
 pub known-outer-requires : goal.known-outer-requires
@@ -26,7 +26,7 @@ outs_of-requires c =
 
 pub returns-in_err-pieces-clause-refused : goal.returns-in_err-pieces-clause-refused
 returns-in_err-pieces-clause-refused c =
-    when-refused c.from_residual.result (λ gives so. record { stands = so; same = refl; regions = λ n. refl })
+    on-err c.from_residual.result (λ gives so. record { stands = so; same = refl; regions = λ n. refl })
 
 pub room_for_result-requires-clause-may : goal.room_for_result-requires-clause-may
 room_for_result-requires-clause-may c =
@@ -54,7 +54,7 @@ room_for_result-requires-clause-sound c = c.in_ok-pieces.ensures.sound
 
 pub returns-in_err-spot-clause-refused : goal.returns-in_err-spot-clause-refused
 returns-in_err-spot-clause-refused c =
-    when-refused c.from_residual-in_err-spot.result
+    on-err c.from_residual-in_err-spot.result
     (λ gives so. stays-before gives c.args.self.now c.room_for_result.new.self c.room_for_result.ensures.same so)
 
 pub give-requires-clause-may : goal.give-requires-clause-may

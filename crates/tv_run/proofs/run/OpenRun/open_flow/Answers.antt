@@ -1,6 +1,7 @@
 use Rattle.std.specs.Prelude.{[], vec_capacity, ◌++◌, ◌∷◌, ◌≡◌}
 use Rattle.std.proofs.Common.{ap, arith, length, refl, subst, sym, ◌∙◌}
 use Rattle.std.proofs.lemmas.Option.{slice_get_within}
+use Rattle.tv_lemmas.proofs.Options.{on-err}
 use Rattle.tv_check.specs.RunViews.{run_view}
 use Rattle.tv_cell.specs.PieceValues.{piece_values}
 use Rattle.tv_entries.specs.declared.entry.Entry.TheVariants as entry
@@ -15,7 +16,6 @@ use Rattle.tv_run.proofs.OfFlowsOpened.{opens-settles}
 use Rattle.tv_run.proofs.OfNestRooms.{nest-room, roomy, step-leveled, with_room}
 use Rattle.tv_run.proofs.OfOpening as opens
 use Rattle.tv_run.proofs.OfRooms.{before-then, stays-before}
-use Rattle.tv_run.proofs.OfSettled.{when-refused}
 use Rattle.tv_run.proofs.run.OpenRun.open_flow.Goals as goal
 
 pub known-instance-requires : goal.known-instance-requires
@@ -63,7 +63,7 @@ inputs_of-requires c =
 
 pub returns-in_err-inputs-clause-refused : goal.returns-in_err-inputs-clause-refused
 returns-in_err-inputs-clause-refused c =
-    when-refused c.from_residual.result (λ gives so. record { stands = so; same = refl; regions = λ n. refl })
+    on-err c.from_residual.result (λ gives so. record { stands = so; same = refl; regions = λ n. refl })
 
 pub index_mut-requires : goal.index_mut-requires
 index_mut-requires c =
@@ -108,7 +108,7 @@ returns-in_err-reserve_nested-clause-refused c =
     roomy r m.instance q.goes.instances q.goes.may.instance q.goes.may.view
     (opens.here-so g r c.args.job q m c.known-instance.ensures) c.index_mut.result.now c.index_mut.ensures.value
     c.index_mut-2.result.now c.index_mut-2.ensures.value c.reserve_nested.new.self c.reserve_nested.ensures.same in
-    when-refused c.from_residual-in_err-reserve_nested.result (λ gives so. stays-before gives r _ b so)
+    on-err c.from_residual-in_err-reserve_nested.result (λ gives so. stays-before gives r _ b so)
 
 pub add_instance-requires-clause-fits : goal.add_instance-requires-clause-fits
 add_instance-requires-clause-fits c =
@@ -149,7 +149,7 @@ returns-in_err-add_instance-clause-refused c =
     roomy r m.instance q.goes.instances q.goes.may.instance q.goes.may.view
     (opens.here-so g r c.args.job q m c.known-instance.ensures) c.index_mut.result.now c.index_mut.ensures.value
     c.index_mut-2.result.now c.index_mut-2.ensures.value c.reserve_nested.new.self c.reserve_nested.ensures.same in
-    when-refused c.from_residual-in_err-add_instance.result
+    on-err c.from_residual-in_err-add_instance.result
     (λ gives so.
     stays-before gives r c.add_instance.new.self
     (before-then r t c.add_instance.new.self b c.in_err-add_instance.ensures.refused) so)

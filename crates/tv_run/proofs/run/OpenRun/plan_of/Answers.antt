@@ -1,6 +1,7 @@
 use Rattle.std.specs.Prelude.{ℕ, Some, slice_get}
 use Rattle.std.proofs.Common.{ap, get_or, length, refl, subst, sym, ◌<◌, ◌≡◌, ◌∙◌}
 use Rattle.std.proofs.lemmas.Option.{same_Some, slice_get_read, slice_get_within}
+use Rattle.tv_lemmas.proofs.Lists.{get-within}
 use Rattle.tv_value.specs.Values.{Name}
 use Rattle.tv_flow.specs.Flows.{Flow}
 use Rattle.tv_check.specs.FlowPlanViews.{flow_plan_view}
@@ -11,7 +12,6 @@ use Rattle.tv_forest.specs.Forest.{Instances}
 use Rattle.tv_run.specs.Standing.{Fits}
 use Rattle.tv_run.specs.declared.instances.Instance as code
 use Rattle.tv_run.specs.declared.run.OpenRun.{OpenRun}
-use Rattle.tv_frame.proofs.OfHoldAround.{within-get}
 use Rattle.tv_run.proofs.OfSteps.{flow-there}
 use Rattle.tv_run.proofs.run.OpenRun.plan_of.Goals as goal
 
@@ -26,7 +26,7 @@ flow-requires c =
     let q = c.requires in
     let i = c.args.instance in
     let itself = c.index.result.now in
-    let x = within-get q.0 i q.2 in
+    let x = get-within q.0 i q.2 in
     let f = flow-there r q.0 q.1 i x.0 x.1 itself (here r q.0 q.1 i q.2 itself c.index.ensures) in
     slice_get_within (run_view r.run).flows itself.flow f.0 f.1
 

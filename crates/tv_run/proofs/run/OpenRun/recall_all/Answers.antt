@@ -1,7 +1,9 @@
 use Rattle.std.specs.Prelude.{◌+◌}
 use Rattle.std.proofs.Common.{refl, sym, ◌∙◌}
+use Rattle.tv_lemmas.proofs.Options.{on-err}
+use Rattle.tv_lemmas.proofs.Numbers.{not_zero-positive}
 use Rattle.tv_run.proofs.OfAllBack.{back-then, room-stays}
-use Rattle.tv_run.proofs.OfRecalling.{all-out, nothing-out, on-err, recalls-to, some-out}
+use Rattle.tv_run.proofs.OfRecalling.{all-out, nothing-out, recalls-to}
 use Rattle.tv_run.proofs.OfRooms.{before-entries, before-then, stays-before}
 use Rattle.tv_run.proofs.run.OpenRun.recall_all.Goals as goal
 
@@ -44,7 +46,7 @@ pub returns-clause-recalled : goal.returns-clause-recalled
 returns-clause-recalled c = λ gives st.
     let n = c.out_count-count.result in
     let e = c.reserve_entries.ensures in
-    recalls-to gives c.args.self.now st n c.out_count-count.ensures c.note.new.self (some-out n c.if-count-eq0.false)
+    recalls-to gives c.args.self.now st n c.out_count-count.ensures c.note.new.self (not_zero-positive n c.if-count-eq0.false)
     (record {
       prepared = c.reserve_entries.new.self;
       before =

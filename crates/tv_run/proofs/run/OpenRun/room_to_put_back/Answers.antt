@@ -1,10 +1,11 @@
 use Rattle.std.specs.Vec.{with_item}
 use Rattle.std.proofs.Common.{ap, arith, refl, slice_get, sym, ◌∙◌}
+use Rattle.std.proofs.lemmas.Result.{on_ok_weaker}
 use Rattle.tv_open.specs.declared.open.Open.{Open}
 use Rattle.tv_seats.specs.Seats.{back_room}
 use Rattle.tv_run.proofs.OfOpenSet.{open-in_set}
 use Rattle.tv_run.proofs.OfRooms.{before-entries, before-then}
-use Rattle.tv_run.proofs.OfSeatRooms.{level-there, ok-then, roomier}
+use Rattle.tv_run.proofs.OfSeatRooms.{level-there, roomier}
 use Rattle.tv_run.proofs.OfTaking.{its-code, open-low, open-set, read-is}
 use Rattle.tv_run.proofs.run.OpenRun.room_to_put_back.Goals as goal
 
@@ -102,7 +103,7 @@ returns-clause-rooms c =
     let g = c.index_mut.result.now in
     let its = its-code r i p.0 p.1 p.2 p.3 in
     let same = c.reserve_entries.ensures.rest.instances in
-    ok-then c.reserve_entries.result
+    on_ok_weaker c.reserve_entries.result
     (λ room. (
       record {
         each = λ e o at there.

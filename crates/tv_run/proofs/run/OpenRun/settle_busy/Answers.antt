@@ -1,8 +1,9 @@
 use Rattle.std.proofs.Common.{ap, arith, length, refl, subst, true, ◌≡◌}
+use Rattle.std.proofs.lemmas.List.{nil_from_length}
+use Rattle.tv_lemmas.proofs.Options.{on-err}
 use Rattle.tv_run.specs.Settlements.{SettlesLast}
-use Rattle.tv_run.proofs.OfLasts.{none-there}
 use Rattle.tv_run.proofs.OfLeft.{left-stays}
-use Rattle.tv_run.proofs.OfSettled.{quiet-run, settles-from, stays-from, when-refused}
+use Rattle.tv_run.proofs.OfSettled.{quiet-run, settles-from, stays-from}
 use Rattle.tv_run.proofs.run.OpenRun.settle_busy.Goals as goal
 
 pub loop-init : goal.loop-init
@@ -23,7 +24,7 @@ settle_last-requires c =
 
 pub returns-in_err-settle_last-clause-refused : goal.returns-in_err-settle_last-clause-refused
 returns-in_err-settle_last-clause-refused c =
-    when-refused c.from_residual.result
+    on-err c.from_residual.result
     (λ gives so.
     let now = c.loop.invariant.stays gives so in
     stays-from gives c.args.self.now c.loop.self c.settle_last.new.self now
@@ -85,4 +86,4 @@ returns-clause-settled c = λ gives so.
     let left = c.loop.invariant.left in
     let none : length c.loop.self.busy.items ≡ 0 =
     omega (arith, left, c.loop-test.false, c.len-end.ensures, r.busy.ok.0) in
-    (now, quiet-run gives c.loop.self now.stands.0 now.stands.1 (none-there c.loop.self.busy.items none))
+    (now, quiet-run gives c.loop.self now.stands.0 now.stands.1 (nil_from_length c.loop.self.busy.items none))

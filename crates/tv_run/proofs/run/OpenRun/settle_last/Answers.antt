@@ -1,11 +1,12 @@
 use Rattle.std.proofs.Common.{arith, length, refl, sym, ◌-◌, ◌≡◌, ◌∙◌}
 use Rattle.std.proofs.lemmas.Bool.{eq-eqb, eqb-true}
 use Rattle.std.proofs.lemmas.Result.{IfOk-weaker}
+use Rattle.std.proofs.lemmas.List.{nil_from_length}
 use Rattle.tv_gate.specs.Outcomes.{Giving}
 use Rattle.tv_model.proofs.Tests.{true≠false}
 use Rattle.tv_run.specs.Settlements.{IsOpenIn, SettlesIn, SettlesLast}
 use Rattle.tv_run.specs.Standing.{StandsOpen}
-use Rattle.tv_run.proofs.OfLasts.{ended-still, last-low, none-there, open-last, settles-last, some-there}
+use Rattle.tv_run.proofs.OfLasts.{ended-still, last-low, open-last, settles-last, some-there}
 use Rattle.tv_run.proofs.OfRooms.{before-itself}
 use Rattle.tv_run.proofs.run.OpenRun.settle_last.Goals as goal
 
@@ -29,7 +30,7 @@ returns-then-is_empty-clause-settled c = λ gives so.
       before-itself r,
       refl,
       ended-still r c.requires.2 c.index-last.result.now n last c.index-last.ensures g c.index.ensures
-          (none-there g.open.items none),
+          (nil_from_length g.open.items none),
     )
 
 pub settle_in-requires : goal.settle_in-requires

@@ -1,15 +1,16 @@
 use Rattle.std.proofs.Common.{subst}
 use Rattle.std.proofs.lemmas.Result.{IfOk-weaker, on_err_weaker}
+use Rattle.tv_lemmas.proofs.Options.{on-err}
 use Rattle.tv_gate.specs.Outcomes.{Giving}
 use Rattle.tv_run.specs.Settlements.{IsQuietRun, SettlesBusy}
 use Rattle.tv_run.specs.Standing.{StandsOpen}
 use Rattle.tv_run.specs.Turns.{SettlesTo}
-use Rattle.tv_run.proofs.OfSettled.{settles-from, stays-from, when-refused}
+use Rattle.tv_run.proofs.OfSettled.{settles-from, stays-from}
 use Rattle.tv_run.proofs.run.OpenRun.settle_one.Goals as goal
 
 pub returns-in_err-settle_busy-clause-refused : goal.returns-in_err-settle_busy-clause-refused
 returns-in_err-settle_busy-clause-refused c =
-    when-refused c.from_residual.result (λ gives so. c.in_err-settle_busy.ensures.refused gives so)
+    on-err c.from_residual.result (λ gives so. c.in_err-settle_busy.ensures.refused gives so)
 
 pub returns-then-branch-clause-settled : goal.returns-then-branch-clause-settled
 returns-then-branch-clause-settled c = λ gives so.

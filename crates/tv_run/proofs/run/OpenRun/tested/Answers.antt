@@ -1,13 +1,13 @@
 use Rattle.std.proofs.Common.{◌∙◌, subst, sym}
+use Rattle.tv_lemmas.proofs.Options.{not_some-none}
 use Rattle.tv_entries.specs.Answers.{question}
 use Rattle.tv_run.specs.Accepting.{IsAnswerTo}
 use Rattle.tv_run.specs.Standing.{run_of}
-use Rattle.tv_run.proofs.OfTriesOut.{none-there}
 use Rattle.tv_run.proofs.run.OpenRun.tested.Goals as goal
 
 pub returns-then-not-is_out : goal.returns-then-not-is_out
 returns-then-not-is_out c = λ gives s. (
-  none-there _ (sym (c.is_out.ensures.out gives s) ∙ c.if-not-is_out.true),
+  not_some-none _ (sym (c.is_out.ensures.out gives s) ∙ c.if-not-is_out.true),
   c.state_of.ensures gives s,
 )
 

@@ -1,12 +1,13 @@
 use Rattle.std.proofs.Common.{◌≡◌, ◌<◌, ◌≤◌, ◌++◌, ◌∷◌, [], ap, sym, subst, ◌∙◌, length, arith, refl}
 use Rattle.std.specs.List.{list_all}
 use Rattle.std.proofs.lemmas.List.{length-append}
+use Rattle.tv_lemmas.proofs.Numbers.{one_less-times}
 use Rattle.tv_seats.specs.declared.stage.Stage.TheVariants as stage
 use Rattle.tv_seats.specs.declared.table.Row.{Row}
 use Rattle.tv_seats.specs.Laid.{shown}
 use Rattle.tv_seats.specs.Seats.{new_seat}
 use Rattle.tv_seats.specs.Tables.{Rows}
-use Rattle.tv_seats.proofs.Laying.{lies, pushed-lies, pushed-shown, split-room}
+use Rattle.tv_seats.proofs.Laying.{lies, pushed-lies, pushed-shown}
 use Rattle.tv_seats.proofs.table.Table.push.Goals as goal
 
 pub invariant_of-self : goal.invariant_of-self
@@ -31,7 +32,7 @@ invariant_of-self c =
       indices_room =
           let a = i.indices_room in
           let b = c.in-Ok.ensures.capacity in
-          let e = split-room t.room t.widest positive in
+          let e = one_less-times t.room t.widest positive in
           omega (arith, a, b, e, more_indices, wide);
       numbers = let a = i.numbers in omega (arith, a, more_rows, positive);
     }
