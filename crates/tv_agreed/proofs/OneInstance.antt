@@ -8,6 +8,7 @@ use Rattle.tv_value.specs.Orders.{named}
 use Rattle.tv_value.specs.Values.{AllHaveDepth, HasDepth, JobName, Name, Scalar, Value}
 use Rattle.tv_flow.specs.Flows.{Feed, Flow, Step}
 use Rattle.tv_strategy.specs.Origins.{Traced, input_value, input_values}
+use Rattle.tv_strategy.proofs.OfEach.{each-weaken}
 use Rattle.tv_gate.specs.Outcomes.{Giving}
 use Rattle.tv_depths.specs.CheckedDepths.{StepDepths, feed_depth, flow_depths, measured_outputs, output_depths, steps_depths}
 use Rattle.tv_depths.specs.Delivered.{Delivered}
@@ -20,7 +21,6 @@ use Rattle.tv_model.specs.Instances.{step_made, steps_made}
 use Rattle.tv_model.specs.Made.{Made, Meaning, feed_value}
 use Rattle.tv_model.specs.Meanings.{flow_meaning, instance_meaning, no_meaning}
 use Rattle.tv_model.proofs.Tests.{Each}
-use Rattle.tv_model.proofs.Turns.{each-map}
 use Rattle.tv_model.proofs.Whole.{rank-each}
 use Rattle.tv_model.proofs.Results.{Delivers, some_or}
 use Rattle.tv_model.proofs.Delivers.{depths_of, feed-depth, feed-right, forget, forget-step, given-depths, given-right}
@@ -63,7 +63,7 @@ module _ (gives : Giving) (flows : List (Name × Flow)) (inside : Name → JobNa
   IsReady steps s = ActivitiesNest (NestsWithin flows k) s.1.activities × (named s.0 steps ≡ Some s.1)
 
   made-right : (steps : List (Name × Step)) (given : List (Name × ℕ)) (all : List StepDepths) (ms : List Made) → Each (MadeIs gives flows inside k inside_is I steps given all) ms → Each (λ m. AreRight m.step.outputs) ms
-  made-right steps given all ms h = each-map (MadeIs gives flows inside k inside_is I steps given all) (λ m. AreRight m.step.outputs) (λ m w. gives-right _ w.step.outputs m.step.outputs w.outputs) ms h
+  made-right steps given all ms h = each-weaken (MadeIs gives flows inside k inside_is I steps given all) (λ m. AreRight m.step.outputs) (λ m w. gives-right _ w.step.outputs m.step.outputs w.outputs) ms h
 
   module _ (steps : List (Name × Step)) (given : List (Name × Delivered)) (given_right : AreRight given) where
     abbrev Is : List StepDepths → Made → Type 0

@@ -8,6 +8,7 @@ use Rattle.tv_flow.specs.Flows.{Flow, Step, StepInput}
 use Rattle.tv_strategy.specs.Iterations.{Iteration}
 use Rattle.tv_strategy.specs.Levels.{HasLevels}
 use Rattle.tv_strategy.specs.Measures.{DotsAgree, strategy_depth}
+use Rattle.tv_strategy.proofs.OfEach.{each-weaken}
 use Rattle.tv_gate.specs.Outcomes.{Giving}
 use Rattle.tv_depths.specs.Delivered.{Delivered, Ported, ported}
 use Rattle.tv_depths.specs.Steps.{port_mismatch, strategy_of}
@@ -17,7 +18,6 @@ use Rattle.tv_model.specs.RightDepths.{AreRight}
 use Rattle.tv_model.specs.Instances.{node_jobs, step_made}
 use Rattle.tv_model.specs.Made.{Made, Meaning, Opened, delivered_outputs, endings, feed_value}
 use Rattle.tv_model.proofs.Tests.{Each}
-use Rattle.tv_model.proofs.Turns.{each-map}
 use Rattle.tv_model.proofs.Members.{each_in, in_each, of-flat}
 use Rattle.tv_model.proofs.Fed.{step_iteration, step_ports}
 use Rattle.tv_model.proofs.Results.{Delivers, IsFit}
@@ -81,7 +81,7 @@ module _ (gives : Giving) (flows : List (Name × Flow)) (inside : Name → JobNa
     fed-each (i ∷ is) h = (feed-right given given_right ms made_right i.1.from h.0, fed-each is h.1)
 
     takes : Each (Takes fed) s.inputs
-    takes = each-map IsFed (Takes fed) (λ i h. ported-depth i.1.depth (feed_value given ms i.1.from) h) s.inputs (fed-each s.inputs agree.feeds)
+    takes = each-weaken IsFed (Takes fed) (λ i h. ported-depth i.1.depth (feed_value given ms i.1.from) h) s.inputs (fed-each s.inputs agree.feeds)
 
     dots : DotsAgree (port_mismatch (step_ports given ms s)) (strategy_of s)
     dots = subst (λ g. DotsAgree g (strategy_of s)) (sym (mismatches given ms s)) agree.dots
@@ -98,7 +98,7 @@ module _ (gives : Giving) (flows : List (Name × Flow)) (inside : Name → JobNa
         (all-bind fed s.inputs takes (strategy_of s) dots agree.ports)
 
     pub results : Each (Gives s) new.jobs
-    results = each-map Fits (Gives s) (λ o w. w.result) new.jobs fits
+    results = each-weaken Fits (Gives s) (λ o w. w.result) new.jobs fits
 
     right : AreRight new.step.outputs
     right =

@@ -26,7 +26,6 @@ use Rattle.tv_model.specs.Made.{Made, Meaning, Opened}
 use Rattle.tv_model.specs.Meanings.{flow_meaning, instance_meaning, jobs_with_inside, meaning, nesting_limit, no_meaning, steps_inside}
 use Rattle.tv_model.specs.Members.{In}
 use Rattle.tv_model.proofs.Tests.{Each}
-use Rattle.tv_model.proofs.Fed.{each-all}
 use Rattle.tv_model.proofs.Members.{Apart, each_in, in-flat, in_each, no-nil, of-flat}
 use Rattle.tv_model.proofs.Order.{in-append, of-map}
 use Rattle.tv_model.proofs.Whole.{AnyNumber, StepsHave, meaning-whole}
@@ -40,6 +39,7 @@ use Rattle.tv_model.proofs.Results.{zip-have}
 use Rattle.tv_agreed.proofs.Inner.{first-nests}
 use Rattle.tv_agreed.proofs.OneStep.{JobIs, MadeIs}
 use Rattle.tv_agreed.proofs.OneInstance.{AllSound, flow-delivers, instance-made, instance-outputs, made_in, steps-nest}
+use Rattle.tv_strategy.proofs.OfEach.{each-all}
 
 -- ---- the flow of an instance, by the jobs that are known
 

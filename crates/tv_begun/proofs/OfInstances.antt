@@ -1,8 +1,7 @@
 -- A step of a flow in an instance: what its ports are fed with.
 use Rattle.std.specs.List.{list_all}
-use Rattle.std.specs.Prelude.{◌≡◌, refl, ℕ, zero, suc, ◌-◌, Bool, true, List, [], ◌∷◌, map, Some, slice_get}
+use Rattle.std.specs.Prelude.{◌≡◌, refl, ℕ, zero, suc, ◌-◌, true, List, [], ◌∷◌, map, Some, slice_get}
 use Rattle.std.proofs.Common.{sym, ap, subst, ◌∙◌, inl, inr}
-use Rattle.std.proofs.lemmas.Bool.{and_parts}
 use Rattle.std.proofs.lemmas.Option.{none-some, same_Some}
 use Rattle.tv_value.specs.Orders.{named}
 use Rattle.tv_value.specs.Values.{JobName, Name, Value}
@@ -23,6 +22,7 @@ use Rattle.tv_model.specs.Made.{Made}
 use Rattle.tv_model.specs.Members.{In}
 use Rattle.tv_model.specs.RightDepths.{AreRight, IsRight}
 use Rattle.tv_model.proofs.Delivers.{depths_of, feed-right, given-right}
+use Rattle.tv_model.proofs.OfMembers.{of-all}
 use Rattle.tv_matching.proofs.Lists.{each-map}
 use Rattle.tv_matching.proofs.OfMembers.{each-in}
 use Rattle.tv_wires.specs.Ports.{levels_of}
@@ -62,11 +62,6 @@ feed-agrees given so_far [] h i g = absurd g
 feed-agrees given so_far (j ∷ is) h i (inl e) = subst (λ (k : Name × StepInput). FeedAgrees given so_far k.1.from) (sym e) h.0
 feed-agrees given so_far (j ∷ is) h i (inr g) = feed-agrees given so_far is h.1 i g
 
-pub member-passes : {A : Type 0} (p : A → Bool) (xs : List A) → list_all p xs ≡ true → (x : A) → In x xs → p x ≡ true
-member-passes p [] h x g = absurd g
-member-passes p (y ∷ xs) h x (inl e) = ap p e ∙ (and_parts (p y) (list_all p xs) h).0
-member-passes p (y ∷ xs) h x (inr g) = member-passes p xs (and_parts (p y) (list_all p xs) h).1 x g
-
 module _ (flows : List (Name × Flow)) (levels : Name → ℕ) (v : View) (depths : IsOfDepths flows levels v) (wired : IsWired v.flow) (n : ℕ) (s : Name × Step) (there : slice_get v.flow.steps n ≡ Some s) where
   -- names of inputs are in order
   pub inputs-rise : is_ascending (names_of s.1.inputs) ≡ true
@@ -85,7 +80,7 @@ module _ (flows : List (Name × Flow)) (levels : Name → ℕ) (v : View) (depth
     port-is : (f : InstanceStep) (w : Placed f) → list_all (λ (i : Name × StepInput). list_all (is_there v.flow) (feed_links i.1.from)) w.own.step.inputs ≡ true → (i : Name × StepInput) → In i w.own.step.inputs → IsPort v.flow levels instance results v.inputs w.own.before w.made i
     port-is f w links i g =
         record {
-          found = ports-found v.flow levels instance results v.inputs flows (all_depths flows levels v depths wired) (steps_with v instance results) f w i g (member-passes (λ (j : Name × StepInput). list_all (is_there v.flow) (feed_links j.1.from)) w.own.step.inputs links i g);
+          found = ports-found v.flow levels instance results v.inputs flows (all_depths flows levels v depths wired) (steps_with v instance results) f w i g (of-all (λ (j : Name × StepInput). list_all (is_there v.flow) (feed_links j.1.from)) w.own.step.inputs links i g);
           right =
               subst IsRight (same-feeds own_given w.own.before i.1.from)
               (feed-right own_given (given-right v.inputs v.flow.inputs depths.inputs) (map as_made w.own.before) (each-map (λ (m : Made). AreRight m.step.outputs) as_made w.own.before w.right) i.1.from (feed-agrees _ _ w.own.step.inputs w.agree.feeds i g));

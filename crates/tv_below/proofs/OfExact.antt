@@ -11,9 +11,9 @@ use Rattle.tv_value.specs.Values.{JobName, Name, Value}
 use Rattle.tv_flow.specs.Flows.{Feed, Flow, Link, StepInput, constant, input, link, merge, output}
 use Rattle.tv_strategy.specs.Origins.{Origin, Traced, fixed, plain}
 use Rattle.tv_strategy.specs.Sources.{Each}
+use Rattle.tv_strategy.proofs.OfEach.{each-weaken}
 use Rattle.tv_naming.specs.Naming.{feed_links, is_there}
 use Rattle.tv_depths.specs.Delivered.{Delivered, link_delivers, wrapped}
-use Rattle.tv_matching.proofs.Lists.{each-weaken}
 use Rattle.tv_parts.specs.Below.{Below}
 use Rattle.tv_parts.specs.Partials.{Partial, part_of, shows}
 use Rattle.tv_parts.proofs.Known.{whole-noted}

@@ -3,6 +3,7 @@ use Rattle.std.specs.Prelude.{◌≡◌, ℕ, zero, suc, ◌-◌, ◌<◌, ◌�
 use Rattle.std.specs.Option.{option_copied}
 use Rattle.std.proofs.Common.{arith, ap, sym, ◌∙◌, get_or, ne_eqb, true≢false, Bor}
 use Rattle.std.proofs.lemmas.List.{take_all}
+use Rattle.tv_lemmas.proofs.Options.{and_then-map}
 use Rattle.tv_value.specs.Nested.{Place, at, children, item_at, leaf, trees_of}
 use Rattle.tv_value.specs.Values as spec
 use Rattle.tv_value.specs.Values.{ErrorDoc, Scalar, fault_value, list_value}
@@ -133,10 +134,6 @@ got f [] i = refl
 got f (x ∷ xs) zero = refl
 got f (x ∷ xs) (suc i) = got f xs i
 
-inside : {X : Type 0} (f : X → spec.Value) (r : Place) (o : Option X) → option_and_then (λ u. at u r) (option_map f o) ≡ option_and_then (λ x. at (f x) r) o
-inside f r None = refl
-inside f r (Some x) = refl
-
 lent : (o : Option (Bor Value)) → option_map (λ b. view b.now) o ≡ option_map view (option_copied o)
 lent None = refl
 lent (Some b) = refl
@@ -158,7 +155,7 @@ pub first-at : {X : Type 0} (f : X → spec.Value) (t : spec.Value) (xs : List X
 first-at f t xs [] o e n g = absurd (omega arith)
 first-at f t xs (i ∷ r) o e n g =
     (λ k. option_and_then (λ x. at (f x) (rest-is i r k)) (g k))
-    ∙ sym (inside f r (slice_get xs i))
+    ∙ sym (and_then-map f (λ u. at u r) (slice_get xs i))
     ∙ sym (ap (λ p. option_and_then (λ u. at u r) p) (got f xs i))
     ∙ sym (ap (λ v. at v (i ∷ r)) e)
 

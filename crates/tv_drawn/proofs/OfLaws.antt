@@ -10,6 +10,7 @@ use Rattle.tv_strategy.specs.Conditions.{number_of}
 use Rattle.tv_strategy.specs.Measures.{leaf_names}
 use Rattle.tv_strategy.specs.Origins.{Origin, plain}
 use Rattle.tv_strategy.specs.Sources.{Each}
+use Rattle.tv_strategy.proofs.OfEach.{each-weaken}
 use Rattle.tv_naming.specs.Numbers.{position}
 use Rattle.tv_naming.proofs.OfForms.{steps-named}
 use Rattle.tv_depths.specs.Delivered.{Ported}
@@ -21,7 +22,6 @@ use Rattle.tv_matching.specs.Matchers.{list_at, out}
 use Rattle.tv_matching.specs.Members.{In, Once}
 use Rattle.tv_matching.specs.Tellings.{Telling}
 use Rattle.tv_matching.specs.Told.{matched_after, IsFit, Spot, seen, telling, tellings, told_kind, told_leaf, told_place, told_to}
-use Rattle.tv_matching.proofs.Lists.{each-weaken}
 use Rattle.tv_matching.proofs.OfLaws.{tellings-in_any_order}
 use Rattle.tv_matching.proofs.OfMatchers.{can-tell_all-permutes}
 use Rattle.tv_matching.proofs.OfMembers.{each-from, each-in, in-permutes, in-right}

@@ -14,12 +14,12 @@ use Rattle.tv_value.proofs.OfNames.{same_name-refl}
 use Rattle.tv_flow.specs.Flows.{Step}
 use Rattle.tv_flow.specs.Formed.{is_ascending}
 use Rattle.tv_strategy.specs.Sources.{Each}
+use Rattle.tv_strategy.proofs.OfEach.{each-weaken}
 use Rattle.tv_naming.specs.Naming.{numbered}
 use Rattle.tv_naming.specs.Numbers.{position}
 use Rattle.tv_naming.proofs.ByPosition.{below-differs, names_of, same_name-sym}
 use Rattle.tv_depths.specs.Ranks.{by_rank, earlier_steps, is_among, ranked}
 use Rattle.tv_matching.specs.Members.{In}
-use Rattle.tv_matching.proofs.Lists.{each-weaken}
 use Rattle.tv_matching.proofs.OfMembers.{each-in}
 use Rattle.tv_matching.proofs.OfMatchers.{map-each}
 

@@ -15,6 +15,7 @@ use Rattle.tv_strategy.specs.Sources.{Each}
 use Rattle.tv_strategy.specs.Splits.{same_place}
 use Rattle.tv_strategy.proofs.OfPlaces.{same-itself}
 use Rattle.tv_strategy.proofs.OfSources.{each-append}
+use Rattle.tv_strategy.proofs.OfEach.{each-weaken}
 use Rattle.tv_matching.specs.Items.{Bound, Item, Kind, Stopped, all_known, closes, end_kind, ends, here, if_so, known_from, known_items, passes, within}
 use Rattle.tv_matching.specs.Levels.{AreLeveled, KindAt}
 use Rattle.tv_matching.specs.Matchers.{CanTellAll, Matching}
@@ -22,7 +23,7 @@ use Rattle.tv_matching.specs.Members.{In, Once, at_place}
 use Rattle.tv_matching.specs.Tellings.{Telling}
 use Rattle.tv_matching.specs.Told.{IsFit, IsNew, Spot, Told, arrival, bound_there, close, faulty, map_kind, seen, stop_there, telling, tellings, told_kind, told_leaf, told_place, told_to}
 use Rattle.tv_matching.proofs.Gains.{told-append}
-use Rattle.tv_matching.proofs.Lists.{each-if, each-map, each-weaken, flat-append, flat-same, map-flat, map-if}
+use Rattle.tv_matching.proofs.Lists.{each-if, each-map, flat-append, flat-same, map-flat, map-if}
 use Rattle.tv_matching.proofs.OfMembers.{each-from, each-in, each-permutes, in-flat, in-if, in-map}
 use Rattle.tv_matching.proofs.Onces.{known-once, once-permutes}
 use Rattle.tv_matching.proofs.Heard.{some-long}

@@ -9,6 +9,7 @@ use Rattle.tv_value.specs.Values.{JobName, Name, Scalar, Value}
 use Rattle.tv_flow.specs.Flows.{Flow, Link, Step, input, output}
 use Rattle.tv_strategy.specs.Origins.{Origin, Traced, from_input, input_value, input_values}
 use Rattle.tv_strategy.specs.Sources.{AtAllNodes, AtNodes, Each}
+use Rattle.tv_strategy.proofs.OfEach.{each-all}
 use Rattle.tv_naming.specs.Naming.{has_name, is_there}
 use Rattle.tv_naming.specs.Numbers.{position}
 use Rattle.tv_naming.proofs.ByPosition.{same_name-is}
@@ -19,7 +20,7 @@ use Rattle.tv_instance.specs.ByResults.{InstanceStep, Results, result_at, step_o
 use Rattle.tv_instance.specs.Events.{Event, Extends, event_place, event_step, known_by}
 use Rattle.tv_model.specs.Instances.{given_of, value_given}
 use Rattle.tv_model.specs.Members.{In}
-use Rattle.tv_model.proofs.Fed.{each-all, each-of_map, named_or}
+use Rattle.tv_model.proofs.Fed.{each-of_map, named_or}
 use Rattle.tv_framing.specs.Arriving.{levels_below}
 use Rattle.tv_framing.specs.Feeding.{IsLinkFed}
 use Rattle.tv_framing.specs.Gaining.{IsOutputOf}

@@ -14,11 +14,12 @@ use Rattle.tv_model.specs.Made.{Meaning}
 use Rattle.tv_model.specs.Meanings.{meaning}
 use Rattle.tv_model.proofs.Tests.{both_true, true≠false}
 use Rattle.tv_model.proofs.Turns.{In}
+use Rattle.tv_model.proofs.OfMembers.{found-in}
 use Rattle.tv_history.specs.Entries.{Entry, History, bounced, closed, ended, fault_passed, opened}
 use Rattle.tv_history.specs.Histories.{can_open, can_settle_more, is_at, is_legal, is_legal_after, is_offered, is_open, may_go_on, next_ask}
 use Rattle.tv_history.proofs.Legal.{Legal, bounces, closes, ends, legal-of, passes}
 use Rattle.tv_history.proofs.Ready.{AnyNumber, document-whole, no-bounce, no-ending, no-settling}
-use Rattle.tv_history.proofs.Tests.{find-passes, same-itself}
+use Rattle.tv_history.proofs.Tests.{same-itself}
 use Rattle.tv_order.specs.Chains.{is_inside}
 use Rattle.tv_order.specs.Moments.{goes_on}
 use Rattle.tv_order.proofs.OfFirst.{find-first, find-none}
@@ -133,7 +134,7 @@ first-of_all_jobs gives d test o w = first-of_all gives d test o w
 
 pub opening-is_legal : OpeningIsLegal
 opening-is_legal gives d past j quiet e none =
-    opening-legal gives d past quiet j e none (find-passes (goes_on gives d past) (meaning gives d).jobs j e).1
+    opening-legal gives d past quiet j e none (found-in (goes_on gives d past) (meaning gives d).jobs j e).1
 
 pub nothing-left : NothingLeft
 nothing-left gives d past legal quiet asks = settles-nothing gives d past quiet legal asks

@@ -13,10 +13,11 @@ use Rattle.tv_model.specs.Meanings.{meaning}
 use Rattle.tv_model.specs.Members.{In}
 use Rattle.tv_model.proofs.Members.{Apart as KeysApart, once-of_apart}
 use Rattle.tv_model.proofs.Order.{in-map, of-map}
+use Rattle.tv_model.proofs.OfMembers.{of-filter}
 use Rattle.tv_history.specs.Entries.{History}
 use Rattle.tv_history.specs.Histories.{is_ready}
 use Rattle.tv_history.proofs.Ready.{document-whole}
-use Rattle.tv_history.proofs.Tests.{passing-in, same-itself}
+use Rattle.tv_history.proofs.Tests.{same-itself}
 use Rattle.tv_order.specs.JobOrder.{Apart}
 use Rattle.tv_order.proofs.OfFirst.{find-first}
 use Rattle.tv_seats.specs.Seats.{Seat}
@@ -98,7 +99,7 @@ module _ (gives : Giving) (d : Document) (levels : Flow → Name → ℕ) (past 
 
   ready-named : (j : Job) → In j (filter (is_ready m past) m.jobs) → In j.name (names_by xs ks)
   ready-named j i =
-      let r = passing-in (is_ready m past) j m.jobs i in
+      let r = of-filter (is_ready m past) j m.jobs i in
       let w = job-seat gives d levels past xs stand j r.0 (ready-anywhere m past j r.1) in
       let a = numbered.all w.outer w.number w.instance w.seat w.is_its.instance w.is_its.seat in
       let named = named-there xs w.outer w.number w.instance w.seat w.is_its.instance w.is_its.seat ∙ sym w.is_its.job.name in

@@ -16,6 +16,7 @@ use Rattle.tv_lineage.proofs.OfLaws.{backward-closure}
 use Rattle.tv_strategy.specs.Origins.{Mark, given, made, Origin, Traced}
 use Rattle.tv_strategy.specs.Sources.{Each, AtNodes, AtAllNodes}
 use Rattle.tv_strategy.proofs.OfSources.{each-append}
+use Rattle.tv_strategy.proofs.OfEach.{each-all}
 use Rattle.tv_depths.specs.Ranks.{ranked}
 use Rattle.tv_model.specs.Jobs.{Job}
 use Rattle.tv_model.specs.Lineages as model
@@ -23,7 +24,7 @@ use Rattle.tv_model.specs.Made.{Meaning, Opened, Made, feed_value}
 use Rattle.tv_model.specs.Meanings.{meaning, jobs_with_inside, instance_meaning, no_meaning, flow_meaning, nesting_limit}
 use Rattle.tv_model.specs.Earlier.{job_list}
 use Rattle.tv_model.specs.Instances.{given_of}
-use Rattle.tv_model.proofs.Fed.{either, named_map_or, each-all, feed-has}
+use Rattle.tv_model.proofs.Fed.{either, named_map_or, feed-has}
 use Rattle.tv_model.proofs.Members.{each_in, Apart, in-flat}
 use Rattle.tv_model.proofs.Instances.{given-free, steps_of, ranked-fresh}
 use Rattle.tv_model.proofs.Formed.{AreFormed, IsOwn, own-apart, steps-formed, none-formed}

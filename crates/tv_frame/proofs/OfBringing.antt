@@ -13,12 +13,12 @@ use Rattle.tv_value.specs.Values.{Name}
 use Rattle.tv_value.specs.Views.{strategy_view}
 use Rattle.tv_flow.specs.Flows.{Flow, Step}
 use Rattle.tv_strategy.specs.Sources.{Each}
+use Rattle.tv_strategy.proofs.OfEach.{each-weaken}
 use Rattle.tv_naming.specs.Naming.{numbered}
 use Rattle.tv_depths.specs.Steps.{strategy_of}
 use Rattle.tv_check.specs.declared.plans.FlowPlan.{FlowPlan}
 use Rattle.tv_matching.specs.Matchers.{Outcome, fault_at, job_at, list_at, out}
 use Rattle.tv_matching.specs.Told.{Told, matched_after}
-use Rattle.tv_matching.proofs.Lists.{each-weaken}
 use Rattle.tv_match.specs.declared.matchers.Matcher.{Matcher}
 use Rattle.tv_match.specs.Ahead.{in_order_ahead}
 use Rattle.tv_match.specs.Filed.{filed}

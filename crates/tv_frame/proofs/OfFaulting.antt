@@ -32,7 +32,7 @@ use Rattle.tv_outputs.specs.Known.{Nodes}
 use Rattle.tv_intake.specs.Intaken.{IsSoundAt, matcher_at}
 use Rattle.tv_model.specs.Instances.{given_of}
 use Rattle.tv_model.specs.Members.{In}
-use Rattle.tv_model.proofs.OfMembers.{in-slice}
+use Rattle.tv_model.proofs.OfMembers.{in-slice, of-all, of-filter}
 use Rattle.tv_instance.specs.ByResults.{InstanceStep, Results, step_of}
 use Rattle.tv_instance.specs.Events.{Extends, fault_set, has_level, known_by}
 use Rattle.tv_framing.specs.Answers.{CanSettle}
@@ -40,14 +40,13 @@ use Rattle.tv_framing.specs.Views.{AreOfDepth, View, steps_with}
 use Rattle.tv_framing.proofs.OfPossible.{some-possible}
 use Rattle.tv_joined.specs.WiredFlows.{IsWired}
 use Rattle.tv_joined.proofs.OfWires.{leaf-named}
-use Rattle.tv_begun.proofs.OfInstances.{inputs-rise, member-passes, ports-are, step-of, step-there}
+use Rattle.tv_begun.proofs.OfInstances.{inputs-rise, ports-are, step-of, step-there}
 use Rattle.tv_begun.proofs.OfLeaves.{named-own}
 use Rattle.tv_drawn.specs.Steps.{IsStepAt, IsStepTold}
 use Rattle.tv_drawn.specs.Waiting.{is_waiting, waiting_of}
 use Rattle.tv_drawn.proofs.OfLaws.{waiting_faults-can_settle}
 use Rattle.tv_drawn.proofs.OfRanks.{at-in}
 use Rattle.tv_drawn.proofs.OfSteps.{IsMadeOf, made-step, rising, steps-paired}
-use Rattle.tv_truly.proofs.OfWires.{of-filter}
 use Rattle.tv_frame.specs.declared.frame.Frame.{Frame}
 use Rattle.tv_frame.specs.Kept.{HasMatcher, Keeps, followed_by}
 use Rattle.tv_frame.specs.Tables.{levels_in, step_starts}
@@ -151,12 +150,12 @@ module _ (flows : List (Name × Flow)) (plan : FlowPlan) (pool : Nodes) (f : Fra
 
     links : list_all (is_there v.flow) (feed_links takes.1.from) ≡ true
     links =
-        member-passes (λ (i : Name × StepInput). list_all (is_there v.flow) (feed_links i.1.from)) s.1.inputs
+        of-all (λ (i : Name × StepInput). list_all (is_there v.flow) (feed_links i.1.from)) s.1.inputs
         (passes (λ (t : Name × Step). list_all (λ (i : Name × StepInput). list_all (is_there v.flow) (feed_links i.1.from)) t.1.inputs) v.flow.steps n s wired.links stands) takes among
 
     leaf-among : list_any (same_name takes.0) leaves ≡ true
     leaf-among =
-        member-passes (λ (i : Name × StepInput). list_any (same_name i.0) leaves) s.1.inputs
+        of-all (λ (i : Name × StepInput). list_any (same_name i.0) leaves) s.1.inputs
         (passes (λ (t : Name × Step). list_all (λ (i : Name × StepInput). list_any (same_name i.0) (leaf_names (strategy_of t.1))) t.1.inputs) v.flow.steps n s wired.leaves stands) takes among
 
     found-at : (instance : JobName) (results : Results) (depth : AreOfDepth v instance results) → Extends results v.events → (g : InstanceStep) (i : In g (steps_with v instance results)) (e : g.step.step ≡ s.0) → (known : IsKnownAt v.flow s g (known_by instance v.events) q l) → feed_found k (feed_numbered v.flow takes.1.from) (constant_in takes.1.from) (drop known.start q) ≡ Some (fault_value known.fault.document)

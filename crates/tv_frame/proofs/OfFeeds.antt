@@ -12,11 +12,11 @@ use Rattle.tv_flow.specs.Flows.{Feed, Flow, Link, constant, input, link, merge, 
 use Rattle.tv_strategy.specs.Levels.{HasLevels}
 use Rattle.tv_strategy.specs.Origins.{fixed, plain}
 use Rattle.tv_strategy.specs.Sources.{Each}
+use Rattle.tv_strategy.proofs.OfEach.{each-weaken}
 use Rattle.tv_naming.specs.Naming.{feed_links, has_name, is_there}
 use Rattle.tv_naming.specs.Numbers.{position}
 use Rattle.tv_depths.specs.Delivered.{Delivered, feed_delivers, link_delivers}
 use Rattle.tv_depths.specs.Ranks.{is_among}
-use Rattle.tv_matching.proofs.Lists.{each-weaken}
 use Rattle.tv_matching.proofs.OfMembers.{each-in}
 use Rattle.tv_parts.specs.Below.{Below}
 use Rattle.tv_parts.specs.Partials.{Partial, whole}

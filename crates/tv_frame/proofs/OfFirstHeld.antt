@@ -15,6 +15,7 @@ use Rattle.tv_flow.specs.Views.{flow_view}
 use Rattle.tv_strategy.specs.Conditions.{Suits, number_of}
 use Rattle.tv_strategy.specs.Measures.{DotsAgree, leaf_names, strategy_depth}
 use Rattle.tv_strategy.specs.Sources.{Each}
+use Rattle.tv_strategy.proofs.OfEach.{each-weaken}
 use Rattle.tv_naming.proofs.FormedParts.{all-pass, passes, step-at, step-inputs}
 use Rattle.tv_naming.proofs.OfTold.{got-in}
 use Rattle.tv_depths.specs.Steps.{strategy_of}
@@ -29,7 +30,6 @@ use Rattle.tv_wires.specs.declared.ports.Port.{Port}
 use Rattle.tv_wires.specs.Ports.{levels_of, ports_of}
 use Rattle.tv_matching.specs.Matchers.{CanTellAll, leaf_name}
 use Rattle.tv_matching.specs.Told.{Told, telling, told_leaf}
-use Rattle.tv_matching.proofs.Lists.{each-weaken}
 use Rattle.tv_matching.proofs.OfMembers.{each-permutes}
 use Rattle.tv_matching.proofs.Onces.{each-flat}
 use Rattle.tv_match.specs.declared.told.Told as code

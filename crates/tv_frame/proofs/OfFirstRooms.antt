@@ -15,6 +15,7 @@ use Rattle.tv_lemmas.proofs.Cases.{on_either}
 use Rattle.tv_strategy.specs.Conditions.{number_of}
 use Rattle.tv_strategy.specs.Measures.{strategy_depth}
 use Rattle.tv_strategy.specs.Sources.{Each}
+use Rattle.tv_strategy.proofs.OfEach.{each-weaken}
 use Rattle.tv_check.specs.declared.plans.FlowPlan.{FlowPlan}
 use Rattle.tv_check.specs.declared.plans.StepPlan.{StepPlan}
 use Rattle.tv_check.specs.Plans as plan
@@ -29,7 +30,7 @@ use Rattle.tv_matching.specs.Items.{Item, Kind, closes, ends, passes}
 use Rattle.tv_matching.specs.Levels.{KindAt}
 use Rattle.tv_matching.specs.Matchers.{Outcome, all_out, fault_at, job_at, list_at, out}
 use Rattle.tv_matching.specs.Told.{Spot, matched_after}
-use Rattle.tv_matching.proofs.Lists.{each-map, each-weaken}
+use Rattle.tv_matching.proofs.Lists.{each-map}
 use Rattle.tv_matching.proofs.OfLaws.{matches-once}
 use Rattle.tv_matching.proofs.OfMembers.{each-permutes}
 use Rattle.tv_match.specs.declared.matchers.Matcher.{Matcher}

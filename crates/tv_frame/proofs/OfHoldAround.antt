@@ -1,7 +1,7 @@
 -- What a frame has around an event that its steps are asked to hold: each feed is of what is there.
 use Rattle.std.specs.List.{list_all, range_with_len}
 use Rattle.std.specs.Option.{option_map_or}
-use Rattle.std.specs.Prelude.{◌≡◌, refl, ℕ, zero, suc, ◌+◌, ◌<◌, Bool, true, filter, flat_map, List, [], ◌∷◌, length, map, Option, Some, None, replicate, slice_get, slice_index_or}
+use Rattle.std.specs.Prelude.{◌≡◌, refl, ℕ, zero, suc, ◌+◌, ◌<◌, true, filter, flat_map, List, [], ◌∷◌, length, map, Option, Some, None, replicate, slice_get, slice_index_or}
 use Rattle.std.proofs.Common.{arith, sym, ap, subst, ◌∙◌}
 use Rattle.std.proofs.lemmas.Bool.{and_parts}
 use Rattle.std.proofs.lemmas.List.{length-append, length-map, length-replicate}
@@ -13,12 +13,13 @@ use Rattle.tv_flow.specs.Views.{flow_view}
 use Rattle.tv_strategy.specs.Conditions.{number_of}
 use Rattle.tv_strategy.specs.Measures.{leaf_names, strategy_depth}
 use Rattle.tv_strategy.specs.Sources.{Each}
+use Rattle.tv_strategy.proofs.OfEach.{each-passes, each-weaken}
 use Rattle.tv_naming.specs.Naming.{feed_links, is_there}
 use Rattle.tv_naming.specs.Numbers.{position}
 use Rattle.tv_naming.proofs.ByPosition.{there}
 use Rattle.tv_naming.proofs.FormedParts.{steps-ascend}
 use Rattle.tv_depths.specs.Steps.{strategy_of}
-use Rattle.tv_matching.proofs.Lists.{each-map, each-weaken}
+use Rattle.tv_matching.proofs.Lists.{each-map}
 use Rattle.tv_cell.specs.PieceValues.{piece_values}
 use Rattle.tv_check.specs.declared.plans.FlowPlan.{FlowPlan}
 use Rattle.tv_check.specs.Plans as theory
@@ -55,10 +56,6 @@ use Rattle.tv_frame.specs.Tables.{at_least_one, first_tree, levels_at, tree_dept
 use Rattle.tv_truly.proofs.OfNumbers.{step-there}
 
 -- ---- lists
-
-each-passes : {A : Type 0} (p : A → Bool) (xs : List A) → list_all p xs ≡ true → Each (λ x. p x ≡ true) xs
-each-passes p [] h = tt
-each-passes p (x ∷ xs) h = let b = and_parts (p x) (list_all p xs) h in (b.0, each-passes p xs b.1)
 
 pub none-past : {A B : Type 0} (xs : List A) (ys : List B) (k : ℕ) → length ys ≡ length xs → slice_get xs k ≡ None → slice_get ys k ≡ None
 none-past xs [] k e h = refl

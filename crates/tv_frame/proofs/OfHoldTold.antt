@@ -16,6 +16,7 @@ use Rattle.tv_flow.specs.Flows.{Flow, Step, StepInput}
 use Rattle.tv_strategy.specs.Measures.{leaf_names}
 use Rattle.tv_strategy.specs.Sources.{Each}
 use Rattle.tv_strategy.proofs.OfSources.{each-append}
+use Rattle.tv_strategy.proofs.OfEach.{each-weaken}
 use Rattle.tv_naming.specs.Naming.{has_name}
 use Rattle.tv_naming.specs.Numbers.{position}
 use Rattle.tv_naming.proofs.ByPosition.{same_name-is, there}
@@ -23,7 +24,7 @@ use Rattle.tv_naming.proofs.FormedParts.{passes, steps-ascend}
 use Rattle.tv_depths.specs.Steps.{strategy_of}
 use Rattle.tv_matching.specs.Matchers.{CanTellAll, leaf_name}
 use Rattle.tv_matching.specs.Told.{told_leaf}
-use Rattle.tv_matching.proofs.Lists.{each-map, each-weaken}
+use Rattle.tv_matching.proofs.Lists.{each-map}
 use Rattle.tv_matching.proofs.OfMembers.{each-from}
 use Rattle.tv_matching.proofs.Onces.{each-flat}
 use Rattle.tv_parts.specs.Partials.{holds_some}
@@ -54,6 +55,7 @@ use Rattle.tv_spread.proofs.OfLaws.{wholes-leaves}
 use Rattle.tv_spread.proofs.OfTold.{along-within, untold}
 use Rattle.tv_model.specs.Instances.{value_given}
 use Rattle.tv_model.specs.Members.{In}
+use Rattle.tv_model.proofs.OfMembers.{of-all}
 use Rattle.tv_instance.specs.Events.{Event, event_step}
 use Rattle.tv_framing.specs.Arriving.{part_so_far}
 use Rattle.tv_framing.specs.Frames.{with_event}
@@ -69,7 +71,6 @@ use Rattle.tv_fed.specs.Fed.{event_number}
 use Rattle.tv_fed.proofs.OfNames.{is-named}
 use Rattle.tv_fed.proofs.OfTold.{told-goes_on}
 use Rattle.tv_fed.proofs.OfWholeSteps.{marks-are_whole_steps, named-there, whole-steps_go_on}
-use Rattle.tv_begun.proofs.OfInstances.{member-passes}
 use Rattle.tv_drawn.specs.Steps.{IsOfRankedFlow, IsStepAt}
 use Rattle.tv_drawn.proofs.OfLaws.{flows-stay, next-can_be_told}
 use Rattle.tv_truly.specs.Known.{IsTrueEvent, IsTrueWhole, tree_of}
@@ -251,7 +252,7 @@ module _ (flows : List (Name × Flow)) (plan : FlowPlan) (pool : Nodes) (f : Fra
 
     leaves-are : (i : Name × StepInput) → In i t.1.inputs → list_any (same_name i.0) (leaf_names (strategy_of t.1)) ≡ true
     leaves-are i g =
-        member-passes (λ (j : Name × StepInput). list_any (same_name j.0) (leaf_names (strategy_of t.1))) t.1.inputs
+        of-all (λ (j : Name × StepInput). list_any (same_name j.0) (leaf_names (strategy_of t.1))) t.1.inputs
         (passes (λ (u : Name × Step). list_all (λ (j : Name × StepInput). list_any (same_name j.0) (leaf_names (strategy_of u.1))) u.1.inputs) v.flow.steps k t wired.leaves at) i g
 
     abbrev many : ℕ

@@ -8,6 +8,7 @@ use Rattle.tv_value.specs.Values.{JobName, Name}
 use Rattle.tv_flow.specs.Flows.{Flow, Step}
 use Rattle.tv_strategy.specs.Iterations.{walk}
 use Rattle.tv_strategy.specs.Origins.{Known, Origin, at_start, by_job, by_level}
+use Rattle.tv_strategy.proofs.OfEach.{each-weaken}
 use Rattle.tv_depths.specs.Ranks.{is_among, ranked}
 use Rattle.tv_cell.specs.declared.piece.Piece.{Piece}
 use Rattle.tv_check.specs.declared.plans.FlowPlan.{FlowPlan}
@@ -24,7 +25,6 @@ use Rattle.tv_instance.specs.Events as events
 use Rattle.tv_instance.specs.Events.{Event, Events, Extends, closed_with, event_place, event_step, fault_set, gave, has_fault, has_result, is_known_by, is_telling, known_by, took}
 use Rattle.tv_instance.specs.Legality.{HasSources, IsFresh, node_of}
 use Rattle.tv_instance.specs.Wholeness.{is_new}
-use Rattle.tv_model.proofs.Turns.{each-map}
 use Rattle.tv_framing.specs.Answers.{IsReadyJob, has_ended_now, numbered}
 use Rattle.tv_framing.specs.Arriving.{levels_below}
 use Rattle.tv_framing.specs.Frames.{with_event}
@@ -128,7 +128,7 @@ module _ (flows : List (Name × Flow)) (plan : FlowPlan) (pool : Nodes) (f : Fra
 
   told-so : (t : Name) (ts : List Told) → StepIsTold (with_event v e []) t ts → StepIsTold (with_event w e []) t ts
   told-so t ts was instance results depth x g i name =
-      each-map (PortIsTold instance (e ∷ v.events) ts) (PortIsTold instance (e ∷ took j.0 j.1 ∷ v.events) ts)
+      each-weaken (PortIsTold instance (e ∷ v.events) ts) (PortIsTold instance (e ∷ took j.0 j.1 ∷ v.events) ts)
       (λ d a values same. subst (λ (o : Origin → Bool). IsPermutation (map (seen values) (told_to ts d.0)) (known_items o (walk d.0 d.1.mismatch d.1.value))) (λ i o. known-so j.0 j.1 v.events instance e o i) (a values same))
       g.step.inputs (was instance results depth (extends-so j.0 j.1 v.events results e x) g i name)
 

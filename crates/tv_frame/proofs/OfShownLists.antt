@@ -6,9 +6,9 @@ use Rattle.std.proofs.lemmas.Bool.{eqb-true, true≢false, ne_eqb}
 use Rattle.std.proofs.lemmas.List.Elements.{filter-append}
 use Rattle.std.proofs.lemmas.List.{map-append}
 use Rattle.tv_strategy.specs.Sources.{Each}
+use Rattle.tv_strategy.proofs.OfEach.{each-weaken}
 use Rattle.tv_lemmas.proofs.Cases.{on_test}
 use Rattle.tv_matching.specs.Matchers.{Outcome}
-use Rattle.tv_matching.proofs.Lists.{each-weaken}
 use Rattle.tv_naming.specs.Naming.{numbered}
 use Rattle.tv_spread.specs.Spreads.{IsAscending}
 use Rattle.tv_frame.specs.Kept.{things_of}

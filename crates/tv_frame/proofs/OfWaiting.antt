@@ -21,6 +21,7 @@ use Rattle.tv_intake.proofs.OfIntakes.{step-within, waiting-there}
 use Rattle.tv_outputs.specs.Known.{Nodes}
 use Rattle.tv_instance.specs.Events.{Event, Events, closed, has_level}
 use Rattle.tv_model.specs.Members.{In}
+use Rattle.tv_model.proofs.OfMembers.{of-filter}
 use Rattle.tv_framing.specs.Answers.{CanSettle, NothingSettles}
 use Rattle.tv_framing.specs.Views.{View}
 use Rattle.tv_drawn.specs.Steps.{IsStepAt}
@@ -28,7 +29,6 @@ use Rattle.tv_drawn.specs.Waiting.{is_waiting, waiting_of}
 use Rattle.tv_drawn.proofs.OfLaws.{nothing-settles, waiting_lists-can_settle}
 use Rattle.tv_drawn.proofs.OfRanks.{at-in}
 use Rattle.tv_drawn.proofs.OfWaiting.{in-filter}
-use Rattle.tv_truly.proofs.OfWires.{of-filter}
 use Rattle.tv_frame.specs.declared.frame.Frame.{Frame}
 use Rattle.tv_frame.specs.Calls.{Brings, IsReadyToSettle}
 use Rattle.tv_frame.specs.Kept.{Keeps, followed_by, things_of}

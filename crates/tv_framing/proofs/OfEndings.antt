@@ -11,6 +11,7 @@ use Rattle.tv_value.specs.Values.{JobName, Name}
 use Rattle.tv_flow.specs.Flows.{Flow, Step}
 use Rattle.tv_strategy.specs.Levels.{HasLevels}
 use Rattle.tv_strategy.specs.Sources.{Each}
+use Rattle.tv_strategy.proofs.OfEach.{each-weaken}
 use Rattle.tv_depths.specs.Delivered.{Delivered}
 use Rattle.tv_depths.specs.Ranks.{is_among, ranked}
 use Rattle.tv_depths.specs.Steps.{spot}
@@ -32,7 +33,6 @@ use Rattle.tv_instances.proofs.OfCounting.{step-whole_by}
 use Rattle.tv_instances.proofs.OfLegal.{legal-fit}
 use Rattle.tv_instances.specs.Stated.{HasItsLevels, IsCounted}
 use Rattle.tv_instances.proofs.OfLevels.{steps-have_their_levels}
-use Rattle.tv_model.proofs.Turns.{each-map}
 
 module _ (flows : List (Name × Flow)) (v : View) (w : IsFrame v) (agree : FlowAgrees flows v.flow) (have : InputsHave v.flow.inputs v.inputs) (levels : Name → ℕ) (are : AreLevels levels v.flow.inputs [] (ranked v.flow.steps)) where
   abbrev given : List (Name × Delivered)
@@ -40,7 +40,7 @@ module _ (flows : List (Name × Flow)) (v : View) (w : IsFrame v) (agree : FlowA
 
   pub leveled-in_all : InAll v (λ instance results fs. Each (λ (f : InstanceStep). HasLevels f.step.iteration (levels f.step.step)) fs)
   leveled-in_all instance results depth x =
-      each-map (HasItsLevels levels) (λ (f : InstanceStep). HasLevels f.step.iteration (levels f.step.step)) (λ f h. h.levels_told) (steps_with v instance results)
+      each-weaken (HasItsLevels levels) (λ (f : InstanceStep). HasLevels f.step.iteration (levels f.step.step)) (λ f h. h.levels_told) (steps_with v instance results)
       (steps-have_their_levels flows v.flow agree v.inputs have instance results depth levels are)
 
   counted : InAll v (λ instance results fs. Each (IsCounted v.events levels) fs)

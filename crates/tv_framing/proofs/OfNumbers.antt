@@ -13,9 +13,9 @@ use Rattle.tv_strategy.specs.Origins.{Origin}
 use Rattle.tv_strategy.specs.Sources.{Each}
 use Rattle.tv_strategy.specs.Splits.{same_place}
 use Rattle.tv_strategy.proofs.OfPlaces.{same-itself}
+use Rattle.tv_strategy.proofs.OfEach.{each-weaken}
 use Rattle.tv_matching.specs.Items.{Bound, Item, Kind, Stopped, closes, ends, if_so, item, known_items, passes}
 use Rattle.tv_matching.specs.Members.{at_place}
-use Rattle.tv_matching.proofs.Lists.{each-weaken}
 use Rattle.tv_matching.proofs.Onces.{known-once}
 use Rattle.tv_instance.specs.ByResults.{InstanceStep}
 use Rattle.tv_instance.specs.Events.{known_by}

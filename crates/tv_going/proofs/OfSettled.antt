@@ -11,6 +11,7 @@ use Rattle.tv_value.proofs.OfJobNames.{same_job_decides}
 use Rattle.tv_gate.specs.Outcomes.{Giving}
 use Rattle.tv_flow.specs.Flows.{Document, Flow, Step}
 use Rattle.tv_strategy.specs.Origins.{Origin, Traced, plain}
+use Rattle.tv_strategy.proofs.OfEach.{each-all}
 use Rattle.tv_dispatch.specs.Jobs.{Fate, Taken, opens, right, taken, tries, wrong}
 use Rattle.tv_depths.specs.Ranks.{ranked}
 use Rattle.tv_depths.specs.Steps.{declared_depths, spot}
@@ -22,7 +23,6 @@ use Rattle.tv_model.specs.Meanings.{flow_meaning, meaning}
 use Rattle.tv_model.specs.Members.{In}
 use Rattle.tv_model.specs.Turns.{is_bounced}
 use Rattle.tv_model.proofs.Earlier.{job_list}
-use Rattle.tv_model.proofs.Fed.{each-all}
 use Rattle.tv_model.proofs.Formed.{AreFormed, distinct-apart}
 use Rattle.tv_model.proofs.Instances.{given-free, instance-formed}
 use Rattle.tv_model.proofs.Members.{Apart, each_in, of-flat, once-of_apart}

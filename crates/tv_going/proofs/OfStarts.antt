@@ -27,6 +27,7 @@ use Rattle.tv_naming.specs.Naming.{has_name}
 use Rattle.tv_naming.proofs.FormedParts.{all-pass, ascending, document-flows, flow-inputs, named-passes}
 use Rattle.tv_depths.specs.Steps.{spot}
 use Rattle.tv_strategy.specs.Sources.{Each}
+use Rattle.tv_strategy.proofs.OfEach.{each-weaken}
 use Rattle.tv_check.specs.Passes.{checked, complaints}
 use Rattle.tv_check.proofs.Accepting.{first-none}
 use Rattle.tv_check.proofs.Inside.{nil-each, silent}
@@ -42,10 +43,10 @@ use Rattle.tv_model.specs.RightDepths.{HaveTheseDepths}
 use Rattle.tv_model.specs.Turns.{is_bounced}
 use Rattle.tv_model.proofs.Members.{each_in}
 use Rattle.tv_model.proofs.Order.{of-map}
-use Rattle.tv_model.proofs.Turns.{each-map}
 use Rattle.tv_model.proofs.Tests.{true≠false}
+use Rattle.tv_model.proofs.OfMembers.{of-all}
 use Rattle.tv_history.specs.Histories.{is_settled, is_settled_name}
-use Rattle.tv_history.proofs.Tests.{all_in, found_in}
+use Rattle.tv_history.proofs.Tests.{found_in}
 use Rattle.tv_outcomes.proofs.Read.{documents-have_activities}
 use Rattle.tv_outcomes.proofs.Tried.{document-tried}
 use Rattle.tv_agreed.proofs.Accepted.{accepted-agrees}
@@ -115,7 +116,7 @@ one-order (x ∷ xs) (y ∷ ys) a b f g =
     (one-order xs ys (rises x xs a) (rises y ys b) (λ n i. later x y xs ys a same n i (f n (inr i))) (λ n i. later y x ys xs b (sym same) n i (g n (inr i))))
   where
     above : (z : Name) (zs : List Name) → is_ascending (z ∷ zs) ≡ true → (n : Name) → In n zs → is_lt (name_cmp z n) ≡ true
-    above z zs h n i = all_in (λ k. is_lt (name_cmp z k)) zs (first_so (list_all (λ k. is_lt (name_cmp z k)) zs) (is_ascending zs) h) n i
+    above z zs h n i = of-all (λ k. is_lt (name_cmp z k)) zs (first_so (list_all (λ k. is_lt (name_cmp z k)) zs) (is_ascending zs) h) n i
 
     rises : (z : Name) (zs : List Name) → is_ascending (z ∷ zs) ≡ true → is_ascending zs ≡ true
     rises z zs h = second_so (list_all (λ k. is_lt (name_cmp z k)) zs) (is_ascending zs) h
@@ -201,9 +202,9 @@ inputs-are_in_order d flow is = record {
         let p = append-none (missing ++ unknown) (flat_map (depth_against flow.inputs) d.inputs) nothing_said in
         let q = append-none missing unknown p.0 in
         let known =
-        each-map (λ v. unknown_against flow.inputs v ≡ []) (λ v. has_name flow.inputs v.0 ≡ true)
+        each-weaken (λ v. unknown_against flow.inputs v ≡ []) (λ v. has_name flow.inputs v.0 ≡ true)
         (λ v e. silent (has_name flow.inputs v.0) (plainly input_unknown (at_given v.0)) e) d.inputs (nil-each (unknown_against flow.inputs) d.inputs q.1) in
         let given =
-        each-map (λ x. missing_against d.inputs x ≡ []) (λ x. has_name d.inputs x.0 ≡ true)
+        each-weaken (λ x. missing_against d.inputs x ≡ []) (λ x. has_name d.inputs x.0 ≡ true)
         (λ x e. silent (has_name d.inputs x.0) (plainly input_missing (at_given x.0)) e) flow.inputs (nil-each (missing_against d.inputs) flow.inputs q.0) in
         one-order (map (λ x. x.0) d.inputs) (map (λ x. x.0) flow.inputs) given_rise inputs_rise (all-in d.inputs flow.inputs known) (all-in flow.inputs d.inputs given)

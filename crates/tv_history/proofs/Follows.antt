@@ -28,6 +28,7 @@ use Rattle.tv_model.proofs.Order.{opened_order, turn_of, in-right, some_in, wait
 use Rattle.tv_history.proofs.Running.{settled_of_name, idle_begun, going_on, ready-needs}
 use Rattle.tv_model.proofs.Members.{in-flat, of-flat, Apart, once-of_apart, each_in, any-in}
 use Rattle.tv_model.proofs.Whole.{IsWhole}
+use Rattle.tv_model.proofs.OfMembers.{of-all, of-filter as passing-in}
 use Rattle.tv_history.proofs.Ready.{all-sound, are-jobs, no-bounce, waits-known}
 use Rattle.tv_history.proofs.Stuck.{AtLeastOne, begun-tried, settled-name}
 use Rattle.tv_history.proofs.Done.{nothing_first, of-next, settled-none}
@@ -35,7 +36,7 @@ use Rattle.tv_history.proofs.Sums.{accepted_name, accepted-owned, bounces-it, bo
 use Rattle.tv_history.proofs.Permuted.{NamedTry, entry_try, ask_try}
 use Rattle.tv_history.proofs.OneWorker.{Before, IsLaidOut, is_by_one, is_by_one_after, OneRuns, OthersWait, newly-settled, accepted-begun, ended-begun, Begins, begins-first, none-settles, one-worker, not-both}
 use Rattle.tv_history.proofs.Taking.{Skipped, skip, NonePasses, turn-taken, join-append}
-use Rattle.tv_history.proofs.Tests.{all_in, none_pass, passing-in}
+use Rattle.tv_history.proofs.Tests.{none_pass}
 pub use Rattle.tv_history.specs.Alone.{IsFirstPart, HaveTries}
 
 -- ---- what was tried of some jobs
@@ -219,7 +220,7 @@ module _ (gives : Giving) (m : Meaning) where
         after = second_so (is_legal gives m past) (is_legal_after gives m past e) l
 
         new : (is_bounced_entry j.name e ≡ true) ⊎ ((is_accepted j.name e ≡ true) ⊎ (is_ended_entry j.name e ≡ true)) → is_settled_name m past n ≡ true
-        new (inl k) = all_in (is_settled_name m past) (job_needs j) (ready-needs gives m (all-sound gives AtLeastOne m [] w) (are-jobs gives AtLeastOne m [] w) past j i legal (first_so (is_ready m past j) (is_bounced j.ending) (bounces-it gives AtLeastOne m w past j i (legal-of gives m past e after) k))) n h
+        new (inl k) = of-all (is_settled_name m past) (job_needs j) (ready-needs gives m (all-sound gives AtLeastOne m [] w) (are-jobs gives AtLeastOne m [] w) past j i legal (first_so (is_ready m past j) (is_bounced j.ending) (bounces-it gives AtLeastOne m w past j i (legal-of gives m past e after) k))) n h
         new (inr (inl k)) = absurd (true≠false (sym b ∙ begun-tried gives AtLeastOne m w past j i legal (accepted-begun gives m w laid past j (legal-of gives m past e after) k)))
         new (inr (inr k)) = absurd (true≠false (sym b ∙ begun-tried gives AtLeastOne m w past j i legal (ended-begun gives m w laid past j i (legal-of gives m past e after) k)))
 
@@ -513,7 +514,7 @@ module _ (gives : Giving) (m : Meaning) where
           c_passes : all_done skipped.taken (turn_of c).needs ≡ true
           c_passes =
               let r = rated (turn_of c) (in-waiting c os ci) in
-              taken-if_settled r.0 (turn_of c) r.1 (λ n h. all_in (is_settled_name m past) (job_needs c.job) (ready-needs gives m (all-sound gives AtLeastOne m [] w) (are-jobs gives AtLeastOne m [] w) past c.job (own c ci).mine l ready_c) n h)
+              taken-if_settled r.0 (turn_of c) r.1 (λ n h. of-all (is_settled_name m past) (job_needs c.job) (ready-needs gives m (all-sound gives AtLeastOne m [] w) (are-jobs gives AtLeastOne m [] w) past c.job (own c ci).mine l ready_c) n h)
 
           -- the turns left, with c's in its place
           map_parts : map turn_of st.xs ≡ map turn_of parts.us ++ turn_of c ∷ map turn_of parts.vs

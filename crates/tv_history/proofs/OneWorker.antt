@@ -28,12 +28,13 @@ use Rattle.tv_history.proofs.Running.{opened_begins, out-begun, settled_of_name,
 use Rattle.tv_model.proofs.Members.{each_in, Apart}
 use Rattle.tv_model.proofs.Grounds.{GroundedBy}
 use Rattle.tv_model.proofs.Whole.{GroundedIn, IsWhole}
+use Rattle.tv_model.proofs.OfMembers.{of-all}
 use Rattle.tv_history.proofs.Ready.{all-sound, are-jobs, no-bounce, waits-known}
 use Rattle.tv_history.proofs.Stuck.{AtLeastOne, settled-name, goes, running-within}
 use Rattle.tv_history.proofs.Done.{ends-it}
 use Rattle.tv_history.proofs.Sums.{bounces-it}
 use Rattle.tv_history.proofs.Bounded.{ready-parts}
-use Rattle.tv_history.proofs.Tests.{all_in, any_weaken, fails_in, full, all-fails}
+use Rattle.tv_history.proofs.Tests.{any_weaken, fails_in, full, all-fails}
 pub use Rattle.tv_history.specs.Alone.{nobody_out, is_by_one_after, is_by_one}
 
 -- ---- before in a list
@@ -179,7 +180,7 @@ module _ (gives : Giving) (m : Meaning) where
       pub first : (x : Job) → In x m.jobs → (is_offered m past x || can_open m past x) ≡ true → (x ≡ j) ⊎ Before j x m.jobs
 
     none-out_of : (past : History) → nobody_out m past ≡ true → (x : Job) → In x m.jobs → is_out past x.name ≡ false
-    none-out_of past h x i = not-true (is_out past x.name) (all_in (λ j. not (is_out past j.name)) m.jobs h x i)
+    none-out_of past h x i = not-true (is_out past x.name) (of-all (λ j. not (is_out past j.name)) m.jobs h x i)
 
     pub begins-first : (past : History) (e : Entry) (j : Job) → In j m.jobs → is_legal_after gives m past e ≡ true → is_by_one_after m past e ≡ true → is_begun_entry j.name e ≡ true → Begins past j
     begins-first past (handed_out n c t) j i l b h =

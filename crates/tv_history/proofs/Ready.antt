@@ -13,6 +13,7 @@ use Rattle.tv_value.specs.Values.{Name, JobName}
 use Rattle.tv_value.proofs.OfJobNames.{same_job_decides}
 use Rattle.tv_flow.specs.Flows.{Document}
 use Rattle.tv_strategy.specs.Origins.{Origin, Known, at_start, by_job, by_level, needs_of}
+use Rattle.tv_strategy.proofs.OfEach.{each-all, each-weaken}
 use Rattle.tv_gate.specs.Outcomes.{Giving}
 use Rattle.tv_dispatch.specs.Jobs.{Ask}
 use Rattle.tv_model.specs.Jobs.{Job, job_needs}
@@ -25,15 +26,15 @@ use Rattle.tv_model.specs.Lists.{rest_of, first_of_list}
 use Rattle.tv_history.specs.Histories.{asks_left, is_settled_name, has_entry, is_known, all_known, can_bounce, can_settle, can_end, instances, can_settle_more, is_open, is_legal, is_offered, is_offered_by_meaning}
 use Rattle.tv_model.proofs.Tests.{Each, true≠false, both_true}
 use Rattle.tv_history.proofs.Needs.{IsSourced, IsSoundAt, IsSound, AllSound, known-needs, needs_of-settled}
-use Rattle.tv_model.proofs.Turns.{In, each-map}
-use Rattle.tv_model.proofs.Fed.{each-all}
+use Rattle.tv_model.proofs.Turns.{In}
 use Rattle.tv_model.proofs.Sound.{level-node}
 use Rattle.tv_history.proofs.Running.{AreJobs, offered-by_meaning}
-use Rattle.tv_history.proofs.Tests.{all_in, false_left, none_pass, rest-in}
+use Rattle.tv_history.proofs.Tests.{false_left, none_pass, rest-in}
 use Rattle.tv_model.proofs.Members.{each_in, in_each, of-flat, of-options, once-of_apart, nodes-apart, snoc-parts}
 use Rattle.tv_model.proofs.Grounds.{GroundedBy}
 use Rattle.tv_model.proofs.Whole.{step_key, GroundedIn, IsWhole, StepsHave}
 pub use Rattle.tv_model.proofs.Whole.{AnyNumber, meaning-whole}
+use Rattle.tv_model.proofs.OfMembers.{of-all}
 
 pub asks_left-none : (past : History) (n : JobName) → asks_left past n [] ≡ []
 asks_left-none [] n = refl
@@ -83,14 +84,14 @@ module _ (gives : Giving) (D : ℕ → Type 0) (m : Meaning) (I : JobName) (w : 
   ground-sound J (suc k) o h = sound-by J (λ s. GroundedIn gives D m J k s) o o.known h
 
   pub all-sound : AllSound gives m
-  all-sound = in_each (λ l. Each (IsSound gives m) l.sources) (levels m.steps) (λ l i. let g = w.sources l i in each-map (GroundedIn gives D m l.instance g.0) (IsSound gives m) (ground-sound l.instance g.0) l.sources g.1)
+  all-sound = in_each (λ l. Each (IsSound gives m) l.sources) (levels m.steps) (λ l i. let g = w.sources l i in each-weaken (GroundedIn gives D m l.instance g.0) (IsSound gives m) (ground-sound l.instance g.0) l.sources g.1)
 
   pub are-jobs : AreJobs gives m
   are-jobs = record {
     once = once-of_apart (λ j. j.name) m.jobs w.jobs_apart;
     has_name = λ j i. first_part j.instance (w.jobs j i).key j.name (w.jobs j i).named;
-    in_step = λ j i. let t = (w.jobs j i).of_step in (t.0, t.1, t.2, λ past h. subst (λ q. is_known m past q ≡ true) t.5 (all_in (λ o. is_known m past o.known) t.0.ending h t.3 t.4));
-    sound = λ j i. let g = (w.jobs j i).waits in each-map (GroundedIn gives D m j.instance g.0) (IsSound gives m) (ground-sound j.instance g.0) j.waits g.1;
+    in_step = λ j i. let t = (w.jobs j i).of_step in (t.0, t.1, t.2, λ past h. subst (λ q. is_known m past q ≡ true) t.5 (of-all (λ o. is_known m past o.known) t.0.ending h t.3 t.4));
+    sound = λ j i. let g = (w.jobs j i).waits in each-weaken (GroundedIn gives D m j.instance g.0) (IsSound gives m) (ground-sound j.instance g.0) j.waits g.1;
     bounced_asks = λ j i b past. ap is_first (ap (asks_left past j.name) ((w.jobs j i).no_asks b) ∙ asks_left-none past j.name);
   }
     where

@@ -5,7 +5,7 @@ use Rattle.std.proofs.Common.{sym, subst, ◌∙◌, inl, inr}
 use Rattle.std.proofs.lemmas.Bool.{not-true}
 use Rattle.std.specs.Cmp.{first_so, second_so}
 use Rattle.tv_history.proofs.Legal.{last-legal, legal-of, Legal, hands, bounces, opens, ends}
-use Rattle.tv_history.proofs.Tests.{found_in, all_in, any_weaken}
+use Rattle.tv_history.proofs.Tests.{found_in, any_weaken}
 use Rattle.tv_lemmas.proofs.Cases.{on_test, on_either, on_or}
 use Rattle.tv_lemmas.proofs.Lists.{all-weaken}
 use Rattle.tv_value.specs.Values.{Name, JobName}
@@ -21,6 +21,7 @@ use Rattle.tv_history.specs.Histories.{next_ask, is_settled, is_settled_name, al
 use Rattle.tv_model.proofs.Tests.{Each, true≠false, both_true, or_right}
 use Rattle.tv_history.proofs.Needs.{AllSound, IsSound, stays_settled, stays_settled_name, known-needs, needs_of-settled}
 use Rattle.tv_model.proofs.Turns.{In}
+use Rattle.tv_model.proofs.OfMembers.{of-all}
 
 pub handed_case : (b x y : Bool) → (x ≡ true → y ≡ true) → (if b then true else x) ≡ true → (b || y) ≡ true
 handed_case true x y f h = refl
@@ -139,7 +140,7 @@ module _ (gives : Giving) (m : Meaning) where
     ended-settled past j i (ends n l) h =
         let s = w.in_step j i in
         let same = (same_job_decides n s.0.instance).1 (sym ((same_job_decides j.instance n).0 h) ∙ sym s.2) in
-        let all = all_in (λ t. if same_job n t.instance then all_known m past t.ending else true) m.steps (second_so (is_open past n) (list_all (λ t. if same_job n t.instance then all_known m past t.ending else true) m.steps) l) s.0 s.1 in
+        let all = of-all (λ t. if same_job n t.instance then all_known m past t.ending else true) m.steps (second_so (is_open past n) (list_all (λ t. if same_job n t.instance then all_known m past t.ending else true) m.steps) l) s.0 s.1 in
         settled_of_name past j i (s.3 past (subst (λ b. (if b then all_known m past s.0.ending else true) ≡ true) same all))
     ended-settled past j i l h = absurd (true≠false (sym h))
 

@@ -3,7 +3,6 @@ use Rattle.std.specs.Prelude.{◌≡◌, refl, ℕ, zero, suc, ◌+◌, ◌≤�
 use Rattle.std.specs.List.{list_any}
 use Rattle.std.specs.Option.{option_map_or}
 use Rattle.std.proofs.Common.{arith, sym, ap, subst, ◌∙◌, inl, inr, length-append}
-use Rattle.tv_history.proofs.Tests.{all_in}
 use Rattle.tv_lemmas.proofs.Cases.{on_either, on_or}
 use Rattle.tv_value.specs.Values.{JobName}
 use Rattle.tv_value.specs.Orders.{same_job}
@@ -12,6 +11,7 @@ use Rattle.tv_model.specs.Turns.{Turn, all_done, first_turn, asks_by_turns}
 use Rattle.tv_model.proofs.Tests.{or_right}
 use Rattle.tv_model.proofs.Turns.{In, or_left}
 use Rattle.tv_model.proofs.Order.{in-append, in-left, in-right}
+use Rattle.tv_model.proofs.OfMembers.{of-all}
 
 abbrev pub NonePasses : List JobName → List Turn → Type 0
 NonePasses done ts = (t : Turn) → In t ts → all_done done t.needs ≡ false
@@ -121,4 +121,4 @@ module _ (S : JobName → Type 0) (xs : List Turn) where
           within b h = subst (λ l. In b l) (sym p.whole) (on_either (in-append b p.front p.back h) (λ i. in-left b p.front (p.turn ∷ p.back) i) (λ i. in-right b p.front (p.turn ∷ p.back) (inr i)))
 
           settled_now : DoneIn (p.turn.name ∷ done)
-          settled_now k h = on_or (same_job k p.turn.name) (list_any (same_job k) done) h (λ q. subst S (sym ((same_job_decides k p.turn.name).0 q)) (c p.turn here (λ x i. d x (all_in (λ y. list_any (same_job y) done) p.turn.needs p.passes x i)))) (λ q. d k q)
+          settled_now k h = on_or (same_job k p.turn.name) (list_any (same_job k) done) h (λ q. subst S (sym ((same_job_decides k p.turn.name).0 q)) (c p.turn here (λ x i. d x (of-all (λ y. list_any (same_job y) done) p.turn.needs p.passes x i)))) (λ q. d k q)

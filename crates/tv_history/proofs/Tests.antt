@@ -1,12 +1,11 @@
 -- Tests of a list by its members, and of two tests at once.
-use Rattle.std.specs.Prelude.{◌≡◌, refl, ℕ, ◌+◌, ◌≤◌, ◌⊎◌, List, [], ◌∷◌, Bool, true, false, ◌&&◌, ◌||◌, if◌then◌else◌, cond, Some, nat_lt, count_by, find, filter}
+use Rattle.std.specs.Prelude.{◌≡◌, refl, ℕ, ◌+◌, ◌≤◌, ◌⊎◌, List, [], ◌∷◌, Bool, true, false, ◌&&◌, ◌||◌, if◌then◌else◌, cond, Some, nat_lt, count_by, find}
 use Rattle.std.specs.List.{list_any, list_all}
 use Rattle.std.specs.Option.{option_map_or}
 use Rattle.std.proofs.Common.{arith, sym, ap, subst, ◌∙◌, inl, inr}
 use Rattle.std.proofs.lemmas.Bool.{false_from_ne_true, lt-ltb}
 use Rattle.std.proofs.lemmas.List.Sums.{sum_by-cons}
 use Rattle.std.proofs.lemmas.Option.{same_Some, none-some}
-use Rattle.std.specs.Cmp.{first_so, second_so}
 use Rattle.tv_value.specs.Orders.{same_job}
 use Rattle.tv_value.specs.Values.{JobName}
 use Rattle.tv_value.proofs.OfJobNames.{same_job_decides}
@@ -15,6 +14,7 @@ use Rattle.tv_lemmas.proofs.Cases.{on_either, on_or}
 use Rattle.tv_lemmas.proofs.Tests.{or-second}
 use Rattle.tv_model.proofs.Tests.{Each, true≠false, or_right}
 use Rattle.tv_model.proofs.Turns.{In, or_left}
+use Rattle.tv_model.proofs.OfMembers.{of-all}
 
 pub false_left : (a b : Bool) → (a || b) ≡ false → a ≡ false
 false_left true b h = h
@@ -33,11 +33,6 @@ pub none_pass : {A : Type 0} (p : A → Bool) (xs : List A) → list_any p xs �
 none_pass p [] h = tt
 none_pass p (x ∷ xs) h = (false_left (p x) (list_any p xs) h, none_pass p xs (or-second (p x) (list_any p xs) h))
 
-pub all_in : {A : Type 0} (p : A → Bool) (xs : List A) → list_all p xs ≡ true → (x : A) → In x xs → p x ≡ true
-all_in p [] h x i = absurd i
-all_in p (y ∷ ys) h x (inl e) = subst (λ z. p z ≡ true) (sym e) (first_so (p y) (list_all p ys) h)
-all_in p (y ∷ ys) h x (inr i) = all_in p ys (second_so (p y) (list_all p ys) h) x i
-
 pub any_weaken : {A : Type 0} (p q : A → Bool) → ((x : A) → p x ≡ true → q x ≡ true) → (xs : List A) → list_any p xs ≡ true → list_any q xs ≡ true
 any_weaken p q f [] h = h
 any_weaken p q f (x ∷ xs) h = on_or (p x) (list_any p xs) h (λ k. or_left (q x) (list_any q xs) (f x k)) (λ k. or_right (q x) (list_any q xs) (any_weaken p q f xs k))
@@ -50,14 +45,6 @@ found_in {A = A} p q (x ∷ xs) h = by (q x) refl h (λ k. found_in p q xs k)
     by : (b : Bool) → q x ≡ b → option_map_or p (cond b (Some x) (find q xs)) false ≡ true → (option_map_or p (find q xs) false ≡ true → (y : A) × In y xs × (q y ≡ true) × (p y ≡ true)) → (y : A) × In y (x ∷ xs) × (q y ≡ true) × (p y ≡ true)
     by true e k rec = (x, inl refl, e, k)
     by false e k rec = let r = rec k in (r.0, inr r.1, r.2, r.3)
-
-pub find-passes : {A : Type 0} (p : A → Bool) (xs : List A) (x : A) → find p xs ≡ Some x → In x xs × (p x ≡ true)
-find-passes p [] x h = absurd (none-some x h)
-find-passes {A = A} p (y ∷ ys) x h = by (p y) refl h (find-passes p ys x)
-  where
-    by : (b : Bool) → p y ≡ b → cond b (Some y) (find p ys) ≡ Some x → (find p ys ≡ Some x → In x ys × (p x ≡ true)) → In x (y ∷ ys) × (p x ≡ true)
-    by true e k rec = let same = same_Some y x k in (inl (sym same), ap p (sym same) ∙ e)
-    by false e k rec = let r = rec k in (inr r.0, r.1)
 
 pub first-in : {A : Type 0} (x : A) (xs : List A) → first_of_list xs ≡ Some x → In x xs
 first-in x [] h = absurd (none-some x h)
@@ -77,7 +64,7 @@ fails_in {A = A} p (x ∷ xs) h = by (p x) refl h (λ k. fails_in p xs k)
     by true e k rec = let r = rec k in (r.0, inr r.1, r.2)
 
 pub all-fails : {A : Type 0} (p : A → Bool) (x : A) (xs : List A) → In x xs → p x ≡ false → list_all p xs ≡ false
-all-fails p x xs h e = false_from_ne_true (list_all p xs) (λ g. true≠false (sym (all_in p xs g x h) ∙ e))
+all-fails p x xs h e = false_from_ne_true (list_all p xs) (λ g. true≠false (sym (of-all p xs g x h) ∙ e))
 
 -- where a count isn't 0, something is counted
 counted : {A : Type 0} (p : A → Bool) (xs : List A) → (count_by p xs ≡ 0) ⊎ ((x : A) × In x xs × (p x ≡ true))
@@ -92,13 +79,3 @@ counted {A = A} p (x ∷ xs) = by (p x) refl (counted p xs)
 -- a place is free, or something is counted
 pub full : {A : Type 0} (p : A → Bool) (xs : List A) (limit : ℕ) → 1 ≤ limit → nat_lt (count_by p xs) limit ≡ false → (x : A) × In x xs × (p x ≡ true)
 full {A = A} p xs limit w h = on_either (counted p xs) (λ e. absurd (true≠false (sym (lt-ltb 0 limit w) ∙ subst (λ n. nat_lt n limit ≡ false) e h))) (λ r. r)
-
--- what a filter leaves is a member and passes
-pub passing-in : {A : Type 0} (p : A → Bool) (y : A) (xs : List A) → In y (filter p xs) → In y xs × (p y ≡ true)
-passing-in p y [] h = absurd h
-passing-in {A = A} p y (x ∷ xs) h = by (p x) refl h (λ k. passing-in p y xs k)
-  where
-    by : (b : Bool) → p x ≡ b → In y (cond b (x ∷ filter p xs) (filter p xs)) → (In y (filter p xs) → In y xs × (p y ≡ true)) → In y (x ∷ xs) × (p y ≡ true)
-    by true e (inl q) rec = (inl q, ap p q ∙ e)
-    by true e (inr k) rec = let r = rec k in (inr r.0, r.1)
-    by false e k rec = let r = rec k in (inr r.0, r.1)

@@ -1,8 +1,6 @@
 -- The results of a meaning's own jobs are of the declared depths, where each of its jobs gives values of these.
-use Rattle.std.specs.Prelude.{◌≡◌, refl, ℕ, zero, suc, List, [], ◌∷◌, ◌++◌, Bool, true, false, cond, Some, find, map, slice_get, unwrap_or}
-use Rattle.std.specs.Option.{option_map_or}
-use Rattle.std.proofs.Common.{sym, ap, ap₂, subst, ◌∙◌, inl, inr}
-use Rattle.std.proofs.lemmas.Bool.{true≢false}
+use Rattle.std.specs.Prelude.{◌≡◌, refl, ℕ, zero, suc, List, [], ◌∷◌, ◌++◌, map, slice_get, unwrap_or}
+use Rattle.std.proofs.Common.{sym, ap, ap₂, subst, inl}
 use Rattle.tv_value.specs.Nested.{leaf, list, no_trees, tree, Place, nodes}
 use Rattle.tv_value.specs.Orders.{same_job}
 use Rattle.tv_value.specs.Values.{HasDepth, JobName, Name, Value}
@@ -23,6 +21,7 @@ use Rattle.tv_model.specs.Members.{In}
 use Rattle.tv_model.proofs.Formed.{IsNode, nodes-in}
 use Rattle.tv_model.proofs.Members.{in-flat}
 use Rattle.tv_model.proofs.Sound.{AllStand, AllStandFrom}
+use Rattle.tv_model.proofs.OfDepths.{find-there}
 use Rattle.tv_instance.specs.ByResults.{InstanceStep, Results, result_at, step_by}
 use Rattle.tv_instance.specs.OwnDepths.{AllJobsGive, JobsGive}
 use Rattle.tv_instances.specs.OwnResults.{AllMadeGive, JobOutside, outside_by_results, outside_of_made, results_of}
@@ -57,16 +56,6 @@ module _ (J : Place → Type 0) (K : Place → Iteration → Type 0) (of_job : (
     jobs-of_from : (ts : Iterations) (q : Place) (i : ℕ) → AllStandFrom K q i ts → JobsStandFrom J q i ts
     jobs-of_from no_trees q i h = tt
     jobs-of_from (tree t ts) q i h = (jobs-of t _ h.0, jobs-of_from ts q (suc i) h.1)
-
--- the first job of a name that is there
-find-there : {A B : Type 0} (S : A → Type 0) (R : B → Type 0) (f : A → B) → ((x : A) → S x → R (f x)) → (p : A → Bool) (z : B) (xs : List A) → Each S xs → (x : A) → In x xs → p x ≡ true → R (option_map_or f (find p xs) z)
-find-there S R f g p z [] h x i e = absurd i
-find-there {A = A} S R f g p z (y ∷ ys) h x i e = by (p y) refl i (λ k. find-there S R f g p z ys h.1 x k e)
-  where
-    by : (b : Bool) → p y ≡ b → In x (y ∷ ys) → (In x ys → R (option_map_or f (find p ys) z)) → R (option_map_or f (cond b (Some y) (find p ys)) z)
-    by true k j rec = g y h.0
-    by false k (inl q) rec = absurd (true≢false (sym e ∙ ap p q ∙ k))
-    by false k (inr j) rec = rec j
 
 module _ (gives : Giving) (inside : Name → JobName → List (Name × Value) → Meaning) (instance : JobName) (given : List (Name × Delivered)) (results : Results) where
   module _ (ms : List Made) (n : Name) (s : Step) (give : Each (λ (o : Opened). HaveTheseDepths (declared_depths s) o.job.result) (step_made gives inside instance given ms (n, s)).jobs) where

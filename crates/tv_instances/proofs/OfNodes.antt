@@ -9,10 +9,11 @@ use Rattle.tv_strategy.specs.Origins.{Mark, Origin, Traced, fixed, from_job, fro
 use Rattle.tv_strategy.specs.Iterations.{job, passed, Iteration, Iterations, iteration, walk}
 use Rattle.tv_strategy.specs.Sources.{Each, AtNodes, AtAllNodes, SourcesHave}
 use Rattle.tv_strategy.proofs.OfSources.{each-append, traced-have, walk-have, iteration-have}
+use Rattle.tv_strategy.proofs.OfEach.{each-all}
 use Rattle.tv_depths.specs.Delivered.{Delivered, feed_delivers, link_delivers, nothing_delivered, ported, merged, wrapped}
 use Rattle.tv_depths.specs.Ranks.{is_among}
 use Rattle.tv_depths.specs.Steps.{spot, endings_of, node_origin, port_iteration, strategy_of}
-use Rattle.tv_model.proofs.Fed.{either, named_or, named_map_or, find_map_or, each-flat_map, each-of_map, each-all}
+use Rattle.tv_model.proofs.Fed.{either, named_or, named_map_or, find_map_or, each-flat_map, each-of_map}
 use Rattle.tv_model.proofs.Sound.{AllStand, AllStandFrom, output-gives}
 use Rattle.tv_instance.specs.ByResults.{InstanceStep, Results, outputs_by, ports_on, result_at, step_by, step_of, steps_by}
 use Rattle.tv_instances.specs.OwnNodes.{NodesHave}

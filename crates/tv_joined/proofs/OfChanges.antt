@@ -39,7 +39,7 @@ module _ {A : Type 0} where
   count-within r no_parts (suc i) (suc c) h l = suc-le-suc {m = (part_count (with_part r no_parts i))} (count-within r no_parts i c (omega arith) (less-back i c l))
   count-within r (part p ps) zero c h l = h
   count-within r (part p ps) (suc i) zero h l = absurd (omega arith)
-  count-within r (part p ps) (suc i) (suc c) h l = suc-le-suc {m = (part_count (with_part r ps i))} (count-within r ps i c (le_of_suc-le-suc {n = (part_count ps)} {m = c} h) (less-back i c l))
+  count-within r (part p ps) (suc i) (suc c) h l = suc-le-suc {m = (part_count (with_part r ps i))} (count-within r ps i c (le_of_suc-le-suc {n = part_count ps} {m = c} h) (less-back i c l))
 
   pub count-kept : (r : Partial A) (ps : Parts A) (i : ℕ) → i < part_count ps → part_count (with_part r ps i) ≡ part_count ps
   count-kept r no_parts i l = absurd (omega arith)
@@ -58,7 +58,7 @@ module _ {A : Type 0} where
   count-filled no_parts zero h = refl
   count-filled no_parts (suc n) h = ap (λ m. suc m) (count-filled no_parts n (omega arith))
   count-filled (part p ps) zero h = absurd (omega arith)
-  count-filled (part p ps) (suc n) h = ap (λ m. suc m) (count-filled ps n (le_of_suc-le-suc {n = (part_count ps)} {m = n} h))
+  count-filled (part p ps) (suc n) h = ap (λ m. suc m) (count-filled ps n (le_of_suc-le-suc {n = part_count ps} {m = n} h))
 
   pub known-wanting : (q : Place) → known_at {A = A} q wanting ≡ wanting
   known-wanting [] = refl

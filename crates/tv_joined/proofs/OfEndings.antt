@@ -1,12 +1,12 @@
 -- The steps that have ended by counters are those that have by counting events.
-use Rattle.std.specs.Prelude.{◌≡◌, refl, ℕ, zero, suc, ◌<◌, Bool, true, false, ◌&&◌, ◌||◌, if◌then◌else◌, List, [], ◌∷◌, ◌++◌, Option, Some, None, length, filter, find, is_some, map, not, slice_get, slice_index_or}
+use Rattle.std.specs.Prelude.{◌≡◌, refl, ℕ, zero, suc, ◌<◌, Bool, true, false, ◌&&◌, ◌||◌, if◌then◌else◌, List, [], ◌∷◌, Option, Some, None, length, filter, find, is_some, map, not, slice_get, slice_index_or}
 use Rattle.std.specs.List.{list_all}
 use Rattle.std.specs.Option.{option_map_or}
 use Rattle.std.proofs.Common.{arith, sym, ap, ap₂, subst, ◌∙◌}
 use Rattle.std.proofs.lemmas.Bool.{and_parts, or_right, true≢false, and_from}
 use Rattle.std.proofs.lemmas.Option.{get_or_from_slice_get, none-some, same_Some, slice_get_within}
 use Rattle.std.specs.Cmp.Derive.{one_truth}
-use Rattle.tv_lemmas.proofs.Lists.{within-not_none}
+use Rattle.tv_lemmas.proofs.Lists.{within-not_none, all-second}
 use Rattle.tv_value.specs.Orders.{named, same_name}
 use Rattle.tv_value.specs.Values.{Name}
 use Rattle.tv_value.proofs.OfNames.{same_name-refl}
@@ -24,10 +24,6 @@ use Rattle.tv_instance.specs.Counting.{have_ended_by, whole_by}
 use Rattle.tv_instance.specs.Events.{Events}
 
 -- ---- of a list of steps, those that are named
-
-all-right : {A : Type 0} (p : A → Bool) (xs ys : List A) → list_all p (xs ++ ys) ≡ true → list_all p ys ≡ true
-all-right p [] ys h = h
-all-right p (x ∷ xs) ys h = all-right p xs ys ((and_parts (p x) (list_all p (xs ++ ys)) h).1)
 
 module _ (H : Name → Bool) where
   abbrev pub named_all : List Name → List (Name × Step) → Bool
@@ -84,7 +80,7 @@ from-last [] ts h k = k
 from-last (r ∷ rs) ts h k = from-last rs (r ∷ ts) h.1.1 (after-there r.1 h.0, k)
   where
     after-there : (s : Step) → list_all (is_among (names_of ts)) (earlier_steps s) ≡ true → list_all (is_among (names_of ts)) s.after ≡ true
-    after-there s g = all-right (is_among (names_of ts)) _ s.after g
+    after-there s g = all-second (is_among (names_of ts)) _ s.after g
 
 each-last : (P : Name × Step → Type 0) (rs ts : List (Name × Step)) → Each P rs → Each P ts → Each P (last_first rs ts)
 each-last P [] ts h k = k

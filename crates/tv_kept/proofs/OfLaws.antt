@@ -7,12 +7,12 @@ use Rattle.tv_value.specs.Values.{JobName, Name}
 use Rattle.tv_flow.specs.Flows.{Step}
 use Rattle.tv_strategy.specs.Iterations.{walk}
 use Rattle.tv_strategy.specs.Origins.{Known, Origin, at_start, by_job, by_level}
+use Rattle.tv_strategy.proofs.OfEach.{each-weaken}
 use Rattle.tv_depths.specs.Ranks.{ranked}
 use Rattle.tv_matching.specs.Items.{known_items}
 use Rattle.tv_matching.specs.Told.{seen, told_to}
 use Rattle.tv_instance.specs.Events as events
 use Rattle.tv_instance.specs.Events.{Event, Events, fault_set, gave, is_known_by, is_telling, known_by, took}
-use Rattle.tv_model.proofs.Turns.{each-map}
 use Rattle.tv_framing.specs.Answers.{is_settlement}
 use Rattle.tv_framing.specs.Views.{AreGiven}
 use Rattle.tv_framing.proofs.OfArriving.{extends-parts}
@@ -60,6 +60,6 @@ taken-known instance s q es o = by o.known
 
 pub taking-tells_nothing : TakingTellsNothing
 taking-tells_nothing v s q new t ts was instance results depth told f there name =
-    each-map (PortIsTold instance v.events ts) (PortIsTold instance (took s q ∷ v.events) ts)
+    each-weaken (PortIsTold instance v.events ts) (PortIsTold instance (took s q ∷ v.events) ts)
     (λ d h values have. subst (λ (known : Origin → Bool). IsPermutation (map (seen values) (told_to ts d.0)) (known_items known (walk d.0 d.1.mismatch d.1.value))) (λ i o. taken-known instance s q v.events o i) (h values have))
     f.step.inputs (was instance results depth told f there name)

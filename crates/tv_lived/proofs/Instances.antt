@@ -17,10 +17,10 @@ use Rattle.tv_model.specs.Meanings.{meaning}
 use Rattle.tv_model.specs.Members.{In}
 use Rattle.tv_model.specs.RightDepths.{HaveTheseDepths}
 use Rattle.tv_model.proofs.Members.{Apart}
+use Rattle.tv_model.proofs.OfMembers.{of-filter}
 use Rattle.tv_history.specs.Entries.{History}
 use Rattle.tv_history.specs.Histories.{is_open, is_settled, kept}
 use Rattle.tv_history.proofs.Ready.{document-whole}
-use Rattle.tv_history.proofs.Tests.{passing-in}
 use Rattle.tv_framing.specs.Views.{View}
 use Rattle.tv_frame.proofs.OfComing.{as-declared}
 use Rattle.tv_beside.specs.Theirs.{AreTheirs, Frames}
@@ -54,7 +54,7 @@ module _ (gives : Giving) (d : Document) (levels : Flow → Name → ℕ) (past 
 
   its : (j : Job) → In j kept_jobs → Lives gives d levels past xs stand j
   its j i =
-      let w = passing-in keeps j m.jobs i in
+      let w = of-filter keeps j m.jobs i in
       lives gives d levels past xs stand j w.0
       (first_so (is_open past j.instance) (is_settled past j) w.1)
       (second_so (is_open past j.instance) (is_settled past j) w.1)

@@ -15,7 +15,7 @@ use Rattle.tv_pool.specs.declared.handles.Region.{Region}
 use Rattle.tv_check.specs.declared.plans.FlowPlan.{FlowPlan}
 use Rattle.tv_model.specs.Members.{In}
 use Rattle.tv_model.proofs.Members.{Apart}
-use Rattle.tv_history.proofs.Tests.{passing-in}
+use Rattle.tv_model.proofs.OfMembers.{of-filter}
 use Rattle.tv_outputs.specs.Known.{Nodes}
 use Rattle.tv_framing.specs.Views.{View}
 use Rattle.tv_frame.specs.Kept.{Keeps}
@@ -100,7 +100,7 @@ module _ (flows : List (Name × Flow)) (pool : Nodes) (fs : Frames) (theirs : Ar
       (λ h i. live-low pool h.own.frame.region h.own.keeps.live)
       (λ n c e.
       of-number n c e (of_number region outputs n hs)
-      (λ h i. eqb-true (region h) n (passing-in (λ b. region b == n) h hs i).1)
+      (λ h i. eqb-true (region h) n (of-filter (λ b. region b == n) h hs i).1)
       (apart-filter (λ b. region b == n) spot hs a))
     where
       of-number : (n : ℕ) (c : _) → slice_get pool.regions n ≡ Some c → (us : List Housed)

@@ -9,7 +9,7 @@ use Rattle.std.proofs.lemmas.List.Kept.{AllPairs-cons}
 use Rattle.std.proofs.lemmas.List.Sums.{sum_by-cons}
 use Rattle.tv_model.specs.Members.{In}
 use Rattle.tv_model.proofs.Members.{Apart}
-use Rattle.tv_history.proofs.Tests.{passing-in}
+use Rattle.tv_model.proofs.OfMembers.{of-filter}
 
 -- ---- those that pass
 
@@ -20,7 +20,7 @@ module _ {A : Type 0} (p : A → Bool) where
   apart-filter key (x ∷ xs) a = by (p x) (apart-filter key xs a.1)
     where
       by : (b : Bool) → Apart key (filter p xs) → Apart key (if b then x ∷ filter p xs else filter p xs)
-      by true rest = (λ y i e. a.0 y (passing-in p y xs i).0 e, rest)
+      by true rest = (λ y i e. a.0 y (of-filter p y xs i).0 e, rest)
       by false rest = rest
 
   -- of the others nothing is counted
@@ -147,7 +147,7 @@ module _ {A : Type 0} (number : A → ℕ) (f : A → ℕ) where
         low-rest : (x : A) → In x (filter (others k) xs)
             → (suc k ≤ number x) × (number x < suc k + length bs)
         low-rest x i =
-            let w = passing-in (others k) x xs i in
+            let w = of-filter (others k) x xs i in
             past k (number x) (length bs) (low x w.0)
             (λ e. true≢false (sym w.1 ∙ ap not (eq-eqb (number x) k e)))
 

@@ -23,6 +23,7 @@ use Rattle.tv_model.specs.Meanings.{meaning}
 use Rattle.tv_model.specs.Members as model
 use Rattle.tv_model.proofs.Members.{each_in, in-flat, of-flat}
 use Rattle.tv_model.proofs.Sound.{StandsAt, all-stand as nodes-all-stand, nodes-stand}
+use Rattle.tv_model.proofs.Order.{in-left, in-right}
 use Rattle.tv_levels.specs.Levels.{What}
 use Rattle.tv_levels.specs.MainSteps.{main_steps}
 use Rattle.tv_followed.specs.Recorded.{main_records}
@@ -38,15 +39,6 @@ use Rattle.tv_marked.proofs.OfRecords.{have-same, main-placed, placed-main, step
 use Rattle.tv_marked.proofs.OfStages.{at-rank, many, more-shown, new, new-in, new-levels, new-told, until-next}
 
 -- ---- what stands at a place is a node
-
-model-left : {A : Type 0} (x : A) (xs ys : List A) → model.In x xs → model.In x (xs ++ ys)
-model-left x [] ys i = absurd i
-model-left x (y ∷ xs) ys (inl e) = inl e
-model-left x (y ∷ xs) ys (inr i) = inr (model-left x xs ys i)
-
-model-right : {A : Type 0} (x : A) (xs ys : List A) → model.In x ys → model.In x (xs ++ ys)
-model-right x [] ys i = i
-model-right x (y ∷ xs) ys i = inr (model-right x xs ys i)
 
 pub after : (q : Place) (i : ℕ) (r : Place) → (q ++ i ∷ []) ++ r ≡ q ++ (i ∷ r)
 after [] i r = refl
@@ -65,13 +57,13 @@ mutual
   at-item : (ts : Iterations) (p : Place) (j i : ℕ) (q : Place) (u : Iteration) → option_and_then (λ t. at t q) (item_at ts i) ≡ Some u → model.In (p ++ ((j + i) ∷ q), u) (nodes_from p j ts)
   at-item no_trees p j i q u h = absurd (none-some u h)
   at-item (tree t ts) p j zero q u h =
-      model-left _ (nodes_below (p ++ j ∷ []) t) (nodes_from p (suc j) ts)
+      in-left _ (nodes_below (p ++ j ∷ []) t) (nodes_from p (suc j) ts)
       (subst (λ l. model.In (l, u) (nodes_below (p ++ j ∷ []) t)) (after p j q ∙ ap (λ k. p ++ (k ∷ q)) (sym (more-none j))) (at-node t (p ++ j ∷ []) q u h))
     where
       more-none : (j : ℕ) → j + 0 ≡ j
       more-none j = omega arith
   at-item (tree t ts) p j (suc i) q u h =
-      model-right _ (nodes_below (p ++ j ∷ []) t) (nodes_from p (suc j) ts)
+      in-right _ (nodes_below (p ++ j ∷ []) t) (nodes_from p (suc j) ts)
       (subst (λ k. model.In (p ++ (k ∷ q), u) (nodes_from p (suc j) ts)) (later j i) (at-item ts p (suc j) i q u h))
     where
       later : (j i : ℕ) → suc j + i ≡ j + suc i

@@ -20,7 +20,6 @@ use Rattle.tv_model.specs.Lineages.{is_outermost, main_jobs, used}
 use Rattle.tv_model.specs.Made.{Made, Meaning, Opened}
 use Rattle.tv_model.specs.Meanings.{flow_meaning, meaning}
 use Rattle.tv_model.specs.Members as model
-use Rattle.tv_model.proofs.Fed.{each-all}
 use Rattle.tv_model.proofs.Members.{Apart, of-flat, once-of_apart}
 use Rattle.tv_model.proofs.Whole.{AnyNumber, IsWhole, StepsHave, meaning-whole}
 use Rattle.tv_levels.specs.MainSteps.{main_steps}
@@ -33,6 +32,7 @@ use Rattle.tv_model.proofs.Instances.{given-free, instance-formed}
 use Rattle.tv_marked.proofs.OfStages.{by-each}
 use Rattle.tv_marked.specs.Settled.{records_of_settled}
 use Rattle.tv_marked.specs.Staged.{IsMainFlow, main_made, main_results}
+use Rattle.tv_strategy.proofs.OfEach.{each-all}
 
 to-model : {A : Type 0} (x : A) (xs : List A) → In x xs → model.In x xs
 to-model x [] i = i

@@ -14,6 +14,7 @@ use Rattle.tv_strategy.specs.Conditions.{times, EachOnce}
 use Rattle.tv_strategy.specs.Measures.{DotsAgree, leaf_names, strategy_depth}
 use Rattle.tv_strategy.specs.Sources.{Each}
 use Rattle.tv_strategy.proofs.OfPlaces.{same-itself}
+use Rattle.tv_strategy.proofs.OfEach.{each-weaken}
 use Rattle.tv_matching.specs.Items.{Kind, Item, ends, closes, passes, item, if_so}
 use Rattle.tv_matching.specs.Levels.{KindAt}
 use Rattle.tv_matching.specs.Members.{Once}
@@ -21,7 +22,7 @@ use Rattle.tv_matching.specs.Matched.{matched, one_end}
 use Rattle.tv_matching.specs.Told.{Spot, told_to, matched_after, Marked, marked, marked_to, marked_after, IsFit}
 use Rattle.tv_matching.specs.Matchers.{Kept, kept, kept_of, kept_out, kept_kind_out, leaf_name, leaf_number, out}
 use Rattle.tv_matching.specs.Stores.{store_for, AreNumbered, items, told_by_all, worked_items}
-use Rattle.tv_matching.proofs.Lists.{map-same, map-if, each-map, each-weaken}
+use Rattle.tv_matching.proofs.Lists.{map-same, map-if, each-map}
 use Rattle.tv_matching.proofs.OfMembers.{each-permutes}
 use Rattle.tv_matching.proofs.OfStores.{items-none}
 use Rattle.tv_matching.proofs.OfLaws.{matches-once, store-is_matched, store-starts, store-works}

@@ -4,9 +4,9 @@ use Rattle.std.proofs.lemmas.List.{length-take-le, map-append}
 use Rattle.std.proofs.Math.Seq.{take-length}
 use Rattle.tv_value.specs.Strategies.{Strategy}
 use Rattle.tv_strategy.specs.Sources.{Each}
+use Rattle.tv_strategy.proofs.OfEach.{each-weaken}
 use Rattle.tv_matching.specs.Stores as spec
 use Rattle.tv_matching.specs.Stores.{leaf_store, cross_store, dot_store, store_for, News, gain, grown, told_by, worked, worked_items}
-use Rattle.tv_matching.proofs.Lists.{each-weaken}
 use Rattle.tv_match.specs.Entries.{Entry, kepts, front, AreMore, Rise}
 use Rattle.tv_match.specs.Filed.{Filed, filed_leaf, filed_cross, filed_dot, kept_store, fronted, Adds}
 use Rattle.tv_match.specs.Working.{unit_news, news_of, news_to, IsFull, IsWorked, IsDone}

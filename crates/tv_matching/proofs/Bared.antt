@@ -15,12 +15,13 @@ use Rattle.tv_matching.specs.Items.{Kind, ends, closes, passes, Item, item, if_s
 use Rattle.tv_matching.specs.Matched.{bound, below, replaced, replaced_below, crossed_items, below_jobs, met, meet, joined_items, same, matched, matched_cross, matched_dot, gained, gained_cross, gained_dot}
 use Rattle.tv_strategy.specs.Origins.{Traced}
 use Rattle.tv_strategy.specs.Sources.{Each}
+use Rattle.tv_strategy.proofs.OfEach.{each-all, each-weaken}
 use Rattle.tv_matching.specs.Members.{at_place}
 use Rattle.tv_matching.specs.Tellings.{Telling, told_of, after}
 use Rattle.tv_matching.specs.Told.{Spot, Told, arrival, faulty, close, telling, tellings, told_to, matched_after, Marked, marked, marked_to, marked_after, map_kind, map_item, binds_some, some_at, TellsFaults, bound_there, stop_there, seen, value_there}
 use Rattle.tv_matching.specs.Matchers.{bare, bare_bound, bare_kind, kept, kept_out, kind_out, out, leaf_number, KeptIsEnough, KeptGains, MarkedIsMatched, FaultsRide}
 use Rattle.tv_matching.proofs.Natural.{matched-maps}
-use Rattle.tv_matching.proofs.Lists.{each-all, each-weaken, flat-append, map-same, flat-same, map-flat, map-if}
+use Rattle.tv_matching.proofs.Lists.{flat-append, map-same, flat-same, map-flat, map-if}
 
 module _ {X F G : Type 0} (test : X → Bool) (g : F → G) where
   bound-bare : (b : List X) (k : Kind X F) → bound (bare_bound test b) (bare_kind test g k) ≡ bare_kind test g (bound b k)

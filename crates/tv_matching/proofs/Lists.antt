@@ -46,14 +46,6 @@ pub each-map : {A B : Type 0} (P : B → Type 0) (f : A → B) (xs : List A) →
 each-map P f [] h = tt
 each-map P f (x ∷ xs) h = (h.0, each-map P f xs h.1)
 
-pub each-all : {A : Type 0} (P : A → Type 0) → ((x : A) → P x) → (xs : List A) → Each P xs
-each-all P h [] = tt
-each-all P h (x ∷ xs) = (h x, each-all P h xs)
-
-pub each-weaken : {A : Type 0} (P Q : A → Type 0) → ((x : A) → P x → Q x) → (xs : List A) → Each P xs → Each Q xs
-each-weaken P Q w [] h = tt
-each-weaken P Q w (x ∷ xs) h = (w x h.0, each-weaken P Q w xs h.1)
-
 pub each-if : {A : Type 0} (P : A → Type 0) (b : Bool) (x : A) → P x → Each P (if_so b x)
 each-if P true x h = (h, tt)
 each-if P false x h = tt

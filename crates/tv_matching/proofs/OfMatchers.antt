@@ -15,13 +15,14 @@ use Rattle.tv_strategy.specs.Measures.{leaf_names}
 use Rattle.tv_strategy.specs.Splits.{same_place}
 use Rattle.tv_strategy.specs.Sources.{Each}
 use Rattle.tv_strategy.proofs.OfSources.{each-append}
+use Rattle.tv_strategy.proofs.OfEach.{each-weaken}
 use Rattle.tv_matching.specs.Items.{Kind, ends, closes, passes, Item, item, if_so, known_items}
 use Rattle.tv_matching.specs.Members.{at_place}
 use Rattle.tv_matching.specs.Matched.{bound, below, replaced, crossed_items, met, meet, joined_items, same, matched, matched_cross, matched_dot}
 use Rattle.tv_matching.specs.Tellings.{Telling}
 use Rattle.tv_matching.specs.Told.{Spot, Told, arrival, faulty, close, told_leaf, told_place, told_kind, telling, tellings, told_to, matched_after, added_after, IsFit, seen, stop_there, stop_of, labelled, node_told, IsTrueOf, IsFaultThere}
 use Rattle.tv_matching.specs.Matchers.{Outcome, fault_at, leaf_number, kind_out, out, all_out, Matching, AreMatching, CanTellAll, IsTold, mark_number, node_out, OutIsKnown, StartIsMatching, TellingIsMatching, GivesOnlyRest}
-use Rattle.tv_matching.proofs.Lists.{each-map, each-weaken, each-if}
+use Rattle.tv_matching.proofs.Lists.{each-map, each-if}
 use Rattle.tv_matching.proofs.Permutes.{perm-from, flat-permutes}
 use Rattle.tv_matching.proofs.OfMembers.{each-permutes}
 use Rattle.tv_matching.proofs.Onces.{each-flat, once-permutes}

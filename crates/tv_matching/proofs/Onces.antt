@@ -17,11 +17,12 @@ use Rattle.tv_strategy.specs.Splits.{same_place}
 use Rattle.tv_strategy.specs.Sources.{Each}
 use Rattle.tv_strategy.proofs.OfPlaces.{same-equal, same-itself}
 use Rattle.tv_strategy.proofs.OfSources.{each-append}
+use Rattle.tv_strategy.proofs.OfEach.{each-all, each-weaken}
 use Rattle.tv_matching.specs.Items.{Kind, ends, closes, passes, Item, item, Bound, Stopped, end_kind, within, here, if_so, all_known, known_items, known_from}
 use Rattle.tv_matching.specs.Members.{at_place, Once}
 use Rattle.tv_matching.specs.Levels.{KindAt, AreLeveled}
 use Rattle.tv_matching.specs.Matched.{bound, below, replaced, crossed_items, met, meet, joined_items, same, one_end, matched, matched_cross, matched_dot}
-use Rattle.tv_matching.proofs.Lists.{flat-append, flat-same, map-flat, flat-nothing, map-if, each-weaken, each-all, each-map}
+use Rattle.tv_matching.proofs.Lists.{flat-append, flat-same, map-flat, flat-nothing, map-if, each-map}
 use Rattle.tv_matching.proofs.Permutes.{flat-permutes}
 use Rattle.tv_matching.proofs.FromScratch.{StartsFrom, from-starts}
 

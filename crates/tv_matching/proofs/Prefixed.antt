@@ -7,12 +7,13 @@ use Rattle.tv_strategy.specs.Iterations.{Iteration, paired}
 use Rattle.tv_strategy.specs.Levels.{HasLevels}
 use Rattle.tv_strategy.specs.Splits.{same_place}
 use Rattle.tv_strategy.proofs.OfPlaces.{same-equal}
+use Rattle.tv_strategy.proofs.OfEach.{each-weaken}
 use Rattle.tv_matching.specs.Items.{Kind, ends, closes, passes, Item, item, if_so, known_items}
 use Rattle.tv_matching.specs.Levels.{KindAt, AreLeveled}
 use Rattle.tv_matching.specs.Members.{at_place, Once}
 use Rattle.tv_matching.specs.Matched.{bound, met, meet, joined_items}
 use Rattle.tv_matching.specs.Stores.{met_with}
-use Rattle.tv_matching.proofs.Lists.{each-weaken, flat-same, map-flat, map-if}
+use Rattle.tv_matching.proofs.Lists.{flat-same, map-flat, map-if}
 use Rattle.tv_matching.proofs.FromScratch.{paired-known}
 use Rattle.tv_matching.proofs.Gains.{joined-gains}
 use Rattle.tv_matching.proofs.Onces.{joined-once, each-flat}

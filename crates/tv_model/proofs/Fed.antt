@@ -14,6 +14,7 @@ use Rattle.tv_depths.specs.Ranks.{is_among}
 use Rattle.tv_model.proofs.Tests.{Each}
 use Rattle.tv_strategy.proofs.OfSources.{each-append, walk-have, iteration-have, traced-have}
 use Rattle.tv_strategy.specs.Sources.{AtNodes, AtAllNodes, SourcesHave}
+use Rattle.tv_strategy.proofs.OfEach.{each-all}
 
 -- ---- lists and look-ups
 
@@ -40,10 +41,6 @@ each-flat_map S R f g (x ∷ xs) h = each-append R (f x) (flat_map f xs) (g x h.
 pub each-of_map : {A B : Type 0} (S : A → Type 0) (R : B → Type 0) (f : A → B) → ((x : A) → S x → R (f x)) → (xs : List A) → Each S xs → Each R (map f xs)
 each-of_map S R f g [] h = tt
 each-of_map S R f g (x ∷ xs) h = (g x h.0, each-of_map S R f g xs h.1)
-
-pub each-all : {A : Type 0} (R : A → Type 0) → ((x : A) → R x) → (xs : List A) → Each R xs
-each-all R f [] = tt
-each-all R f (x ∷ xs) = (f x, each-all R f xs)
 
 wrapped-have : (P : Origin → Type 0) → P fixed → (k : ℕ) (v : Traced) → AtNodes P v → AtNodes P (wrapped k v)
 wrapped-have P f zero v h = h

@@ -15,6 +15,7 @@ use Rattle.tv_strategy.specs.Iterations.{job, passed, Iteration, Iterations}
 use Rattle.tv_strategy.specs.Measures.{strategy_depth}
 use Rattle.tv_strategy.specs.Sources.{AtNodes}
 use Rattle.tv_strategy.proofs.OfSources.{each-append}
+use Rattle.tv_strategy.proofs.OfEach.{each-weaken}
 use Rattle.tv_gate.specs.Outcomes.{Giving}
 use Rattle.tv_depths.specs.Delivered.{Delivered, StepMeaning}
 use Rattle.tv_depths.specs.Ranks.{is_among}
@@ -25,7 +26,7 @@ use Rattle.tv_model.specs.Levels.{Level, level_at, levels}
 use Rattle.tv_model.specs.Made.{Meaning, Opened, Made, endings, result_of, delivered_outputs}
 use Rattle.tv_model.specs.Turns.{is_bounced, is_failed}
 use Rattle.tv_model.proofs.Tests.{Each, true≠false, or_right}
-use Rattle.tv_model.proofs.Turns.{In, each-map, or_left}
+use Rattle.tv_model.proofs.Turns.{In, or_left}
 use Rattle.tv_model.proofs.Order.{in-left, in-right, in-append, in-map}
 use Rattle.tv_model.proofs.Fed.{each-flat_map, each-of_map, step_ports, step_iteration, StepHas, step_iteration-has, endings-have}
 use Rattle.tv_model.proofs.Earlier.{at_nodes-weaken, job_list, is_name_of, has_job, NeedEarlier}
@@ -114,7 +115,7 @@ module _ (gives : Giving) (inside : Name → JobName → List (Name × Value) �
   free-ground ms (suc k) o h = subst (λ r. Ground ms (suc k) (record o { known = r })) (sym h.0) h.1
 
   given-ground : (ms : List Made) (k : ℕ) → Each (λ d. AtNodes (Ground ms k) d.1.value) given
-  given-ground ms k = each-map (λ d. AtNodes IsFree d.1.value) (λ d. AtNodes (Ground ms k) d.1.value) (λ d h. at_nodes-weaken IsFree (Ground ms k) (free-ground ms k) d.1.value h) given given_free
+  given-ground ms k = each-weaken (λ d. AtNodes IsFree d.1.value) (λ d. AtNodes (Ground ms k) d.1.value) (λ d h. at_nodes-weaken IsFree (Ground ms k) (free-ground ms k) d.1.value h) given given_free
 
   fixed-ground : (ms : List Made) (k : ℕ) → Ground ms k fixed
   fixed-ground ms k = free-ground ms k fixed (refl, refl)
@@ -164,7 +165,7 @@ module _ (gives : Giving) (inside : Name → JobName → List (Name × Value) �
     more o h = grounded-more (LevelIn (new ∷ ms)) (JobIn (new ∷ ms)) I k o (same o h)
 
     all-more : (os : List Origin) → Each Old os → Each New os
-    all-more = each-map Old New more
+    all-more = each-weaken Old New more
 
     sources-old : (x : Place × Iteration) → In x (nodes it) → Each Old (note x.1)
     sources-old x h = each_in (λ y. Each Old (note y.1)) (nodes it) (nodes-sourced Old it [] (step_iteration-has Old (fixed-ground ms k) given (given-ground ms k) ms a.ends s)) x h
@@ -186,14 +187,14 @@ module _ (gives : Giving) (inside : Name → JobName → List (Name × Value) �
 
     level-new : (m : Option Mark) (x : Place × Iteration) (l : Level) → In x (nodes it) → level_at new.step x ≡ Some l → l.instance ≡ I → Each Old l.sources → New (from_level l.name m l.sources)
     level-new m x l h e i w =
-        (l, in-left l (filter_map (level_at new.step) (nodes it)) (levels (step_list ms)) (in-options (level_at new.step) x l (nodes it) h e), refl, i, refl, each-map Old (Ground (new ∷ ms) k) same l.sources w)
+        (l, in-left l (filter_map (level_at new.step) (nodes it)) (levels (step_list ms)) (in-options (level_at new.step) x l (nodes it) h e), refl, i, refl, each-weaken Old (Ground (new ∷ ms) k) same l.sources w)
 
     node-new : (x : Place × Iteration) → In x (nodes it) → New (node_origin I n x)
     node-new (q, leaf r (job b)) h =
         let o = job_on gives inside I n s (r ++ before) q (bound_values s b) in
         let f = node_job-at gives inside I P inside_is n s before (q, leaf r (job b)) o (inl refl) in
         let i = in-flat (node_jobs gives inside I n s before) (q, leaf r (job b)) o (nodes it) h (inl refl) in
-        (refl, (o.job, (o, in-left o new.jobs (job_list ms) i, refl), f.name, f.in_instance, each-map Old (Ground (new ∷ ms) k) same o.job.waits (waits-old (q, leaf r (job b)) o h (inl refl))))
+        (refl, (o.job, (o, in-left o new.jobs (job_list ms) i, refl), f.name, f.in_instance, each-weaken Old (Ground (new ∷ ms) k) same o.job.waits (waits-old (q, leaf r (job b)) o h (inl refl))))
     node-new (q, leaf r (passed m e)) h = level-new m (q, leaf r (passed m e)) _ h refl refl (sources-old (q, leaf r (passed m e)) h)
     node-new (q, list r ts) h = level-new None (q, list r ts) _ h refl refl (sources-old (q, list r ts) h)
 
@@ -215,7 +216,7 @@ module _ (gives : Giving) (inside : Name → JobName → List (Name × Value) �
 
     ends-old : (m : Made) → StepHas Old m → StepHas New m
     ends-old m h =
-        (each-map (λ d. AtNodes Old d.1.value) (λ d. AtNodes New d.1.value) (λ d w. at_nodes-weaken Old New more d.1.value w) m.step.outputs h.0, all-more m.step.ending h.1)
+        (each-weaken (λ d. AtNodes Old d.1.value) (λ d. AtNodes New d.1.value) (λ d w. at_nodes-weaken Old New more d.1.value w) m.step.outputs h.0, all-more m.step.ending h.1)
 
     sources-new : (l : Level) → LevelIn (new ∷ ms) l → (l.instance ≡ I) × Each New l.sources
     sources-new l h = by (in-append l (filter_map (level_at new.step) (nodes it)) (levels (step_list ms)) h)
@@ -290,7 +291,7 @@ module _ (gives : Giving) (inside : Name → JobName → List (Name × Value) �
 
     formed-with : AreFormed (new ∷ ms)
     formed-with = record {
-      ends = (ends-new, each-map (StepHas Old) (StepHas New) ends-old ms a.ends);
+      ends = (ends-new, each-weaken (StepHas Old) (StepHas New) ends-old ms a.ends);
       sources = sources-new;
       jobs = jobs-new;
       earlier = (earlier-new, a.earlier);

@@ -2,10 +2,10 @@
 use Rattle.std.specs.Prelude.{◌≡◌, ℕ, zero, suc, [], ◌∷◌}
 use Rattle.tv_value.specs.Values.{JobName}
 use Rattle.tv_strategy.specs.Origins.{Origin, Known, at_start, by_job, by_level, needs_of}
+use Rattle.tv_strategy.proofs.OfEach.{each-weaken}
 use Rattle.tv_model.specs.Jobs.{Job}
 use Rattle.tv_model.specs.Levels.{Level}
 use Rattle.tv_model.proofs.Tests.{Each}
-use Rattle.tv_model.proofs.Turns.{each-map}
 
 -- L and J hold of the lists and faults, and of the jobs, that there are
 module _ (L : Level → Type 0) (J : Job → Type 0) (I : JobName) where
@@ -21,8 +21,8 @@ module _ (L : Level → Type 0) (J : Job → Type 0) (I : JobName) where
 
 pub by-weaken : {L M : Level → Type 0} {J K : Job → Type 0} → ((l : Level) → L l → M l) → ((j : Job) → J j → K j) → (I : JobName) (R S : Origin → Type 0) → ((s : Origin) → R s → S s) → (o : Origin) (q : Known) → GroundedBy L J I R o q → GroundedBy M K I S o q
 by-weaken f g I R S w o at_start h = h
-by-weaken f g I R S w o (by_job n) h = let j = h.1 in (h.0, (j.0, g j.0 j.1, j.2, j.3, each-map R S w j.0.waits j.4))
-by-weaken f g I R S w o (by_level n) h = (h.0, f h.0 h.1, h.2, h.3, h.4, each-map R S w h.0.sources h.5)
+by-weaken f g I R S w o (by_job n) h = let j = h.1 in (h.0, (j.0, g j.0 j.1, j.2, j.3, each-weaken R S w j.0.waits j.4))
+by-weaken f g I R S w o (by_level n) h = (h.0, f h.0 h.1, h.2, h.3, h.4, each-weaken R S w h.0.sources h.5)
 
 pub grounded-weaken : {L M : Level → Type 0} {J K : Job → Type 0} → ((l : Level) → L l → M l) → ((j : Job) → J j → K j) → (I : JobName) (k : ℕ) (o : Origin) → Grounded L J I k o → Grounded M K I k o
 grounded-weaken f g I zero o h = by-weaken f g I (λ s. ⊥) (λ s. ⊥) (λ s a. a) o o.known h

@@ -15,9 +15,9 @@ use Rattle.tv_model.specs.Instances.{steps_made}
 use Rattle.tv_depths.specs.Ranks.{ranked}
 use Rattle.tv_depths.proofs.OfRanked.{IsOrdered, ranked-ordered}
 use Rattle.tv_model.proofs.Tests.{Each, true≠false}
-use Rattle.tv_model.proofs.Turns.{each-map}
 use Rattle.tv_strategy.specs.Sources.{AtNodes, AtAllNodes}
-use Rattle.tv_model.proofs.Fed.{each-of_map, each-all}
+use Rattle.tv_strategy.proofs.OfEach.{each-all}
+use Rattle.tv_model.proofs.Fed.{each-of_map}
 use Rattle.tv_model.proofs.Earlier.{job_list, NeedEarlier}
 use Rattle.tv_model.proofs.Order.{opened-asks, opened_order, turn_of}
 use Rattle.tv_model.proofs.Sound.{AreDistinct, FreshNames, IsFree}

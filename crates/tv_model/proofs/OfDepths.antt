@@ -110,7 +110,7 @@ result-has (suc k) p ps (q ∷ qs) [] e h = absurd h
 result-has (suc k) p ps (q ∷ qs) (v ∷ vs) e h = result-has k p ps qs vs e h.1
 
 -- whatever is found, where one is there that passes
-find-there : {A B : Type 0} (S : A → Type 0) (R : B → Type 0) (f : A → B) → ((x : A) → S x → R (f x)) → (p : A → Bool) (z : B) (xs : List A) → Each S xs → (x : A) → In x xs → p x ≡ true → R (option_map_or f (find p xs) z)
+pub find-there : {A B : Type 0} (S : A → Type 0) (R : B → Type 0) (f : A → B) → ((x : A) → S x → R (f x)) → (p : A → Bool) (z : B) (xs : List A) → Each S xs → (x : A) → In x xs → p x ≡ true → R (option_map_or f (find p xs) z)
 find-there S R f g p z [] h x i e = absurd i
 find-there S R f g p z (y ∷ ys) h x (inl q) e =
     subst (λ b. R (option_map_or f (if b then Some y else find p ys) z)) (sym (subst (λ w. p w ≡ true) q e)) (g y h.0)

@@ -3,7 +3,7 @@ use Rattle.std.specs.Prelude.{◌≡◌, refl, Bool, true, false, if◌then◌el
 use Rattle.std.specs.Cmp.Lexicographic.{bytes_decides}
 use Rattle.std.specs.List.{list_all}
 use Rattle.std.proofs.Common.{sym, ap, ap₂, subst, ◌∙◌, inl, inr}
-use Rattle.std.proofs.lemmas.Bool.{and_from}
+use Rattle.std.proofs.lemmas.Bool.{and_from, and_parts}
 use Rattle.std.proofs.lemmas.Option.{none-some, same_Some}
 use Rattle.tv_value.specs.Orders.{named, same_name}
 use Rattle.tv_value.specs.Values.{Name}
@@ -47,3 +47,17 @@ named-in {A} n (x ∷ xs) a e = by (same_name n x.0) refl e (named-in n xs a)
     by : (b : Bool) → same_name n x.0 ≡ b → (if b then Some x.1 else named n xs) ≡ Some a → (named n xs ≡ Some a → In (n, a) xs) → In (n, a) (x ∷ xs)
     by true t f rec = inl (ap₂ (λ (m : Name) (z : A). (m, z)) ((bytes_decides n x.0).0 t) (sym (same_Some x.1 a f)))
     by false t f rec = inr (rec f)
+
+pub of-all : {A : Type 0} (p : A → Bool) (xs : List A) → list_all p xs ≡ true → (x : A) → In x xs → p x ≡ true
+of-all p [] h x i = absurd i
+of-all p (y ∷ xs) h x (inl e) = ap p e ∙ (and_parts (p y) (list_all p xs) h).0
+of-all p (y ∷ xs) h x (inr i) = of-all p xs (and_parts (p y) (list_all p xs) h).1 x i
+
+pub of-filter : {A : Type 0} (p : A → Bool) (x : A) (xs : List A) → In x (filter p xs) → In x xs × (p x ≡ true)
+of-filter p x [] i = absurd i
+of-filter p x (y ∷ xs) i = by (p y) refl i (of-filter p x xs)
+  where
+    by : (b : Bool) → p y ≡ b → In x (if b then y ∷ filter p xs else filter p xs) → (In x (filter p xs) → In x xs × (p x ≡ true)) → In x (y ∷ xs) × (p x ≡ true)
+    by true t (inl e) rec = (inl e, ap p e ∙ t)
+    by true t (inr k) rec = let r = rec k in (inr r.0, r.1)
+    by false t k rec = let r = rec k in (inr r.0, r.1)

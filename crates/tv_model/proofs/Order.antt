@@ -15,8 +15,9 @@ use Rattle.tv_model.specs.Made.{Opened, Made}
 use Rattle.tv_model.specs.Turns.{Turn, ask_order, asks_by_turns, bounced_first, is_bounced, job_turn}
 use Rattle.tv_model.specs.Jobs.{job_needs}
 use Rattle.tv_model.proofs.Tests.{Each, true≠false}
-use Rattle.tv_model.proofs.Turns.{In, turn_asks, HasRate, AllRated, turns-asks, each-map}
+use Rattle.tv_model.proofs.Turns.{In, turn_asks, HasRate, AllRated, turns-asks}
 use Rattle.tv_model.proofs.Earlier.{job_list, is_name_of, has_job, NeedEarlier}
+use Rattle.tv_strategy.proofs.OfEach.{each-weaken}
 
 -- the turn of a job with what stands inside it, and the order of all
 abbrev pub turn_of : Opened → Turn
@@ -118,7 +119,7 @@ module _ (p : Opened → Bool) where
 module _ (ts : List Turn) where
   rate-more : (k : ℕ) (t : Turn) → HasRate [] ts k t → HasRate [] ts (suc k) t
   rate-more zero t h = absurd h
-  rate-more (suc k) t h = each-map (Wait k) (Wait (suc k)) (λ n w. more n w (λ u v. rate-more k u v)) t.needs h
+  rate-more (suc k) t h = each-weaken (Wait k) (Wait (suc k)) (λ n w. more n w (λ u v. rate-more k u v)) t.needs h
     where
       Wait : ℕ → JobName → Type 0
       Wait k n = (false ≡ true) ⊎ ((u : Turn) × In u ts × (same_job n u.name ≡ true) × HasRate [] ts k u)
@@ -134,7 +135,7 @@ module _ (ts : List Turn) where
       by : In o m.jobs ⊎ In o (job_list ms) → ((u : Opened) → In u (job_list ms) → HasRate [] ts (length ms) (turn_of u)) → HasRate [] ts (suc (length ms)) (turn_of o)
       by (inr k) rec = rate-more (length ms) (turn_of o) (rec o k)
       by (inl k) rec =
-          each-map (λ n. has_job ms n ≡ true) (λ n. (false ≡ true) ⊎ ((u : Turn) × In u ts × (same_job n u.name ≡ true) × HasRate [] ts (length ms) u)) (λ n i. let r = some_in (is_name_of n) (job_list ms) i in inr (turn_of r.0, w r.0 (in-right r.0 m.jobs (job_list ms) r.1), r.2, rec r.0 r.1)) (job_needs o.job) (each-in (λ u. Each (λ n. has_job ms n ≡ true) (job_needs u.job)) o m.jobs e.0 k)
+          each-weaken (λ n. has_job ms n ≡ true) (λ n. (false ≡ true) ⊎ ((u : Turn) × In u ts × (same_job n u.name ≡ true) × HasRate [] ts (length ms) u)) (λ n i. let r = some_in (is_name_of n) (job_list ms) i in inr (turn_of r.0, w r.0 (in-right r.0 m.jobs (job_list ms) r.1), r.2, rec r.0 r.1)) (job_needs o.job) (each-in (λ u. Each (λ n. has_job ms n ≡ true) (job_needs u.job)) o m.jobs e.0 k)
 
 abbrev pub waiting : List Opened → List Opened
 waiting os = filter (λ o. is_bounced o.job.ending) os ++ filter (λ o. not (is_bounced o.job.ending)) os

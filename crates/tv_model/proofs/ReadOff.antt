@@ -20,13 +20,14 @@ use Rattle.tv_model.specs.Meanings.{flow_meaning, instance_meaning, instances_in
 use Rattle.tv_model.specs.Turns.{ask_order, asks_by_turns, bounced_first, is_bounced, job_turn, jobs_in, order_in}
 use Rattle.tv_model.proofs.Turns.{In}
 use Rattle.tv_model.proofs.Order.{in-append, of-filter, opened_order, turn_of}
-use Rattle.tv_model.proofs.Fed.{each-all, named_map_or}
+use Rattle.tv_model.proofs.Fed.{named_map_or}
 use Rattle.tv_model.proofs.Earlier.{job_list}
 use Rattle.tv_model.proofs.Members.{Apart, of-flat}
 use Rattle.tv_model.proofs.Kept.{InsideIs}
 use Rattle.tv_model.proofs.Formed.{AreFormed, own-apart}
 use Rattle.tv_model.proofs.Instances.{given-free, instance-formed, steps_of}
 use Rattle.tv_model.proofs.Whole.{AnyNumber, not-longer, same-head}
+use Rattle.tv_strategy.proofs.OfEach.{each-all}
 
 -- ---- lists
 

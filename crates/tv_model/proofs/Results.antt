@@ -17,7 +17,8 @@ use Rattle.tv_model.specs.Agreeing.{FindThemselves, InputsHave, ActivityAgrees, 
 use Rattle.tv_value.proofs.OfDepths.{test-decides}
 use Rattle.tv_model.proofs.Tests.{Each, true≠false}
 use Rattle.tv_strategy.proofs.OfSources.{each-append}
-use Rattle.tv_model.proofs.Fed.{either, each-of_map, each-all}
+use Rattle.tv_strategy.proofs.OfEach.{each-all}
+use Rattle.tv_model.proofs.Fed.{either, each-of_map}
 use Rattle.tv_model.proofs.Binds.{HaveTheseDepths}
 
 -- ---- the judgment
@@ -115,7 +116,7 @@ pub zip-have : (all : List (Name × StepInput)) (vs : List Traced) → HaveThese
 zip-have all vs h [] f = tt
 zip-have all vs h (i ∷ is) f = (zip-finds all vs h i.0 i.1 f.0, zip-have all vs h is f.1)
 
-errors-have : (n : JobName) (why : Text) (from : List JobName) (ds : List ℕ) → HaveTheseDepths ds (error_results n why from ds)
+pub errors-have : (n : JobName) (why : Text) (from : List JobName) (ds : List ℕ) → HaveTheseDepths ds (error_results n why from ds)
 errors-have n why from [] = tt
 errors-have n why from (d ∷ ds) = (refl, errors-have n why from ds)
 

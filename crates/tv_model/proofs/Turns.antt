@@ -12,6 +12,7 @@ use Rattle.tv_model.proofs.Tests.{true≠false, both_true, or_right, Each}
 pub use Rattle.std.proofs.lemmas.Bool.{or_left}
 use Rattle.tv_lemmas.proofs.Lists.{permute-front}
 pub use Rattle.tv_model.specs.Members.{In}
+use Rattle.tv_strategy.proofs.OfEach.{each-weaken}
 
 abbrev pub turn_asks : List Turn → List (JobName × Ask)
 turn_asks ts = flat_map (λ t. t.asks) ts
@@ -93,10 +94,6 @@ some_done done ts none (suc k) t h w = some_or done ts k t h none (λ u i v. som
 
 -- ---- after a turn
 
-pub each-map : {A : Type 0} (P Q : A → Type 0) → ((x : A) → P x → Q x) → (xs : List A) → Each P xs → Each Q xs
-each-map P Q f [] h = tt
-each-map P Q f (x ∷ xs) h = (f x h.0, each-map P Q f xs h.1)
-
 waits_after : (done : List JobName) (ts : List Turn) (s : Turn) (rest : List Turn) (k : ℕ) → ((u : Turn) → HasRate done ts k u → HasRate (s.name ∷ done) rest k u) → IsTaken done ts s rest → (n : JobName) → Waits done ts k n → Waits (s.name ∷ done) rest k n
 waits_after done ts s rest k rec i n (inl e) = inl (or_right (same_job n s.name) (list_any (same_job n) done) e)
 waits_after done ts s rest k rec i n (inr u) = place (i.only u.0 u.1)
@@ -108,7 +105,7 @@ waits_after done ts s rest k rec i n (inr u) = place (i.only u.0 u.1)
 rate_after : (done : List JobName) (ts : List Turn) (s : Turn) (rest : List Turn) → IsTaken done ts s rest → (k : ℕ) (t : Turn) → HasRate done ts k t → HasRate (s.name ∷ done) rest k t
 rate_after done ts s rest i zero t h = h
 rate_after done ts s rest i (suc k) t h =
-    each-map (Waits done ts k) (Waits (s.name ∷ done) rest k) (waits_after done ts s rest k (λ u v. rate_after done ts s rest i k u v) i) t.needs h
+    each-weaken (Waits done ts k) (Waits (s.name ∷ done) rest k) (waits_after done ts s rest k (λ u v. rate_after done ts s rest i k u v) i) t.needs h
 
 -- the order has the asks of all turns, each as often
 turns-nothing : (n : ℕ) (done : List JobName) → IsPermutation (asks_by_turns n done []) []

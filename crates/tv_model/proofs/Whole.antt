@@ -8,6 +8,7 @@ use Rattle.tv_value.specs.Values.{Name, JobName, Value}
 use Rattle.tv_value.specs.Orders.{same_name}
 use Rattle.tv_flow.specs.Flows.{Step, Flow}
 use Rattle.tv_strategy.specs.Origins.{Origin, by_job}
+use Rattle.tv_strategy.proofs.OfEach.{each-weaken}
 use Rattle.tv_gate.specs.Outcomes.{Giving}
 use Rattle.tv_model.specs.Jobs.{Job}
 use Rattle.tv_depths.specs.Delivered.{StepMeaning}
@@ -17,7 +18,7 @@ use Rattle.tv_depths.specs.Ranks.{ranked, by_rank, is_among, earlier_steps}
 use Rattle.tv_model.specs.Turns.{is_bounced, is_failed}
 use Rattle.tv_model.specs.Levels.{Level, level_at, levels}
 use Rattle.tv_model.proofs.Tests.{Each, true≠false}
-use Rattle.tv_model.proofs.Turns.{In, each-map}
+use Rattle.tv_model.proofs.Turns.{In}
 use Rattle.tv_model.proofs.Order.{in-left, in-right, in-append, of-map}
 use Rattle.tv_model.proofs.Fed.{either, named_map_or, find_map_or}
 use Rattle.tv_model.proofs.Earlier.{job_list}
@@ -127,7 +128,7 @@ module _ (gives : Giving) (D : ℕ → Type 0) where
     own-grounded : (J : JobName) (os : List Origin) → J ≡ I → Each (Grounded (LevelIn ms) (JobIn ms) I (length ms)) os → AreGrounded m J os
     own-grounded J os e h =
         let up = grounded-weaken own-level (λ j r. subst (λ i. In i m.jobs) (sym r.2) (own-job r.0 r.1)) I (length ms) in
-        (length ms, subst (λ n. Each (GroundedIn m n (length ms)) os) (sym e) (each-map _ (GroundedIn m I (length ms)) (λ o g. up o g) os h))
+        (length ms, subst (λ n. Each (GroundedIn m n (length ms)) os) (sym e) (each-weaken _ (GroundedIn m I (length ms)) (λ o g. up o g) os h))
 
     module _ (o : Opened) (h : In o opened) where
       abbrev own : IsOwn gives inside I IsWhole inside_is D (given_of flow vs) (given-free flow vs) ms o
@@ -147,7 +148,7 @@ module _ (gives : Giving) (D : ℕ → Type 0) where
 
       inner-grounded : (J : JobName) (os : List Origin) → AreGrounded n J os → AreGrounded m J os
       inner-grounded J os g =
-          (g.0, each-map (GroundedIn n J g.0) (GroundedIn m J g.0) (λ o w. grounded-weaken (λ l i. levels-within n.steps m.steps inner-step l i) inner-job J g.0 o w) os g.1)
+          (g.0, each-weaken (GroundedIn n J g.0) (GroundedIn m J g.0) (λ o w. grounded-weaken (λ l i. levels-within n.steps m.steps inner-step l i) inner-job J g.0 o w) os g.1)
 
       deeper : (r n : JobName) → n ≡ o.job.name ++ r → (s : JobName) × (n ≡ I ++ s)
       deeper r n e = ((own.step, own.place) ∷ r, e ∙ ap (λ x. x ++ r) own.named ∙ append_assoc I ((own.step, own.place) ∷ []) r)
@@ -266,7 +267,7 @@ module _ (gives : Giving) (D : ℕ → Type 0) where
             by : In s (step_list ms) ⊎ In s (flat_map steps_inside opened) → ((r : JobName) × (s.instance ≡ I ++ r)) × AreGrounded m s.instance s.ending
             by (inl i) =
                 let r = of-map (λ (k : Made). k.step) s ms i in
-                let g = each_in (λ (k : Made). Each (Grounded (LevelIn ms) (JobIn ms) I (length ms)) k.step.ending) ms (each-map _ _ (λ k w. w.1) ms a.ends) r.0 r.1 in
+                let g = each_in (λ (k : Made). Each (Grounded (LevelIn ms) (JobIn ms) I (length ms)) k.step.ending) ms (each-weaken _ _ (λ k w. w.1) ms a.ends) r.0 r.1 in
                 (([], own-instance s i ∙ sym (append-nil I)), own-grounded s.instance s.ending (own-instance s i) (subst (λ (t : StepMeaning). Each (Grounded (LevelIn ms) (JobIn ms) I (length ms)) t.ending) (sym r.2) g))
             by (inr i) = let r = of-flat steps_inside s opened i in step-case r.0 r.1 s r.2
 

@@ -33,7 +33,7 @@ module _ {A : Type 0} (g : A → List Complaint) where
   silent-all (x ∷ xs) zero h e = none-after (length xs) h
   silent-all (x ∷ xs) (suc i) h e =
       let f = append-none (g x) (flat_map g (take i xs)) e in
-      ap (λ ys. ys ++ flat_map g xs) f.0 ∙ silent-all xs i (le_of_suc-le-suc {n = (length xs)} {m = i} h) f.1
+      ap (λ ys. ys ++ flat_map g xs) f.0 ∙ silent-all xs i (le_of_suc-le-suc {n = length xs} {m = i} h) f.1
 
   silent-suc : (xs : List A) (i : ℕ) (x : A) → slice_get xs i ≡ Some x → Silent xs i → g x ≡ [] → flat_map g (take (suc i) xs) ≡ []
   silent-suc [] i x e s h = cc

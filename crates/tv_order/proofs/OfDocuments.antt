@@ -16,7 +16,6 @@ use Rattle.tv_model.specs.Meanings.{meaning, nesting_limit}
 use Rattle.tv_model.specs.Turns.{is_bounced}
 use Rattle.tv_model.proofs.Tests.{true≠false, both_true, or_right}
 use Rattle.tv_model.proofs.Turns.{In, or_left}
-use Rattle.tv_model.proofs.Fed.{each-all}
 use Rattle.tv_model.proofs.Whole.{IsWhole, StepsHave}
 use Rattle.tv_history.specs.Entries.{History, is_bounced_entry, is_ended_entry}
 use Rattle.tv_history.specs.Histories.{all_known, can_open, has_open_instance, has_place, is_idle, is_legal, is_offered, is_open, is_ready, is_running, is_settled, may_go_on, next_ask}
@@ -29,6 +28,7 @@ use Rattle.tv_order.specs.FirstIn.{AreHeld, first_in}
 use Rattle.tv_order.proofs.OfOrder.{IsOrderly, flow-orderly}
 use Rattle.tv_order.proofs.OfStrict.{PrefixFirst, prefix-first}
 use Rattle.tv_order.proofs.OfFirst.{find-none, first-found, going-open, has-own, opener-waits, outer-open}
+use Rattle.tv_strategy.proofs.OfEach.{each-all}
 
 module _ (gives : Giving) (d : Document) where
   abbrev m : Meaning

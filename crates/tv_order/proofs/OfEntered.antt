@@ -12,17 +12,17 @@ use Rattle.tv_flow.specs.Flows.{Document}
 use Rattle.tv_model.specs.Jobs.{Job}
 use Rattle.tv_model.specs.Made.{Meaning}
 use Rattle.tv_model.specs.Meanings.{meaning, nesting_limit}
-use Rattle.tv_model.proofs.Tests.{true≠false, both_true}
+use Rattle.tv_model.proofs.Tests.{true≠false}
 use Rattle.tv_model.proofs.Turns.{In}
 use Rattle.tv_model.proofs.Order.{in-append}
 use Rattle.tv_model.proofs.Members.{Apart, apart-append, each_in, in-options}
 use Rattle.tv_model.proofs.Whole.{IsWhole, not-longer, same-head}
+use Rattle.tv_model.proofs.OfMembers.{of-all, of-filter, all-in}
 use Rattle.tv_history.specs.Entries.{History, is_out}
 use Rattle.tv_history.specs.Going.{IsWellFormed}
 use Rattle.tv_history.specs.Histories.{can_open, can_settle_more, has_open_instance, instances, is_legal, is_offered, is_open}
 use Rattle.tv_history.proofs.Ready.{AnyNumber, are-jobs}
 use Rattle.tv_history.proofs.OneWorker.{Before, not-both}
-use Rattle.tv_history.proofs.Tests.{all_in, passing-in}
 use Rattle.tv_history.proofs.Counts.{bit, tally}
 use Rattle.tv_order.specs.Chains.{is_inside}
 use Rattle.tv_order.specs.FirstIn.{AreHeld, entered_among, entered_in, first_in}
@@ -47,7 +47,7 @@ apart-filter key p [] a = tt
 apart-filter {A = A} key p (x ∷ xs) a = by (p x) (apart-filter key p xs a.1)
   where
     by : (b : Bool) → Apart key (filter p xs) → Apart key (cond b (x ∷ filter p xs) (filter p xs))
-    by true h = (λ y k e. a.0 y (passing-in p y xs k).0 e, h)
+    by true h = (λ y k e. a.0 y (of-filter p y xs k).0 e, h)
     by false h = h
 
 halves : {A : Type 0} (p : A → Bool) (xs : List A) → length xs ≡ tally p xs + tally (λ x. not (p x)) xs
@@ -61,10 +61,6 @@ halves {A = A} p (x ∷ xs) = by (p x) (halves p xs)
 tally-append : {A : Type 0} (p : A → Bool) (xs ys : List A) → tally p (xs ++ ys) ≡ tally p xs + tally p ys
 tally-append p [] ys = omega arith
 tally-append p (x ∷ xs) ys = omega (arith, tally-append p xs ys)
-
-all-of : {A : Type 0} (p : A → Bool) (xs : List A) → ((x : A) → In x xs → p x ≡ true) → list_all p xs ≡ true
-all-of p [] f = refl
-all-of p (x ∷ xs) f = both_true (p x) (list_all p xs) (f x (inl refl)) (all-of p xs (λ y h. f y (inr h)))
 
 -- ---- the walk
 
@@ -167,7 +163,7 @@ module _ (gives : Giving) (d : Document) (f : IsWellFormed d) (past : History) (
 
   -- where nothing goes on in I, nothing does in what is entered from it
   still-below : (I J : JobName) → (r : JobName) × (J ≡ I ++ r) → ((y : Job) → In y m.jobs → (c : Name × Place) × (s : JobName) × (y.name ≡ I ++ c ∷ s) → goes y ≡ false) → still J ≡ true
-  still-below I J b g = all-of (λ (y : Job). not (is_inside J y.name && goes y)) m.jobs (λ y h. by y h (is_inside J y.name) refl)
+  still-below I J b g = all-in (λ (y : Job). not (is_inside J y.name && goes y)) m.jobs (λ y h. by y h (is_inside J y.name) refl)
     where
       under : (y : Job) → (p : (c : Name × Place) × (s : JobName) × (y.name ≡ J ++ c ∷ s)) → (r : JobName) → J ≡ I ++ r → (c : Name × Place) × (s : JobName) × (y.name ≡ I ++ c ∷ s)
       under y p [] e = (p.0, p.1, p.2 ∙ ap (λ n. n ++ p.0 ∷ p.1) (e ∙ append-nil I))
@@ -227,9 +223,9 @@ module _ (gives : Giving) (d : Document) (f : IsWellFormed d) (past : History) (
       stills =
           subst (λ n. n ≤ nesting_limit * count_by (λ k. is_out past k.name) m.jobs) (filter-tally still (entered nesting_limit []))
           (few-still gives d f past legal quiet (filter still (entered nesting_limit [])) (apart-filter (λ J. J) still (entered nesting_limit []) (apart nesting_limit [] o (inl refl)))
-          (λ J h. let u = passing-in still J (entered nesting_limit []) h in
+          (λ J h. let u = of-filter still J (entered nesting_limit []) h in
           let x = facts nesting_limit [] o (inl refl) J u.0 in
-          (x.1, x.2, λ k i e. fails (is_inside J k.name) (goes k) e (all_in (λ (y : Job). not (is_inside J y.name && goes y)) m.jobs u.1 k i))))
+          (x.1, x.2, λ k i e. fails (is_inside J k.name) (goes k) e (of-all (λ (y : Job). not (is_inside J y.name && goes y)) m.jobs u.1 k i))))
         where
           fails : (a b : Bool) → a ≡ true → not (a && b) ≡ true → b ≡ false
           fails true b e h = not-true b h

@@ -1,16 +1,15 @@
 -- All jobs of each instance may be held.
-use Rattle.std.specs.Prelude.{◌≡◌, refl, List, [], ◌∷◌, Bool, true, false, cond, filter}
-use Rattle.std.proofs.Common.{sym, ap, ◌∙◌, inl, inr}
+use Rattle.std.specs.Prelude.{refl, List, [], ◌∷◌, Bool, true, false, cond, filter}
+use Rattle.std.proofs.Common.{inl, inr}
 use Rattle.tv_value.specs.Orders.{same_job}
 use Rattle.tv_value.proofs.OfJobNames.{same_job_decides}
 use Rattle.tv_model.specs.Jobs.{Job}
 use Rattle.tv_model.specs.Made.{Meaning}
-use Rattle.tv_model.proofs.Tests.{Each, true≠false}
-use Rattle.tv_model.proofs.Turns.{In}
+use Rattle.tv_model.proofs.Tests.{Each}
 use Rattle.tv_model.proofs.Members.{in_each}
+use Rattle.tv_model.proofs.OfMembers.{of-filter, in-filter}
 use Rattle.tv_history.specs.Entries.{History}
 use Rattle.tv_history.proofs.OneWorker.{Before}
-use Rattle.tv_history.proofs.Tests.{passing-in}
 use Rattle.tv_order.specs.FirstIn.{AreHeld, own_jobs}
 use Rattle.tv_order.specs.JobOrder.{AllPairs}
 use Rattle.tv_order.proofs.OfOrder.{pairs-map}
@@ -35,19 +34,9 @@ pairs-filter {A = A} R p (x ∷ xs) h = by (p x) (pairs-filter R p xs h.1)
     by true k = (each-filter (R x) p xs h.0, k)
     by false k = k
 
-to-filter : {A : Type 0} (p : A → Bool) (y : A) (xs : List A) → In y xs → p y ≡ true → In y (filter p xs)
-to-filter p y [] h e = absurd h
-to-filter {A = A} p y (x ∷ xs) h e = by (p x) refl h (λ k. to-filter p y xs k e)
-  where
-    by : (b : Bool) → p x ≡ b → In y (x ∷ xs) → (In y xs → In y (filter p xs)) → In y (cond b (x ∷ filter p xs) (filter p xs))
-    by true q (inl k) rec = inl k
-    by true q (inr k) rec = inr (rec k)
-    by false q (inl k) rec = absurd (true≠false (sym e ∙ ap p k ∙ q))
-    by false q (inr k) rec = rec k
-
 pub own-held : (m : Meaning) (past : History) (passes : Job → Bool) → AreHeld m past (own_jobs m) passes
 own-held m past passes I o = record {
-  of_instance = λ j h. let r = passing-in (λ (j : Job). same_job j.instance I) j m.jobs h in (r.0, (same_job_decides j.instance I).0 r.1);
+  of_instance = λ j h. let r = of-filter (λ (j : Job). same_job j.instance I) j m.jobs h in (r.0, (same_job_decides j.instance I).0 r.1);
   in_order = pairs-filter (λ j k. Before j k m.jobs) (λ (j : Job). same_job j.instance I) m.jobs (pairs-self m.jobs);
-  all_there = λ j h e g. to-filter (λ (j : Job). same_job j.instance I) j m.jobs h ((same_job_decides j.instance I).1 e);
+  all_there = λ j h e g. in-filter (λ (j : Job). same_job j.instance I) j m.jobs h ((same_job_decides j.instance I).1 e);
 }

@@ -21,12 +21,13 @@ use Rattle.tv_model.specs.Jobs.{Job}
 use Rattle.tv_model.specs.Made.{Made, Meaning, Opened, endings}
 use Rattle.tv_model.specs.Meanings.{flow_meaning, instance_meaning, jobs_with_inside, meaning, nesting_limit, no_meaning}
 use Rattle.tv_model.proofs.Tests.{Each, true≠false, both_true, or_right}
-use Rattle.tv_model.proofs.Turns.{In, each-map, or_left}
+use Rattle.tv_model.proofs.Turns.{In, or_left}
 use Rattle.tv_model.proofs.Order.{in-append}
 use Rattle.tv_model.proofs.Sound.{FreshNames}
 use Rattle.tv_model.proofs.Members.{each_in, in_each, of-flat}
 use Rattle.tv_model.proofs.Instances.{given_of, ranked-fresh, steps_of}
 use Rattle.tv_strategy.proofs.OfSources.{each-append}
+use Rattle.tv_strategy.proofs.OfEach.{each-weaken}
 use Rattle.tv_model.specs.Agreeing.{ActivitiesNest, NestsWithin, StepsNest}
 use Rattle.tv_model.proofs.Whole.{rank-each}
 use Rattle.tv_agreed.proofs.Opening as opening
@@ -48,7 +49,7 @@ pairs-flat S R f (x ∷ xs) p own cross =
 
 pub pairs-map : {A : Type 0} (R S : A → A → Type 0) → ((x y : A) → R x y → S x y) → (xs : List A) → AllPairs R xs → AllPairs S xs
 pairs-map R S f [] p = tt
-pairs-map R S f (x ∷ xs) p = (each-map (R x) (S x) (f x) xs p.0, pairs-map R S f xs p.1)
+pairs-map R S f (x ∷ xs) p = (each-weaken (R x) (S x) (f x) xs p.0, pairs-map R S f xs p.1)
 
 -- ---- places
 
@@ -214,14 +215,14 @@ module _ (gives : Giving) (inside : Name → JobName → List (Name × Value) �
     made-all given done ms ns [] e l h f a = a
     made-all given done ms ns ((n, s) ∷ ss) e l h f a =
         made-all given (done ++ (n, s) ∷ []) (step_made gives inside I given ms (n, s) ∷ ms) (n ∷ ns) ss (e ∙ sym (append_assoc done ((n, s) ∷ []) ss)) (length-append done ((n, s) ∷ []) ∙ (omega (arith, l)))
-        (each-append (λ d. is_among (n ∷ ns) d.0 ≡ true) done ((n, s) ∷ []) (each-map (λ d. is_among ns d.0 ≡ true) (λ d. is_among (n ∷ ns) d.0 ≡ true) (λ d k. or_right (same_name d.0 n) (is_among ns d.0) k) done h) (or_left (same_name n n) (is_among ns n) (same-name n), tt)) f.1
+        (each-append (λ d. is_among (n ∷ ns) d.0 ≡ true) done ((n, s) ∷ []) (each-weaken (λ d. is_among ns d.0 ≡ true) (λ d. is_among (n ∷ ns) d.0 ≡ true) (λ d k. or_right (same_name d.0 n) (is_among ns d.0) k) done h) (or_left (same_name n n) (is_among ns n) (same-name n), tt)) f.1
         ((s, subst (λ z. named n z ≡ Some s) (sym e) here.0, step-each n s (endings ms s.after) (nodes (step_made gives inside I given ms (n, s)).step.iteration), step-pairs n s (endings ms s.after) (nodes (step_made gives inside I given ms (n, s)).step.iteration) (nodes-ordered (step_made gives inside I given ms (n, s)).step.iteration)), subst (λ z. rank_in z n ≡ length ms) (sym e) (here.1 ∙ l), a)
       where
         apart : (d : Name × Step) → is_among ns d.0 ≡ true → same_name n d.0 ≡ false
         apart d k = false_from_ne_true (same_name n d.0) (λ g. true≠false (sym k ∙ subst (λ z. is_among ns z ≡ false) ((bytes_decides n d.0).0 g) f.0))
 
         here : (named n (done ++ (n, s) ∷ ss) ≡ Some s) × (rank_in (done ++ (n, s) ∷ ss) n ≡ length done)
-        here = found-here n s done ss (each-map (λ d. is_among ns d.0 ≡ true) (λ d. same_name n d.0 ≡ false) apart done h)
+        here = found-here n s done ss (each-weaken (λ d. is_among ns d.0 ≡ true) (λ d. same_name n d.0 ≡ false) apart done h)
 
 -- ---- every flow
 
@@ -231,7 +232,7 @@ Within I R j k = (a : JobName) × (b : JobName) × (j.name ≡ I ++ a) × (k.nam
 
 -- ---- nesting
 
-nests-each : (P : Name → Type 0) (ss : List (Name × Step)) → StepsNest P ss → Each (λ s. ActivitiesNest P s.1.activities) ss
+pub nests-each : (P : Name → Type 0) (ss : List (Name × Step)) → StepsNest P ss → Each (λ s. ActivitiesNest P s.1.activities) ss
 nests-each P [] h = tt
 nests-each P (s ∷ ss) h = (h.0, nests-each P ss h.1)
 

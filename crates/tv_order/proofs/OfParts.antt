@@ -18,7 +18,6 @@ use Rattle.tv_model.specs.Meanings.{flow_meaning, instance_meaning, jobs_with_in
 use Rattle.tv_model.proofs.Tests.{Each, true≠false}
 use Rattle.tv_model.proofs.Turns.{In}
 use Rattle.tv_model.proofs.Order.{in-append, in-left, in-right, of-map}
-use Rattle.tv_model.proofs.Fed.{each-all}
 use Rattle.tv_model.proofs.Sound.{AreDistinct}
 use Rattle.tv_model.proofs.Members.{Apart, in-flat, of-flat, once-of_apart}
 use Rattle.tv_model.proofs.Formed.{none-formed, own-apart, steps-formed}
@@ -27,6 +26,7 @@ use Rattle.tv_model.proofs.Whole.{AnyNumber, IsWhole, StepsHave, flow-whole, not
 use Rattle.tv_agreed.specs.Opening.{first_nested}
 use Rattle.tv_order.specs.Parts.{IsInstance, OwnPart, made_of, steps_of_made}
 use Rattle.tv_order.proofs.OfOrder.{IsOf, InsideAt, deeper-nests, flow-orderly, made-all, steps-each}
+use Rattle.tv_strategy.proofs.OfEach.{each-all}
 
 module _ (gives : Giving) (flows : List (Name × Flow)) where
   any-limits : (fs : List (Name × Flow)) → Each (λ f. StepsHave gives AnyNumber f.1) fs

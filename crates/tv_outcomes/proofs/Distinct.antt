@@ -12,9 +12,9 @@ use Rattle.tv_depths.specs.Steps.{declared_depths}
 use Rattle.tv_model.specs.Jobs.{Job}
 use Rattle.tv_model.specs.Meanings.{meaning}
 use Rattle.tv_model.specs.Members.{In}
-use Rattle.tv_model.proofs.Fed.{each-all}
 use Rattle.tv_model.proofs.Order.{in-append, of-map}
 use Rattle.tv_outcomes.proofs.Everywhere.{document-asks}
+use Rattle.tv_strategy.proofs.OfEach.{each-all}
 
 abbrev pub AreDistinct : List Ask → Type 0
 AreDistinct as' = (a b : Ask) → In a as' → In b as' → a.activity ≡ b.activity → a.attempt ≡ b.attempt → a ≡ b

@@ -60,11 +60,11 @@ arrive-levels test q x r can zero h = arrive-holds test q x r can
 arrive-levels test [] x r can (suc m) h = absurd (not-suc-le-zero {n = m} h)
 arrive-levels test (i ∷ q) x r can (suc m) h =
     let inside = arrive-inside i q x r can in
-    ap (λ t. holds_some test (known_at (take m q) t)) inside.0 ∙ arrive-levels test q x (part_at r i) inside.1 m (le_of_suc-le-suc {n = m} {m = (length q)} h)
+    ap (λ t. holds_some test (known_at (take m q) t)) inside.0 ∙ arrive-levels test q x (part_at r i) inside.1 m (le_of_suc-le-suc {n = m} {m = length q} h)
 
 pub close-levels : {A : Type 0} (test : A → Bool) (q : Place) (n : ℕ) (r : Partial A) → CanClose q n r → (m : ℕ) → m ≤ length q → holds_some test (known_at (take m q) (close_at q n r)) ≡ holds_some test (known_at (take m q) r)
 close-levels test q n r can zero h = close-holds test q n r can
 close-levels test [] n r can (suc m) h = absurd (not-suc-le-zero {n = m} h)
 close-levels test (i ∷ q) n r can (suc m) h =
     let inside = close-inside i q n r can in
-    ap (λ t. holds_some test (known_at (take m q) t)) inside.0 ∙ close-levels test q n (part_at r i) inside.1 m (le_of_suc-le-suc {n = m} {m = (length q)} h)
+    ap (λ t. holds_some test (known_at (take m q) t)) inside.0 ∙ close-levels test q n (part_at r i) inside.1 m (le_of_suc-le-suc {n = m} {m = length q} h)

@@ -6,7 +6,7 @@ use Rattle.std.specs.Prelude.{codes, if◌then◌else◌, is_none, is_some, map,
 use Rattle.std.proofs.Common.{ap, subst, sym, ◌∙◌}
 use Rattle.std.specs.Cmp.{first_so}
 use Rattle.tv_value.specs.Nested.{Place}
-use Rattle.tv_value.specs.Values.{JobName, Name, Text, Value}
+use Rattle.tv_value.specs.Values.{JobName, Name, Value}
 use Rattle.tv_gate.specs.Outcomes.{Giving}
 use Rattle.tv_flow.specs.Flows.{Document, Flow, Step}
 use Rattle.tv_strategy.specs.Origins.{plain}
@@ -18,6 +18,7 @@ use Rattle.tv_model.specs.Made.{Meaning}
 use Rattle.tv_model.specs.Meanings.{meaning}
 use Rattle.tv_model.specs.RightDepths.{HaveTheseDepths}
 use Rattle.tv_model.specs.Turns.{is_bounced}
+use Rattle.tv_model.proofs.Results.{errors-have}
 use Rattle.tv_history.specs.Entries.{History, bounced, is_bounced_entry, is_ended_entry}
 use Rattle.tv_history.specs.Histories.{is_legal_after, is_ready, is_settled, next_ask}
 use Rattle.tv_history.proofs.Tests.{same-itself}
@@ -46,11 +47,6 @@ use Rattle.tv_forest.proofs.OfEntries.{settling}
 use Rattle.tv_forest.proofs.OfInstances.{sits}
 use Rattle.tv_open.specs.Firsts.{BindsFault, IsReadySeat}
 use Rattle.tv_run.proofs.OfTellings.{waits-alone}
-
--- an error document at each output has the depth of that
-pub errors-deep : (n : JobName) (why : Text) (from : List JobName) (ds : List ℕ) → HaveTheseDepths ds (error_results n why from ds)
-errors-deep n why from [] = tt
-errors-deep n why from (d ∷ ds) = (refl, errors-deep n why from ds)
 
 -- ---- a job of an open instance
 
@@ -142,7 +138,7 @@ module _ (gives : Giving) (d : Document) (past : History) (xs : Instances) (stan
         new = ap (λ (y : Name × Place). has_result v.events y.0 y.1) (sym (spot-is t at_step)) ∙ ready.without_result;
         right =
             subst (HaveTheseDepths (declared_depths t.1)) (sym error.result)
-            (errors-deep j.name (codes "bounced") (fault_makers (map plain j.inputs)) (declared_depths t.1));
+            (errors-have j.name (codes "bounced") (fault_makers (map plain j.inputs)) (declared_depths t.1));
       }
 
       pub free : IsReadyJob (levels_in v.flow) v (t.0, s.place)

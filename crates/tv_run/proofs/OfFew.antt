@@ -13,12 +13,12 @@ use Rattle.tv_model.specs.Jobs.{Job}
 use Rattle.tv_model.specs.Made.{Meaning}
 use Rattle.tv_model.specs.Members.{In}
 use Rattle.tv_model.proofs.Tests.{true≠false}
+use Rattle.tv_model.proofs.OfMembers.{of-filter}
 use Rattle.tv_history.specs.Entries.{History}
 use Rattle.tv_history.specs.Histories.{is_settled}
 use Rattle.tv_history.specs.ReadOff.{has_failed}
 use Rattle.tv_history.proofs.Counts.{bit, tally, total}
 use Rattle.tv_history.proofs.Ready.{document-whole}
-use Rattle.tv_history.proofs.Tests.{passing-in}
 use Rattle.tv_order.proofs.OfTallies.{few-by, tally-once}
 use Rattle.tv_frame.specs.Tables.{levels_in}
 use Rattle.tv_seated.proofs.OfLists.{is-member}
@@ -71,7 +71,7 @@ module _ (gives : Giving) (r : OpenRun) (xs : Instances) (st : Stands gives r xs
   -- each that is settled has a name
   named : (j : Job) → In j settled → (n : JobName) × In n (names_of r) × (same_job j.name n ≡ true)
   named j i =
-      let p = passing-in (is_settled past) j m.jobs i in
+      let p = of-filter (is_settled past) j m.jobs i in
       let s =
       job-seat gives d levels_in past xs st.stand j p.0 (settled-anywhere m past j p.1) in
       let k = number-of_seat gives r xs st s.outer s.number s.instance s.seat j s.is_its in (

@@ -7,9 +7,9 @@ use Rattle.tv_dispatch.specs.declared.plan.Plan.{Plan}
 use Rattle.tv_check.specs.RunViews.{run_view}
 use Rattle.tv_model.specs.Jobs.{Job}
 use Rattle.tv_model.proofs.Tests.{true≠false}
+use Rattle.tv_model.proofs.OfMembers.{found-in}
 use Rattle.tv_history.specs.Entries as history
 use Rattle.tv_history.specs.Histories.{next_ask}
-use Rattle.tv_history.proofs.Tests.{find-passes}
 use Rattle.tv_order.specs.Moments.{all_jobs, goes_on}
 use Rattle.tv_seats.specs.declared.stage.Stage.{Stage}
 use Rattle.tv_firsts.specs.Opening.{SettlesNothing}
@@ -77,7 +77,7 @@ module _ (gives : Giving) (r : OpenRun) (k : ℕ) (q : GoesOnFirst gives r k) wh
 
   goes : goes_on gives (run_view r.run) (past_of (run_of r)) q.job ≡ true
   goes =
-      (find-passes (goes_on gives (run_view r.run) (past_of (run_of r))) (all_jobs gives (run_view r.run)) q.job q.first).1
+      (found-in (goes_on gives (run_view r.run) (past_of (run_of r))) (all_jobs gives (run_view r.run)) q.job q.first).1
 
   -- ---- by what the code finds
 

@@ -14,7 +14,7 @@ use Rattle.tv_instance.specs.Events.{gave, has_result, is_taken}
 use Rattle.tv_model.specs.Made.{Meaning}
 use Rattle.tv_model.specs.Members.{In}
 use Rattle.tv_model.specs.RightDepths.{HaveTheseDepths}
-use Rattle.tv_model.proofs.Results.{judged-depths}
+use Rattle.tv_model.proofs.Results.{judged-depths, errors-have}
 use Rattle.tv_history.specs.Entries.{History, accepted, is_begun_entry}
 use Rattle.tv_history.specs.Histories.{is_right, is_settled}
 use Rattle.tv_history.specs.Tries.{TryKey, key_of}
@@ -43,7 +43,6 @@ use Rattle.tv_run.specs.declared.run.OpenRun.{OpenRun}
 use Rattle.tv_run.proofs.OfAskedOut.{IsAskedOut, at-step, is-its, out-open, sit}
 use Rattle.tv_run.proofs.OfNumbers.{known-number, stage-is}
 use Rattle.tv_run.proofs.OfOutcomes.{fails-settled, its-after, legal-now, said-now}
-use Rattle.tv_run.proofs.OfBounces.{errors-deep}
 
 -- the try of the ticket is out, and with its outcome, which is right or not, its job is settled and gives these
 pub record SettlesAsked (gives : Giving) (r : OpenRun) (xs : Instances) (t : Ticket) (right : Bool) (vs : List Value)
@@ -135,7 +134,7 @@ module _ (gives : Giving) (r : OpenRun) (xs : Instances) (st : Stands gives r xs
           let after = its-after gives r xs st t a.ask o in
           let w = after.wrong (fails-settled gives r xs st t a.ask o is settled) in
           subst (HaveTheseDepths (declared_depths o.step.1)) (sym w.result)
-          (errors-deep o.job.name w.why [] (declared_depths o.step.1))
+          (errors-have o.job.name w.why [] (declared_depths o.step.1))
 
   spot-is : spot_of o.view.flow.steps o.seat ≡ (o.step.0, o.seat.place)
   spot-is = ap (λ l. (option_map_or (λ (u : Name × Step). u.0) l [], o.seat.place)) (at-step gives r xs st t a.ask o)

@@ -13,10 +13,10 @@ use Rattle.tv_check.specs.RunViews.{run_view}
 use Rattle.tv_dispatch.specs.Jobs.{Ask}
 use Rattle.tv_model.specs.Jobs.{Job}
 use Rattle.tv_model.proofs.Tests.{true≠false}
+use Rattle.tv_model.proofs.OfMembers.{found-in}
 use Rattle.tv_history.specs.Entries as history
 use Rattle.tv_history.specs.Entries.{History}
 use Rattle.tv_history.specs.Histories.{is_ask, is_legal_after, next_ask}
-use Rattle.tv_history.proofs.Tests.{find-passes}
 use Rattle.tv_order.specs.Moments.{all_jobs, has_offer}
 use Rattle.tv_framing.specs.Views.{View}
 use Rattle.tv_frame.specs.Tables.{levels_in}
@@ -234,13 +234,13 @@ module _ (gives : Giving) (r : OpenRun) (xs : Instances) (st : Stands gives r xs
 module _ (gives : Giving) (r : OpenRun) (xs : Instances) where
   pub found-offer : (k : ℕ) → IsFound gives r xs seeking.Offers (Some k) → IsOnOffer gives r xs k
   found-offer k f =
-      let p = find-passes (passes gives r seeking.Offers) (all_jobs gives (run_view r.run)) f.0 f.1 in
+      let p = found-in (passes gives r seeking.Offers) (all_jobs gives (run_view r.run)) f.0 f.1 in
       (f.0, f.2, p.1)
 
   pub found-handable : (k : ℕ) (t : Ticket) → IsFound gives r xs seeking.Offers (Some k) → IsTicketOf gives r xs k t
       → IsHandable gives r xs t
   found-handable k t f of_job =
-      let p = find-passes (passes gives r seeking.Offers) (all_jobs gives (run_view r.run)) f.0 f.1 in
+      let p = found-in (passes gives r seeking.Offers) (all_jobs gives (run_view r.run)) f.0 f.1 in
       record {
         job = f.0;
         first = f.1;

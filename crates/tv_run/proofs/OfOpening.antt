@@ -20,9 +20,9 @@ use Rattle.tv_model.specs.Agreeing.{FlowAgrees}
 use Rattle.tv_model.specs.Jobs.{Job}
 use Rattle.tv_model.specs.RightDepths.{HaveTheseDepths}
 use Rattle.tv_model.proofs.Members.{each_in}
+use Rattle.tv_model.proofs.OfMembers.{found-in}
 use Rattle.tv_history.specs.Entries.{History, opened}
 use Rattle.tv_history.specs.Histories.{is_legal_after}
-use Rattle.tv_history.proofs.Tests.{find-passes}
 use Rattle.tv_order.specs.Moments.{all_jobs, goes_on}
 use Rattle.tv_framing.specs.Answers.{AreInputs}
 use Rattle.tv_framing.specs.Views.{View}
@@ -123,7 +123,7 @@ module _ (gives : Giving) (r : OpenRun) (k : ℕ) (q : OpensFirst gives r k) whe
   known = next.known gives r xs st k j may
 
   goes-on : goes_on gives d past j ≡ true
-  goes-on = (find-passes (goes_on gives d past) (all_jobs gives d) j q.goes.first).1
+  goes-on = (found-in (goes_on gives d past) (all_jobs gives d) j q.goes.first).1
 
   pub opener : (g : Name) × (j.opens ≡ Some g)
   opener = is_some-some j.opens (next.opens-next gives r xs st k j may goes-on q.no_ask)

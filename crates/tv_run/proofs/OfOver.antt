@@ -22,7 +22,6 @@ use Rattle.tv_forest.specs.Forest.{Instance, Instances, IsAt, Stays}
 use Rattle.tv_firsts.proofs.OfEnds.{nothing-at_end}
 use Rattle.tv_frame.specs.Tables.{levels_in}
 use Rattle.tv_gate.specs.Outcomes.{Giving}
-use Rattle.tv_history.proofs.Tests.{find-passes}
 use Rattle.tv_history.specs.Entries as history
 use Rattle.tv_history.specs.Entries.{History, handed_out, is_ended_entry, is_out, recalled}
 use Rattle.tv_history.specs.Histories as histories
@@ -33,6 +32,7 @@ use Rattle.tv_model.specs.Jobs.{Job}
 use Rattle.tv_model.specs.Made.{Meaning}
 use Rattle.tv_model.specs.Meanings.{meaning}
 use Rattle.tv_model.specs.Members.{In}
+use Rattle.tv_model.proofs.OfMembers.{found-in}
 use Rattle.tv_offered.proofs.OfOffers.{handing-legal}
 use Rattle.tv_run.specs.Standing.{OutsAre, Stands, StandsOpen, StandsStill, names_of, run_of}
 use Rattle.tv_run.specs.Turns.{IsOver}
@@ -81,7 +81,7 @@ job-in m ns k j = by (slice_get ns k)
   where
     by : (o : Option JobName) → option_and_then (λ n. find (λ (i : Job). same_job n i.name) m.jobs) o ≡ Some j → In j m.jobs
     by None h = absurd (none-some j h)
-    by (Some n) h = (find-passes (λ (i : Job). same_job n i.name) m.jobs j h).0
+    by (Some n) h = (found-in (λ (i : Job). same_job n i.name) m.jobs j h).0
 
 -- no job of a number is out where none of the meaning is
 none-is_out :
@@ -142,7 +142,7 @@ module _ (gives : Giving) (r : OpenRun) (xs : Instances) (st : Stands gives r xs
     where
       by : (j : Job) → find (is_offered m past) m.jobs ≡ Some j → (o : Option Ask) → next_ask past j ≡ o → ⊥
       by j found None e =
-          true≠false (sym (find-passes (is_offered m past) m.jobs j found).1 ∙ ap (λ o. is_some o && (is_idle past j || (is_ready m past j && not (is_bounced j.ending) && has_place m past j))) e)
+          true≠false (sym (found-in (is_offered m past) m.jobs j found).1 ∙ ap (λ o. is_some o && (is_idle past j || (is_ready m past j && not (is_bounced j.ending) && has_place m past j))) e)
       by j found (Some a) e =
           true≠false
           (sym

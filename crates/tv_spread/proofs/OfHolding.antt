@@ -10,8 +10,8 @@ use Rattle.tv_strategy.specs.Sources.{Each}
 use Rattle.tv_matching.specs.Items.{if_so}
 use Rattle.tv_strategy.specs.Measures.{leaf_names}
 use Rattle.tv_strategy.proofs.OfSources.{each-append}
+use Rattle.tv_strategy.proofs.OfEach.{each-weaken}
 use Rattle.tv_matching.specs.Matchers.{CanTellAll}
-use Rattle.tv_matching.proofs.Lists.{each-weaken}
 use Rattle.tv_match.specs.declared.matchers.Matcher.{Matcher}
 use Rattle.tv_match.specs.declared.told.Told as code
 use Rattle.tv_match.specs.Seen.{matching}

@@ -7,7 +7,6 @@ use Rattle.std.proofs.lemmas.Bool.{ne_eqb, both_ways}
 use Rattle.std.proofs.lemmas.List.{length-map}
 use Rattle.tv_value.specs.Strategies.{Strategy}
 use Rattle.tv_matching.specs.Told.{Told}
-use Rattle.tv_matching.proofs.Lists.{each-weaken}
 use Rattle.tv_match.specs.declared.matchers.Matcher.{Matcher}
 use Rattle.tv_match.specs.Seen.{in_order, matching}
 use Rattle.tv_telling.specs.declared.ways.Event.{Event}
@@ -31,6 +30,7 @@ use Rattle.tv_spread.proofs.OfShowing.{made-faulty}
 use Rattle.tv_spread.specs.Stated.{AllAreTold, FlagsAreTold, IsToldAt, ReadyStays, WholesAreLeaves, WiringsAreWired}
 use Rattle.tv_spread.proofs.Lists.{each-within}
 use Rattle.tv_spread.proofs.OfReserving.{passing-pass}
+use Rattle.tv_strategy.proofs.OfEach.{each-weaken}
 
 pub wholes-leaves : WholesAreLeaves
 wholes-leaves a s e ps = by (e.whole_from == 0)

@@ -7,10 +7,11 @@ use Rattle.tv_value.specs.Strategies.{Strategy, Strategies, cross, port, strateg
 use Rattle.tv_value.specs.Values.{Name, Scalar, fault, holds_fault, text}
 use Rattle.tv_strategy.specs.Sources.{Each}
 use Rattle.tv_strategy.proofs.OfSources.{each-append}
+use Rattle.tv_strategy.proofs.OfEach.{each-weaken}
 use Rattle.tv_matching.specs.Items.{if_so}
 use Rattle.tv_matching.specs.Matchers.{leaf_name}
 use Rattle.tv_matching.specs.Told.{Told, told_leaf}
-use Rattle.tv_matching.proofs.Lists.{each-map, each-weaken}
+use Rattle.tv_matching.proofs.Lists.{each-map}
 use Rattle.tv_matching.proofs.Onces.{each-flat}
 use Rattle.tv_match.specs.declared.told.Told as code
 use Rattle.tv_match.specs.Seen.{leaf_of, told_view}

@@ -5,7 +5,7 @@ use Rattle.std.proofs.Common.{arith, ap, sym, subst, ◌∙◌, length-set, get_
 use Rattle.tv_strategy.specs.Sources.{Each}
 use Rattle.tv_strategy.specs.Conditions.{number_of}
 use Rattle.tv_strategy.specs.Measures.{strategy_depth}
-use Rattle.tv_matching.proofs.Lists.{each-all, each-weaken}
+use Rattle.tv_strategy.proofs.OfEach.{each-all, each-weaken}
 use Rattle.tv_match.specs.declared.matchers.Matcher.{Matcher}
 use Rattle.tv_intake.specs.declared.intakes.Intakes.{Intakes}
 use Rattle.tv_intake.specs.Intaken.{AreIntaken, AreSorted, CanShow, HasRoom, IsSame, brought_at, brought_in, known_jobs, matcher_at, placed, thing_in, waiting_things}

@@ -14,11 +14,12 @@ use Rattle.tv_strategy.specs.Sources.{Each}
 use Rattle.tv_strategy.specs.Conditions.{number_of}
 use Rattle.tv_strategy.specs.Measures.{strategy_depth}
 use Rattle.tv_strategy.proofs.OfSources.{each-append}
+use Rattle.tv_strategy.proofs.OfEach.{each-all, each-weaken}
 use Rattle.tv_matching.specs.Items.{Kind, ends, closes, passes, Item}
 use Rattle.tv_matching.specs.Levels.{KindAt}
 use Rattle.tv_matching.specs.Matchers.{Outcome, fault_at, job_at, list_at, all_out, out}
 use Rattle.tv_matching.specs.Told.{Spot, faulty_at, matched_after}
-use Rattle.tv_matching.proofs.Lists.{each-map, each-weaken, each-all}
+use Rattle.tv_matching.proofs.Lists.{each-map}
 use Rattle.tv_matching.proofs.OfLaws.{matches-once}
 use Rattle.tv_matching.proofs.OfMembers.{each-permutes}
 use Rattle.tv_match.specs.declared.matchers.Matcher.{Matcher}

@@ -3,7 +3,8 @@ use Rattle.std.specs.Prelude.{◌≡◌, ℕ, ◌==◌, ◌&&◌, Bool, true, fa
 use Rattle.std.proofs.Common.{ap, sym, ◌∙◌}
 use Rattle.std.proofs.lemmas.Bool.{eqb-true}
 use Rattle.tv_strategy.specs.Sources.{Each}
-use Rattle.tv_matching.proofs.Lists.{each-map, each-weaken}
+use Rattle.tv_strategy.proofs.OfEach.{each-weaken}
+use Rattle.tv_matching.proofs.Lists.{each-map}
 use Rattle.tv_telling.specs.declared.ways.Event.{Event}
 use Rattle.tv_telling.specs.declared.ways.Way.{Way}
 use Rattle.tv_telling.specs.declared.ways.Whole.{Whole}

@@ -10,7 +10,7 @@ use Rattle.std.proofs.lemmas.List.Elements.{filter-append}
 use Rattle.std.proofs.lemmas.List.FromFn.{get_or-map-range_with_len, length-map-range_with_len}
 use Rattle.tv_strategy.specs.Sources.{Each}
 use Rattle.tv_strategy.proofs.OfSources.{each-append}
-use Rattle.tv_matching.proofs.Lists.{each-all, each-weaken}
+use Rattle.tv_strategy.proofs.OfEach.{each-all, each-weaken}
 use Rattle.tv_matching.proofs.Onces.{each-flat}
 use Rattle.tv_naming.specs.Naming.{numbered}
 use Rattle.tv_wires.specs.declared.feeds.NumberedLink.{NumberedLink}

@@ -13,3 +13,4 @@ pub mod ThereAll
 pub mod OfVisits
 pub mod OfReturns
 pub mod OfRooms
+pub mod OfEach

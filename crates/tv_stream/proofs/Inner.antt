@@ -78,11 +78,11 @@ module _ {T : Type 0} where
       short false h = one-more out (length q) (next-first out h) inner.short
 
       all : (spots : ℕ → Option Spot) (height : ℕ) (inside : InTree m spots s height) → suc (length q) ≤ height → CanArrive (i ∷ q) (tree_at height m s) × Changed m m3 spots s inside.spot height (i ∷ q) x.marked (arrive (i ∷ q) x (tree_at height m s)) (Some out)
-      all spots zero inside tall = absurd (not-suc-le-zero {n = (length q)} tall)
+      all spots zero inside tall = absurd (not-suc-le-zero {n = length q} tall)
       all spots (suc h) inside tall =
           let parted = parts spots inside.spot inside.nodes inside.known in
           let it = part-in-tree m mid spots s i t h inside parted in
-          let r = inner.all parted.more h it (le_of_suc-le-suc {n = (length q)} {m = h} tall) in
+          let r = inner.all parted.more h it (le_of_suc-le-suc {n = length q} {m = h} tall) in
           let same : tree_at h mid t ≡ part_at (tree_at (suc h) m s) i = part-tree-is m mid spots s i t h inside parted in
           let suc-is : tree_at (suc h) m s ≡ tree_by (tree_at h m) m s b.marked b.part = tree-suc h m s b body in
           let can : CanArrive (i ∷ q) (tree_at (suc h) m s) = subst (CanArrive (i ∷ q)) (sym suc-is) (arrive-can (tree_at h m) m s b.marked i b.part q has (subst (λ y. CanArrive q (part_at y i)) suc-is (subst (CanArrive q) same r.0))) in

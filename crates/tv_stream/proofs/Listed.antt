@@ -42,7 +42,7 @@ module _ {A : Type 0} where
   listed-same (suc n) f g h = ap (λ p. part p (listed n (λ i. f (suc i)))) (h 0) ∙ ap (part (g 0)) (listed-same n (λ i. f (suc i)) (λ i. g (suc i)) (λ i. h (suc i)))
 
   pub part-listed : (n : ℕ) (f : ℕ → Partial A) (i : ℕ) → ((j : ℕ) → n ≤ j → f j ≡ wanting) → part_of (listed n f) i ≡ f i
-  part-listed zero f i h = sym (h i (zero-le))
+  part-listed zero f i h = sym (h i zero-le)
   part-listed (suc n) f zero h = refl
   part-listed (suc n) f (suc i) h = part-listed n (λ j. f (suc j)) i (λ j k. h (suc j) (suc-le-suc {m = n} k))
 
@@ -53,7 +53,7 @@ module _ {A : Type 0} where
   pub with-listed : (n : ℕ) (f g : ℕ → Partial A) (i : ℕ) → ((j : ℕ) → j ≢ i → g j ≡ f j) → ((j : ℕ) → n ≤ j → f j ≡ wanting) → with_part (g i) (listed n f) i ≡ listed (cover n i) g
   with-listed zero f g zero same none = refl
   with-listed zero f g (suc i) same none =
-      ap (λ p. part p (with_part (g (suc i)) no_parts i)) (sym (none 0 (zero-le)) ∙ sym (same 0 (zero-not_suc i)))
+      ap (λ p. part p (with_part (g (suc i)) no_parts i)) (sym (none 0 zero-le) ∙ sym (same 0 (zero-not_suc i)))
       ∙ ap (part (g 0)) (with-listed zero (λ j. f (suc j)) (λ j. g (suc j)) i (λ j ne. same (suc j) (suc-apart j i ne)) (λ j h. none (suc j) (zero-le)))
   with-listed (suc n) f g zero same none = ap (part (g 0)) (listed-same n (λ j. f (suc j)) (λ j. g (suc j)) (λ j. sym (same (suc j) (suc-ne-zero j))))
   with-listed (suc n) f g (suc i) same none =
@@ -67,7 +67,7 @@ module _ {A : Type 0} where
       never : (m : ℕ) → suc m ≤ 0 → ⊥
       never m h = omega arith
   filled-listed (suc n) zero f h none =
-      ap (λ p. part p (filled no_parts n)) (sym (none 0 (zero-le)))
+      ap (λ p. part p (filled no_parts n)) (sym (none 0 zero-le))
       ∙ ap (part (f 0)) (filled-listed n zero (λ j. f (suc j)) (zero-le) (λ j k. none (suc j) (zero-le)))
   filled-listed (suc n) (suc most) f h none = ap (part (f 0)) (filled-listed n most (λ j. f (suc j)) (down most n h) (λ j k. none (suc j) (suc-le-suc {m = most} k)))
     where

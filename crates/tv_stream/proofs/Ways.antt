@@ -68,10 +68,10 @@ module _ {T : Type 0} where
   module _ (m mid : ℕ → Option (Entry (Held T))) (s t i : ℕ) (q : List ℕ) (parts : (spots : ℕ → Option Spot) (p : Spot) → AreNodes m spots → spots s ≡ Some p → Parted m mid spots s i t) where
     -- into the part
     pub enter : (spots : ℕ → Option Spot) (height : ℕ) → InTree m spots s height → suc (length q) ≤ height → (more : ℕ → Option Spot) × ((h : ℕ) × (InTree mid more t h × (length q ≤ h)))
-    enter spots zero inside tall = absurd (not-suc-le-zero {n = (length q)} tall)
+    enter spots zero inside tall = absurd (not-suc-le-zero {n = length q} tall)
     enter spots (suc h) inside tall =
         let parted = parts spots inside.spot inside.nodes inside.known in
-        (parted.more, (h, (part-in-tree m mid spots s i t h inside parted, le_of_suc-le-suc {n = (length q)} {m = h} tall)))
+        (parted.more, (h, (part-in-tree m mid spots s i t h inside parted, le_of_suc-le-suc {n = length q} {m = h} tall)))
 
     pub enter-close : (spots : ℕ → Option Spot) (height : ℕ) → InTree m spots s height → suc (length q) < height → (more : ℕ → Option Spot) × ((h : ℕ) × (InTree mid more t h × (length q < h)))
     enter-close spots zero inside tall = absurd (never (length q) tall)
@@ -93,10 +93,10 @@ module _ {T : Type 0} where
         pub whole : (counts_of b.part).whole < 2 ^ 63
 
       pub arrive-after : (x : Marked T) (least : ℕ) → ArrivesIn mid m2 t q x least → (spots : ℕ → Option Spot) (height : ℕ) → InTree m spots s height → suc (length q) ≤ height → After
-      arrive-after x least inner spots zero inside tall = absurd (not-suc-le-zero {n = (length q)} tall)
+      arrive-after x least inner spots zero inside tall = absurd (not-suc-le-zero {n = length q} tall)
       arrive-after x least inner spots (suc h) inside tall =
           let parted = parts spots inside.spot inside.nodes inside.known in
-          let r = (inner.all parted.more h (part-in-tree m mid spots s i t h inside parted) (le_of_suc-le-suc {n = (length q)} {m = h} tall)).1 in
+          let r = (inner.all parted.more h (part-in-tree m mid spots s i t h inside parted) (le_of_suc-le-suc {n = length q} {m = h} tall)).1 in
           record {
             more = r.changes.more;
             spot = inside.spot;

@@ -2,7 +2,7 @@
 use Rattle.std.specs.Prelude.{Bool, List, None, Option, Some, [], false, if◌then◌else◌, is_some, map, option_and_then, option_map, true, ◌≡◌, ◌∷◌, refl}
 use Rattle.std.specs.Option.{option_map_or}
 use Rattle.std.proofs.Common.{ap, inr, sym, ◌∙◌}
-use Rattle.tv_lemmas.proofs.Options.{is_some-map}
+use Rattle.tv_lemmas.proofs.Options.{is_some-map, and_then-map}
 use Rattle.tv_value.specs.Nested.{Place, at}
 use Rattle.tv_value.specs.Orders.{named, same_name}
 use Rattle.tv_value.specs.Values.{Name, Value}
@@ -29,14 +29,10 @@ named-each {A} {B} f n (x ∷ xs) = by (same_name n x.0) (named-each f n xs)
     by true h = refl
     by false h = h
 
-seen-at : {A : Type 0} (f : A → Value) (q : Place) (o : Option A) → option_and_then (λ v. at v q) (option_map f o) ≡ option_and_then (λ a. at (f a) q) o
-seen-at f q None = refl
-seen-at f q (Some a) = refl
-
 -- what stands in the value of an input, by the one that was found
 pub given-so : {A : Type 0} (f : A → Value) (p : Name) (q : Place) (xs : List (Name × A)) (o : Option A) → o ≡ named p xs
     → option_and_then (λ v. at v q) (named p (map (λ x. (x.0, f x.1)) xs)) ≡ option_and_then (λ a. at (f a) q) o
-given-so f p q xs o e = ap (option_and_then (λ v. at v q)) (named-each f p xs ∙ ap (option_map f) (sym e)) ∙ seen-at f q o
+given-so f p q xs o e = ap (option_and_then (λ v. at v q)) (named-each f p xs ∙ ap (option_map f) (sym e)) ∙ and_then-map f (λ u. at u q) o
 
 -- it is there where something stands in what was found
 pub is-there : {A B : Type 0} (f : A → Value) (g : B → Value) (p : Name) (q : Place) (xs : List (Name × A)) (a : A) → Some a ≡ named p xs

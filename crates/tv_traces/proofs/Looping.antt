@@ -39,8 +39,8 @@ module _ {A : Type 0} (p : A → Bool) where
 
   pub none-all : (xs : List A) (i : ℕ) → find p (take i xs) ≡ None → length xs ≤ i → find p xs ≡ None
   none-all [] i h le = refl
-  none-all (y ∷ xs) zero h le = absurd (not-suc-le-zero {n = (length xs)} le)
-  none-all (y ∷ xs) (suc i) h le = let r = rest-none y (take i xs) h in skip y xs None r.0 (none-all xs i r.1 (le_of_suc-le-suc {n = (length xs)} {m = i} le))
+  none-all (y ∷ xs) zero h le = absurd (not-suc-le-zero {n = length xs} le)
+  none-all (y ∷ xs) (suc i) h le = let r = rest-none y (take i xs) h in skip y xs None r.0 (none-all xs i r.1 (le_of_suc-le-suc {n = length xs} {m = i} le))
 
 -- ---- places of leaves
 

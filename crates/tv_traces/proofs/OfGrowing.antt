@@ -19,6 +19,7 @@ use Rattle.tv_levels.specs.Levels.{IsAmong, closed}
 use Rattle.tv_levels.specs.Views.{level_view}
 use Rattle.tv_levels.specs.declared.level.Level.{Level}
 use Rattle.tv_model.specs.Members.{In}
+use Rattle.tv_model.proofs.Order.{in-left, in-right, in-append}
 use Rattle.tv_marked.specs.Tables.{AreGrown, IsInside, IsThere}
 use Rattle.tv_traces.specs.Growing.{AreGrownBy, IsAround, IsAroundOne, Items, WithAround, WithItem, at_least}
 use Rattle.tv_traces.specs.Sights.{grown_in, level_spot}
@@ -289,24 +290,6 @@ in-levels n q [] i = absurd i
 in-levels n q (x ∷ ls) (inl e) = record { level = level_view x; among = inl refl; of_step = sym (ap (λ (y : ℕ × Place). y.0) e); place = sym (ap (λ (y : ℕ × Place). y.1) e) }
 in-levels n q (x ∷ ls) (inr i) = let a = in-levels n q ls i in record { level = a.level; among = inr a.among; of_step = a.of_step; place = a.place }
 
-in-left : {A : Type 0} (x : A) (xs ys : List A) → In x xs → In x (xs ++ ys)
-in-left x [] ys i = absurd i
-in-left x (y ∷ xs) ys (inl e) = inl e
-in-left x (y ∷ xs) ys (inr i) = inr (in-left x xs ys i)
-
-in-right : {A : Type 0} (x : A) (xs ys : List A) → In x ys → In x (xs ++ ys)
-in-right x [] ys i = i
-in-right x (y ∷ xs) ys i = inr (in-right x xs ys i)
-
-in-either : {A : Type 0} (x : A) (xs ys : List A) → In x (xs ++ ys) → In x xs ⊎ In x ys
-in-either x [] ys i = inr i
-in-either x (y ∷ xs) ys (inl e) = inl (inl e)
-in-either {A = A} x (y ∷ xs) ys (inr i) = by (in-either x xs ys i)
-  where
-    by : In x xs ⊎ In x ys → In x (y ∷ xs) ⊎ In x ys
-    by (inl j) = inl (inr j)
-    by (inr j) = inr j
-
 pub all-grown : (ls : List Level) (js : List (ℕ × Place)) (found : Place → Option ℕ) → AreGrownBy (IsAroundOne (map level_spot ls ++ js)) found → AreGrown (map level_view ls) js (grown_in found)
 all-grown ls js found h = record { told = told; from = λ n q w e. from n q w (found (n ∷ q)) refl e }
   where
@@ -327,7 +310,7 @@ all-grown ls js found h = record { told = told; from = λ n q w e. from n q w (f
     there n q (inr j) = inr j
 
     inside : (n : ℕ) (q : Place) (i m : ℕ) → m ≡ suc i → IsAroundOne (map level_spot ls ++ js) n q i → IsInside (map level_view ls) js n q m
-    inside n q i m e x = record { index = i; rest = x.rest; there = there n (q ++ i ∷ x.rest) (in-either {A = ℕ × Place} (n, q ++ i ∷ x.rest) (map level_spot ls) js x.among); last = e }
+    inside n q i m e x = record { index = i; rest = x.rest; there = there n (q ++ i ∷ x.rest) (in-append {A = ℕ × Place} (n, q ++ i ∷ x.rest) (map level_spot ls) js x.among); last = e }
 
     from : (n : ℕ) (q : Place) (w : levels.What) (o : Option ℕ) → found (n ∷ q) ≡ o → option_map closed o ≡ Some w → (m : ℕ) × (w ≡ closed m) × IsInside (map level_view ls) js n q m
     from n q w None e f = absurd (none-some w f)

@@ -21,8 +21,8 @@ use Rattle.tv_traces.specs.declared.node.Node.{Node}
 
 pub got-not : {A B : Type 0} (g : A → B) (xs : List A) (n : ℕ) → length xs ≤ n → slice_get (map g xs) n ≡ None
 got-not g [] n h = refl
-got-not g (y ∷ xs) zero h = absurd (not-suc-le-zero {n = (length xs)} h)
-got-not g (y ∷ xs) (suc n) h = got-not g xs n (le_of_suc-le-suc {n = (length xs)} {m = n} h)
+got-not g (y ∷ xs) zero h = absurd (not-suc-le-zero {n = length xs} h)
+got-not g (y ∷ xs) (suc n) h = got-not g xs n (le_of_suc-le-suc {n = length xs} {m = n} h)
 
 shape-at : (us : List Node) (n : ℕ) (u : Node) → n < length us → u ≡ get_or us n u → slice_index_or (shapes_view us) n no_shape ≡ node_view u
 shape-at [] n u h e = none-below n h
@@ -31,8 +31,8 @@ shape-at (v ∷ us) (suc n) u h e = shape-at us n u (less-back n (length us) h) 
 
 shape-none : (us : List Node) (n : ℕ) → length us ≤ n → slice_index_or (shapes_view us) n no_shape ≡ no_shape
 shape-none [] n h = refl
-shape-none (v ∷ us) zero h = absurd (not-suc-le-zero {n = (length us)} h)
-shape-none (v ∷ us) (suc n) h = shape-none us n (le_of_suc-le-suc {n = (length us)} {m = n} h)
+shape-none (v ∷ us) zero h = absurd (not-suc-le-zero {n = length us} h)
+shape-none (v ∷ us) (suc n) h = shape-none us n (le_of_suc-le-suc {n = length us} {m = n} h)
 
 -- ---- to push nothing, or what was pushed
 

@@ -29,6 +29,7 @@ use Rattle.tv_model.proofs.Binds.{Binds}
 use Rattle.tv_model.proofs.Delivers.{mismatches, ported-depth}
 use Rattle.tv_model.proofs.OfDepths.{Takes, all-bind, declared_in}
 use Rattle.tv_model.proofs.Sound.{StandsAt, all-stand, nodes-stand}
+use Rattle.tv_model.proofs.OfMembers.{of-all}
 use Rattle.tv_matching.specs.Items.{Bound, Item, Stopped, ends, if_so, kind_of, known_items}
 use Rattle.tv_matching.specs.Matched.{matched}
 use Rattle.tv_matching.specs.Members.{Once, at_place}
@@ -44,7 +45,7 @@ use Rattle.tv_instances.proofs.InDepth.{as_made}
 use Rattle.tv_framing.proofs.OfFrames.{known-stands}
 use Rattle.tv_framing.proofs.OfLaws.{matched-is_known}
 use Rattle.tv_kept.specs.Told.{PortIsTold}
-use Rattle.tv_begun.proofs.OfInstances.{IsStepOf, member-passes}
+use Rattle.tv_begun.proofs.OfInstances.{IsStepOf}
 use Rattle.tv_begun.proofs.OfSteps.{same-feeds}
 use Rattle.tv_truly.proofs.OfBindings.{binding-holds}
 use Rattle.tv_truly.proofs.OfLeaves.{matched-alike}
@@ -217,5 +218,5 @@ module _ (flow : Flow) (levels : Name → ℕ) (instance : JobName) (results : R
         let bound = binds j.place node.binding (subst (λ o. IsJob o node.binding) (sym node.stands) refl) in
         said-known j.place
         ∙ alone test j.place (known_items known iteration_of) (λ q. known-once known q iteration_of) x i e node.binding kind
-        ∙ binding-holds (leaf_names (strategy_of s.1)) s.1.inputs node.binding bound.0 once (λ n g. member-passes (λ p. is_some (named p s.1.inputs)) (leaf_names (strategy_of s.1)) w.agree.ports n g)
+        ∙ binding-holds (leaf_names (strategy_of s.1)) s.1.inputs node.binding bound.0 once (λ n g. of-all (λ p. is_some (named p s.1.inputs)) (leaf_names (strategy_of s.1)) w.agree.ports n g)
         ∙ ap (list_any (λ v. holds_fault v)) (sym node.values)

@@ -13,16 +13,17 @@ use Rattle.tv_strategy.specs.Measures.{leaf_names}
 use Rattle.tv_strategy.specs.Origins.{Traced}
 use Rattle.tv_strategy.specs.Sources.{Each}
 use Rattle.tv_strategy.proofs.OfSources.{each-append}
+use Rattle.tv_strategy.proofs.OfEach.{each-weaken}
 use Rattle.tv_naming.proofs.FormedParts.{passes}
 use Rattle.tv_depths.specs.Delivered.{Delivered, Ported, feed_delivers, ported, wrapped}
 use Rattle.tv_depths.specs.Steps.{endings_of, strategy_of}
 use Rattle.tv_model.specs.Instances.{given_of}
 use Rattle.tv_model.specs.Members.{In}
-use Rattle.tv_model.proofs.OfMembers.{get-in}
+use Rattle.tv_model.proofs.OfMembers.{get-in, of-all}
 use Rattle.tv_matching.specs.Items.{Bound, Item, Stopped, known_items}
 use Rattle.tv_matching.specs.Matchers.{leaf_name}
 use Rattle.tv_matching.specs.Told.{TellsFaults, Told, faulty_at}
-use Rattle.tv_matching.proofs.Lists.{each-map, each-weaken}
+use Rattle.tv_matching.proofs.Lists.{each-map}
 use Rattle.tv_matching.proofs.OfMembers.{each-from, each-in, each-permutes, in-map, in-permutes}
 use Rattle.tv_matching.proofs.Onces.{each-flat}
 use Rattle.tv_telling.specs.declared.ways.Event as code
@@ -43,7 +44,7 @@ use Rattle.tv_joined.specs.AlongWires.{IsPortOf, of_leaf, told_along}
 use Rattle.tv_joined.specs.WiredFlows.{IsWired}
 use Rattle.tv_kept.specs.NextEvents.{IsNextEvent}
 use Rattle.tv_kept.specs.Told.{PortIsTold, StepIsTold}
-use Rattle.tv_begun.proofs.OfInstances.{IsStepOf, inputs-rise, member-passes, ports-are, step-of}
+use Rattle.tv_begun.proofs.OfInstances.{IsStepOf, inputs-rise, ports-are, step-of}
 use Rattle.tv_begun.proofs.OfLeaves.{named-own}
 use Rattle.tv_begun.proofs.OfStarts.{at_first, feed-starts}
 use Rattle.tv_begun.proofs.OfSteps.{IsPlaced, all_depths, steps-placed}
@@ -77,7 +78,7 @@ module _ (flows : List (Name × Flow)) (levels : Name → ℕ) (v : View) (depth
 
   leaf-of : (i : Name × StepInput) → In i s.1.inputs → list_any (same_name i.0) (leaf_names (strategy_of s.1)) ≡ true
   leaf-of i g =
-      member-passes (λ (j : Name × StepInput). list_any (same_name j.0) (leaf_names (strategy_of s.1))) s.1.inputs
+      of-all (λ (j : Name × StepInput). list_any (same_name j.0) (leaf_names (strategy_of s.1))) s.1.inputs
       (passes (λ (t : Name × Step). list_all (λ (j : Name × StepInput). list_any (same_name j.0) (leaf_names (strategy_of t.1))) t.1.inputs) v.flow.steps n s wired.leaves there) i g
 
 -- ---- the start

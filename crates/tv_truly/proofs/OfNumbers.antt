@@ -32,13 +32,12 @@ use Rattle.tv_instance.specs.Events as events
 use Rattle.tv_instance.specs.Events.{Event, Events, event_step, fault_set, took}
 use Rattle.tv_framing.specs.Arriving.{part_so_far, put_event}
 use Rattle.tv_joined.proofs.OfEndings.{at-number}
-use Rattle.tv_begun.proofs.OfInstances.{member-passes}
 use Rattle.tv_begun.proofs.OfSteps.{stands-at}
 use Rattle.tv_model.specs.Instances.{value_given}
+use Rattle.tv_model.proofs.OfMembers.{of-all, of-filter}
 use Rattle.tv_truly.specs.Known.{HoldsFaults, IsTrueWhole, feed_faulty, link_faulty, link_known, tree_of}
 use Rattle.tv_truly.specs.Numbers.{AreFaultsBy, AreWholeBy, numbered_feed_faulty, numbered_link_faulty}
 use Rattle.tv_truly.specs.Stated.{FaultsAreByNumbers, TreesAreByEvents, TreesAreByNumbers, WholePortsAreTrue}
-use Rattle.tv_truly.proofs.OfWires.{of-filter}
 
 -- what stands at the position of a name that is there
 at-position : {A : Type 0} (n : Name) (xs : List (Name × A)) → has_name xs n ≡ true → (x : Name × A) × (slice_get xs (position n xs) ≡ Some x) × (x.0 ≡ n)
@@ -110,7 +109,7 @@ whole_ports-are_true f wired n s there levels given es whole t are inputs output
     let i = of-map (port_among f leaves) p s.1.inputs a.0 in
     let test : has_whole_with whole t (port_among f leaves i.0) ≡ true = ap (has_whole_with whole t) (sym i.2) ∙ a.1 in
     let fed = and_parts (feed_from t (feed_numbered f i.0.1.from)) (feeds.feed_whole (with_step whole t) (feed_numbered f i.0.1.from)) (and_parts _ _ test).1 in
-    let links_there = member-passes (λ (j : Name × StepInput). list_all (is_there f) (feed_links j.1.from)) s.1.inputs links i.0 i.1 in
+    let links_there = of-all (λ (j : Name × StepInput). list_all (is_there f) (feed_links j.1.from)) s.1.inputs links i.0 i.1 in
     record {
       port = i.0;
       among = i.1;
@@ -135,7 +134,7 @@ pub trees-are_by_events : TreesAreByEvents
 trees-are_by_events levels v e =
     record {
       stays = λ t o h. other-stays t _ _ _ e (tree_of v.flow levels v.inputs v.events t o) h;
-      own = λ faults from c w o h. w.hold o h 0 (zero-le);
+      own = λ faults from c w o h. w.hold o h 0 zero-le;
     }
 
 -- ---- trees by numbers

@@ -17,7 +17,7 @@ use Rattle.tv_naming.specs.Numbers.{position}
 use Rattle.tv_naming.proofs.ByPosition.{there}
 use Rattle.tv_depths.specs.Steps.{strategy_of}
 use Rattle.tv_model.specs.Members.{In}
-use Rattle.tv_model.proofs.OfMembers.{in-filter}
+use Rattle.tv_model.proofs.OfMembers.{in-filter, of-filter}
 use Rattle.tv_matching.specs.Items.{if_so}
 use Rattle.tv_matching.specs.Matchers.{leaf_name}
 use Rattle.tv_matching.specs.Told.{Told, told_leaf}
@@ -42,15 +42,6 @@ use Rattle.tv_joined.proofs.OfTold.{bound-to}
 use Rattle.tv_begun.proofs.OfLeaves.{IsTo, value-to}
 
 -- ---- members of lists
-
-pub of-filter : {A : Type 0} (p : A → Bool) (x : A) (xs : List A) → In x (filter p xs) → In x xs × (p x ≡ true)
-of-filter p x [] h = absurd h
-of-filter p x (y ∷ xs) h = by (p y) refl h (λ g. of-filter p x xs g)
-  where
-    by : (b : Bool) → p y ≡ b → In x (if b then y ∷ filter p xs else filter p xs) → (In x (filter p xs) → In x xs × (p x ≡ true)) → In x (y ∷ xs) × (p x ≡ true)
-    by true e (inl w) rec = (inl w, ap p w ∙ e)
-    by true e (inr g) rec = let r = rec g in (inr r.0, r.1)
-    by false e g rec = let r = rec g in (inr r.0, r.1)
 
 of-mapped : {A B : Type 0} (g : A → B) (xs : List A) (k : ℕ) (z : B) → slice_get (map g xs) k ≡ Some z → (x : A) × In x xs × (z ≡ g x)
 of-mapped g [] k z e = absurd (none-some z e)

@@ -22,7 +22,7 @@ use Rattle.tv_ready.specs.Sought.{stands_after}
 use Rattle.tv_instance.specs.ByResults.{last_first}
 use Rattle.tv_model.specs.Members.{In}
 use Rattle.tv_model.proofs.Order.{in-map, of-map}
-use Rattle.tv_history.proofs.Tests.{passing-in}
+use Rattle.tv_model.proofs.OfMembers.{of-filter}
 use Rattle.tv_order.specs.JobOrder.{place_before, rank_in}
 use Rattle.tv_turn.proofs.OfTurns.{Falls}
 
@@ -99,7 +99,7 @@ by_rank-in (suc n) done xs s i =
         → ((x : Name × Step) → In s (by_rank n (x.0 ∷ done) (filter (λ t. not (same_name x.0 t.0)) xs)) → In s (filter (λ t. not (same_name x.0 t.0)) xs)) → In s xs
     by None e j rec = absurd j
     by (Some x) e (inl p) rec = subst (λ t. In t xs) (sym p) (find-in (λ t. list_all (is_among done) (earlier_steps t.1)) xs x e)
-    by (Some x) e (inr j) rec = (passing-in (λ t. not (same_name x.0 t.0)) s xs (rec x j)).0
+    by (Some x) e (inr j) rec = (of-filter (λ t. not (same_name x.0 t.0)) s xs (rec x j)).0
 
 pub ranked-in : (xs : Steps) (s : Name × Step) → In s (ranked xs) → In s xs
 ranked-in xs s i = by_rank-in (length xs) [] xs s i

@@ -25,10 +25,9 @@ use Rattle.tv_model.specs.Members.{In}
 use Rattle.tv_model.proofs.Members.{each_in, once-of_apart}
 use Rattle.tv_model.proofs.Order.{in-map, of-map}
 use Rattle.tv_model.proofs.Whole.{step_key}
-use Rattle.tv_model.proofs.OfMembers.{all-in, found-in}
+use Rattle.tv_model.proofs.OfMembers.{all-in, found-in, of-all}
 use Rattle.tv_history.specs.Entries.{History}
 use Rattle.tv_history.specs.Histories.{all_known, can_end}
-use Rattle.tv_history.proofs.Tests.{all_in}
 use Rattle.tv_order.specs.Parts.{IsInstance, made_of}
 use Rattle.tv_order.proofs.OfParts.{main-instance}
 use Rattle.tv_instances.specs.OwnNodes.{NodesHave}
@@ -126,7 +125,7 @@ module _ (gives : Giving) (flows : List (Name × Flow)) (m : Meaning) (past : Hi
   ends s = if same_job I s.instance then all_known m past s.ending else true
 
   of-run : list_all ends m.steps ≡ true → list_all (has_ended known) fs ≡ true
-  of-run h = all-in (has_ended known) fs (λ f i. sym (ended-same f i) ∙ by f (same_job I f.step.instance) ((same_job_decides I f.step.instance).1 (sym (own-instance f i))) (all_in ends m.steps h f.step (step-listed f i)))
+  of-run h = all-in (has_ended known) fs (λ f i. sym (ended-same f i) ∙ by f (same_job I f.step.instance) ((same_job_decides I f.step.instance).1 (sym (own-instance f i))) (of-all ends m.steps h f.step (step-listed f i)))
     where
       by : (f : InstanceStep) (b : Bool) → b ≡ true → (if b then all_known m past f.step.ending else true) ≡ true
           → all_known m past f.step.ending ≡ true
@@ -141,7 +140,7 @@ module _ (gives : Giving) (flows : List (Name × Flow)) (m : Meaning) (past : Hi
       by s i false e = refl
       by s i true e =
           let f = listed-step s i (sym ((same_job_decides I s.instance).0 e)) in
-          ap (λ (t : StepMeaning). all_known m past t.ending) f.2 ∙ ended-same f.0 f.1 ∙ all_in (has_ended known) fs h f.0 f.1
+          ap (λ (t : StepMeaning). all_known m past t.ending) f.2 ∙ ended-same f.0 f.1 ∙ of-all (has_ended known) fs h f.0 f.1
 
   pub ending-told : can_end m past I ≡ has_ended_now levels v
   ending-told =

@@ -13,6 +13,7 @@ use Rattle.tv_flow.specs.Flows.{Document, Flow, Step, StepInput}
 use Rattle.tv_flow.specs.Formed.{is_formed}
 use Rattle.tv_strategy.specs.Origins.{Origin, Traced, plain}
 use Rattle.tv_strategy.specs.Sources.{Each}
+use Rattle.tv_strategy.proofs.OfEach.{each-all}
 use Rattle.tv_dispatch.specs.Jobs.{Fate, Taken, opens, right, taken, tries, wrong}
 use Rattle.tv_depths.specs.CheckedDepths.{steps_depths}
 use Rattle.tv_depths.specs.Delivered.{StepMeaning}
@@ -28,7 +29,6 @@ use Rattle.tv_model.specs.Made.{Made, Meaning, Opened}
 use Rattle.tv_model.specs.Meanings.{flow_meaning, instance_meaning, jobs_with_inside, meaning, nesting_limit, no_meaning, steps_inside}
 use Rattle.tv_model.specs.Members.{In}
 use Rattle.tv_model.specs.RightDepths.{HaveTheseDepths}
-use Rattle.tv_model.proofs.Fed.{each-all}
 use Rattle.tv_model.proofs.Formed.{own-apart}
 use Rattle.tv_model.proofs.Instances.{given-free, instance-formed}
 use Rattle.tv_model.proofs.Members.{Apart, each_in, in-flat, not-longer, of-flat, once-of_apart}

@@ -14,6 +14,7 @@ use Rattle.tv_strategy.specs.Iterations.{job}
 use Rattle.tv_strategy.specs.Origins.{Origin}
 use Rattle.tv_strategy.specs.Sources.{AtNodes, Each}
 use Rattle.tv_strategy.proofs.OfSources.{each-append}
+use Rattle.tv_strategy.proofs.OfEach.{each-weaken}
 use Rattle.tv_depths.specs.Delivered.{Delivered}
 use Rattle.tv_depths.specs.Ranks.{is_among, ranked}
 use Rattle.tv_depths.specs.Steps.{endings_of}
@@ -38,7 +39,6 @@ use Rattle.tv_model.proofs.Fed.{each-flat_map, either}
 use Rattle.tv_model.proofs.Instances.{given-free}
 use Rattle.tv_model.proofs.Members.{each_in, in_each}
 use Rattle.tv_model.proofs.Sound.{IsFree}
-use Rattle.tv_model.proofs.Turns.{each-map}
 use Rattle.tv_model.proofs.Whole.{rank-each}
 use Rattle.tv_history.specs.Entries.{History}
 use Rattle.tv_history.specs.Histories.{is_ready}
@@ -99,7 +99,7 @@ module _ (gives : Giving) (flows : List (Name × Flow)) (m : Meaning) (past : Hi
   pub all-own : Each (NodesHave Own) fs
   all-own =
       nodes-are_own I (results_here gives flows m past I levels v r) (given_of v.flow v.inputs) (ranked v.flow.steps)
-      (each-map (λ (d : Name × Delivered). AtNodes IsFree d.1.value) (λ (d : Name × Delivered). AtNodes Own d.1.value)
+      (each-weaken (λ (d : Name × Delivered). AtNodes IsFree d.1.value) (λ (d : Name × Delivered). AtNodes Own d.1.value)
       (λ d h. at_nodes-weaken IsFree Own (λ o k. subst (IsOwn I) (sym k.0) tt) d.1.value h) (given_of v.flow v.inputs) (given-free v.flow v.inputs))
 
   endings-own : (gs : List InstanceStep) → Each (NodesHave Own) gs → (ns : List Name)

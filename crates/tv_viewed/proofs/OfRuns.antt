@@ -10,7 +10,6 @@ use Rattle.tv_model.specs.Jobs.{Job}
 use Rattle.tv_model.specs.Made.{Meaning}
 use Rattle.tv_model.specs.Meanings.{flow_meaning, meaning}
 use Rattle.tv_model.specs.Members.{In}
-use Rattle.tv_model.proofs.Fed.{each-all}
 use Rattle.tv_model.proofs.Whole.{AnyNumber, IsWhole, StepsHave, meaning-whole}
 use Rattle.tv_history.specs.Entries.{History}
 use Rattle.tv_history.specs.Histories.{is_open, is_settled, is_settled_name}
@@ -26,6 +25,7 @@ use Rattle.tv_framing.specs.Views.{AreOfDepth, InAll, View}
 use Rattle.tv_viewed.specs.InRun.{IsInRun}
 use Rattle.tv_viewed.proofs.OfSteps.{own_results, own_steps}
 use Rattle.tv_viewed.proofs.OwnDepths.{AreNamed, formed-flow, formed-named, jobs-give}
+use Rattle.tv_strategy.proofs.OfEach.{each-all}
 
 -- the meaning is any, so that a document's isn't unfolded
 pub record Runs (gives : Giving) (flows : List (Name × Flow)) (m : Meaning) (past : History) (I : JobName) (levels : Name → ℕ) (v : View) : Type 0 where

@@ -29,6 +29,7 @@ use Rattle.tv_agreed.proofs.Lists.{all-each, named-each}
 use Rattle.tv_agreed.proofs.OneInstance.{AllSound, flow-delivers, gives-right}
 use Rattle.tv_agreed.proofs.OneStep.{AnyMeaning, made-is, results}
 use Rattle.tv_instances.specs.OwnResults.{AllMadeGive}
+use Rattle.tv_order.proofs.OfOrder.{nests-each}
 
 -- ---- the flows of a document
 
@@ -82,11 +83,6 @@ module _ (gives : Giving) (flows : List (Name × Flow)) (inside : Name → JobNa
         (subst (λ x. StepsAgree flows (depths_of given) (x ∷ map forget ms) ss) (sym (forget-step gives inside I given ms (n, s))) agree.1) nest.1,
   )
 
-each-nests : (P : Name → Type 0) (ss : List (Name × Step)) → StepsNest P ss
-    → Each (λ s. ActivitiesNest P s.1.activities) ss
-each-nests P [] h = tt
-each-nests P (s ∷ ss) h = (h.0, each-nests P ss h.1)
-
 -- the steps of the flow nest within k levels, and this is its instance on inputs of their depths
 pub jobs-give : (gives : Giving) (d : Document) → is_formed d ≡ true → IsAccepted d → (k : ℕ) (flow : Flow)
     → StepsNest (NestsWithin d.flows k) flow.steps → FlowAgrees d.flows flow
@@ -95,4 +91,4 @@ pub jobs-give : (gives : Giving) (d : Document) → is_formed d ≡ true → IsA
 jobs-give gives d formed accepted k flow nests agree I vs have =
     steps-give gives d.flows (flow_meaning gives d.flows k) k (flow-delivers gives d.flows (accepted-sound d formed accepted) k) I (given_of flow vs) (given-right vs flow.inputs have) [] tt (ranked flow.steps)
     (subst (λ x. StepsAgree d.flows x [] (ranked flow.steps)) (sym (given-depths vs flow.inputs)) agree.steps)
-    (rank-each gives (λ n. Unit {0}) (λ (s : Name × Step). ActivitiesNest (NestsWithin d.flows k) s.1.activities) (length flow.steps) [] flow.steps (each-nests (NestsWithin d.flows k) flow.steps nests))
+    (rank-each gives (λ n. Unit {0}) (λ (s : Name × Step). ActivitiesNest (NestsWithin d.flows k) s.1.activities) (length flow.steps) [] flow.steps (nests-each (NestsWithin d.flows k) flow.steps nests))

@@ -5,7 +5,7 @@ use Rattle.std.proofs.Common.{ap, arith, inl, inr, subst, sym, ◌∙◌}
 use Rattle.std.proofs.lemmas.Bool.{eqb-true, lt-ltb}
 use Rattle.std.specs.Cmp.{first_so, second_so}
 use Rattle.tv_history.proofs.Ready.{left-in}
-use Rattle.tv_history.proofs.Tests.{find-passes, first-in}
+use Rattle.tv_history.proofs.Tests.{first-in}
 use Rattle.tv_value.specs.Orders.{same_job}
 use Rattle.tv_value.specs.Values.{JobName}
 use Rattle.tv_value.proofs.OfJobNames.{same_job_decides}
@@ -18,6 +18,7 @@ use Rattle.tv_model.specs.Meanings.{meaning}
 use Rattle.tv_model.specs.Members.{In}
 use Rattle.tv_model.proofs.Order.{some_in}
 use Rattle.tv_model.proofs.Tests.{true≠false}
+use Rattle.tv_model.proofs.OfMembers.{found-in}
 use Rattle.tv_history.specs.Entries as history
 use Rattle.tv_history.specs.Entries.{History, is_out}
 use Rattle.tv_history.specs.Histories.{asks_left, is_ask, is_at, is_legal, is_legal_after, is_right, next_ask, same_bool}
@@ -72,7 +73,7 @@ module _ (gives : Giving) (s : Run) (q : Question) (task : IsTask gives s q) whe
   try-of =
       let j = some-of (try_out (meant gives s) (past_of s) q.ticket.activity q.ticket.attempt) (job_of gives s q.ticket.job) task.asked task.out in
       let n = some-of (λ n. find (λ (k : Job). same_job n k.name) (meant gives s).jobs) (slice_get s.names q.ticket.job) j.0 j.1 in
-      let found = find-passes (λ (k : Job). same_job n.0 k.name) (meant gives s).jobs j.0 n.2 in
+      let found = found-in (λ (k : Job). same_job n.0 k.name) (meant gives s).jobs j.0 n.2 in
       let tried = some-if (is_out (past_of s) j.0.name && is_it j.0) (next_ask (past_of s) j.0) task.asked j.2 in
       let same = subst (λ o. option_map_or (is_ask q.ticket.activity q.ticket.attempt) o false ≡ true) tried.1 (second_so (is_out (past_of s) j.0.name) (is_it j.0) tried.0) in
       record {

@@ -14,7 +14,6 @@ use Rattle.tv_flow.specs.Formed.{are_entries, are_named, are_names, is_between, 
 use Rattle.tv_model.specs.Jobs.{Job}
 use Rattle.tv_model.specs.Members.{In}
 use Rattle.tv_model.proofs.Order.{some_in}
-use Rattle.tv_model.proofs.Turns.{each-map}
 use Rattle.tv_model.proofs.Tests.{Each, true≠false}
 use Rattle.tv_model.proofs.Members.{any-in}
 use Rattle.tv_history.specs.Entries as history
@@ -28,6 +27,7 @@ use Rattle.tv_entries.specs.Calls.{IsNothingOffered, NothingSettles}
 use Rattle.tv_entries.specs.Runs.{Run, meant, past_of}
 use Rattle.tv_work.specs.Working.{IsFree, IsWorkedOff}
 use Rattle.tv_value.proofs.OfJobNames.{same_job_decides}
+use Rattle.tv_strategy.proofs.OfEach.{each-weaken}
 
 -- every step of a document that was read has a place
 places : (s : Step) → is_step s ≡ true → 1 ≤ s.jobs
@@ -35,12 +35,12 @@ places s h = leb-true 1 s.jobs (first_so (nat_le 1 s.jobs) (nat_le s.jobs 64) (s
 
 flow-places : (f : Flow) → is_flow f ≡ true → Each (λ s. 1 ≤ s.1.jobs) f.steps
 flow-places f h =
-    each-map (λ s. is_step s.1 ≡ true) (λ s. 1 ≤ s.1.jobs) (λ s. places s.1) f.steps
+    each-weaken (λ s. is_step s.1 ≡ true) (λ s. 1 ≤ s.1.jobs) (λ s. places s.1) f.steps
     (named-pass is_step 0 1000 f.steps (second_so _ (are_named is_step 0 1000 f.steps) (first_so _ (are_named is_feed 0 16 f.outputs) h)))
 
 pub well-formed : (d : Document) → is_formed d ≡ true → IsWellFormed d
 well-formed d h = record {
-  places = each-map (λ f. is_flow f.1 ≡ true) (λ f. Each (λ s. 1 ≤ s.1.jobs) f.1.steps) (λ f. flow-places f.1) d.flows
+  places = each-weaken (λ f. is_flow f.1 ≡ true) (λ f. Each (λ s. 1 ≤ s.1.jobs) f.1.steps) (λ f. flow-places f.1) d.flows
       (named-pass is_flow 1 256 d.flows (second_so _ (are_named is_flow 1 256 d.flows) (first_so _ (are_entries is_value d.inputs) h)));
 }
 

@@ -41,11 +41,11 @@ returns t c =
     (code-low r q.0 q.1 k m c.known.ensures) c.index.ensures in
     elim c.match-index.branch [
       | in-Some+in_ok-push_name w ↦
-          on_ok_weaker {P = _} {Q = _} c.push_spot.result (λ g n h. name-behind r q.0 q.1 k m c.known.ensures itself here w.in-Some.opener w.in-Some.is
+          on_ok_weaker c.push_spot.result (λ g n h. name-behind r q.0 q.1 k m c.known.ensures itself here w.in-Some.opener w.in-Some.is
           c.args.parts.now.items c.match-index.parts.items c.push_spot.new.parts.items n h
           (λ a e. (λ i. (w.parts-is i).items) ∙ w.in_ok-push_name.ensures a e) g) c.push_spot.ensures
       | in_default w ↦
-          on_ok_weaker {P = _} {Q = _} c.push_spot.result (λ g n h. name-alone r q.0 q.1 k m c.known.ensures itself here w.in_default.is c.args.parts.now.items
+          on_ok_weaker c.push_spot.result (λ g n h. name-alone r q.0 q.1 k m c.known.ensures itself here w.in_default.is c.args.parts.now.items
           c.push_spot.new.parts.items n h
           (λ s u e f. g s u e f ∙ (λ i. (w.parts-is i).items ++ (u.0, s.place) ∷ []))) c.push_spot.ensures
     ]
