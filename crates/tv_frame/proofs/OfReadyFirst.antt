@@ -5,9 +5,6 @@ use Rattle.std.specs.List.{list_all}
 use Rattle.std.specs.Ordering.{is_lt, nat_cmp}
 use Rattle.std.proofs.Common.{sym, ap, subst, ◌∙◌, inl, inr}
 use Rattle.std.proofs.lemmas.Bool.{and_parts, true≢false, not-true}
-use Rattle.std.proofs.lemmas.Cmp.{nat_list_cmp_total}
-use Rattle.std.proofs.lemmas.List.MinMax.{ranks_by}
-use Rattle.std.specs.Cmp.{IsStrictWeakOrder}
 use Rattle.tv_value.specs.Nested.{Place}
 use Rattle.tv_value.specs.Values.{Name}
 use Rattle.tv_flow.specs.Flows.{Flow, Step}
@@ -33,9 +30,6 @@ use Rattle.tv_frame.proofs.OfAdded.{queue}
 use Rattle.tv_turn.proofs.OfRanks.{place-is}
 use Rattle.tv_turn.proofs.OfTurns.{itself}
 use Rattle.tv_frame.proofs.OfReadySteps.{its-number}
-
-abbrev places : IsStrictWeakOrder stands_after
-places = ranks_by nat_list_cmp_total (λ (p : List ℕ). p)
 
 abbrev before : ℕ × List ℕ → ℕ × List ℕ → Bool
 before j k = not (is_lt (slice_cmp nat_cmp k.1 j.1))

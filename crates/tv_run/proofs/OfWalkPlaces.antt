@@ -1,22 +1,11 @@
 -- Places in order: which doesn't stand before which.
-use Rattle.std.specs.Cmp.{IsStrictWeakOrder}
-use Rattle.std.specs.Cmp.Lexicographic.{slice_cmp}
-use Rattle.std.specs.Ordering.{is_lt, nat_cmp}
-use Rattle.std.specs.Prelude.{◌≡◌, Bool, true, false}
+use Rattle.std.specs.Prelude.{◌≡◌, true, false}
 use Rattle.std.proofs.Common.{sym, ◌∙◌}
-use Rattle.std.proofs.lemmas.Cmp.{nat_list_cmp_total}
-use Rattle.std.proofs.lemmas.List.MinMax.{ranks_by}
 use Rattle.tv_lemmas.proofs.Cases.{on_test}
 use Rattle.tv_value.specs.Nested.{Place}
 use Rattle.tv_model.proofs.Tests.{true≠false}
 use Rattle.tv_order.specs.JobOrder.{place_before}
 use Rattle.tv_open.proofs.OfFirstSeats.{before-chain, before-turned}
-
-abbrev is_before : Place → Place → Bool
-is_before p q = is_lt (slice_cmp nat_cmp p q)
-
-places : IsStrictWeakOrder is_before
-places = ranks_by nat_list_cmp_total (λ (p : Place). p)
 
 pub before-then : (p q r : Place) → place_before p q ≡ true → place_before q r ≡ true → place_before p r ≡ true
 before-then p q r h k =

@@ -2,11 +2,12 @@ use Rattle.std.proofs.Common.{◌∙◌, sym, ap}
 use Rattle.std.specs.Option.{option_map_or}
 use Rattle.std.specs.Prelude.{unwrap_or}
 use Rattle.tv_value.specs.Orders.{named}
-use Rattle.tv_depths.proofs.OfLinks.{code-ascend, form-at, entry-small, output-there, found-nothing}
+use Rattle.tv_depths.proofs.OfLinks.{form-at, entry-small, output-there, found-nothing}
 use Rattle.tv_depths.proofs.delivered.output_depth.Goals as goal
+use Rattle.tv_naming.proofs.Kept.{flow-ascends}
 
 pub number_of-requires : goal.number_of-requires
-number_of-requires c = code-ascend c.args.flow.now c.requires.formed
+number_of-requires c = flow-ascends c.args.flow.now c.requires.formed
 
 pub step_depth-requires-clause-step : goal.step_depth-requires-clause-step
 step_depth-requires-clause-step c = form-at c.args.flow.now c.as_slice.result.now c.in-Some.number _ c.requires.formed c.as_slice.ensures c.in-Some.ensures.below

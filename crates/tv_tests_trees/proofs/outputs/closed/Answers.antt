@@ -4,7 +4,6 @@ use Rattle.tv_cell.specs.PieceValues.{piece_value, piece_values}
 use Rattle.tv_outputs.specs.Known.{known, depths, needed}
 use Rattle.tv_outputs.specs.Changes.{AllCanClose}
 use Rattle.tv_tests_trees.specs.Tried.{Tried, IsNothing, IsSomething, HasSecond, HasBoth}
-use Rattle.tv_outputs.proofs.Lists.{mapped-length}
 use Rattle.tv_tests_trees.proofs.Tried.{tried-reserved, two-arrive, third-arrives, two-close, two-arrived, third-arrived, two-closed, nothing-takes, second-comes, second-takes, first-comes, both-close}
 use Rattle.tv_tests_trees.proofs.outputs.closed.Goals as goal
 

@@ -1,10 +1,10 @@
 use Rattle.std.proofs.Common.{◌≡◌, ◌≤◌, ◌<◌, ◌+◌, ◌∙◌, ℕ, [], ◌∷◌, sym, ap, subst, length, refl, arith}
+use Rattle.std.proofs.lemmas.List.{length-map}
 use Rattle.tv_parts.specs.Changes.{arrive, close_at, CanArrive, CanClose}
 use Rattle.tv_cell.specs.PieceValues.{piece_value, piece_values}
 use Rattle.tv_outputs.specs.Known.{known, depths, needed}
 use Rattle.tv_outputs.specs.Changes.{AllCanArrive}
 use Rattle.tv_tests_trees.specs.Tried.{Tried, IsNothing, IsSomething, HasSecond, HasBoth}
-use Rattle.tv_outputs.proofs.Lists.{mapped-length}
 use Rattle.tv_tests_trees.proofs.Tried.{counted-marks, tried-reserved, two-arrive, third-arrives, two-close, two-arrived, third-arrived, two-closed, nothing-takes, second-comes, second-takes, first-comes, both-close}
 use Rattle.tv_tests_trees.proofs.outputs.first_items.Goals as goal
 
@@ -36,7 +36,7 @@ returns c =
     let place : q ≡ 0 ∷ [] = c.in_ok-place.ensures.ok in
     let many : length ps ≡ 2 = c.in_ok-pieces.ensures.count in
     let asks = two-arrive HasSecond IsSomething pool o region t q (ap length place) (λ u h. subst (λ l. CanArrive l u) (sym place) (second-takes u h)) (length ps) many in
-    two-arrived HasSecond IsSomething pool o region t HasBoth c.arrive.new.pool c.arrive.new.self (c.arrive.ensures.kept.live region t.live) c.arrive.ensures.stand c.arrive.ensures.depths q (piece_values ps) (mapped-length piece_value ps ∙ many) (λ v u h. subst (λ l. HasBoth (arrive l v u)) (sym place) (first-comes v u h)) c.arrive.ensures.known
+    two-arrived HasSecond IsSomething pool o region t HasBoth c.arrive.new.pool c.arrive.new.self (c.arrive.ensures.kept.live region t.live) c.arrive.ensures.stand c.arrive.ensures.depths q (piece_values ps) (length-map ps piece_value ∙ many) (λ v u h. subst (λ l. HasBoth (arrive l v u)) (sym place) (first-comes v u h)) c.arrive.ensures.known
 
 pub faults_by_arrival-requires : goal.faults_by_arrival-requires
 faults_by_arrival-requires c =

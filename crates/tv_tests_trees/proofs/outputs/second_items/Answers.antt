@@ -1,10 +1,10 @@
 use Rattle.std.proofs.Common.{◌≡◌, ◌≤◌, ◌<◌, ◌+◌, ◌∙◌, ℕ, [], ◌∷◌, sym, ap, subst, length, refl, arith}
+use Rattle.std.proofs.lemmas.List.{length-map}
 use Rattle.tv_parts.specs.Changes.{arrive, close_at, CanArrive, CanClose}
 use Rattle.tv_cell.specs.PieceValues.{piece_value, piece_values}
 use Rattle.tv_outputs.specs.Known.{known, depths, needed}
 use Rattle.tv_outputs.specs.Changes.{AllCanArrive}
 use Rattle.tv_tests_trees.specs.Tried.{Tried, IsNothing, IsSomething, HasSecond, HasBoth}
-use Rattle.tv_outputs.proofs.Lists.{mapped-length}
 use Rattle.tv_tests_trees.proofs.Tried.{counted-marks, tried-reserved, two-arrive, third-arrives, two-close, two-arrived, third-arrived, two-closed, nothing-takes, second-comes, second-takes, first-comes, both-close}
 use Rattle.tv_tests_trees.proofs.outputs.second_items.Goals as goal
 
@@ -49,7 +49,7 @@ returns c =
     let place : q ≡ 1 ∷ [] = c.in_ok-place.ensures.ok in
     let many : length ps ≡ 2 = c.in_ok-pieces.ensures.count in
     let asks = two-arrive IsNothing IsNothing pool o region t q (ap length place) (λ u h. nothing-takes q u h) (length ps) many in
-    two-arrived IsNothing IsNothing pool o region t HasSecond c.arrive.new.pool c.arrive.new.self (c.arrive.ensures.kept.live region t.live) c.arrive.ensures.stand c.arrive.ensures.depths q (piece_values ps) (mapped-length piece_value ps ∙ many) (λ v u h. subst (λ l. HasSecond (arrive l v u)) (sym place) (second-comes v u h)) c.arrive.ensures.known
+    two-arrived IsNothing IsNothing pool o region t HasSecond c.arrive.new.pool c.arrive.new.self (c.arrive.ensures.kept.live region t.live) c.arrive.ensures.stand c.arrive.ensures.depths q (piece_values ps) (length-map ps piece_value ∙ many) (λ v u h. subst (λ l. HasSecond (arrive l v u)) (sym place) (second-comes v u h)) c.arrive.ensures.known
 
 pub faults_by_arrival-requires : goal.faults_by_arrival-requires
 faults_by_arrival-requires c =

@@ -1,7 +1,7 @@
 use Rattle.std.proofs.Common.{◌∙◌, ap, sym, map}
 use Rattle.std.proofs.lemmas.List.{take_all}
+use Rattle.std.proofs.lemmas.Simd.{map-map}
 use Rattle.tv_flow.specs.Views.{feed_view, flow_view}
-use Rattle.tv_naming.proofs.OfLists.{map-map}
 use Rattle.tv_wires.specs.Feeds.{feed_numbered}
 use Rattle.tv_wires.proofs.feeds.outputs_numbered.Goals as goal
 

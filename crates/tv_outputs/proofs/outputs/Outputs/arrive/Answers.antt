@@ -1,6 +1,6 @@
 use Rattle.std.proofs.Common.{rules, refl, ◌≡◌, ◌≤◌, ◌<◌, ◌+◌, ◌-◌, get_or, ℕ, List, ◌++◌, ◌∷◌, [], sym, ap, ◌∙◌, subst, length, map, arith}
 use Rattle.std.specs.Prelude.{nat_lt, slice_index_or}
-use Rattle.std.proofs.lemmas.List.{get_or-map}
+use Rattle.std.proofs.lemmas.List.{get_or-map, length-map}
 use Rattle.std.proofs.lemmas.Iterator.Adapters.{YieldsList-from_vec}
 use Rattle.std.proofs.lemmas.Iterator.Consumers.{YieldsList-turn, YieldsList-end}
 use Rattle.tv_value.specs.Values.{holds_fault}
@@ -11,7 +11,7 @@ use Rattle.tv_cell.specs.Soundness.{AreSound}
 use Rattle.tv_cell.proofs.OfPieces.{piece-sound}
 use Rattle.tv_outputs.specs.Known.{known_in, depths_in, needed}
 use Rattle.tv_outputs.specs.Changes.{Arrive, no_value}
-use Rattle.tv_outputs.proofs.Lists.{length-more, mapped-length}
+use Rattle.tv_outputs.proofs.Lists.{length-more}
 use Rattle.tv_outputs.proofs.Turning.{Asks, arriving-none, arriving-asks, arriving-more, leaves-at}
 use Rattle.tv_outputs.proofs.outputs.Outputs.arrive.Goals as goal
 
@@ -44,7 +44,7 @@ arrive_at-requires c =
       sound = piece-sound vec (length done) c.in-Some.piece turn.0 turn.1 (subst AreSound (sym c.into_vec-piece-items.ensures) c.requires.sound);
       faulty =
           (λ i. nat_lt (length (c.as_slice.ensures i)) (slice_index_or c.args.faults.now (same i) 0))
-          ∙ c.requires.marked.each (length done) (subst (λ n. length done < n) (sym (mapped-length piece_value c.args.pieces)) inside)
+          ∙ c.requires.marked.each (length done) (subst (λ n. length done < n) (sym (length-map c.args.pieces piece_value)) inside)
           ∙ ap holds_fault (get_or-map piece_value c.args.pieces (length done) c.in-Some.piece no_value inside)
           ∙ ap (λ ps. holds_fault (piece_value (get_or ps (length done) c.in-Some.piece))) (sym c.into_vec-piece-items.ensures)
           ∙ ap (λ p. holds_fault (piece_value p)) (sym turn.1);

@@ -1,4 +1,4 @@
-use Rattle.std.proofs.Common.{◌≤◌, ◌<◌, ◌+◌, ◌-◌, ℕ, sym, ap, subst, length, arith}
+use Rattle.std.proofs.Common.{◌≤◌, ◌<◌, ◌+◌, ◌-◌, ℕ, sym, ap, subst, length, arith, le-add_right}
 use Rattle.tv_parts.specs.Changes.{close_at, CanClose}
 use Rattle.tv_outputs.specs.Known.{known_in, depths_in, needed}
 use Rattle.tv_outputs.specs.Changes.{Close}
@@ -46,9 +46,6 @@ loop-number-preserved c =
     let left = leaves-at now new region ts us (close_at q size) k (first + (k - first)) (sym (back first k c.loop-number.auto.number)) (record { turns = e.turns; same = e.same; kept = e.stand; regions = e.kept; spare = e.spare }) in
     subst (Closing old new region ts0 us first q size) (next-number first k c.loop-number.auto.number) (closing-more old now region ts0 ts first q size (k - first) c.loop-number.invariant new us left)
 
-self : (n m : ℕ) → n ≤ n + m
-self n m = omega arith
-
 pub returns : goal.returns
 returns c =
     let old = c.args.pool.now in
@@ -56,7 +53,7 @@ returns c =
     let ts0 = c.args.self.now.trees.items in
     let first = c.args.first in
     let l = c.loop-number.invariant in
-    let all = last-number first c.loop-number.number c.args.count c.loop-number-test.false (c.loop-number.auto.number-end (self first c.args.count)) in
+    let all = last-number first c.loop-number.number c.args.count c.loop-number-test.false (c.loop-number.auto.number-end (le-add_right first c.args.count)) in
     record {
       known = subst (λ n. Close first n c.args.place.now c.args.length (known_in old ts0) (known_in now c.loop-number.self.trees.items)) all l.changed;
       depths = ap depths_in l.same;

@@ -1,4 +1,4 @@
-use Rattle.std.proofs.Common.{◌≡◌, ◌≤◌, ◌<◌, ◌+◌, ◌-◌, ℕ, length, sym, subst, arith, Some}
+use Rattle.std.proofs.Common.{◌≡◌, ◌≤◌, ◌<◌, ◌+◌, ◌-◌, ℕ, length, sym, subst, arith, Some, le-add_right}
 use Rattle.std.specs.Prelude.{slice_get}
 use Rattle.tv_parts.specs.Changes.{close_at}
 use Rattle.tv_outputs.specs.Known.{known_in, tree_in}
@@ -39,12 +39,9 @@ loop-number-preserved c size can =
     let after = levels-closed q size (tree_in (known_in pool ts) (first + i)) c.marked_levels.result (can.can i (within-range first k c.args.count low c.loop-number-test.true)) before in
     subst (λ n. Counted n q c.args.faults.now.items c.push.new.self.items tree) (next-number first k low) (counted-more i q c.args.faults.now.items c.loop-number.faults.items c.push.new.self.items tree c.marked_levels.result (c.loop-number.invariant size can) c.in_ok-push.ensures.ok after)
 
-self : (n m : ℕ) → n ≤ n + m
-self n m = omega arith
-
 pub returns : goal.returns
 returns c size can =
     let first = c.args.first in
     let ts = c.args.self.now.trees.items in
     let q = c.args.place.now in
-    subst (λ n. Counted n q c.args.faults.now.items c.loop-number.faults.items (λ j. close_at q size (tree_in (known_in c.args.pool.now ts) (first + j)))) (last-number first c.loop-number.number c.args.count c.loop-number-test.false (c.loop-number.auto.number-end (self first c.args.count))) (c.loop-number.invariant size can)
+    subst (λ n. Counted n q c.args.faults.now.items c.loop-number.faults.items (λ j. close_at q size (tree_in (known_in c.args.pool.now ts) (first + j)))) (last-number first c.loop-number.number c.args.count c.loop-number-test.false (c.loop-number.auto.number-end (le-add_right first c.args.count))) (c.loop-number.invariant size can)

@@ -1,8 +1,9 @@
 use Rattle.std.proofs.Common.{◌≡◌, ◌≤◌, ◌<◌, ◌+◌, ℕ, length, ap, ◌∙◌, refl, arith, Some}
 use Rattle.std.specs.Prelude.{slice_get}
 use Rattle.std.proofs.lemmas.Option.{slice_get_read}
+use Rattle.std.proofs.lemmas.List.{length-map}
 use Rattle.tv_outputs.specs.Known.{depths}
-use Rattle.tv_outputs.proofs.Lists.{depth-at, mapped-length}
+use Rattle.tv_outputs.proofs.Lists.{depth-at}
 use Rattle.tv_outputs.proofs.Keeping.{kept-respared}
 use Rattle.tv_outputs.proofs.Turning.{need-step}
 use Rattle.tv_outputs.proofs.outputs.Outputs.reserve.Goals as goal
@@ -15,7 +16,7 @@ loop-number-preserved c =
     let ts = c.args.self.now.trees.items in
     let t = c.index.result.now in
     let k = c.loop-number.number in
-    let inside : k < length ts = below k c.args.first c.args.count (length (depths c.args.self.now)) (length ts) c.loop-number-test.true c.requires (mapped-length (λ u. u.depth) ts) in
+    let inside : k < length ts = below k c.args.first c.args.count (length (depths c.args.self.now)) (length ts) c.loop-number-test.true c.requires (length-map ts (λ u. u.depth)) in
     let there : slice_get ts k ≡ Some t = slice_get_read ts (length ts) k t refl inside c.index.ensures in
     let depth : c.from.result ≡ t.depth = c.from.ensures ∙ c.depth.ensures in
     need-step (depths c.args.self.now) c.args.first k c.loop-number.nodes c.in-Some.more t.depth c.loop-number.auto.number c.loop-number.invariant (c.in-Some.ensures.1 ∙ ap (λ n. c.loop-number.nodes + (n + 1)) depth) (depth-at ts k t there)
