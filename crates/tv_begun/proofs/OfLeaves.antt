@@ -21,7 +21,7 @@ use Rattle.tv_matching.proofs.Permutes.{flat-permutes}
 use Rattle.tv_matching.proofs.OfLaws.{told-more}
 use Rattle.tv_telling.specs.ValueTellings.{value_told, values_told}
 use Rattle.tv_framing.specs.PortTellings.{seen_told}
-use Rattle.tv_joined.proofs.OfTold.{bound-to}
+use Rattle.tv_joined.proofs.OfTold.{bound-to, IsTo}
 
 -- ---- parts of a list
 
@@ -34,9 +34,6 @@ each-last P [] ys h = h
 each-last P (x ∷ xs) ys h = each-last P xs ys h.1
 
 -- ---- one leaf
-
-abbrev pub IsTo : Name → List Told → Type 0
-IsTo m ts = Each (λ t. told_leaf t ≡ m) ts
 
 mutual
   pub value-to : {N : Type 0} (m : Name) (k : ℕ) (q : Place) (v : Tree N Scalar) → IsTo m (value_told m k q v)

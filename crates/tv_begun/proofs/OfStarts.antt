@@ -25,12 +25,12 @@ use Rattle.tv_framing.proofs.OfGaining.{all-forms}
 use Rattle.tv_framing.proofs.OfLaws.{wrapping-is_known}
 use Rattle.tv_framing.proofs.OfPlaced.{placed-all}
 use Rattle.tv_begun.proofs.OfFeeds.{FeedStarts, LinkStarts, LinksStart, feed-known, walked-told}
-use Rattle.tv_begun.proofs.OfLeaves.{IsTo, own-told, value-to}
+use Rattle.tv_begun.proofs.OfLeaves.{own-told, value-to}
 use Rattle.tv_begun.proofs.OfPlain.{plain-input}
 use Rattle.tv_begun.proofs.OfPorts.{LinkIsFound, LinksAreFound}
 use Rattle.tv_begun.proofs.OfSteps.{IsMade}
 use Rattle.tv_begun.specs.Starts.{feed_start, given_faulty, is_given, link_start, links_start}
-use Rattle.tv_joined.proofs.OfTold.{bound-to}
+use Rattle.tv_joined.proofs.OfTold.{bound-to, IsTo}
 
 -- ---- nothing is known of an output, and all of an input
 

@@ -4,7 +4,6 @@ use Rattle.std.specs.Prelude.{Option, Some, None, ◌≡◌, ◌⊎◌, refl, �
 use Rattle.std.proofs.Common.{arith, sym, ap, subst, ◌∙◌, inl, inr}
 use Rattle.std.proofs.Math.Seq.{drop-append_seam}
 use Rattle.std.proofs.lemmas.List.{length-map}
-use Rattle.std.proofs.lemmas.List.Sorted.{IsPermutation-sym}
 use Rattle.tv_value.specs.Nested.{Place}
 use Rattle.tv_value.specs.Strategies.{Strategy}
 use Rattle.tv_value.specs.Values.{Name}
@@ -15,7 +14,6 @@ use Rattle.tv_lemmas.proofs.Cases.{on_either}
 use Rattle.tv_strategy.specs.Conditions.{number_of}
 use Rattle.tv_strategy.specs.Measures.{strategy_depth}
 use Rattle.tv_strategy.specs.Sources.{Each}
-use Rattle.tv_strategy.proofs.OfEach.{each-weaken}
 use Rattle.tv_check.specs.declared.plans.FlowPlan.{FlowPlan}
 use Rattle.tv_check.specs.declared.plans.StepPlan.{StepPlan}
 use Rattle.tv_check.specs.Plans as plan
@@ -26,22 +24,14 @@ use Rattle.tv_wires.specs.Wirings.{all_after}
 use Rattle.tv_wires.specs.declared.wiring.Wiring.{Wiring}
 use Rattle.tv_endings.specs.declared.endings.Endings.{Endings}
 use Rattle.tv_endings.specs.Ends.{IsSound as IsSoundEndings}
-use Rattle.tv_matching.specs.Items.{Item, Kind, closes, ends, passes}
-use Rattle.tv_matching.specs.Levels.{KindAt}
-use Rattle.tv_matching.specs.Matchers.{Outcome, all_out, fault_at, job_at, list_at, out}
-use Rattle.tv_matching.specs.Told.{Spot, matched_after}
-use Rattle.tv_matching.proofs.Lists.{each-map}
-use Rattle.tv_matching.proofs.OfLaws.{matches-once}
-use Rattle.tv_matching.proofs.OfMembers.{each-permutes}
+use Rattle.tv_matching.specs.Matchers.{Outcome, fault_at, job_at, list_at}
 use Rattle.tv_match.specs.declared.matchers.Matcher.{Matcher}
-use Rattle.tv_match.specs.Filed.{filed}
-use Rattle.tv_match.specs.Seen.{IsSound, in_order, matching}
-use Rattle.tv_match.proofs.Faults.{all-in_order}
+use Rattle.tv_match.specs.Seen.{in_order, matching}
 use Rattle.tv_intake.specs.declared.intakes.Intakes.{Intakes}
 use Rattle.tv_intake.specs.Intaken.{AreIntaken, HoldsThese, IsSoundAt, IsStartedAt, OthersStay, brought_at, brought_in, followed_at, known_jobs, matcher_at, waiting_things}
 use Rattle.tv_intake.specs.Sorting.{job_places, jobs_among, others_among}
 use Rattle.tv_spread.specs.Spreads.{IsLevelled, new_places}
-use Rattle.tv_spread.proofs.OfShowing.{Shows, new-there, new-at, made-levels}
+use Rattle.tv_spread.proofs.OfShowing.{Shows, new-there, new-at, made-levels, places-at, ordered-at}
 use Rattle.tv_match.specs.declared.told.Told as code
 use Rattle.std.proofs.lemmas.List.Sums.{sum_by-cons}
 use Rattle.tv_idle.specs.Idles.{Idles, StepIdle, none_idle, of_step, with_rooms_of}
@@ -125,32 +115,6 @@ module _ (idle a r m : Idles) (count depth : ℕ) (many : length idle.steps ≡ 
       below n l c p q e = omega (arith, p, q, e)
 
 -- ---- the places of jobs have as many indices as the strategy has levels
-
-abbrev OutAt : ℕ → Outcome → Type 0
-OutAt d (job_at q) = length q ≡ d
-OutAt d (list_at q n) = Unit {0}
-OutAt d (fault_at q l) = Unit {0}
-
-places-at : (d : ℕ) (os : List Outcome) → Each (OutAt d) os → Each (λ q. length q ≡ d) (job_places os)
-places-at d [] h = tt
-places-at d (job_at q ∷ os) h = (h.0, places-at d os h.1)
-places-at d (list_at q n ∷ os) h = places-at d os h.1
-places-at d (fault_at q l ∷ os) h = places-at d os h.1
-
-ordered-at : (m : Matcher) → IsSound m → Each (OutAt (strategy_depth (number_of (matching m).mismatch) (matching m).strategy)) (in_order m)
-ordered-at m a =
-    let n = matching m in
-    let d = strategy_depth (number_of n.mismatch) n.strategy in
-    let leveled = (matches-once (number_of n.mismatch) n.told a.keeps.fit a.keeps.once n.strategy a.keeps.agree).1 in
-    each-permutes (OutAt d) (all_out n) (in_order m)
-    (IsPermutation-sym _ _ (all-in_order (strategy_view m.tree) m.mismatch (filed m.root) m.log m.out m.told m.given a.keeps))
-    (each-map (OutAt d) (out n.strategy) (matched_after n.strategy n.told)
-    (each-weaken (λ (x : Item Spot Spot). KindAt d x.place x.kind) (λ x. OutAt d (out n.strategy x)) (λ x k. one d x.place x.kind k) (matched_after n.strategy n.told) leveled))
-  where
-    one : (d : ℕ) (q : Place) (k : Kind Spot Spot) → KindAt d q k → OutAt d (out (matching m).strategy (record { place = q; kind = k }))
-    one d q (ends b) h = h
-    one d q (closes n) h = tt
-    one d q (passes f) h = tt
 
 -- the jobs that a step has from the start
 pub first-jobs : (j : Intakes) (c d levels : ℕ) (st : Strategy) (mm : List (Name × ℕ)) (before : List (ℕ × Place)) → AreIntaken j → IsStartedAt st mm (matcher_at j c) → d ≡ strategy_depth (number_of mm) st → levels ≡ d → known_jobs j ≡ before ++ map (λ q. (c, q)) (job_places (followed_at j c)) → (known : ℕ) → known ≡ length before → Each (IsAt c levels) (drop known (known_jobs j))

@@ -64,7 +64,7 @@ use Rattle.tv_joined.specs.AlongWires.{AreWholeWith, ports_of_step, told_along}
 use Rattle.tv_joined.specs.EndedSteps.{AreEndingsOf}
 use Rattle.tv_joined.specs.WiredFlows.{IsWired}
 use Rattle.tv_joined.proofs.OfWires.{position-same}
-use Rattle.tv_joined.proofs.OfTold.{bound-to}
+use Rattle.tv_joined.proofs.OfTold.{bound-to, way-to}
 use Rattle.tv_joined.proofs.OfEndings.{position-of}
 use Rattle.tv_kept.specs.NextEvents.{is_whole_step}
 use Rattle.tv_fed.specs.Fed.{event_number}
@@ -77,7 +77,7 @@ use Rattle.tv_truly.specs.Known.{IsTrueEvent, IsTrueWhole, tree_of}
 use Rattle.tv_truly.specs.Numbers.{AreFaultsBy, AreWholeBy}
 use Rattle.tv_truly.proofs.OfLaws.{truth-goes_on}
 use Rattle.tv_truly.proofs.OfNumbers.{trees-are_by_events, whole_ports-are_true}
-use Rattle.tv_truly.proofs.OfWires.{way-named, way-to}
+use Rattle.tv_truly.proofs.OfWires.{way-named}
 use Rattle.tv_frame.specs.declared.frame.Frame.{Frame}
 use Rattle.tv_frame.specs.Kept.{HasMatcher, IsMatcherOf, Keeps, declared_at}
 use Rattle.tv_frame.specs.Prepared.{IsComing, IsToldThat}

@@ -50,7 +50,7 @@ use Rattle.tv_joined.specs.WiredFlows.{IsWired}
 
 -- ---- what is told along a way is told to its leaf
 
-abbrev IsTo : Name → List Told → Type 0
+abbrev pub IsTo : Name → List Told → Type 0
 IsTo m ts = Each (λ t. told_leaf t ≡ m) ts
 
 to-both : (m : Name) (ts us : List Told) → IsTo m ts → IsTo m us → IsTo m (ts ++ us)
@@ -72,12 +72,12 @@ mutual
   values-to m k q i no_trees = tt
   values-to m k q i (tree t ts) = to-both m (value_told m k (q ++ i ∷ []) t) (values_told m k q (suc i) ts) (value-to m k (q ++ i ∷ []) t) (values-to m k q (suc i) ts)
 
-there-to : (m : Name) (k : ℕ) (q : Place) (h : Happening) → IsTo m (told_there m k q h)
+pub there-to : (m : Name) (k : ℕ) (q : Place) (h : Happening) → IsTo m (told_there m k q h)
 there-to m k q (gave v) = value-to m k q v
 there-to m k q (closed n) = (refl, tt)
 there-to m k q passed = (refl, tt)
 
-way-to : (m : Name) (k : ℕ) (q : Place) (from faults : ℕ) (r : Place) (h : Happening) → IsTo m (told_on_way m k q from faults r h)
+pub way-to : (m : Name) (k : ℕ) (q : Place) (from faults : ℕ) (r : Place) (h : Happening) → IsTo m (told_on_way m k q from faults r h)
 way-to m k q from faults r h = by (nat_le k (length r)) (nat_le from k) (bound_told m (q ++ r) (nat_lt k faults))
   where
     one : (b : Bool) (t : Told) → told_leaf t ≡ m → IsTo m (if_so b t)

@@ -202,7 +202,7 @@ any-at [] k l = absurd (omega arith)
 any-at (x ∷ xs) zero l = ap (λ b. b || list_any (λ s. s == x) xs) (eq-eqb x x refl)
 any-at (x ∷ xs) (suc k) l = or_right (x == get_or xs k 0) (list_any (λ s. s == get_or xs k 0) xs) (any-at xs k (omega arith))
 
-abbrev places : IsStrictWeakOrder stands_after
+abbrev pub places : IsStrictWeakOrder stands_after
 places = ranks_by nat_list_cmp_total (λ (p : List ℕ). p)
 
 module _ (jobs : List (ℕ × List ℕ)) where

@@ -5,14 +5,13 @@ use Rattle.std.specs.Prelude.{◌≡◌, ◌⊎◌, refl, ℕ, suc, ◌+◌, ◌
 use Rattle.std.proofs.Common.{ap, ap₂, arith, inl, inr, subst, sym, ◌∙◌}
 use Rattle.std.proofs.lemmas.List.{length-map}
 use Rattle.std.proofs.lemmas.List.Sums.{sum_by-cons}
-use Rattle.std.proofs.lemmas.Option.{slice_get_cases, slice_get_past, slice_get_within, slice_get-map}
+use Rattle.std.proofs.lemmas.Option.{slice_get_cases, slice_get_past, slice_get_within}
 use Rattle.std.proofs.lemmas.Simd.{map-map}
 use Rattle.tv_lemmas.proofs.Cases.{on_either}
 use Rattle.tv_lemmas.proofs.Counts.{count-cons}
 use Rattle.tv_lemmas.proofs.Lists.{get-within}
-use Rattle.tv_value.specs.Nested.{Place}
 use Rattle.tv_value.specs.Values.{JobName, Name}
-use Rattle.tv_flow.specs.Flows.{Flow, Step}
+use Rattle.tv_flow.specs.Flows.{Flow}
 use Rattle.tv_check.specs.RunViews.{run_view}
 use Rattle.tv_check.specs.declared.plans.FlowPlan.{FlowPlan}
 use Rattle.tv_intake.specs.Intaken.{known_jobs}
@@ -47,7 +46,7 @@ use Rattle.tv_run.specs.declared.instances.Instance as code
 use Rattle.tv_run.specs.declared.instances.Numbered.{Numbered}
 use Rattle.tv_run.specs.declared.run.OpenRun.{OpenRun}
 use Rattle.tv_run.proofs.OfJobs.{seats-open}
-use Rattle.tv_run.proofs.OfMoved.{HasSameJobs, at-steps}
+use Rattle.tv_run.proofs.OfMoved.{HasSameJobs, at-steps, spot_by, at-spot}
 use Rattle.tv_run.proofs.OfRooms.{theirs-as}
 
 -- ---- seats
@@ -116,21 +115,6 @@ still-back x v still = record {
 
 same-back : (ss : List Seat) → map job_of (map back ss) ≡ map job_of ss
 same-back ss = map-map job_of back ss
-
--- the spot of a seat, by its job
-abbrev spot_by : List (Name × Step) → ℕ × Place → Name × Place
-spot_by steps j = (option_map_or (λ t. t.0) (slice_get steps j.0) [], j.1)
-
-at-spot : (steps : List (Name × Step)) (ss : List Seat) (n : ℕ)
-    → option_map_or (λ t. spot_of steps t ∷ []) (slice_get ss n) []
-    ≡ option_map_or (λ j. spot_by steps j ∷ []) (slice_get (map job_of ss) n) []
-at-spot steps ss n =
-    by (slice_get ss n) ∙ sym (ap (λ o. option_map_or (λ j. spot_by steps j ∷ []) o []) (slice_get-map job_of ss n))
-  where
-    by : (o : Option Seat)
-        → option_map_or (λ t. spot_of steps t ∷ []) o [] ≡ option_map_or (λ j. spot_by steps j ∷ []) (option_map job_of o) []
-    by None = refl
-    by (Some s) = refl
 
 -- ---- one instance of the code
 

@@ -86,10 +86,10 @@ at-steps steps ss ts h at n t there =
     (w.0, ap (slice_get steps) (sym s.2) ∙ w.1)
 
 -- the spot of a seat, by its job
-abbrev spot_by : List (Name × Step) → ℕ × Place → Name × Place
+abbrev pub spot_by : List (Name × Step) → ℕ × Place → Name × Place
 spot_by steps j = (option_map_or (λ t. t.0) (slice_get steps j.0) [], j.1)
 
-at-spot : (steps : List (Name × Step)) (ss : List Seat) (n : ℕ)
+pub at-spot : (steps : List (Name × Step)) (ss : List Seat) (n : ℕ)
     → option_map_or (λ t. spot_of steps t ∷ []) (slice_get ss n) []
     ≡ option_map_or (λ j. spot_by steps j ∷ []) (slice_get (map job_of ss) n) []
 at-spot steps ss n =

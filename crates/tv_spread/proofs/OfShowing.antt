@@ -37,18 +37,18 @@ use Rattle.tv_spread.proofs.OfAdding.{Adding, all-both, all-many, all-other, all
 
 -- ---- the places of jobs have as many indices as the strategy has levels
 
-abbrev OutAt : ℕ → Outcome → Type 0
+abbrev pub OutAt : ℕ → Outcome → Type 0
 OutAt d (job_at q) = length q ≡ d
 OutAt d (list_at q n) = Unit {0}
 OutAt d (fault_at q l) = Unit {0}
 
-places-at : (d : ℕ) (os : List Outcome) → Each (OutAt d) os → Each (λ q. length q ≡ d) (job_places os)
+pub places-at : (d : ℕ) (os : List Outcome) → Each (OutAt d) os → Each (λ q. length q ≡ d) (job_places os)
 places-at d [] h = tt
 places-at d (job_at q ∷ os) h = (h.0, places-at d os h.1)
 places-at d (list_at q n ∷ os) h = places-at d os h.1
 places-at d (fault_at q l ∷ os) h = places-at d os h.1
 
-ordered-at : (m : Matcher) → IsSound m → Each (OutAt (strategy_depth (number_of (matching m).mismatch) (matching m).strategy)) (in_order m)
+pub ordered-at : (m : Matcher) → IsSound m → Each (OutAt (strategy_depth (number_of (matching m).mismatch) (matching m).strategy)) (in_order m)
 ordered-at m a =
     let n = matching m in
     let d = strategy_depth (number_of n.mismatch) n.strategy in

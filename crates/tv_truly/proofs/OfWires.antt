@@ -1,11 +1,10 @@
 -- What is told along wires into a step is told to its ports.
 use Rattle.std.specs.List.{list_any}
-use Rattle.std.specs.Prelude.{◌≡◌, refl, ℕ, zero, suc, ◌+◌, ◌-◌, ◌<◌, ◌==◌, Bool, true, false, filter, get_or, if◌then◌else◌, List, [], ◌∷◌, ◌++◌, length, map, nat_le, nat_lt, not, Option, Some, slice_get, take}
+use Rattle.std.specs.Prelude.{◌≡◌, refl, ℕ, zero, suc, ◌+◌, ◌<◌, ◌==◌, true, filter, get_or, List, [], ◌∷◌, length, map, not, Option, Some, slice_get}
 use Rattle.std.proofs.Common.{arith, sym, ap, subst, ◌∙◌, eqb-true, inl, inr}
 use Rattle.std.proofs.lemmas.Bool.{and_parts}
 use Rattle.std.proofs.lemmas.Option.{none-some, same_Some}
 use Rattle.tv_lemmas.proofs.Lists.{get-map}
-use Rattle.tv_value.specs.Nested.{Place}
 use Rattle.tv_value.specs.Orders.{same_name}
 use Rattle.tv_value.specs.Values.{Name}
 use Rattle.tv_value.proofs.OfNames.{same_name-refl}
@@ -18,16 +17,13 @@ use Rattle.tv_naming.proofs.ByPosition.{there}
 use Rattle.tv_depths.specs.Steps.{strategy_of}
 use Rattle.tv_model.specs.Members.{In}
 use Rattle.tv_model.proofs.OfMembers.{in-filter, of-filter}
-use Rattle.tv_matching.specs.Items.{if_so}
 use Rattle.tv_matching.specs.Matchers.{leaf_name}
 use Rattle.tv_matching.specs.Told.{Told, told_leaf}
-use Rattle.tv_matching.proofs.Lists.{each-if}
 use Rattle.tv_matching.proofs.OfMembers.{each-from, each-in, of-flat, of-map}
 use Rattle.tv_telling.specs.declared.ways.Event as code
 use Rattle.tv_telling.specs.declared.ways.Way.{Way}
-use Rattle.tv_telling.specs.ValueTellings.{bound_told}
 use Rattle.tv_telling.specs.Views.{happening, way_tellings}
-use Rattle.tv_telling.specs.WayTellings.{Happening, closed, gave, passed, place_of_item, told_on_way, told_there}
+use Rattle.tv_telling.specs.WayTellings.{place_of_item}
 use Rattle.tv_wires.specs.declared.feeds.NumberedLink.{NumberedLink}
 use Rattle.tv_wires.specs.declared.feeds.NumberedLink.TheVariants.{Input, Output}
 use Rattle.tv_wires.specs.declared.ports.Port.{Port}
@@ -38,8 +34,7 @@ use Rattle.tv_wires.specs.Wirings.{all_ports, wiring}
 use Rattle.tv_joined.proofs.OfLists.{at-range}
 use Rattle.tv_joined.proofs.OfWires.{leaf-named}
 use Rattle.tv_joined.specs.AlongWires.{leads_into, of_leaf, told_along, way_of, ways_into, wires_from}
-use Rattle.tv_joined.proofs.OfTold.{bound-to}
-use Rattle.tv_begun.proofs.OfLeaves.{IsTo, value-to}
+use Rattle.tv_joined.proofs.OfTold.{way-to}
 
 -- ---- members of lists
 
@@ -108,18 +103,6 @@ module _ (f : Flow) (n : ℕ) (s : Name × Step) (stands : slice_get f.steps n �
         (r.0, r.1, ap (λ (y : Way). y.leaf) a.2 ∙ ap (λ (y : Wire). y.leaf) c.2 ∙ r.2)
 
 -- ---- tellings and their leaves
-
-pub there-to : (m : Name) (k : ℕ) (q : Place) (h : Happening) → IsTo m (told_there m k q h)
-there-to m k q (gave v) = value-to m k q v
-there-to m k q (closed n) = (refl, tt)
-there-to m k q passed = (refl, tt)
-
-pub way-to : (m : Name) (k : ℕ) (q : Place) (from faults : ℕ) (r : Place) (h : Happening) → IsTo m (told_on_way m k q from faults r h)
-way-to m k q from faults r h = by (nat_le k (length r))
-  where
-    by : (a : Bool) → IsTo m (if a then if_so (nat_le from k) (bound_told m (q ++ take k r) (nat_lt k faults)) else told_there m (k - length r) (q ++ r) h)
-    by true = each-if (λ t. told_leaf t ≡ m) (nat_le from k) (bound_told m (q ++ take k r) (nat_lt k faults)) (bound-to m (q ++ take k r) (nat_lt k faults))
-    by false = there-to m (k - length r) (q ++ r) h
 
 module _ (f : Flow) (n : ℕ) (s : Name × Step) (stands : slice_get f.steps n ≡ Some s) (leaves_are : (i : Name × StepInput) → In i s.1.inputs → list_any (same_name i.0) (leaf_names (strategy_of s.1)) ≡ true) (t : Name) (feeding : has_name f.steps t ≡ true) (c : code.Event) where
   -- each telling along the wires is one of a port

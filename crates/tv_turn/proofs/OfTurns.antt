@@ -1,7 +1,6 @@
 -- What is taken in turn is the first of all.
 use Rattle.std.specs.Prelude.{◌≡◌, ◌⊎◌, ℕ, ◌==◌, ◌<◌, ◌&&◌, not, Bool, true, false, nat_lt, cond, List, [], ◌∷◌, filter, Option, Some, None, if◌then◌else◌, refl}
 use Rattle.std.specs.declared.cmp.Ordering.{Ordering}
-use Rattle.std.specs.Cmp.{IsStrictWeakOrder}
 use Rattle.std.specs.Cmp.Lexicographic.{slice_cmp}
 use Rattle.std.specs.List.{list_all}
 use Rattle.std.specs.Option.{option_or}
@@ -9,9 +8,9 @@ use Rattle.std.specs.Ordering.{is_lt, nat_cmp, ordering_then}
 use Rattle.std.proofs.Common.{arith, ap, sym, subst, ◌∙◌, inl, inr, Less, Equal, Greater}
 use Rattle.std.proofs.lemmas.Bool.{cases_eq, eq-eqb, le-ltb, lt-ltb, ne_eqb, and_parts, not-true, false≢true}
 use Rattle.std.proofs.lemmas.Cmp.{nat_list_cmp_total}
-use Rattle.std.proofs.lemmas.List.MinMax.{ranks_by}
 use Rattle.tv_lemmas.proofs.Orderings.{then-not_reversed}
 use Rattle.tv_ready.specs.Sought.{stands_after}
+use Rattle.tv_ready.proofs.Finding.{places}
 use Rattle.tv_idle.specs.Idles as idles
 use Rattle.tv_idle.specs.Idles.{StepIdle, first_after, first_number, first_of, of_step, standing_after}
 use Rattle.tv_idle.specs.Kept.{are_in_order}
@@ -47,9 +46,6 @@ module _ (rank : ℕ → ℕ) where
   IsFirstOf Wanted ks (Some n) = IsTheFirst Wanted ks n
 
 -- ---- places
-
-abbrev places : IsStrictWeakOrder stands_after
-places = ranks_by nat_list_cmp_total (λ (p : List ℕ). p)
 
 pub itself : (p : List ℕ) → stands_after p p ≡ false
 itself p = by (stands_after p p) refl
