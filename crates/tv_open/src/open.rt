@@ -31,7 +31,7 @@ use tv_check::FlowPlan;
 use tv_frame::{FlowTables, Frame};
 use tv_levels::Level;
 use tv_outputs::Nodes;
-use tv_seats::{Seats, Table};
+use tv_seats::{Past, Seats};
 use tv_value::NoMemory;
 
 /// An open instance of a flow.
@@ -161,7 +161,7 @@ impl Open {
 
     /// Gives the outputs of an instance that has ended with its jobs' seats and its levels, and releases its region: from then
     /// on it is of no instance. Takes no memory.
-    pub fn finish(&mut self, alloc: Global, pool: &mut Nodes) -> (Pieces, Table, Vec<Level>)
+    pub fn finish(&mut self, alloc: Global, pool: &mut Nodes) -> (Pieces, Past, Vec<Level>)
         requires ended { (d : Document) × (plan : ThePlan) × (v : View)
             × IsOpen d plan pool.old self.old v × (has_ended_now (levels_in v.flow) v ≡ true) }
         ensures outputs { (d : Document) (plan : ThePlan) (v : View)

@@ -4,7 +4,7 @@ ghost use Rattle.tv_seats.specs.Seats.{place_at, step_at};
 ghost use Rattle.tv_run.specs.Standing.{seats_of};
 
 use tv_open::Open;
-use tv_seats::Table;
+use tv_seats::Past;
 
 /// An instance that was opened.
 #[derive(Drop)]
@@ -20,7 +20,7 @@ pub(crate) struct Instance {
     // Itself, while it is open.
     pub(crate) open: Vec<Open>,
     // The seats of its jobs, once it has ended.
-    pub(crate) seats: Option<Table>,
+    pub(crate) seats: Option<Past>,
 }
 
 /// A job: its instance, and its number there.

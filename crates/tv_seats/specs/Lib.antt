@@ -3,6 +3,7 @@ pub mod Seats
 pub mod Firsts
 pub mod Nested
 pub mod Tables
+pub mod Pasts
 pub mod Laid
 pub mod Kept
 pub mod Starts

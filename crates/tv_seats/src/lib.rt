@@ -11,15 +11,17 @@
 //!
 //! - `stage`: where a job stands
 //! - `table`: the seats by number
+//! - `past`: those of an instance that has ended
 //! - `steps`: of one step, how many of its jobs run, and which are idle, set aside and nested
 //! - `seats`: the calls
 #![tactic(auto)]
 
+mod past;
 mod seats;
 mod stage;
 mod steps;
 mod table;
 
+pub use past::Past;
 pub use seats::Seats;
 pub use stage::Stage;
-pub use table::Table;

@@ -8,6 +8,7 @@ ghost use Rattle.tv_seats.specs.Seats.{HasBackRooms, HasRoomsOrAsBefore, IsFree,
 ghost use Rattle.tv_seats.specs.Starts.{AreEmptySteps, EmptiesStep};
 ghost use Rattle.tv_seats.specs.Stages.{is_nested, is_out, may_settle, may_settle_alone};
 
+use crate::past::Past;
 use crate::stage::Stage;
 use crate::steps::StepSeats;
 use crate::table::Table;
@@ -72,11 +73,11 @@ impl Seats {
         ensures levels { OnOk result (self.new.levels ≡ levels.now) }
     {
         self.out = 0;
-        self.table = Table::new(alloc, 0);
+        self.table.clear(0);
         mem::swap(&mut self.steps, &mut self.spare);
         match empty_steps(alloc, &mut self.steps, levels) {
             Ok(widest) => {
-                self.table = Table::new(alloc, widest);
+                self.table.clear(widest);
                 Ok(())
             }
             Err(error) => {
@@ -87,7 +88,7 @@ impl Seats {
     }
 
     /// Gives the seats by number: from then on there are none, of no step. Takes no memory.
-    pub fn finish(&mut self, alloc: Global) -> Table
+    pub fn finish(&mut self, alloc: Global) -> Past
         ensures given { result.seats ≡ self.old.seats }
         ensures seats { self.new.seats ≡ [] }
         ensures levels { self.new.levels ≡ [] }
@@ -95,7 +96,7 @@ impl Seats {
         self.out = 0;
         self.spare.clear();
         mem::swap(&mut self.steps, &mut self.spare);
-        mem::replace(&mut self.table, Table::new(alloc, 0))
+        self.table.finish(alloc)
     }
 
     /// How many jobs have a seat. Each of their numbers is below that, and there are fewer than 2^32.

@@ -4,10 +4,12 @@ ghost use Rattle.tv_seats.specs.Nested.{is_before};
 ghost use Rattle.tv_seats.specs.Seats.{new_seat, stage_at, stands, step_at, with_stage};
 ghost use Rattle.tv_seats.specs.Stages.{is_nested, is_out, is_waiting};
 
+use crate::past::{Kept, Past};
 use crate::stage::Stage;
 use std::alloc::Global;
 use std::cmp::Ordering;
 use std::marker::Model;
+use std::mem;
 use tv_value::NoMemory;
 
 /// A seat: its step, where its place starts among all indices and how many it has, and its stage.
@@ -55,6 +57,38 @@ impl Table {
             indices: Vec::new(alloc),
             room: 0,
         }
+    }
+
+    /// No seats from now on, with places of at most so many indices, in the memory of those before. Takes no memory.
+    pub fn clear(&mut self, widest: usize)
+        ensures seats { self.new.seats ≡ [] }
+        ensures widest { self.new.widest ≡ widest }
+        ensures room { self.new.room ≡ 0 }
+    {
+        self.rows.clear();
+        self.indices.clear();
+        self.widest = widest;
+        self.room = 0;
+    }
+
+    /// Gives the seats: from then on there are none. One seat whose place has no index is given alone, and the memory in which it
+    /// stood stays here. Takes no memory.
+    pub fn finish(&mut self, alloc: Global) -> Past
+        ensures given { result.seats ≡ self.old.seats }
+        ensures seats { self.new.seats ≡ [] }
+        ensures room { self.new.room ≡ 0 }
+    {
+        if self.rows.len() == 1 {
+            let row = self.rows[0];
+            if row.levels == 0 {
+                self.clear(0);
+                let (step, stage) = (row.step, row.stage);
+                let kept = Kept::One { step, stage };
+                return Past { kept };
+            }
+        }
+        let kept = Kept::Many(mem::replace(self, Table::new(alloc, 0)));
+        Past { kept }
     }
 
     /// How many seats there are.

@@ -6,8 +6,8 @@ use Rattle.tv_seats.proofs.seats.Seats.start.Goals as goal
 
 pub invariant_of-self : goal.invariant_of-self
 invariant_of-self c =
-    let t = c.new-in-Ok.result in
-    let e = c.new-in-Ok.ensures in
+    let t = c.clear-in-Ok.new.self in
+    let e = c.clear-in-Ok.ensures in
     let i = c.in-Ok.ensures in
     let steps = c.empty_steps.new.steps.items in
     kept-at-start t steps e.seats e.room i.each
