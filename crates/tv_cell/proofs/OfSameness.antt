@@ -24,8 +24,6 @@ same_trees-each [] (w ∷ ws) = refl
 same_trees-each (v ∷ vs) [] = refl
 same_trees-each (v ∷ vs) (w ∷ ws) = ap (λ b. same_value v w && b) (same_trees-each vs ws)
 
-)
-
 -- ---- what is told to be the same is equal
 
 error-equal : (e f : ErrorDoc) → (e.depth == f.depth && same_document e f) ≡ true → e ≡ f

@@ -18,8 +18,6 @@ use Rattle.tv_lineage.proofs.Rising.{in-order, of-order, rises-order, same-order
 
 -- ---- names and labels
 
-)
-
 pub label_total : IsTotalOrder label_cmp
 label_total = then_total (on_total (λ l. l.0) nat_list_cmp_total) (on_total (λ l. l.1) nat_list_cmp_total)
 

@@ -1,5 +1,3 @@
--- Tests by cases, and names that a test decides.
+-- Names under which proofs of this crate and of those above it take tests by cases.
 pub use Rattle.std.proofs.lemmas.Bool.{and_from as both_true, or_left, or_right, true≢false as true≠false}
 pub use Rattle.tv_strategy.specs.Sources.{Each}
-
-)

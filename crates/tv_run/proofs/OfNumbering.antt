@@ -52,8 +52,6 @@ same-around r = record {
   outs = refl;
 }
 
-}
-
 pub others-then : (r s t : OpenRun) (i : ℕ) → OthersAreSame r s i → OthersAreSame s t i → OthersAreSame r t i
 others-then r s t i a b = record {
   as_many = b.as_many ∙ a.as_many;
