@@ -16,4 +16,5 @@ FlowsOfInstances =
 
 -- the worked documents are of the form, and accepted
 abbrev pub RowsAreAccepted : Type 0
-RowsAreAccepted = (is_formed opening ≡ true) × IsAccepted opening × (is_formed gene_names ≡ true) × IsAccepted gene_names
+RowsAreAccepted = (is_formed opening ≡ true) × IsAccepted opening × (is_formed gene_names ≡ true)
+    × IsAccepted gene_names

@@ -33,7 +33,8 @@ pub record TellsFeeds : Type 0 where
       ≡ close p [] 2 ∷ faulty p (1 ∷ []) ∷ []
   pub items_of_merge :
       feed_start inputs p 2 (merge (output (codes "u") (codes "o") ∷ input (codes "x") ∷ []))
-      ≡ close p [] 2 ∷ close p (1 ∷ []) 2 ∷ arrival p (1 ∷ 0 ∷ []) false ∷ faulty p (1 ∷ 1 ∷ []) ∷ []
+      ≡ close p [] 2 ∷ close p (1 ∷ []) 2 ∷ arrival p (1 ∷ 0 ∷ []) false ∷ faulty p (1 ∷ 1 ∷ [])
+      ∷ []
   pub merge_with_output : feed_start inputs p 0 (merge (output (codes "u") (codes "o") ∷ input (codes "x") ∷ [])) ≡ []
   pub merge_of_inputs :
       feed_start inputs p 0 (merge (input (codes "y") ∷ input (codes "x") ∷ [])) ≡ faulty p [] ∷ []

@@ -60,8 +60,18 @@ pub fn ask_alone<V: Services, A: Asker<Services = V>>(
 ) -> Result<Answer<V>, NoMemory>
     ensures answer { IfOk result (λ a. question a.ticket a.service a.inputs a.outputs
         ≡ question task.ticket task.service task.inputs task.outputs) }
-    ensures told { OnOk result (IsCalled (A.calls asker.old) (A.calls asker.new) (record { service = task.service; inputs = values_view task.inputs; attempt = task.ticket.attempt })) }
-    ensures refused { OnErr result (IsSameOrCalled (A.calls asker.old) (A.calls asker.new) (record { service = task.service; inputs = values_view task.inputs; attempt = task.ticket.attempt })) }
+    ensures told { OnOk result (IsCalled (A.calls asker.old) (A.calls asker.new)
+        (record {
+          service = task.service;
+          inputs = values_view task.inputs;
+          attempt = task.ticket.attempt;
+        })) }
+    ensures refused { OnErr result (IsSameOrCalled (A.calls asker.old) (A.calls asker.new)
+        (record {
+          service = task.service;
+          inputs = values_view task.inputs;
+          attempt = task.ticket.attempt;
+        })) }
 {
     let Task {
         ticket,

@@ -136,7 +136,8 @@ impl<V: Services> Board<V> {
 
     /// Hands out the first try on offer, in job order; `None` where none is. Takes no memory.
     pub fn hand_out(&mut self) -> Option<Ticket>
-        ensures ticket { MatchOption result ((self.new ≡ self.old) × IsNothingOffered V.gives self.old) (λ t. Appends self.old self.new (hands_out t)) }
+        ensures ticket { MatchOption result ((self.new ≡ self.old)
+            × IsNothingOffered V.gives self.old) (λ t. Appends self.old self.new (hands_out t)) }
         ensures names { self.new.names ≡ self.old.names }
         ensures legal { IsLegalRun V.gives self.new }
     {
@@ -178,8 +179,10 @@ impl<V: Services> Board<V> {
 
     /// What a ticket asks, where its try is out. Linear in the inputs.
     pub fn task(&self, ticket: &Ticket) -> Result<Task, TaskFault>
-        ensures task { IfOk result (λ t. IsTask V.gives self.now (question t.ticket t.service t.inputs t.outputs) × (t.ticket ≡ ticket.now)) }
-        ensures outputs { IfOk result (λ t. declared_for V.gives self.now t.ticket.job ≡ Some t.outputs) }
+        ensures task { IfOk result (λ t. IsTask V.gives self.now (question t.ticket t.service
+            t.inputs t.outputs) × (t.ticket ≡ ticket.now)) }
+        ensures outputs { IfOk result (λ t. declared_for V.gives self.now t.ticket.job
+            ≡ Some t.outputs) }
         ensures fault { IfErr result (λ f. IsTaskFault V.gives self.now ticket.now f) }
     {
         if !self.run.is_out(ticket) {

@@ -19,9 +19,11 @@ abbrev pub delivered_by : FlowValues → NumberedFeed → Option Value → Value
 delivered_by d f c = feed_value d f (unwrap_or c no_items)
 
 -- the n-th port binds what stands in the value that its feed delivers, at the place of its leaf, in so many one-item lists
-pub record IsBoundBy (d : FlowValues) (cs : FlowConstants) (s : StepPorts) (q : Place) (n : ℕ) (p : Port) (v : Value) : Type 0 where
+pub record IsBoundBy (d : FlowValues) (cs : FlowConstants) (s : StepPorts) (q : Place) (n : ℕ)
+    (p : Port) (v : Value) : Type 0 where
   pub leaf : Name × Place
-  pub at_leaf : slice_get (split (number_of s.mismatch.now) (strategy_view s.tree.now) q) p.leaf ≡ Some leaf
+  pub at_leaf : slice_get (split (number_of s.mismatch.now) (strategy_view s.tree.now) q) p.leaf
+      ≡ Some leaf
   pub inside : Value
   pub stands : at (delivered_by d p.feed (constant_of_port cs s.number n)) leaf.1 ≡ Some inside
   pub wrapped : v ≡ wrapped_value (wraps s.inputs.now s.delivered.now n) inside
@@ -29,13 +31,16 @@ pub record IsBoundBy (d : FlowValues) (cs : FlowConstants) (s : StepPorts) (q : 
 -- the job at a place of a step's iteration binds at each port what is delivered there
 abbrev pub JobsBindWhatIsDelivered : Type 0
 JobsBindWhatIsDelivered =
-    (d : FlowValues) (k : Known) → IsKnownOf d k → (cs : FlowConstants) (s : StepPorts) (q : Place) (vs : List Value)
+    (d : FlowValues) (k : Known) → IsKnownOf d k → (cs : FlowConstants) (s : StepPorts) (q : Place)
+    (vs : List Value)
     → job_found k cs s q ≡ Some vs
-    → (n : ℕ) (p : Port) (v : Value) → slice_get s.ports.now n ≡ Some p → slice_get vs n ≡ Some v → IsBoundBy d cs s q n p v
+    → (n : ℕ) (p : Port) (v : Value) → slice_get s.ports.now n ≡ Some p → slice_get vs n ≡ Some v
+    → IsBoundBy d cs s q n p v
 
 -- the outputs that are found are those that are delivered
 abbrev pub OutputsAreDelivered : Type 0
 OutputsAreDelivered =
-    (d : FlowValues) (k : Known) → IsKnownOf d k → (cs : FlowConstants) (fs : List NumberedFeed) (vs : List Value)
+    (d : FlowValues) (k : Known) → IsKnownOf d k → (cs : FlowConstants) (fs : List NumberedFeed)
+    (vs : List Value)
     → outputs_found k cs fs ≡ Some vs
     → vs ≡ map (λ x. delivered_by d x.1 (constant_of_output cs x.0)) (numbered 0 fs)

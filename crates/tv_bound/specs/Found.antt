@@ -26,7 +26,8 @@ all_found (Some v ∷ os) = option_map (λ vs. v ∷ vs) (all_found os)
 
 -- a merge is the list of what its links deliver
 abbrev pub merge_found : Known → List NumberedLink → Place → Option Value
-merge_found k ls [] = option_map (λ vs. list_value (trees_of vs)) (all_found (map (λ l. link_found k l []) ls))
+merge_found k ls [] = option_map (λ vs. list_value (trees_of vs))
+    (all_found (map (λ l. link_found k l []) ls))
 merge_found k ls (i ∷ q) = option_and_then (λ l. link_found k l q) (slice_get ls i)
 
 -- a constant stands in the flow

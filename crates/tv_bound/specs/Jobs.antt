@@ -18,19 +18,24 @@ use Rattle.tv_bound.specs.declared.jobs.StepPorts.{StepPorts}
 -- how often the value of a port is wrapped: as often as the depth that it takes exceeds the delivered one
 abbrev pub wraps : List (Name × StepInput) → List (Name × ℕ) → ℕ → ℕ
 wraps inputs delivered n =
-    option_map_or (λ i. i.1.depth) (slice_get inputs n) 0 - option_map_or (λ d. d.1) (slice_get delivered n) 0
+    option_map_or (λ i. i.1.depth) (slice_get inputs n) 0
+    - option_map_or (λ d. d.1) (slice_get delivered n) 0
 
 -- the value of the n-th port, where the places of the strategy's leaves are these
-abbrev pub port_found : Known → FlowConstants → StepPorts → List (Name × Place) → ℕ × Port → Option Value
+abbrev pub port_found : Known → FlowConstants → StepPorts → List (Name × Place) → ℕ × Port
+    → Option Value
 port_found k cs s places (n, p) =
     option_and_then
-    (λ x. option_map (wrapped_value (wraps s.inputs.now s.delivered.now n)) (feed_found k p.feed (constant_of_port cs s.number n) x.1))
+    (λ x. option_map (wrapped_value (wraps s.inputs.now s.delivered.now n))
+    (feed_found k p.feed (constant_of_port cs s.number n) x.1))
     (slice_get places p.leaf)
 
 -- the values that the job at a place of a step's iteration binds, in the order of the ports
 abbrev pub job_found : Known → FlowConstants → StepPorts → Place → Option (List Value)
 job_found k cs s q =
-    all_found (map (port_found k cs s (split (number_of s.mismatch.now) (strategy_view s.tree.now) q)) (numbered 0 s.ports.now))
+    all_found
+    (map (port_found k cs s (split (number_of s.mismatch.now) (strategy_view s.tree.now) q))
+    (numbered 0 s.ports.now))
 
 -- the values of a flow's outputs
 abbrev pub output_found : Known → FlowConstants → ℕ × NumberedFeed → Option Value

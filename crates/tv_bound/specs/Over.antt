@@ -24,7 +24,8 @@ tree_with (Closed n) q o r = close_at q n r
 abbrev pub known_over : Known → Over → Known
 known_over k e = record {
   inputs = k.inputs;
-  outputs = λ s o. if s == e.step && nat_lt o e.outputs then tree_with e.brought e.place.now o (k.outputs s o) else k.outputs s o;
+  outputs = λ s o. if s == e.step && nat_lt o e.outputs
+      then tree_with e.brought e.place.now o (k.outputs s o) else k.outputs s o;
 }
 
 -- what it brings can be put into the tree of that output
@@ -43,4 +44,5 @@ pub record CanCome (s : Sources) (e : Over) : Type 0 where
   pub step : slice_get s.firsts.now e.step ≡ Some first
   pub there : first + e.outputs ≤ length (known s.pool.now s.outputs.now)
   pub brought : AreBrought e.brought e.outputs
-  pub can : (o : ℕ) → o < e.outputs → CanBring e.brought e.place.now o ((known_by s).outputs e.step o)
+  pub can : (o : ℕ) → o < e.outputs → CanBring e.brought e.place.now o ((known_by s).outputs e.step
+      o)

@@ -14,4 +14,5 @@ pub record IsPartOf (s : StepPorts) (q : Place) (starts : List ℕ) (p : Port) :
   pub begins : slice_get starts p.leaf ≡ Some start
   pub fits : start + p.levels ≤ length q
   pub leaf : Name
-  pub part : slice_get (split (number_of s.mismatch.now) (strategy_view s.tree.now) q) p.leaf ≡ Some (leaf, take p.levels (drop start q))
+  pub part : slice_get (split (number_of s.mismatch.now) (strategy_view s.tree.now) q) p.leaf
+      ≡ Some (leaf, take p.levels (drop start q))

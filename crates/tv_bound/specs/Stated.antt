@@ -14,9 +14,12 @@ use Rattle.tv_bound.specs.Delivered.{FlowValues, IsKnownOf, link_value, feed_val
 
 -- what a feed is found to deliver at a place stands there in what it delivers; so the whole, wrapped, is that, wrapped
 pub record FoundIsDelivered (d : FlowValues) (k : Known) : Type 0 where
-  pub link : (l : NumberedLink) (q : Place) (w : Value) → link_found k l q ≡ Some w → at (link_value d l) q ≡ Some w
-  pub feed : (f : NumberedFeed) (c : Value) (q : Place) (w : Value) → feed_found k f (Some c) q ≡ Some w → at (feed_value d f c) q ≡ Some w
-  pub wrapped : (f : NumberedFeed) (c : Value) (n : ℕ) (w : Value) → feed_found k f (Some c) [] ≡ Some w → wrapped_value n w ≡ wrapped_value n (feed_value d f c)
+  pub link : (l : NumberedLink) (q : Place) (w : Value) → link_found k l q ≡ Some w
+      → at (link_value d l) q ≡ Some w
+  pub feed : (f : NumberedFeed) (c : Value) (q : Place) (w : Value) → feed_found k f (Some c) q
+      ≡ Some w → at (feed_value d f c) q ≡ Some w
+  pub wrapped : (f : NumberedFeed) (c : Value) (n : ℕ) (w : Value) → feed_found k f (Some c) []
+      ≡ Some w → wrapped_value n w ≡ wrapped_value n (feed_value d f c)
 
 abbrev pub FindsWhatIsDelivered : Type 0
 FindsWhatIsDelivered = (d : FlowValues) (k : Known) → IsKnownOf d k → FoundIsDelivered d k
@@ -29,15 +32,18 @@ IsShown r q w = (s : Place) → IsTrue (is_some (at w s)) → shows r (q ++ s) �
 
 -- what stands at a place of an output is found there as soon as all its nodes are known, and not before
 abbrev pub FindsWhatIsKnown : Type 0
-FindsWhatIsKnown = (r : Partial Value) (v : Value) (q : Place) (w : Value) → Below r v → at v q ≡ Some w → (found_in q r ≡ Some w) ↔ IsShown r q w
+FindsWhatIsKnown = (r : Partial Value) (v : Value) (q : Place) (w : Value) → Below r v → at v q
+    ≡ Some w → (found_in q r ≡ Some w) ↔ IsShown r q w
 
 -- where the whole is found, what stands inside is found too
 abbrev pub FindsInside : Type 0
-FindsInside = (k : Known) (f : NumberedFeed) (c : Option Value) (v : Value) (q : Place) → feed_found k f c [] ≡ Some v → feed_found k f c q ≡ at v q
+FindsInside = (k : Known) (f : NumberedFeed) (c : Option Value) (v : Value) (q : Place)
+    → feed_found k f c [] ≡ Some v → feed_found k f c q ≡ at v q
 
 -- ---- one-item lists
 
 -- a wrapped value stands inside at the first places, and holds a fault where it did
 pub record WrappingKeeps : Type 0 where
-  pub inside : (n : ℕ) (v : Value) (q : Place) → at (wrapped_value n v) (replicate n 0 ++ q) ≡ at v q
+  pub inside : (n : ℕ) (v : Value) (q : Place) → at (wrapped_value n v) (replicate n 0 ++ q)
+      ≡ at v q
   pub faults : (n : ℕ) (v : Value) → holds_fault (wrapped_value n v) ≡ holds_fault v

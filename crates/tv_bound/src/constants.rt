@@ -32,7 +32,8 @@ impl Constants {
     /// The constant of a step's port, by the numbers of both, or `None` where the port is fed otherwise or isn't there. Takes no
     /// memory, and the cost is constant.
     pub fn of_port(&self, step: usize, port: usize) -> Option<&Cell>
-        ensures { option_map (λ c. view c.now) result ≡ constant_of_port (constants_view self.now) step port }
+        ensures { option_map (λ c. view c.now) result ≡ constant_of_port (constants_view self.now)
+            step port }
     {
         match self.ports.as_slice().get(step) {
             Some(cells) => cell_at(cells.as_slice(), port),
@@ -43,7 +44,8 @@ impl Constants {
     /// The constant of an output of the flow by its number, or `None` as with `of_port`. Takes no memory, and the cost is
     /// constant.
     pub fn of_output(&self, number: usize) -> Option<&Cell>
-        ensures { option_map (λ c. view c.now) result ≡ constant_of_output (constants_view self.now) number }
+        ensures { option_map (λ c. view c.now) result ≡ constant_of_output (constants_view self.now)
+            number }
     {
         cell_at(self.outputs.as_slice(), number)
     }
@@ -71,7 +73,8 @@ fn cell_of(alloc: Global, feed: &Feed) -> Result<Option<Cell>, NoMemory>
 }
 
 fn cells_of_ports(alloc: Global, inputs: &StepInputs) -> Result<Cells, NoMemory>
-    ensures { IfOk result (λ cs. cell_values cs ≡ map (λ i. constant_in i.1.from) (each step_input_view inputs.now)) }
+    ensures { IfOk result (λ cs. cell_values cs ≡ map (λ i. constant_in i.1.from)
+        (each step_input_view inputs.now)) }
 {
     let inputs = inputs.as_slice();
     let mut cells = Vec::with_capacity(alloc, inputs.len())?;
@@ -82,7 +85,8 @@ fn cells_of_ports(alloc: Global, inputs: &StepInputs) -> Result<Cells, NoMemory>
 }
 
 fn cells_of_steps(alloc: Global, steps: &Steps) -> Result<Sequence<Cells>, NoMemory>
-    ensures { IfOk result (λ rows. map cell_values rows ≡ map port_constants (each step_view steps.now)) }
+    ensures { IfOk result (λ rows. map cell_values rows
+        ≡ map port_constants (each step_view steps.now)) }
 {
     let steps = steps.as_slice();
     let mut rows = Vec::with_capacity(alloc, steps.len())?;
@@ -93,7 +97,8 @@ fn cells_of_steps(alloc: Global, steps: &Steps) -> Result<Sequence<Cells>, NoMem
 }
 
 fn cells_of_outputs(alloc: Global, outputs: &FlowOutputs) -> Result<Cells, NoMemory>
-    ensures { IfOk result (λ cs. cell_values cs ≡ map (λ o. constant_in o.1) (each feed_view outputs.now)) }
+    ensures { IfOk result (λ cs. cell_values cs
+        ≡ map (λ o. constant_in o.1) (each feed_view outputs.now)) }
 {
     let outputs = outputs.as_slice();
     let mut cells = Vec::with_capacity(alloc, outputs.len())?;

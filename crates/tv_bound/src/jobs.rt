@@ -53,8 +53,11 @@ pub fn job_inputs(
     requires inputs { length step.now.inputs.now ≡ length step.now.ports.now }
     requires delivered { length step.now.delivered.now ≡ length step.now.ports.now }
     requires counted { Each (λ p. IsCounted p.feed) step.now.ports.now }
-    requires found { IsTrue (is_some (job_found (known_by sources.now) (constants_view constants.now) step.now place.now)) }
-    ensures values { IfOk result (λ ps. job_found (known_by sources.now) (constants_view constants.now) step.now place.now ≡ Some (piece_values ps)) }
+    requires found { IsTrue
+        (is_some (job_found (known_by sources.now) (constants_view constants.now) step.now
+        place.now)) }
+    ensures values { IfOk result (λ ps. job_found (known_by sources.now)
+        (constants_view constants.now) step.now place.now ≡ Some (piece_values ps)) }
     ensures sound { IfOk result AreSound }
 {
     let mut pieces = Vec::with_capacity(alloc, step.ports.len())?;
@@ -122,8 +125,10 @@ pub fn flow_outputs(
 ) -> Result<Pieces, NoMemory>
     requires stand { Stand sources.now }
     requires counted { Each IsCounted feeds.now }
-    requires found { IsTrue (is_some (outputs_found (known_by sources.now) (constants_view constants.now) feeds.now)) }
-    ensures values { IfOk result (λ ps. outputs_found (known_by sources.now) (constants_view constants.now) feeds.now ≡ Some (piece_values ps)) }
+    requires found { IsTrue
+        (is_some (outputs_found (known_by sources.now) (constants_view constants.now) feeds.now)) }
+    ensures values { IfOk result (λ ps. outputs_found (known_by sources.now)
+        (constants_view constants.now) feeds.now ≡ Some (piece_values ps)) }
     ensures sound { IfOk result AreSound }
 {
     let mut pieces = Vec::with_capacity(alloc, feeds.len())?;

@@ -52,8 +52,10 @@ pub fn flow_outputs_over(
     requires stand { Stand sources.now }
     requires over { CanCome sources.now over.now }
     requires counted { Each IsCounted feeds.now }
-    requires found { IsTrue (is_some (outputs_found (known_over (known_by sources.now) over.now) (constants_view constants.now) feeds.now)) }
-    ensures values { IfOk result (λ ps. outputs_found (known_over (known_by sources.now) over.now) (constants_view constants.now) feeds.now ≡ Some (piece_values ps)) }
+    requires found { IsTrue (is_some (outputs_found (known_over (known_by sources.now) over.now)
+        (constants_view constants.now) feeds.now)) }
+    ensures values { IfOk result (λ ps. outputs_found (known_over (known_by sources.now) over.now)
+        (constants_view constants.now) feeds.now ≡ Some (piece_values ps)) }
     ensures sound { IfOk result AreSound }
 {
     let mut pieces = Vec::with_capacity(alloc, feeds.len())?;
@@ -75,8 +77,10 @@ fn feed_over(
     requires stand { Stand sources.now }
     requires over { CanCome sources.now over.now }
     requires counted { IsCounted feed.now }
-    requires found { IsTrue (is_some (feed_found (known_over (known_by sources.now) over.now) feed.now (option_map (λ c. view c.now) constant) [])) }
-    ensures value { IfOk result (λ p. feed_found (known_over (known_by sources.now) over.now) feed.now (option_map (λ c. view c.now) constant.entry) [] ≡ Some (piece_value p)) }
+    requires found { IsTrue (is_some (feed_found (known_over (known_by sources.now) over.now)
+        feed.now (option_map (λ c. view c.now) constant) [])) }
+    ensures value { IfOk result (λ p. feed_found (known_over (known_by sources.now) over.now)
+        feed.now (option_map (λ c. view c.now) constant.entry) [] ≡ Some (piece_value p)) }
     ensures sound { IfOk result IsSound }
 {
     match feed {
@@ -98,8 +102,10 @@ fn link_over(
 ) -> Result<Piece, NoMemory>
     requires stand { Stand sources.now }
     requires over { CanCome sources.now over.now }
-    requires found { IsTrue (is_some (link_found (known_over (known_by sources.now) over.now) link.now [])) }
-    ensures value { IfOk result (λ p. link_found (known_over (known_by sources.now) over.now) link.now [] ≡ Some (piece_value p)) }
+    requires found { IsTrue (is_some (link_found (known_over (known_by sources.now) over.now)
+        link.now [])) }
+    ensures value { IfOk result (λ p. link_found (known_over (known_by sources.now) over.now)
+        link.now [] ≡ Some (piece_value p)) }
     ensures sound { IfOk result IsSound }
 {
     match link {
@@ -124,8 +130,11 @@ fn output_over(
     requires stand { Stand sources.now }
     requires over { CanCome sources.now over.now }
     requires there { output < over.now.outputs }
-    requires found { IsTrue (is_some (found_in [] (tree_with over.now.brought over.now.place.now output ((known_by sources.now).outputs over.now.step output)))) }
-    ensures value { IfOk result (λ p. found_in [] (tree_with over.now.brought over.now.place.now output ((known_by sources.now).outputs over.now.step output)) ≡ Some (piece_value p)) }
+    requires found { IsTrue
+        (is_some (found_in [] (tree_with over.now.brought over.now.place.now output
+        ((known_by sources.now).outputs over.now.step output)))) }
+    ensures value { IfOk result (λ p. found_in [] (tree_with over.now.brought over.now.place.now
+        output ((known_by sources.now).outputs over.now.step output)) ≡ Some (piece_value p)) }
     ensures sound { IfOk result IsSound }
 {
     let (outputs, pool) = (sources.outputs, sources.pool);
@@ -148,8 +157,10 @@ fn merged_over(
     requires stand { Stand sources.now }
     requires over { CanCome sources.now over.now }
     requires few { length links.now < length_limit }
-    requires found { IsTrue (is_some (merge_found (known_over (known_by sources.now) over.now) links.now [])) }
-    ensures value { IfOk result (λ p. merge_found (known_over (known_by sources.now) over.now) links.now [] ≡ Some (piece_value p)) }
+    requires found { IsTrue (is_some (merge_found (known_over (known_by sources.now) over.now)
+        links.now [])) }
+    ensures value { IfOk result (λ p. merge_found (known_over (known_by sources.now) over.now)
+        links.now [] ≡ Some (piece_value p)) }
     ensures sound { IfOk result IsSound }
 {
     let mut pieces = Vec::with_capacity(alloc, links.len())?;

@@ -34,8 +34,11 @@ pub fn job_binds(
     requires inputs { length step.now.inputs.now ≡ length step.now.ports.now }
     requires delivered { length step.now.delivered.now ≡ length step.now.ports.now }
     requires counted { Each (λ p. IsCounted p.feed) step.now.ports.now }
-    requires found { IsTrue (is_some (job_found (known_by sources.now) (constants_view constants.now) step.now place.now)) }
-    ensures { IsTrue result ↔ (job_found (known_by sources.now) (constants_view constants.now) step.now place.now ≡ Some (map view values.now)) }
+    requires found { IsTrue
+        (is_some (job_found (known_by sources.now) (constants_view constants.now) step.now
+        place.now)) }
+    ensures { IsTrue result ↔ (job_found (known_by sources.now) (constants_view constants.now)
+        step.now place.now ≡ Some (map view values.now)) }
 {
     if values.len() != step.ports.len() {
         return false;
@@ -72,8 +75,13 @@ fn port_is(
     requires inputs { number < length step.now.inputs.now }
     requires delivered { number < length step.now.delivered.now }
     requires counted { IsCounted port.now.feed }
-    requires found { IsTrue (is_some (feed_found (known_by sources.now) port.now.feed (constant_of_port (constants_view constants.now) step.now.number number) part.now)) }
-    ensures { IsTrue result ↔ (option_map (wrapped_value (wraps step.now.inputs.now step.now.delivered.now number)) (feed_found (known_by sources.now) port.now.feed (constant_of_port (constants_view constants.now) step.now.number number) part.now) ≡ Some (view value.now)) }
+    requires found { IsTrue (is_some (feed_found (known_by sources.now) port.now.feed
+        (constant_of_port (constants_view constants.now) step.now.number number) part.now)) }
+    ensures { IsTrue result
+        ↔ (option_map (wrapped_value (wraps step.now.inputs.now step.now.delivered.now number))
+        (feed_found (known_by sources.now) port.now.feed
+        (constant_of_port (constants_view constants.now) step.now.number number) part.now)
+        ≡ Some (view value.now)) }
 {
     let constant = constants.of_port(step.number, number);
     match unwrapped(value, wraps_of(step, number)) {
@@ -84,7 +92,8 @@ fn port_is(
 
 /// What stands inside so many one-item lists, where the value is so.
 fn unwrapped(value: &Value, times: u32) -> Option<&Value>
-    ensures { MatchOption result ((v : AValue) → wrapped_value times v ≡ view value.now → ⊥) (λ inside. wrapped_value times (view inside.now) ≡ view value.now) }
+    ensures { MatchOption result ((v : AValue) → wrapped_value times v ≡ view value.now → ⊥)
+        (λ inside. wrapped_value times (view inside.now) ≡ view value.now) }
 {
     if times == 0 {
         return Some(value);
@@ -101,7 +110,8 @@ fn unwrapped(value: &Value, times: u32) -> Option<&Value>
 
 /// The item of a list that has one.
 fn only_item(items: &[Value]) -> Option<&Value>
-    ensures { MatchOption result (length items.now ≡ 1 → ⊥) (λ item. (length items.now ≡ 1) × (item.now ≡ get_or items.now 0 item.now)) }
+    ensures { MatchOption result (length items.now ≡ 1 → ⊥) (λ item. (length items.now ≡ 1)
+        × (item.now ≡ get_or items.now 0 item.now)) }
 {
     if items.len() == 1 {
         Some(&items[0])
@@ -121,8 +131,12 @@ fn feed_is(
 ) -> bool
     requires stand { Stand sources.now }
     requires counted { IsCounted feed.now }
-    requires found { IsTrue (is_some (feed_found (known_by sources.now) feed.now (option_map (λ c. view c.now) constant) place.now)) }
-    ensures { IsTrue result ↔ (feed_found (known_by sources.now) feed.now (option_map (λ c. view c.now) constant.entry) place.now ≡ Some (view value.now)) }
+    requires found { IsTrue
+        (is_some (feed_found (known_by sources.now) feed.now (option_map (λ c. view c.now) constant)
+        place.now)) }
+    ensures { IsTrue result
+        ↔ (feed_found (known_by sources.now) feed.now (option_map (λ c. view c.now) constant.entry)
+        place.now ≡ Some (view value.now)) }
 {
     match feed {
         NumberedFeed::Link(link) => link_is(sources, link, place, value),
@@ -138,7 +152,8 @@ fn feed_is(
 fn link_is(sources: &Sources<'_>, link: &NumberedLink, place: &[u32], value: &Value) -> bool
     requires stand { Stand sources.now }
     requires found { IsTrue (is_some (link_found (known_by sources.now) link.now place.now)) }
-    ensures { IsTrue result ↔ (link_found (known_by sources.now) link.now place.now ≡ Some (view value.now)) }
+    ensures { IsTrue result ↔ (link_found (known_by sources.now) link.now place.now
+        ≡ Some (view value.now)) }
 {
     match link {
         NumberedLink::Input(number) => {
@@ -158,7 +173,8 @@ fn merge_is(sources: &Sources<'_>, links: &[NumberedLink], place: &[u32], value:
     requires stand { Stand sources.now }
     requires few { length links.now < length_limit }
     requires found { IsTrue (is_some (merge_found (known_by sources.now) links.now place.now)) }
-    ensures { IsTrue result ↔ (merge_found (known_by sources.now) links.now place.now ≡ Some (view value.now)) }
+    ensures { IsTrue result ↔ (merge_found (known_by sources.now) links.now place.now
+        ≡ Some (view value.now)) }
 {
     if let Some((first, rest)) = place.split_first() {
         return link_is(sources, &links[*first as usize], rest, value);
@@ -173,8 +189,11 @@ fn merge_is(sources: &Sources<'_>, links: &[NumberedLink], place: &[u32], value:
 /// Whether these values are what links deliver.
 fn links_are(sources: &Sources<'_>, links: &[NumberedLink], values: &[Value]) -> bool
     requires stand { Stand sources.now }
-    requires found { IsTrue (is_some (all_found (map (λ l. link_found (known_by sources.now) l []) links.now))) }
-    ensures { IsTrue result ↔ (all_found (map (λ l. link_found (known_by sources.now) l []) links.now) ≡ Some (map view values.now)) }
+    requires found { IsTrue
+        (is_some (all_found (map (λ l. link_found (known_by sources.now) l []) links.now))) }
+    ensures { IsTrue result
+        ↔ (all_found (map (λ l. link_found (known_by sources.now) l []) links.now)
+        ≡ Some (map view values.now)) }
 {
     if links.len() != values.len() {
         return false;

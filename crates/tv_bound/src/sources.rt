@@ -40,8 +40,11 @@ pub fn feed_piece(
 ) -> Result<Piece, NoMemory>
     requires stand { Stand sources.now }
     requires counted { IsCounted feed.now }
-    requires found { IsTrue (is_some (feed_found (known_by sources.now) feed.now (option_map (λ c. view c.now) constant) place.now)) }
-    ensures value { IfOk result (λ p. feed_found (known_by sources.now) feed.now (option_map (λ c. view c.now) constant.entry) place.now ≡ Some (piece_value p)) }
+    requires found { IsTrue
+        (is_some (feed_found (known_by sources.now) feed.now (option_map (λ c. view c.now) constant)
+        place.now)) }
+    ensures value { IfOk result (λ p. feed_found (known_by sources.now) feed.now
+        (option_map (λ c. view c.now) constant.entry) place.now ≡ Some (piece_value p)) }
     ensures sound { IfOk result IsSound }
 {
     match feed {
@@ -73,7 +76,8 @@ pub(crate) fn link_piece(
 ) -> Result<Piece, NoMemory>
     requires stand { Stand sources.now }
     requires found { IsTrue (is_some (link_found (known_by sources.now) link.now place.now)) }
-    ensures value { IfOk result (λ p. link_found (known_by sources.now) link.now place.now ≡ Some (piece_value p)) }
+    ensures value { IfOk result (λ p. link_found (known_by sources.now) link.now place.now
+        ≡ Some (piece_value p)) }
     ensures sound { IfOk result IsSound }
 {
     match link {
@@ -95,7 +99,8 @@ fn merge_piece(
     requires stand { Stand sources.now }
     requires few { length links.now < length_limit }
     requires found { IsTrue (is_some (merge_found (known_by sources.now) links.now place.now)) }
-    ensures value { IfOk result (λ p. merge_found (known_by sources.now) links.now place.now ≡ Some (piece_value p)) }
+    ensures value { IfOk result (λ p. merge_found (known_by sources.now) links.now place.now
+        ≡ Some (piece_value p)) }
     ensures sound { IfOk result IsSound }
 {
     let Some((first, rest)) = place.split_first() else {
@@ -113,7 +118,8 @@ fn merged_piece(
     requires stand { Stand sources.now }
     requires few { length links.now < length_limit }
     requires found { IsTrue (is_some (merge_found (known_by sources.now) links.now [])) }
-    ensures value { IfOk result (λ p. merge_found (known_by sources.now) links.now [] ≡ Some (piece_value p)) }
+    ensures value { IfOk result (λ p. merge_found (known_by sources.now) links.now []
+        ≡ Some (piece_value p)) }
     ensures sound { IfOk result IsSound }
 {
     let mut pieces = Vec::with_capacity(alloc, links.len())?;

@@ -11,7 +11,8 @@ use Rattle.tv_cell.specs.Found.{found_value, document_of, with_depth}
 abbrev pub value_step : Piece-F Value → Value
 value_step (Piece-F.Part c q) = found_value (at (view c) q)
 value_step (Piece-F.List vs) = list_value (trees_of vs)
-value_step (Piece-F.Fault c q d) = fault_value (with_depth d (document_of (found_value (at (view c) q))))
+value_step (Piece-F.Fault c q d) = fault_value
+    (with_depth d (document_of (found_value (at (view c) q))))
 
 abbrev pub piece_value : Piece → Value
 piece_value = fold-Piece Value value_step

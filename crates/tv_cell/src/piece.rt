@@ -53,7 +53,8 @@ impl Piece {
     /// where a list of pieces stands there as `copy`; no value is copied or looked at.
     pub fn part(&self, alloc: Global, place: &[u32]) -> Result<Piece, NoMemory>
         requires { IsTrue (is_some (at (piece_value self.now) place.now)) }
-        ensures value { IfOk result (λ p. at (piece_value self.now) place.now ≡ Some (piece_value p)) }
+        ensures value { IfOk result (λ p. at (piece_value self.now) place.now
+            ≡ Some (piece_value p)) }
         ensures sound { IsSound self.now → IfOk result IsSound }
     {
         match self {

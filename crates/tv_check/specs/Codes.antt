@@ -235,7 +235,15 @@ coded_step =
     (coded× (coded_list coded_activity)
     (coded× coded_ℕ (coded× coded_ℕ (coded_list coded_name)))))))
     (λ s. (s.inputs, (s.outputs, (s.strategy, (s.activities, (s.retries, (s.jobs, s.after)))))))
-    (λ p. record { inputs = p.0; outputs = p.1.0; strategy = p.1.1.0; activities = p.1.1.1.0; retries = p.1.1.1.1.0; jobs = p.1.1.1.1.1.0; after = p.1.1.1.1.1.1 })
+    (λ p. record {
+      inputs = p.0;
+      outputs = p.1.0;
+      strategy = p.1.1.0;
+      activities = p.1.1.1.0;
+      retries = p.1.1.1.1.0;
+      jobs = p.1.1.1.1.1.0;
+      after = p.1.1.1.1.1.1;
+    })
     (λ _. refl)
 
 abbrev pub coded_flow : Coded Flow
@@ -249,9 +257,18 @@ coded_flow =
 
 abbrev pub coded_step_plan : Coded plan.StepPlan
 coded_step_plan =
-    code_by (ℕ × (Strategy × (ℕ × (List (Name × ℕ) × List (Name × ℕ))))) (coded× coded_ℕ (coded× coded_strategy (coded× coded_ℕ (coded× (coded_named coded_ℕ) (coded_named coded_ℕ)))))
+    code_by (ℕ × (Strategy × (ℕ × (List (Name × ℕ) × List (Name × ℕ)))))
+    (coded× coded_ℕ
+    (coded× coded_strategy
+    (coded× coded_ℕ (coded× (coded_named coded_ℕ) (coded_named coded_ℕ)))))
     (λ s. (s.rank, (s.tree, (s.depth, (s.delivered, s.mismatch)))))
-    (λ p. record { rank = p.0; tree = p.1.0; depth = p.1.1.0; delivered = p.1.1.1.0; mismatch = p.1.1.1.1 })
+    (λ p. record {
+      rank = p.0;
+      tree = p.1.0;
+      depth = p.1.1.0;
+      delivered = p.1.1.1.0;
+      mismatch = p.1.1.1.1;
+    })
     (λ _. refl)
 
 abbrev pub coded_flow_plan : Coded plan.FlowPlan

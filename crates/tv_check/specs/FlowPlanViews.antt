@@ -10,7 +10,12 @@ use Rattle.tv_check.specs.Plans as plan
 use Rattle.tv_check.specs.Codes.{coded_flow_plan}
 
 abbrev pub flow_plan_view : FlowPlan → plan.FlowPlan
-flow_plan_view p = record { flow = flow_view p.flow; steps = map step_plan_view p.steps; outputs = p.outputs; wiring = p.wiring }
+flow_plan_view p = record {
+  flow = flow_view p.flow;
+  steps = map step_plan_view p.steps;
+  outputs = p.outputs;
+  wiring = p.wiring;
+}
 
 -- the document is accepted, and these are its main flow's number and the plans of its flows
 abbrev pub IsChecked : Document → ℕ → List plan.FlowPlan → Type 0

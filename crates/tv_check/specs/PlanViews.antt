@@ -12,7 +12,13 @@ use Rattle.tv_check.specs.Plans as plan
 use Rattle.tv_check.specs.Codes.{coded_flow_plan}
 
 abbrev pub step_plan_view : StepPlan → plan.StepPlan
-step_plan_view p = record { rank = p.rank; tree = strategy_view p.tree; depth = p.depth; delivered = p.delivered; mismatch = p.mismatch }
+step_plan_view p = record {
+  rank = p.rank;
+  tree = strategy_view p.tree;
+  depth = p.depth;
+  delivered = p.delivered;
+  mismatch = p.mismatch;
+}
 
 -- an accepted document has this flow
 abbrev pub IsOfDocument : Flow → Type 0

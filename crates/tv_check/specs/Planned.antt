@@ -13,7 +13,13 @@ use Rattle.tv_depths.specs.Tables.{IsMeasured, table_depth, table_mismatch}
 -- with this rank, and this depth of its strategy
 abbrev pub planned : Flow → List (Option ℕ) → ℕ → ℕ → Step → plan.StepPlan
 planned f ls rank depth s =
-    record { rank = rank; tree = strategy_of s; depth = depth; delivered = map (λ i. (i.0, table_depth f ls i.1.from)) s.inputs; mismatch = map (λ i. (i.0, table_mismatch f ls i.1)) s.inputs }
+    record {
+      rank = rank;
+      tree = strategy_of s;
+      depth = depth;
+      delivered = map (λ i. (i.0, table_depth f ls i.1.from)) s.inputs;
+      mismatch = map (λ i. (i.0, table_mismatch f ls i.1)) s.inputs;
+    }
 
 -- a flow that was measured, with the ranks of its steps: the table has the depth of each step's strategy
 pub record IsPlanned (f : Flow) (ls : List (Option ℕ)) (outputs : List (Name × ℕ))

@@ -34,10 +34,22 @@ pub record FlowPlan : Type 0 where
 
 abbrev pub step_plan : Flow → Name × Step → StepPlan
 step_plan f (n, s) =
-    record { rank = position n (ranked f.steps); tree = strategy_of s; depth = strategy_depth (port_depth f.inputs (flow_depths f) s) (strategy_of s); delivered = map (λ i. (i.0, feed_depth f.inputs (flow_depths f) i.1.from)) s.inputs; mismatch = map (λ i. (i.0, feed_depth f.inputs (flow_depths f) i.1.from - i.1.depth)) s.inputs }
+    record {
+      rank = position n (ranked f.steps);
+      tree = strategy_of s;
+      depth = strategy_depth (port_depth f.inputs (flow_depths f) s) (strategy_of s);
+      delivered = map (λ i. (i.0, feed_depth f.inputs (flow_depths f) i.1.from)) s.inputs;
+      mismatch = map (λ i. (i.0, feed_depth f.inputs (flow_depths f) i.1.from - i.1.depth))
+          s.inputs;
+    }
 
 abbrev pub flow_plan : Flow → FlowPlan
-flow_plan f = record { flow = f; steps = map (step_plan f) f.steps; outputs = measured_outputs f; wiring = wiring f }
+flow_plan f = record {
+  flow = f;
+  steps = map (step_plan f) f.steps;
+  outputs = measured_outputs f;
+  wiring = wiring f;
+}
 
 -- the plans of all flows, in their order
 abbrev pub flow_plans : Document → List FlowPlan

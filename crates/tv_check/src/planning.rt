@@ -27,7 +27,8 @@ pub(crate) fn flow_plan(
     ranks: &[u32],
     measured: &Measured,
 ) -> Result<FlowPlan, NoMemory>
-    requires planned { IsPlanned (flow_view flow.now) measured.now.levels.items measured.now.outputs ranks.now }
+    requires planned { IsPlanned (flow_view flow.now) measured.now.levels.items measured.now.outputs
+        ranks.now }
     requires accepted { IsOfDocument (flow_view flow.now) }
     ensures { IfOk result (λ p. flow_plan_view p ≡ flow_plan (flow_view flow.now)) }
 {
@@ -68,7 +69,8 @@ fn step_plans(
     ranks: &[u32],
     measured: &Measured,
 ) -> Result<StepPlans, NoMemory>
-    requires { IsPlanned (flow_view flow.now) measured.now.levels.items measured.now.outputs ranks.now }
+    requires { IsPlanned (flow_view flow.now) measured.now.levels.items measured.now.outputs
+        ranks.now }
     ensures { IfOk result (λ ps. map step_plan_view ps
         ≡ map (step_plan (flow_view flow.now)) (flow_view flow.now).steps) }
 {

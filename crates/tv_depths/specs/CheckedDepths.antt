@@ -34,11 +34,19 @@ feed_depth given so_far (constant v) = constant_depth v
 
 -- the levels that a port iterates
 abbrev pub port_depth : List (Name × ℕ) → List StepDepths → Step → Name → ℕ
-port_depth given so_far s p = option_map_or (λ i. feed_depth given so_far i.from - i.depth) (named p s.inputs) 0
+port_depth given so_far s p = option_map_or (λ i. feed_depth given so_far i.from - i.depth)
+    (named p s.inputs) 0
 
 abbrev pub step_depths : List (Name × ℕ) → List StepDepths → Name × Step → StepDepths
 step_depths given so_far s =
-    record { step = s.0; outputs = map (λ p. (p.0, strategy_depth (port_depth given so_far s.1) (strategy_of s.1) + p.1)) s.1.outputs }
+    record {
+      step = s.0;
+      outputs = map (λ p. (
+        p.0,
+        strategy_depth (port_depth given so_far s.1) (strategy_of s.1)
+            + p.1,
+      )) s.1.outputs;
+    }
 
 abbrev pub steps_depths : List (Name × ℕ) → List StepDepths → List (Name × Step) → List StepDepths
 steps_depths given so_far [] = so_far

@@ -47,7 +47,8 @@ nesting_limit = 8
 
 -- first the flows that reach themselves, and, where there are none, those that nest too deep
 abbrev pub cycle_complaints : Document → List Complaint
-cycle_complaints d = flat_map (λ f. complain_if (reaches (flows_in d) (length d.flows) f.0 f.0) (plainly flow_cycle (at_flow f.0))) d.flows
+cycle_complaints d = flat_map (λ f. complain_if (reaches (flows_in d) (length d.flows) f.0 f.0)
+    (plainly flow_cycle (at_flow f.0))) d.flows
 
 abbrev pub nesting_complaints : Document → List Complaint
 nesting_complaints d =
@@ -55,7 +56,8 @@ nesting_complaints d =
 
 -- the steps of a flow that reach themselves by links and by what they run after
 abbrev pub flow_link_cycles : Name → Flow → List Complaint
-flow_link_cycles n f = flat_map (λ s. complain_if (reaches (steps_before f) (length f.steps) s.0 s.0) (plainly link_cycle (at_step n s.0))) f.steps
+flow_link_cycles n f = flat_map (λ s. complain_if (reaches (steps_before f) (length f.steps) s.0
+    s.0) (plainly link_cycle (at_step n s.0))) f.steps
 
 -- and so flow by flow
 abbrev pub link_cycle_complaints : Document → List Complaint

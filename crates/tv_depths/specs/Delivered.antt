@@ -36,7 +36,10 @@ nothing_delivered = record { depth = 1; value = list fixed no_trees }
 -- the links of a merge as the items of a list
 abbrev pub merged : List Delivered → Delivered
 merged [] = nothing_delivered
-merged (d ∷ ds) = record { depth = suc d.depth; value = list fixed (trees_of (map (λ e. e.value) (d ∷ ds))) }
+merged (d ∷ ds) = record {
+  depth = suc d.depth;
+  value = list fixed (trees_of (map (λ e. e.value) (d ∷ ds)));
+}
 
 -- from the flow's inputs and the steps so far, each of which has its meaning
 module _ {M : Type 0} (step_in : M → StepMeaning) where
@@ -51,7 +54,10 @@ module _ {M : Type 0} (step_in : M → StepMeaning) where
   abbrev pub feed_delivers : List (Name × Delivered) → List M → Feed → Delivered
   feed_delivers given made (link l) = link_delivers given made l
   feed_delivers given made (merge ls) = merged (map (link_delivers given made) ls)
-  feed_delivers given made (constant v) = record { depth = unwrap_or (least_depth v) 0; value = traced fixed v }
+  feed_delivers given made (constant v) = record {
+    depth = unwrap_or (least_depth v) 0;
+    value = traced fixed v;
+  }
 
 -- in so many one-item lists
 abbrev pub wrapped : ℕ → Traced → Traced
@@ -60,4 +66,7 @@ wrapped (suc k) v = list fixed (tree (wrapped k v) no_trees)
 
 -- deeper data is iterated, shallower data is wrapped
 abbrev pub ported : ℕ → Delivered → Ported
-ported declared d = record { mismatch = d.depth - declared; value = wrapped (declared - d.depth) d.value }
+ported declared d = record {
+  mismatch = d.depth - declared;
+  value = wrapped (declared - d.depth) d.value;
+}

@@ -18,12 +18,14 @@ abbrev pub depth_most : ℕ
 depth_most = 32
 
 abbrev pub past_limit : Where → ℕ → List Complaint
-past_limit w depth = complain_if (nat_lt depth_most depth) (with_numbers too_deep w depth depth_most)
+past_limit w depth = complain_if (nat_lt depth_most depth) (with_numbers too_deep w depth
+    depth_most)
 
 -- the first link of a merge that delivers another depth than its first link
 abbrev pub merge_difference : Where → List ℕ → List Complaint
 merge_difference w [] = []
-merge_difference w (d ∷ ds) = option_map_or (λ e. with_numbers merge_depths w d e ∷ []) (find (λ e. not (e == d)) ds) []
+merge_difference w (d ∷ ds) = option_map_or (λ e. with_numbers merge_depths w d e ∷ [])
+    (find (λ e. not (e == d)) ds) []
 
 abbrev pub feed_depths : List (Name × ℕ) → List StepDepths → Where → Feed → List Complaint
 feed_depths given so_far w (link l) = []
@@ -32,7 +34,8 @@ feed_depths given so_far w (constant v) = []
 
 -- what feeds a port or a flow output
 abbrev pub fed_complaints : List (Name × ℕ) → List StepDepths → Where → Feed → List Complaint
-fed_complaints given so_far w f = feed_depths given so_far w f ++ past_limit w (feed_depth given so_far f)
+fed_complaints given so_far w f = feed_depths given so_far w f
+    ++ past_limit w (feed_depth given so_far f)
 
 -- the same names with the same numbers, in the same order
 abbrev pub same_ports : List (Name × ℕ) → List (Name × ℕ) → Bool
@@ -43,18 +46,22 @@ same_ports (p ∷ ps) (q ∷ qs) = same_name p.0 q.0 && p.1 == q.1 && same_ports
 
 -- a flow takes what the step takes, and gives what the step gives
 abbrev pub fits_flow : Step → Flow → Bool
-fits_flow s f = same_ports (map (λ i. (i.0, i.1.depth)) s.inputs) f.inputs && same_ports s.outputs (measured_outputs f)
+fits_flow s f = same_ports (map (λ i. (i.0, i.1.depth)) s.inputs) f.inputs
+    && same_ports s.outputs (measured_outputs f)
 
 abbrev pub nested_complaints : Document → Name → Name → Step → ℕ × Activity → List Complaint
 nested_complaints d f n s (k, service a) = []
-nested_complaints d f n s (k, nested g) = complain_if (not (option_map_or (fits_flow s) (named g d.flows) false)) (plainly nested_ports (at_activity f n k))
+nested_complaints d f n s (k, nested g) = complain_if
+    (not (option_map_or (fits_flow s) (named g d.flows) false))
+    (plainly nested_ports (at_activity f n k))
 
 abbrev pub dot_complaints : Where → Option Difference → List Complaint
 dot_complaints w None = []
 dot_complaints w (Some e) = with_numbers dot_depths w e.first e.second ∷ []
 
 -- a step, from the depths of the flow's inputs and of the steps so far
-abbrev pub step_complaints : Document → Name → List (Name × ℕ) → List StepDepths → Name × Step → List Complaint
+abbrev pub step_complaints : Document → Name → List (Name × ℕ) → List StepDepths → Name × Step
+    → List Complaint
 step_complaints d f given so_far (n, s) =
     let mismatch = port_depth given so_far s in
     let levels = strategy_depth mismatch (strategy_of s) in
@@ -64,14 +71,17 @@ step_complaints d f given so_far (n, s) =
     ++ flat_map (nested_complaints d f n s) (numbered 0 s.activities)
 
 -- the steps by rank
-abbrev pub steps_complaints : Document → Name → List (Name × ℕ) → List StepDepths → List (Name × Step) → List Complaint
+abbrev pub steps_complaints : Document → Name → List (Name × ℕ) → List StepDepths
+    → List (Name × Step) → List Complaint
 steps_complaints d f given so_far [] = []
-steps_complaints d f given so_far (s ∷ ss) = step_complaints d f given so_far s ++ steps_complaints d f given (step_depths given so_far s ∷ so_far) ss
+steps_complaints d f given so_far (s ∷ ss) = step_complaints d f given so_far s
+    ++ steps_complaints d f given (step_depths given so_far s ∷ so_far) ss
 
 abbrev pub flow_complaints : Document → Name × Flow → List Complaint
 flow_complaints d (f, flow) =
     steps_complaints d f flow.inputs [] (ranked flow.steps)
-    ++ flat_map (λ o. fed_complaints flow.inputs (flow_depths flow) (at_flow_output f o.0) o.1) flow.outputs
+    ++ flat_map (λ o. fed_complaints flow.inputs (flow_depths flow) (at_flow_output f o.0) o.1)
+    flow.outputs
 
 -- the flows of these nestings, each in order of names
 abbrev pub by_nesting : Document → List ℕ → List (Name × Flow)
@@ -79,4 +89,5 @@ by_nesting d ns = flat_map (λ n. filter (λ f. nesting d (length d.flows) f.0 =
 
 -- the flows by nesting, least first, and then in order of names
 abbrev pub depth_complaints : Document → List Complaint
-depth_complaints d = flat_map (flow_complaints d) (by_nesting d (1 ∷ 2 ∷ 3 ∷ 4 ∷ 5 ∷ 6 ∷ 7 ∷ 8 ∷ []))
+depth_complaints d = flat_map (flow_complaints d) (by_nesting d (1 ∷ 2 ∷ 3 ∷ 4 ∷ 5 ∷ 6 ∷ 7 ∷ 8
+    ∷ []))

@@ -70,16 +70,19 @@ AreOrders (f ∷ fs) (o ∷ os) = AreAt f.1.steps o.items (ranked f.1.steps) × 
 
 -- what is known of a document whose names and nesting were checked: orders of steps, nestings, fitting strategies, and that a
 -- flow nests deeper than those that it opens
-pub record IsPrepared (d : Document) (orders : List (Vec ℕ Global)) (nestings : List ℕ) : Type 0 where
+pub record IsPrepared (d : Document) (orders : List (Vec ℕ Global)) (nestings : List ℕ) : Type
+    0 where
   pub orders_are : AreOrders d.flows orders
   pub nestings_are : nestings ≡ map (λ f. flow_nesting d f.0) d.flows
   pub fitting : list_all (λ f. list_all (λ s. has_fitting s.1) f.1.steps) d.flows ≡ true
-  pub lower : list_all (λ f. list_all (λ s. list_all (opens_lower d (flow_nesting d f.0)) s.1.activities) f.1.steps) d.flows ≡ true
+  pub lower : list_all (λ f. list_all (λ s. list_all (opens_lower d (flow_nesting d f.0))
+      s.1.activities) f.1.steps) d.flows ≡ true
 
 -- the flows of lesser nesting are measured, and of this nesting so many of the first flows
 pub record IsProgress (d : Document) (ws : List (Option Measured)) (n j : ℕ) : Type 0 where
   pub worked : AreWorked d.flows ws
-  pub done : (i : ℕ) (f : Name × Flow) → slice_get d.flows i ≡ Some f → (flow_nesting d f.0 < n) ⊎ ((flow_nesting d f.0 ≡ n) × (i < j)) → is_measured ws i ≡ true
+  pub done : (i : ℕ) (f : Name × Flow) → slice_get d.flows i ≡ Some f → (flow_nesting d f.0 < n)
+      ⊎ ((flow_nesting d f.0 ≡ n) × (i < j)) → is_measured ws i ≡ true
 
 -- what is said of the flows of a nesting
 abbrev pub nesting_told : Document → ℕ → List Complaint

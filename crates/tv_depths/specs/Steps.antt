@@ -21,7 +21,8 @@ abbrev pub strategy_of : Step → Strategy
 strategy_of s = unwrap_or s.strategy (cross (ports_of s.inputs))
 
 abbrev pub port_iteration : List (Name × Ported) → Name → Iteration
-port_iteration ports p = option_map_or (λ d. walk p d.mismatch d.value) (named p ports) (leaf [] (job []))
+port_iteration ports p = option_map_or (λ d. walk p d.mismatch d.value) (named p ports)
+    (leaf [] (job []))
 
 abbrev pub port_mismatch : List (Name × Ported) → Name → ℕ
 port_mismatch ports p = option_map_or (λ d. d.mismatch) (named p ports) 0
@@ -45,11 +46,18 @@ node_origin instance s (q, list r ts) = from_level (spot instance s q) None r
 -- what is known once the steps of these names have ended
 module _ {M : Type 0} (step_in : M → StepMeaning) where
   abbrev pub endings_of : List M → List Name → List Origin
-  endings_of made ns = flat_map (λ m. if is_among ns (step_in m).step then (step_in m).ending else []) made
+  endings_of made ns = flat_map (λ m. if is_among ns (step_in m).step then (step_in m).ending
+      else []) made
 
 -- each output with its delivered depth; `gives` says what the job of a name gives at the k-th output
-abbrev pub outputs_delivered : JobName → Name → (ℕ → JobName → Value) → ℕ → Iteration → ℕ → List (Name × ℕ) → List (Name × Delivered)
+abbrev pub outputs_delivered : JobName → Name → (ℕ → JobName → Value) → ℕ → Iteration → ℕ
+    → List (Name × ℕ) → List (Name × Delivered)
 outputs_delivered instance s gives levels it k [] = []
-outputs_delivered instance s gives levels it k (p ∷ ps) =
-    (p.0, record { depth = levels + p.1; value = output_below (spot instance s) (λ q. gives k (spot instance s q)) p.1 [] levels it })
+outputs_delivered instance s gives levels it k (p ∷ ps) = (
+  p.0,
+  record {
+    depth = levels + p.1;
+    value = output_below (spot instance s) (λ q. gives k (spot instance s q)) p.1 [] levels it;
+  },
+)
     ∷ outputs_delivered instance s gives levels it (suc k) ps

@@ -41,7 +41,8 @@ pub record IsTable (f : Flow) (ls : List (Option ℕ)) : Type 0 where
 
 -- two lists of steps so far in which each name finds the same
 abbrev pub Agree : List StepDepths → List StepDepths → Type 0
-Agree made table = (s : Name) → find (λ m. same_name s m.step) made ≡ find (λ m. same_name s m.step) table
+Agree made table = (s : Name) → find (λ m. same_name s m.step) made ≡ find (λ m. same_name s m.step)
+    table
 
 -- the depth that a feed delivers, and the levels that an input port iterates
 abbrev pub table_depth : Flow → List (Option ℕ) → Feed → ℕ
@@ -64,7 +65,8 @@ pub record IsSound (s : Step) : Type 0 where
   pub fitting : has_fitting s ≡ true
 
 -- what is said of a step's ports, before its activities
-abbrev pub ports_complaints : Name → List (Name × ℕ) → List StepDepths → Name × Step → List Complaint
+abbrev pub ports_complaints : Name → List (Name × ℕ) → List StepDepths → Name × Step
+    → List Complaint
 ports_complaints f given so_far (n, s) =
     let mismatch = port_depth given so_far s in
     let levels = strategy_depth mismatch (strategy_of s) in
@@ -88,5 +90,6 @@ step_level f s = strategy_depth (port_depth f.inputs (flow_depths f) s) (strateg
 pub record IsMeasured (f : Flow) (ls : List (Option ℕ)) (outputs : List (Name × ℕ)) : Type 0 where
   pub table : IsTable f ls
   pub agree : Agree (flow_depths f) (known f.steps ls)
-  pub levels : (j k : ℕ) (s : Name × Step) → slice_get (ranked f.steps) j ≡ Some s → slice_get f.steps k ≡ Some s → slice_get ls k ≡ Some (Some (step_level f s.1))
+  pub levels : (j k : ℕ) (s : Name × Step) → slice_get (ranked f.steps) j ≡ Some s
+      → slice_get f.steps k ≡ Some s → slice_get ls k ≡ Some (Some (step_level f s.1))
   pub outputs_are : outputs ≡ measured_outputs f

@@ -25,7 +25,8 @@ const DEPTH_MOST: u32 = 32;
 /// The depth that a feed delivers. One look-up, also for a merge, whose first link decides.
 pub fn feed_depth(flow: &Flow, levels: &[Option<u32>], feed: &Feed) -> u32
     requires { IsTable (flow_view flow.now) levels.now }
-    ensures { result ≡ feed_depth (flow_view flow.now).inputs (known (flow_view flow.now).steps levels.now) (feed_view feed.now) }
+    ensures { result ≡ feed_depth (flow_view flow.now).inputs (known (flow_view flow.now).steps
+        levels.now) (feed_view feed.now) }
 {
     match feed {
         Feed::Input(name) => input_depth(flow, name),
@@ -43,7 +44,10 @@ fn constant_depth(value: &Value) -> u32
 
 fn merged_depth(flow: &Flow, levels: &[Option<u32>], links: &[Link]) -> u32
     requires { IsTable (flow_view flow.now) levels.now }
-    ensures { result ≡ merged_depth (map (link_depth (flow_view flow.now).inputs (known (flow_view flow.now).steps levels.now)) (map link_view links.now)) }
+    ensures { result
+        ≡ merged_depth
+        (map (link_depth (flow_view flow.now).inputs (known (flow_view flow.now).steps levels.now))
+        (map link_view links.now)) }
 {
     match links.first() {
         Some(link) => link_depth(flow, levels, link) + 1,
@@ -53,7 +57,8 @@ fn merged_depth(flow: &Flow, levels: &[Option<u32>], links: &[Link]) -> u32
 
 fn link_depth(flow: &Flow, levels: &[Option<u32>], link: &Link) -> u32
     requires { IsTable (flow_view flow.now) levels.now }
-    ensures depth { result ≡ link_depth (flow_view flow.now).inputs (known (flow_view flow.now).steps levels.now) (link_view link.now) }
+    ensures depth { result ≡ link_depth (flow_view flow.now).inputs
+        (known (flow_view flow.now).steps levels.now) (link_view link.now) }
     ensures small { result ≤ 544 }
 {
     match link {
@@ -75,7 +80,8 @@ fn input_depth(flow: &Flow, name: &Name) -> u32
 
 fn output_depth(flow: &Flow, levels: &[Option<u32>], step: &Name, port: &Name) -> u32
     requires { IsTable (flow_view flow.now) levels.now }
-    ensures depth { result ≡ link_depth (flow_view flow.now).inputs (known (flow_view flow.now).steps levels.now) (output step.now port.now) }
+    ensures depth { result ≡ link_depth (flow_view flow.now).inputs
+        (known (flow_view flow.now).steps levels.now) (output step.now port.now) }
     ensures small { result ≤ 544 }
 {
     match number_of(&flow.steps, step) {
@@ -88,7 +94,9 @@ fn output_depth(flow: &Flow, levels: &[Option<u32>], step: &Name, port: &Name) -
 fn step_depth(step: &Step, level: Option<u32>, port: &Name) -> u32
     requires step { is_step (step_view step.now) ≡ true }
     requires level { is_level level ≡ true }
-    ensures depth { result ≡ depth_of_output port.now (option_map (λ k. map (λ p. (p.0, k + p.1)) step.now.outputs) level) }
+    ensures depth { result
+        ≡ depth_of_output port.now (option_map (λ k. map (λ p. (p.0, k + p.1)) step.now.outputs)
+        level) }
     ensures small { result ≤ 544 }
 {
     match level {
@@ -101,7 +109,8 @@ fn step_depth(step: &Step, level: Option<u32>, port: &Name) -> u32
 fn port_depth(outputs: &Depths, level: u32, port: &Name) -> u32
     requires outputs { are_named is_depth 0 16 outputs.now ≡ true }
     requires level { level ≤ level_most }
-    ensures depth { result ≡ unwrap_or (named port.now (map (λ p. (p.0, level + p.1)) outputs.now)) 1 }
+    ensures depth { result ≡ unwrap_or (named port.now (map (λ p. (p.0, level + p.1)) outputs.now))
+        1 }
     ensures small { result ≤ 544 }
 {
     match outputs.named(port) {
@@ -119,7 +128,8 @@ pub(crate) fn fed(
     feed: &Feed,
 ) -> Result<(), CheckRefused>
     requires { IsTable (flow_view flow.now) levels.now }
-    ensures { IsToldOf (fed_complaints (flow_view flow.now).inputs (known (flow_view flow.now).steps levels.now) (at_view at.entry) (feed_view feed.now)) result }
+    ensures { IsToldOf (fed_complaints (flow_view flow.now).inputs (known (flow_view flow.now).steps
+        levels.now) (at_view at.entry) (feed_view feed.now)) result }
 {
     merged(alloc, flow, levels, at, feed)?;
     within(alloc, at, feed_depth(flow, levels, feed))
@@ -144,7 +154,8 @@ fn merged(
     feed: &Feed,
 ) -> Result<(), CheckRefused>
     requires { IsTable (flow_view flow.now) levels.now }
-    ensures { IsToldOf (feed_depths (flow_view flow.now).inputs (known (flow_view flow.now).steps levels.now) (at_view at.entry) (feed_view feed.now)) result }
+    ensures { IsToldOf (feed_depths (flow_view flow.now).inputs (known (flow_view flow.now).steps
+        levels.now) (at_view at.entry) (feed_view feed.now)) result }
 {
     match feed {
         Feed::Merge(links) => match links.as_slice().split_first() {
@@ -168,7 +179,9 @@ fn same_depths(
     links: &[Link],
 ) -> Result<(), CheckRefused>
     requires { IsTable (flow_view flow.now) levels.now }
-    ensures { IsToldOf (merge_difference (at_view at.entry) (first ∷ map (link_depth (flow_view flow.now).inputs (known (flow_view flow.now).steps levels.now)) (map link_view links.now))) result }
+    ensures { IsToldOf (merge_difference (at_view at.entry) (first
+        ∷ map (link_depth (flow_view flow.now).inputs (known (flow_view flow.now).steps levels.now))
+        (map link_view links.now))) result }
 {
     for link in links {
         let depth = link_depth(flow, levels, link);

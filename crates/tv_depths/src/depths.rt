@@ -65,7 +65,8 @@ fn nested_measured(
     requires prepared { IsPrepared (document_view document.now) orders.now nestings.now }
     requires progress { IsProgress (document_view document.now) measured.old.items nesting 0 }
     ensures told { IsToldOf (nesting_told (document_view document.now) nesting) result }
-    ensures progress { OnOk result (IsProgress (document_view document.now) measured.new.items (nesting + 1) 0) }
+    ensures progress { OnOk result (IsProgress (document_view document.now) measured.new.items
+        (nesting + 1) 0) }
 {
     for (number, entry) in document.flows.as_slice().iter().enumerate() {
         if nestings[number] != nesting {
@@ -97,8 +98,10 @@ pub(crate) fn flow_measured(
 ) -> Result<Measured, CheckRefused>
     requires worked { AreWorked (document_view document.now).flows measured.now }
     requires ready { IsReady (document_view document.now) measured.now (flow_view flow.now) }
-    requires order { AreAt (flow_view flow.now).steps order.now (ranked (flow_view flow.now).steps) }
-    ensures told { IsToldOf (flow_complaints (document_view document.now) (name.now, flow_view flow.now)) result }
+    requires order { AreAt (flow_view flow.now).steps order.now
+        (ranked (flow_view flow.now).steps) }
+    ensures told { IsToldOf (flow_complaints (document_view document.now)
+        (name.now, flow_view flow.now)) result }
     ensures measured { IfOk result (λ m. IsMeasured (flow_view flow.now) m.levels.items m.outputs) }
 {
     let levels = steps_levels(alloc, document, measured, name, flow, order)?;
@@ -119,9 +122,12 @@ fn steps_levels(
 ) -> Result<Vec<Option<u32>>, CheckRefused>
     requires worked { AreWorked (document_view document.now).flows measured.now }
     requires ready { IsReady (document_view document.now) measured.now (flow_view flow.now) }
-    requires order { AreAt (flow_view flow.now).steps order.now (ranked (flow_view flow.now).steps) }
-    ensures told { IsToldOf (steps_complaints (document_view document.now) name.now (flow_view flow.now).inputs [] (ranked (flow_view flow.now).steps)) result }
-    ensures table { IfOk result (λ v. IsMeasured (flow_view flow.now) v.items (measured_outputs (flow_view flow.now))) }
+    requires order { AreAt (flow_view flow.now).steps order.now
+        (ranked (flow_view flow.now).steps) }
+    ensures told { IsToldOf (steps_complaints (document_view document.now) name.now
+        (flow_view flow.now).inputs [] (ranked (flow_view flow.now).steps)) result }
+    ensures table { IfOk result (λ v. IsMeasured (flow_view flow.now) v.items
+        (measured_outputs (flow_view flow.now))) }
 {
     let steps = flow.steps.as_slice();
     let mut levels = no_levels(alloc, steps.len())?;
@@ -157,9 +163,14 @@ fn step_level(
     requires worked { AreWorked (document_view document.now).flows measured.now }
     requires table { IsTable (flow_view flow.now) levels.now }
     requires step { IsSound (step_view step.now.1) }
-    requires opened { step_opens (document_view document.now) measured.now (step_view step.now.1) ≡ true }
-    ensures told { IsToldOf (step_complaints (document_view document.now) name.now (flow_view flow.now).inputs (known (flow_view flow.now).steps levels.now) (step.now.0, step_view step.now.1)) result }
-    ensures level { IfOk result (λ k. k ≡ strategy_depth (port_depth (flow_view flow.now).inputs (known (flow_view flow.now).steps levels.now) (step_view step.now.1)) (strategy_of (step_view step.now.1))) }
+    requires opened { step_opens (document_view document.now) measured.now (step_view step.now.1)
+        ≡ true }
+    ensures told { IsToldOf (step_complaints (document_view document.now) name.now
+        (flow_view flow.now).inputs (known (flow_view flow.now).steps levels.now)
+        (step.now.0, step_view step.now.1)) result }
+    ensures level { IfOk result (λ k. k
+        ≡ strategy_depth (port_depth (flow_view flow.now).inputs (known (flow_view flow.now).steps
+        levels.now) (step_view step.now.1)) (strategy_of (step_view step.now.1))) }
     ensures small { IfOk result (λ k. k ≤ level_most) }
 {
     let level = ports_level(alloc, name, flow, levels, &step.0, &step.1)?;
@@ -175,7 +186,9 @@ fn outputs_fed(
     levels: &[Option<u32>],
 ) -> Result<(), CheckRefused>
     requires { IsTable (flow_view flow.now) levels.now }
-    ensures { IsToldOf (flat_map (λ o. fed_complaints (flow_view flow.now).inputs (known (flow_view flow.now).steps levels.now) (at_flow_output name.now o.0) o.1) (flow_view flow.now).outputs) result }
+    ensures { IsToldOf (flat_map (λ o. fed_complaints (flow_view flow.now).inputs
+        (known (flow_view flow.now).steps levels.now) (at_flow_output name.now o.0) o.1)
+        (flow_view flow.now).outputs) result }
 {
     for (port, feed) in flow.outputs.as_slice() {
         fed(alloc, flow, levels, At::FlowOutput(name, port), feed)?;
@@ -186,7 +199,8 @@ fn outputs_fed(
 /// The depths that a flow's outputs are delivered.
 fn output_depths(alloc: Global, flow: &Flow, levels: &[Option<u32>]) -> Result<Depths, NoMemory>
     requires { IsTable (flow_view flow.now) levels.now }
-    ensures { IfOk result (λ os. os ≡ each (table_depth (flow_view flow.now) levels.now) (flow_view flow.now).outputs) }
+    ensures { IfOk result (λ os. os ≡ each (table_depth (flow_view flow.now) levels.now)
+        (flow_view flow.now).outputs) }
 {
     let outputs = flow.outputs.as_slice();
     let mut depths = Vec::with_capacity(alloc, outputs.len())?;

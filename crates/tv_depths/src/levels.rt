@@ -33,8 +33,11 @@ pub(crate) fn ports_level(
 ) -> Result<u32, CheckRefused>
     requires table { IsTable (flow_view flow.now) levels.now }
     requires step { IsSound (step_view step.now) }
-    ensures told { IsToldOf (ports_complaints name.now (flow_view flow.now).inputs (known (flow_view flow.now).steps levels.now) (step_name.now, step_view step.now)) result }
-    ensures level { IfOk result (λ k. k ≡ strategy_depth (port_depth (flow_view flow.now).inputs (known (flow_view flow.now).steps levels.now) (step_view step.now)) (strategy_of (step_view step.now))) }
+    ensures told { IsToldOf (ports_complaints name.now (flow_view flow.now).inputs
+        (known (flow_view flow.now).steps levels.now) (step_name.now, step_view step.now)) result }
+    ensures level { IfOk result (λ k. k
+        ≡ strategy_depth (port_depth (flow_view flow.now).inputs (known (flow_view flow.now).steps
+        levels.now) (step_view step.now)) (strategy_of (step_view step.now))) }
     ensures small { IfOk result (λ k. k ≤ level_most) }
 {
     inputs_fed(alloc, name, flow, levels, step_name, &step.inputs)?;
@@ -52,7 +55,9 @@ fn inputs_fed(
     inputs: &StepInputs,
 ) -> Result<(), CheckRefused>
     requires { IsTable (flow_view flow.now) levels.now }
-    ensures { IsToldOf (flat_map (λ i. fed_complaints (flow_view flow.now).inputs (known (flow_view flow.now).steps levels.now) (at_input name.now step_name.now i.0) i.1.from) (each step_input_view inputs.now)) result }
+    ensures { IsToldOf (flat_map (λ i. fed_complaints (flow_view flow.now).inputs
+        (known (flow_view flow.now).steps levels.now) (at_input name.now step_name.now i.0)
+        i.1.from) (each step_input_view inputs.now)) result }
 {
     for (port, input) in inputs.as_slice() {
         fed(
@@ -76,9 +81,14 @@ fn step_level(
 ) -> Result<u32, CheckRefused>
     requires table { IsTable (flow_view flow.now) levels.now }
     requires step { IsSound (step_view step.now) }
-    requires within { are_within (flow_view flow.now) levels.now (step_view step.now).inputs ≡ true }
-    ensures told { IsToldOf (dot_complaints (at_view at.entry) (first_difference (port_depth (flow_view flow.now).inputs (known (flow_view flow.now).steps levels.now) (step_view step.now)) (strategy_of (step_view step.now)))) result }
-    ensures level { IfOk result (λ k. k ≡ strategy_depth (port_depth (flow_view flow.now).inputs (known (flow_view flow.now).steps levels.now) (step_view step.now)) (strategy_of (step_view step.now))) }
+    requires within { are_within (flow_view flow.now) levels.now (step_view step.now).inputs
+        ≡ true }
+    ensures told { IsToldOf (dot_complaints (at_view at.entry)
+        (first_difference (port_depth (flow_view flow.now).inputs (known (flow_view flow.now).steps
+        levels.now) (step_view step.now)) (strategy_of (step_view step.now)))) result }
+    ensures level { IfOk result (λ k. k
+        ≡ strategy_depth (port_depth (flow_view flow.now).inputs (known (flow_view flow.now).steps
+        levels.now) (step_view step.now)) (strategy_of (step_view step.now))) }
     ensures small { IfOk result (λ k. k ≤ level_most) }
 {
     match &step.strategy {
@@ -97,9 +107,14 @@ fn tree_level(
     tree: &Tree,
 ) -> Result<u32, CheckRefused>
     requires table { IsTable (flow_view flow.now) levels.now }
-    requires suits { Suits (each (table_mismatch (flow_view flow.now) levels.now) (each step_input_view inputs.now)) (strategy_view tree.now) }
-    ensures told { IsToldOf (dot_complaints (at_view at.entry) (first_difference (number_of (each (table_mismatch (flow_view flow.now) levels.now) (each step_input_view inputs.now))) (strategy_view tree.now))) result }
-    ensures level { IfOk result (λ k. k ≡ strategy_depth (number_of (each (table_mismatch (flow_view flow.now) levels.now) (each step_input_view inputs.now))) (strategy_view tree.now)) }
+    requires suits { Suits (each (table_mismatch (flow_view flow.now) levels.now)
+        (each step_input_view inputs.now)) (strategy_view tree.now) }
+    ensures told { IsToldOf (dot_complaints (at_view at.entry)
+        (first_difference (number_of (each (table_mismatch (flow_view flow.now) levels.now)
+        (each step_input_view inputs.now))) (strategy_view tree.now))) result }
+    ensures level { IfOk result (λ k. k
+        ≡ strategy_depth (number_of (each (table_mismatch (flow_view flow.now) levels.now)
+        (each step_input_view inputs.now))) (strategy_view tree.now)) }
 {
     let mismatch = mismatches(alloc, flow, levels, inputs)?;
     match depth_of(tree, &mismatch) {
@@ -116,7 +131,8 @@ pub fn mismatches(
     inputs: &StepInputs,
 ) -> Result<Depths, NoMemory>
     requires { IsTable (flow_view flow.now) levels.now }
-    ensures { IfOk result (λ m. m ≡ each (table_mismatch (flow_view flow.now) levels.now) (each step_input_view inputs.now)) }
+    ensures { IfOk result (λ m. m ≡ each (table_mismatch (flow_view flow.now) levels.now)
+        (each step_input_view inputs.now)) }
 {
     let inputs = inputs.as_slice();
     let mut mismatches = Vec::with_capacity(alloc, inputs.len())?;
@@ -132,8 +148,11 @@ pub fn mismatches(
 fn cross_level(flow: &Flow, levels: &[Option<u32>], inputs: &StepInputs) -> u32
     requires table { IsTable (flow_view flow.now) levels.now }
     requires inputs { are_named is_step_input 0 16 (each step_input_view inputs.now) ≡ true }
-    requires within { are_within (flow_view flow.now) levels.now (each step_input_view inputs.now) ≡ true }
-    ensures level { result ≡ strategy_depth (number_of (each (table_mismatch (flow_view flow.now) levels.now) (each step_input_view inputs.now))) (cross (ports_of (each step_input_view inputs.now))) }
+    requires within { are_within (flow_view flow.now) levels.now (each step_input_view inputs.now)
+        ≡ true }
+    ensures level { result
+        ≡ strategy_depth (number_of (each (table_mismatch (flow_view flow.now) levels.now)
+        (each step_input_view inputs.now))) (cross (ports_of (each step_input_view inputs.now))) }
     ensures small { result ≤ level_most }
 {
     let mut level = 0;
@@ -153,7 +172,8 @@ fn outputs_within(
 ) -> Result<(), CheckRefused>
     requires outputs { are_named is_depth 0 16 outputs.now ≡ true }
     requires level { level ≤ level_most }
-    ensures { IsToldOf (flat_map (λ o. past_limit (at_output name.now step_name.now o.0) (o.1 + level)) outputs.now) result }
+    ensures { IsToldOf (flat_map (λ o. past_limit (at_output name.now step_name.now o.0) (o.1
+        + level)) outputs.now) result }
 {
     for (port, depth) in outputs.as_slice() {
         within(alloc, At::Output(name, step_name, port), *depth + level)?;

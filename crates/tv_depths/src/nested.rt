@@ -25,9 +25,11 @@ pub(crate) fn activities_fit(
     step: &Step,
 ) -> Result<(), CheckRefused>
     requires worked { AreWorked (document_view document.now).flows measured.now }
-    requires opened { list_all (opens_measured (document_view document.now) measured.now) (step_view step.now).activities ≡ true }
+    requires opened { list_all (opens_measured (document_view document.now) measured.now)
+        (step_view step.now).activities ≡ true }
     requires few { length step.now.activities < 2 ^ 32 }
-    ensures { IsToldOf (flat_map (nested_complaints (document_view document.now) name.now step_name.now (step_view step.now)) (numbered 0 (step_view step.now).activities)) result }
+    ensures { IsToldOf (flat_map (nested_complaints (document_view document.now) name.now
+        step_name.now (step_view step.now)) (numbered 0 (step_view step.now).activities)) result }
 {
     for (position, activity) in step.activities.as_slice().iter().enumerate() {
         if !fits_activity(document, measured, step, activity) {
@@ -45,8 +47,10 @@ fn fits_activity(
     activity: &Activity,
 ) -> bool
     requires worked { AreWorked (document_view document.now).flows measured.now }
-    requires opened { opens_measured (document_view document.now) measured.now (activity_view activity.now) ≡ true }
-    ensures { result ≡ fits_activity (document_view document.now) (step_view step.now) (activity_view activity.now) }
+    requires opened { opens_measured (document_view document.now) measured.now
+        (activity_view activity.now) ≡ true }
+    ensures { result ≡ fits_activity (document_view document.now) (step_view step.now)
+        (activity_view activity.now) }
 {
     match activity {
         Activity::Service(_) => true,

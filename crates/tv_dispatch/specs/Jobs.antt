@@ -22,7 +22,8 @@ or_else None o = o
 abbrev pub first_complaint : ℕ → List ℕ → List Value → Option Text
 first_complaint k [] vs = None
 first_complaint k (d ∷ ds) [] = None
-first_complaint k (d ∷ ds) (v ∷ vs) = or_else (value_complaint k d v) (first_complaint (suc k) ds vs)
+first_complaint k (d ∷ ds) (v ∷ vs) = or_else (value_complaint k d v)
+    (first_complaint (suc k) ds vs)
 
 abbrev pub ok_unless : {A : Type 0} → A → Option Text → Result A Text
 ok_unless a None = Ok a
@@ -57,7 +58,8 @@ pub data Try : Type 0 where
 abbrev pub tries : List Value → List ℕ → ℕ → ℕ → List Activity → List Try
 tries vs ds retries k [] = []
 tries vs ds retries k (service s ∷ as') =
-    map (λ n. ask (record { service = s; inputs = vs; outputs = ds; activity = k; attempt = n })) (range_with_len 0 (suc retries)) ++ tries vs ds retries (suc k) as'
+    map (λ n. ask (record { service = s; inputs = vs; outputs = ds; activity = k; attempt = n }))
+    (range_with_len 0 (suc retries)) ++ tries vs ds retries (suc k) as'
 tries vs ds retries k (nested f ∷ as') = open_flow f ∷ tries vs ds retries (suc k) as'
 
 -- how the tries end: with the right values, by opening a flow, or with the reason of the last
@@ -90,4 +92,9 @@ fault_makers vs = in_order job_name_cmp (flat_map (λ v. makers_of (leaves v)) v
 
 -- a job's error document at each output
 abbrev pub error_results : JobName → Text → List JobName → List ℕ → List Value
-error_results name why from ds = map (λ d. fault_value (record { at = name; depth = d; why = why; from = from })) ds
+error_results name why from ds = map (λ d. fault_value (record {
+  at = name;
+  depth = d;
+  why = why;
+  from = from;
+})) ds

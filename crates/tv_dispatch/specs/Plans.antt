@@ -18,7 +18,8 @@ pub data Turn : Type 0 where
 -- all turns, activity by activity from number k: a service with attempts 0 to `retries`, a nested flow once
 abbrev pub turns : ℕ → ℕ → List Kind → List Turn
 turns retries k [] = []
-turns retries k (Service ∷ ks) = map (asks k) (range_with_len 0 (suc retries)) ++ turns retries (suc k) ks
+turns retries k (Service ∷ ks) = map (asks k) (range_with_len 0 (suc retries))
+    ++ turns retries (suc k) ks
 turns retries k (Nested ∷ ks) = nests k ∷ turns retries (suc k) ks
 
 abbrev pub turns_of : Plan → List Turn

@@ -21,7 +21,8 @@ pub enum Verdict {
 /// for each output, none of them holds an error, and each has its depth. A value that both holds an error and lacks its
 /// depth is told as holding an error. Linear in the outcome's size at the most.
 pub fn judge(alloc: Global, outputs: &Depths, outcome: &Outcome) -> Result<Verdict, NoMemory>
-    ensures { IfOk result (λ v. v ≡ verdict_of (judged (map (λ o. o.1) outputs.now) (outcome_view outcome.now))) }
+    ensures { IfOk result (λ v. v
+        ≡ verdict_of (judged (map (λ o. o.1) outputs.now) (outcome_view outcome.now))) }
 {
     match outcome {
         Outcome::Good(values) => judge_values(alloc, outputs.as_slice(), values.as_slice()),
@@ -35,7 +36,8 @@ fn judge_values(
     outputs: &[(Name, u32)],
     values: &[Value],
 ) -> Result<Verdict, NoMemory>
-    ensures { IfOk result (λ v. v ≡ verdict_of (judged (map (λ o. o.1) outputs.now) (good (map view values.now)))) }
+    ensures { IfOk result (λ v. v
+        ≡ verdict_of (judged (map (λ o. o.1) outputs.now) (good (map view values.now)))) }
 {
     let count = values.len();
     if count != outputs.len() {

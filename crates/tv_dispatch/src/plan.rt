@@ -71,7 +71,8 @@ pub fn after(plan: &Plan, activity: u32, attempt: u32, right: bool) -> Next
 
 /// The first try of the activities from this one on.
 fn start_of(plan: &Plan, activity: u32) -> Next
-    ensures { result ≡ next_try (turns plan.now.retries activity (drop activity plan.now.activities)) }
+    ensures { result
+        ≡ next_try (turns plan.now.retries activity (drop activity plan.now.activities)) }
 {
     match plan.activities.as_slice().get(activity as usize) {
         Some(Kind::Service) => Next::Ask {

@@ -18,7 +18,8 @@ is_plain (d ∷ e ∷ ds) = not (d == 48) && all_ascii_digits (d ∷ e ∷ ds)
 
 -- below 2^32
 abbrev pub index_of : Text → Option ℕ
-index_of t = if is_plain t && nat_lt (digits_value 10 t) (2 ^ 32) then Some (digits_value 10 t) else None
+index_of t = if is_plain t && nat_lt (digits_value 10 t) (2 ^ 32) then Some (digits_value 10 t)
+    else None
 
 abbrev pub indices_of : List Text → Option Place
 indices_of [] = Some []

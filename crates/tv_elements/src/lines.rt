@@ -20,7 +20,8 @@ pub fn label_lines(alloc: Global, labels: &Labels) -> Result<Text, NoMemory>
 }
 
 fn push_line(alloc: Global, lines: &mut String, label: &(Name, Place)) -> Result<(), NoMemory>
-    ensures { OnOk result (string_bytes lines.new ≡ string_bytes lines.old ++ element_line label.now) }
+    ensures { OnOk result (string_bytes lines.new ≡ string_bytes lines.old
+        ++ element_line label.now) }
 {
     let text = element_text(alloc, &label.0, &label.1)?;
     lines.push_str(text.as_str())?;

@@ -9,13 +9,16 @@ abbrev pub to_lower : List (List ℕ) → ℕ → Endings → List ℕ
 to_lower dependents k e = flat_map (λ s. slice_index_or dependents s []) (drop k e.fresh.items)
 
 -- the steps `first`, and what `to_lower` tells, are still to be counted down; `was` had ended before this call
-pub record IsCounting (after dependents : List (List ℕ)) (was : ℕ → Bool) (e : Endings) (first : List ℕ) (k : ℕ) : Type 0 where
+pub record IsCounting (after dependents : List (List ℕ)) (was : ℕ → Bool) (e : Endings)
+    (first : List ℕ) (k : ℕ) : Type 0 where
   pub turned : AreTurned after dependents
   pub left :
       (s : ℕ) → s < length after
       → slice_index e.left.items s
-      ≡ count_by (λ a. not (has_ended e a)) (after_of after s) + count_by (λ j. j == s) (first ++ to_lower dependents k e)
-  pub ended : (s : ℕ) → s < length after → has_ended e s ≡ (is_whole e s && slice_index e.left.items s == 0)
+      ≡ count_by (λ a. not (has_ended e a)) (after_of after s) + count_by (λ j. j == s) (first
+      ++ to_lower dependents k e)
+  pub ended : (s : ℕ) → s < length after → has_ended e s
+      ≡ (is_whole e s && slice_index e.left.items s == 0)
   pub now : (s : ℕ) → ended_now e s ≡ (has_ended e s && not (was s))
   pub kept : (s : ℕ) → was s ≡ true → has_ended e s ≡ true
   pub growing : e.growing ≡ count_by not e.whole.items
@@ -31,4 +34,5 @@ pub record IsCounting (after dependents : List (List ℕ)) (was : ℕ → Bool) 
 -- some steps after which others run are being counted down so
 abbrev pub Counts : Endings → List ℕ → Type 0
 Counts e first =
-    (after : List (List ℕ)) × ((dependents : List (List ℕ)) × ((was : ℕ → Bool) × ((k : ℕ) × IsCounting after dependents was e first k)))
+    (after : List (List ℕ)) × ((dependents : List (List ℕ))
+    × ((was : ℕ → Bool) × ((k : ℕ) × IsCounting after dependents was e first k)))

@@ -10,7 +10,8 @@ after_of after s = slice_index_or after s []
 
 -- for each step those that run after it, from those that each runs after
 abbrev pub AreTurned : List (List ℕ) → List (List ℕ) → Type 0
-AreTurned after dependents = dependents ≡ from_each (range_with_len 0 (length after)) (all_waits after)
+AreTurned after dependents = dependents ≡ from_each (range_with_len 0 (length after))
+    (all_waits after)
 
 abbrev pub is_one_of : List ℕ → ℕ → Bool
 is_one_of ns n = list_any (λ m. m == n) ns
@@ -32,8 +33,10 @@ ended_now e s = is_one_of e.fresh.items s
 -- what is so of every state: a step has ended exactly where it is whole and those that it runs after have ended. Beside it
 -- stand the counters: of the steps that each runs after, those that haven't ended; and of all steps, those that aren't whole
 pub record IsSound (after : List (List ℕ)) (e : Endings) : Type 0 where
-  pub ended : (s : ℕ) → s < length after → has_ended e s ≡ (is_whole e s && have_ended e (after_of after s))
-  pub left : (s : ℕ) → s < length after → slice_index e.left.items s ≡ count_by (λ a. not (has_ended e a)) (after_of after s)
+  pub ended : (s : ℕ) → s < length after → has_ended e s
+      ≡ (is_whole e s && have_ended e (after_of after s))
+  pub left : (s : ℕ) → s < length after → slice_index e.left.items s
+      ≡ count_by (λ a. not (has_ended e a)) (after_of after s)
   pub growing : e.growing ≡ count_by not e.whole.items
   pub whole_each : length e.whole.items ≡ length after
   pub ended_each : length e.ended.items ≡ length after

@@ -6,10 +6,12 @@ use Rattle.tv_endings.specs.Ends.{after_of, has_ended, is_one_of, is_whole, IsSo
 -- each step has a rank, above those of the steps that it runs after
 pub record AreRanked (after : List (List ℕ)) : Type 0 where
   pub rank : ℕ → ℕ
-  pub inside : (s a : ℕ) → s < length after → is_one_of (after_of after s) a ≡ true → a < length after
+  pub inside : (s a : ℕ) → s < length after → is_one_of (after_of after s) a ≡ true → a
+      < length after
   pub above : (s a : ℕ) → s < length after → is_one_of (after_of after s) a ≡ true → rank a < rank s
 
 abbrev pub AllEndWhereAllAreWhole : Type 0
 AllEndWhereAllAreWhole =
     (after : List (List ℕ)) → AreRanked after → (e : Endings) → IsSound after e
-    → ((s : ℕ) → s < length after → is_whole e s ≡ true) → (s : ℕ) → s < length after → has_ended e s ≡ true
+    → ((s : ℕ) → s < length after → is_whole e s ≡ true) → (s : ℕ) → s < length after
+    → has_ended e s ≡ true

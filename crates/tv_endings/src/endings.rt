@@ -130,7 +130,8 @@ impl Endings {
         requires growing { is_whole self.old step ≡ false }
         ensures sound { IsSound wiring.now.after self.new }
         ensures whole { self.new.whole.items ≡ slice_set self.old.whole.items step true }
-        ensures ended { (s : ℕ) → ended_now self.new s ≡ (has_ended self.new s && not (has_ended self.old s)) }
+        ensures ended { (s : ℕ) → ended_now self.new s
+            ≡ (has_ended self.new s && not (has_ended self.old s)) }
         ensures kept { (s : ℕ) → has_ended self.old s ≡ true → has_ended self.new s ≡ true }
     {
         self.fresh.clear();
@@ -153,8 +154,10 @@ impl Endings {
         ensures whole { self.new.whole.items ≡ slice_set self.old.whole.items step true }
         ensures growing { self.new.growing ≡ self.old.growing - 1 }
         ensures left { self.new.left ≡ self.old.left }
-        ensures ended { self.new.ended.items ≡ cond (slice_index self.old.left.items step == 0) (slice_set self.old.ended.items step true) self.old.ended.items }
-        ensures fresh { self.new.fresh.items ≡ cond (slice_index self.old.left.items step == 0) (self.old.fresh.items ++ step ∷ []) self.old.fresh.items }
+        ensures ended { self.new.ended.items ≡ cond (slice_index self.old.left.items step == 0)
+            (slice_set self.old.ended.items step true) self.old.ended.items }
+        ensures fresh { self.new.fresh.items ≡ cond (slice_index self.old.left.items step == 0)
+            (self.old.fresh.items ++ step ∷ []) self.old.fresh.items }
         ensures room { vec_capacity self.old.fresh ≤ vec_capacity self.new.fresh }
     {
         self.whole[step as usize] = true;
@@ -182,7 +185,9 @@ impl Endings {
     /// One of the steps that each of these runs after has ended.
     fn lower_all(&mut self, steps: &[u32])
         requires { Counts self.old steps.now }
-        ensures counting { (after dependents : List (List ℕ)) (was : ℕ → Bool) (k : ℕ) → IsCounting after dependents was self.old steps.now k → IsCounting after dependents was self.new [] k }
+        ensures counting { (after dependents : List (List ℕ)) (was : ℕ → Bool) (k : ℕ)
+            → IsCounting after dependents was self.old steps.now k → IsCounting after dependents was
+            self.new [] k }
         ensures whole { self.new.whole ≡ self.old.whole }
     {
         for step in steps {
@@ -197,9 +202,14 @@ impl Endings {
         requires ended { step < length self.old.ended.items }
         requires some { 0 < slice_index self.old.left.items step }
         requires room { vec_len self.old.fresh < vec_capacity self.old.fresh }
-        ensures left { self.new.left.items ≡ slice_set self.old.left.items step (slice_index self.old.left.items step - 1) }
-        ensures ended { self.new.ended.items ≡ cond (is_whole self.old step && slice_index self.old.left.items step == 1) (slice_set self.old.ended.items step true) self.old.ended.items }
-        ensures fresh { self.new.fresh.items ≡ cond (is_whole self.old step && slice_index self.old.left.items step == 1) (self.old.fresh.items ++ step ∷ []) self.old.fresh.items }
+        ensures left { self.new.left.items ≡ slice_set self.old.left.items step
+            (slice_index self.old.left.items step - 1) }
+        ensures ended { self.new.ended.items ≡ cond (is_whole self.old step
+            && slice_index self.old.left.items step == 1) (slice_set self.old.ended.items step true)
+            self.old.ended.items }
+        ensures fresh { self.new.fresh.items ≡ cond (is_whole self.old step
+            && slice_index self.old.left.items step == 1) (self.old.fresh.items ++ step ∷ [])
+            self.old.fresh.items }
         ensures room { vec_capacity self.old.fresh ≤ vec_capacity self.new.fresh }
         ensures whole { self.new.whole ≡ self.old.whole }
         ensures growing { self.new.growing ≡ self.old.growing }

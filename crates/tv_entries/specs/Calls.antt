@@ -76,7 +76,8 @@ module _ (m : Meaning) (past : History) where
   -- this try of the job, where it is out
   abbrev pub try_out : ℕ → ℕ → Job → Option Ask
   try_out a t j =
-      if is_out past j.name && option_map_or (is_ask a t) (next_ask past j) false then next_ask past j else None
+      if is_out past j.name && option_map_or (is_ask a t) (next_ask past j) false
+      then next_ask past j else None
 
   -- a job of which a try is out: every such job has a next one
   abbrev pub out_state : Job → JobState

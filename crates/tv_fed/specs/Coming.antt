@@ -69,9 +69,11 @@ EventsAreInTrees =
 
 -- what the event puts into the tree of the k-th output of its step, whose iteration has so many levels above the declared depth
 abbrev pub put_here : ℕ → ℕ → ℕ → Event → Partial Value → Partial Value
-put_here k levels declared (gave s q vs) p = arrive q (unwrap_or (slice_get vs k) (list tt no_trees)) p
+put_here k levels declared (gave s q vs) p = arrive q
+    (unwrap_or (slice_get vs k) (list tt no_trees)) p
 put_here k levels declared (events.closed s q n) p = close_at q n p
-put_here k levels declared (fault_set s q d) p = arrive q (fault_value (record d { depth = levels_below levels q + declared })) p
+put_here k levels declared (fault_set s q d) p = arrive q
+    (fault_value (record d { depth = levels_below levels q + declared })) p
 put_here k levels declared (took s q) p = p
 
 -- it changes the trees of its step alone

@@ -45,9 +45,14 @@ has_all_now levels v e s i = newly levels v e []
 
 -- a port as it takes what its feed delivers, where these are the steps of the instance
 abbrev pub port_of : View → List InstanceStep → Name × StepInput → Name × Ported
-port_of v fs i = (i.0, ported i.1.depth (feed_delivers step_of (given_of v.flow v.inputs) fs i.1.from))
+port_of v fs i = (
+  i.0,
+  ported i.1.depth (feed_delivers step_of (given_of v.flow v.inputs) fs
+      i.1.from),
+)
 
-module _ (levels : Name → ℕ) (v : View) (e : Event) (instance : JobName) (results : Results) (fs : List InstanceStep) where
+module _ (levels : Name → ℕ) (v : View) (e : Event) (instance : JobName) (results : Results)
+    (fs : List InstanceStep) where
   -- the port walks the levels that the plan says, and its feed brings with the event what the theory of frames has for it
   pub record IsFed (s : Step) (i : Name × StepInput) : Type 0 where
     pub walks : (port_of v fs i).1.mismatch ≡ levels_of v.flow i.1

@@ -85,7 +85,8 @@ pub record MarksGoOn (levels : Name → ℕ) (v : View) (e : Event) (from : ℕ)
   pub before : (from == 0) ≡ true → is_whole x (event_number v e) ≡ false
   pub after :
       (y : Endings) → IsSound (all_after v.flow) y
-      → y.whole.items ≡ (if from == 0 then slice_set x.whole.items (event_number v e) true else x.whole.items)
+      → y.whole.items ≡ (if from == 0 then slice_set x.whole.items (event_number v e) true
+      else x.whole.items)
       → AreEndingsOf v.flow levels (e ∷ v.events) y
 
 abbrev pub EndingsGoOn : Type 0

@@ -34,7 +34,8 @@ with_step whole s t = t == s || whole t
 
 -- a port that takes its feed at once has all of it with step s
 abbrev pub has_whole_with : (ℕ → Bool) → ℕ → Port → Bool
-has_whole_with whole s p = p.levels == 0 && (feed_from s p.feed && feed_whole (with_step whole s) p.feed)
+has_whole_with whole s p = p.levels == 0
+    && (feed_from s p.feed && feed_whole (with_step whole s) p.feed)
 
 abbrev pub leaves_whole_with : (ℕ → Bool) → ℕ → List Port → List ℕ
 leaves_whole_with whole s ps = map (λ (p : Port). p.leaf) (filter (has_whole_with whole s) ps)

@@ -7,4 +7,5 @@ use Rattle.tv_feeds.specs.Feeds.{feed_from, feed_whole, with_step}
 abbrev pub FeedsTurnWholeOnce : Type 0
 FeedsTurnWholeOnce =
     (whole : ℕ → Bool) (s : ℕ) → whole s ≡ false → (f : NumberedFeed)
-    → (feed_whole (with_step whole s) f && not (feed_whole whole f)) ≡ (feed_from s f && feed_whole (with_step whole s) f)
+    → (feed_whole (with_step whole s) f && not (feed_whole whole f))
+    ≡ (feed_from s f && feed_whole (with_step whole s) f)

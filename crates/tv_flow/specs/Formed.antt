@@ -38,7 +38,8 @@ are_listed test least most xs = is_between least most (length xs) && list_all te
 abbrev mutual
   pub is_value : Value → Bool
   is_value (leaf n a) = not (is_fault a)
-  is_value (list n vs) = nat_lt (count vs) length_limit && is_some (least_depth (list n vs)) && are_values vs
+  is_value (list n vs) = nat_lt (count vs) length_limit && is_some (least_depth (list n vs))
+      && are_values vs
 
   pub are_values : Trees (Unit {0}) Scalar → Bool
   are_values no_trees = true
@@ -84,12 +85,15 @@ are_names ns = nat_le (length ns) 16 && is_ascending ns && list_all is_name ns
 
 abbrev pub is_step : Step → Bool
 is_step s =
-    are_named is_step_input 0 16 s.inputs && are_named is_depth 0 16 s.outputs && is_given_tree s.strategy && are_listed is_activity 1 8 s.activities
+    are_named is_step_input 0 16 s.inputs && are_named is_depth 0 16 s.outputs
+    && is_given_tree s.strategy && are_listed is_activity 1 8 s.activities
     && is_between 0 100 s.retries && is_between 1 64 s.jobs && are_names s.after
 
 abbrev pub is_flow : Flow → Bool
-is_flow f = are_named is_depth 0 16 f.inputs && are_named is_step 0 1000 f.steps && are_named is_feed 0 16 f.outputs
+is_flow f = are_named is_depth 0 16 f.inputs && are_named is_step 0 1000 f.steps
+    && are_named is_feed 0 16 f.outputs
 
 -- all but the number of its own inputs, which a document may have more of
 abbrev pub is_formed : Document → Bool
-is_formed d = is_between 1 1 d.format && is_name d.main && are_named is_flow 1 256 d.flows && are_entries is_value d.inputs
+is_formed d = is_between 1 1 d.format && is_name d.main && are_named is_flow 1 256 d.flows
+    && are_entries is_value d.inputs

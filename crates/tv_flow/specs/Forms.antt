@@ -24,7 +24,8 @@ wanted here None = complaint WrongKind here
 
 -- a name is 1 to 64 letters, digits and underscores of ASCII
 abbrev pub is_name_byte : ℕ → Bool
-is_name_byte b = (nat_le 48 b && nat_le b 57) || (nat_le 65 b && nat_le b 90) || b == 95 || (nat_le 97 b && nat_le b 122)
+is_name_byte b = (nat_le 48 b && nat_le b 57) || (nat_le 65 b && nat_le b 90) || b == 95
+    || (nat_le 97 b && nat_le b 122)
 
 abbrev pub is_name : Text → Bool
 is_name t = nat_le 1 (length t) && nat_le (length t) 64 && list_all is_name_byte t
@@ -37,7 +38,8 @@ name_form here d = given (wanted here (as_str d)) (name_or_not here)
 
 -- an integer in a range, which a float is not
 abbrev pub in_range : ℕ → ℕ → Path → Num → Result ℕ Complaint
-in_range low high here (unsigned n) = if nat_le low n && nat_le n high then Ok n else complaint OutOfRange here
+in_range low high here (unsigned n) = if nat_le low n && nat_le n high then Ok n
+    else complaint OutOfRange here
 in_range low high here (negative z) = complaint OutOfRange here
 in_range low high here (float x) = complaint WrongKind here
 
@@ -52,7 +54,8 @@ depth_form = number_form 0 32
 -- the first key that isn't among the fields, if there is one
 abbrev pub unknown_key : List Text → Members → Option Text
 unknown_key fields no_members = None
-unknown_key fields (member k d ms) = if list_any (same_name k) fields then unknown_key fields ms else Some k
+unknown_key fields (member k d ms) = if list_any (same_name k) fields then unknown_key fields ms
+    else Some k
 
 abbrev pub none_unknown : Path → Option Text → Result (Unit {0}) Complaint
 none_unknown here None = Ok tt
@@ -60,53 +63,66 @@ none_unknown here (Some k) = complaint Unknown (key here k)
 
 -- an object that has these fields and no others
 abbrev pub fields_form : List Text → Path → Data → Result (Unit {0}) Complaint
-fields_form fields here d = given (wanted here (as_object d)) (λ ms. none_unknown here (unknown_key fields ms))
+fields_form fields here d = given (wanted here (as_object d))
+    (λ ms. none_unknown here (unknown_key fields ms))
 
 abbrev pub present : Path → Option Data → Result Data Complaint
 present there (Some d) = Ok d
 present there None = complaint Missing there
 
 -- a field that must be there, in its form
-abbrev pub required : {A : Type 0} → (Path → Data → Result A Complaint) → Text → Path → Data → Result A Complaint
+abbrev pub required : {A : Type 0} → (Path → Data → Result A Complaint) → Text → Path → Data
+    → Result A Complaint
 required form k here d = given (present (key here k) (get k d)) (form (key here k))
 
-abbrev pub or_else : {A : Type 0} → A → (Data → Result A Complaint) → Option Data → Result A Complaint
+abbrev pub or_else : {A : Type 0} → A → (Data → Result A Complaint) → Option Data
+    → Result A Complaint
 or_else a form None = Ok a
 or_else a form (Some d) = form d
 
 -- a field that may be left out
-abbrev pub optional : {A : Type 0} → A → (Path → Data → Result A Complaint) → Text → Path → Data → Result A Complaint
+abbrev pub optional : {A : Type 0} → A → (Path → Data → Result A Complaint) → Text → Path → Data
+    → Result A Complaint
 optional a form k here d = or_else a (form (key here k)) (get k d)
 
 -- ---- arrays and named objects
 
 -- as many entries as there may be
 abbrev pub counted : ℕ → ℕ → Path → ℕ → Result (Unit {0}) Complaint
-counted least most here n = if nat_lt n least then complaint Empty here else (if nat_lt most n then complaint OutOfRange here else Ok tt)
+counted least most here n = if nat_lt n least then complaint Empty here
+    else (if nat_lt most n then complaint OutOfRange here else Ok tt)
 
 abbrev pub member_count : Members → ℕ
 member_count no_members = 0
 member_count (member k d ms) = suc (member_count ms)
 
 -- the members in order, a key before its value
-abbrev pub entries_form : {A : Type 0} → (Path → Data → Result A Complaint) → Path → Members → Result (List (Name × A)) Complaint
+abbrev pub entries_form : {A : Type 0} → (Path → Data → Result A Complaint) → Path → Members
+    → Result (List (Name × A)) Complaint
 entries_form form here no_members = Ok []
 entries_form form here (member k d ms) =
-    given (name_or_not (key here k) k) (λ n. given (form (key here k) d) (λ a. given (entries_form form here ms) (λ as'. Ok ((n, a) ∷ as'))))
+    given (name_or_not (key here k) k) (λ n. given (form (key here k) d)
+    (λ a. given (entries_form form here ms) (λ as'. Ok ((n, a) ∷ as'))))
 
 -- an object whose keys are names, its number of members before them
-abbrev pub named_form : {A : Type 0} → (Path → Data → Result A Complaint) → ℕ → ℕ → Path → Data → Result (List (Name × A)) Complaint
+abbrev pub named_form : {A : Type 0} → (Path → Data → Result A Complaint) → ℕ → ℕ → Path → Data
+    → Result (List (Name × A)) Complaint
 named_form form least most here d =
-    given (wanted here (as_object d)) (λ ms. given (counted least most here (member_count ms)) (λ u. entries_form form here ms))
+    given (wanted here (as_object d)) (λ ms. given (counted least most here (member_count ms))
+    (λ u. entries_form form here ms))
 
-abbrev pub items_form : {A : Type 0} → (Path → Data → Result A Complaint) → Path → ℕ → Items → Result (List A) Complaint
+abbrev pub items_form : {A : Type 0} → (Path → Data → Result A Complaint) → Path → ℕ → Items
+    → Result (List A) Complaint
 items_form form here i no_items = Ok []
-items_form form here i (item d ds) = given (form (index here i) d) (λ a. given (items_form form here (suc i) ds) (λ as'. Ok (a ∷ as')))
+items_form form here i (item d ds) = given (form (index here i) d)
+    (λ a. given (items_form form here (suc i) ds) (λ as'. Ok (a ∷ as')))
 
 -- an array, its number of items before them
-abbrev pub array_form : {A : Type 0} → (Path → Data → Result A Complaint) → ℕ → ℕ → Path → Data → Result (List A) Complaint
+abbrev pub array_form : {A : Type 0} → (Path → Data → Result A Complaint) → ℕ → ℕ → Path → Data
+    → Result (List A) Complaint
 array_form form least most here d =
-    given (wanted here (as_array d)) (λ ds. given (counted least most here (item_count ds)) (λ u. items_form form here 0 ds))
+    given (wanted here (as_array d)) (λ ds. given (counted least most here (item_count ds))
+    (λ u. items_form form here 0 ds))
 
 -- ---- values and feeds
 
@@ -161,7 +177,8 @@ feed_form here d =
 -- ---- strategies
 
 -- a node is decided by the first key that is there of `cross` and `dot`; with neither it is a cross
-abbrev pub node_form : Path → Members → Option (Result Strategies Complaint) → Option (Result Strategies Complaint) → Result Strategy Complaint
+abbrev pub node_form : Path → Members → Option (Result Strategies Complaint)
+    → Option (Result Strategies Complaint) → Result Strategy Complaint
 node_form here ms (Some trees) other = given (fields_form (codes "cross" ∷ []) here (object ms)) (λ u. given trees (λ ts. Ok (cross ts)))
 node_form here ms None (Some trees) = given (fields_form (codes "dot" ∷ []) here (object ms)) (λ u. given trees (λ ts. Ok (dot ts)))
 node_form here ms None None = given (fields_form (codes "cross" ∷ []) here (object ms)) (λ u. complaint Missing (key here (codes "cross")))
@@ -178,7 +195,8 @@ abbrev mutual
   -- the trees of the member at a key, if there is one; the path is that of the member
   pub children_form : Text → Path → Members → Option (Result Strategies Complaint)
   children_form k there no_members = None
-  children_form k there (member l d ms) = match_ordering (slice_cmp nat_cmp k l) (children_form k there ms) (Some (trees_form there d)) (children_form k there ms)
+  children_form k there (member l d ms) = match_ordering (slice_cmp nat_cmp k l)
+      (children_form k there ms) (Some (trees_form there d)) (children_form k there ms)
 
   pub trees_form : Path → Data → Result Strategies Complaint
   trees_form here null = complaint WrongKind here
@@ -190,7 +208,8 @@ abbrev mutual
 
   pub each_tree : Path → ℕ → Items → Result Strategies Complaint
   each_tree here i no_items = Ok no_strategies
-  each_tree here i (item d ds) = given (tree_form (index here i) d) (λ t. given (each_tree here (suc i) ds) (λ ts. Ok (strategy t ts)))
+  each_tree here i (item d ds) = given (tree_form (index here i) d)
+      (λ t. given (each_tree here (suc i) ds) (λ ts. Ok (strategy t ts)))
 
 -- ---- steps
 
@@ -234,7 +253,15 @@ step_form here d =
     given (optional 0 (number_form 0 100) (codes "retries") here d) (λ retries.
     given (optional 1 (number_form 1 64) (codes "jobs") here d) (λ jobs.
     given (optional [] names_form (codes "after") here d) (λ after.
-    Ok (record { inputs = inputs; outputs = outputs; strategy = strategy; activities = activities; retries = retries; jobs = jobs; after = after })))))))))
+    Ok (record {
+      inputs = inputs;
+      outputs = outputs;
+      strategy = strategy;
+      activities = activities;
+      retries = retries;
+      jobs = jobs;
+      after = after;
+    })))))))))
 
 -- ---- flows and documents
 

@@ -44,11 +44,13 @@ all_depth = all_number 0 32
 -- each key that isn't among the fields
 abbrev pub all_unknown : List Text → Path → Members → List Complaint
 all_unknown fields here no_members = []
-all_unknown fields here (member k d ms) = wrong_unless (list_any (same_name k) fields) Unknown (key here k) ++ all_unknown fields here ms
+all_unknown fields here (member k d ms) = wrong_unless (list_any (same_name k) fields) Unknown
+    (key here k) ++ all_unknown fields here ms
 
 -- an object with these fields: the keys that aren't among them, and then what is said of the fields
 abbrev pub all_fields : List Text → Path → List Complaint → Data → List Complaint
-all_fields fields here rest d = all_wanted here (λ ms. all_unknown fields here ms ++ rest) (as_object d)
+all_fields fields here rest d = all_wanted here (λ ms. all_unknown fields here ms ++ rest)
+    (as_object d)
 
 abbrev pub all_present : (Data → List Complaint) → Path → Option Data → List Complaint
 all_present form there None = wrong Missing there
@@ -66,21 +68,25 @@ all_optional form k here d = all_given (form (key here k)) (get k d)
 
 -- a number of entries outside its range, before the entries
 abbrev pub all_counted : ℕ → ℕ → Path → ℕ → List Complaint
-all_counted least most here n = if nat_lt n least then wrong Empty here else (if nat_lt most n then wrong OutOfRange here else [])
+all_counted least most here n = if nat_lt n least then wrong Empty here
+    else (if nat_lt most n then wrong OutOfRange here else [])
 
 abbrev pub all_entries : (Path → Data → List Complaint) → Path → Members → List Complaint
 all_entries form here no_members = []
-all_entries form here (member k d ms) = wrong_unless (is_name k) BadName (key here k) ++ (form (key here k) d ++ all_entries form here ms)
+all_entries form here (member k d ms) = wrong_unless (is_name k) BadName (key here k)
+    ++ (form (key here k) d ++ all_entries form here ms)
 
 abbrev pub all_named : (Path → Data → List Complaint) → ℕ → ℕ → Path → Data → List Complaint
-all_named form least most here d = all_wanted here (λ ms. all_counted least most here (member_count ms) ++ all_entries form here ms) (as_object d)
+all_named form least most here d = all_wanted here (λ ms. all_counted least most here
+    (member_count ms) ++ all_entries form here ms) (as_object d)
 
 abbrev pub all_items : (Path → Data → List Complaint) → Path → ℕ → Items → List Complaint
 all_items form here i no_items = []
 all_items form here i (item d ds) = form (index here i) d ++ all_items form here (suc i) ds
 
 abbrev pub all_array : (Path → Data → List Complaint) → ℕ → ℕ → Path → Data → List Complaint
-all_array form least most here d = all_wanted here (λ ds. all_counted least most here (item_count ds) ++ all_items form here 0 ds) (as_array d)
+all_array form least most here d = all_wanted here (λ ds. all_counted least most here
+    (item_count ds) ++ all_items form here 0 ds) (as_array d)
 
 -- ---- values and feeds
 
@@ -101,7 +107,8 @@ abbrev mutual
   all_value here (boolean b) = wrong NotText here
   all_value here (number n) = all_integer here n
   all_value here (string s) = []
-  all_value here (array ds) = if nat_lt (item_count ds) length_limit then all_values here 0 ds ++ all_ragged here (read_items 0 ds) else wrong Ragged here
+  all_value here (array ds) = if nat_lt (item_count ds) length_limit then all_values here 0 ds
+      ++ all_ragged here (read_items 0 ds) else wrong Ragged here
   all_value here (object ms) = wrong NotText here
 
   pub all_values : Path → ℕ → Items → List Complaint
@@ -129,7 +136,8 @@ all_feed here d = if is_link d then all_link here d else (if has (codes "merge")
 
 -- ---- strategies
 
-abbrev pub all_node : Path → Members → Option (List Complaint) → Option (List Complaint) → List Complaint
+abbrev pub all_node : Path → Members → Option (List Complaint) → Option (List Complaint)
+    → List Complaint
 all_node here ms (Some inside) other = all_unknown (codes "cross" ∷ []) here ms ++ inside
 all_node here ms None (Some inside) = all_unknown (codes "dot" ∷ []) here ms ++ inside
 all_node here ms None None = all_unknown (codes "cross" ∷ []) here ms ++ wrong Missing (key here (codes "cross"))
@@ -145,7 +153,8 @@ abbrev mutual
 
   pub all_children : Text → Path → Members → Option (List Complaint)
   all_children k there no_members = None
-  all_children k there (member l d ms) = match_ordering (slice_cmp nat_cmp k l) (all_children k there ms) (Some (all_trees there d)) (all_children k there ms)
+  all_children k there (member l d ms) = match_ordering (slice_cmp nat_cmp k l)
+      (all_children k there ms) (Some (all_trees there d)) (all_children k there ms)
 
   pub all_trees : Path → Data → List Complaint
   all_trees here null = wrong WrongKind here

@@ -37,11 +37,28 @@ abbrev pub step_input_view : StepInput → spec.StepInput
 step_input_view i = record { depth = i.depth; from = feed_view i.from }
 
 abbrev pub step_view : Step → spec.Step
-step_view s = record { inputs = each step_input_view s.inputs; outputs = s.outputs; strategy = option_map strategy_view s.strategy; activities = map activity_view s.activities; retries = s.retries; jobs = s.jobs; after = s.after }
+step_view s = record {
+  inputs = each step_input_view s.inputs;
+  outputs = s.outputs;
+  strategy = option_map strategy_view s.strategy;
+  activities = map activity_view s.activities;
+  retries = s.retries;
+  jobs = s.jobs;
+  after = s.after;
+}
 
 abbrev pub flow_view : Flow → spec.Flow
-flow_view f = record { inputs = f.inputs; steps = each step_view f.steps; outputs = each feed_view f.outputs }
+flow_view f = record {
+  inputs = f.inputs;
+  steps = each step_view f.steps;
+  outputs = each feed_view f.outputs;
+}
 
 -- the document with these fields
 abbrev pub document_of : ℕ → Name → List (Name × Flow) → List (Name × Value) → spec.Document
-document_of format main flows inputs = record { format = format; main = main; flows = each flow_view flows; inputs = each value_view inputs }
+document_of format main flows inputs = record {
+  format = format;
+  main = main;
+  flows = each flow_view flows;
+  inputs = each value_view inputs;
+}

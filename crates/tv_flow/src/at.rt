@@ -19,7 +19,8 @@ pub(crate) enum At<'a> {
 impl At<'_> {
     /// A fault of that kind here, or want of memory for its path.
     pub(crate) fn fault(&self, alloc: Global, kind: FormKind) -> FormFault
-        ensures { said result (record { kind = kind; path = at_view self.now }) ≡ record { kind = kind; path = at_view self.now } }
+        ensures { said result (record { kind = kind; path = at_view self.now })
+            ≡ record { kind = kind; path = at_view self.now } }
     {
         match self.path(alloc) {
             Ok(path) => FormFault::Form { kind, path },
@@ -29,7 +30,8 @@ impl At<'_> {
 
     /// A fault of that kind at a place of the value that stands here, or want of memory for its path.
     pub(crate) fn fault_at(&self, alloc: Global, kind: FormKind, inside: &Place) -> FormFault
-        ensures { said result (record { kind = kind; path = place (at_view self.now) inside.now }) ≡ record { kind = kind; path = place (at_view self.now) inside.now } }
+        ensures { said result (record { kind = kind; path = place (at_view self.now) inside.now })
+            ≡ record { kind = kind; path = place (at_view self.now) inside.now } }
     {
         match self.path_at(alloc, inside) {
             Ok(path) => FormFault::Form { kind, path },

@@ -28,7 +28,8 @@ pub(crate) fn named<T: Formed>(
     least: usize,
     most: usize,
 ) -> Result<Sequence<(Name, T)>, FormFault>
-    ensures read { IsForm (each T.seen) result (named_form T.form least most (at_view at.now) (json_view json.now)) }
+    ensures read { IsForm (each T.seen) result (named_form T.form least most (at_view at.now)
+        (json_view json.now)) }
     ensures kept { IfOk result (λ es. are_named T.keeps least most (each T.seen es) ≡ true) }
 {
     match json.as_object() {
@@ -83,8 +84,10 @@ fn entries<'a, T: Formed>(
     at: &'a At<'a>,
     members: &'a Map<String, Json>,
 ) -> Result<Vec<(Name, T)>, FormFault>
-    ensures read { IsForm (λ v. each T.seen v.items) result (entries_form T.form (at_view at.now) (members_view members.now.entries)) }
-    ensures kept { IfOk result (λ v. list_all (λ e. is_name e.0 && T.keeps e.1) (each T.seen v.items) ≡ true) }
+    ensures read { IsForm (λ v. each T.seen v.items) result (entries_form T.form (at_view at.now)
+        (members_view members.now.entries)) }
+    ensures kept { IfOk result (λ v. list_all (λ e. is_name e.0 && T.keeps e.1)
+        (each T.seen v.items) ≡ true) }
 {
     let mut things = Vec::new(alloc);
     for (key, value) in members {
@@ -105,7 +108,8 @@ pub(crate) fn array<T: Formed>(
     most: usize,
 ) -> Result<Sequence<T>, FormFault>
     requires { most < 2 ^ 32 }
-    ensures read { IsForm (map T.seen) result (array_form T.form least most (at_view at.now) (json_view json.now)) }
+    ensures read { IsForm (map T.seen) result (array_form T.form least most (at_view at.now)
+        (json_view json.now)) }
     ensures kept { IfOk result (λ xs. are_listed T.keeps least most (map T.seen xs) ≡ true) }
 {
     match json.as_array() {
@@ -120,7 +124,8 @@ pub(crate) fn array<T: Formed>(
 
 fn things<T: Formed>(alloc: Global, at: &At<'_>, items: &[Json]) -> Result<Vec<T>, FormFault>
     requires { length items.now < 2 ^ 32 }
-    ensures read { IsForm (λ v. map T.seen v.items) result (items_form T.form (at_view at.now) 0 (json_items items.now)) }
+    ensures read { IsForm (λ v. map T.seen v.items) result (items_form T.form (at_view at.now) 0
+        (json_items items.now)) }
     ensures kept { IfOk result (λ v. list_all T.keeps (map T.seen v.items) ≡ true) }
 {
     let mut things = Vec::new(alloc);

@@ -34,7 +34,8 @@ pub(crate) fn fields(
     json: &Json,
     fields: &[&str],
 ) -> Result<(), FormFault>
-    ensures { IsForm (λ u. tt) result (fields_form (map (λ f. f.now) fields.now) (at_view at.now) (json_view json.now)) }
+    ensures { IsForm (λ u. tt) result (fields_form (map (λ f. f.now) fields.now) (at_view at.now)
+        (json_view json.now)) }
 {
     match json.as_object() {
         Some(members) => match unknown_key(members, fields) {
@@ -47,7 +48,8 @@ pub(crate) fn fields(
 
 /// The first key in byte order that isn't among the fields.
 fn unknown_key<'a>(members: &'a Map<String, Json>, fields: &[&str]) -> Option<&'a str>
-    ensures { option_map (λ k. k.now) result ≡ unknown_key (map (λ f. f.now) fields.now) (members_view members.now.entries) }
+    ensures { option_map (λ k. k.now) result ≡ unknown_key (map (λ f. f.now) fields.now)
+        (members_view members.now.entries) }
 {
     match first_unknown(members, fields) {
         Some(key) => Some(key.as_str()),
@@ -56,7 +58,9 @@ fn unknown_key<'a>(members: &'a Map<String, Json>, fields: &[&str]) -> Option<&'
 }
 
 fn first_unknown<'a>(members: &'a Map<String, Json>, fields: &[&str]) -> Option<&'a String>
-    ensures { option_map (λ k. k.now) result ≡ find (λ k. not (list_any (λ f. same_name (string_bytes k) f.now) fields.now)) (keys members.now) }
+    ensures { option_map (λ k. k.now) result
+        ≡ find (λ k. not (list_any (λ f. same_name (string_bytes k) f.now) fields.now))
+        (keys members.now) }
 {
     members.keys().find(|key| !is_among(fields, key.as_str()))
 }
@@ -74,7 +78,8 @@ pub(crate) fn required<T: Formed>(
     json: &Json,
     key: &str,
 ) -> Result<T, FormFault>
-    ensures read { IsForm T.seen result (required T.form key.now (at_view at.now) (json_view json.now)) }
+    ensures read { IsForm T.seen result (required T.form key.now (at_view at.now)
+        (json_view json.now)) }
     ensures kept { IfOk result (λ x. T.keeps (T.seen x) ≡ true) }
 {
     let there = At::Key(at, key);
@@ -93,7 +98,8 @@ pub(crate) fn required_number(
     low: u32,
     high: u32,
 ) -> Result<u32, FormFault>
-    ensures read { IsForm (λ n. n) result (required (number_form low high) key.now (at_view at.now) (json_view json.now)) }
+    ensures read { IsForm (λ n. n) result (required (number_form low high) key.now (at_view at.now)
+        (json_view json.now)) }
     ensures kept { IfOk result (λ n. is_between low high n ≡ true) }
 {
     let there = At::Key(at, key);
@@ -114,7 +120,8 @@ pub(crate) fn optional_number(
     otherwise: u32,
 ) -> Result<u32, FormFault>
     requires { is_between low high otherwise ≡ true }
-    ensures read { IsForm (λ n. n) result (optional otherwise (number_form low high) key.now (at_view at.now) (json_view json.now)) }
+    ensures read { IsForm (λ n. n) result (optional otherwise (number_form low high) key.now
+        (at_view at.now) (json_view json.now)) }
     ensures kept { IfOk result (λ n. is_between low high n ≡ true) }
 {
     match json.get(key) {
@@ -132,7 +139,8 @@ pub(crate) fn required_named<T: Formed>(
     least: usize,
     most: usize,
 ) -> Result<Sequence<(Name, T)>, FormFault>
-    ensures read { IsForm (each T.seen) result (required (named_form T.form least most) key.now (at_view at.now) (json_view json.now)) }
+    ensures read { IsForm (each T.seen) result (required (named_form T.form least most) key.now
+        (at_view at.now) (json_view json.now)) }
     ensures kept { IfOk result (λ es. are_named T.keeps least most (each T.seen es) ≡ true) }
 {
     let there = At::Key(at, key);
@@ -150,7 +158,8 @@ pub(crate) fn optional_named<T: Formed>(
     key: &str,
     most: usize,
 ) -> Result<Sequence<(Name, T)>, FormFault>
-    ensures read { IsForm (each T.seen) result (optional [] (named_form T.form 0 most) key.now (at_view at.now) (json_view json.now)) }
+    ensures read { IsForm (each T.seen) result (optional [] (named_form T.form 0 most) key.now
+        (at_view at.now) (json_view json.now)) }
     ensures kept { IfOk result (λ es. are_named T.keeps 0 most (each T.seen es) ≡ true) }
 {
     match json.get(key) {
@@ -169,7 +178,8 @@ pub(crate) fn required_array<T: Formed>(
     most: usize,
 ) -> Result<Sequence<T>, FormFault>
     requires { most < 2 ^ 32 }
-    ensures read { IsForm (map T.seen) result (required (array_form T.form least most) key.now (at_view at.now) (json_view json.now)) }
+    ensures read { IsForm (map T.seen) result (required (array_form T.form least most) key.now
+        (at_view at.now) (json_view json.now)) }
     ensures kept { IfOk result (λ xs. are_listed T.keeps least most (map T.seen xs) ≡ true) }
 {
     let there = At::Key(at, key);

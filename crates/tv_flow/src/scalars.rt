@@ -64,7 +64,8 @@ pub(crate) fn number(
     low: u32,
     high: u32,
 ) -> Result<u32, FormFault>
-    ensures read { IsForm (λ n. n) result (number_form low high (at_view at.now) (json_view json.now)) }
+    ensures read { IsForm (λ n. n) result (number_form low high (at_view at.now)
+        (json_view json.now)) }
     ensures kept { IfOk result (λ n. is_between low high n ≡ true) }
 {
     match json.as_number() {
@@ -80,7 +81,8 @@ fn in_range(
     low: u32,
     high: u32,
 ) -> Result<u32, FormFault>
-    ensures read { IsForm (λ n. n) result (in_range low high (at_view at.now) (number_view number.now)) }
+    ensures read { IsForm (λ n. n) result (in_range low high (at_view at.now)
+        (number_view number.now)) }
     ensures kept { IfOk result (λ n. is_between low high n ≡ true) }
 {
     match number.as_u64() {

@@ -42,7 +42,8 @@ impl Formed for Activity {
 }
 
 fn service_activity(alloc: Global, at: &At<'_>, json: &Json) -> Result<Activity, FormFault>
-    ensures read { IsForm activity_view result (service_activity (at_view at.now) (json_view json.now)) }
+    ensures read { IsForm activity_view result (service_activity (at_view at.now)
+        (json_view json.now)) }
     ensures kept { IfOk result (λ a. is_activity (activity_view a) ≡ true) }
 {
     fields(alloc, at, json, &["service"])?;
@@ -51,7 +52,8 @@ fn service_activity(alloc: Global, at: &At<'_>, json: &Json) -> Result<Activity,
 }
 
 fn nested_activity(alloc: Global, at: &At<'_>, json: &Json) -> Result<Activity, FormFault>
-    ensures read { IsForm activity_view result (nested_activity (at_view at.now) (json_view json.now)) }
+    ensures read { IsForm activity_view result (nested_activity (at_view at.now)
+        (json_view json.now)) }
     ensures kept { IfOk result (λ a. is_activity (activity_view a) ≡ true) }
 {
     fields(alloc, at, json, &["flow"])?;
@@ -109,7 +111,8 @@ pub(crate) fn optional_depths(
     json: &Json,
     key: &str,
 ) -> Result<Depths, FormFault>
-    ensures read { IsForm (λ ds. ds) result (optional [] (named_form depth_form 0 16) key.now (at_view at.now) (json_view json.now)) }
+    ensures read { IsForm (λ ds. ds) result (optional [] (named_form depth_form 0 16) key.now
+        (at_view at.now) (json_view json.now)) }
     ensures kept { IfOk result (λ ds. are_named is_depth 0 16 ds ≡ true) }
 {
     optional_named(alloc, at, json, key, 16)
@@ -121,7 +124,8 @@ fn optional_tree(
     json: &Json,
     key: &str,
 ) -> Result<Option<Tree>, FormFault>
-    ensures read { IsForm (option_map strategy_view) result (optional None given_tree key.now (at_view at.now) (json_view json.now)) }
+    ensures read { IsForm (option_map strategy_view) result (optional None given_tree key.now
+        (at_view at.now) (json_view json.now)) }
     ensures kept { IfOk result (λ t. is_given_tree (option_map strategy_view t) ≡ true) }
 {
     match json.get(key) {
@@ -131,7 +135,8 @@ fn optional_tree(
 }
 
 fn optional_names(alloc: Global, at: &At<'_>, json: &Json, key: &str) -> Result<Names, FormFault>
-    ensures read { IsForm (λ ns. ns) result (optional [] names_form key.now (at_view at.now) (json_view json.now)) }
+    ensures read { IsForm (λ ns. ns) result (optional [] names_form key.now (at_view at.now)
+        (json_view json.now)) }
     ensures kept { IfOk result (λ ns. are_names ns ≡ true) }
 {
     match json.get(key) {

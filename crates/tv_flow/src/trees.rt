@@ -43,7 +43,9 @@ pub(crate) fn tree<'a>(alloc: Global, json: &Json, at: &'a At<'a>) -> Result<Tre
 
 #[cycle(trees)]
 fn cross_node<'a>(alloc: Global, json: &Json, at: &'a At<'a>) -> Result<Tree, FormFault>
-    ensures read { IsForm strategy_view result (given (branch (codes "cross") (at_view at.now) (json_view json.now)) (λ ts. Ok (cross ts))) }
+    ensures read { IsForm strategy_view result
+        (given (branch (codes "cross") (at_view at.now) (json_view json.now))
+        (λ ts. Ok (cross ts))) }
     ensures kept { IfOk result (λ t. is_tree (strategy_view t) ≡ true) }
 {
     let trees = children(alloc, json, at, "cross")?;
@@ -52,7 +54,8 @@ fn cross_node<'a>(alloc: Global, json: &Json, at: &'a At<'a>) -> Result<Tree, Fo
 
 #[cycle(trees)]
 fn dot_node<'a>(alloc: Global, json: &Json, at: &'a At<'a>) -> Result<Tree, FormFault>
-    ensures read { IsForm strategy_view result (given (branch (codes "dot") (at_view at.now) (json_view json.now)) (λ ts. Ok (dot ts))) }
+    ensures read { IsForm strategy_view result
+        (given (branch (codes "dot") (at_view at.now) (json_view json.now)) (λ ts. Ok (dot ts))) }
     ensures kept { IfOk result (λ t. is_tree (strategy_view t) ≡ true) }
 {
     let trees = children(alloc, json, at, "dot")?;
@@ -67,8 +70,10 @@ fn children<'a>(
     at: &'a At<'a>,
     key: &'a str,
 ) -> Result<Trees, FormFault>
-    ensures read { IsForm strategies_view result (branch key.now (at_view at.now) (json_view json.now)) }
-    ensures kept { IfOk result (λ ts. is_between 1 16 (strategy_count (strategies_view ts)) && are_trees (strategies_view ts) ≡ true) }
+    ensures read { IsForm strategies_view result (branch key.now (at_view at.now)
+        (json_view json.now)) }
+    ensures kept { IfOk result (λ ts. is_between 1 16 (strategy_count (strategies_view ts))
+        && are_trees (strategies_view ts) ≡ true) }
 {
     fields(alloc, at, json, &[key])?;
     let there = At::Key(at, key);
@@ -80,8 +85,10 @@ fn children<'a>(
 
 #[cycle(trees)]
 fn trees<'a>(alloc: Global, json: &Json, at: &'a At<'a>) -> Result<Trees, FormFault>
-    ensures read { IsForm strategies_view result (trees_form (at_view at.now) (json_view json.now)) }
-    ensures kept { IfOk result (λ ts. is_between 1 16 (strategy_count (strategies_view ts)) && are_trees (strategies_view ts) ≡ true) }
+    ensures read { IsForm strategies_view result (trees_form (at_view at.now)
+        (json_view json.now)) }
+    ensures kept { IfOk result (λ ts. is_between 1 16 (strategy_count (strategies_view ts))
+        && are_trees (strategies_view ts) ≡ true) }
 {
     match json {
         Json::Array(items) => {
@@ -96,7 +103,8 @@ fn trees<'a>(alloc: Global, json: &Json, at: &'a At<'a>) -> Result<Trees, FormFa
 #[cycle(trees)]
 fn each_tree<'a>(alloc: Global, items: &Vec<Json>, at: &'a At<'a>) -> Result<Vec<Tree>, FormFault>
     requires { length items.now.items < 2 ^ 32 }
-    ensures read { IsForm (λ v. map strategy_view v.items) result (items_form tree_form (at_view at.now) 0 (json_items items.now.items)) }
+    ensures read { IsForm (λ v. map strategy_view v.items) result
+        (items_form tree_form (at_view at.now) 0 (json_items items.now.items)) }
     ensures kept { IfOk result (λ v. list_all is_tree (map strategy_view v.items) ≡ true) }
 {
     let mut trees = Vec::new(alloc);

@@ -187,7 +187,8 @@ pub record IsFresh (d : Document) (levels : Flow → Name → ℕ) (j : Job) (y 
 -- the job that opens is a waiting one, of which its frame is told, or one that was tried before
 abbrev pub IsTakenFor : Document → (Flow → Name → ℕ) → Instance → Seat → View → View → Stage
     → Type 0
-IsTakenFor d levels x s v w stage.Waiting = GoesOn d (levels x.flow) v w (took (spot_of x.flow.steps s).0 s.place) []
+IsTakenFor d levels x s v w stage.Waiting = GoesOn d (levels x.flow) v w
+    (took (spot_of x.flow.steps s).0 s.place) []
 IsTakenFor d levels x s v w (stage.Aside a) = w ≡ v
 IsTakenFor d levels x s v w (stage.Out a t) = ⊥
 IsTakenFor d levels x s v w (stage.Idle a t) = ⊥
@@ -215,7 +216,8 @@ Ending =
     → can_end (meaning gives d) past j.name ≡ true
     → GoesOn d (levels x.flow) v w (gave (spot_of x.flow.steps s).0 s.place j.result) ns
     → Stand gives d levels (ended j.name ∷ past)
-    (with_instance (with_instance xs i (told x w (with_stage n stage.Settled x.seats ++ ns))) k (shut y)))
+    (with_instance (with_instance xs i (told x w (with_stage n stage.Settled x.seats ++ ns))) k
+    (shut y)))
 
 -- the main instance ends
 abbrev pub EndingMain : Type 0

@@ -61,7 +61,8 @@ AreInputs v j vs =
 abbrev pub AreOutputs : View → List Value → Type 0
 AreOutputs v vs =
     InAll v (λ instance results fs.
-    vs ≡ map (λ o. plain (feed_delivers step_of (given_of v.flow v.inputs) fs o.1).value) v.flow.outputs)
+    vs ≡ map (λ o. plain (feed_delivers step_of (given_of v.flow v.inputs) fs o.1).value)
+    v.flow.outputs)
 
 -- ---- ready jobs and endings, with the levels of the plan
 

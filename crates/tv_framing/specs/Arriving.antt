@@ -17,10 +17,13 @@ levels_below d (i ∷ q) = levels_below (pred d) q
 -- gave, a list that was closed, a fault that was passed
 module _ (s : Name) (k levels declared : ℕ) where
   abbrev pub put_event : Event → Partial Value → Partial Value
-  put_event (gave t q vs) p = if same_name s t then arrive q (unwrap_or (slice_get vs k) (list tt no_trees)) p else p
+  put_event (gave t q vs) p = if same_name s t
+      then arrive q (unwrap_or (slice_get vs k) (list tt no_trees)) p else p
   put_event (events.closed t q n) p = if same_name s t then close_at q n p else p
   put_event (fault_set t q e) p =
-      if same_name s t then arrive q (fault_value (record e { depth = levels_below levels q + declared })) p else p
+      if same_name s t
+      then arrive q (fault_value (record e { depth = levels_below levels q + declared })) p
+      else p
   put_event (took t q) p = p
 
   abbrev pub part_so_far : Events → Partial Value

@@ -41,7 +41,8 @@ new_jobs known after fs =
 pub record IsFrame (v : View) : Type 0 where
   pub given : AreGiven (ranked v.flow.steps) v.events
   pub legal : InAll v (λ instance results fs. AreLegal instance fs v.events)
-  pub known : InAll v (λ instance results fs. IsPermutation v.jobs (known_jobs (known_by instance v.events) fs))
+  pub known : InAll v (λ instance results fs. IsPermutation v.jobs
+      (known_jobs (known_by instance v.events) fs))
 
 -- with one more event, and the jobs that become known with it behind those before
 abbrev pub with_event : View → Event → List (Name × Place) → View

@@ -42,8 +42,10 @@ module _ (known after : Origin → Bool) where
       on_way q zero d t r =
           if_so (is_new (is_whole named known q t) (is_whole named after q t))
           (here (ends ((p, output_below named made declared q d t) ∷ [])))
-      on_way q (suc k) d (leaf s (job b)) r = all_items (walk p (suc k) (traced (from_job (named q)) (made q)))
-      on_way q (suc k) d (leaf s (passed m e)) r = here (passes (m, record e { depth = d + declared })) ∷ []
+      on_way q (suc k) d (leaf s (job b)) r = all_items
+          (walk p (suc k) (traced (from_job (named q)) (made q)))
+      on_way q (suc k) d (leaf s (passed m e)) r = here
+          (passes (m, record e { depth = d + declared })) ∷ []
       on_way q (suc k) d (list s ts) [] = here (closes (count ts)) ∷ []
       on_way q (suc k) d (list s ts) (i ∷ r) = on_way_from q k (pred d) 0 ts i r
 

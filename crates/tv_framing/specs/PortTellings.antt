@@ -53,7 +53,8 @@ module _ (newly : Place → Bool) (e : Event) (given_at : Name → Value) (p : N
   abbrev pub link_told : ℕ → Place → Link → List Told
   link_told k q (input x) = []
   link_told k q (output s o) =
-      if same_name s (event_step e) then way_told newly p k q [] (event_place e) e (given_at o) else []
+      if same_name s (event_step e) then way_told newly p k q [] (event_place e) e (given_at o)
+      else []
 
   abbrev pub links_told : ℕ → ℕ → List Link → List Told
   links_told k i [] = []

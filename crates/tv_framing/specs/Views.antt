@@ -24,11 +24,13 @@ pub record View : Type 0 where
 
 -- the steps of the instance, were these its results
 abbrev pub steps_with : View → JobName → Results → List InstanceStep
-steps_with v instance results = steps_by instance results (given_of v.flow v.inputs) [] (ranked v.flow.steps)
+steps_with v instance results = steps_by instance results (given_of v.flow v.inputs) []
+    (ranked v.flow.steps)
 
 -- results of the declared depths
 abbrev pub AreOfDepth : View → JobName → Results → Type 0
-AreOfDepth v instance results = AllJobsGive instance results (given_of v.flow v.inputs) [] (ranked v.flow.steps)
+AreOfDepth v instance results = AllJobsGive instance results (given_of v.flow v.inputs) []
+    (ranked v.flow.steps)
 
 -- P holds of every instance of the flow on these inputs, whatever its name is, with all results of the declared depths that have what
 -- was told

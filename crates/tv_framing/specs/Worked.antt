@@ -23,9 +23,11 @@ two = text_value (codes "B")
 -- the list that u makes, part by part
 pub record ShowsParts : Type 0 where
   pub nothing : part_so_far u 0 1 0 [] ≡ wanting
-  pub second : part_so_far u 0 1 0 (gave u (1 ∷ []) (two ∷ []) ∷ []) ≡ growing (part wanting (part (item two) no_parts))
+  pub second : part_so_far u 0 1 0 (gave u (1 ∷ []) (two ∷ []) ∷ [])
+      ≡ growing (part wanting (part (item two) no_parts))
   pub length : part_so_far u 0 1 0 so_far ≡ closed (part wanting (part (item two) no_parts))
-  pub all : part_so_far u 0 1 0 (last_one ∷ so_far) ≡ closed (part (item one) (part (item two) no_parts))
+  pub all : part_so_far u 0 1 0 (last_one ∷ so_far)
+      ≡ closed (part (item one) (part (item two) no_parts))
 
 -- a port that walks the list is told of its item, one that takes it whole of the whole list; one that merges two links of the item at
 -- both indices, and one that walks the merge's list alone of each list that is whole
@@ -34,16 +36,21 @@ pub record TellsPorts : Type 0 where
       port_told (newly_by so_far last_one u 1) last_one (λ o. one) p false 1 (link (output u o))
       ≡ arrival p (0 ∷ []) false ∷ []
   pub taken_whole :
-      port_told (newly_by so_far last_one u 1) last_one (λ o. one) p true 0 (link (output u o)) ≡ arrival p [] false ∷ []
+      port_told (newly_by so_far last_one u 1) last_one (λ o. one) p true 0 (link (output u o))
+      ≡ arrival p [] false ∷ []
   pub lists_of_merge :
-      port_told (newly_by so_far last_one u 1) last_one (λ o. one) p false 1 (merge (output u o ∷ output u o ∷ []))
+      port_told (newly_by so_far last_one u 1) last_one (λ o. one) p false 1
+      (merge (output u o ∷ output u o ∷ []))
       ≡ arrival p (0 ∷ []) false ∷ arrival p (1 ∷ []) false ∷ []
   pub items_of_merge :
-      port_told (newly_by so_far last_one u 1) last_one (λ o. one) p false 2 (merge (output u o ∷ output u o ∷ []))
+      port_told (newly_by so_far last_one u 1) last_one (λ o. one) p false 2
+      (merge (output u o ∷ output u o ∷ []))
       ≡ arrival p (0 ∷ 0 ∷ []) false ∷ arrival p (1 ∷ 0 ∷ []) false ∷ []
-  pub other_step : port_told (newly_by so_far last_one u 1) last_one (λ o. one) p false 1 (link (output v o)) ≡ []
+  pub other_step : port_told (newly_by so_far last_one u 1) last_one (λ o. one) p false 1
+      (link (output v o)) ≡ []
   pub list_closed :
-      port_told (newly_by [] (events.closed u [] 2) u 1) (events.closed u [] 2) (λ o. one) p false 1 (link (output u o))
+      port_told (newly_by [] (events.closed u [] 2) u 1) (events.closed u [] 2) (λ o. one) p false 1
+      (link (output u o))
       ≡ close p [] 2 ∷ []
 
 -- u's jobs are known from the start, since a constant feeds it; v's one job becomes known with the last item

@@ -51,7 +51,13 @@ pub trait Asker {
         inputs: &Items,
         attempt: u32,
     ) -> Result<Outcome, NoMemory>
-        ensures answer { IfOk result (λ o. outcome_view o ≡ Self.Services.gives service.now (values_view inputs.now) attempt) }
-        ensures told { OnOk result (IsCalled (calls self.old) (calls self.new) (record { service = service.now; inputs = values_view inputs.now; attempt = attempt })) }
+        ensures answer { IfOk result (λ o. outcome_view o ≡ Self.Services.gives service.now
+            (values_view inputs.now) attempt) }
+        ensures told { OnOk result (IsCalled (calls self.old) (calls self.new)
+            (record {
+              service = service.now;
+              inputs = values_view inputs.now;
+              attempt = attempt;
+            })) }
         ensures refused { OnErr result (IsSameCalls (calls self.old) (calls self.new)) };
 }

@@ -5,7 +5,8 @@ use Rattle.tv_graph.specs.Graphs.{Graph, is_graph, before, is_one_of, comes_befo
 
 -- where no vertex comes before itself, all come
 abbrev pub AllComeWithoutCycle : Type 0
-AllComeWithoutCycle = (g : Graph) → is_graph g ≡ true → first_on_cycle g ≡ None → length (by_least g) ≡ length g
+AllComeWithoutCycle = (g : Graph) → is_graph g ≡ true → first_on_cycle g ≡ None
+    → length (by_least g) ≡ length g
 
 -- where all come, no vertex comes before itself
 abbrev pub NoCycleWhereAllCome : Type 0
@@ -13,20 +14,24 @@ NoCycleWhereAllCome = (g : Graph) → length (by_least g) ≡ length g → first
 
 -- each vertex comes after those before it
 abbrev pub EachComesAfter : Type 0
-EachComesAfter = (g : Graph) (i : ℕ) → i < length (by_least g) → list_all (is_one_of (take i (by_least g))) (before g (slice_index (by_least g) i)) ≡ true
+EachComesAfter = (g : Graph) (i : ℕ) → i < length (by_least g)
+    → list_all (is_one_of (take i (by_least g))) (before g (slice_index (by_least g) i)) ≡ true
 
 -- no vertex comes twice
 abbrev pub EachComesOnce : Type 0
-EachComesOnce = (g : Graph) (i j : ℕ) → i < j → j < length (by_least g) → slice_index (by_least g) i ≡ slice_index (by_least g) j → ⊥
+EachComesOnce = (g : Graph) (i j : ℕ) → i < j → j < length (by_least g) → slice_index (by_least g) i
+    ≡ slice_index (by_least g) j → ⊥
 
 -- as many edges as there are vertices are enough to find what comes before what
 abbrev pub EnoughEdges : Type 0
-EnoughEdges = (g : Graph) (k w v : ℕ) → is_graph g ≡ true → v < length g → comes_before g k w v ≡ true → comes_before g (length g) w v ≡ true
+EnoughEdges = (g : Graph) (k w v : ℕ) → is_graph g ≡ true → v < length g → comes_before g k w v
+    ≡ true → comes_before g (length g) w v ≡ true
 
 -- without cycles a height is one more than the greatest of the heights before it
 abbrev pub HeightFromHeights : Type 0
 HeightFromHeights =
-    (g : Graph) (v : ℕ) → is_graph g ≡ true → first_on_cycle g ≡ None → v < length g → height g (length g) v ≡ suc (greatest (map (height g (length g)) (before g v)))
+    (g : Graph) (v : ℕ) → is_graph g ≡ true → first_on_cycle g ≡ None → v < length g
+    → height g (length g) v ≡ suc (greatest (map (height g (length g)) (before g v)))
 
 -- a graph with edges that stand twice
 abbrev pub repeats : Graph

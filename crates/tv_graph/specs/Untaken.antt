@@ -19,19 +19,24 @@ is_ready g taken v = not (taken v) && list_all taken (before g v)
 
 -- each untaken vertex that isn't pending is free or waits, and the free and the waiting are such
 pub record IsKept (g : Graph) (pending taken free : ℕ → Bool) (waits : ℕ → ℕ → Bool) : Type 0 where
-  pub free_is : (v : ℕ) → free v ≡ true → (v < length g) × (taken v ≡ false) × (awaited g taken v ≡ None)
-  pub waits_is : (u v : ℕ) → waits u v ≡ true → taken u ≡ false → (v < length g) × (taken v ≡ false) × (awaited g taken v ≡ Some u)
-  pub kept : (v : ℕ) → v < length g → taken v ≡ false → pending v ≡ false → MatchOption (awaited g taken v) (free v ≡ true) (λ u. waits u v ≡ true)
+  pub free_is : (v : ℕ) → free v ≡ true → (v < length g) × (taken v ≡ false)
+      × (awaited g taken v ≡ None)
+  pub waits_is : (u v : ℕ) → waits u v ≡ true → taken u ≡ false → (v < length g) × (taken v ≡ false)
+      × (awaited g taken v ≡ Some u)
+  pub kept : (v : ℕ) → v < length g → taken v ≡ false → pending v ≡ false
+      → MatchOption (awaited g taken v) (free v ≡ true) (λ u. waits u v ≡ true)
 
 -- the lists have a place for each vertex, and what was passed is taken
 pub record HasPlaces (g : Graph) (t : Untaken) : Type 0 where
   pub taken_length : length t.taken.items ≡ length g
   pub places_length : length t.places.items ≡ length g
   pub waiting_count : waiting_length t.waiting ≡ length g
-  pub passed : (v : ℕ) → v < length g → list_all (is_taken t) (take (slice_index_or t.places.items v 0) (before g v)) ≡ true
+  pub passed : (v : ℕ) → v < length g
+      → list_all (is_taken t) (take (slice_index_or t.places.items v 0) (before g v)) ≡ true
 
 abbrev pub IsTable : Graph → (ℕ → Bool) → Untaken → Type 0
-IsTable g pending t = IsKept g pending (is_taken t) (has t.free) (λ u. is_one_of (waiting_at t.waiting u))
+IsTable g pending t = IsKept g pending (is_taken t) (has t.free)
+    (λ u. is_one_of (waiting_at t.waiting u))
 
 abbrev pub none : ℕ → Bool
 none v = false

@@ -11,4 +11,5 @@ is_entered s v = slice_index_or s.entered.items v false
 pub record HasMarks (g : Graph) (s : Walk) : Type 0 where
   pub entered_length : length s.entered.items ≡ length g
   pub places_length : length s.places.items ≡ length g
-  pub passed : (v : ℕ) → v < length g → list_all (is_entered s) (take (slice_index_or s.places.items v 0) (before g v)) ≡ true
+  pub passed : (v : ℕ) → v < length g
+      → list_all (is_entered s) (take (slice_index_or s.places.items v 0) (before g v)) ≡ true

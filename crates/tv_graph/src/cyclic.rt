@@ -16,7 +16,8 @@ use std::alloc::Global;
 fn push_to_all(after: &mut Waiting, before: &[u32], vertex: u32) -> Result<(), NoMemory>
     requires { list_all (λ u. nat_lt u (waiting_length after.old)) before.now ≡ true }
     ensures count { waiting_length after.new ≡ waiting_length after.old }
-    ensures added { OnOk result ((u v : ℕ) → is_one_of (waiting_at after.new u) v ≡ (is_one_of (waiting_at after.old u) v || ((v == vertex) && is_one_of before.now u))) }
+    ensures added { OnOk result ((u v : ℕ) → is_one_of (waiting_at after.new u) v
+        ≡ (is_one_of (waiting_at after.old u) v || ((v == vertex) && is_one_of before.now u))) }
 {
     for earlier in before {
         after.push(*earlier, vertex)?;
@@ -50,7 +51,9 @@ fn gather(
     requires turned { AreTurned graph.now (waiting_at after.now) }
     requires count { length visited.old.items ≡ length graph.now }
     ensures count { OnOk result (length visited.new.items ≡ length graph.now) }
-    ensures gathered { OnOk result (IsGathered (waiting_at after.now) vertex (λ u. slice_index_or visited.old.items u false) (λ u. slice_index_or visited.new.items u false) found.old.items found.new.items) }
+    ensures gathered { OnOk result (IsGathered (waiting_at after.now) vertex
+        (λ u. slice_index_or visited.old.items u false) (λ u. slice_index_or visited.new.items u
+        false) found.old.items found.new.items) }
 {
     let mut left = Vec::new(alloc);
     mark_all(after.at(vertex), visited, &mut left)?;
@@ -75,11 +78,14 @@ fn visit(
     requires after { waiting_length after.now ≡ length graph.now }
     requires turned { AreTurned graph.now (waiting_at after.now) }
     requires count { length visited.old.items ≡ length graph.now }
-    requires visited { IsVisited graph.now (λ u. slice_index_or visited.old.items u false) found.old.items }
+    requires visited { IsVisited graph.now (λ u. slice_index_or visited.old.items u false)
+        found.old.items }
     requires latest { IsLatest graph.now (λ u. slice_index_or visited.old.items u false) vertex }
     ensures count { OnOk result (length visited.new.items ≡ length graph.now) }
-    ensures visited { OnOk result (IsVisited graph.now (λ u. slice_index_or visited.new.items u false) found.new.items) }
-    ensures kept { OnOk result ((u : ℕ) → slice_index_or visited.old.items u false ≡ true → slice_index_or visited.new.items u false ≡ true) }
+    ensures visited { OnOk result (IsVisited graph.now (λ u. slice_index_or visited.new.items u
+        false) found.new.items) }
+    ensures kept { OnOk result ((u : ℕ) → slice_index_or visited.old.items u false ≡ true
+        → slice_index_or visited.new.items u false ≡ true) }
     ensures itself { OnOk result (slice_index_or visited.new.items vertex false ≡ true) }
 {
     if visited[vertex as usize] {
@@ -94,8 +100,10 @@ fn visit(
 /// before it, and another goes the other way, from the vertices in the order in which they were left, the last first. What
 /// the second visits from a vertex comes both before and after it.
 pub(crate) fn cyclic(alloc: Global, graph: &Graph) -> Result<Vec<u32>, NoMemory>
-    ensures within { IfOk result (λ vs. list_all (λ u. nat_lt u (length graph.now)) vs.items ≡ true) }
-    ensures are { IfOk result (λ vs. (u : ℕ) → u < length graph.now → is_one_of vs.items u ≡ is_on_cycle graph.now u) }
+    ensures within { IfOk result (λ vs. list_all (λ u. nat_lt u (length graph.now)) vs.items
+        ≡ true) }
+    ensures are { IfOk result (λ vs. (u : ℕ) → u < length graph.now → is_one_of vs.items u
+        ≡ is_on_cycle graph.now u) }
 {
     let mut left = leaving(alloc, graph)?;
     let after = turned(alloc, graph)?;

@@ -32,9 +32,12 @@ impl Free {
 
     /// Takes the least out, in time logarithmic in how many there are.
     pub(crate) fn take_least(&mut self) -> Option<u32>
-        ensures found { MatchOption result ((u : ℕ) → has self.old u ≡ false) (λ v. has self.old v ≡ true) }
-        ensures least { MatchOption result (Unit {0}) (λ v. (u : ℕ) → has self.old u ≡ true → v ≤ u) }
-        ensures after { MatchOption result ((u : ℕ) → has self.new u ≡ has self.old u) (λ v. (u : ℕ) → has self.new u ≡ (has self.old u && not (u == v))) }
+        ensures found { MatchOption result ((u : ℕ) → has self.old u ≡ false) (λ v. has self.old v
+            ≡ true) }
+        ensures least { MatchOption result (Unit {0}) (λ v. (u : ℕ) → has self.old u ≡ true → v
+            ≤ u) }
+        ensures after { MatchOption result ((u : ℕ) → has self.new u ≡ has self.old u) (λ v. (u : ℕ)
+            → has self.new u ≡ (has self.old u && not (u == v))) }
     {
         self.vertices.pop_first()
     }

@@ -29,7 +29,8 @@ pub fn by_least(alloc: Global, graph: &Graph) -> Result<Vec<u32>, NoMemory>
 fn marks_of(alloc: Global, vertices: &[u32], count: usize) -> Result<Vec<bool>, NoMemory>
     requires { list_all (λ u. nat_lt u count) vertices.now ≡ true }
     ensures count { IfOk result (λ marks. length marks.items ≡ count) }
-    ensures marks { IfOk result (λ marks. (u : ℕ) → slice_index_or marks.items u false ≡ is_one_of vertices.now u) }
+    ensures marks { IfOk result (λ marks. (u : ℕ) → slice_index_or marks.items u false
+        ≡ is_one_of vertices.now u) }
 {
     let mut marks = vec![in alloc; false; count]?;
     for vertex in vertices {

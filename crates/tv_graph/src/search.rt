@@ -13,9 +13,13 @@ pub(crate) fn mark_all(
 ) -> Result<(), NoMemory>
     requires { list_all (λ u. nat_lt u (length marks.old.items)) vertices.now ≡ true }
     ensures count { length marks.new.items ≡ length marks.old.items }
-    ensures marks { OnOk result ((u : ℕ) → slice_index_or marks.new.items u false ≡ (slice_index_or marks.old.items u false || is_one_of vertices.now u)) }
-    ensures marked { OnOk result ((u : ℕ) → is_one_of marked.new.items u ≡ (is_one_of marked.old.items u || (is_one_of vertices.now u && not (slice_index_or marks.old.items u false)))) }
-    ensures as_many { OnOk result (count_by not marks.new.items + vec_len marked.new ≡ count_by not marks.old.items + vec_len marked.old) }
+    ensures marks { OnOk result ((u : ℕ) → slice_index_or marks.new.items u false
+        ≡ (slice_index_or marks.old.items u false || is_one_of vertices.now u)) }
+    ensures marked { OnOk result ((u : ℕ) → is_one_of marked.new.items u
+        ≡ (is_one_of marked.old.items u || (is_one_of vertices.now u
+        && not (slice_index_or marks.old.items u false)))) }
+    ensures as_many { OnOk result (count_by not marks.new.items + vec_len marked.new
+        ≡ count_by not marks.old.items + vec_len marked.old) }
 {
     for vertex in vertices {
         if !marks[*vertex as usize] {

@@ -24,9 +24,12 @@ pub(crate) struct Untaken {
 /// The first place, from `place` on, of a vertex that isn't taken, or the list's length.
 pub(crate) fn next_untaken(before: &[u32], taken: &[bool], place: usize) -> usize
     requires within { list_all (λ u. nat_lt u (length taken.now)) before.now ≡ true }
-    requires passed { list_all (λ u. slice_index_or taken.now u false) (take place before.now) ≡ true }
-    ensures passed { list_all (λ u. slice_index_or taken.now u false) (take result before.now) ≡ true }
-    ensures found { slice_get before.now result ≡ find (λ u. not (slice_index_or taken.now u false)) before.now }
+    requires passed { list_all (λ u. slice_index_or taken.now u false) (take place before.now)
+        ≡ true }
+    ensures passed { list_all (λ u. slice_index_or taken.now u false) (take result before.now)
+        ≡ true }
+    ensures found { slice_get before.now result ≡ find (λ u. not (slice_index_or taken.now u false))
+        before.now }
 {
     let mut next = place;
     while next < before.len() && taken[before[next] as usize] {
@@ -61,7 +64,8 @@ impl Untaken {
         requires places { HasPlaces graph.now self.old }
         ensures places { HasPlaces graph.now self.new }
         ensures taken { self.new.taken.items ≡ self.old.taken.items }
-        ensures table { OnOk result ((pending : ℕ → Bool) → IsTable graph.now pending self.old → is_taken self.old vertex ≡ false → IsTable graph.now (but pending vertex) self.new) }
+        ensures table { OnOk result ((pending : ℕ → Bool) → IsTable graph.now pending self.old
+            → is_taken self.old vertex ≡ false → IsTable graph.now (but pending vertex) self.new) }
     {
         let before = graph.before(vertex);
         let place = next_untaken(before, &self.taken, self.places[vertex as usize]);
@@ -83,8 +87,10 @@ impl Untaken {
         requires table { IsTable graph.now none self.old }
         ensures places { OnOk result (HasPlaces graph.now self.new) }
         ensures table { OnOk result (IsTable graph.now none self.new) }
-        ensures value { IfOk result (λ o. o ≡ find (is_ready graph.now (is_taken self.old)) (vertices graph.now)) }
-        ensures taken { IfOk result (λ o. (u : ℕ) → is_taken self.new u ≡ (is_taken self.old u || is_given o u)) }
+        ensures value { IfOk result (λ o. o ≡ find (is_ready graph.now (is_taken self.old))
+            (vertices graph.now)) }
+        ensures taken { IfOk result (λ o. (u : ℕ) → is_taken self.new u
+            ≡ (is_taken self.old u || is_given o u)) }
     {
         let Some(vertex) = self.free.take_least() else {
             return Ok(None);

@@ -30,7 +30,8 @@ impl Waiting {
     pub(crate) fn push(&mut self, at: u32, vertex: u32) -> Result<(), NoMemory>
         requires { at < waiting_length self.old }
         ensures count { waiting_length self.new ≡ waiting_length self.old }
-        ensures added { OnOk result ((u v : ℕ) → is_one_of (waiting_at self.new u) v ≡ (is_one_of (waiting_at self.old u) v || ((u == at) && (v == vertex)))) }
+        ensures added { OnOk result ((u v : ℕ) → is_one_of (waiting_at self.new u) v
+            ≡ (is_one_of (waiting_at self.old u) v || ((u == at) && (v == vertex)))) }
     {
         self.lists[at as usize].push(vertex)?;
         Ok(())
@@ -41,7 +42,8 @@ impl Waiting {
         requires { at < waiting_length self.old }
         ensures count { waiting_length self.new ≡ waiting_length self.old }
         ensures value { result.items ≡ waiting_at self.old at }
-        ensures after { (u : ℕ) → waiting_at self.new u ≡ cond (u == at) [] (waiting_at self.old u) }
+        ensures after { (u : ℕ) → waiting_at self.new u
+            ≡ cond (u == at) [] (waiting_at self.old u) }
     {
         mem::replace(&mut self.lists[at as usize], Vec::new(alloc))
     }

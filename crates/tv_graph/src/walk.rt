@@ -41,11 +41,13 @@ impl Walk {
         requires within { vertex < length self.old.entered.items }
         requires new { is_entered self.old vertex ≡ false }
         ensures count { length self.new.entered.items ≡ length self.old.entered.items }
-        ensures entered { (u : ℕ) → is_entered self.new u ≡ (is_entered self.old u || (u == vertex)) }
+        ensures entered { (u : ℕ) → is_entered self.new u
+            ≡ (is_entered self.old u || (u == vertex)) }
         ensures places { self.new.places.items ≡ self.old.places.items }
         ensures path { OnOk result (self.new.path.items ≡ self.old.path.items ++ vertex ∷ []) }
         ensures left { self.new.left.items ≡ self.old.left.items }
-        ensures fewer { count_by not self.new.entered.items + 1 ≡ count_by not self.old.entered.items }
+        ensures fewer { count_by not self.new.entered.items + 1
+            ≡ count_by not self.old.entered.items }
         ensures marks { (g : List (List ℕ)) → HasMarks g self.old → HasMarks g self.new }
     {
         self.entered[vertex as usize] = true;
@@ -58,7 +60,8 @@ impl Walk {
         requires vertex { vertex < length graph.now }
         requires marks { HasMarks graph.now self.old }
         ensures marks { HasMarks graph.now self.new }
-        ensures found { slice_get (before graph.now vertex) result ≡ find (λ u. not (is_entered self.old u)) (before graph.now vertex) }
+        ensures found { slice_get (before graph.now vertex) result
+            ≡ find (λ u. not (is_entered self.old u)) (before graph.now vertex) }
         ensures entered { self.new.entered.items ≡ self.old.entered.items }
         ensures path { self.new.path ≡ self.old.path }
         ensures left { self.new.left ≡ self.old.left }
@@ -74,11 +77,17 @@ impl Walk {
     fn go_on(&mut self, graph: &Graph, vertex: u32) -> Result<(), NoMemory>
         requires vertex { vertex < length graph.now }
         requires marks { HasMarks graph.now self.old }
-        requires walked { IsWalked graph.now (is_entered self.old) (self.old.path.items ++ vertex ∷ []) self.old.left.items }
+        requires walked { IsWalked graph.now (is_entered self.old) (self.old.path.items ++ vertex
+            ∷ []) self.old.left.items }
         ensures marks { OnOk result (HasMarks graph.now self.new) }
-        ensures walked { OnOk result (IsWalked graph.now (is_entered self.new) self.new.path.items self.new.left.items) }
-        ensures entered { OnOk result ((u : ℕ) → is_entered self.old u ≡ true → is_entered self.new u ≡ true) }
-        ensures as_many { OnOk result (count_by not self.new.entered.items + count_by not self.new.entered.items + vec_len self.new.path ≡ count_by not self.old.entered.items + count_by not self.old.entered.items + vec_len self.old.path) }
+        ensures walked { OnOk result (IsWalked graph.now (is_entered self.new) self.new.path.items
+            self.new.left.items) }
+        ensures entered { OnOk result ((u : ℕ) → is_entered self.old u ≡ true
+            → is_entered self.new u ≡ true) }
+        ensures as_many { OnOk result (count_by not self.new.entered.items
+            + count_by not self.new.entered.items + vec_len self.new.path
+            ≡ count_by not self.old.entered.items + count_by not self.old.entered.items
+            + vec_len self.old.path) }
     {
         let place = self.pass(graph, vertex);
         let before = graph.before(vertex);
@@ -99,8 +108,10 @@ impl Walk {
         requires walked { IsWalked graph.now (is_entered self.old) [] self.old.left.items }
         ensures marks { OnOk result (HasMarks graph.now self.new) }
         ensures path { OnOk result (self.new.path.items ≡ []) }
-        ensures walked { OnOk result (IsWalked graph.now (is_entered self.new) [] self.new.left.items) }
-        ensures entered { OnOk result ((u : ℕ) → is_entered self.old u ≡ true → is_entered self.new u ≡ true) }
+        ensures walked { OnOk result (IsWalked graph.now (is_entered self.new) []
+            self.new.left.items) }
+        ensures entered { OnOk result ((u : ℕ) → is_entered self.old u ≡ true
+            → is_entered self.new u ≡ true) }
         ensures itself { OnOk result (is_entered self.new vertex ≡ true) }
     {
         if self.entered[vertex as usize] {

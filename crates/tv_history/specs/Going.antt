@@ -20,7 +20,8 @@ is_progress _ = true
 
 -- twice the asks, four times the jobs, and the lists and passed faults, and one more
 abbrev pub most_entries : Meaning → ℕ
-most_entries m = 2 * sum_by (λ j. length j.asks) m.jobs + 4 * length m.jobs + length (levels m.steps) + 1
+most_entries m = 2 * sum_by (λ j. length j.asks) m.jobs + 4 * length m.jobs
+    + length (levels m.steps) + 1
 
 -- an entry that is legal next, and no recall
 abbrev pub Next : Giving → Meaning → History → Type 0

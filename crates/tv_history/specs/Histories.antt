@@ -20,7 +20,8 @@ use Rattle.tv_history.specs.Entries.{Entry, History, accepted, bounced, closed, 
 -- the asks that are still to come: each outcome that is accepted takes one
 abbrev pub asks_left : History → JobName → List Ask → List Ask
 asks_left [] n asks = asks
-asks_left (e ∷ past) n asks = if is_accepted n e then rest_of (asks_left past n asks) else asks_left past n asks
+asks_left (e ∷ past) n asks = if is_accepted n e then rest_of (asks_left past n asks)
+    else asks_left past n asks
 
 -- the next service try
 abbrev pub next_ask : History → Job → Option Ask
@@ -29,7 +30,8 @@ next_ask past j = first_of_list (asks_left past j.name j.asks)
 abbrev pub is_settled : History → Job → Bool
 is_settled past j =
     if is_bounced j.ending then list_any (is_bounced_entry j.name) past
-    else (if is_some j.opens then list_any (is_ended_entry j.name) past else is_none (next_ask past j))
+    else (if is_some j.opens then list_any (is_ended_entry j.name) past
+    else is_none (next_ask past j))
 
 abbrev pub has_entry : History → JobName → Bool
 has_entry past n = list_any (is_level_entry n) past
@@ -102,7 +104,8 @@ module _ (m : Meaning) where
   -- an instance can end once all its steps have ended
   abbrev pub can_end : History → JobName → Bool
   can_end past n =
-      is_open past n && list_all (λ s. if same_job n s.instance then all_known past s.ending else true) m.steps
+      is_open past n && list_all (λ s. if same_job n s.instance then all_known past s.ending
+      else true) m.steps
 
   abbrev pub instances : List JobName
   instances = [] ∷ filter_map (λ j. if is_some j.opens then Some j.name else None) m.jobs
@@ -176,16 +179,19 @@ size_of t = length (notes t)
 
 abbrev pub step_room : StepMeaning → ℕ
 step_room s =
-    sum_by (λ p. size_of p.1.value) s.inputs + sum_by (λ p. size_of p.1.value) s.outputs + size_of s.iteration
+    sum_by (λ p. size_of p.1.value) s.inputs + sum_by (λ p. size_of p.1.value) s.outputs
+    + size_of s.iteration
 
 module _ (m : Meaning) where
   -- the results kept: each output of each settled job in an open instance
   abbrev pub kept : History → ℕ
-  kept past = sum_by (λ j. if is_open past j.instance && is_settled past j then length j.result else 0) m.jobs
+  kept past = sum_by (λ j. if is_open past j.instance && is_settled past j then length j.result
+      else 0) m.jobs
 
   -- all nodes of the values and iterations of open instances
   abbrev pub room : History → ℕ
   room past =
       sum_by (λ s. if is_open past s.instance then step_room s else 0) m.steps
-      + sum_by (λ j. if has_open_instance past j then sum_by (λ v. size_of v) j.result else 0) m.jobs
+      + sum_by (λ j. if has_open_instance past j then sum_by (λ v. size_of v) j.result
+      else 0) m.jobs
       + (if is_open past [] then sum_by (λ o. size_of o.1) m.outputs else 0)

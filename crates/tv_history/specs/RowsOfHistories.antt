@@ -82,7 +82,8 @@ e = spot_of (codes "e") []
 -- the next try is the next attempt, and after the last one the next activity
 abbrev pub TriesInTurn : Type 0
 TriesInTurn =
-    (is_legal_run failing_over (out_first e ∷ in_wrong e ∷ handed_out e 0 1 ∷ accepted e 0 1 false ∷ handed_out e 1 0 ∷ accepted e 1 0 true ∷ ended [] ∷ []) ≡ true)
+    (is_legal_run failing_over (out_first e ∷ in_wrong e ∷ handed_out e 0 1 ∷ accepted e 0 1 false
+    ∷ handed_out e 1 0 ∷ accepted e 1 0 true ∷ ended [] ∷ []) ≡ true)
     × (is_legal_run failing_over (out_first e ∷ in_wrong e ∷ out_first e ∷ []) ≡ false)
     × (is_legal_run failing_over (out_first e ∷ in_wrong e ∷ handed_out e 1 0 ∷ []) ≡ false)
 
@@ -94,7 +95,8 @@ HandsOutAgainAfterRecall =
     is_legal_run two_steps (out_first p0 ∷ recalled 1 ∷ out_first p0 ∷ in_right p0 ∷ []) ≡ true
 
 abbrev pub TakesNoRecalledAnswer : Type 0
-TakesNoRecalledAnswer = is_legal_run two_steps (out_first p0 ∷ recalled 1 ∷ in_right p0 ∷ []) ≡ false
+TakesNoRecalledAnswer = is_legal_run two_steps (out_first p0 ∷ recalled 1 ∷ in_right p0 ∷ [])
+    ≡ false
 
 -- all that is out is recalled, where something is
 abbrev pub RecallsAllThatIsOut : Type 0
@@ -117,18 +119,21 @@ TakesFirstJob = is_legal_run two_steps (out_first p1 ∷ []) ≡ false
 abbrev pub KeepsLimitOfJobs : Type 0
 KeepsLimitOfJobs =
     (is_legal_run two_steps (out_first p0 ∷ out_first p1 ∷ []) ≡ false)
-    × (is_legal_run (two_steps_with 2) (out_first p0 ∷ out_first p1 ∷ in_right p1 ∷ in_right p0 ∷ []) ≡ true)
+    × (is_legal_run (two_steps_with 2) (out_first p0 ∷ out_first p1 ∷ in_right p1 ∷ in_right p0
+    ∷ []) ≡ true)
 
 -- a worker at each step: the second step's outcome comes before the first one's
 abbrev pub WorksOnBothSteps : Type 0
 WorksOnBothSteps =
-    is_legal_run two_steps (out_first p0 ∷ in_right p0 ∷ out_first q0 ∷ out_first p1 ∷ in_right q0 ∷ in_right p1 ∷ [])
+    is_legal_run two_steps (out_first p0 ∷ in_right p0 ∷ out_first q0 ∷ out_first p1 ∷ in_right q0
+    ∷ in_right p1 ∷ [])
     ≡ true
 
 -- where outcomes come in another order, so do the jobs on them
 abbrev pub TakesItemsAsTheyCome : Type 0
 TakesItemsAsTheyCome =
-    is_legal_run (two_steps_with 2) (out_first p0 ∷ out_first p1 ∷ in_right p1 ∷ out_first q1 ∷ in_right q1 ∷ in_right p0 ∷ out_first q0 ∷ [])
+    is_legal_run (two_steps_with 2) (out_first p0 ∷ out_first p1 ∷ in_right p1 ∷ out_first q1
+    ∷ in_right q1 ∷ in_right p0 ∷ out_first q0 ∷ [])
     ≡ true
 
 -- ---- lists and faults
@@ -177,8 +182,10 @@ u1 = spot_of (codes "u") (1 ∷ [])
 -- a job on a fault is bounced once the fault is made, though the step's one place is taken
 abbrev pub BouncesJobOnFault : Type 0
 BouncesJobOnFault =
-    (is_legal_run one_fails (out_first f0 ∷ in_right f0 ∷ out_first u0 ∷ out_first f1 ∷ in_wrong f1 ∷ bounced u1 ∷ []) ≡ true)
-    × (is_legal_run one_fails (out_first f0 ∷ in_right f0 ∷ out_first u0 ∷ out_first f1 ∷ bounced u1 ∷ []) ≡ false)
+    (is_legal_run one_fails (out_first f0 ∷ in_right f0 ∷ out_first u0 ∷ out_first f1 ∷ in_wrong f1
+    ∷ bounced u1 ∷ []) ≡ true)
+    × (is_legal_run one_fails (out_first f0 ∷ in_right f0 ∷ out_first u0 ∷ out_first f1 ∷ bounced u1
+    ∷ []) ≡ false)
     × (is_legal_run one_fails (out_first f0 ∷ in_right f0 ∷ bounced u0 ∷ []) ≡ false)
 
 -- ---- instances

@@ -56,7 +56,8 @@ module _ (m : Meaning) where
 module _ (gives : Giving) where
   -- the newest first
   abbrev pub try_entries : JobName → Ask → List Entry
-  try_entries n k = accepted n k.activity k.attempt (is_right gives k) ∷ handed_out n k.activity k.attempt ∷ []
+  try_entries n k = accepted n k.activity k.attempt (is_right gives k)
+      ∷ handed_out n k.activity k.attempt ∷ []
 
   abbrev pub job_entries : History → Job → List Entry
   job_entries past j = option_map_or (λ k. try_entries j.name k) (next_ask past j)

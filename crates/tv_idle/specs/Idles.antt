@@ -74,16 +74,40 @@ room_for false s = s.good_room
 
 -- one more job, which binds a fault or none, with the room that it takes
 abbrev pub with_idle : Bool → ℕ × List ℕ → StepIdle → StepIdle
-with_idle true j s = record { good = s.good; faulty = with_job j s.faulty; levels = s.levels; good_room = s.good_room; faulty_room = s.faulty_room - 1 }
-with_idle false j s = record { good = with_job j s.good; faulty = s.faulty; levels = s.levels; good_room = s.good_room - 1; faulty_room = s.faulty_room }
+with_idle true j s = record {
+  good = s.good;
+  faulty = with_job j s.faulty;
+  levels = s.levels;
+  good_room = s.good_room;
+  faulty_room = s.faulty_room - 1;
+}
+with_idle false j s = record {
+  good = with_job j s.good;
+  faulty = s.faulty;
+  levels = s.levels;
+  good_room = s.good_room - 1;
+  faulty_room = s.faulty_room;
+}
 
 abbrev pub without_job : ℕ → List (ℕ × List ℕ) → List (ℕ × List ℕ)
 without_job n js = filter (λ j. not (j.0 == n)) js
 
 -- all but one
 abbrev pub without : ℕ → StepIdle → StepIdle
-without n s = record { good = without_job n s.good; faulty = without_job n s.faulty; levels = s.levels; good_room = s.good_room; faulty_room = s.faulty_room }
+without n s = record {
+  good = without_job n s.good;
+  faulty = without_job n s.faulty;
+  levels = s.levels;
+  good_room = s.good_room;
+  faulty_room = s.faulty_room;
+}
 
 -- with the rooms of another
 abbrev pub with_rooms_of : StepIdle → StepIdle → StepIdle
-with_rooms_of r s = record { good = s.good; faulty = s.faulty; levels = s.levels; good_room = r.good_room; faulty_room = r.faulty_room }
+with_rooms_of r s = record {
+  good = s.good;
+  faulty = s.faulty;
+  levels = s.levels;
+  good_room = r.good_room;
+  faulty_room = r.faulty_room;
+}

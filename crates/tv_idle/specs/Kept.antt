@@ -42,7 +42,8 @@ are_below n js = list_all (λ j. nat_lt j.0 n) js
 -- none stands after one that follows
 abbrev pub are_in_order : List (ℕ × List ℕ) → Bool
 are_in_order [] = true
-are_in_order (j ∷ js) = list_all (λ k. not (is_lt (slice_cmp nat_cmp k.1 j.1))) js && are_in_order js
+are_in_order (j ∷ js) = list_all (λ k. not (is_lt (slice_cmp nat_cmp k.1 j.1))) js
+    && are_in_order js
 
 pub record IsKept (gone : ℕ → Bool) (known : ℕ) (js : List (ℕ × List ℕ)) : Type 0 where
   pub below : are_below known js ≡ true
@@ -84,7 +85,14 @@ queue_for false q = q.good
 -- ---- all steps
 
 abbrev pub no_queues : Queues
-no_queues = record { good = record { jobs = []; levels = 0; room = 0 }; faulty = record { jobs = []; levels = 0; room = 0 } }
+no_queues = record {
+  good = record { jobs = []; levels = 0; room = 0 };
+  faulty = record {
+    jobs = [];
+    levels = 0;
+    room = 0;
+  };
+}
 
 abbrev pub queues_of : List Queues → ℕ → Queues
 queues_of qs k = slice_index_or qs k no_queues
@@ -95,7 +103,8 @@ stands_at n q = has_job n q.good.jobs || has_job n q.faulty.jobs
 -- each job stands at one step at most, and one that hasn't gone is idle at some
 pub record AreAllKept (gone : ℕ → Bool) (known : ℕ) (qs : List Queues) : Type 0 where
   pub each : (k : ℕ) → AreKept gone known (queues_of qs k)
-  pub apart : (n k l : ℕ) → stands_at n (queues_of qs k) ≡ true → stands_at n (queues_of qs l) ≡ true → k ≡ l
+  pub apart : (n k l : ℕ) → stands_at n (queues_of qs k) ≡ true → stands_at n (queues_of qs l)
+      ≡ true → k ≡ l
   pub idle : (n : ℕ) → n < known → gone n ≡ false → is_idle (map (shown gone) qs) n ≡ true
 
 -- how many stand in the queue of those that bind a fault, of one step and of all

@@ -62,7 +62,8 @@ impl Boxed {
     pub(crate) fn put(&mut self, number: u32, place: &[u32], faulty: bool)
         requires room { 0 < (queue_for faulty self.old).room }
         requires levels { length place.now ≡ (queue_for faulty self.old).levels }
-        ensures grown { IsGrown (number, place.now) (queue_for faulty self.old) (queue_for faulty self.new) }
+        ensures grown { IsGrown (number, place.now) (queue_for faulty self.old)
+            (queue_for faulty self.new) }
         ensures other { queue_for (not faulty) self.new ≡ queue_for (not faulty) self.old }
     {
         self.inside.put(number, place, faulty);

@@ -166,7 +166,8 @@ impl Idle {
     /// a job is dropped once, that is a logarithm for each call, spread over all of them.
     pub fn remove(&mut self, step: u32, number: u32)
         requires { is_idle_at number (of_step self.old.steps step) ≡ true }
-        ensures steps { self.new.steps ≡ slice_set self.old.steps step (without number (of_step self.old.steps step)) }
+        ensures steps { self.new.steps
+            ≡ slice_set self.old.steps step (without number (of_step self.old.steps step)) }
         ensures known { self.new.known ≡ self.old.known }
         ensures room { self.new.room ≡ self.old.room }
     {
@@ -204,7 +205,8 @@ impl Idle {
     /// one that was known first.
     pub fn first(&self, step: u32) -> Option<u32>
         requires { step < length self.now.steps }
-        ensures { result ≡ first_of (of_step self.now.steps step).good (of_step self.now.steps step).faulty }
+        ensures { result ≡ first_of (of_step self.now.steps step).good
+            (of_step self.now.steps step).faulty }
     {
         self.queues[step as usize].read().first()
     }

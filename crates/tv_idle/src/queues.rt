@@ -54,7 +54,8 @@ impl Queues {
     pub(crate) fn put(&mut self, number: u32, place: &[u32], faulty: bool)
         requires room { 0 < (queue_for faulty self.old).room }
         requires levels { length place.now ≡ (queue_for faulty self.old).levels }
-        ensures grown { IsGrown (number, place.now) (queue_for faulty self.old) (queue_for faulty self.new) }
+        ensures grown { IsGrown (number, place.now) (queue_for faulty self.old)
+            (queue_for faulty self.new) }
         ensures other { queue_for (not faulty) self.new ≡ queue_for (not faulty) self.old }
     {
         if faulty {
@@ -81,7 +82,8 @@ impl Queues {
 
     /// Whether there is one.
     pub(crate) fn has_some(&self) -> bool
-        ensures { result ≡ (not (length self.now.good.jobs == 0) || not (length self.now.faulty.jobs == 0)) }
+        ensures { result ≡ (not (length self.now.good.jobs == 0) || not (length self.now.faulty.jobs
+            == 0)) }
     {
         !self.good.is_empty() || !self.faulty.is_empty()
     }
@@ -111,7 +113,8 @@ impl Queues {
     /// The first job of both queues after a place, of those that haven't gone. Takes no memory. Logarithmic, and linear in those
     /// that came late, and in those that have gone and stand between the place and the answer.
     pub(crate) fn first_after(&self, place: &[u32], gone: &[bool]) -> Option<u32>
-        ensures { result ≡ first_of (sought place.now gone.now self.now.good.jobs) (sought place.now gone.now self.now.faulty.jobs) }
+        ensures { result ≡ first_of (sought place.now gone.now self.now.good.jobs)
+            (sought place.now gone.now self.now.faulty.jobs) }
     {
         let good = self.good.first_after(place, gone);
         let faulty = self.faulty.first_after(place, gone);

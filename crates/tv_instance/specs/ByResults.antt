@@ -94,7 +94,10 @@ module _ (instance : JobName) where
     step_by made s =
         let delivers = feed_delivers step_of given made in
         let before = endings_of step_of made s.1.after in
-        record { step = step_on (result_at results s.0) delivers before s; jobs = jobs_on delivers before s }
+        record {
+          step = step_on (result_at results s.0) delivers before s;
+          jobs = jobs_on delivers before s;
+        }
 
     -- the steps by rank, the last first
     abbrev pub steps_by : List InstanceStep → List (Name × Step) → List InstanceStep

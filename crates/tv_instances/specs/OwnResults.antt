@@ -24,7 +24,11 @@ abbrev pub outside_of_opened : Opened → JobOutside
 outside_of_opened o = record { name = o.job.name; inputs = o.job.inputs; waits = o.job.waits }
 
 abbrev pub outside_of_placed : JobName → PlacedJob → JobOutside
-outside_of_placed instance j = record { name = spot instance j.step j.place; inputs = j.inputs; waits = j.waits }
+outside_of_placed instance j = record {
+  name = spot instance j.step j.place;
+  inputs = j.inputs;
+  waits = j.waits;
+}
 
 -- a step with its jobs, as a meaning has it and as it is by results
 abbrev pub outside_of_made : Made → StepMeaning × List JobOutside
@@ -44,7 +48,8 @@ results_of instance ms s q =
     (find (λ m. same_name s m.step.step) ms) []
 
 -- each job of a step gives values of the depths that the step declares, and so do those of the steps that are made after it
-module _ (gives : Giving) (inside : Name → JobName → List (Name × Value) → Meaning) (instance : JobName)
+module _ (gives : Giving) (inside : Name → JobName → List (Name × Value) → Meaning)
+    (instance : JobName)
     (given : List (Name × Delivered)) where
   abbrev pub AllMadeGive : List Made → List (Name × Step) → Type 0
   AllMadeGive ms [] = Unit {0}

@@ -7,4 +7,5 @@ IsSentOf before after piece = (bytes : List ℕ) → before ≡ Some bytes → a
 
 -- told bytes are followed by a beginning of the text, which isn't the whole
 abbrev pub IsCutShort : Option (List ℕ) → Option (List ℕ) → List ℕ → Type 0
-IsCutShort before after text = (count : ℕ) × (count < length text) × IsSentOf before after (take count text)
+IsCutShort before after text = (count : ℕ) × (count < length text)
+    × IsSentOf before after (take count text)

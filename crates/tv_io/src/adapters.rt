@@ -39,13 +39,18 @@ impl<R: Read> Source for ReaderSource<R> {
     /// One read of the reader.
     fn read(&mut self, into: &mut [u8]) -> Result<usize, Failed>
         ensures bound { IfOk result (λ count. count ≤ length into.old) }
-        ensures ok { IfOk result (λ count. IsReadOf (R.remaining (source_reader self.old)) (R.remaining (source_reader self.new)) (take count into.new)) }
-        ensures end { IfOk result (λ count. 0 < length into.old → IsNoneAtEnd (R.remaining (source_reader self.old)) count) }
-        ensures failed { OnErr result (IsKept (R.remaining (source_reader self.old)) (R.remaining (source_reader self.new))) }
-        ensures counted { OnErr result (HasRisen (source_faults self.old) (source_faults self.new)) }
+        ensures ok { IfOk result (λ count. IsReadOf (R.remaining (source_reader self.old))
+            (R.remaining (source_reader self.new)) (take count into.new)) }
+        ensures end { IfOk result (λ count. 0 < length into.old
+            → IsNoneAtEnd (R.remaining (source_reader self.old)) count) }
+        ensures failed { OnErr result (IsKept (R.remaining (source_reader self.old))
+            (R.remaining (source_reader self.new))) }
+        ensures counted { OnErr result (HasRisen (source_faults self.old)
+            (source_faults self.new)) }
         ensures never_falls { source_faults self.old ≤ source_faults self.new }
 
-        ensures faults { source_faults self.new ≡ (if is_ok result then source_faults self.old else one_more (source_faults self.old)) }
+        ensures faults { source_faults self.new ≡ (if is_ok result then source_faults self.old
+            else one_more (source_faults self.old)) }
     {
         match self.reader.read(into) {
             Ok(count) => Ok(count),
@@ -87,13 +92,16 @@ impl<W: Write> Sink for WriterSink<W> {
     /// One write of the writer.
     fn write(&mut self, bytes: &[u8]) -> Result<usize, Failed>
         ensures bound { IfOk result (λ count. count ≤ length bytes.now) }
-        ensures ok { IfOk result (λ count. IsSentOf (W.contents (sink_writer self.old)) (W.contents (sink_writer self.new)) (take count bytes.now)) }
+        ensures ok { IfOk result (λ count. IsSentOf (W.contents (sink_writer self.old))
+            (W.contents (sink_writer self.new)) (take count bytes.now)) }
         ensures moves { IfOk result (λ count. 0 < length bytes.now → 0 < count) }
-        ensures failed { OnErr result (IsKept (W.contents (sink_writer self.old)) (W.contents (sink_writer self.new))) }
+        ensures failed { OnErr result (IsKept (W.contents (sink_writer self.old))
+            (W.contents (sink_writer self.new))) }
         ensures counted { OnErr result (HasRisen (sink_faults self.old) (sink_faults self.new)) }
         ensures never_falls { sink_faults self.old ≤ sink_faults self.new }
 
-        ensures faults { sink_faults self.new ≡ (if is_ok result then sink_faults self.old else one_more (sink_faults self.old)) }
+        ensures faults { sink_faults self.new ≡ (if is_ok result then sink_faults self.old
+            else one_more (sink_faults self.old)) }
     {
         match self.writer.write(bytes) {
             Ok(count) if 0 < count || bytes.is_empty() => Ok(count),

@@ -67,16 +67,20 @@ impl Source for MemorySource {
     /// Its cost is linear in the bytes served and in the numbers of failing calls.
     fn read(&mut self, into: &mut [u8]) -> Result<usize, Failed>
         ensures bound { IfOk result (λ count. count ≤ length into.old) }
-        ensures ok { IfOk result (λ count. IsReadOf (Some self.old.left) (Some self.new.left) (take count into.new)) }
-        ensures end { IfOk result (λ count. 0 < length into.old → IsNoneAtEnd (Some self.old.left) count) }
+        ensures ok { IfOk result (λ count. IsReadOf (Some self.old.left) (Some self.new.left)
+            (take count into.new)) }
+        ensures end { IfOk result (λ count. 0 < length into.old → IsNoneAtEnd (Some self.old.left)
+            count) }
         ensures failed { OnErr result (IsKept (Some self.old.left) (Some self.new.left)) }
         ensures counted { OnErr result (HasRisen self.old.faults self.new.faults) }
         ensures never_falls { self.old.faults ≤ self.new.faults }
 
         ensures fails_where_listed { IsErr result ↔ Contains self.old.failing self.new.calls }
-        ensures serves { IfOk result (λ count. count ≡ min self.old.piece (min (length into.old) (length self.old.left))) }
+        ensures serves { IfOk result (λ count. count
+            ≡ min self.old.piece (min (length into.old) (length self.old.left))) }
         ensures call { self.new.calls ≡ one_more self.old.calls }
-        ensures faults { self.new.faults ≡ (if is_ok result then self.old.faults else one_more self.old.faults) }
+        ensures faults { self.new.faults ≡ (if is_ok result then self.old.faults
+            else one_more self.old.faults) }
         ensures piece_stays { self.new.piece ≡ self.old.piece }
         ensures failing_stays { self.new.failing ≡ self.old.failing }
     {
@@ -163,16 +167,20 @@ impl Sink for MemorySink {
     /// Its cost is linear in the bytes taken and in the numbers of failing calls. It takes no memory.
     fn write(&mut self, bytes: &[u8]) -> Result<usize, Failed>
         ensures bound { IfOk result (λ count. count ≤ length bytes.now) }
-        ensures ok { IfOk result (λ count. IsSentOf (Some self.old.sent) (Some self.new.sent) (take count bytes.now)) }
+        ensures ok { IfOk result (λ count. IsSentOf (Some self.old.sent) (Some self.new.sent)
+            (take count bytes.now)) }
         ensures moves { IfOk result (λ count. 0 < length bytes.now → 0 < count) }
         ensures failed { OnErr result (IsKept (Some self.old.sent) (Some self.new.sent)) }
         ensures counted { OnErr result (HasRisen self.old.faults self.new.faults) }
         ensures never_falls { self.old.faults ≤ self.new.faults }
 
-        ensures fails_where_listed_or_full { IsErr result ↔ (Contains self.old.failing self.new.calls ⊎ (length self.old.sent ≡ self.old.room)) }
-        ensures takes { IfOk result (λ count. count ≡ min self.old.piece (min (length bytes.now) (self.old.room - length self.old.sent))) }
+        ensures fails_where_listed_or_full { IsErr result
+            ↔ (Contains self.old.failing self.new.calls ⊎ (length self.old.sent ≡ self.old.room)) }
+        ensures takes { IfOk result (λ count. count
+            ≡ min self.old.piece (min (length bytes.now) (self.old.room - length self.old.sent))) }
         ensures call { self.new.calls ≡ one_more self.old.calls }
-        ensures faults { self.new.faults ≡ (if is_ok result then self.old.faults else one_more self.old.faults) }
+        ensures faults { self.new.faults ≡ (if is_ok result then self.old.faults
+            else one_more self.old.faults) }
         ensures room_stays { self.new.room ≡ self.old.room }
         ensures piece_stays { self.new.piece ≡ self.old.piece }
         ensures failing_stays { self.new.failing ≡ self.old.failing }

@@ -19,7 +19,8 @@ pub trait Sink {
     /// Takes the first bytes of `bytes`, at least one where there is one, and answers how many.
     fn write(&mut self, bytes: &[u8]) -> Result<usize, Failed>
         ensures bound { IfOk result (λ count. count ≤ length bytes.now) }
-        ensures ok { IfOk result (λ count. IsSentOf (sent self.old) (sent self.new) (take count bytes.now)) }
+        ensures ok { IfOk result (λ count. IsSentOf (sent self.old) (sent self.new)
+            (take count bytes.now)) }
         ensures moves { IfOk result (λ count. 0 < length bytes.now → 0 < count) }
         ensures failed { OnErr result (IsKept (sent self.old) (sent self.new)) }
         ensures counted { OnErr result (HasRisen (faults self.old) (faults self.new)) }

@@ -24,8 +24,10 @@ pub trait Source {
     /// empty is the end of input. What stands behind them in `into` afterwards isn't said.
     fn read(&mut self, into: &mut [u8]) -> Result<usize, Failed>
         ensures bound { IfOk result (λ count. count ≤ length into.old) }
-        ensures ok { IfOk result (λ count. IsReadOf (left self.old) (left self.new) (take count into.new)) }
-        ensures end { IfOk result (λ count. 0 < length into.old → IsNoneAtEnd (left self.old) count) }
+        ensures ok { IfOk result (λ count. IsReadOf (left self.old) (left self.new)
+            (take count into.new)) }
+        ensures end { IfOk result (λ count. 0 < length into.old
+            → IsNoneAtEnd (left self.old) count) }
         ensures failed { OnErr result (IsKept (left self.old) (left self.new)) }
         ensures counted { OnErr result (HasRisen (faults self.old) (faults self.new)) }
         ensures never_falls { faults self.old ≤ faults self.new };
@@ -41,11 +43,14 @@ pub fn read_all<S: Source>(
     source: &mut S,
     limit: usize,
 ) -> Result<Vec<u8>, ReadAllFault>
-    ensures ok { IfOk result (λ bytes. IsReadWhole (S.left source.old) (S.left source.new) bytes.items) }
+    ensures ok { IfOk result (λ bytes. IsReadWhole (S.left source.old) (S.left source.new)
+        bytes.items) }
     ensures within { IfOk result (λ bytes. vec_len bytes ≤ limit) }
 
-    ensures too_long { IsErrOf result ReadAllFault.TooLong → IsLongerThan limit (S.left source.old) }
-    ensures fault { IsErrOf result ReadAllFault.ReadFault → HasRisen (S.faults source.old) (S.faults source.new) }
+    ensures too_long { IsErrOf result ReadAllFault.TooLong
+        → IsLongerThan limit (S.left source.old) }
+    ensures fault { IsErrOf result ReadAllFault.ReadFault → HasRisen (S.faults source.old)
+        (S.faults source.new) }
 
     ensures taken { TakesAtMost (limit + 1) (S.left source.old) (S.left source.new) }
     ensures never_falls { S.faults source.old ≤ S.faults source.new }
@@ -70,15 +75,19 @@ fn read_more<S: Source>(
     requires some { 0 < length piece.old }
     requires within { vec_len bytes.old ≤ limit }
 
-    ensures ok { OnOk result (IsReadOnto (S.left source.old) (S.left source.new) bytes.old.items bytes.new.items) }
+    ensures ok { OnOk result (IsReadOnto (S.left source.old) (S.left source.new) bytes.old.items
+        bytes.new.items) }
     ensures grows { IfOk result (λ count. vec_len bytes.new ≡ vec_len bytes.old + count) }
     ensures fits { OnOk result (vec_len bytes.new ≤ limit) }
     ensures end { IfOk result (λ count. IsNoneAtEnd (S.left source.old) count) }
 
-    ensures too_long { IsErrOf result ReadAllFault.TooLong → IsLongerThan (limit - vec_len bytes.old) (S.left source.old) }
-    ensures fault { IsErrOf result ReadAllFault.ReadFault → HasRisen (S.faults source.old) (S.faults source.new) }
+    ensures too_long { IsErrOf result ReadAllFault.TooLong
+        → IsLongerThan (limit - vec_len bytes.old) (S.left source.old) }
+    ensures fault { IsErrOf result ReadAllFault.ReadFault → HasRisen (S.faults source.old)
+        (S.faults source.new) }
 
-    ensures taken { TakesAtMost (limit - vec_len bytes.old + 1) (S.left source.old) (S.left source.new) }
+    ensures taken { TakesAtMost (limit - vec_len bytes.old + 1) (S.left source.old)
+        (S.left source.new) }
     ensures never_falls { S.faults source.old ≤ S.faults source.new }
 {
     let room = limit - bytes.len();

@@ -46,8 +46,10 @@ impl Source for SteadySource {
         ensures infallible { IsOk result }
         ensures serves { IfOk result (λ count. count ≡ min (length into.old) (length self.old)) }
         ensures bound { IfOk result (λ count. count ≤ length into.old) }
-        ensures ok { IfOk result (λ count. IsReadOf (Some self.old) (Some self.new) (take count into.new)) }
-        ensures end { IfOk result (λ count. 0 < length into.old → IsNoneAtEnd (Some self.old) count) }
+        ensures ok { IfOk result (λ count. IsReadOf (Some self.old) (Some self.new)
+            (take count into.new)) }
+        ensures end { IfOk result (λ count. 0 < length into.old
+            → IsNoneAtEnd (Some self.old) count) }
     {
         let left = &self.bytes[self.at..];
         let count = into.len().min(left.len());

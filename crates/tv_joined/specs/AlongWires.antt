@@ -38,7 +38,12 @@ levels_walked k None = k
 levels_walked k (Some i) = k - 1
 
 abbrev pub way_of : Wire → Way
-way_of w = record { leaf = w.leaf; output = w.output; levels = levels_walked w.levels w.link; item = w.link }
+way_of w = record {
+  leaf = w.leaf;
+  output = w.output;
+  levels = levels_walked w.levels w.link;
+  item = w.link;
+}
 
 -- it leads into step c, to a port that walks some levels
 abbrev pub leads_into : ℕ → Wire → Bool
@@ -115,7 +120,8 @@ AreWholeWith turned whole t ports ws =
 
 -- whether the port takes its feed at once, and has all of it with step t
 abbrev pub takes_whole_with : Flow → (ℕ → Bool) → ℕ → Step → Name × StepInput → Bool
-takes_whole_with f whole t s i = has_whole_with whole t (port_among f (leaf_names (strategy_of s)) i)
+takes_whole_with f whole t s i = has_whole_with whole t (port_among f (leaf_names (strategy_of s))
+    i)
 
 -- with the values that stand there, the port is told what the theory of frames says, where these prefixes of the event's place
 -- become whole

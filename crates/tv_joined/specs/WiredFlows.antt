@@ -16,10 +16,12 @@ pub record IsWired (f : Flow) : Type 0 where
   -- no step comes before itself
   pub ranked : length (ranked f.steps) ≡ length f.steps
   -- each link comes from an input or an output that is there
-  pub links : list_all (λ s. list_all (λ i. list_all (is_there f) (feed_links i.1.from)) s.1.inputs) f.steps ≡ true
+  pub links : list_all (λ s. list_all (λ i. list_all (is_there f) (feed_links i.1.from)) s.1.inputs)
+      f.steps ≡ true
   -- each port is a leaf of its step's strategy
   pub leaves :
-      list_all (λ s. list_all (λ i. list_any (same_name i.0) (leaf_names (strategy_of s.1))) s.1.inputs) f.steps ≡ true
+      list_all (λ s. list_all (λ i. list_any (same_name i.0) (leaf_names (strategy_of s.1)))
+      s.1.inputs) f.steps ≡ true
 
 abbrev pub AcceptedFlowsAreWired : Type 0
 AcceptedFlowsAreWired = (f : Flow) → IsOfDocument f → IsWired f

@@ -21,7 +21,8 @@ use tv_value::{Depths, Names, NoMemory, Tree, Trees};
 /// It reads back as the same document, where that has at most 16 inputs. Linear in the document, and in the logarithm of the number of names in each object.
 pub fn json_of_document(alloc: Global, document: &Document) -> Result<Json, NoMemory>
     ensures json { IfOk result (λ j. json_view j ≡ document_json (document_view document.now)) }
-    ensures reads_back { IfOk result (λ j. length document.now.inputs ≤ 16 → form_of (json_view j) ≡ Ok (document_view document.now)) }
+    ensures reads_back { IfOk result (λ j. length document.now.inputs ≤ 16 → form_of (json_view j)
+        ≡ Ok (document_view document.now)) }
 {
     let json = document_tree(alloc, document)?;
     Ok(json)
@@ -48,7 +49,9 @@ fn document_object(
     main: &str,
     format: u32,
 ) -> Result<Json, AllocError>
-    ensures { IfOk result (λ j. json_view j ≡ object (members ((codes "flows", json_view flows) ∷ (codes "inputs", json_view inputs) ∷ (codes "main", string main.now) ∷ (codes "taverna", number (unsigned format)) ∷ []))) }
+    ensures { IfOk result (λ j. json_view j
+        ≡ object (members ((codes "flows", json_view flows) ∷ (codes "inputs", json_view inputs)
+        ∷ (codes "main", string main.now) ∷ (codes "taverna", number (unsigned format)) ∷ []))) }
 {
     json!(in alloc; {"flows": flows, "inputs": inputs, "main": main, "taverna": format})
 }
@@ -78,7 +81,9 @@ impl Printed for Link {
 }
 
 fn output(alloc: Global, step: &str, port: &str) -> Result<Json, AllocError>
-    ensures { IfOk result (λ j. json_view j ≡ object (members ((codes "port", string port.now) ∷ (codes "step", string step.now) ∷ []))) }
+    ensures { IfOk result (λ j. json_view j
+        ≡ object (members ((codes "port", string port.now) ∷ (codes "step", string step.now)
+        ∷ []))) }
 {
     json!(in alloc; {"port": port, "step": step})
 }
@@ -173,7 +178,8 @@ impl Printed for Step {
 
 /// All fields of a step but its strategy.
 fn required_fields(alloc: Global, step: &Step) -> Result<Map<String, Json>, NoMemory>
-    ensures { IfOk result (λ ms. members_view ms.entries ≡ members (step_members (step_view step.now))) }
+    ensures { IfOk result (λ ms. members_view ms.entries
+        ≡ members (step_members (step_view step.now))) }
 {
     let activities = array(alloc, step.activities.as_slice())?;
     let after = json_of_names(alloc, &step.after)?;
@@ -199,7 +205,11 @@ fn step_fields(
     outputs: Json,
     retries: u32,
 ) -> Result<Map<String, Json>, AllocError>
-    ensures { IfOk result (λ ms. members_view ms.entries ≡ members ((codes "activities", json_view activities) ∷ (codes "after", json_view after) ∷ (codes "inputs", json_view inputs) ∷ (codes "jobs", number (unsigned jobs)) ∷ (codes "outputs", json_view outputs) ∷ (codes "retries", number (unsigned retries)) ∷ [])) }
+    ensures { IfOk result (λ ms. members_view ms.entries
+        ≡ members ((codes "activities", json_view activities) ∷ (codes "after", json_view after)
+        ∷ (codes "inputs", json_view inputs) ∷ (codes "jobs", number (unsigned jobs))
+        ∷ (codes "outputs", json_view outputs) ∷ (codes "retries", number (unsigned retries))
+        ∷ [])) }
 {
     let mut members = Map::new(alloc);
     serde_json::put(&mut members, alloc, "activities", activities)?;
@@ -239,7 +249,9 @@ impl Printed for Flow {
 }
 
 fn flow_object(alloc: Global, inputs: Json, outputs: Json, steps: Json) -> Result<Json, AllocError>
-    ensures { IfOk result (λ j. json_view j ≡ object (members ((codes "inputs", json_view inputs) ∷ (codes "outputs", json_view outputs) ∷ (codes "steps", json_view steps) ∷ []))) }
+    ensures { IfOk result (λ j. json_view j
+        ≡ object (members ((codes "inputs", json_view inputs) ∷ (codes "outputs", json_view outputs)
+        ∷ (codes "steps", json_view steps) ∷ []))) }
 {
     json!(in alloc; {"inputs": inputs, "outputs": outputs, "steps": steps})
 }

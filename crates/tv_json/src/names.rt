@@ -30,13 +30,15 @@ pub fn job_text(alloc: Global, job: &JobName) -> Result<String, NoMemory>
 }
 
 fn push_level(text: &mut String, level: &(Name, Place)) -> Result<(), NoMemory>
-    ensures { OnOk result (string_bytes text.new ≡ string_bytes text.old ++ element_text level.now) }
+    ensures { OnOk result (string_bytes text.new ≡ string_bytes text.old
+        ++ element_text level.now) }
 {
     push_element(text, &level.0, &level.1)
 }
 
 fn push_element(text: &mut String, name: &Name, place: &Place) -> Result<(), NoMemory>
-    ensures { OnOk result (string_bytes text.new ≡ string_bytes text.old ++ element_text (name.now, place.now)) }
+    ensures { OnOk result (string_bytes text.new ≡ string_bytes text.old
+        ++ element_text (name.now, place.now)) }
 {
     text.push_str(name.as_str())?;
     text.push_str("[")?;
@@ -46,7 +48,8 @@ fn push_element(text: &mut String, name: &Name, place: &Place) -> Result<(), NoM
 }
 
 fn push_indices(text: &mut String, indices: &[u32]) -> Result<(), NoMemory>
-    ensures { OnOk result (string_bytes text.new ≡ string_bytes text.old ++ places_text indices.now) }
+    ensures { OnOk result (string_bytes text.new ≡ string_bytes text.old
+        ++ places_text indices.now) }
 {
     for place in 0..indices.len() {
         push_between(text, place, ",")?;
@@ -64,7 +67,8 @@ fn push_index(text: &mut String, index: u32) -> Result<(), NoMemory>
 
 /// A separator, before all but the first of a list.
 fn push_between(text: &mut String, index: usize, separator: &str) -> Result<(), NoMemory>
-    ensures { OnOk result (string_bytes text.new ≡ string_bytes text.old ++ between index separator.now) }
+    ensures { OnOk result (string_bytes text.new ≡ string_bytes text.old
+        ++ between index separator.now) }
 {
     if index > 0 {
         text.push_str(separator)?;

@@ -52,7 +52,15 @@ fn error_object(
     from: &Json,
     why: &str,
 ) -> Result<Json, AllocError>
-    ensures { IfOk result (λ j. json_view j ≡ object (members ((codes "error", object (members ((codes "at", string at.now) ∷ (codes "depth", number (unsigned depth)) ∷ (codes "from", json_view from.now) ∷ (codes "why", string why.now) ∷ []))) ∷ []))) }
+    ensures { IfOk result (λ j. json_view j
+        ≡ object
+        (members
+        ((
+          codes "error",
+          object (members ((codes "at", string at.now)
+              ∷ (codes "depth", number (unsigned depth)) ∷ (codes "from", json_view from.now)
+              ∷ (codes "why", string why.now) ∷ [])),
+        ) ∷ []))) }
 {
     json!(in alloc; {"error": {"at": at, "depth": depth, "from": from, "why": why}})
 }
@@ -74,10 +82,12 @@ fn strings_of_names(alloc: Global, names: &JobNames) -> Result<Vec<Json>, NoMemo
 /// it has the tree's items and members in order, and it reads back as the tree, if that is nested no deeper than reading
 /// goes. Linear in the tree.
 pub fn compact(alloc: Global, json: &Json) -> Result<Text, NoMemory>
-    ensures text { IfOk result (λ t. has_float (json_view json.now) ≡ false → t ≡ compact_text (json_view json.now)) }
+    ensures text { IfOk result (λ t. has_float (json_view json.now) ≡ false → t
+        ≡ compact_text (json_view json.now)) }
     ensures no_space { IfOk result (λ t. t ≡ print (tokens t)) }
     ensures order { IfOk result (λ t. IsInOrder t (json_view json.now)) }
-    ensures reads_back { IfOk result (λ t. depth (json_view json.now) ≤ max_depth → read t ≡ Some (json_view json.now)) }
+    ensures reads_back { IfOk result (λ t. depth (json_view json.now) ≤ max_depth → read t
+        ≡ Some (json_view json.now)) }
 {
     Ok(Text::of(json.to_string(alloc)?))
 }

@@ -36,7 +36,8 @@ part_marks f (group i) = f i
 -- a group stands for what its parts stand for, of which each group was made before it
 abbrev pub group_marks : Groups → ℕ → List Mark
 group_marks [] i = []
-group_marks (g ∷ gs) i = if i == length gs then flat_map (part_marks (group_marks gs)) g else group_marks gs i
+group_marks (g ∷ gs) i = if i == length gs then flat_map (part_marks (group_marks gs)) g
+    else group_marks gs i
 
 abbrev pub marks_of : Groups → Part → List Mark
 marks_of gs p = part_marks (group_marks gs) p

@@ -24,7 +24,8 @@ pub record Leaf : Type 0 where
 abbrev pub LeadsIn : List Record → ℕ → Mark → Label → Type 0
 LeadsIn rs k (given x q) l = l ≡ (x, q)
 LeadsIn rs zero (made n) l = ⊥
-LeadsIn rs (suc k) (made n) l = (r : Record) × In r rs × (r.job ≡ n) × (m : Mark) × In m r.used × LeadsIn rs k m l
+LeadsIn rs (suc k) (made n) l = (r : Record) × In r rs × (r.job ≡ n) × (m : Mark) × In m r.used
+    × LeadsIn rs k m l
 
 abbrev pub Leads : List Record → Mark → Label → Type 0
 Leads rs m l = (k : ℕ) × LeadsIn rs k m l

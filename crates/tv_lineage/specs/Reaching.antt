@@ -14,7 +14,8 @@ Numbers = JobName → Option ℕ
 
 abbrev pub IsNumber : Kept → JobName → Option ℕ → Type 0
 IsNumber k n None = is_noted n k ≡ false
-IsNumber k n (Some i) = (suc i ≤ length k.groups) × (parts_by n k.jobs ≡ parts_in k.groups i) × (is_noted n k ≡ true)
+IsNumber k n (Some i) = (suc i ≤ length k.groups) × (parts_by n k.jobs ≡ parts_in k.groups i)
+    × (is_noted n k ≡ true)
 
 -- the numbers are those of what is kept
 abbrev pub AreNumbers : Numbers → Kept → Type 0
@@ -71,7 +72,8 @@ pub record Sees (ns : Numbers) (ps : List Part) (s t : Search) : Type 0 where
   pub seen : (p : Part) → In p ps → IsSeen ns t p
   pub still : (p : Part) → IsSeen ns s p → IsSeen ns t p
   pub found : (l : Label) → In l t.found → In l s.found ⊎ In (element l.0 l.1) ps
-  pub met : (i : ℕ) → IsMet t i → IsMet s i ⊎ (In i t.pending × ((p : Part) × In p ps × (number_of ns p ≡ Some i)))
+  pub met : (i : ℕ) → IsMet t i → IsMet s i
+      ⊎ (In i t.pending × ((p : Part) × In p ps × (number_of ns p ≡ Some i)))
   pub pending : (i : ℕ) → In i s.pending → In i t.pending
   pub due : (i : ℕ) → In i t.pending → In i s.pending ⊎ IsMet t i
   pub rises : Rises label_cmp s.found → Rises label_cmp t.found
@@ -81,9 +83,11 @@ pub record Sees (ns : Numbers) (ps : List Part) (s t : Search) : Type 0 where
 -- the invariant of a search from these parts: all that it holds is reached, and what is met was looked at or is pending
 pub record IsSearch (ns : Numbers) (k : Kept) (used : List Part) (s : Search) : Type 0 where
   pub found : (l : Label) → In l s.found → IsReached (records_of k) (all_marks k.groups used) l
-  pub met : (i : ℕ) → IsMet s i → (l : Label) → IsReached (records_of k) (group_marks k.groups i) l → IsReached (records_of k) (all_marks k.groups used) l
+  pub met : (i : ℕ) → IsMet s i → (l : Label) → IsReached (records_of k) (group_marks k.groups i) l
+      → IsReached (records_of k) (all_marks k.groups used) l
   pub began : (p : Part) → In p used → IsSeen ns s p
-  pub goes_on : (i : ℕ) → IsMet s i → In i s.pending ⊎ ((p : Part) → In p (parts_in k.groups i) → IsSeen ns s p)
+  pub goes_on : (i : ℕ) → IsMet s i → In i s.pending ⊎ ((p : Part) → In p (parts_in k.groups i)
+      → IsSeen ns s p)
   pub due : (i : ℕ) → In i s.pending → IsMet s i
   pub rises : Rises label_cmp s.found
   pub size : length s.met ≡ length k.groups

@@ -14,19 +14,23 @@ use Rattle.tv_lineage.specs.Touching.{Label, Mark, label_cmp, touches}
 -- `backward` has exactly the labels that are reached, in order, each once
 abbrev pub BackwardIsClosure : Type 0
 BackwardIsClosure =
-    (rs : List Record) (used : List Mark) → ((l : Label) → In l (backward rs used) ↔ IsReached rs used l) × Rises label_cmp (backward rs used)
+    (rs : List Record) (used : List Mark) → ((l : Label) → In l (backward rs used)
+    ↔ IsReached rs used l) × Rises label_cmp (backward rs used)
 
 -- so it is the only such list
 abbrev pub BackwardIsOnlyOne : Type 0
 BackwardIsOnlyOne =
-    (rs : List Record) (used : List Mark) (ls : List Label) → Rises label_cmp ls → ((l : Label) → In l ls ↔ IsReached rs used l) → ls ≡ backward rs used
+    (rs : List Record) (used : List Mark) (ls : List Label) → Rises label_cmp ls
+    → ((l : Label) → In l ls ↔ IsReached rs used l) → ls ≡ backward rs used
 
 -- the order of the records is of no account, nor that of the marks, nor how often one comes
 abbrev pub OrderIsOfNoAccount : Type 0
-OrderIsOfNoAccount = (rs ts : List Record) (us vs : List Mark) → HaveSame rs ts → HaveSame us vs → backward rs us ≡ backward ts vs
+OrderIsOfNoAccount = (rs ts : List Record) (us vs : List Mark) → HaveSame rs ts → HaveSame us vs
+    → backward rs us ≡ backward ts vs
 
 abbrev pub ForwardInAnyOrder : Type 0
-ForwardInAnyOrder = (rs ts : List Record) → HaveSame rs ts → (fs : List Leaf) (x : Name) (q : Place) → forward rs fs x q ≡ forward ts fs x q
+ForwardInAnyOrder = (rs ts : List Record) → HaveSame rs ts → (fs : List Leaf) (x : Name) (q : Place)
+    → forward rs fs x q ≡ forward ts fs x q
 
 abbrev pub ByStepInAnyOrder : Type 0
 ByStepInAnyOrder = (rs ts : List Record) → HaveSame rs ts → (s : Name) → by_step rs s ≡ by_step ts s
@@ -34,15 +38,18 @@ ByStepInAnyOrder = (rs ts : List Record) → HaveSame rs ts → (s : Name) → b
 -- the lineage of something is touched exactly where a label that is reached is
 abbrev pub MadeFromIsReached : Type 0
 MadeFromIsReached =
-    (rs : List Record) (x : Name) (q : Place) (used : List Mark) → (is_made_from rs x q used ≡ true) ↔ ((l : Label) × IsReached rs used l × (touches x q l ≡ true))
+    (rs : List Record) (x : Name) (q : Place) (used : List Mark) → (is_made_from rs x q used ≡ true)
+    ↔ ((l : Label) × IsReached rs used l × (touches x q l ≡ true))
 
 -- exactly the noted jobs of that step in the main flow, in order of place
 abbrev pub ByStepHasJobs : Type 0
 ByStepHasJobs =
-    (rs : List Record) (s : Name) (n : JobName) → In n (by_step rs s) ↔ ((q : Place) × (n ≡ job_at s q) × ((r : Record) × In r rs × (r.job ≡ job_at s q)))
+    (rs : List Record) (s : Name) (n : JobName) → In n (by_step rs s)
+    ↔ ((q : Place) × (n ≡ job_at s q) × ((r : Record) × In r rs × (r.job ≡ job_at s q)))
 
 abbrev pub ByStepInOrder : Type 0
-ByStepInOrder = (rs : List Record) (s : Name) → (qs : List Place) × Rises place_cmp qs × (by_step rs s ≡ map (job_at s) qs)
+ByStepInOrder = (rs : List Record) (s : Name) → (qs : List Place) × Rises place_cmp qs
+    × (by_step rs s ≡ map (job_at s) qs)
 
 -- ---- what is kept
 
@@ -63,19 +70,23 @@ module _ (ns : Numbers) (k : Kept) where
 
   abbrev pub SearchGoesOn : Type 0
   SearchGoesOn =
-      AreBefore k.groups → AreNumbers ns k → (used : List Part) (s t : Search) (rest : List ℕ) (i : ℕ)
-      → s.pending ≡ rest ++ i ∷ [] → IsSearch ns k used s → Sees ns (parts_in k.groups i) (record s { pending = rest }) t
+      AreBefore k.groups → AreNumbers ns k → (used : List Part) (s t : Search) (rest : List ℕ)
+      (i : ℕ)
+      → s.pending ≡ rest ++ i ∷ [] → IsSearch ns k used s
+      → Sees ns (parts_in k.groups i) (record s { pending = rest }) t
       → IsSearch ns k used t × (looks_left s ≡ suc (looks_left t))
 
   abbrev pub SearchFindsAll : Type 0
   SearchFindsAll =
       AreBefore k.groups → AreNumbers ns k → (used : List Part) (s : Search)
-      → s.pending ≡ [] → IsSearch ns k used s → s.found ≡ backward (records_of k) (all_marks k.groups used)
+      → s.pending ≡ [] → IsSearch ns k used s → s.found
+      ≡ backward (records_of k) (all_marks k.groups used)
 
   -- a table may be given any group that leads on to what it has, and is whole once no group does
   abbrev pub TableMayGrow : Type 0
   TableMayGrow =
-      AreBefore k.groups → AreNumbers ns k → (x : Name) (q : Place) (bs : List Bool) → AreTouched k x q bs → (i : ℕ)
+      AreBefore k.groups → AreNumbers ns k → (x : Name) (q : Place) (bs : List Bool)
+      → AreTouched k x q bs → (i : ℕ)
       → list_any (in_table ns x q bs) (parts_in k.groups i) ≡ true → IsTouched k x q (group i)
 
   abbrev pub TableIsWhole : Type 0
@@ -86,5 +97,6 @@ module _ (ns : Numbers) (k : Kept) where
 -- a table tells of anything whether it was made from the element
 abbrev pub TableTells : Type 0
 TableTells =
-    (k : Kept) → AreBefore k.groups → (x : Name) (q : Place) (t : Part → Bool) → IsTable k x q t → (used : List Part)
+    (k : Kept) → AreBefore k.groups → (x : Name) (q : Place) (t : Part → Bool) → IsTable k x q t
+    → (used : List Part)
     → list_any t used ≡ is_made_from (records_of k) x q (all_marks k.groups used)

@@ -15,7 +15,8 @@ is_met_by bs (Some i) = is_met bs i
 -- what holds of the parts that were made from an element that touches x at q
 module _ (k : Kept) (x : Name) (q : Place) where
   abbrev pub IsTouched : Part → Type 0
-  IsTouched p = (l : Label) × IsReached (records_of k) (marks_of k.groups p) l × (touches x q l ≡ true)
+  IsTouched p = (l : Label) × IsReached (records_of k) (marks_of k.groups p) l
+      × (touches x q l ≡ true)
 
   -- a table of the parts: it has no others, and what leads to one of them is one
   pub record IsTable (t : Part → Bool) : Type 0 where
@@ -35,10 +36,12 @@ AreTouched k x q bs = (i : ℕ) → is_met bs i ≡ true → IsTouched k x q (gr
 
 -- each of the first n groups that leads on to one in the table is in it
 abbrev pub AreClosed : Numbers → Groups → Name → Place → List Bool → ℕ → Type 0
-AreClosed ns gs x q bs n = (i : ℕ) → suc i ≤ n → list_any (in_table ns x q bs) (parts_in gs i) ≡ true → is_met bs i ≡ true
+AreClosed ns gs x q bs n = (i : ℕ) → suc i ≤ n → list_any (in_table ns x q bs) (parts_in gs i)
+    ≡ true → is_met bs i ≡ true
 
 -- from bs to cs one pass was made over the first n groups, which added some or found nothing to add
-pub record IsPass (ns : Numbers) (k : Kept) (x : Name) (q : Place) (n : ℕ) (bs cs : List Bool) (added : Bool) : Type 0 where
+pub record IsPass (ns : Numbers) (k : Kept) (x : Name) (q : Place) (n : ℕ) (bs cs : List Bool)
+    (added : Bool) : Type 0 where
   pub sound : AreTouched k x q bs → AreTouched k x q cs
   pub closed : added ≡ false → AreClosed ns k.groups x q cs n
   pub closer : unmet cs + (if added then 1 else 0) ≤ unmet bs

@@ -43,7 +43,10 @@ with_group ps k = record { jobs = k.jobs; groups = ps ∷ k.groups }
 
 -- with a new job, whose parts are a group too
 abbrev pub with_job : JobName → List kept.Part → Kept → Kept
-with_job n ps k = record { jobs = k.jobs ++ record { job = n; parts = ps } ∷ []; groups = ps ∷ k.groups }
+with_job n ps k = record {
+  jobs = k.jobs ++ record { job = n; parts = ps } ∷ [];
+  groups = ps ∷ k.groups;
+}
 
 abbrev pub parts_view : Entry → List kept.Part
 parts_view e = map part_view e.parts
@@ -58,7 +61,8 @@ kept_of es = record { jobs = filter_map job_view es; groups = reverse (map parts
 -- what records keep true: parts name only groups made before, and the numbers are those of the jobs
 pub record IsKept (ns : Numbers) (k : Kept) : Type 0 where
   pub before : AreBefore k.groups
-  pub jobs : (r : KeptRecord) → In r k.jobs → (p : kept.Part) → In p r.parts → IsBefore (length k.groups) p
+  pub jobs : (r : KeptRecord) → In r k.jobs → (p : kept.Part) → In p r.parts
+      → IsBefore (length k.groups) p
   pub numbers : AreNumbers ns k
 
 -- the place of a job of the main flow's step

@@ -136,7 +136,8 @@ impl Records {
         port: &Name,
         place: &Place,
     ) -> Result<OutPlaces, NoMemory>
-        ensures { IfOk result (λ ls. ls ≡ forward (records_of self.now) (map leaf_view leaves.now) port.now place.now) }
+        ensures { IfOk result (λ ls. ls ≡ forward (records_of self.now) (map leaf_view leaves.now)
+            port.now place.now) }
     {
         let entries = self.entries.as_slice();
         let made = table::of_element(alloc, entries, &self.numbers, port, place)?;

@@ -39,8 +39,10 @@ impl Search {
     /// Takes out the group that was met last.
     pub(crate) fn next(&mut self) -> Option<usize>
         ensures none { result ≡ None → (search_view self.old).pending ≡ [] }
-        ensures some { IfSome result (λ i. (search_view self.old).pending ≡ (search_view self.new).pending ++ i ∷ []) }
-        ensures others { search_view self.new ≡ record (search_view self.old) { pending = (search_view self.new).pending } }
+        ensures some { IfSome result (λ i. (search_view self.old).pending
+            ≡ (search_view self.new).pending ++ i ∷ []) }
+        ensures others { search_view self.new
+            ≡ record (search_view self.old) { pending = (search_view self.new).pending } }
     {
         self.pending.pop()
     }
@@ -48,7 +50,8 @@ impl Search {
     /// Sees a group: if it was not met before, it is to be looked at.
     fn see_group(&mut self, number: usize) -> Result<(), NoMemory>
         requires inside { suc number ≤ length (search_view self.old).met }
-        ensures { OnOk result ((ns : Numbers) → Sees ns (kept.group number ∷ []) (search_view self.old) (search_view self.new)) }
+        ensures { OnOk result ((ns : Numbers) → Sees ns (kept.group number ∷ [])
+            (search_view self.old) (search_view self.new)) }
     {
         if !self.met[number] {
             self.pending.push(number)?;
@@ -59,7 +62,8 @@ impl Search {
 
     /// Sees an element.
     fn see_element(&mut self, alloc: Global, port: &Name, place: &Place) -> Result<(), NoMemory>
-        ensures { OnOk result ((ns : Numbers) → Sees ns (kept.element port.now place.now ∷ []) (search_view self.old) (search_view self.new)) }
+        ensures { OnOk result ((ns : Numbers) → Sees ns (kept.element port.now place.now ∷ [])
+            (search_view self.old) (search_view self.new)) }
     {
         let port = port.copy(alloc)?;
         let place = place.copy(alloc)?;
@@ -74,8 +78,10 @@ impl Search {
         numbers: &BTreeMap<JobName, usize>,
         mark: &Mark,
     ) -> Result<(), NoMemory>
-        requires inside { AreInside (get job_name_cmp numbers.now) (length (search_view self.old).met) (mark_part mark.now ∷ []) }
-        ensures { OnOk result (Sees (get job_name_cmp numbers.now) (mark_part mark.now ∷ []) (search_view self.old) (search_view self.new)) }
+        requires inside { AreInside (get job_name_cmp numbers.now)
+            (length (search_view self.old).met) (mark_part mark.now ∷ []) }
+        ensures { OnOk result (Sees (get job_name_cmp numbers.now) (mark_part mark.now ∷ [])
+            (search_view self.old) (search_view self.new)) }
     {
         match mark {
             Mark::Given(port, place) => self.see_element(alloc, port, place),
@@ -93,8 +99,10 @@ impl Search {
         numbers: &BTreeMap<JobName, usize>,
         part: &Part,
     ) -> Result<(), NoMemory>
-        requires inside { AreInside (get job_name_cmp numbers.now) (length (search_view self.old).met) (part_view part.now ∷ []) }
-        ensures { OnOk result (Sees (get job_name_cmp numbers.now) (part_view part.now ∷ []) (search_view self.old) (search_view self.new)) }
+        requires inside { AreInside (get job_name_cmp numbers.now)
+            (length (search_view self.old).met) (part_view part.now ∷ []) }
+        ensures { OnOk result (Sees (get job_name_cmp numbers.now) (part_view part.now ∷ [])
+            (search_view self.old) (search_view self.new)) }
     {
         match part {
             Part::Single(mark) => self.see_mark(alloc, numbers, mark),
@@ -109,8 +117,10 @@ impl Search {
         numbers: &BTreeMap<JobName, usize>,
         marks: &[Mark],
     ) -> Result<(), NoMemory>
-        requires inside { AreInside (get job_name_cmp numbers.now) (length (search_view self.old).met) (map mark_part marks.now) }
-        ensures { OnOk result (Sees (get job_name_cmp numbers.now) (map mark_part marks.now) (search_view self.old) (search_view self.new)) }
+        requires inside { AreInside (get job_name_cmp numbers.now)
+            (length (search_view self.old).met) (map mark_part marks.now) }
+        ensures { OnOk result (Sees (get job_name_cmp numbers.now) (map mark_part marks.now)
+            (search_view self.old) (search_view self.new)) }
     {
         for mark in marks {
             self.see_mark(alloc, numbers, mark)?;
@@ -125,8 +135,10 @@ impl Search {
         numbers: &BTreeMap<JobName, usize>,
         parts: &[Part],
     ) -> Result<(), NoMemory>
-        requires inside { AreInside (get job_name_cmp numbers.now) (length (search_view self.old).met) (map part_view parts.now) }
-        ensures { OnOk result (Sees (get job_name_cmp numbers.now) (map part_view parts.now) (search_view self.old) (search_view self.new)) }
+        requires inside { AreInside (get job_name_cmp numbers.now)
+            (length (search_view self.old).met) (map part_view parts.now) }
+        ensures { OnOk result (Sees (get job_name_cmp numbers.now) (map part_view parts.now)
+            (search_view self.old) (search_view self.new)) }
     {
         for part in parts {
             self.see_part(alloc, numbers, part)?;

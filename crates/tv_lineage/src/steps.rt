@@ -35,7 +35,8 @@ pub(crate) fn places_of(
     entries: &[Entry],
     step: &Name,
 ) -> Result<BTreeSet<Place>, NoMemory>
-    ensures { IfOk result (λ qs. qs.keys ≡ in_order place_cmp (filter_map (views.place_in step.now) entries.now)) }
+    ensures { IfOk result (λ qs. qs.keys
+        ≡ in_order place_cmp (filter_map (views.place_in step.now) entries.now)) }
 {
     let mut places = BTreeSet::new(alloc);
     for entry in entries {

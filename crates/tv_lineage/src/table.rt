@@ -29,7 +29,8 @@ fn has_mark(
     made: &[bool],
     mark: &Mark,
 ) -> bool
-    ensures { result ≡ in_table (get job_name_cmp numbers.now) port.now place.now made.now (mark_part mark.now) }
+    ensures { result ≡ in_table (get job_name_cmp numbers.now) port.now place.now made.now
+        (mark_part mark.now) }
 {
     match mark {
         Mark::Given(other_port, other_place) => is_touched(port, place, other_port, other_place),
@@ -55,7 +56,8 @@ fn has_part(
     made: &[bool],
     part: &Part,
 ) -> bool
-    ensures { result ≡ in_table (get job_name_cmp numbers.now) port.now place.now made.now (part_view part.now) }
+    ensures { result ≡ in_table (get job_name_cmp numbers.now) port.now place.now made.now
+        (part_view part.now) }
 {
     match part {
         Part::Single(mark) => has_mark(numbers, port, place, made, mark),
@@ -71,7 +73,8 @@ pub(crate) fn has_any_mark(
     made: &[bool],
     marks: &[Mark],
 ) -> bool
-    ensures { result ≡ list_any (in_table (get job_name_cmp numbers.now) port.now place.now made.now) (map mark_part marks.now) }
+    ensures { result ≡ list_any (in_table (get job_name_cmp numbers.now) port.now place.now
+        made.now) (map mark_part marks.now) }
 {
     for mark in marks {
         if has_mark(numbers, port, place, made, mark) {
@@ -89,7 +92,8 @@ fn has_any_part(
     made: &[bool],
     parts: &[Part],
 ) -> bool
-    ensures { result ≡ list_any (in_table (get job_name_cmp numbers.now) port.now place.now made.now) (map part_view parts.now) }
+    ensures { result ≡ list_any (in_table (get job_name_cmp numbers.now) port.now place.now
+        made.now) (map part_view parts.now) }
 {
     for part in parts {
         if has_part(numbers, port, place, made, part) {
@@ -110,7 +114,8 @@ fn pass(
 ) -> bool
     requires kept { IsKept (get job_name_cmp numbers.now) (kept_of entries.now) }
     requires size { length made.old.items ≡ length entries.now }
-    ensures { IsPass (get job_name_cmp numbers.now) (kept_of entries.now) port.now place.now (length entries.now) made.old.items made.new.items result }
+    ensures { IsPass (get job_name_cmp numbers.now) (kept_of entries.now) port.now place.now
+        (length entries.now) made.old.items made.new.items result }
 {
     let mut added = false;
     for (number, entry) in entries.iter().enumerate() {
@@ -139,7 +144,8 @@ pub(crate) fn of_element(
     place: &Place,
 ) -> Result<Vec<bool>, NoMemory>
     requires kept { IsKept (get job_name_cmp numbers.now) (kept_of entries.now) }
-    ensures { IfOk result (λ bs. IsWhole (get job_name_cmp numbers.now) (kept_of entries.now) port.now place.now bs.items) }
+    ensures { IfOk result (λ bs. IsWhole (get job_name_cmp numbers.now) (kept_of entries.now)
+        port.now place.now bs.items) }
 {
     let mut made = vec![in alloc; false; entries.len()]?;
     let mut added = true;

@@ -10,7 +10,8 @@ is_among ts t = list_any (same_name t) ts
 -- the texts that aren't among those before them
 abbrev pub new_after : List Text → List Text → List Text
 new_after before [] = []
-new_after before (t ∷ ts) = if is_among before t then new_after (before ++ t ∷ []) ts else t ∷ new_after (before ++ t ∷ []) ts
+new_after before (t ∷ ts) = if is_among before t then new_after (before ++ t ∷ []) ts
+    else t ∷ new_after (before ++ t ∷ []) ts
 
 -- each text once, in order of first occurrence
 abbrev pub distinct : List Text → List Text

@@ -16,10 +16,12 @@ abbrev pub starts_with_minus : Text → Bool
 starts_with_minus t = slice_index t 0 == 45
 
 abbrev pub read_plain : Text → Option ℤ
-read_plain ds = if are_digits ds && nat_lt (digits_value 10 ds) number_limit then Some (pos (digits_value 10 ds)) else None
+read_plain ds = if are_digits ds && nat_lt (digits_value 10 ds) number_limit
+    then Some (pos (digits_value 10 ds)) else None
 
 abbrev pub read_negative : Text → Option ℤ
-read_negative ds = if are_digits ds && nat_le (digits_value 10 ds) number_limit then Some (neg_ℤ (pos (digits_value 10 ds))) else None
+read_negative ds = if are_digits ds && nat_le (digits_value 10 ds) number_limit
+    then Some (neg_ℤ (pos (digits_value 10 ds))) else None
 
 -- the number of a number text; leading zeros are read
 abbrev pub read_number : Text → Option ℤ

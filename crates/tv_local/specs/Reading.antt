@@ -67,5 +67,6 @@ first_of f k (w ∷ ws) (v ∷ vs) = or_else (f k w v) (first_of f (suc k) ws vs
 abbrev pub complaint : Name → List Want → List Value → Option Text
 complaint name ws vs =
     if length vs == length ws
-    then or_else (first_of (shape_complaint name) 1 ws vs) (first_of (number_complaint name) 1 ws vs)
+    then or_else (first_of (shape_complaint name) 1 ws vs) (first_of (number_complaint name) 1 ws
+    vs)
     else Some (name ++ (codes " wants " ++ (decimal (length ws) ++ codes " inputs")))

@@ -8,7 +8,8 @@ use Rattle.tv_value.specs.Orders.{is_prefix}
 abbrev pub parts_after : ℕ → Text → Text → List Text
 parts_after n s [] = [] ∷ []
 parts_after (suc n) s (c ∷ t) = parts_after n s t
-parts_after zero s (c ∷ t) = if is_prefix s (c ∷ t) then [] ∷ parts_after (pred (length s)) s t else onto_first c (parts_after zero s t)
+parts_after zero s (c ∷ t) = if is_prefix s (c ∷ t) then [] ∷ parts_after (pred (length s)) s t
+    else onto_first c (parts_after zero s t)
 
 abbrev pub parts : Text → Text → List Text
 parts s t = parts_after 0 s t

@@ -36,7 +36,8 @@ pub(crate) fn good_copy(alloc: Global, text: &str) -> Result<Outcome, NoMemory>
 
 /// A list.
 pub(crate) fn good_list(alloc: Global, values: Vec<Value>) -> Result<Outcome, NoMemory>
-    ensures { IfOk result (λ o. outcome_view o ≡ good (list_value (trees_of (map view values.items)) ∷ [])) }
+    ensures { IfOk result (λ o. outcome_view o ≡ good (list_value (trees_of (map view values.items))
+        ∷ [])) }
 {
     good_value(alloc, Value::List(Items::of(values)))
 }

@@ -16,7 +16,8 @@ use tv_gate::Outcome;
 use tv_value::{NoMemory, Text, Value};
 
 pub(crate) fn add(alloc: Global, first: &Value, second: &Value) -> Result<Outcome, NoMemory>
-    ensures { IfOk result (λ o. outcome_view o ≡ number_or (codes "add out of range") (number_of (view first.now) +ℤ number_of (view second.now))) }
+    ensures { IfOk result (λ o. outcome_view o ≡ number_or (codes "add out of range")
+        (number_of (view first.now) +ℤ number_of (view second.now))) }
 {
     match number_of(first).checked_add(number_of(second)) {
         Some(sum) => good_number(alloc, sum),
@@ -25,7 +26,8 @@ pub(crate) fn add(alloc: Global, first: &Value, second: &Value) -> Result<Outcom
 }
 
 pub(crate) fn subtract(alloc: Global, first: &Value, second: &Value) -> Result<Outcome, NoMemory>
-    ensures { IfOk result (λ o. outcome_view o ≡ number_or (codes "subtract out of range") (number_of (view first.now) -ℤ number_of (view second.now))) }
+    ensures { IfOk result (λ o. outcome_view o ≡ number_or (codes "subtract out of range")
+        (number_of (view first.now) -ℤ number_of (view second.now))) }
 {
     match number_of(first).checked_sub(number_of(second)) {
         Some(rest) => good_number(alloc, rest),
@@ -37,7 +39,8 @@ pub(crate) fn subtract(alloc: Global, first: &Value, second: &Value) -> Result<O
 const RANGE_LIMIT: u64 = 100_000;
 
 pub(crate) fn range(alloc: Global, first: &Value, last: &Value) -> Result<Outcome, NoMemory>
-    ensures { IfOk result (λ o. outcome_view o ≡ range_of (number_of (view first.now)) (number_of (view last.now))) }
+    ensures { IfOk result (λ o. outcome_view o ≡ range_of (number_of (view first.now))
+        (number_of (view last.now))) }
 {
     let first = number_of(first);
     let last = number_of(last);
@@ -49,7 +52,8 @@ pub(crate) fn range(alloc: Global, first: &Value, last: &Value) -> Result<Outcom
 
 /// How many numbers there are from one to another, or `None` for more than 100,000.
 fn span(first: i64, last: i64) -> Option<u64>
-    ensures { MatchOption result (range_limit < span first last) (λ n. (n ≡ span first last) × (n ≤ range_limit)) }
+    ensures { MatchOption result (range_limit < span first last) (λ n. (n ≡ span first last)
+        × (n ≤ range_limit)) }
 {
     if last < first {
         return Some(0);
@@ -65,7 +69,8 @@ fn span(first: i64, last: i64) -> Option<u64>
 fn numbers(alloc: Global, first: i64, count: u64) -> Result<Vec<Value>, NoMemory>
     requires few { count ≤ range_limit }
     requires fits { (first +ℤ pos count) ≤ℤ pos (2 ^ 63) }
-    ensures { IfOk result (λ vs. map view vs.items ≡ map text_value (map signed_decimal (count_up first count))) }
+    ensures { IfOk result (λ vs. map view vs.items
+        ≡ map text_value (map signed_decimal (count_up first count))) }
 {
     let mut texts = Vec::with_capacity(alloc, count as usize)?;
     for step in 0..count {
@@ -82,7 +87,8 @@ pub(crate) fn flaky(
     count: &Value,
     attempt: u32,
 ) -> Result<Outcome, NoMemory>
-    ensures { IfOk result (λ o. outcome_view o ≡ flaky_of (text_of (view text.now)) (number_of (view count.now)) attempt) }
+    ensures { IfOk result (λ o. outcome_view o ≡ flaky_of (text_of (view text.now))
+        (number_of (view count.now)) attempt) }
 {
     if i64::from(attempt) >= number_of(count) {
         return good_copy(alloc, text_of(text));

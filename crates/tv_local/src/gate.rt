@@ -67,7 +67,9 @@ fn checked(
     inputs: &[Value],
     attempt: u32,
 ) -> Result<Outcome, NoMemory>
-    ensures { IfOk result (λ o. outcome_view o ≡ unless (complaint name.now (wants local) (map view inputs.now)) (by_rule local (map view inputs.now) attempt)) }
+    ensures { IfOk result (λ o. outcome_view o
+        ≡ unless (complaint name.now (wants local) (map view inputs.now))
+        (by_rule local (map view inputs.now) attempt)) }
 {
     if let Some(why) = complaint(alloc, name, wants(local), inputs)? {
         return Ok(Outcome::Bad(why));
@@ -113,7 +115,8 @@ fn with_two(
     second: &Value,
     attempt: u32,
 ) -> Result<Outcome, NoMemory>
-    ensures { IfOk result (λ o. outcome_view o ≡ with_two local (view first.now) (view second.now) attempt) }
+    ensures { IfOk result (λ o. outcome_view o ≡ with_two local (view first.now) (view second.now)
+        attempt) }
 {
     match local {
         Local::Concat => concat(alloc, first, second),

@@ -70,7 +70,8 @@ fn first_shape_complaint(
     inputs: &[Value],
 ) -> Result<Option<Text>, NoMemory>
     requires { length wants.now ≡ length inputs.now }
-    ensures { IfOk result (λ o. o ≡ first_of (shape_complaint name.now) 1 wants.now (map view inputs.now)) }
+    ensures { IfOk result (λ o. o ≡ first_of (shape_complaint name.now) 1 wants.now
+        (map view inputs.now)) }
 {
     for index in 0..wants.len() {
         let found = shape_complaint(alloc, name, index + 1, wants[index], &inputs[index])?;
@@ -88,7 +89,8 @@ fn first_number_complaint(
     inputs: &[Value],
 ) -> Result<Option<Text>, NoMemory>
     requires { length wants.now ≡ length inputs.now }
-    ensures { IfOk result (λ o. o ≡ first_of (number_complaint name.now) 1 wants.now (map view inputs.now)) }
+    ensures { IfOk result (λ o. o ≡ first_of (number_complaint name.now) 1 wants.now
+        (map view inputs.now)) }
 {
     for index in 0..wants.len() {
         let found = number_complaint(alloc, name, index + 1, wants[index], &inputs[index])?;

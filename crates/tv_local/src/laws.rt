@@ -6,5 +6,6 @@ ghost use Rattle.tv_local.specs.LocalGives.{local_gives};
 
 /// Every good outcome has one value.
 pub fn good_outcomes_have_one_value()
-    ensures { (name : Name) (vs us : List Value) (n : ℕ) → local_gives name vs n ≡ good us → length us ≡ 1 }
+    ensures { (name : Name) (vs us : List Value) (n : ℕ) → local_gives name vs n ≡ good us
+        → length us ≡ 1 }
 {}

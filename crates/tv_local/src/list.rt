@@ -17,7 +17,8 @@ use tv_value::{NoMemory, Text, Value};
 
 /// Puts a text at the end.
 pub(crate) fn push_text(alloc: Global, values: &mut Vec<Value>, text: &str) -> Result<(), NoMemory>
-    ensures { OnOk result (map view values.new.items ≡ map view values.old.items ++ text_value text.now ∷ []) }
+    ensures { OnOk result (map view values.new.items ≡ map view values.old.items
+        ++ text_value text.now ∷ []) }
 {
     values.push(Value::Text(Text::from_str(alloc, text)?))?;
     Ok(())
@@ -25,7 +26,8 @@ pub(crate) fn push_text(alloc: Global, values: &mut Vec<Value>, text: &str) -> R
 
 /// Puts a text at the end, without a copy.
 pub(crate) fn push_string(values: &mut Vec<Value>, text: String) -> Result<(), NoMemory>
-    ensures { OnOk result (map view values.new.items ≡ map view values.old.items ++ text_value (string_bytes text) ∷ []) }
+    ensures { OnOk result (map view values.new.items ≡ map view values.old.items
+        ++ text_value (string_bytes text) ∷ []) }
 {
     values.push(Value::Text(Text::of(text)))?;
     Ok(())
@@ -33,7 +35,8 @@ pub(crate) fn push_string(values: &mut Vec<Value>, text: String) -> Result<(), N
 
 /// Puts the texts of values at the end.
 fn push_texts(alloc: Global, texts: &mut Vec<Value>, values: &[Value]) -> Result<(), NoMemory>
-    ensures { OnOk result (map view texts.new.items ≡ map view texts.old.items ++ map text_value (map text_of (map view values.now))) }
+    ensures { OnOk result (map view texts.new.items ≡ map view texts.old.items
+        ++ map text_value (map text_of (map view values.now))) }
 {
     for value in values {
         push_text(alloc, texts, text_of(value))?;
@@ -43,7 +46,8 @@ fn push_texts(alloc: Global, texts: &mut Vec<Value>, values: &[Value]) -> Result
 
 /// The texts of values.
 fn copy_texts(alloc: Global, values: &[Value]) -> Result<Vec<Value>, NoMemory>
-    ensures { IfOk result (λ vs. map view vs.items ≡ map text_value (map text_of (map view values.now))) }
+    ensures { IfOk result (λ vs. map view vs.items
+        ≡ map text_value (map text_of (map view values.now))) }
 {
     let mut texts = Vec::with_capacity(alloc, values.len())?;
     push_texts(alloc, &mut texts, values)?;
@@ -71,7 +75,8 @@ pub(crate) fn reverse(alloc: Global, list: &Value) -> Result<Outcome, NoMemory>
 }
 
 pub(crate) fn take(alloc: Global, list: &Value, count: &Value) -> Result<Outcome, NoMemory>
-    ensures { IfOk result (λ o. outcome_view o ≡ take_of (texts_of (view list.now)) (number_of (view count.now))) }
+    ensures { IfOk result (λ o. outcome_view o ≡ take_of (texts_of (view list.now))
+        (number_of (view count.now))) }
 {
     let count = number_of(count);
     if count < 0 {
@@ -82,7 +87,8 @@ pub(crate) fn take(alloc: Global, list: &Value, count: &Value) -> Result<Outcome
 
 /// The texts of the first so many values, of all where there are fewer.
 fn first_texts(alloc: Global, values: &[Value], count: usize) -> Result<Vec<Value>, NoMemory>
-    ensures { IfOk result (λ vs. map view vs.items ≡ map text_value (take count (map text_of (map view values.now)))) }
+    ensures { IfOk result (λ vs. map view vs.items
+        ≡ map text_value (take count (map text_of (map view values.now)))) }
 {
     if count >= values.len() {
         return copy_texts(alloc, values);
@@ -103,7 +109,8 @@ pub(crate) fn flatten(alloc: Global, lists: &Value) -> Result<Outcome, NoMemory>
 
 /// The texts of lists, one list after the other.
 fn flat(alloc: Global, lists: &[Value]) -> Result<Vec<Value>, NoMemory>
-    ensures { IfOk result (λ vs. map view vs.items ≡ map text_value (flat (map texts_of (map view lists.now)))) }
+    ensures { IfOk result (λ vs. map view vs.items
+        ≡ map text_value (flat (map texts_of (map view lists.now)))) }
 {
     let mut texts = Vec::new(alloc);
     for list in lists {
@@ -120,7 +127,8 @@ pub(crate) fn distinct(alloc: Global, list: &Value) -> Result<Outcome, NoMemory>
 
 /// Each text of values once, in order of first occurrence. Takes n log n comparisons.
 fn distinct_texts(alloc: Global, values: &[Value]) -> Result<Vec<Value>, NoMemory>
-    ensures { IfOk result (λ vs. map view vs.items ≡ map text_value (distinct (map text_of (map view values.now)))) }
+    ensures { IfOk result (λ vs. map view vs.items
+        ≡ map text_value (distinct (map text_of (map view values.now)))) }
 {
     let mut seen = BTreeSet::new(alloc);
     let mut texts = Vec::new(alloc);
@@ -134,7 +142,8 @@ fn distinct_texts(alloc: Global, values: &[Value]) -> Result<Vec<Value>, NoMemor
 }
 
 pub(crate) fn intersect(alloc: Global, list: &Value, others: &Value) -> Result<Outcome, NoMemory>
-    ensures { IfOk result (λ o. outcome_view o ≡ one_list (shared (texts_of (view list.now)) (texts_of (view others.now)))) }
+    ensures { IfOk result (λ o. outcome_view o
+        ≡ one_list (shared (texts_of (view list.now)) (texts_of (view others.now)))) }
 {
     good_list(
         alloc,
@@ -144,7 +153,9 @@ pub(crate) fn intersect(alloc: Global, list: &Value, others: &Value) -> Result<O
 
 /// The texts of values that are among those of others. Takes n log n comparisons.
 fn shared_texts(alloc: Global, values: &[Value], others: &[Value]) -> Result<Vec<Value>, NoMemory>
-    ensures { IfOk result (λ vs. map view vs.items ≡ map text_value (shared (map text_of (map view values.now)) (map text_of (map view others.now)))) }
+    ensures { IfOk result (λ vs. map view vs.items
+        ≡ map text_value (shared (map text_of (map view values.now))
+        (map text_of (map view others.now)))) }
 {
     let mut wanted = BTreeSet::new(alloc);
     for other in others {

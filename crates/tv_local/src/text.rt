@@ -57,7 +57,8 @@ pub(crate) fn fail_if(alloc: Global, value: &Value) -> Result<Outcome, NoMemory>
 }
 
 pub(crate) fn concat(alloc: Global, first: &Value, second: &Value) -> Result<Outcome, NoMemory>
-    ensures { IfOk result (λ o. outcome_view o ≡ one_text (text_of (view first.now) ++ text_of (view second.now))) }
+    ensures { IfOk result (λ o. outcome_view o ≡ one_text (text_of (view first.now)
+        ++ text_of (view second.now))) }
 {
     let (first, second) = (text_of(first), text_of(second));
     if let Ok(mut text) = ArrayString::<16>::from(first) {
@@ -72,7 +73,8 @@ pub(crate) fn concat(alloc: Global, first: &Value, second: &Value) -> Result<Out
 }
 
 pub(crate) fn join(alloc: Global, list: &Value, between: &Value) -> Result<Outcome, NoMemory>
-    ensures { IfOk result (λ o. outcome_view o ≡ one_text (joined (text_of (view between.now)) (texts_of (view list.now)))) }
+    ensures { IfOk result (λ o. outcome_view o
+        ≡ one_text (joined (text_of (view between.now)) (texts_of (view list.now)))) }
 {
     let text = joined(alloc, items_of(list), text_of(between))?;
     good_text(alloc, text)
@@ -80,7 +82,8 @@ pub(crate) fn join(alloc: Global, list: &Value, between: &Value) -> Result<Outco
 
 /// The texts of values with another between each two. Linear in what it gives.
 fn joined(alloc: Global, values: &[Value], between: &str) -> Result<String, NoMemory>
-    ensures { IfOk result (λ t. string_bytes t ≡ joined between.now (map text_of (map view values.now))) }
+    ensures { IfOk result (λ t. string_bytes t
+        ≡ joined between.now (map text_of (map view values.now))) }
 {
     let Some((first, others)) = values.split_first() else {
         return Ok(String::new(alloc));
@@ -94,7 +97,8 @@ fn joined(alloc: Global, values: &[Value], between: &str) -> Result<String, NoMe
 }
 
 pub(crate) fn split(alloc: Global, text: &Value, by: &Value) -> Result<Outcome, NoMemory>
-    ensures { IfOk result (λ o. outcome_view o ≡ split_by (text_of (view text.now)) (text_of (view by.now))) }
+    ensures { IfOk result (λ o. outcome_view o ≡ split_by (text_of (view text.now))
+        (text_of (view by.now))) }
 {
     let by = text_of(by);
     if by.is_empty() {

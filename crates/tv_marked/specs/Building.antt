@@ -75,4 +75,5 @@ module _ (t : Telling) where
         × IsNoted t.settled s it (records_of old) (records_of new)
         × ((i : ℕ) (p : Place) (src : List Origin) (b : Binding) → i < length us
         → at (list r ns) (i ∷ p) ≡ Some (leaf src (job b))
-        → t.settled (q ++ (i ∷ p)) ≡ true → (x : Record) × In x (records_of new) × (x.job ≡ job_at s.0 (q ++ (i ∷ p))))
+        → t.settled (q ++ (i ∷ p)) ≡ true → (x : Record) × In x (records_of new)
+        × (x.job ≡ job_at s.0 (q ++ (i ∷ p))))

@@ -44,7 +44,8 @@ node_parts s q (list g us) = g ∷ []
 abbrev pub input_told : {A : Type 0} → (Name → Place → List A) → Flow → ℕ → Place → List A
 input_told of_element flow x q = option_map_or (λ i. of_element i.0 q) (slice_get flow.inputs x) []
 
-module _ {A : Type 0} (of_element : Name → Place → List A) (of_node : Name → Place → Shape → List A) (flow : Flow) (shapes : List Shape) where
+module _ {A : Type 0} (of_element : Name → Place → List A) (of_node : Name → Place → Shape → List A)
+    (flow : Flow) (shapes : List Shape) where
   -- of an output that the flow has
   abbrev pub output_told : ℕ → ℕ → Place → List A
   output_told n o q =

@@ -14,7 +14,8 @@ use Rattle.tv_marked.specs.Seen.{Spot}
 pub record AreLevelsTold (v : View) (ls : List Level) : Type 0 where
   pub fit : InAll v (λ instance results fs. Fit v.flow (map step_of fs) ls)
   pub faults :
-      InAll v (λ instance results fs. FaultsAreKnown (known_by instance v.events) v.flow (map step_of fs) ls)
+      InAll v (λ instance results fs. FaultsAreKnown (known_by instance v.events) v.flow
+      (map step_of fs) ls)
   pub all :
       (n : ℕ) (s : Name × Step) (q : Place) → slice_get v.flow.steps n ≡ Some s
       → has_level v.events s.0 q ≡ true

@@ -20,7 +20,10 @@ pub record IsRecordOf (settled : Place → Bool) (s : Name × Step) (it : Iterat
   pub binding : Binding
   pub stands : at it place ≡ Some (leaf sources (job binding))
   pub is_settled : settled place ≡ true
-  pub is : r ≡ record { job = job_at s.0 place; used = map mark_of (flat_map used (bound_values s.1 binding)) }
+  pub is : r ≡ record {
+    job = job_at s.0 place;
+    used = map mark_of (flat_map used (bound_values s.1 binding));
+  }
 
 -- from old to new records of settled jobs of the step were noted, and nothing else
 pub record IsNoted (settled : Place → Bool) (s : Name × Step) (it : Iteration)

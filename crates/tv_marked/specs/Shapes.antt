@@ -57,7 +57,8 @@ abbrev pub ShowsAt : Shape → Iteration → Place → Type 0
 ShowsAt u t [] = Shows u t
 ShowsAt u (leaf s e) (i ∷ r) = Shows u (leaf s e)
 ShowsAt (leaf g k) (list s ts) (i ∷ r) = ⊥
-ShowsAt (list g us) (list s ts) (i ∷ r) = BothHave (λ u t. ShowsAt u t r) (item_at us i) (item_at ts i)
+ShowsAt (list g us) (list s ts) (i ∷ r) = BothHave (λ u t. ShowsAt u t r) (item_at us i)
+    (item_at ts i)
 
 -- wherever all of t, which stands at q, is known
 abbrev pub ShowsKnown : (Place → JobName) → (Origin → Bool) → Place → Shape → Iteration → Type 0

@@ -32,7 +32,8 @@ pub record IsMainFlow (d : Document) (flow : Flow) : Type 0 where
 
 module _ (gives : Giving) (d : Document) (flow : Flow) where
   abbrev pub main_made : List Made
-  main_made = steps_made gives (flow_meaning gives d.flows 7) [] (given_of flow d.inputs) [] (ranked flow.steps)
+  main_made = steps_made gives (flow_meaning gives d.flows 7) [] (given_of flow d.inputs) []
+      (ranked flow.steps)
 
   abbrev pub main_results : Results
   main_results = results_of [] main_made

@@ -42,7 +42,15 @@ StagesGoOn =
     → position s.0 (ranked flow.steps) ≡ r
     → (old now : Kept) (us more : List Shape) → IsStage gives d flow known settled r old us
     → (u : Shape)
-    → IsBuilt (record { flow = flow; shapes = us; ports = ports_of flow s.1; begins = begins_of flow s.1; what = what n; settled = done n; name = s.0 })
+    → IsBuilt (record {
+      flow = flow;
+      shapes = us;
+      ports = ports_of flow s.1;
+      begins = begins_of flow s.1;
+      what = what n;
+      settled = done n;
+      name = s.0;
+    })
     (strategy_depth (number_of (mismatches flow s.1)) (strategy_of s.1)) [] old now u
     → slice_index_or more n no_shape ≡ u
     → ((k : ℕ) → (k ≡ n → ⊥) → slice_index_or more k no_shape ≡ slice_index_or us k no_shape)

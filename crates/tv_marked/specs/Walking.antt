@@ -28,10 +28,12 @@ begins_of flow s = map (λ x. x.1) (starts (number_of (mismatches flow s)) 0 (st
 abbrev pub part_in : List ℕ → Port → Place → Place
 part_in begins p q = take p.levels (drop (slice_index_or begins p.leaf 0) q)
 
-module _ {A : Type 0} (of_element : Name → Place → List A) (of_node : Name → Place → Shape → List A) (flow : Flow) (shapes : List Shape) (ports : List Port) (begins : List ℕ) where
+module _ {A : Type 0} (of_element : Name → Place → List A) (of_node : Name → Place → Shape → List A)
+    (flow : Flow) (shapes : List Shape) (ports : List Port) (begins : List ℕ) where
   -- what the job at a place binds, port by port
   abbrev pub bound_told : Place → List A
-  bound_told q = flat_map (λ p. feed_told of_element of_node flow shapes p.feed (part_in begins p q)) ports
+  bound_told q = flat_map (λ p. feed_told of_element of_node flow shapes p.feed
+      (part_in begins p q)) ports
 
   -- the fault that the leaf of that number met there
   abbrev pub fault_told : ℕ → Place → List A
@@ -84,7 +86,8 @@ pub record IsToldOf (known : Origin → Bool) (settled : Place → Bool) (flow :
       → known (origin_at (job_at s.0) (q ++ i ∷ p) t) ≡ true
       → (n : ℕ) × (what q ≡ Some (closed n)) × (i < n)
   pub long :
-      (q : Place) (n : ℕ) (t : Iteration) → what q ≡ Some (closed n) → at it q ≡ Some t → IsListOf n t
+      (q : Place) (n : ℕ) (t : Iteration) → what q ≡ Some (closed n) → at it q ≡ Some t
+      → IsListOf n t
   pub came_there :
       (q : Place) (k : ℕ) (t : Iteration) → what q ≡ Some (came k) → at it q ≡ Some t → IsFault t
   pub settled_known :

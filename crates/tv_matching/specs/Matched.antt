@@ -76,7 +76,8 @@ module _ {X F : Type 0} where
     pub matched_dot : (Name → List (Item X F)) → Strategies → List (Item X F)
     matched_dot told no_strategies = one_end
     matched_dot told (strategy c no_strategies) = matched told c
-    matched_dot told (strategy c (strategy d ds)) = joined_items same (matched told c) (matched_dot told (strategy d ds))
+    matched_dot told (strategy c (strategy d ds)) = joined_items same (matched told c)
+        (matched_dot told (strategy d ds))
 
   -- ---- what is new after `new` was told beside `old`: the new items of one child joined with the old ones of the others
 
@@ -90,10 +91,14 @@ module _ {X F : Type 0} where
       pub gained_cross : Strategies → List (Item X F)
       gained_cross no_strategies = []
       gained_cross (strategy c cs) =
-          crossed_items (gained c) (matched_cross old cs) ++ (below_jobs (matched old c) (gained_cross cs) ++ below_jobs (gained c) (gained_cross cs))
+          crossed_items (gained c) (matched_cross old cs)
+          ++ (below_jobs (matched old c) (gained_cross cs)
+          ++ below_jobs (gained c) (gained_cross cs))
 
       pub gained_dot : Strategies → List (Item X F)
       gained_dot no_strategies = []
       gained_dot (strategy c no_strategies) = gained c
       gained_dot (strategy c (strategy d ds)) =
-          joined_items same (gained c) (matched_dot old (strategy d ds)) ++ (joined_items same (matched old c) (gained_dot (strategy d ds)) ++ joined_items same (gained c) (gained_dot (strategy d ds)))
+          joined_items same (gained c) (matched_dot old (strategy d ds))
+          ++ (joined_items same (matched old c) (gained_dot (strategy d ds))
+          ++ joined_items same (gained c) (gained_dot (strategy d ds)))

@@ -81,7 +81,8 @@ abbrev pub all_out : Matching → List Outcome
 all_out m = map (out m.strategy) (matched_after m.strategy m.told)
 
 -- what is so of every matcher: what has come out follows, each once, and `rest` is still to come
-pub record AreMatching (strategy : Strategy) (mismatch : List (Name × ℕ)) (told : List Told) (given : List Outcome) : Type 0 where
+pub record AreMatching (strategy : Strategy) (mismatch : List (Name × ℕ)) (told : List Told)
+    (given : List Outcome) : Type 0 where
   pub suits : Suits mismatch strategy
   pub agree : DotsAgree (number_of mismatch) strategy
   pub fit : Each (IsFit (number_of mismatch)) told
@@ -164,32 +165,41 @@ OutIsKnown =
     (m : Matching) (h : IsMatching m) (values : Name → Value)
     → ((p : Name) → (d : ℕ) × HasDepth (values p) (number_of m.mismatch p + d))
     → Each (IsTrueOf (labelled values) (number_of m.mismatch)) m.told
-    → IsPermutation (m.given ++ h.rest) (map (node_out m.strategy) (known_items (node_told (number_of m.mismatch) m.told) (iteration (walks (number_of m.mismatch) (labelled values)) m.strategy)))
+    → IsPermutation (m.given ++ h.rest)
+    (map (node_out m.strategy) (known_items (node_told (number_of m.mismatch) m.told)
+    (iteration (walks (number_of m.mismatch) (labelled values)) m.strategy)))
 
 -- what is matched of the kept items is what would be kept of all that is matched, and tells what comes out
 abbrev pub KeptIsEnough : Type 0
-KeptIsEnough = (s : Strategy) (ts : List Told) → (matched (kept_of s ts) s ≡ map (kept s) (marked_after s ts)) × (map kept_out (matched (kept_of s ts) s) ≡ map (out s) (matched_after s ts))
+KeptIsEnough = (s : Strategy) (ts : List Told)
+    → (matched (kept_of s ts) s ≡ map (kept s) (marked_after s ts))
+    × (map kept_out (matched (kept_of s ts) s) ≡ map (out s) (matched_after s ts))
 
 -- and what is gained of them
 abbrev pub KeptGains : Type 0
-KeptGains = (s : Strategy) (ts more : List Told) → gained (kept_of s ts) (kept_of s more) s ≡ map (kept s) (gained (marked_to ts) (marked_to more) s)
+KeptGains = (s : Strategy) (ts more : List Told) → gained (kept_of s ts) (kept_of s more) s
+    ≡ map (kept s) (gained (marked_to ts) (marked_to more) s)
 
 -- with what was told of faults in bound values, it is the same that is matched
 abbrev pub MarkedIsMatched : Type 0
-MarkedIsMatched = (s : Strategy) (ts : List Told) → map (map_item (λ r. r.0) (λ r. r)) (marked_after s ts) ≡ matched_after s ts
+MarkedIsMatched = (s : Strategy) (ts : List Told) → map (map_item (λ r. r.0) (λ r. r))
+    (marked_after s ts) ≡ matched_after s ts
 
 -- and where that was told truly, it is told truly of each job, whether a value that it binds holds a fault
 abbrev pub FaultsRide : Type 0
 FaultsRide =
     (values : Name → Traced) (s : Strategy) (ts : List Told) → Each (TellsFaults values) ts
-    → (q : Place) → faulty_at s ts q ≡ some_at (λ v. holds_fault v.1) q (map (seen values) (matched_after s ts))
+    → (q : Place) → faulty_at s ts q ≡ some_at (λ v. holds_fault v.1) q
+    (map (seen values) (matched_after s ts))
 
 -- the calls keep what is so of every matcher
 abbrev pub StartIsMatching : Type 0
-StartIsMatching = (s : Strategy) (mismatch : List (Name × ℕ)) (m : Matching) → Suits mismatch s → DotsAgree (number_of mismatch) s → Starts s mismatch m → IsMatching m
+StartIsMatching = (s : Strategy) (mismatch : List (Name × ℕ)) (m : Matching) → Suits mismatch s
+    → DotsAgree (number_of mismatch) s → Starts s mismatch m → IsMatching m
 
 abbrev pub TellingIsMatching : Type 0
-TellingIsMatching = (t : Told) (m n : Matching) → IsMatching m → CanTell m t → IsTold t m n → IsMatching n
+TellingIsMatching = (t : Told) (m n : Matching) → IsMatching m → CanTell m t → IsTold t m n
+    → IsMatching n
 
 -- an outcome comes only where not all has come out
 abbrev pub GivesOnlyRest : Type 0

@@ -19,7 +19,8 @@ use Rattle.tv_matching.specs.Told.{Spot, Told, told_to, matched_after, added_aft
 -- ---- against the iteration
 
 -- what was told of each leaf is what is known of its iteration
-abbrev pub AgreeWith : (Origin → Bool) → (Name → Iteration) → (Name → List (Item Bound Stopped)) → Type 0
+abbrev pub AgreeWith : (Origin → Bool) → (Name → Iteration) → (Name → List (Item Bound Stopped))
+    → Type 0
 AgreeWith known ports told = (p : Name) → IsPermutation (told p) (known_items known (ports p))
 
 -- what is matched is what is known of the whole iteration
@@ -44,7 +45,8 @@ MatchesOnlyKnown =
     → DotsAgree mismatch s
     → (x : Item Bound Stopped)
     → In x (matched told s)
-    → (n : Node) × In n (nodes_of (iteration ports s)) × (n.item ≡ x) × (all_known known n.sources ≡ true)
+    → (n : Node) × In n (nodes_of (iteration ports s)) × (n.item ≡ x) × (all_known known n.sources
+    ≡ true)
 
 -- whatever stands in the iteration with its sources known is matched
 abbrev pub MatchesAllKnown : Type 0
@@ -62,10 +64,12 @@ MatchesAllKnown =
 
 -- the nodes of an iteration are what stands at its places
 abbrev pub NodesStand : Type 0
-NodesStand = (t : Iteration) (n : Node) → In n (nodes_of t) → (u : Iteration) × (at t n.item.place ≡ Some u) × (n ≡ node_at n.item.place u)
+NodesStand = (t : Iteration) (n : Node) → In n (nodes_of t) → (u : Iteration)
+    × (at t n.item.place ≡ Some u) × (n ≡ node_at n.item.place u)
 
 abbrev pub PlacesHaveNodes : Type 0
-PlacesHaveNodes = (t : Iteration) (q : Place) (u : Iteration) → at t q ≡ Some u → In (node_at q u) (nodes_of t)
+PlacesHaveNodes = (t : Iteration) (q : Place) (u : Iteration) → at t q ≡ Some u
+    → In (node_at q u) (nodes_of t)
 
 -- ---- against the delivered values, by what was told alone
 
@@ -79,7 +83,8 @@ MatchesWhatWasTold =
     → ((p : Name) → Once (told_to ts p))
     → (s : Strategy)
     → DotsAgree mismatch s
-    → IsPermutation (map (seen (labelled values)) (matched_after s ts)) (known_items (node_told mismatch ts) (iteration (walks mismatch (labelled values)) s))
+    → IsPermutation (map (seen (labelled values)) (matched_after s ts))
+    (known_items (node_told mismatch ts) (iteration (walks mismatch (labelled values)) s))
 
 -- ---- without values
 
@@ -95,21 +100,26 @@ MatchesOnce =
 
 -- and so it stays with a telling of another place
 abbrev pub NewIsOnce : Type 0
-NewIsOnce = (ts : List Told) → ((p : Name) → Once (told_to ts p)) → (t : Told) → IsNew ts t → (p : Name) → Once (told_to (ts ++ t ∷ []) p)
+NewIsOnce = (ts : List Told) → ((p : Name) → Once (told_to ts p)) → (t : Told) → IsNew ts t
+    → (p : Name) → Once (told_to (ts ++ t ∷ []) p)
 
 -- further tellings add what is gained
 abbrev pub TellingsAdd : Type 0
-TellingsAdd = (s : Strategy) (ts more : List Told) → IsPermutation (matched_after s (ts ++ more)) (matched_after s ts ++ added_after s ts more)
+TellingsAdd = (s : Strategy) (ts more : List Told) → IsPermutation (matched_after s (ts ++ more))
+    (matched_after s ts ++ added_after s ts more)
 
 -- and so many, told at once or one after the other
 abbrev pub TellingsCount : Type 0
 TellingsCount =
     (s : Strategy) (ts more rest : List Told)
-    → (length (matched_after s (ts ++ more)) ≡ length (matched_after s ts) + count_of_added s ts more) × (count_of_added s ts (more ++ rest) ≡ count_of_added s ts more + count_of_added s (ts ++ more) rest)
+    → (length (matched_after s (ts ++ more)) ≡ length (matched_after s ts)
+    + count_of_added s ts more) × (count_of_added s ts (more ++ rest) ≡ count_of_added s ts more
+    + count_of_added s (ts ++ more) rest)
 
 -- in whatever order
 abbrev pub TellingsInAnyOrder : Type 0
-TellingsInAnyOrder = (s : Strategy) (ts others : List Told) → IsPermutation ts others → IsPermutation (matched_after s ts) (matched_after s others)
+TellingsInAnyOrder = (s : Strategy) (ts others : List Told) → IsPermutation ts others
+    → IsPermutation (matched_after s ts) (matched_after s others)
 
 -- ---- what a matcher keeps
 
@@ -139,7 +149,8 @@ StoreWorks =
     (told : Option ℕ → List Kept) (st : Store (Unit {0}) ℕ) (ns : List (News (Unit {0}) ℕ))
     → IsStoreOf told st
     → IsStoreOf (λ l. told l ++ told_by_all ns l) (worked st ns)
-    × IsPermutation (items (λ l. told l ++ told_by_all ns l) st) (items told st ++ worked_items st ns)
+    × IsPermutation (items (λ l. told l ++ told_by_all ns l) st) (items told st
+    ++ worked_items st ns)
 
 -- a cross of one child is that child, and crosses may be nested either way
 abbrev pub CrossOfOne : Type 0

@@ -41,12 +41,14 @@ module _ {X F : Type 0} where
     -- that of a cross of what stands in front and these children
     pub crossed_with : ℕ → Store X F → Strategies → Store X F
     crossed_with i st no_strategies = st
-    crossed_with i st (strategy c cs) = crossed_with (i + length (leaf_names c)) (cross_store [] [] st (store_for i c)) cs
+    crossed_with i st (strategy c cs) = crossed_with (i + length (leaf_names c))
+        (cross_store [] [] st (store_for i c)) cs
 
     pub store_for_dot : ℕ → Strategies → Store X F
     store_for_dot i no_strategies = leaf_store None
     store_for_dot i (strategy c no_strategies) = store_for i c
-    store_for_dot i (strategy c (strategy d ds)) = dot_store [] [] (store_for i c) (store_for_dot (i + length (leaf_names c)) (strategy d ds))
+    store_for_dot i (strategy c (strategy d ds)) = dot_store [] [] (store_for i c)
+        (store_for_dot (i + length (leaf_names c)) (strategy d ds))
 
   -- the leaf with each number is told what the port of its name is told
   module _ (told : Option ℕ → List (Item X F)) (named : Name → List (Item X F)) where
@@ -74,8 +76,10 @@ module _ {X F : Type 0} where
     -- the lists that are kept are those of the children
     abbrev pub IsStoreOf : Store X F → Type 0
     IsStoreOf (leaf_store l) = Unit {0}
-    IsStoreOf (cross_store es ys f r) = IsStoreOf f × IsStoreOf r × IsPermutation es (only_jobs (items f)) × IsPermutation ys (items r)
-    IsStoreOf (dot_store xs ys f r) = IsStoreOf f × IsStoreOf r × IsPermutation xs (items f) × IsPermutation ys (items r)
+    IsStoreOf (cross_store es ys f r) = IsStoreOf f × IsStoreOf r
+        × IsPermutation es (only_jobs (items f)) × IsPermutation ys (items r)
+    IsStoreOf (dot_store xs ys f r) = IsStoreOf f × IsStoreOf r × IsPermutation xs (items f)
+        × IsPermutation ys (items r)
 
   -- ---- where the leaves are told more
 
@@ -98,13 +102,15 @@ module _ {X F : Type 0} where
     -- what is new: first from the first child's new items, then from the second's
     abbrev pub gain : Store X F → List (Item X F)
     gain (leaf_store l) = new l
-    gain (cross_store es ys f r) = crossed_items (gain f) ys ++ below_jobs (es ++ only_jobs (gain f)) (gain r)
+    gain (cross_store es ys f r) = crossed_items (gain f) ys
+        ++ below_jobs (es ++ only_jobs (gain f)) (gain r)
     gain (dot_store xs ys f r) = met_by_first (gain f) ys ++ met_by_second (xs ++ gain f) (gain r)
 
     -- with these added
     abbrev pub grown : Store X F → Store X F
     grown (leaf_store l) = leaf_store l
-    grown (cross_store es ys f r) = cross_store (es ++ only_jobs (gain f)) (ys ++ gain r) (grown f) (grown r)
+    grown (cross_store es ys f r) = cross_store (es ++ only_jobs (gain f)) (ys ++ gain r) (grown f)
+        (grown r)
     grown (dot_store xs ys f r) = dot_store (xs ++ gain f) (ys ++ gain r) (grown f) (grown r)
 
   -- ---- one item after the other

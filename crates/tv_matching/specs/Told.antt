@@ -155,13 +155,15 @@ IsListThere n (Some (list o vs)) = count vs ≡ n
 
 abbrev pub IsTrueOf : (Name → Traced) → (Name → ℕ) → Told → Type 0
 IsTrueOf values mismatch (arrival p q false) = (length q ≡ mismatch p) × IsThere (at (values p) q)
-IsTrueOf values mismatch (arrival p q true) = (length q < mismatch p) × IsFaultThere (at (values p) q)
+IsTrueOf values mismatch (arrival p q true) = (length q < mismatch p)
+    × IsFaultThere (at (values p) q)
 IsTrueOf values mismatch (faulty p q) = (length q ≡ mismatch p) × IsThere (at (values p) q)
 IsTrueOf values mismatch (close p q n) = (length q < mismatch p) × IsListThere n (at (values p) q)
 
 -- what was told of faults in bound values is true of these values
 abbrev pub TellsFaults : (Name → Traced) → Told → Type 0
-TellsFaults values (arrival p q false) = holds_fault (value_there (values p) (at (values p) q)) ≡ false
+TellsFaults values (arrival p q false) = holds_fault (value_there (values p) (at (values p) q))
+    ≡ false
 TellsFaults values (arrival p q true) = Unit {0}
 TellsFaults values (faulty p q) = holds_fault (value_there (values p) (at (values p) q)) ≡ true
 TellsFaults values (close p q n) = Unit {0}

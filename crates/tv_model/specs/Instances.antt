@@ -22,7 +22,8 @@ value_given vs x = unwrap_or (named x vs) (list tt no_trees)
 -- what an instance is given at the inputs of its flow
 abbrev pub given_of : Flow → List (Name × Value) → List (Name × Delivered)
 given_of flow vs =
-    map (λ x. (x.0, record { depth = x.1; value = input_value x.0 [] (value_given vs x.0) })) flow.inputs
+    map (λ x. (x.0, record { depth = x.1; value = input_value x.0 [] (value_given vs x.0) }))
+    flow.inputs
 
 -- the inputs of the flow that a job opens
 abbrev pub zip_names : List (Name × StepInput) → List Traced → List (Name × Value)
@@ -31,16 +32,23 @@ zip_names (i ∷ is) [] = []
 zip_names (i ∷ is) (v ∷ vs) = (i.0, plain v) ∷ zip_names is vs
 
 -- `inside` is the meaning of a nested flow under a job's name and on its inputs
-module _ (gives : Giving) (inside : Name → JobName → List (Name × Value) → Meaning) (instance : JobName) where
+module _ (gives : Giving) (inside : Name → JobName → List (Name × Value) → Meaning)
+    (instance : JobName) where
   abbrev pub with_fate : Step → Job → Fate → Opened
-  with_fate s j (right vs) = record { job = record j { ending = good_end; result = vs }; inside = None }
+  with_fate s j (right vs) = record {
+    job = record j { ending = good_end; result = vs };
+    inside = None;
+  }
   with_fate s j (wrong why) =
       let result = error_results j.name why [] (declared_depths s) in
       record { job = record j { ending = failed_end; result = result }; inside = None }
   with_fate s j (opens f) =
       let m = inside f j.name (zip_names s.inputs j.inputs) in
       let result = map (λ o. plain o.1) m.outputs in
-      record { job = record j { opens = Some f; ending = good_end; result = result }; inside = Some m }
+      record {
+        job = record j { opens = Some f; ending = good_end; result = result };
+        inside = Some m;
+      }
 
   -- a job whose inputs hold a fault
   abbrev pub bounced_job : Name → Step → List Origin → Place → List Traced → Job
@@ -71,11 +79,13 @@ module _ (gives : Giving) (inside : Name → JobName → List (Name × Value) �
   job_on n s waits q inputs =
       let bounced = bounced_job n s waits q inputs in
       let tried = tried_job s bounced in
-      if list_any (λ v. holds_fault v) inputs then record { job = bounced; inside = None } else tried
+      if list_any (λ v. holds_fault v) inputs then record { job = bounced; inside = None }
+      else tried
 
   -- the job that stands at a node of the step's iteration; `ended` is what the endings that it waits for need
   abbrev pub node_jobs : Name → Step → List Origin → Place × Iteration → List Opened
-  node_jobs n s ended (q, leaf sources (job b)) = job_on n s (sources ++ ended) q (bound_values s b) ∷ []
+  node_jobs n s ended (q, leaf sources (job b)) = job_on n s (sources ++ ended) q (bound_values s b)
+      ∷ []
   node_jobs n s ended (q, leaf sources (passed m e)) = []
   node_jobs n s ended (q, list sources ts) = []
 

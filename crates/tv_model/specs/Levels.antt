@@ -17,9 +17,19 @@ pub record Level : Type 0 where
 abbrev pub level_at : StepMeaning → Place × Iteration → Option Level
 level_at s (q, leaf r (job b)) = None
 level_at s (q, leaf r (passed m e)) =
-    Some (record { name = spot s.instance s.step q; instance = s.instance; sources = r; length = None })
+    Some (record {
+      name = spot s.instance s.step q;
+      instance = s.instance;
+      sources = r;
+      length = None;
+    })
 level_at s (q, list r ts) =
-    Some (record { name = spot s.instance s.step q; instance = s.instance; sources = r; length = Some (count ts) })
+    Some (record {
+      name = spot s.instance s.step q;
+      instance = s.instance;
+      sources = r;
+      length = Some (count ts);
+    })
 
 -- the lists and passed faults of all steps
 abbrev pub levels : List StepMeaning → List Level

@@ -56,4 +56,5 @@ result_of os k n =
 
 abbrev pub delivered_outputs : JobName → Name → List Opened → ℕ → Iteration → ℕ → List (Name × ℕ)
     → List (Name × Delivered)
-delivered_outputs instance s os levels it k ps = outputs_delivered instance s (result_of os) levels it k ps
+delivered_outputs instance s os levels it k ps = outputs_delivered instance s (result_of os) levels
+    it k ps

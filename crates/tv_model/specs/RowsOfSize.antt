@@ -48,10 +48,20 @@ LineOfOne =
     line (generated 1) ≡ codes "{\"outputs\":{\"out\":[[{\"error\":{\"at\":\"n[0,0]\",\"depth\":0,\"from\":[\"g[0,0]\"],\"why\":\"bounced\"}}]]},\"totals\":{\"attempts\":4,\"bounced\":1,\"failed\":1,\"jobs\":4}}\n"
 
 abbrev pub TotalsOfThree : Type 0
-TotalsOfThree = totals (meant (generated 3)).jobs ≡ record { attempts = 44; bounced = 1; failed = 1; jobs = 44 }
+TotalsOfThree = totals (meant (generated 3)).jobs ≡ record {
+  attempts = 44;
+  bounced = 1;
+  failed = 1;
+  jobs = 44;
+}
 
 abbrev pub TotalsOfTen : Type 0
-TotalsOfTen = totals (meant (generated 10)).jobs ≡ record { attempts = 499; bounced = 1; failed = 1; jobs = 499 }
+TotalsOfTen = totals (meant (generated 10)).jobs ≡ record {
+  attempts = 499;
+  bounced = 1;
+  failed = 1;
+  jobs = 499;
+}
 
 abbrev pub LengthOfTen : Type 0
 LengthOfTen = length (line (generated 10)) ≡ 775

@@ -44,7 +44,8 @@ joined_texts s (t ∷ u ∷ ts) = t ++ s ++ joined_texts s (u ∷ ts)
 -- each once, but for those already seen
 abbrev pub each_once : List Text → List Text → List Text
 each_once seen [] = []
-each_once seen (t ∷ ts) = if list_any (same_name t) seen then each_once seen ts else t ∷ each_once (t ∷ seen) ts
+each_once seen (t ∷ ts) = if list_any (same_name t) seen then each_once seen ts
+    else t ∷ each_once (t ∷ seen) ts
 
 -- the numbers from the first to the second
 abbrev pub range_of : Option ℕ → Option ℕ → Outcome

@@ -33,4 +33,9 @@ spot_view (spot.FlowOutput f p) = told.at_flow_output f p
 spot_view (spot.Given p) = told.at_given p
 
 abbrev pub fault_view : CheckFault → told.Complaint
-fault_view c = record { kind = kind_view c.kind; spot = spot_view c.spot; first = c.first; second = c.second }
+fault_view c = record {
+  kind = kind_view c.kind;
+  spot = spot_view c.spot;
+  first = c.first;
+  second = c.second;
+}

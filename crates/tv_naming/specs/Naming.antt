@@ -30,11 +30,13 @@ complain_if false c = []
 
 -- each link of a feed, in order
 abbrev pub link_complaints : Flow → Where → Feed → List Complaint
-link_complaints f w feed = flat_map (λ l. complain_if (not (is_there f l)) (plainly no_such_port w)) (feed_links feed)
+link_complaints f w feed = flat_map (λ l. complain_if (not (is_there f l)) (plainly no_such_port w))
+    (feed_links feed)
 
 -- each of these names stands among the others once, and there are no others
 abbrev pub are_the_same : List Name → List Name → Bool
-are_the_same ns ms = (length ns == length ms) && list_all (λ n. count_by (same_name n) ms == 1) ns && list_all (λ m. count_by (same_name m) ns == 1) ms
+are_the_same ns ms = (length ns == length ms) && list_all (λ n. count_by (same_name n) ms == 1) ns
+    && list_all (λ m. count_by (same_name m) ns == 1) ms
 
 abbrev pub fits_ports : Step → Strategy → Bool
 fits_ports s t = are_the_same (map (λ i. i.0) s.inputs) (leaf_names t)
@@ -48,18 +50,22 @@ abbrev pub input_complaints : Name → Flow → Name → Name × StepInput → L
 input_complaints f flow n i = link_complaints flow (at_input f n i.0) i.1.from
 
 abbrev pub strategy_complaints : Name → Name × Step → List Complaint
-strategy_complaints f (n, s) = option_map_or (λ t. complain_if (not (fits_ports s t)) (plainly strategy_ports (at_step f n))) s.strategy []
+strategy_complaints f (n, s) = option_map_or (λ t. complain_if (not (fits_ports s t))
+    (plainly strategy_ports (at_step f n))) s.strategy []
 
 abbrev pub after_complaints : Name → Flow → Name → ℕ × Name → List Complaint
-after_complaints f flow n (k, a) = complain_if (not (has_name flow.steps a)) (plainly no_such_port (at_after f n k))
+after_complaints f flow n (k, a) = complain_if (not (has_name flow.steps a))
+    (plainly no_such_port (at_after f n k))
 
 abbrev pub output_complaints : Name → Flow → Name × Feed → List Complaint
 output_complaints f flow o = link_complaints flow (at_flow_output f o.0) o.1
 
 module _ (knows : Name → Bool) (d : Document) where
   abbrev pub activity_complaints : Name → Name → ℕ × Activity → List Complaint
-  activity_complaints f n (k, service a) = complain_if (not (knows a)) (plainly no_such_service (at_activity f n k))
-  activity_complaints f n (k, nested g) = complain_if (not (has_name d.flows g)) (plainly no_such_flow (at_activity f n k))
+  activity_complaints f n (k, service a) = complain_if (not (knows a))
+      (plainly no_such_service (at_activity f n k))
+  activity_complaints f n (k, nested g) = complain_if (not (has_name d.flows g))
+      (plainly no_such_flow (at_activity f n k))
 
   -- a step: the links of its inputs, its strategy, its activities, and the steps that it runs after
   abbrev pub step_naming : Name → Flow → Name × Step → List Complaint
@@ -70,8 +76,10 @@ module _ (knows : Name → Bool) (d : Document) where
       ++ flat_map (after_complaints f flow n) (numbered 0 s.after)
 
   abbrev pub flow_naming : Name × Flow → List Complaint
-  flow_naming (f, flow) = flat_map (step_naming f flow) flow.steps ++ flat_map (output_complaints f flow) flow.outputs
+  flow_naming (f, flow) = flat_map (step_naming f flow) flow.steps
+      ++ flat_map (output_complaints f flow) flow.outputs
 
   -- the main flow, and then the flows in order
   abbrev pub naming_complaints : List Complaint
-  naming_complaints = complain_if (not (has_name d.flows d.main)) (plainly no_such_flow at_main) ++ flat_map flow_naming d.flows
+  naming_complaints = complain_if (not (has_name d.flows d.main)) (plainly no_such_flow at_main)
+      ++ flat_map flow_naming d.flows

@@ -53,7 +53,8 @@ impl At<'_> {
 
     /// The fault of this kind here, with its two numbers.
     pub fn refused(self, alloc: Global, kind: CheckKind, first: u32, second: u32) -> CheckRefused
-        ensures { StopsAt (with_numbers (kind_view kind) (at_view self.entry) first second ∷ []) result }
+        ensures { StopsAt (with_numbers (kind_view kind) (at_view self.entry) first second ∷ [])
+            result }
     {
         match self.spot(alloc) {
             Ok(spot) => CheckRefused::Check(CheckFault {

@@ -22,7 +22,8 @@ use tv_value::{Depths, Name, NoMemory, Value};
 /// input, values that haven't the declared depth, each in byte order. Linear in the values, of which the names are looked
 /// up by binary search.
 pub fn given_fault(alloc: Global, document: &Document) -> Result<Option<CheckFault>, NoMemory>
-    ensures { IfOk result (λ f. option_map fault_view f ≡ first_of (given_complaints (document_view document.now))) }
+    ensures { IfOk result (λ f. option_map fault_view f
+        ≡ first_of (given_complaints (document_view document.now))) }
 {
     match thing_of(&document.flows, &document.main) {
         Some(flow) => against_fault(alloc, &flow.inputs, &document.inputs),
@@ -36,7 +37,8 @@ fn against_fault(
     given: &Inputs,
 ) -> Result<Option<CheckFault>, NoMemory>
     requires { is_ascending (map (λ v. v.0) given.now) ≡ true }
-    ensures { IfOk result (λ f. option_map fault_view f ≡ first_of (given_against inputs.now (each value_view given.now))) }
+    ensures { IfOk result (λ f. option_map fault_view f
+        ≡ first_of (given_against inputs.now (each value_view given.now))) }
 {
     if let Some(fault) = missing_fault(alloc, inputs, given)? {
         return Ok(Some(fault));
@@ -53,7 +55,8 @@ fn missing_fault(
     given: &Inputs,
 ) -> Result<Option<CheckFault>, NoMemory>
     requires { is_ascending (map (λ v. v.0) given.now) ≡ true }
-    ensures { IfOk result (λ f. option_map fault_view f ≡ first_of (flat_map (missing_against (each value_view given.now)) inputs.now)) }
+    ensures { IfOk result (λ f. option_map fault_view f
+        ≡ first_of (flat_map (missing_against (each value_view given.now)) inputs.now)) }
 {
     for (name, _) in inputs.as_slice() {
         if !is_given(given, name) {
@@ -69,7 +72,8 @@ fn unknown_fault(
     inputs: &Depths,
     given: &Inputs,
 ) -> Result<Option<CheckFault>, NoMemory>
-    ensures { IfOk result (λ f. option_map fault_view f ≡ first_of (flat_map (unknown_against inputs.now) (each value_view given.now))) }
+    ensures { IfOk result (λ f. option_map fault_view f
+        ≡ first_of (flat_map (unknown_against inputs.now) (each value_view given.now))) }
 {
     for (name, _) in given.as_slice() {
         if !is_declared(inputs, name) {
@@ -85,7 +89,8 @@ fn depth_fault(
     inputs: &Depths,
     given: &Inputs,
 ) -> Result<Option<CheckFault>, NoMemory>
-    ensures { IfOk result (λ f. option_map fault_view f ≡ first_of (flat_map (depth_against inputs.now) (each value_view given.now))) }
+    ensures { IfOk result (λ f. option_map fault_view f
+        ≡ first_of (flat_map (depth_against inputs.now) (each value_view given.now))) }
 {
     for (name, value) in given.as_slice() {
         if let Some(fault) = value_fault(alloc, inputs, name, value)? {
@@ -101,7 +106,8 @@ fn value_fault(
     name: &Name,
     value: &Value,
 ) -> Result<Option<CheckFault>, NoMemory>
-    ensures { IfOk result (λ f. option_map fault_view f ≡ first_of (depth_against inputs.now (name.now, value_view value.now))) }
+    ensures { IfOk result (λ f. option_map fault_view f
+        ≡ first_of (depth_against inputs.now (name.now, value_view value.now))) }
 {
     match inputs.named(name) {
         Some(depth) => declared_fault(alloc, *depth, name, value),
@@ -115,7 +121,10 @@ fn declared_fault(
     name: &Name,
     value: &Value,
 ) -> Result<Option<CheckFault>, NoMemory>
-    ensures { IfOk result (λ f. option_map fault_view f ≡ first_of (complain_if (not (has_depth (value_view value.now) depth)) (with_numbers input_depth (at_given name.now) depth (unwrap_or (least_depth (value_view value.now)) 0)))) }
+    ensures { IfOk result (λ f. option_map fault_view f
+        ≡ first_of (complain_if (not (has_depth (value_view value.now) depth))
+        (with_numbers input_depth (at_given name.now) depth
+        (unwrap_or (least_depth (value_view value.now)) 0)))) }
 {
     if value.has_depth(depth) {
         return Ok(None);

@@ -24,7 +24,8 @@ pub fn naming_fault<V: Services>(
     alloc: Global,
     document: &Document,
 ) -> Result<Option<CheckFault>, NoMemory>
-    ensures { IfOk result (λ f. option_map fault_view f ≡ first_of (naming_complaints V.knows (document_view document.now))) }
+    ensures { IfOk result (λ f. option_map fault_view f
+        ≡ first_of (naming_complaints V.knows (document_view document.now))) }
 {
     if has_flow(document, &document.main) {
         flows_fault::<V>(alloc, document)
@@ -43,7 +44,9 @@ fn flows_fault<V: Services>(
     alloc: Global,
     document: &Document,
 ) -> Result<Option<CheckFault>, NoMemory>
-    ensures { IfOk result (λ f. option_map fault_view f ≡ first_of (flat_map (flow_naming V.knows (document_view document.now)) (document_view document.now).flows)) }
+    ensures { IfOk result (λ f. option_map fault_view f
+        ≡ first_of (flat_map (flow_naming V.knows (document_view document.now))
+        (document_view document.now).flows)) }
 {
     for (name, flow) in document.flows.as_slice() {
         if let Some(fault) = flow_fault::<V>(alloc, document, name, flow)? {
@@ -61,7 +64,9 @@ fn flow_fault<V: Services>(
     flow: &Flow,
 ) -> Result<Option<CheckFault>, NoMemory>
     requires { is_flow (flow_view flow.now) ≡ true }
-    ensures { IfOk result (λ f. option_map fault_view f ≡ first_of (flow_naming V.knows (document_view document.now) (name.now, flow_view flow.now))) }
+    ensures { IfOk result (λ f. option_map fault_view f
+        ≡ first_of (flow_naming V.knows (document_view document.now)
+        (name.now, flow_view flow.now))) }
 {
     if let Some(fault) = steps_fault::<V>(alloc, document, name, flow)? {
         return Ok(Some(fault));
@@ -76,7 +81,9 @@ fn steps_fault<V: Services>(
     flow: &Flow,
 ) -> Result<Option<CheckFault>, NoMemory>
     requires { is_flow (flow_view flow.now) ≡ true }
-    ensures { IfOk result (λ f. option_map fault_view f ≡ first_of (flat_map (step_naming V.knows (document_view document.now) name.now (flow_view flow.now)) (flow_view flow.now).steps)) }
+    ensures { IfOk result (λ f. option_map fault_view f
+        ≡ first_of (flat_map (step_naming V.knows (document_view document.now) name.now
+        (flow_view flow.now)) (flow_view flow.now).steps)) }
 {
     for (step_name, step) in flow.steps.as_slice() {
         if let Some(fault) = step_fault::<V>(alloc, document, name, flow, step_name, step)? {
@@ -97,7 +104,9 @@ fn step_fault<V: Services>(
 ) -> Result<Option<CheckFault>, NoMemory>
     requires flow { is_flow (flow_view flow.now) ≡ true }
     requires step { is_step (step_view step.now) ≡ true }
-    ensures { IfOk result (λ f. option_map fault_view f ≡ first_of (step_naming V.knows (document_view document.now) name.now (flow_view flow.now) (step_name.now, step_view step.now))) }
+    ensures { IfOk result (λ f. option_map fault_view f
+        ≡ first_of (step_naming V.knows (document_view document.now) name.now (flow_view flow.now)
+        (step_name.now, step_view step.now))) }
 {
     if let Some(fault) = inputs_fault(alloc, name, flow, step_name, &step.inputs)? {
         return Ok(Some(fault));
@@ -125,7 +134,9 @@ fn inputs_fault(
     inputs: &StepInputs,
 ) -> Result<Option<CheckFault>, NoMemory>
     requires { is_ascending (map (λ s. s.0) flow.now.steps) ≡ true }
-    ensures { IfOk result (λ f. option_map fault_view f ≡ first_of (flat_map (input_complaints name.now (flow_view flow.now) step_name.now) (each step_input_view inputs.now))) }
+    ensures { IfOk result (λ f. option_map fault_view f
+        ≡ first_of (flat_map (input_complaints name.now (flow_view flow.now) step_name.now)
+        (each step_input_view inputs.now))) }
 {
     for (port, input) in inputs.as_slice() {
         if !is_fed(flow, &input.from) {
@@ -142,7 +153,8 @@ fn strategy_fault(
     step_name: &Name,
     step: &Step,
 ) -> Result<Option<CheckFault>, NoMemory>
-    ensures { IfOk result (λ f. option_map fault_view f ≡ first_of (strategy_complaints name.now (step_name.now, step_view step.now))) }
+    ensures { IfOk result (λ f. option_map fault_view f
+        ≡ first_of (strategy_complaints name.now (step_name.now, step_view step.now))) }
 {
     match &step.strategy {
         Some(tree) => tree_fault(alloc, name, step_name, step, tree),
@@ -157,7 +169,9 @@ fn tree_fault(
     step: &Step,
     tree: &Tree,
 ) -> Result<Option<CheckFault>, NoMemory>
-    ensures { IfOk result (λ f. option_map fault_view f ≡ first_of (complain_if (not (fits_ports (step_view step.now) (strategy_view tree.now))) (plainly strategy_ports (at_step name.now step_name.now)))) }
+    ensures { IfOk result (λ f. option_map fault_view f
+        ≡ first_of (complain_if (not (fits_ports (step_view step.now) (strategy_view tree.now)))
+        (plainly strategy_ports (at_step name.now step_name.now)))) }
 {
     if fits_ports(alloc, step, tree)? {
         return Ok(None);
@@ -174,7 +188,9 @@ fn activities_fault<V: Services>(
     activities: &Activities,
 ) -> Result<Option<CheckFault>, NoMemory>
     requires { length activities.now < 2 ^ 32 }
-    ensures { IfOk result (λ f. option_map fault_view f ≡ first_of (flat_map (activity_complaints V.knows (document_view document.now) name.now step_name.now) (numbered 0 (map activity_view activities.now)))) }
+    ensures { IfOk result (λ f. option_map fault_view f
+        ≡ first_of (flat_map (activity_complaints V.knows (document_view document.now) name.now
+        step_name.now) (numbered 0 (map activity_view activities.now)))) }
 {
     for (position, activity) in activities.as_slice().iter().enumerate() {
         let position = position as u32;
@@ -195,7 +211,9 @@ fn activity_fault<V: Services>(
     position: u32,
     activity: &Activity,
 ) -> Result<Option<CheckFault>, NoMemory>
-    ensures { IfOk result (λ f. option_map fault_view f ≡ first_of (activity_complaints V.knows (document_view document.now) name.now step_name.now (position, activity_view activity.now))) }
+    ensures { IfOk result (λ f. option_map fault_view f
+        ≡ first_of (activity_complaints V.knows (document_view document.now) name.now step_name.now
+        (position, activity_view activity.now))) }
 {
     match activity {
         Activity::Service(service) => {
@@ -232,7 +250,10 @@ fn unless(
     step_name: &Name,
     position: u32,
 ) -> Result<Option<CheckFault>, NoMemory>
-    ensures { IfOk result (λ f. option_map fault_view f ≡ first_of (complain_if (not known) (plainly (kind_view kind) (at_activity name.now step_name.now position)))) }
+    ensures { IfOk result (λ f. option_map fault_view f
+        ≡ first_of
+        (complain_if (not known) (plainly (kind_view kind) (at_activity name.now step_name.now
+        position)))) }
 {
     if known {
         return Ok(None);
@@ -250,7 +271,9 @@ fn after_fault(
 ) -> Result<Option<CheckFault>, NoMemory>
     requires ordered { is_ascending (map (λ s. s.0) flow.now.steps) ≡ true }
     requires few { length after.now < 2 ^ 32 }
-    ensures { IfOk result (λ f. option_map fault_view f ≡ first_of (flat_map (after_complaints name.now (flow_view flow.now) step_name.now) (numbered 0 after.now))) }
+    ensures { IfOk result (λ f. option_map fault_view f
+        ≡ first_of (flat_map (after_complaints name.now (flow_view flow.now) step_name.now)
+        (numbered 0 after.now))) }
 {
     for (position, earlier) in after.as_slice().iter().enumerate() {
         if !has_step(flow, earlier) {
@@ -263,7 +286,9 @@ fn after_fault(
 
 fn outputs_fault(alloc: Global, name: &Name, flow: &Flow) -> Result<Option<CheckFault>, NoMemory>
     requires { is_ascending (map (λ s. s.0) flow.now.steps) ≡ true }
-    ensures { IfOk result (λ f. option_map fault_view f ≡ first_of (flat_map (output_complaints name.now (flow_view flow.now)) (flow_view flow.now).outputs)) }
+    ensures { IfOk result (λ f. option_map fault_view f
+        ≡ first_of (flat_map (output_complaints name.now (flow_view flow.now))
+        (flow_view flow.now).outputs)) }
 {
     for (port, feed) in flow.outputs.as_slice() {
         if !is_fed(flow, feed) {

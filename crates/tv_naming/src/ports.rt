@@ -32,14 +32,16 @@ fn are_the_ports(ports: &[(Name, StepInput)], leaves: &[&Name]) -> bool
 
 /// Whether each of the ports is a leaf, once.
 fn are_leaves(ports: &[(Name, StepInput)], leaves: &[&Name]) -> bool
-    ensures { result ≡ list_all (λ p. count_by (λ n. same_name p.0 n.now) leaves.now == 1) ports.now }
+    ensures { result ≡ list_all (λ p. count_by (λ n. same_name p.0 n.now) leaves.now == 1)
+        ports.now }
 {
     ports.iter().all(|port| leaf_count(leaves, &port.0) == 1)
 }
 
 /// Whether each of the leaves is a port, once.
 fn are_ports(leaves: &[&Name], ports: &[(Name, StepInput)]) -> bool
-    ensures { result ≡ list_all (λ n. count_by (λ p. same_name n.now p.0) ports.now == 1) leaves.now }
+    ensures { result ≡ list_all (λ n. count_by (λ p. same_name n.now p.0) ports.now == 1)
+        leaves.now }
 {
     leaves.iter().all(|leaf| port_count(ports, leaf) == 1)
 }
@@ -65,7 +67,8 @@ fn port_count(ports: &[(Name, StepInput)], name: &Name) -> usize
 /// Adds the leaves of a strategy, from left to right.
 #[cycle(push_leaves)]
 fn push_leaves<'a>(tree: &'a Tree, leaves: &mut Vec<&'a Name>) -> Result<(), NoMemory>
-    ensures { OnOk result (map (λ n. n.now) leaves.new.items ≡ map (λ n. n.now) leaves.old.items ++ leaf_names (strategy_view tree.now)) }
+    ensures { OnOk result (map (λ n. n.now) leaves.new.items ≡ map (λ n. n.now) leaves.old.items
+        ++ leaf_names (strategy_view tree.now)) }
 {
     match tree {
         Tree::Leaf(name) => push_leaf(name, leaves),
@@ -75,7 +78,8 @@ fn push_leaves<'a>(tree: &'a Tree, leaves: &mut Vec<&'a Name>) -> Result<(), NoM
 }
 
 fn push_leaf<'a>(name: &'a Name, leaves: &mut Vec<&'a Name>) -> Result<(), NoMemory>
-    ensures { OnOk result (map (λ n. n.now) leaves.new.items ≡ map (λ n. n.now) leaves.old.items ++ name.now ∷ []) }
+    ensures { OnOk result (map (λ n. n.now) leaves.new.items ≡ map (λ n. n.now) leaves.old.items
+        ++ name.now ∷ []) }
 {
     leaves.push(name)?;
     Ok(())
@@ -83,7 +87,8 @@ fn push_leaf<'a>(name: &'a Name, leaves: &mut Vec<&'a Name>) -> Result<(), NoMem
 
 #[cycle(push_leaves)]
 fn push_all_leaves<'a>(trees: &'a [Tree], leaves: &mut Vec<&'a Name>) -> Result<(), NoMemory>
-    ensures { OnOk result (map (λ n. n.now) leaves.new.items ≡ map (λ n. n.now) leaves.old.items ++ all_leaf_names (strategies_of (map strategy_view trees.now))) }
+    ensures { OnOk result (map (λ n. n.now) leaves.new.items ≡ map (λ n. n.now) leaves.old.items
+        ++ all_leaf_names (strategies_of (map strategy_view trees.now))) }
 {
     for tree in trees {
         push_leaves(tree, leaves)?;

@@ -29,13 +29,15 @@ module _ {B : Type 0} where
   -- a root alone
   pub record Plants (m m' : ℕ → Option (Entry B)) (n : ℕ) (b : B) : Type 0 where
     pub fresh : m n ≡ None
-    pub nodes : (spots : ℕ → Option Spot) → AreNodes m spots → AreNodes m' (with_spot spots n (root_spot))
+    pub nodes : (spots : ℕ → Option Spot) → AreNodes m spots
+        → AreNodes m' (with_spot spots n (root_spot))
     pub empty : (index : ℕ) → part_in m' n index ≡ None
     pub body : body_in m' n ≡ Some b
     pub others : (s : ℕ) → s ≢ n → m' s ≡ m s
 
   -- a part of the node in the slot s, with the spot p, now lies in the slot n
-  pub record HangsPart (m m' : ℕ → Option (Entry B)) (spots : ℕ → Option Spot) (s : ℕ) (p : Spot) (index n : ℕ) (b : B) : Type 0 where
+  pub record HangsPart (m m' : ℕ → Option (Entry B)) (spots : ℕ → Option Spot) (s : ℕ) (p : Spot)
+      (index n : ℕ) (b : B) : Type 0 where
     pub spot : Spot
     pub place : spot.place ≡ p.place ++ index ∷ []
     pub nodes : AreNodes m' (with_spot spots n spot)
@@ -43,7 +45,8 @@ module _ {B : Type 0} where
     pub part : part_in m' s index ≡ Some n
     pub empty : (i : ℕ) → part_in m' n i ≡ None
     pub body : body_in m' n ≡ Some b
-    pub parts : (t : ℕ) (q : Spot) (i : ℕ) → spots t ≡ Some q → (t ≡ s → i ≢ index) → part_in m' t i ≡ part_in m t i
+    pub parts : (t : ℕ) (q : Spot) (i : ℕ) → spots t ≡ Some q → (t ≡ s → i ≢ index) → part_in m' t i
+        ≡ part_in m t i
     pub bodies : (t : ℕ) (q : Spot) → spots t ≡ Some q → body_in m' t ≡ body_in m t
     pub others : (t : ℕ) → spots t ≡ None → t ≢ n → m' t ≡ m t
 

@@ -40,7 +40,8 @@ module _ {B : Type 0} where
     pub links : length entry.links ≡ 5
     pub index : entry.index < 2 ^ 32
 
-  pub record Leads (m : ℕ → Option (Entry B)) (spots : ℕ → Option Spot) (s : ℕ) (p : Spot) (e : Entry B) (by : ℕ) : Type 0 where
+  pub record Leads (m : ℕ → Option (Entry B)) (spots : ℕ → Option Spot) (s : ℕ) (p : Spot)
+      (e : Entry B) (by : ℕ) : Type 0 where
     pub spot : Spot
     pub entry : Entry B
     pub known : spots (leads e by) ≡ Some spot
@@ -50,7 +51,8 @@ module _ {B : Type 0} where
   -- the slots with a spot hold the nodes of trees
   pub record AreNodes (m : ℕ → Option (Entry B)) (spots : ℕ → Option Spot) : Type 0 where
     pub entries : (s : ℕ) (p : Spot) → spots s ≡ Some p → IsEntry m s
-    pub links : (s : ℕ) (p : Spot) (e : Entry B) (by : ℕ) → spots s ≡ Some p → m s ≡ Some e → by < 5 → leads e by ≢ nowhere → Leads m spots s p e by
+    pub links : (s : ℕ) (p : Spot) (e : Entry B) (by : ℕ) → spots s ≡ Some p → m s ≡ Some e → by < 5
+        → leads e by ≢ nowhere → Leads m spots s p e by
 
   -- the node in a slot of a region
   pub record IsNode (pool : Pool (Entry B)) (number s : ℕ) : Type 0 where

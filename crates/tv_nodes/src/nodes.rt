@@ -47,8 +47,10 @@ pub struct Gap {
 pub fn plant<B>(pool: &mut Pool<Entry<B>>, region: &Region, body: B) -> Result<Node, PutRefused<B>>
     requires { IsLive pool.old region.now }
     ensures region { IfOk result (λ node. region_of node ≡ number_of region.now) }
-    ensures ok { IfOk result (λ node. Plants (item_in pool.old (number_of region.now)) (item_in pool.new (number_of region.now)) (slot_of node) body) }
-    ensures count { OnOk result (count_in pool.new (number_of region.now) ≡ count_in pool.old (number_of region.now) + 1) }
+    ensures ok { IfOk result (λ node. Plants (item_in pool.old (number_of region.now))
+        (item_in pool.new (number_of region.now)) (slot_of node) body) }
+    ensures count { OnOk result (count_in pool.new (number_of region.now)
+        ≡ count_in pool.old (number_of region.now) + 1) }
     ensures refused { IfErr result (λ refused. refused.item ≡ body) }
     ensures unchanged { OnErr result (pool.new.regions ≡ pool.old.regions) }
     ensures kept { KeepsRegions pool.old pool.new (number_of region.now) }
@@ -93,7 +95,8 @@ fn body_of<B>(entry: Entry<B>) -> B
 /// It takes one step for each digit to base 4 that the index has in common with others, and at most 17.
 pub fn seek<B>(pool: &Pool<Entry<B>>, node: Link, index: u32) -> Stop
     requires { (number : ℕ) × IsNode pool.now number (lies_at node) }
-    ensures { (number : ℕ) → IsNode pool.now number (lies_at node) → EndsAt (item_in pool.now number) (lies_at node) index result }
+    ensures { (number : ℕ) → IsNode pool.now number (lies_at node)
+        → EndsAt (item_in pool.now number) (lies_at node) index result }
 {
     let mut at = node;
     let mut by = OWN;
@@ -121,10 +124,17 @@ pub fn seek<B>(pool: &Pool<Entry<B>>, node: Link, index: u32) -> Stop
 /// Hangs a part where a search for it ended.
 pub fn hang<B: Drop>(pool: &mut Pool<Entry<B>>, region: &Region, gap: Gap, body: B) -> Link
     requires live { IsLive pool.old region.now }
-    requires gap { (s : ℕ) × IsNode pool.old (number_of region.now) s × IsGap (item_in pool.old (number_of region.now)) s gap }
+    requires gap { (s : ℕ) × IsNode pool.old (number_of region.now) s
+        × IsGap (item_in pool.old (number_of region.now)) s gap }
     requires room { 0 < pool.old.spare }
-    ensures hangs { (s : ℕ) (spots : ℕ → Option Spot) (p : Spot) → IsGap (item_in pool.old (number_of region.now)) s gap → AreNodes (item_in pool.old (number_of region.now)) spots → spots s ≡ Some p → HangsPart (item_in pool.old (number_of region.now)) (item_in pool.new (number_of region.now)) spots s p (part_of_gap gap) (lies_at result) body }
-    ensures count { count_in pool.new (number_of region.now) ≡ count_in pool.old (number_of region.now) + 1 }
+    ensures hangs { (s : ℕ) (spots : ℕ → Option Spot) (p : Spot)
+        → IsGap (item_in pool.old (number_of region.now)) s gap
+        → AreNodes (item_in pool.old (number_of region.now)) spots → spots s ≡ Some p
+        → HangsPart (item_in pool.old (number_of region.now))
+        (item_in pool.new (number_of region.now)) spots s p (part_of_gap gap) (lies_at result)
+        body }
+    ensures count { count_in pool.new (number_of region.now)
+        ≡ count_in pool.old (number_of region.now) + 1 }
     ensures kept { KeepsRegions pool.old pool.new (number_of region.now) }
     ensures spare { pool.old.spare ≤ pool.new.spare + 1 }
 {
@@ -141,7 +151,8 @@ pub fn hang<B: Drop>(pool: &mut Pool<Entry<B>>, region: &Region, gap: Gap, body:
 /// What a node holds.
 pub fn body<B>(pool: &Pool<Entry<B>>, node: Link) -> &B
     requires { (number : ℕ) × IsNode pool.now number (lies_at node) }
-    ensures { (number : ℕ) → IsNode pool.now number (lies_at node) → body_in (item_in pool.now number) (lies_at node) ≡ Some result.now }
+    ensures { (number : ℕ) → IsNode pool.now number (lies_at node)
+        → body_in (item_in pool.now number) (lies_at node) ≡ Some result.now }
 {
     &pool.at(node).body
 }
@@ -149,9 +160,11 @@ pub fn body<B>(pool: &Pool<Entry<B>>, node: Link) -> &B
 /// Exchanges what a node holds.
 pub fn set_body<B: Drop>(pool: &mut Pool<Entry<B>>, node: Link, body: B)
     requires { (number : ℕ) × IsNode pool.old number (lies_at node) }
-    ensures sets { (number : ℕ) → IsNode pool.old number (lies_at node) → Sets (item_in pool.old number) (item_in pool.new number) (lies_at node) body }
+    ensures sets { (number : ℕ) → IsNode pool.old number (lies_at node)
+        → Sets (item_in pool.old number) (item_in pool.new number) (lies_at node) body }
     ensures count { (number : ℕ) → count_in pool.new number ≡ count_in pool.old number }
-    ensures kept { (number : ℕ) → IsNode pool.old number (lies_at node) → KeepsRegions pool.old pool.new number }
+    ensures kept { (number : ℕ) → IsNode pool.old number (lies_at node)
+        → KeepsRegions pool.old pool.new number }
     ensures spare { pool.new.spare ≡ pool.old.spare }
 {
     pool.at_mut(node).body = body;

@@ -34,7 +34,8 @@ module _ (held : JobName → List Job) (walks_into passes : Job → Bool) where
   entered_among inside entered [] = []
   entered_among inside entered (j ∷ js) =
       if walks_into j
-      then entered j.name ++ (if is_some (inside j.name) then [] else entered_among inside entered js)
+      then entered j.name ++ (if is_some (inside j.name) then []
+      else entered_among inside entered js)
       else (if passes j then [] else entered_among inside entered js)
 
   abbrev pub entered_in : ℕ → JobName → List JobName

@@ -28,7 +28,8 @@ pub record OpenedPart (gives : Giving) (d : Document) (j : Job) (g : Name) : Typ
   pub levels : ℕ
   pub flow : Flow
   pub is_flow : named g d.flows ≡ Some flow
-  pub part : IsInstance gives d.flows (meaning gives d) j.name levels flow (zip_names step.inputs j.inputs)
+  pub part : IsInstance gives d.flows (meaning gives d) j.name levels flow
+      (zip_names step.inputs j.inputs)
 
 abbrev pub PartsAreInstances : Type 0
 PartsAreInstances =

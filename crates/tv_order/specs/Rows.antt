@@ -56,5 +56,7 @@ OffersKeepInstancesOpen =
 -- the walk over all jobs of each instance goes into the first open one, and finds the job inside it
 abbrev pub WalksIntoOpenInstance : Type 0
 WalksIntoOpenInstance =
-    (first_name (first_in (own_jobs (meant opening)) has_open_now has_offer_now nesting_limit []) ≡ Some inner)
-    × (entered_in (own_jobs (meant opening)) has_open_now has_offer_now nesting_limit [] ≡ [] ∷ n0 ∷ [])
+    (first_name (first_in (own_jobs (meant opening)) has_open_now has_offer_now nesting_limit [])
+    ≡ Some inner)
+    × (entered_in (own_jobs (meant opening)) has_open_now has_offer_now nesting_limit [] ≡ [] ∷ n0
+    ∷ [])

@@ -7,14 +7,18 @@ use Rattle.tv_parts.specs.Changes.{arrive, close_at, CanArrive, CanClose}
 use Rattle.tv_outputs.specs.Known.{tree_in, depth_in}
 
 -- the values arrive at the place, each in the next tree from the first on, and all other trees stay
-pub record Arrive (first : ℕ) (q : Place) (values : List Value) (old new : List (Partial Value)) : Type 0 where
-  pub arrived : (k : ℕ) (value : Value) → slice_get values k ≡ Some value → tree_in new (first + k) ≡ arrive q value (tree_in old (first + k))
+pub record Arrive (first : ℕ) (q : Place) (values : List Value)
+    (old new : List (Partial Value)) : Type 0 where
+  pub arrived : (k : ℕ) (value : Value) → slice_get values k ≡ Some value → tree_in new (first + k)
+      ≡ arrive q value (tree_in old (first + k))
   pub others : (j : ℕ) → (j < first) ⊎ (first + length values ≤ j) → tree_in new j ≡ tree_in old j
   pub as_many : length new ≡ length old
 
 -- the list at the place is closed in so many trees from the first on, and all other trees stay
-pub record Close (first count : ℕ) (q : Place) (size : ℕ) (old new : List (Partial Value)) : Type 0 where
-  pub closed : (k : ℕ) → k < count → tree_in new (first + k) ≡ close_at q size (tree_in old (first + k))
+pub record Close (first count : ℕ) (q : Place) (size : ℕ) (old new : List (Partial Value)) : Type
+    0 where
+  pub closed : (k : ℕ) → k < count → tree_in new (first + k)
+      ≡ close_at q size (tree_in old (first + k))
   pub others : (j : ℕ) → (j < first) ⊎ (first + count ≤ j) → tree_in new j ≡ tree_in old j
   pub as_many : length new ≡ length old
 
@@ -25,13 +29,15 @@ pub record Turns (number : ℕ) (tree : Partial Value) (old new : List (Partial 
   pub as_many : length new ≡ length old
 
 -- there are so many trees from the first on, and in each something may arrive at the place
-pub record AllCanArrive (first count : ℕ) (q : Place) (ds : List ℕ) (trees : List (Partial Value)) : Type 0 where
+pub record AllCanArrive (first count : ℕ) (q : Place) (ds : List ℕ)
+    (trees : List (Partial Value)) : Type 0 where
   pub there : first + count ≤ length trees
   pub short : (k : ℕ) → k < count → length q ≤ depth_in ds (first + k)
   pub can : (k : ℕ) → k < count → CanArrive q (tree_in trees (first + k))
 
 -- and in each the list at the place may be closed with this length
-pub record AllCanClose (first count : ℕ) (q : Place) (size : ℕ) (ds : List ℕ) (trees : List (Partial Value)) : Type 0 where
+pub record AllCanClose (first count : ℕ) (q : Place) (size : ℕ) (ds : List ℕ)
+    (trees : List (Partial Value)) : Type 0 where
   pub there : first + count ≤ length trees
   pub short : (k : ℕ) → k < count → length q < depth_in ds (first + k)
   pub can : (k : ℕ) → k < count → CanClose q size (tree_in trees (first + k))
@@ -43,14 +49,16 @@ least_or_past q (Some least) = least
 
 -- at so many prefixes of the place, from the empty one on, the tree holds a fault
 abbrev pub HoldsFaults : Place → Partial Value → ℕ → Type 0
-HoldsFaults q tree count = (m : ℕ) → m ≤ length q → nat_lt m count ≡ holds_some holds_fault (known_at (take m q) tree)
+HoldsFaults q tree count = (m : ℕ) → m ≤ length q → nat_lt m count
+    ≡ holds_some holds_fault (known_at (take m q) tree)
 
 -- what is read where there is no such value
 abbrev pub no_value : Value
 no_value = text_value []
 
 -- so many counts of faults were pushed, for each tree its own
-pub record Counted (count : ℕ) (q : Place) (old new : List ℕ) (tree : ℕ → Partial Value) : Type 0 where
+pub record Counted (count : ℕ) (q : Place) (old new : List ℕ) (tree : ℕ → Partial Value) : Type
+    0 where
   pub added : List ℕ
   pub all : new ≡ old ++ added
   pub many : length added ≡ count
@@ -59,4 +67,5 @@ pub record Counted (count : ℕ) (q : Place) (old new : List ℕ) (tree : ℕ �
 -- the counts say which of these values hold a fault: those with one at the place itself
 pub record AreMarked (q : Place) (values : List Value) (counts : List ℕ) : Type 0 where
   pub many : length values ≤ length counts
-  pub each : (k : ℕ) → k < length values → nat_lt (length q) (slice_index_or counts k 0) ≡ holds_fault (slice_index_or values k no_value)
+  pub each : (k : ℕ) → k < length values → nat_lt (length q) (slice_index_or counts k 0)
+      ≡ holds_fault (slice_index_or values k no_value)

@@ -33,16 +33,20 @@ abbrev mutual
   EachPart P (part p ps) = EachItem P p × EachPart P ps
 
 -- the tree stands in the region on these slots, and its items are noted
-pub record IsKept (pool : Nodes) (region : Region) (tree : Handle Piece) (spots : ℕ → Option Spot) : Type 0 where
+pub record IsKept (pool : Nodes) (region : Region) (tree : Handle Piece) (spots : ℕ
+    → Option Spot) : Type 0 where
   pub stands : StandsOn pool tree spots
   pub within : IsIn tree region
   pub items : EachItem IsNoted (tree_of pool tree)
 
 -- each tree does, on slots that no other has, and the region has at most their nodes and so many others
-pub record AreKeptBeside (others : ℕ) (pool : Nodes) (region : Region) (trees : List (Handle Piece)) : Type 0 where
+pub record AreKeptBeside (others : ℕ) (pool : Nodes) (region : Region)
+    (trees : List (Handle Piece)) : Type 0 where
   pub slots : ℕ → ℕ → Option Spot
-  pub kept : (k : ℕ) (tree : Handle Piece) → slice_get trees k ≡ Some tree → IsKept pool region tree (slots k)
-  pub apart : (j k : ℕ) (one other : Handle Piece) → j ≢ k → slice_get trees j ≡ Some one → slice_get trees k ≡ Some other → Apart (slots j) (slots k)
+  pub kept : (k : ℕ) (tree : Handle Piece) → slice_get trees k ≡ Some tree
+      → IsKept pool region tree (slots k)
+  pub apart : (j k : ℕ) (one other : Handle Piece) → j ≢ k → slice_get trees j ≡ Some one
+      → slice_get trees k ≡ Some other → Apart (slots j) (slots k)
   pub few : count_in pool (number_of region) ≤ others + all_nodes (known_in pool trees)
 
 -- and the region has no others

@@ -32,7 +32,9 @@ pub(crate) fn arrive_in(
     requires can { CanArrive place.now (tree_of pool.old tree.old) }
     requires room { tree.old.depth < pool.old.spare }
     requires faulty { faulty ≡ holds_fault (piece_value piece) }
-    ensures tree { tree_of pool.new tree.new ≡ arrived place.now (marked_item piece (holds_fault (piece_value piece))) (tree_of pool.old tree.old) }
+    ensures tree { tree_of pool.new tree.new
+        ≡ arrived place.now (marked_item piece (holds_fault (piece_value piece)))
+        (tree_of pool.old tree.old) }
     ensures same { tree.new ≡ tree.old }
     ensures trees { KeepsTrees pool.old pool.new tree.old }
     ensures nodes { count_in pool.new (number_of region.now)
@@ -60,7 +62,8 @@ pub(crate) fn close_in(
     requires short { Rattle.std.specs.Prelude.length place.now < tree.old.depth }
     requires can { CanClose place.now length (tree_of pool.old tree.old) }
     requires room { tree.old.depth < pool.old.spare }
-    ensures tree { tree_of pool.new tree.new ≡ close_at place.now length (tree_of pool.old tree.old) }
+    ensures tree { tree_of pool.new tree.new
+        ≡ close_at place.now length (tree_of pool.old tree.old) }
     ensures same { tree.new ≡ tree.old }
     ensures trees { KeepsTrees pool.old pool.new tree.old }
     ensures nodes { count_in pool.new (number_of region.now)

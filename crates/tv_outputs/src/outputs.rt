@@ -83,7 +83,8 @@ impl Outputs {
         ensures ok { OnOk result (needed (depths_of self.now) first count ≤ pool.new.spare) }
         ensures regions { pool.new.regions ≡ pool.old.regions }
         ensures known { known pool.new self.now ≡ known pool.old self.now }
-        ensures stand { (region : InRegion) → Stand pool.old self.now region → Stand pool.new self.now region }
+        ensures stand { (region : InRegion) → Stand pool.old self.now region
+            → Stand pool.new self.now region }
         ensures spare { pool.old.spare ≤ pool.new.spare }
     {
         let mut nodes: u64 = 0;
@@ -113,15 +114,18 @@ impl Outputs {
     )
         requires live { IsLive pool.old region.now }
         requires stand { Stand pool.old self.old region.now }
-        requires can { AllCanArrive first (length pieces) place.now (depths_of self.old) (known pool.old self.old) }
+        requires can { AllCanArrive first (length pieces) place.now (depths_of self.old)
+            (known pool.old self.old) }
         requires sound { AreSound pieces }
         requires marked { AreMarked place.now (piece_values pieces) faults.now }
         requires room { needed (depths_of self.old) first (length pieces) ≤ pool.old.spare }
-        ensures known { Arrive first place.now (piece_values pieces) (known pool.old self.old) (known pool.new self.new) }
+        ensures known { Arrive first place.now (piece_values pieces) (known pool.old self.old)
+            (known pool.new self.new) }
         ensures depths { depths_of self.new ≡ depths_of self.old }
         ensures stand { Stand pool.new self.new region.now }
         ensures kept { KeepsRegions pool.old pool.new (number_of region.now) }
-        ensures spare { pool.old.spare ≤ pool.new.spare + needed (depths_of self.old) first (length pieces) }
+        ensures spare { pool.old.spare ≤ pool.new.spare + needed (depths_of self.old) first
+            (length pieces) }
     {
         let mut number = first;
         for piece in pieces.into_vec() {
@@ -149,7 +153,9 @@ impl Outputs {
         requires sound { IsSound piece }
         requires faulty { faulty ≡ holds_fault (piece_value piece) }
         requires room { depth_in (depths_of self.old) number < pool.old.spare }
-        ensures turns { Turns number (arrived place.now (piece_value piece) (tree_in (known pool.old self.old) number)) (known pool.old self.old) (known pool.new self.new) }
+        ensures turns { Turns number (arrived place.now (piece_value piece)
+            (tree_in (known pool.old self.old) number)) (known pool.old self.old)
+            (known pool.new self.new) }
         ensures same { self.new.trees.items ≡ self.old.trees.items }
         ensures stand { Stand pool.new self.new region.now }
         ensures kept { KeepsRegions pool.old pool.new (number_of region.now) }
@@ -171,9 +177,11 @@ impl Outputs {
     )
         requires live { IsLive pool.old region.now }
         requires stand { Stand pool.old self.old region.now }
-        requires can { AllCanClose first count place.now length (depths_of self.old) (known pool.old self.old) }
+        requires can { AllCanClose first count place.now length (depths_of self.old)
+            (known pool.old self.old) }
         requires room { needed (depths_of self.old) first count ≤ pool.old.spare }
-        ensures known { Close first count place.now length (known pool.old self.old) (known pool.new self.new) }
+        ensures known { Close first count place.now length (known pool.old self.old)
+            (known pool.new self.new) }
         ensures depths { depths_of self.new ≡ depths_of self.old }
         ensures stand { Stand pool.new self.new region.now }
         ensures kept { KeepsRegions pool.old pool.new (number_of region.now) }
@@ -196,10 +204,12 @@ impl Outputs {
         requires live { IsLive pool.old region.now }
         requires stand { Stand pool.old self.old region.now }
         requires there { number < Rattle.std.specs.Prelude.length (known pool.old self.old) }
-        requires short { Rattle.std.specs.Prelude.length place.now < depth_in (depths_of self.old) number }
+        requires short { Rattle.std.specs.Prelude.length place.now
+            < depth_in (depths_of self.old) number }
         requires can { CanClose place.now length (tree_in (known pool.old self.old) number) }
         requires room { depth_in (depths_of self.old) number < pool.old.spare }
-        ensures turns { Turns number (close_at place.now length (tree_in (known pool.old self.old) number)) (known pool.old self.old) (known pool.new self.new) }
+        ensures turns { Turns number (close_at place.now length (tree_in (known pool.old self.old)
+            number)) (known pool.old self.old) (known pool.new self.new) }
         ensures same { self.new.trees.items ≡ self.old.trees.items }
         ensures stand { Stand pool.new self.new region.now }
         ensures kept { KeepsRegions pool.old pool.new (number_of region.now) }
@@ -215,7 +225,8 @@ impl Outputs {
         requires there { number < length (known pool.now self.now) }
         requires short { length place.now ≤ depth_in (depths_of self.now) number }
         requires can { CanArrive place.now (tree_in (known pool.now self.now) number) }
-        ensures { (piece : APiece) → least_whole place.now (arrived place.now (piece_value piece) (tree_in (known pool.now self.now) number)) ≡ Some result }
+        ensures { (piece : APiece) → least_whole place.now (arrived place.now (piece_value piece)
+            (tree_in (known pool.now self.now) number)) ≡ Some result }
     {
         self.trees[number].whole_by_arrival(pool, place) as usize
     }
@@ -226,9 +237,13 @@ impl Outputs {
     pub fn whole_by_close(&self, pool: &Nodes, number: usize, place: &Place, length: u32) -> usize
         requires stand { (region : InRegion) × Stand pool.now self.now region }
         requires there { number < Rattle.std.specs.Prelude.length (known pool.now self.now) }
-        requires short { Rattle.std.specs.Prelude.length place.now < depth_in (depths_of self.now) number }
+        requires short { Rattle.std.specs.Prelude.length place.now
+            < depth_in (depths_of self.now) number }
         requires can { CanClose place.now length (tree_in (known pool.now self.now) number) }
-        ensures { result ≡ least_or_past place.now (least_whole place.now (close_at place.now length (tree_in (known pool.now self.now) number))) }
+        ensures { result
+            ≡ least_or_past place.now
+            (least_whole place.now (close_at place.now length (tree_in (known pool.now self.now)
+            number))) }
     {
         match self.trees[number].whole_by_close(pool, place, length) {
             Some(least) => least as usize,
@@ -248,8 +263,12 @@ impl Outputs {
         faults: &mut Faults,
     ) -> Result<(), NoMemory>
         requires stand { (region : InRegion) × Stand pool.now self.now region }
-        requires can { AllCanArrive first (length pieces.now) place.now (depths_of self.now) (known pool.now self.now) }
-        ensures { OnOk result (Counted (length pieces.now) place.now faults.old.items faults.new.items (λ k. arrived place.now (slice_index_or (piece_values pieces.now) k Rattle.tv_outputs.specs.Changes.no_value) (tree_in (known pool.now self.now) (first + k)))) }
+        requires can { AllCanArrive first (length pieces.now) place.now (depths_of self.now)
+            (known pool.now self.now) }
+        ensures { OnOk result (Counted (length pieces.now) place.now faults.old.items
+            faults.new.items (λ k. arrived place.now (slice_index_or (piece_values pieces.now) k
+            Rattle.tv_outputs.specs.Changes.no_value) (tree_in (known pool.now self.now) (first
+            + k)))) }
     {
         let mut number = first;
         for piece in pieces {
@@ -264,7 +283,8 @@ impl Outputs {
         requires stand { (region : InRegion) × Stand pool.now self.now region }
         requires there { number < length (known pool.now self.now) }
         requires can { CanArrive place.now (tree_in (known pool.now self.now) number) }
-        ensures { HoldsFaults place.now (arrived place.now (piece_value piece.now) (tree_in (known pool.now self.now) number)) result }
+        ensures { HoldsFaults place.now (arrived place.now (piece_value piece.now)
+            (tree_in (known pool.now self.now) number)) result }
     {
         if piece.holds_fault() {
             return place.as_slice().len() + 1;
@@ -284,7 +304,10 @@ impl Outputs {
     ) -> Result<(), NoMemory>
         requires stand { (region : InRegion) × Stand pool.now self.now region }
         requires there { first + count ≤ length (known pool.now self.now) }
-        ensures { OnOk result ((size : ℕ) → AllCanClose first count place.now size (depths_of self.now) (known pool.now self.now) → Counted count place.now faults.old.items faults.new.items (λ k. close_at place.now size (tree_in (known pool.now self.now) (first + k)))) }
+        ensures { OnOk result ((size : ℕ) → AllCanClose first count place.now size
+            (depths_of self.now) (known pool.now self.now)
+            → Counted count place.now faults.old.items faults.new.items
+            (λ k. close_at place.now size (tree_in (known pool.now self.now) (first + k)))) }
     {
         for number in first..first + count {
             faults.push(self.trees[number].marked_levels(pool, place))?;
@@ -322,8 +345,10 @@ impl Outputs {
     ) -> Result<Piece, NoMemory>
         requires stand { (region : InRegion) × Stand pool.now self.now region }
         requires there { number < length (known pool.now self.now) }
-        requires found { IsTrue (is_some (found_in place.now (tree_in (known pool.now self.now) number))) }
-        ensures value { IfOk result (λ p. found_in place.now (tree_in (known pool.now self.now) number) ≡ Some (piece_value p)) }
+        requires found { IsTrue
+            (is_some (found_in place.now (tree_in (known pool.now self.now) number))) }
+        ensures value { IfOk result (λ p. found_in place.now (tree_in (known pool.now self.now)
+            number) ≡ Some (piece_value p)) }
         ensures sound { IfOk result IsSound }
     {
         let tree = &self.trees[number];
@@ -361,7 +386,8 @@ impl Outputs {
     pub fn stands_at(&self, pool: &Nodes, number: usize, place: &[u32], value: &Value) -> bool
         requires stand { (region : InRegion) × Stand pool.now self.now region }
         requires there { number < length (known pool.now self.now) }
-        ensures { IsTrue result ↔ (found_in place.now (tree_in (known pool.now self.now) number) ≡ Some (view value.now)) }
+        ensures { IsTrue result ↔ (found_in place.now (tree_in (known pool.now self.now) number)
+            ≡ Some (view value.now)) }
     {
         found_is(&self.trees[number].look(pool), place, value)
     }
@@ -378,9 +404,12 @@ impl Outputs {
         requires stand { (region : InRegion) × Stand pool.now self.now region }
         requires there { number < length (known pool.now self.now) }
         requires can { CanArrive place.now (tree_in (known pool.now self.now) number) }
-        requires whole { whole (arrived place.now (piece_value piece.now) (tree_in (known pool.now self.now) number)) ≡ true }
+        requires whole { whole (arrived place.now (piece_value piece.now)
+            (tree_in (known pool.now self.now) number)) ≡ true }
         requires sound { IsSound piece.now }
-        ensures value { IfOk result (λ p. piece_value p ≡ value_in (arrived place.now (piece_value piece.now) (tree_in (known pool.now self.now) number))) }
+        ensures value { IfOk result (λ p. piece_value p
+            ≡ value_in (arrived place.now (piece_value piece.now) (tree_in (known pool.now self.now)
+            number))) }
         ensures sound { IfOk result IsSound }
     {
         let tree = &self.trees[number];
@@ -403,8 +432,10 @@ impl Outputs {
         requires stand { (region : InRegion) × Stand pool.now self.now region }
         requires there { number < Rattle.std.specs.Prelude.length (known pool.now self.now) }
         requires can { CanClose place.now length (tree_in (known pool.now self.now) number) }
-        requires whole { whole (close_at place.now length (tree_in (known pool.now self.now) number)) ≡ true }
-        ensures value { IfOk result (λ p. piece_value p ≡ value_in (close_at place.now length (tree_in (known pool.now self.now) number))) }
+        requires whole { whole (close_at place.now length (tree_in (known pool.now self.now)
+            number)) ≡ true }
+        ensures value { IfOk result (λ p. piece_value p
+            ≡ value_in (close_at place.now length (tree_in (known pool.now self.now) number))) }
         ensures sound { IfOk result IsSound }
     {
         let tree = &self.trees[number];

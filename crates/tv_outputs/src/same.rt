@@ -18,7 +18,8 @@ use tv_value::Value;
 /// `whole_is`.
 pub(crate) fn found_is(look: &Look<'_, Piece>, place: &[u32], value: &Value) -> bool
     requires { (r : Tree (Marked APiece)) × Shows look.now r × EachItem IsNoted r }
-    ensures { (r : Tree (Marked APiece)) → Shows look.now r → EachItem IsNoted r → IsTrue result ↔ (found_in place.now (shown r) ≡ Some (view value.now)) }
+    ensures { (r : Tree (Marked APiece)) → Shows look.now r → EachItem IsNoted r → IsTrue result
+        ↔ (found_in place.now (shown r) ≡ Some (view value.now)) }
 {
     let Some((first, rest)) = place.split_first() else {
         return whole_is(look, value);
@@ -36,7 +37,8 @@ pub(crate) fn found_is(look: &Look<'_, Piece>, place: &[u32], value: &Value) -> 
 #[cycle(whole_is)]
 fn whole_is(look: &Look<'_, Piece>, value: &Value) -> bool
     requires { (r : Tree (Marked APiece)) × Shows look.now r × EachItem IsNoted r }
-    ensures { (r : Tree (Marked APiece)) → Shows look.now r → EachItem IsNoted r → IsTrue result ↔ (found_in [] (shown r) ≡ Some (view value.now)) }
+    ensures { (r : Tree (Marked APiece)) → Shows look.now r → EachItem IsNoted r → IsTrue result
+        ↔ (found_in [] (shown r) ≡ Some (view value.now)) }
 {
     if let Some(piece) = look.item() {
         return piece.stands_for(value);
@@ -55,7 +57,8 @@ fn whole_is(look: &Look<'_, Piece>, value: &Value) -> bool
 #[cycle(whole_is)]
 fn parts_are(look: &Look<'_, Piece>, count: u32, values: &[Value]) -> bool
     requires { (r : Tree (Marked APiece)) × Shows look.now r × EachItem IsNoted r }
-    ensures { (r : Tree (Marked APiece)) → Shows look.now r → EachItem IsNoted r → IsTrue result ↔ AreParts (shown r) count (map view values.now) }
+    ensures { (r : Tree (Marked APiece)) → Shows look.now r → EachItem IsNoted r → IsTrue result
+        ↔ AreParts (shown r) count (map view values.now) }
 {
     if values.len() != count as usize {
         return false;

@@ -13,8 +13,10 @@ use Rattle.tv_parts.specs.Changes.{with_part, arrive, close_at, CanArrive, CanCl
 
 -- a tree below a value stays below when a part of the value arrives, or a list is closed with its length there
 pub record StayBelow : Type 0 where
-  pub arrival : (q : Place) (w : Value) (r : Partial Value) (v : Value) → Below r v → at v q ≡ Some w → Below (arrive q w r) v
-  pub close : (q : Place) (n : ℕ) (r : Partial Value) (v : Value) (m : Unit {0}) (us : Values) → Below r v → at v q ≡ Some (list m us) → count us ≡ n → Below (close_at q n r) v
+  pub arrival : (q : Place) (w : Value) (r : Partial Value) (v : Value) → Below r v → at v q
+      ≡ Some w → Below (arrive q w r) v
+  pub close : (q : Place) (n : ℕ) (r : Partial Value) (v : Value) (m : Unit {0}) (us : Values)
+      → Below r v → at v q ≡ Some (list m us) → count us ≡ n → Below (close_at q n r) v
 
 -- a whole tree below a value is the value
 abbrev pub WholeIsValue : Type 0
@@ -27,8 +29,10 @@ same_place = pointwise ◌==◌
 
 -- what was known stays; an item shows itself and all inside it besides, a closed list itself
 pub record ShowMore : Type 0 where
-  pub arrival : (q : Place) (w : Value) (r : Partial Value) → CanArrive q r → (s : Place) → shows (arrive q w r) s ≡ (shows r s || is_prefix q s)
-  pub close : (q : Place) (n : ℕ) (r : Partial Value) → CanClose q n r → (s : Place) → shows (close_at q n r) s ≡ (shows r s || same_place q s)
+  pub arrival : (q : Place) (w : Value) (r : Partial Value) → CanArrive q r → (s : Place)
+      → shows (arrive q w r) s ≡ (shows r s || is_prefix q s)
+  pub close : (q : Place) (n : ℕ) (r : Partial Value) → CanClose q n r → (s : Place)
+      → shows (close_at q n r) s ≡ (shows r s || same_place q s)
 
 -- ---- whole lists by counting
 
@@ -42,7 +46,8 @@ WholeByCount = (ps : Parts Value) → Counted ps
 
 -- where a part that wasn't whole is exchanged, the counter rises by one if the new part is whole, and else stands
 abbrev pub CounterRises : Type 0
-CounterRises = (r : Partial Value) (ps : Parts Value) (i : ℕ) → whole (part_of ps i) ≡ false → whole_count (with_part r ps i) ≡ one_if (whole r) + whole_count ps
+CounterRises = (r : Partial Value) (ps : Parts Value) (i : ℕ) → whole (part_of ps i) ≡ false
+    → whole_count (with_part r ps i) ≡ one_if (whole r) + whole_count ps
 
 -- what can still change stands in no whole list
 pub record ChangeNoWhole : Type 0 where
@@ -57,11 +62,15 @@ ShowsKnown r u = (s : Place) (x : Tree Bool Scalar) → at u s ≡ Some x → no
 
 -- then it is whole exactly where all nodes are known
 abbrev pub WholeWhereAllKnown : Type 0
-WholeWhereAllKnown = (r : Partial Value) (u : Tree Bool Scalar) → Below r (map_tree (λ b. tt) (λ a. a) u) → ShowsKnown r u → list_all (λ b. b) (notes u) ≡ whole r
+WholeWhereAllKnown = (r : Partial Value) (u : Tree Bool Scalar)
+    → Below r (map_tree (λ b. tt) (λ a. a) u) → ShowsKnown r u → list_all (λ b. b) (notes u)
+    ≡ whole r
 
 -- ---- where a change can be
 
 -- an item can arrive exactly at the places where nothing is known, and a list be closed where one grows that isn't longer
 pub record ChangeThere : Type 0 where
-  pub arrival : (q : Place) (r : Partial Value) → CanArrive q r ↔ ((is_place q r ≡ true) × (known_at q r ≡ wanting))
-  pub close : (q : Place) (n : ℕ) (r : Partial Value) → CanClose q n r ↔ ((is_place q r ≡ true) × MayClose n (known_at q r))
+  pub arrival : (q : Place) (r : Partial Value) → CanArrive q r
+      ↔ ((is_place q r ≡ true) × (known_at q r ≡ wanting))
+  pub close : (q : Place) (n : ℕ) (r : Partial Value) → CanClose q n r
+      ↔ ((is_place q r ≡ true) × MayClose n (known_at q r))

@@ -34,7 +34,10 @@ module _ {T : Type 0} where
   chain_items slots last zero = []
   chain_items slots last (suc before) = elim (slice_index_or slots last None) [
     | None ↦ []
-    | Some placed ↦ chain_items slots placed.previous before ++ record { item = placed.item; slot = last } ∷ []
+    | Some placed ↦ chain_items slots placed.previous before ++ record {
+      item = placed.item;
+      slot = last;
+    } ∷ []
   ]
 
   abbrev pub contents_of : List (Option (Placed T)) → Option (ℕ × Chain) → Option (Contents T)
@@ -47,16 +50,19 @@ module _ {T : Type 0} where
   contents_at slots table number = contents_of slots (find_from 0 table number)
 
   -- what stands under each number given so far
-  abbrev pub regions_of : List (Option (Placed T)) → List (Option Chain) → ℕ → List (Option (Contents T))
+  abbrev pub regions_of : List (Option (Placed T)) → List (Option Chain) → ℕ
+      → List (Option (Contents T))
   regions_of slots table begun = map (contents_at slots table) (range_with_len 0 begun)
 
   -- the regions have numbers of their own among those given, and chains that share no slot, since
   -- each slot has one place; the chains hold all items
   pub record IsLaidOut (nodes : Slab (Placed T)) (table : Slab Chain) (begun : ℕ) : Type 0 where
     pub numbered : (entry : ℕ) (c : Chain) → get table entry ≡ Some c → c.number < begun
-    pub apart : (one other : ℕ) (c d : Chain) → get table one ≡ Some c → get table other ≡ Some d → c.number ≡ d.number → one ≡ other
+    pub apart : (one other : ℕ) (c d : Chain) → get table one ≡ Some c → get table other ≡ Some d
+        → c.number ≡ d.number → one ≡ other
     pub places : Places
-    pub chained : (entry : ℕ) (c : Chain) → get table entry ≡ Some c → IsChain nodes.slots places c.number c.last c.count
+    pub chained : (entry : ℕ) (c : Chain) → get table entry ≡ Some c
+        → IsChain nodes.slots places c.number c.last c.count
     pub counted : slab_len nodes ≡ live_count (regions_of nodes.slots table.slots begun)
     pub room : slab_len nodes ≤ nodes.capacity
 

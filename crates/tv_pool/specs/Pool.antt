@@ -93,7 +93,10 @@ module _ {T : Type 0} where
 
   abbrev pub contents_written : ℕ → T → Option (Contents T) → Option (Contents T)
   contents_written slot item None = None
-  contents_written slot item (Some c) = Some (record { entry = c.entry; stored = map (with_lying slot item) c.stored })
+  contents_written slot item (Some c) = Some (record {
+    entry = c.entry;
+    stored = map (with_lying slot item) c.stored;
+  })
 
   abbrev pub with_linked : Pool T → Link → T → Pool T
   with_linked pool link item =
@@ -106,7 +109,8 @@ module _ {T : Type 0} where
   -- the region has the next number and is empty, and all else stays
   pub record Begins (old new : Pool T) (region : Region) : Type 0 where
     pub number : number_of region ≡ length old.regions
-    pub regions : new.regions ≡ old.regions ++ Some (record { entry = region.entry; stored = [] }) ∷ []
+    pub regions : new.regions ≡ old.regions ++ Some (record { entry = region.entry; stored = [] })
+        ∷ []
 
   -- the pool's regions with this in place of what stands under the number
   abbrev pub regions_with : Pool T → ℕ → Option (Contents T) → List (Option (Contents T))
@@ -115,24 +119,37 @@ module _ {T : Type 0} where
   -- the region's contents with one item more, last
   abbrev pub contents_with : Pool T → Region → Stored T → Contents T
   contents_with pool region last =
-      record { entry = region.entry; stored = stored_in (region_at pool region.number) ++ last ∷ [] }
+      record {
+        entry = region.entry;
+        stored = stored_in (region_at pool region.number) ++ last
+            ∷ [];
+      }
 
   -- the item is last in the region's list, the node is at its position, and all else stays
   pub record Puts (old new : Pool T) (region : Region) (item : T) (node : Node) : Type 0 where
     pub number : region_of node ≡ number_of region
     pub position : position_of node ≡ length (items_of old (number_of region))
-    pub regions : new.regions ≡ regions_with old (number_of region) (Some (contents_with old region (record { item = item; slot = node.slot })))
+    pub regions : new.regions ≡ regions_with old (number_of region)
+        (Some (contents_with old region (record { item = item; slot = node.slot })))
 
   -- what stands under the node's number, with this as the item at its position
   abbrev pub written : Option (Contents T) → Node → T → Option (Contents T)
   written None node item = None
   written (Some c) node item =
-      Some (record c { stored = slice_set c.stored node.position (record { item = item; slot = node.slot }) })
+      Some (record c {
+        stored = slice_set c.stored node.position (record {
+          item = item;
+          slot = node.slot;
+        });
+      })
 
   -- the pool with this as the item at the node's position
   abbrev pub with_item : Pool T → Node → T → Pool T
   with_item pool node item =
-      record pool { regions = regions_with pool (region_of node) (written (region_at pool (region_of node)) node item) }
+      record pool {
+        regions = regions_with pool (region_of node)
+            (written (region_at pool (region_of node)) node item);
+      }
 
   -- regions and nodes that were the pool's still are, and the nodes have the items that they had
   pub record Keeps (old new : Pool T) : Type 0 where
@@ -144,4 +161,5 @@ module _ {T : Type 0} where
   pub record KeepsOthers (old new : Pool T) (number : ℕ) : Type 0 where
     pub live : (region : Region) → number_of region ≢ number → IsLive old region → IsLive new region
     pub held : (node : Node) → region_of node ≢ number → Holds old node → Holds new node
-    pub items : (node : Node) → region_of node ≢ number → Holds old node → item_at new node ≡ item_at old node
+    pub items : (node : Node) → region_of node ≢ number → Holds old node → item_at new node
+        ≡ item_at old node

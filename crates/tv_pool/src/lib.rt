@@ -139,10 +139,12 @@ impl<T> Pool<T> {
     pub fn put(&mut self, region: &Region, item: T) -> Result<Node, PutRefused<T>>
         requires { IsLive self.old region.now }
         ensures ok { IfOk result (Puts self.old self.new region.now item) }
-        ensures last { OnOk result (items_of self.new (number_of region.now) ≡ items_of self.old (number_of region.now) ++ item ∷ []) }
+        ensures last { OnOk result (items_of self.new (number_of region.now)
+            ≡ items_of self.old (number_of region.now) ++ item ∷ []) }
         ensures holds { IfOk result (Holds self.new) }
         ensures item { IfOk result (λ node. item_at self.new node ≡ Some item) }
-        ensures fresh { IfOk result (λ node. item_in self.old (number_of region.now) (slot_of node) ≡ None) }
+        ensures fresh { IfOk result (λ node. item_in self.old (number_of region.now) (slot_of node)
+            ≡ None) }
         ensures lies { IfOk result (λ node. slot_of node ≢ nowhere) }
         ensures kept { Keeps self.old self.new }
         ensures refused { IfErr result (λ refused. refused.item ≡ item) }
@@ -190,7 +192,8 @@ impl<T> Pool<T> {
     /// The item that a link leads to, by one access of the memory.
     pub fn at(&self, link: Link) -> &T
         requires { IsLinked self.now link }
-        ensures { (number : ℕ) (item : T) → item_in self.now number (lies_at link) ≡ Some item → result.now ≡ item }
+        ensures { (number : ℕ) (item : T) → item_in self.now number (lies_at link) ≡ Some item
+            → result.now ≡ item }
     {
         &self.nodes[link.slot].item
     }
@@ -199,8 +202,10 @@ impl<T> Pool<T> {
     pub fn at_mut(&mut self, link: Link) -> &mut T
         requires { IsLinked self.old link }
         ensures* writes_back { sem 𝓛 (lends_linked T.row self.entry link result) }
-        ensures value { (number : ℕ) (item : T) → item_in self.old number (lies_at link) ≡ Some item → result.now ≡ item }
-        ensures alone { (number other : ℕ) (one two : T) → item_in self.old number (lies_at link) ≡ Some one → item_in self.old other (lies_at link) ≡ Some two → number ≡ other }
+        ensures value { (number : ℕ) (item : T) → item_in self.old number (lies_at link) ≡ Some item
+            → result.now ≡ item }
+        ensures alone { (number other : ℕ) (one two : T) → item_in self.old number (lies_at link)
+            ≡ Some one → item_in self.old other (lies_at link) ≡ Some two → number ≡ other }
     {
         self.nodes[link.slot].item_mut()
     }
@@ -214,7 +219,8 @@ impl<T> Pool<T> {
         requires { IsLive self.old region }
         ensures regions { self.new.regions ≡ regions_with self.old (number_of region) None }
         ensures kept { KeepsOthers self.old self.new (number_of region) }
-        ensures spare { self.new.spare ≡ self.old.spare + length (items_of self.old (number_of region)) }
+        ensures spare { self.new.spare ≡ self.old.spare
+            + length (items_of self.old (number_of region)) }
     {
         let chain = self.regions.remove(region.entry);
         let mut slot = chain.last;

@@ -171,7 +171,8 @@ fn others_of(nodes: &[Node], number: usize, alloc: Global) -> Result<Vec<Node>, 
 fn write(pool: &mut Pool<u64>, nodes: &[Node], at: usize, item: u64) -> Option<Node>
     requires nodes { All (Holds pool.old) nodes.now }
     ensures nodes { All (Holds pool.new) nodes.now }
-    ensures regions { (regions : List (Option Region)) → KnowsRegions pool.old regions → KnowsRegions pool.new regions }
+    ensures regions { (regions : List (Option Region)) → KnowsRegions pool.old regions
+        → KnowsRegions pool.new regions }
 {
     if at >= nodes.len() {
         return None;

@@ -16,4 +16,5 @@ module _ (jobs : List (ℕ × List ℕ)) (ss : List ℕ) where
 
   -- but for the first
   abbrev pub IsHeapButFirst : Type 0
-  IsHeapButFirst = (p k : ℕ) → p * 2 + 1 ≤ k → k ≤ p * 2 + 2 → k < length ss → 1 ≤ p → IsNotBefore k p
+  IsHeapButFirst = (p k : ℕ) → p * 2 + 1 ≤ k → k ≤ p * 2 + 2 → k < length ss → 1 ≤ p
+      → IsNotBefore k p

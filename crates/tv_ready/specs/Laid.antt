@@ -20,7 +20,8 @@ is_late_first jobs [] (t ∷ ts) = true
 is_late_first jobs (q ∷ qs) (t ∷ ts) = is_before jobs t q
 
 -- those in the queue in order, the others a heap, and room in both for as many as the table has room for
-pub record AreKept (t : Rows) (queue : List ℕ) (queue_capacity : ℕ) (late : List ℕ) (late_capacity : ℕ) : Type 0 where
+pub record AreKept (t : Rows) (queue : List ℕ) (queue_capacity : ℕ) (late : List ℕ)
+    (late_capacity : ℕ) : Type 0 where
   pub queue_within : are_within t.jobs queue ≡ true
   pub late_within : are_within t.jobs late ≡ true
   pub queue_rises : rises (is_before t.jobs) queue ≡ true

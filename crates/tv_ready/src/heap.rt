@@ -47,7 +47,8 @@ fn lesser_below(jobs: &[usize], table: &Table, at: usize) -> usize
     requires within { are_within table.now.jobs jobs.now ≡ true }
     requires some { at * 2 + 1 < length jobs.now }
     ensures below { (at * 2 + 1 ≤ result) × (result ≤ at * 2 + 2) × (result < length jobs.now) }
-    ensures lesser { (k : ℕ) → at * 2 + 1 ≤ k → k ≤ at * 2 + 2 → k < length jobs.now → IsNotBefore table.now.jobs jobs.now k result }
+    ensures lesser { (k : ℕ) → at * 2 + 1 ≤ k → k ≤ at * 2 + 2 → k < length jobs.now
+        → IsNotBefore table.now.jobs jobs.now k result }
 {
     let left = at * 2 + 1;
     if left + 1 < jobs.len() && table.is_before(jobs[left + 1], jobs[left]) {

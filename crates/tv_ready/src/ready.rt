@@ -147,7 +147,8 @@ impl Ready {
     /// has, and one without a mark there hasn't. Takes no memory. Logarithmic, and linear in those that came late, and in those
     /// that have gone and stand between the place and the answer.
     pub fn first_after(&self, place: &[u32], gone: &[bool]) -> Option<(u32, &[u32])>
-        ensures { option_map (λ j. (j.0, j.1.now)) result ≡ slice_get (sought place.now gone.now self.now.jobs) 0 }
+        ensures { option_map (λ j. (j.0, j.1.now)) result
+            ≡ slice_get (sought place.now gone.now self.now.jobs) 0 }
     {
         let queued = first_queued(&self.table, &self.queue, place, gone);
         let late = first_late(&self.table, self.late.as_slice(), place, gone);

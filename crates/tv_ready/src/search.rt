@@ -17,7 +17,8 @@ pub(crate) fn first_queued(
 ) -> Option<usize>
     requires within { are_within table.now.jobs queue.now.items ≡ true }
     requires rises { rises (is_before table.now.jobs) queue.now.items ≡ true }
-    ensures { IsFirst (is_before table.now.jobs) (is_sought_at place.now gone.now table.now.jobs) queue.now.items result }
+    ensures { IsFirst (is_before table.now.jobs) (is_sought_at place.now gone.now table.now.jobs)
+        queue.now.items result }
 {
     for position in up_to(table, queue, place)..queue.len() {
         let at = queue[position];
@@ -33,7 +34,8 @@ fn up_to(table: &Table, queue: &VecDeque<usize>, place: &[u32]) -> usize
     requires within { are_within table.now.jobs queue.now.items ≡ true }
     requires rises { rises (is_before table.now.jobs) queue.now.items ≡ true }
     ensures inside { result ≤ length queue.now.items }
-    ensures before { (k : ℕ) → k < result → stands_after place.now (place_at table.now.jobs (slice_index queue.now.items k)) ≡ false }
+    ensures before { (k : ℕ) → k < result
+        → stands_after place.now (place_at table.now.jobs (slice_index queue.now.items k)) ≡ false }
 {
     let mut low = 0;
     let mut high = queue.len();
@@ -56,7 +58,8 @@ pub(crate) fn first_late(
     gone: &[bool],
 ) -> Option<usize>
     requires { are_within table.now.jobs late.now ≡ true }
-    ensures { IsFirst (is_before table.now.jobs) (is_sought_at place.now gone.now table.now.jobs) late.now result }
+    ensures { IsFirst (is_before table.now.jobs) (is_sought_at place.now gone.now table.now.jobs)
+        late.now result }
 {
     let mut first = None;
     for at in late {
@@ -76,7 +79,8 @@ fn is_sought(table: &Table, at: usize, place: &[u32], gone: &[bool]) -> bool
 /// A job itself, where it stands after a place and hasn't gone.
 fn sought(table: &Table, at: usize, place: &[u32], gone: &[bool]) -> Option<usize>
     requires { at < length table.now.jobs }
-    ensures { result ≡ (if is_sought_at place.now gone.now table.now.jobs at then Some at else None) }
+    ensures { result ≡ (if is_sought_at place.now gone.now table.now.jobs at then Some at
+        else None) }
 {
     if is_sought(table, at, place, gone) {
         Some(at)

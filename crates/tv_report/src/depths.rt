@@ -108,7 +108,11 @@ fn push_input(
     input: &(Name, StepInput),
     delivered: &(Name, u32),
 ) -> Result<(), NoMemory>
-    ensures { OnOk result (string_bytes text.new ≡ string_bytes text.old ++ planned_input flow.now step.now ((input.now.0, step_input_view input.now.1), delivered.now)) }
+    ensures { OnOk result (string_bytes text.new ≡ string_bytes text.old
+        ++ planned_input flow.now step.now (
+          (input.now.0, step_input_view input.now.1),
+          delivered.now,
+        )) }
 {
     push_port(text, "in", flow, step, &input.0)?;
     push_depths(text, input.1.depth, u64::from(delivered.1))

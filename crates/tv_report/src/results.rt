@@ -51,7 +51,9 @@ fn put_result(
     outputs: &NamedValues,
     totals: &Totals,
 ) -> Result<(), NoMemory>
-    ensures { OnOk result (Adds out.old out.new (tokens_of (result_json (each view outputs.now) (totals_view totals.now)))) }
+    ensures { OnOk result
+        (Adds out.old out.new
+        (tokens_of (result_json (each view outputs.now) (totals_view totals.now)))) }
 {
     begin_object(out)?;
     put_key(out, "outputs")?;
@@ -93,7 +95,9 @@ fn end_object(out: &mut Writer) -> Result<(), NoMemory>
 }
 
 fn put_outputs(alloc: Global, out: &mut Writer, outputs: &NamedValues) -> Result<(), NoMemory>
-    ensures { OnOk result (Adds out.old out.new (tokens_of (object (members (map (λ o. (o.0, json o.1)) (each view outputs.now)))))) }
+    ensures { OnOk result
+        (Adds out.old out.new
+        (tokens_of (object (members (map (λ o. (o.0, json o.1)) (each view outputs.now)))))) }
 {
     begin_object(out)?;
     put_members(alloc, out, outputs.as_slice())?;
@@ -102,7 +106,8 @@ fn put_outputs(alloc: Global, out: &mut Writer, outputs: &NamedValues) -> Result
 }
 
 fn put_members(alloc: Global, out: &mut Writer, outputs: &[(Name, Value)]) -> Result<(), NoMemory>
-    ensures { OnOk result (Adds out.old out.new (flat_map (λ o. value_member (o.0, view o.1)) outputs.now)) }
+    ensures { OnOk result (Adds out.old out.new (flat_map (λ o. value_member (o.0, view o.1))
+        outputs.now)) }
 {
     for output in outputs {
         put_member(alloc, out, output)?;
@@ -118,7 +123,8 @@ fn put_member(alloc: Global, out: &mut Writer, output: &(Name, Value)) -> Result
 }
 
 fn put_totals(out: &mut Writer, totals: &Totals) -> Result<(), NoMemory>
-    ensures { OnOk result (Adds out.old out.new (tokens_of (totals_json (totals_view totals.now)))) }
+    ensures { OnOk result
+        (Adds out.old out.new (tokens_of (totals_json (totals_view totals.now)))) }
 {
     begin_object(out)?;
     put_number(out, "attempts", totals.attempts)?;
@@ -159,7 +165,8 @@ fn put_value(alloc: Global, out: &mut Writer, value: &Value) -> Result<(), NoMem
 
 #[cycle(putting)]
 fn put_items(alloc: Global, out: &mut Writer, items: &Items) -> Result<(), NoMemory>
-    ensures { OnOk result (Adds out.old out.new (tokens_of (array (all_json (items_view items.now))))) }
+    ensures { OnOk result
+        (Adds out.old out.new (tokens_of (array (all_json (items_view items.now))))) }
 {
     begin_array(out)?;
     put_values(alloc, out, &items.values)?;
@@ -169,7 +176,8 @@ fn put_items(alloc: Global, out: &mut Writer, items: &Items) -> Result<(), NoMem
 
 #[cycle(putting)]
 fn put_values(alloc: Global, out: &mut Writer, values: &[Value]) -> Result<(), NoMemory>
-    ensures { OnOk result (Adds out.old out.new (flat_map (λ v. tokens_of (json (view v))) values.now)) }
+    ensures { OnOk result (Adds out.old out.new (flat_map (λ v. tokens_of (json (view v)))
+        values.now)) }
 {
     for value in values {
         put_value(alloc, out, value)?;
@@ -203,7 +211,8 @@ fn put_error_fields(alloc: Global, out: &mut Writer, error: &ErrorDoc) -> Result
 }
 
 fn put_names(alloc: Global, out: &mut Writer, names: &JobNames) -> Result<(), NoMemory>
-    ensures { OnOk result (Adds out.old out.new (tokens_of (array (strings (map job_text names.now))))) }
+    ensures { OnOk result
+        (Adds out.old out.new (tokens_of (array (strings (map job_text names.now))))) }
 {
     begin_array(out)?;
     put_each_name(alloc, out, names.as_slice())?;
@@ -212,7 +221,8 @@ fn put_names(alloc: Global, out: &mut Writer, names: &JobNames) -> Result<(), No
 }
 
 fn put_each_name(alloc: Global, out: &mut Writer, names: &[JobName]) -> Result<(), NoMemory>
-    ensures { OnOk result (Adds out.old out.new (flat_map (λ n. Spec.string (job_text n) ∷ []) names.now)) }
+    ensures { OnOk result (Adds out.old out.new (flat_map (λ n. Spec.string (job_text n) ∷ [])
+        names.now)) }
 {
     for name in names {
         put_name(alloc, out, name)?;

@@ -25,7 +25,8 @@ pub fn error_pieces(
     outputs: &Depths,
 ) -> Result<Pieces, NoMemory>
     ensures sound { IfOk result AreSound }
-    ensures values { IfOk result (λ ps. piece_values ps ≡ error_results at why from (map (λ o. o.1) outputs.now)) }
+    ensures values { IfOk result (λ ps. piece_values ps
+        ≡ error_results at why from (map (λ o. o.1) outputs.now)) }
 {
     let cell = error_cell(alloc, at, why, from)?;
     fault_pieces(alloc, &cell, outputs.as_slice())
@@ -35,7 +36,8 @@ pub fn error_pieces(
 fn fault_pieces(alloc: Global, cell: &Cell, outputs: &[(Name, u32)]) -> Result<Pieces, NoMemory>
     requires { IsTrue (is_document (Some (view cell.now))) }
     ensures sound { IfOk result AreSound }
-    ensures values { IfOk result (λ ps. piece_values ps ≡ map (λ o. fault_value (with_depth o.1 (document_of (view cell.now)))) outputs.now) }
+    ensures values { IfOk result (λ ps. piece_values ps
+        ≡ map (λ o. fault_value (with_depth o.1 (document_of (view cell.now)))) outputs.now) }
 {
     let mut pieces = Vec::with_capacity(alloc, outputs.len())?;
     for output in outputs {
@@ -46,7 +48,12 @@ fn fault_pieces(alloc: Global, cell: &Cell, outputs: &[(Name, u32)]) -> Result<P
 
 /// A cell of an error document without levels.
 fn error_cell(alloc: Global, at: JobName, why: Text, from: JobNames) -> Result<Cell, NoMemory>
-    ensures { IfOk result (λ c. view c ≡ fault_value (record { at = at; depth = 0; why = why; from = from })) }
+    ensures { IfOk result (λ c. view c ≡ fault_value (record {
+      at = at;
+      depth = 0;
+      why = why;
+      from = from;
+    })) }
 {
     let depth = 0;
     let error = ErrorDoc {
@@ -68,7 +75,8 @@ pub fn bounced_pieces(
 ) -> Result<Pieces, NoMemory>
     requires { AreSound inputs.now }
     ensures sound { IfOk result AreSound }
-    ensures values { IfOk result (λ ps. piece_values ps ≡ error_results at (codes "bounced") (fault_makers (piece_values inputs.now)) (map (λ o. o.1) outputs.now)) }
+    ensures values { IfOk result (λ ps. piece_values ps ≡ error_results at (codes "bounced")
+        (fault_makers (piece_values inputs.now)) (map (λ o. o.1) outputs.now)) }
 {
     let from = makers_in(alloc, inputs)?;
     error_pieces(alloc, at, Text::from_str(alloc, "bounced")?, from, outputs)
@@ -85,7 +93,8 @@ fn makers_in(alloc: Global, pieces: &[Piece]) -> Result<JobNames, NoMemory>
 
 /// The jobs that made the faults in these values, in order, each once.
 fn makers_of(alloc: Global, values: Items) -> Result<JobNames, NoMemory>
-    ensures { IfOk result (λ ns. ns ≡ in_order job_name_cmp (makers_of (all_leaves (items_view values)))) }
+    ensures { IfOk result (λ ns. ns
+        ≡ in_order job_name_cmp (makers_of (all_leaves (items_view values)))) }
 {
     Value::List(values).faults(alloc)
 }

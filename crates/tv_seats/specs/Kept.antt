@@ -31,7 +31,8 @@ abbrev pub IsJobAt : (Stage → Bool) → List Seat → ℕ → ℕ × List ℕ 
 IsJobAt is seats k j = (s : Seat) × IsSeatAt is seats k j.0 s × (s.place ≡ j.1)
 
 -- those of step k, in order of place
-pub record AreJobsAt (is : Stage → Bool) (seats : List Seat) (k : ℕ) (js : List (ℕ × List ℕ)) : Type 0 where
+pub record AreJobsAt (is : Stage → Bool) (seats : List Seat) (k : ℕ) (js : List (ℕ × List ℕ)) : Type
+    0 where
   pub in_order : rises js ≡ true
   pub each : (j : ℕ × List ℕ) → IsOneOf j js → IsJobAt is seats k j
   pub all : (j : ℕ × List ℕ) → IsJobAt is seats k j → IsOneOf j js

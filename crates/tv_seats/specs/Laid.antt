@@ -6,7 +6,11 @@ use Rattle.tv_seats.specs.declared.table.Row.{Row}
 use Rattle.tv_seats.specs.Seats.{Seat}
 
 abbrev pub seat_of : List ℕ → Row → Seat
-seat_of indices r = record { step = r.step; place = take r.levels (drop r.start indices); stage = r.stage }
+seat_of indices r = record {
+  step = r.step;
+  place = take r.levels (drop r.start indices);
+  stage = r.stage;
+}
 
 abbrev pub shown : List ℕ → List Row → List Seat
 shown indices rows = map (seat_of indices) rows

@@ -80,11 +80,13 @@ impl StepSeats {
 
     /// Takes the room for one more open flow.
     pub(crate) fn reserve_nested(&mut self) -> Result<(), NoMemory>
-        requires room { length self.old.nested.items + self.old.nested_room ≤ vec_capacity self.old.nested }
+        requires room { length self.old.nested.items + self.old.nested_room
+            ≤ vec_capacity self.old.nested }
         ensures idle { self.new.idle ≡ self.old.idle }
         ensures aside { self.new.aside ≡ self.old.aside }
         ensures nested { self.new.nested.items ≡ self.old.nested.items }
-        ensures room { length self.new.nested.items + self.new.nested_room ≤ vec_capacity self.new.nested }
+        ensures room { length self.new.nested.items + self.new.nested_room
+            ≤ vec_capacity self.new.nested }
         ensures ok { OnOk result (self.new.nested_room ≡ 1) }
         ensures refused { OnErr result (self.new.nested_room ≡ self.old.nested_room) }
         ensures running { self.new.running ≡ self.old.running }
@@ -99,7 +101,8 @@ impl StepSeats {
     pub(crate) fn hand_out(&mut self, waited: bool)
         requires running { self.old.running + (if waited then 1 else 0) < 2 ^ 32 }
         requires out { self.old.out + 1 < 2 ^ 32 }
-        ensures jobs { self.new.idle.jobs ≡ (if waited then self.old.idle.jobs else drop 1 self.old.idle.jobs) }
+        ensures jobs { self.new.idle.jobs ≡ (if waited then self.old.idle.jobs
+            else drop 1 self.old.idle.jobs) }
         ensures levels { self.new.idle.levels ≡ self.old.idle.levels }
         ensures room { self.new.idle.room ≡ self.old.idle.room }
         ensures aside { self.new.aside ≡ self.old.aside }
@@ -157,15 +160,18 @@ impl StepSeats {
     pub(crate) fn nest(&mut self, number: u32, waited: bool, position: usize)
         requires position { position ≤ length self.old.nested.items }
         requires room { 0 < self.old.nested_room }
-        requires capacity { length self.old.nested.items + self.old.nested_room ≤ vec_capacity self.old.nested }
+        requires capacity { length self.old.nested.items + self.old.nested_room
+            ≤ vec_capacity self.old.nested }
         requires running { self.old.running + (if waited then 1 else 0) < 2 ^ 32 }
         ensures idle { self.new.idle ≡ self.old.idle }
-        ensures jobs { self.new.aside.jobs ≡ (if waited then self.old.aside.jobs else drop 1 self.old.aside.jobs) }
+        ensures jobs { self.new.aside.jobs ≡ (if waited then self.old.aside.jobs
+            else drop 1 self.old.aside.jobs) }
         ensures levels { self.new.aside.levels ≡ self.old.aside.levels }
         ensures room { self.new.aside.room ≡ self.old.aside.room }
         ensures nested { self.new.nested.items ≡ insert self.old.nested.items position number }
         ensures nested_room { self.new.nested_room ≡ self.old.nested_room - 1 }
-        ensures capacity { length self.new.nested.items + self.new.nested_room ≤ vec_capacity self.new.nested }
+        ensures capacity { length self.new.nested.items + self.new.nested_room
+            ≤ vec_capacity self.new.nested }
         ensures running { self.new.running ≡ self.old.running + (if waited then 1 else 0) }
         ensures out { self.new.out ≡ self.old.out }
     {
@@ -199,13 +205,15 @@ impl StepSeats {
     /// One whose flow was open is done, which stands at this position among these. Linear in the open flows.
     pub(crate) fn leave(&mut self, position: usize)
         requires position { position < length self.old.nested.items }
-        requires capacity { length self.old.nested.items + self.old.nested_room ≤ vec_capacity self.old.nested }
+        requires capacity { length self.old.nested.items + self.old.nested_room
+            ≤ vec_capacity self.old.nested }
         requires running { 0 < self.old.running }
         ensures idle { self.new.idle ≡ self.old.idle }
         ensures aside { self.new.aside ≡ self.old.aside }
         ensures nested { self.new.nested.items ≡ remove self.old.nested.items position }
         ensures nested_room { self.new.nested_room ≡ self.old.nested_room }
-        ensures capacity { length self.new.nested.items + self.new.nested_room ≤ vec_capacity self.new.nested }
+        ensures capacity { length self.new.nested.items + self.new.nested_room
+            ≤ vec_capacity self.new.nested }
         ensures running { self.new.running + 1 ≡ self.old.running }
         ensures out { self.new.out ≡ self.old.out }
     {

@@ -10,7 +10,12 @@ levels_walked k None = k
 levels_walked k (Some i) = k - 1
 
 abbrev pub way_of : Wire → Way
-way_of w = record { leaf = w.leaf; output = w.output; levels = levels_walked w.levels w.link; item = w.link }
+way_of w = record {
+  leaf = w.leaf;
+  output = w.output;
+  levels = levels_walked w.levels w.link;
+  item = w.link;
+}
 
 -- the port walks some levels
 abbrev pub is_walked : Wire → Bool

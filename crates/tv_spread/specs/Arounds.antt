@@ -62,7 +62,8 @@ wires_along a s e =
 
 -- of ports that take their feeds at once only where the event makes its step whole
 abbrev pub wholes_among : Around → ℕ → Event → List Port → List Whole
-wholes_among a s e ps = if e.whole_from == 0 then wholes_with (is_whole a.endings.now) s (delivers_fault a s e) ps else []
+wholes_among a s e ps = if e.whole_from == 0
+    then wholes_with (is_whole a.endings.now) s (delivers_fault a s e) ps else []
 
 abbrev pub wholes_at : Around → ℕ → Event → ℕ → List Whole
 wholes_at a s e c = wholes_among a s e (ports_at a c)

@@ -73,11 +73,13 @@ impl Spread {
         requires levels { (c : ℕ)
             → IsLevelled (matcher_at intakes.old c) (of_step idle.old.steps c) }
         requires steps { length around.now.wiring.now.ports ≤ length idle.old.steps }
-        ensures touched { OnOk result (self.new.touched.items ≡ told_steps around.now step event.now) }
+        ensures touched { OnOk result (self.new.touched.items
+            ≡ told_steps around.now step event.now) }
         ensures held { OnOk result (HoldTold around.now step event.now intakes.old intakes.new) }
         ensures count { IfOk result (λ n. n
             ≡ new_count intakes.new (told_steps around.now step event.now)) }
-        ensures ready { OnOk result (CanShowAll (told_steps around.now step event.now) intakes.new idle.new) }
+        ensures ready { OnOk result (CanShowAll (told_steps around.now step event.now) intakes.new
+            idle.new) }
         ensures stays { (c : ℕ) → StaysAt (matcher_at intakes.old c) (matcher_at intakes.new c) }
         ensures jobs { known_jobs intakes.new ≡ known_jobs intakes.old }
         ensures waiting { waiting_things intakes.new ≡ waiting_things intakes.old }
@@ -103,7 +105,8 @@ impl Spread {
         requires around { IsAround around.now step event.now }
         requires sound { AreIntaken intakes.old }
         requires can { CanHoldTold around.now step event.now intakes.old }
-        ensures touched { OnOk result (self.new.touched.items ≡ told_steps around.now step event.now) }
+        ensures touched { OnOk result (self.new.touched.items
+            ≡ told_steps around.now step event.now) }
         ensures held { OnOk result (HoldTold around.now step event.now intakes.old intakes.new) }
         ensures stays { (c : ℕ) → StaysAt (matcher_at intakes.old c) (matcher_at intakes.new c) }
         ensures jobs { known_jobs intakes.new ≡ known_jobs intakes.old }
@@ -137,7 +140,8 @@ impl Spread {
         requires fed { Each (λ p. IsFed around.now step event.now p.feed) (ports_at around.now to) }
         requires wires { map way_of (filter is_walked wires.now) ≡ ways_at around.now step to }
         ensures ways { OnOk result (self.new.ways.items ≡ ways_at around.now step to) }
-        ensures whole { OnOk result (self.new.whole.items ≡ wholes_at around.now step event.now to) }
+        ensures whole { OnOk result (self.new.whole.items ≡ wholes_at around.now step event.now
+            to) }
         ensures touched { self.new.touched ≡ self.old.touched }
     {
         self.ways.clear();
@@ -198,7 +202,8 @@ impl Spread {
         requires sound { AreIntaken intakes.now }
         requires can { Each (λ c. CanShow (matcher_at intakes.now c)) self.now.touched.items }
         requires within { Each (λ c. c < length idle.old.steps) self.now.touched.items }
-        ensures good { OnOk result (Each (λ c. (of_step idle.new.steps c).good_room ≡ new_good intakes.now c) self.now.touched.items) }
+        ensures good { OnOk result (Each (λ c. (of_step idle.new.steps c).good_room
+            ≡ new_good intakes.now c) self.now.touched.items) }
         ensures faulty { OnOk result (Each (λ c. (of_step idle.new.steps c).faulty_room
             ≡ new_faulty intakes.now c) self.now.touched.items) }
         ensures rooms { HasOtherRooms idle.old idle.new }

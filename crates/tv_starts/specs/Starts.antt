@@ -14,7 +14,8 @@ abbrev mutual
 
   pub cross_starts : (Name → ℕ) → ℕ → Strategies → List (Name × ℕ)
   cross_starts ports at no_strategies = []
-  cross_starts ports at (strategy c cs) = starts ports at c ++ cross_starts ports (at + strategy_depth ports c) cs
+  cross_starts ports at (strategy c cs) = starts ports at c
+      ++ cross_starts ports (at + strategy_depth ports c) cs
 
   pub dot_starts : (Name → ℕ) → ℕ → Strategies → List (Name × ℕ)
   dot_starts ports at no_strategies = []

@@ -15,7 +15,8 @@ use tv_value::{Depths, Name, NoMemory, Tree};
 /// Linear in the tree, with a look-up in `mismatch` for each leaf.
 pub fn leaf_starts(alloc: Global, tree: &Tree, mismatch: &Depths) -> Result<Vec<u32>, NoMemory>
     requires { sum_over (number_of mismatch.now) (leaf_names (strategy_view tree.now)) < 2 ^ 32 }
-    ensures { IfOk result (λ is. is.items ≡ map (λ x. x.1) (starts (number_of mismatch.now) 0 (strategy_view tree.now))) }
+    ensures { IfOk result (λ is. is.items
+        ≡ map (λ x. x.1) (starts (number_of mismatch.now) 0 (strategy_view tree.now))) }
 {
     let mut indices = Vec::new(alloc);
     push_starts(tree, mismatch, 0, &mut indices)?;
@@ -30,9 +31,12 @@ fn push_starts(
     start: u32,
     indices: &mut Vec<u32>,
 ) -> Result<u32, NoMemory>
-    requires { start + sum_over (number_of mismatch.now) (leaf_names (strategy_view tree.now)) < 2 ^ 32 }
-    ensures indices { OnOk result (indices.new.items ≡ indices.old.items ++ map (λ x. x.1) (starts (number_of mismatch.now) start (strategy_view tree.now))) }
-    ensures depth { IfOk result (λ d. d ≡ strategy_depth (number_of mismatch.now) (strategy_view tree.now)) }
+    requires { start + sum_over (number_of mismatch.now) (leaf_names (strategy_view tree.now))
+        < 2 ^ 32 }
+    ensures indices { OnOk result (indices.new.items ≡ indices.old.items
+        ++ map (λ x. x.1) (starts (number_of mismatch.now) start (strategy_view tree.now))) }
+    ensures depth { IfOk result (λ d. d ≡ strategy_depth (number_of mismatch.now)
+        (strategy_view tree.now)) }
 {
     match tree {
         Tree::Leaf(name) => {
@@ -52,9 +56,12 @@ fn push_cross(
     start: u32,
     indices: &mut Vec<u32>,
 ) -> Result<u32, NoMemory>
-    requires { start + sum_over (number_of mismatch.now) (all_leaf_names (children_view trees.now)) < 2 ^ 32 }
-    ensures indices { OnOk result (indices.new.items ≡ indices.old.items ++ map (λ x. x.1) (cross_starts (number_of mismatch.now) start (children_view trees.now))) }
-    ensures depth { IfOk result (λ d. d ≡ sum_of_depths (number_of mismatch.now) (children_view trees.now)) }
+    requires { start + sum_over (number_of mismatch.now) (all_leaf_names (children_view trees.now))
+        < 2 ^ 32 }
+    ensures indices { OnOk result (indices.new.items ≡ indices.old.items
+        ++ map (λ x. x.1) (cross_starts (number_of mismatch.now) start (children_view trees.now))) }
+    ensures depth { IfOk result (λ d. d ≡ sum_of_depths (number_of mismatch.now)
+        (children_view trees.now)) }
 {
     match trees.split_first() {
         None => Ok(0),
@@ -74,9 +81,12 @@ fn push_dot(
     start: u32,
     indices: &mut Vec<u32>,
 ) -> Result<u32, NoMemory>
-    requires { start + sum_over (number_of mismatch.now) (all_leaf_names (children_view trees.now)) < 2 ^ 32 }
-    ensures indices { OnOk result (indices.new.items ≡ indices.old.items ++ map (λ x. x.1) (dot_starts (number_of mismatch.now) start (children_view trees.now))) }
-    ensures depth { IfOk result (λ d. d ≡ first_depth (number_of mismatch.now) (children_view trees.now)) }
+    requires { start + sum_over (number_of mismatch.now) (all_leaf_names (children_view trees.now))
+        < 2 ^ 32 }
+    ensures indices { OnOk result (indices.new.items ≡ indices.old.items
+        ++ map (λ x. x.1) (dot_starts (number_of mismatch.now) start (children_view trees.now))) }
+    ensures depth { IfOk result (λ d. d ≡ first_depth (number_of mismatch.now)
+        (children_view trees.now)) }
 {
     match trees.split_first() {
         None => Ok(0),

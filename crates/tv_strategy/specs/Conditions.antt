@@ -54,9 +54,11 @@ pub record Suits (mismatch : List (Name × ℕ)) (s : Strategy) : Type 0 where
 -- the place of each of these ports has as many indices as the port's number says
 abbrev pub HaveLengths : (Name → ℕ) → (Name → Place) → List Name → Type 0
 HaveLengths numbers places [] = Unit {0}
-HaveLengths numbers places (n ∷ ns) = (length (places n) ≡ numbers n) × HaveLengths numbers places ns
+HaveLengths numbers places (n ∷ ns) = (length (places n) ≡ numbers n)
+    × HaveLengths numbers places ns
 
 -- each leaf has one place, as long as its mismatch
-pub record HasPlaces (mismatch : List (Name × ℕ)) (places : List (Name × Place)) (s : Strategy) : Type 0 where
+pub record HasPlaces (mismatch : List (Name × ℕ)) (places : List (Name × Place))
+    (s : Strategy) : Type 0 where
   pub each_has_place : EachOnce (leaf_names s) (names_in places)
   pub have_lengths : HaveLengths (number_of mismatch) (place_of places) (leaf_names s)

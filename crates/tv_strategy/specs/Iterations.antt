@@ -97,4 +97,5 @@ abbrev mutual
   pub dot_of : (Name → Iteration) → Strategies → Iteration
   dot_of ports no_strategies = one_job
   dot_of ports (strategy c no_strategies) = iteration ports c
-  dot_of ports (strategy c (strategy d ds)) = paired (iteration ports c) (dot_of ports (strategy d ds))
+  dot_of ports (strategy c (strategy d ds)) = paired (iteration ports c)
+      (dot_of ports (strategy d ds))

@@ -34,7 +34,8 @@ abbrev mutual
 abbrev pub HaveOneDepth : (Name → ℕ) → Strategies → Type 0
 HaveOneDepth ports no_strategies = Unit {0}
 HaveOneDepth ports (strategy c no_strategies) = Unit {0}
-HaveOneDepth ports (strategy c (strategy d ds)) = (strategy_depth ports c ≡ strategy_depth ports d) × HaveOneDepth ports (strategy d ds)
+HaveOneDepth ports (strategy c (strategy d ds)) = (strategy_depth ports c ≡ strategy_depth ports d)
+    × HaveOneDepth ports (strategy d ds)
 
 -- the children of every dot do
 abbrev mutual
@@ -58,14 +59,16 @@ depths_of ports (strategy c cs) = strategy_depth ports c ∷ depths_of ports cs
 
 abbrev pub first_other : List ℕ → Option Difference
 first_other [] = None
-first_other (d ∷ ds) = option_map (λ e. record { first = d; second = e }) (find (λ e. not (e == d)) ds)
+first_other (d ∷ ds) = option_map (λ e. record { first = d; second = e })
+    (find (λ e. not (e == d)) ds)
 
 -- the first difference, children before their node, left to right
 abbrev mutual
   pub first_difference : (Name → ℕ) → Strategy → Option Difference
   first_difference ports (port p) = None
   first_difference ports (cross cs) = first_inside ports cs
-  first_difference ports (dot cs) = option_or (first_inside ports cs) (first_other (depths_of ports cs))
+  first_difference ports (dot cs) = option_or (first_inside ports cs)
+      (first_other (depths_of ports cs))
 
   pub first_inside : (Name → ℕ) → Strategies → Option Difference
   first_inside ports no_strategies = None

@@ -58,4 +58,5 @@ abbrev mutual
 
   pub input_values : Name → Place → ℕ → Trees (Unit {0}) Scalar → Trees Origin Scalar
   input_values x q i no_trees = no_trees
-  input_values x q i (tree t ts) = tree (input_value x (q ++ i ∷ []) t) (input_values x q (suc i) ts)
+  input_values x q i (tree t ts) = tree (input_value x (q ++ i ∷ []) t)
+      (input_values x q (suc i) ts)

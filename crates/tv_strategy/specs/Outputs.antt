@@ -10,14 +10,17 @@ module _ (named : Place → JobName) (made : Place → Value) (declared : ℕ) w
   -- what stands at place q for an end, with so many levels of lists still to come there
   abbrev pub end_output : Place → ℕ → List Origin → End → Traced
   end_output q levels s (job b) = traced (from_job (named q)) (made q)
-  end_output q levels s (passed m e) = leaf (from_level (named q) m s) (fault (record e { depth = levels + declared }))
+  end_output q levels s (passed m e) = leaf (from_level (named q) m s)
+      (fault (record e { depth = levels + declared }))
 
   -- the iteration below place q with each end replaced
   abbrev mutual
     pub output_below : Place → ℕ → Iteration → Traced
     output_below q levels (leaf s e) = end_output q levels s e
-    output_below q levels (list s ts) = list (from_level (named q) None s) (outputs_from q (pred levels) 0 ts)
+    output_below q levels (list s ts) = list (from_level (named q) None s)
+        (outputs_from q (pred levels) 0 ts)
 
     pub outputs_from : Place → ℕ → ℕ → Iterations → Trees Origin Scalar
     outputs_from q levels i no_trees = no_trees
-    outputs_from q levels i (tree t ts) = tree (output_below (q ++ i ∷ []) levels t) (outputs_from q levels (suc i) ts)
+    outputs_from q levels i (tree t ts) = tree (output_below (q ++ i ∷ []) levels t)
+        (outputs_from q levels (suc i) ts)

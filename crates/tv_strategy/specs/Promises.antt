@@ -16,7 +16,9 @@ HaveDepths mismatch declared values = (p : Name) → HasDepth (values p) (mismat
 -- whatever is delivered at these depths: where a job stands at place q, it binds what stands at these places of the ports' values
 abbrev pub ArePlacesOfEnd : (Name → ℕ) → Strategy → Place → List (Name × Place) → Type 0
 ArePlacesOfEnd mismatch s q places =
-    (declared : Name → ℕ) (values : Name → Traced) → HaveDepths mismatch declared values → (b : Binding) → IsJob (at (iteration (walks mismatch values) s) q) b → IsBoundAt values places b
+    (declared : Name → ℕ) (values : Name → Traced) → HaveDepths mismatch declared values
+    → (b : Binding) → IsJob (at (iteration (walks mismatch values) s) q) b
+    → IsBoundAt values places b
 
 -- a list gives each port that it names the place that it has
 abbrev pub AreOf : (Name → Place) → List (Name × Place) → Type 0
@@ -25,10 +27,12 @@ AreOf ports (r ∷ rs) = (ports r.0 ≡ r.1) × AreOf ports rs
 
 -- q has the strategy's depth, and splits into the ports' places
 abbrev pub SplitsInto : (Name → ℕ) → Strategy → (Name → Place) → Place → Type 0
-SplitsInto mismatch s ports q = (length q ≡ strategy_depth mismatch s) × AreOf ports (split mismatch s q)
+SplitsInto mismatch s ports q = (length q ≡ strategy_depth mismatch s)
+    × AreOf ports (split mismatch s q)
 
 -- where there is an answer the dots agree and it splits into the ports' places, and where they agree nothing else does
-pub record UndoesSplit (mismatch : Name → ℕ) (s : Strategy) (ports : Name → Place) (answer : Option Place) : Type 0 where
+pub record UndoesSplit (mismatch : Name → ℕ) (s : Strategy) (ports : Name → Place)
+    (answer : Option Place) : Type 0 where
   pub splits : IfSome answer (λ q. DotsAgree mismatch s × SplitsInto mismatch s ports q)
   pub only : DotsAgree mismatch s → (q : Place) → SplitsInto mismatch s ports q → answer ≡ Some q
 
@@ -37,7 +41,8 @@ abbrev pub HaveTwoPlaces : (Name → Place) → Strategies → Type 0
 HaveTwoPlaces ports no_strategies = ⊥
 HaveTwoPlaces ports (strategy c no_strategies) = ⊥
 HaveTwoPlaces ports (strategy c (strategy d ds)) =
-    ((q : Place) × (r : Place) × (joined ports c ≡ Some q) × (joined ports d ≡ Some r) × (q ≢ r)) ⊎ HaveTwoPlaces ports (strategy d ds)
+    ((q : Place) × (r : Place) × (joined ports c ≡ Some q) × (joined ports d ≡ Some r) × (q ≢ r))
+    ⊎ HaveTwoPlaces ports (strategy d ds)
 
 -- two children of a dot have different places
 abbrev mutual

@@ -18,19 +18,23 @@ abbrev mutual
   pub split_cross : (Name → ℕ) → Strategies → Place → List (Name × Place)
   split_cross ports no_strategies q = []
   split_cross ports (strategy c cs) q =
-      split ports c (take (strategy_depth ports c) q) ++ split_cross ports cs (drop (strategy_depth ports c) q)
+      split ports c (take (strategy_depth ports c) q)
+      ++ split_cross ports cs (drop (strategy_depth ports c) q)
 
   pub split_dot : (Name → ℕ) → Strategies → Place → List (Name × Place)
   split_dot ports no_strategies q = []
   split_dot ports (strategy c cs) q = split ports c q ++ split_dot ports cs q
 
 -- the first d indices were taken, as deep as the strategy, and the places that they split into were added
-abbrev pub AddsSplit : (Name → ℕ) → Strategy → Place → List (Name × Place) → List (Name × Place) → ℕ → Type 0
-AddsSplit ports s indices before after d = (d ≡ strategy_depth ports s) × (after ≡ before ++ split ports s (take d indices))
+abbrev pub AddsSplit : (Name → ℕ) → Strategy → Place → List (Name × Place) → List (Name × Place) → ℕ
+    → Type 0
+AddsSplit ports s indices before after d = (d ≡ strategy_depth ports s)
+    × (after ≡ before ++ split ports s (take d indices))
 
 -- a binding has, port by port, what stands at these places of the ports' values
 abbrev pub IsBoundAt : (Name → Traced) → List (Name × Place) → Binding → Type 0
-IsBoundAt values places b = map {B = Name × Option Traced} (λ r. (r.0, Some r.1)) b ≡ map {B = Name × Option Traced} (λ r. (r.0, at (values r.0) r.1)) places
+IsBoundAt values places b = map {B = Name × Option Traced} (λ r. (r.0, Some r.1)) b
+    ≡ map {B = Name × Option Traced} (λ r. (r.0, at (values r.0) r.1)) places
 
 abbrev pub same_place : Place → Place → Bool
 same_place = pointwise ◌==◌
@@ -41,7 +45,8 @@ one_after o p = option_and_then (λ q. option_map (λ r. q ++ r) p) o
 
 -- the one place, where both are there and the same
 abbrev pub in_common : Option Place → Option Place → Option Place
-in_common o p = option_and_then (λ q. option_and_then (λ r. if same_place q r then Some q else None) p) o
+in_common o p = option_and_then (λ q. option_and_then (λ r. if same_place q r then Some q
+    else None) p) o
 
 -- the place of a job for those of its ports' values: a cross puts its children's one after the other, and the children of a dot have one in common
 abbrev mutual
@@ -57,4 +62,5 @@ abbrev mutual
   pub joined_dot : (Name → Place) → Strategies → Option Place
   joined_dot ports no_strategies = Some []
   joined_dot ports (strategy c no_strategies) = joined ports c
-  joined_dot ports (strategy c (strategy d ds)) = in_common (joined ports c) (joined_dot ports (strategy d ds))
+  joined_dot ports (strategy c (strategy d ds)) = in_common (joined ports c)
+      (joined_dot ports (strategy d ds))

@@ -62,7 +62,8 @@ made_at service None = text_value []
 abbrev pub output : (Text → Text) → (Name → ℕ) → (Name → Traced) → Strategy → Value
 output service mismatch values s =
     let it = iteration (walks mismatch values) s in
-    plain (output_below (λ q. []) (λ q. made_at service (at it q)) 0 [] (strategy_depth mismatch s) it)
+    plain (output_below (λ q. []) (λ q. made_at service (at it q)) 0 [] (strategy_depth mismatch s)
+    it)
 
 abbrev pub joins : Text → Text
 joins t = t
@@ -150,11 +151,13 @@ waits t = map_tree (λ s. s) (λ _. tt) t
 abbrev pub CrossWaits : Type 0
 CrossWaits =
     waits (iteration (walks (levels 1 1) (inputs (texts (codes "x" ∷ [])) (texts (codes "y" ∷ [])))) crossing)
-    ≡ list (from_input a [] ∷ []) (trees_of (list (from_input a (0 ∷ []) ∷ from_input b [] ∷ []) (trees_of (leaf (from_input a (0 ∷ []) ∷ from_input b (0 ∷ []) ∷ []) tt ∷ [])) ∷ []))
+    ≡ list (from_input a [] ∷ []) (trees_of (list (from_input a (0 ∷ []) ∷ from_input b [] ∷ [])
+    (trees_of (leaf (from_input a (0 ∷ []) ∷ from_input b (0 ∷ []) ∷ []) tt ∷ [])) ∷ []))
 
 -- a dot waits at each place for all its children
 abbrev pub DotWaits : Type 0
 DotWaits =
     (waits (iteration (walks (levels 1 1) (inputs (texts (codes "x" ∷ [])) (texts (codes "y" ∷ [])))) pairing)
-    ≡ list (from_input a [] ∷ from_input b [] ∷ []) (trees_of (leaf (from_input a (0 ∷ []) ∷ from_input b (0 ∷ []) ∷ []) tt ∷ [])))
+    ≡ list (from_input a [] ∷ from_input b [] ∷ [])
+    (trees_of (leaf (from_input a (0 ∷ []) ∷ from_input b (0 ∷ []) ∷ []) tt ∷ [])))
     × (waits (iteration (walks (levels 1 1) (inputs (texts (codes "x" ∷ [])) (no_list []))) pairing) ≡ leaf (from_input a [] ∷ from_input b [] ∷ []) tt)

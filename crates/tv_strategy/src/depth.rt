@@ -54,8 +54,10 @@ fn measure(tree: &Tree, mismatch: &Depths) -> Result<u32, DotFault>
 /// The depth of a cross.
 #[cycle(measure)]
 fn sum_of(trees: &[Tree], mismatch: &Depths) -> Result<u32, DotFault>
-    requires { sum_over (number_of mismatch.now) (all_leaf_names (children_view trees.now)) < 2 ^ 32 }
-    ensures { answer_view result ≡ measured (number_of mismatch.now) (cross (children_view trees.now)) }
+    requires { sum_over (number_of mismatch.now) (all_leaf_names (children_view trees.now))
+        < 2 ^ 32 }
+    ensures { answer_view result ≡ measured (number_of mismatch.now)
+        (cross (children_view trees.now)) }
 {
     let mut sum = 0;
     for tree in trees {
@@ -67,8 +69,10 @@ fn sum_of(trees: &[Tree], mismatch: &Depths) -> Result<u32, DotFault>
 /// The depth of a dot.
 #[cycle(measure)]
 fn common_of(trees: &[Tree], mismatch: &Depths) -> Result<u32, DotFault>
-    requires { sum_over (number_of mismatch.now) (all_leaf_names (children_view trees.now)) < 2 ^ 32 }
-    ensures { answer_view result ≡ measured (number_of mismatch.now) (dot (children_view trees.now)) }
+    requires { sum_over (number_of mismatch.now) (all_leaf_names (children_view trees.now))
+        < 2 ^ 32 }
+    ensures { answer_view result ≡ measured (number_of mismatch.now)
+        (dot (children_view trees.now)) }
 {
     let Some((first, others)) = trees.split_first() else {
         return Ok(0);
@@ -83,8 +87,12 @@ fn common_of(trees: &[Tree], mismatch: &Depths) -> Result<u32, DotFault>
 /// The first depth of these strategies that is not `first`.
 #[cycle(measure)]
 fn other_than(first: u32, trees: &[Tree], mismatch: &Depths) -> Result<Option<u32>, DotFault>
-    requires { sum_over (number_of mismatch.now) (all_leaf_names (children_view trees.now)) < 2 ^ 32 }
-    ensures { answer_view result ≡ unless (first_inside (number_of mismatch.now) (children_view trees.now)) (find (λ d. not (d == first)) (depths_of (number_of mismatch.now) (children_view trees.now))) }
+    requires { sum_over (number_of mismatch.now) (all_leaf_names (children_view trees.now))
+        < 2 ^ 32 }
+    ensures { answer_view result
+        ≡ unless (first_inside (number_of mismatch.now) (children_view trees.now))
+        (find (λ d. not (d == first)) (depths_of (number_of mismatch.now)
+        (children_view trees.now))) }
 {
     let mut other = None;
     for tree in trees {

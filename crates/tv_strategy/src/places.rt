@@ -28,9 +28,12 @@ pub fn split(
 ) -> Result<PortPlaces, NoMemory>
     requires suits { Suits mismatch.now (strategy_view tree.now) }
     requires agree { DotsAgree (number_of mismatch.now) (strategy_view tree.now) }
-    requires deep { length place.now ≡ strategy_depth (number_of mismatch.now) (strategy_view tree.now) }
-    ensures places { IfOk result (λ ps. ps ≡ split_of (number_of mismatch.now) (strategy_view tree.now) place.now) }
-    ensures ends { IfOk result (λ ps. ArePlacesOfEnd (number_of mismatch.now) (strategy_view tree.now) place.now ps) }
+    requires deep { length place.now ≡ strategy_depth (number_of mismatch.now)
+        (strategy_view tree.now) }
+    ensures places { IfOk result (λ ps. ps ≡ split_of (number_of mismatch.now)
+        (strategy_view tree.now) place.now) }
+    ensures ends { IfOk result (λ ps. ArePlacesOfEnd (number_of mismatch.now)
+        (strategy_view tree.now) place.now ps) }
 {
     let mut places = Vec::new(alloc);
     split_into(alloc, tree, mismatch, place.as_slice(), &mut places)?;
@@ -47,8 +50,10 @@ fn split_into(
     places: &mut Vec<(Name, Place)>,
 ) -> Result<usize, NoMemory>
     requires agree { DotsAgree (number_of mismatch.now) (strategy_view tree.now) }
-    requires deep { strategy_depth (number_of mismatch.now) (strategy_view tree.now) ≤ length indices.now }
-    ensures { IfOk result (AddsSplit (number_of mismatch.now) (strategy_view tree.now) indices.now places.old.items places.new.items) }
+    requires deep { strategy_depth (number_of mismatch.now) (strategy_view tree.now)
+        ≤ length indices.now }
+    ensures { IfOk result (AddsSplit (number_of mismatch.now) (strategy_view tree.now) indices.now
+        places.old.items places.new.items) }
 {
     match tree {
         Tree::Leaf(name) => split_leaf(alloc, name, mismatch, indices, places),
@@ -65,7 +70,8 @@ fn split_leaf(
     places: &mut Vec<(Name, Place)>,
 ) -> Result<usize, NoMemory>
     requires { number_of mismatch.now name.now ≤ length indices.now }
-    ensures { IfOk result (AddsSplit (number_of mismatch.now) (port name.now) indices.now places.old.items places.new.items) }
+    ensures { IfOk result (AddsSplit (number_of mismatch.now) (port name.now) indices.now
+        places.old.items places.new.items) }
 {
     let depth = mismatch_at(mismatch, name) as usize;
     let place = Place::of(alloc, &indices[..depth])?;
@@ -84,8 +90,10 @@ fn split_cross(
     places: &mut Vec<(Name, Place)>,
 ) -> Result<usize, NoMemory>
     requires agree { DotsAgree (number_of mismatch.now) (cross (children_view trees.now)) }
-    requires deep { strategy_depth (number_of mismatch.now) (cross (children_view trees.now)) ≤ length indices.now }
-    ensures { IfOk result (AddsSplit (number_of mismatch.now) (cross (children_view trees.now)) indices.now places.old.items places.new.items) }
+    requires deep { strategy_depth (number_of mismatch.now) (cross (children_view trees.now))
+        ≤ length indices.now }
+    ensures { IfOk result (AddsSplit (number_of mismatch.now) (cross (children_view trees.now))
+        indices.now places.old.items places.new.items) }
 {
     let mut taken = 0;
     for tree in trees {
@@ -104,8 +112,10 @@ fn split_dot(
     places: &mut Vec<(Name, Place)>,
 ) -> Result<usize, NoMemory>
     requires agree { DotsAgree (number_of mismatch.now) (dot (children_view trees.now)) }
-    requires deep { strategy_depth (number_of mismatch.now) (dot (children_view trees.now)) ≤ length indices.now }
-    ensures { IfOk result (AddsSplit (number_of mismatch.now) (dot (children_view trees.now)) indices.now places.old.items places.new.items) }
+    requires deep { strategy_depth (number_of mismatch.now) (dot (children_view trees.now))
+        ≤ length indices.now }
+    ensures { IfOk result (AddsSplit (number_of mismatch.now) (dot (children_view trees.now))
+        indices.now places.old.items places.new.items) }
 {
     let Some((first, others)) = trees.split_first() else {
         return Ok(0);
@@ -131,9 +141,12 @@ pub fn join(
     requires suits { Suits mismatch.now (strategy_view tree.now) }
     requires placed { HasPlaces mismatch.now places.now (strategy_view tree.now) }
     ensures place { IfOk result (λ o. o ≡ joined (place_of places.now) (strategy_view tree.now)) }
-    ensures undoes { IfOk result (λ o. UndoesSplit (number_of mismatch.now) (strategy_view tree.now) (place_of places.now) o) }
-    ensures none { IfOk result (λ o. IsNone o ↔ DotDiffers (place_of places.now) (strategy_view tree.now)) }
-    ensures short { DotsAgree (number_of mismatch.now) (strategy_view tree.now) → strategy_depth (number_of mismatch.now) (strategy_view tree.now) ≤ 32 → IsOk result }
+    ensures undoes { IfOk result (λ o. UndoesSplit (number_of mismatch.now) (strategy_view tree.now)
+        (place_of places.now) o) }
+    ensures none { IfOk result (λ o. IsNone o ↔ DotDiffers (place_of places.now)
+        (strategy_view tree.now)) }
+    ensures short { DotsAgree (number_of mismatch.now) (strategy_view tree.now)
+        → strategy_depth (number_of mismatch.now) (strategy_view tree.now) ≤ 32 → IsOk result }
 {
     join_tree(alloc, tree, places)
 }
@@ -167,8 +180,10 @@ fn join_leaf(alloc: Global, name: &Name, places: &PortPlaces) -> Result<Option<P
 /// The children's places, one after the other.
 #[cycle(join)]
 fn join_cross(alloc: Global, trees: &[Tree], places: &PortPlaces) -> Result<Option<Place>, NoMemory>
-    ensures place { IfOk result (λ o. o ≡ joined (place_of places.now) (cross (children_view trees.now))) }
-    ensures short { room (place_of places.now) (cross (children_view trees.now)) ≤ 32 → IsOk result }
+    ensures place { IfOk result (λ o. o
+        ≡ joined (place_of places.now) (cross (children_view trees.now))) }
+    ensures short { room (place_of places.now) (cross (children_view trees.now)) ≤ 32
+        → IsOk result }
 {
     let mut whole = Place::top(alloc);
     for tree in trees {
@@ -183,7 +198,8 @@ fn join_cross(alloc: Global, trees: &[Tree], places: &PortPlaces) -> Result<Opti
 /// The one place that the children have.
 #[cycle(join)]
 fn join_dot(alloc: Global, trees: &[Tree], places: &PortPlaces) -> Result<Option<Place>, NoMemory>
-    ensures place { IfOk result (λ o. o ≡ joined (place_of places.now) (dot (children_view trees.now))) }
+    ensures place { IfOk result (λ o. o
+        ≡ joined (place_of places.now) (dot (children_view trees.now))) }
     ensures short { room (place_of places.now) (dot (children_view trees.now)) ≤ 32 → IsOk result }
 {
     let Some((first, others)) = trees.split_first() else {

@@ -33,8 +33,10 @@ module _ {T : Type 0} where
 
   abbrev pub RefusesArrival : ℕ → ℕ → List ℕ → T → Partial (Marked T) → ArriveRefused T → Type 0
   RefusesArrival spare depth q x r (NoSuchPlace y) = (y ≡ x) × (IsPlace depth q r → ⊥)
-  RefusesArrival spare depth q x r (Occupied y) = (y ≡ x) × IsPlace depth q r × (known_at q r ≢ wanting)
-  RefusesArrival spare depth q x r (NoMemory y) = (y ≡ x) × IsPlace depth q r × CanArrive q r × (spare ≤ depth)
+  RefusesArrival spare depth q x r (Occupied y) = (y ≡ x) × IsPlace depth q r
+      × (known_at q r ≢ wanting)
+  RefusesArrival spare depth q x r (NoMemory y) = (y ≡ x) × IsPlace depth q r × CanArrive q r
+      × (spare ≤ depth)
 
   -- an item stands there
   abbrev pub IsItem : Partial (Marked T) → Type 0
@@ -52,6 +54,10 @@ module _ {T : Type 0} where
 
   abbrev pub RefusesClose : ℕ → ℕ → List ℕ → ℕ → Partial (Marked T) → CloseRefused → Type 0
   RefusesClose spare depth q n r NoPlaceToClose = IsListPlace depth q r → ⊥
-  RefusesClose spare depth q n r AlreadyClosed = IsListPlace depth q r × ((ps : Parts (Marked T)) × (known_at q r ≡ closed ps))
-  RefusesClose spare depth q n r (WrongLength asked needed) = IsListPlace depth q r × ((ps : Parts (Marked T)) × (known_at q r ≡ growing ps) × (needed ≡ part_count ps) × LastIsKnown ps) × (asked ≡ n) × (n < needed)
-  RefusesClose spare depth q n r NoMemoryToClose = IsListPlace depth q r × CanClose q n r × (spare ≤ depth)
+  RefusesClose spare depth q n r AlreadyClosed = IsListPlace depth q r
+      × ((ps : Parts (Marked T)) × (known_at q r ≡ closed ps))
+  RefusesClose spare depth q n r (WrongLength asked needed) = IsListPlace depth q r
+      × ((ps : Parts (Marked T)) × (known_at q r ≡ growing ps) × (needed ≡ part_count ps)
+      × LastIsKnown ps) × (asked ≡ n) × (n < needed)
+  RefusesClose spare depth q n r NoMemoryToClose = IsListPlace depth q r × CanClose q n r
+      × (spare ≤ depth)

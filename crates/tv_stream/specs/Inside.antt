@@ -26,7 +26,11 @@ abbrev pub no_counts : Counts
 no_counts = record { most = 0; whole = 0; length = None }
 
 abbrev pub counts_with : Counts → ℕ → Bool → Counts
-counts_with c i w = record { most = max c.most (i + 1); whole = c.whole + one_if w; length = c.length }
+counts_with c i w = record {
+  most = max c.most (i + 1);
+  whole = c.whole + one_if w;
+  length = c.length;
+}
 
 abbrev pub counts_ended : Counts → ℕ → Counts
 counts_ended c n = record { most = c.most; whole = c.whole; length = Some n }
@@ -59,7 +63,11 @@ module _ {T : Type 0} where
   held_whole b = elim b.part [ Wanting ↦ false | Item v ↦ true | Numbered c ↦ counts_whole c ]
 
   abbrev pub held_kind : Held T → PartKind
-  held_kind b = elim b.part [ Wanting ↦ WantingKind | Item v ↦ ItemKind | Numbered c ↦ elim c.length [ None ↦ GrowingKind | Some n ↦ ClosedKind n ] ]
+  held_kind b = elim b.part [
+    | Wanting ↦ WantingKind
+    | Item v ↦ ItemKind
+    | Numbered c ↦ elim c.length [ None ↦ GrowingKind | Some n ↦ ClosedKind n ]
+  ]
 
   -- there can be a part at an index
   abbrev pub has_index : Part T → ℕ → Bool
@@ -74,12 +82,16 @@ module _ {T : Type 0} where
   nothing = record { marked = false; part = Wanting }
 
   abbrev pub noted : Held T → ℕ → Bool → Bool → Held T
-  noted b i w marked = record { marked = b.marked || marked; part = Numbered (counts_with (counts_in b) i w) }
+  noted b i w marked = record {
+    marked = b.marked || marked;
+    part = Numbered (counts_with (counts_in b) i w);
+  }
 
   -- ---- nodes
 
   -- a node of a tree, with so many levels below it
-  pub record InTree (m : ℕ → Option (Entry (Held T))) (spots : ℕ → Option Spot) (s height : ℕ) : Type 0 where
+  pub record InTree (m : ℕ → Option (Entry (Held T))) (spots : ℕ → Option Spot)
+      (s height : ℕ) : Type 0 where
     pub nodes : AreNodes m spots
     pub spot : Spot
     pub known : spots s ≡ Some spot
@@ -93,30 +105,38 @@ module _ {T : Type 0} where
     pub is : tree_at height m s ≡ r
 
   -- the part of the node in s at an index lies in t, as it did or as a node that holds nothing
-  pub record Parted (m m' : ℕ → Option (Entry (Held T))) (spots : ℕ → Option Spot) (s i t : ℕ) : Type 0 where
+  pub record Parted (m m' : ℕ → Option (Entry (Held T))) (spots : ℕ → Option Spot)
+      (s i t : ℕ) : Type 0 where
     pub more : ℕ → Option Spot
     pub nodes : AreNodes m' more
     pub known : (u : ℕ) (q : Spot) → spots u ≡ Some q → more u ≡ Some q
     pub fresh : (u : ℕ) → spots u ≡ None → (more u ≡ None) ⊎ (m u ≡ None)
     pub part : part_in m' s i ≡ Some t
-    pub parts : (u : ℕ) (q : Spot) (j : ℕ) → spots u ≡ Some q → (u ≡ s → j ≢ i) → part_in m' u j ≡ part_in m u j
+    pub parts : (u : ℕ) (q : Spot) (j : ℕ) → spots u ≡ Some q → (u ≡ s → j ≢ i) → part_in m' u j
+        ≡ part_in m u j
     pub bodies : (u : ℕ) (q : Spot) → spots u ≡ Some q → body_in m' u ≡ body_in m u
     pub others : (u : ℕ) → more u ≡ None → m' u ≡ m u
-    pub was : (part_in m s i ≡ Some t) ⊎ ((part_in m s i ≡ None) × (body_in m' t ≡ Some nothing) × ((j : ℕ) → part_in m' t j ≡ None))
+    pub was : (part_in m s i ≡ Some t) ⊎ ((part_in m s i ≡ None) × (body_in m' t ≡ Some nothing)
+        × ((j : ℕ) → part_in m' t j ≡ None))
 
   -- only nodes at the place of the node in s and inside changed, and nodes were added
-  pub record Changes (m m' : ℕ → Option (Entry (Held T))) (spots : ℕ → Option Spot) (s : ℕ) (p : Spot) (height : ℕ) : Type 0 where
+  pub record Changes (m m' : ℕ → Option (Entry (Held T))) (spots : ℕ → Option Spot) (s : ℕ)
+      (p : Spot) (height : ℕ) : Type 0 where
     pub more : ℕ → Option Spot
     pub nodes : AreNodes m' more
     pub sound : IsSound height m' s
     pub known : (u : ℕ) (q : Spot) → spots u ≡ Some q → more u ≡ Some q
     pub fresh : (u : ℕ) → spots u ≡ None → (more u ≡ None) ⊎ (m u ≡ None)
-    pub parts : (u : ℕ) (q : Spot) (j : ℕ) → spots u ≡ Some q → (Below p.place q.place → ⊥) → part_in m' u j ≡ part_in m u j
-    pub bodies : (u : ℕ) (q : Spot) → spots u ≡ Some q → (Below p.place q.place → ⊥) → body_in m' u ≡ body_in m u
+    pub parts : (u : ℕ) (q : Spot) (j : ℕ) → spots u ≡ Some q → (Below p.place q.place → ⊥)
+        → part_in m' u j ≡ part_in m u j
+    pub bodies : (u : ℕ) (q : Spot) → spots u ≡ Some q → (Below p.place q.place → ⊥) → body_in m' u
+        ≡ body_in m u
     pub others : (u : ℕ) → more u ≡ None → m' u ≡ m u
 
   -- the tree at the node is another now
-  pub record Changed (m m' : ℕ → Option (Entry (Held T))) (spots : ℕ → Option Spot) (s : ℕ) (p : Spot) (height : ℕ) (q : List ℕ) (marked : Bool) (tree : Partial (Marked T)) (least : Option ℕ) : Type 0 where
+  pub record Changed (m m' : ℕ → Option (Entry (Held T))) (spots : ℕ → Option Spot) (s : ℕ)
+      (p : Spot) (height : ℕ) (q : List ℕ) (marked : Bool) (tree : Partial (Marked T))
+      (least : Option ℕ) : Type 0 where
     pub changes : Changes m m' spots s p height
     pub tree_is : tree_at height m' s ≡ tree
     pub there : tree ≢ wanting
@@ -125,21 +145,31 @@ module _ {T : Type 0} where
     pub least_is : least_whole q tree ≡ least
 
   -- an item arrived, or a list was closed
-  pub record ArrivesIn (m m' : ℕ → Option (Entry (Held T))) (s : ℕ) (q : List ℕ) (x : Marked T) (least : ℕ) : Type 0 where
+  pub record ArrivesIn (m m' : ℕ → Option (Entry (Held T))) (s : ℕ) (q : List ℕ) (x : Marked T)
+      (least : ℕ) : Type 0 where
     pub short : least ≤ length q
-    pub all : (spots : ℕ → Option Spot) (height : ℕ) (i : InTree m spots s height) → length q ≤ height → CanArrive q (tree_at height m s) × Changed m m' spots s i.spot height q x.marked (arrive q x (tree_at height m s)) (Some least)
+    pub all : (spots : ℕ → Option Spot) (height : ℕ) (i : InTree m spots s height) → length q
+        ≤ height → CanArrive q (tree_at height m s) × Changed m m' spots s i.spot height q x.marked
+        (arrive q x (tree_at height m s)) (Some least)
 
   abbrev pub RefusesArrivalIn : ℕ → List ℕ → T → Partial (Marked T) → ArriveRefused T → Type 0
   RefusesArrivalIn spare q x r (NoSuchPlace y) = (y ≡ x) × (is_place q r ≡ false)
-  RefusesArrivalIn spare q x r (Occupied y) = (y ≡ x) × (is_place q r ≡ true) × (known_at q r ≢ wanting)
+  RefusesArrivalIn spare q x r (Occupied y) = (y ≡ x) × (is_place q r ≡ true)
+      × (known_at q r ≢ wanting)
   RefusesArrivalIn spare q x r (NoMemory y) = (y ≡ x) × CanArrive q r × (spare < length q)
 
-  pub record ClosesIn (m m' : ℕ → Option (Entry (Held T))) (s : ℕ) (q : List ℕ) (n : ℕ) (least : Option ℕ) : Type 0 where
+  pub record ClosesIn (m m' : ℕ → Option (Entry (Held T))) (s : ℕ) (q : List ℕ) (n : ℕ)
+      (least : Option ℕ) : Type 0 where
     pub short : (k : ℕ) → least ≡ Some k → k ≤ length q
-    pub all : (spots : ℕ → Option Spot) (height : ℕ) (i : InTree m spots s height) → length q < height → CanClose q n (tree_at height m s) × Changed m m' spots s i.spot height q false (close_at q n (tree_at height m s)) least
+    pub all : (spots : ℕ → Option Spot) (height : ℕ) (i : InTree m spots s height) → length q
+        < height → CanClose q n (tree_at height m s) × Changed m m' spots s i.spot height q false
+        (close_at q n (tree_at height m s)) least
 
   abbrev pub RefusesCloseIn : ℕ → List ℕ → ℕ → Partial (Marked T) → CloseRefused → Type 0
   RefusesCloseIn spare q n r NoPlaceToClose = is_place q r ≡ true → IsItem (known_at q r)
-  RefusesCloseIn spare q n r AlreadyClosed = (is_place q r ≡ true) × ((ps : Parts (Marked T)) × (known_at q r ≡ closed ps))
-  RefusesCloseIn spare q n r (WrongLength asked needed) = (is_place q r ≡ true) × ((ps : Parts (Marked T)) × (known_at q r ≡ growing ps) × (needed ≡ part_count ps) × LastIsKnown ps) × (asked ≡ n) × (n < needed)
+  RefusesCloseIn spare q n r AlreadyClosed = (is_place q r ≡ true)
+      × ((ps : Parts (Marked T)) × (known_at q r ≡ closed ps))
+  RefusesCloseIn spare q n r (WrongLength asked needed) = (is_place q r ≡ true)
+      × ((ps : Parts (Marked T)) × (known_at q r ≡ growing ps) × (needed ≡ part_count ps)
+      × LastIsKnown ps) × (asked ≡ n) × (n < needed)
   RefusesCloseIn spare q n r NoMemoryToClose = CanClose q n r × (spare < length q)

@@ -33,8 +33,10 @@ new_nodes (i ∷ q) r = one_if_wanting (part_at r i) + new_nodes q (part_at r i)
 
 -- a change adds a node for each index that led to nothing known
 pub record NodesAreAdded (A : Type 0) : Type 0 where
-  pub arrival : (q : Place) (x : A) (r : Partial A) → CanArrive q r → tree_nodes (arrive q x r) ≡ tree_nodes r + new_nodes q r
-  pub close : (q : Place) (n : ℕ) (r : Partial A) → CanClose q n r → tree_nodes (close_at q n r) ≡ tree_nodes r + new_nodes q r
+  pub arrival : (q : Place) (x : A) (r : Partial A) → CanArrive q r → tree_nodes (arrive q x r)
+      ≡ tree_nodes r + new_nodes q r
+  pub close : (q : Place) (n : ℕ) (r : Partial A) → CanClose q n r → tree_nodes (close_at q n r)
+      ≡ tree_nodes r + new_nodes q r
 
 -- with other items a tree has as many nodes
 abbrev pub AsManyNodes : Type 0 → Type 0 → Type 0

@@ -34,16 +34,19 @@ optional f None = wanting
 optional f (Some t) = f t
 
 module _ {T : Type 0} where
-  abbrev pub parts_by : (ℕ → Partial (Marked T)) → (ℕ → Option (Entry (Held T))) → ℕ → ℕ → Parts (Marked T)
+  abbrev pub parts_by : (ℕ → Partial (Marked T)) → (ℕ → Option (Entry (Held T))) → ℕ → ℕ
+      → Parts (Marked T)
   parts_by tree m s count = listed count (λ i. optional tree (part_in m s i))
 
   -- what a node is, where the parts of the node are such trees
-  abbrev pub tree_by : (ℕ → Partial (Marked T)) → (ℕ → Option (Entry (Held T))) → ℕ → Bool → Part T → Partial (Marked T)
+  abbrev pub tree_by : (ℕ → Partial (Marked T)) → (ℕ → Option (Entry (Held T))) → ℕ → Bool → Part T
+      → Partial (Marked T)
   tree_by tree m s marked Wanting = wanting
   tree_by tree m s marked (Item v) = item (record { value = v; marked = marked })
   tree_by tree m s marked (Numbered c) = list_of c.length (parts_by tree m s (count_of c))
 
-  abbrev pub held_tree : (ℕ → Partial (Marked T)) → (ℕ → Option (Entry (Held T))) → ℕ → Option (Held T) → Partial (Marked T)
+  abbrev pub held_tree : (ℕ → Partial (Marked T)) → (ℕ → Option (Entry (Held T))) → ℕ
+      → Option (Held T) → Partial (Marked T)
   held_tree tree m s None = wanting
   held_tree tree m s (Some b) = tree_by tree m s b.marked b.part
 

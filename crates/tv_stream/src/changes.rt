@@ -27,11 +27,18 @@ fn part_or_new<T: Drop>(
     requires live { IsLive pool.old region.now }
     requires node { IsNode pool.old (number_of region.now) (lies_at node) }
     requires room { 0 < room }
-    ensures ok { IfOk result (λ part. (spots : ℕ → Option Spot) (p : Spot) → AreNodes (item_in pool.old (number_of region.now)) spots → spots (lies_at node) ≡ Some p → Parted (item_in pool.old (number_of region.now)) (item_in pool.new (number_of region.now)) spots (lies_at node) index (lies_at part)) }
-    ensures found { OnOk result ((part_in (item_in pool.old (number_of region.now)) (lies_at node) index ≡ None) ⊎ (pool.new ≡ pool.old)) }
-    ensures one { OnOk result (count_in pool.new (number_of region.now) ≤ count_in pool.old (number_of region.now) + 1) }
-    ensures left { OnOk result (part_in (item_in pool.old (number_of region.now)) (lies_at node) index ≡ None → room ≤ pool.new.spare + 1) }
-    ensures none { OnErr result (part_in (item_in pool.old (number_of region.now)) (lies_at node) index ≡ None) }
+    ensures ok { IfOk result (λ part. (spots : ℕ → Option Spot) (p : Spot)
+        → AreNodes (item_in pool.old (number_of region.now)) spots → spots (lies_at node) ≡ Some p
+        → Parted (item_in pool.old (number_of region.now)) (item_in pool.new (number_of region.now))
+        spots (lies_at node) index (lies_at part)) }
+    ensures found { OnOk result ((part_in (item_in pool.old (number_of region.now)) (lies_at node)
+        index ≡ None) ⊎ (pool.new ≡ pool.old)) }
+    ensures one { OnOk result (count_in pool.new (number_of region.now)
+        ≤ count_in pool.old (number_of region.now) + 1) }
+    ensures left { OnOk result (part_in (item_in pool.old (number_of region.now)) (lies_at node)
+        index ≡ None → room ≤ pool.new.spare + 1) }
+    ensures none { OnErr result (part_in (item_in pool.old (number_of region.now)) (lies_at node)
+        index ≡ None) }
     ensures refused { OnErr result (pool.old.spare < room) }
     ensures unchanged { OnErr result (pool.new.regions ≡ pool.old.regions) }
     ensures kept { KeepsRegions pool.old pool.new (number_of region.now) }
@@ -54,11 +61,18 @@ fn note_part<T: Drop>(
     whole: bool,
     marked: bool,
 ) -> bool
-    requires { (number : ℕ) × IsNode pool.old number (lies_at node) × ((b : Held T) × (body_in (item_in pool.old number) (lies_at node) ≡ Some b) × ((counts_in b).whole < 2 ^ 63)) }
-    ensures sets { (number : ℕ) (b : Held T) → IsNode pool.old number (lies_at node) → body_in (item_in pool.old number) (lies_at node) ≡ Some b → Sets (item_in pool.old number) (item_in pool.new number) (lies_at node) (noted b index whole marked) }
-    ensures whole { (number : ℕ) (b : Held T) → IsNode pool.old number (lies_at node) → body_in (item_in pool.old number) (lies_at node) ≡ Some b → result ≡ counts_whole (counts_with (counts_in b) index whole) }
+    requires { (number : ℕ) × IsNode pool.old number (lies_at node)
+        × ((b : Held T) × (body_in (item_in pool.old number) (lies_at node) ≡ Some b)
+        × ((counts_in b).whole < 2 ^ 63)) }
+    ensures sets { (number : ℕ) (b : Held T) → IsNode pool.old number (lies_at node)
+        → body_in (item_in pool.old number) (lies_at node) ≡ Some b → Sets (item_in pool.old number)
+        (item_in pool.new number) (lies_at node) (noted b index whole marked) }
+    ensures whole { (number : ℕ) (b : Held T) → IsNode pool.old number (lies_at node)
+        → body_in (item_in pool.old number) (lies_at node) ≡ Some b → result
+        ≡ counts_whole (counts_with (counts_in b) index whole) }
     ensures nodes { (number : ℕ) → count_in pool.new number ≡ count_in pool.old number }
-    ensures kept { (number : ℕ) → IsNode pool.old number (lies_at node) → KeepsRegions pool.old pool.new number }
+    ensures kept { (number : ℕ) → IsNode pool.old number (lies_at node)
+        → KeepsRegions pool.old pool.new number }
     ensures spare { pool.new.spare ≡ pool.old.spare }
 {
     let held = body(pool, node);
@@ -82,12 +96,19 @@ fn settle<T: Drop>(
     item: T,
     marked: bool,
 ) -> Result<u32, ArriveRefused<T>>
-    requires { (number : ℕ) × ((spots : ℕ → Option Spot) × ((height : ℕ) × InTree (item_in pool.old number) spots (lies_at node) height)) }
-    ensures ok { IfOk result (λ least. (number : ℕ) → IsNode pool.old number (lies_at node) → ArrivesIn (item_in pool.old number) (item_in pool.new number) (lies_at node) [] (marked_item item marked) least) }
-    ensures refused { IfErr result (λ refused. (number : ℕ) (spots : ℕ → Option Spot) (height : ℕ) → InTree (item_in pool.old number) spots (lies_at node) height → RefusesArrivalIn pool.old.spare [] item (tree_at height (item_in pool.old number) (lies_at node)) refused) }
+    requires { (number : ℕ) × ((spots : ℕ → Option Spot)
+        × ((height : ℕ) × InTree (item_in pool.old number) spots (lies_at node) height)) }
+    ensures ok { IfOk result (λ least. (number : ℕ) → IsNode pool.old number (lies_at node)
+        → ArrivesIn (item_in pool.old number) (item_in pool.new number) (lies_at node) []
+        (marked_item item marked) least) }
+    ensures refused { IfErr result (λ refused. (number : ℕ) (spots : ℕ → Option Spot) (height : ℕ)
+        → InTree (item_in pool.old number) spots (lies_at node) height
+        → RefusesArrivalIn pool.old.spare [] item (tree_at height (item_in pool.old number)
+        (lies_at node)) refused) }
     ensures nodes { (number : ℕ) → count_in pool.new number ≡ count_in pool.old number }
     ensures unchanged { OnErr result (pool.new ≡ pool.old) }
-    ensures kept { (number : ℕ) → IsNode pool.old number (lies_at node) → KeepsRegions pool.old pool.new number }
+    ensures kept { (number : ℕ) → IsNode pool.old number (lies_at node)
+        → KeepsRegions pool.old pool.new number }
     ensures spare { pool.new.spare ≡ pool.old.spare }
 {
     match &body(pool, node).part {
@@ -116,11 +137,23 @@ pub fn arrive_in<T: Drop>(
     marked: bool,
 ) -> Result<u32, ArriveRefused<T>>
     requires live { IsLive pool.old region.now }
-    requires node { (spots : ℕ → Option Spot) × ((height : ℕ) × (InTree (item_in pool.old (number_of region.now)) spots (lies_at node) height × (count place.now ≤ height))) }
+    requires node { (spots : ℕ → Option Spot)
+        × ((height : ℕ) × (InTree (item_in pool.old (number_of region.now)) spots (lies_at node)
+        height × (count place.now ≤ height))) }
     requires short { count place.now < 2 ^ 32 }
-    ensures ok { IfOk result (λ least. ArrivesIn (item_in pool.old (number_of region.now)) (item_in pool.new (number_of region.now)) (lies_at node) place.now (marked_item item marked) least) }
-    ensures refused { IfErr result (λ refused. (spots : ℕ → Option Spot) (height : ℕ) → InTree (item_in pool.old (number_of region.now)) spots (lies_at node) height → count place.now ≤ height → RefusesArrivalIn pool.old.spare place.now item (tree_at height (item_in pool.old (number_of region.now)) (lies_at node)) refused) }
-    ensures nodes { OnOk result ((spots : ℕ → Option Spot) (height : ℕ) → InTree (item_in pool.old (number_of region.now)) spots (lies_at node) height → count place.now ≤ height → count_in pool.new (number_of region.now) ≤ count_in pool.old (number_of region.now) + new_nodes place.now (tree_at height (item_in pool.old (number_of region.now)) (lies_at node))) }
+    ensures ok { IfOk result (λ least. ArrivesIn (item_in pool.old (number_of region.now))
+        (item_in pool.new (number_of region.now)) (lies_at node) place.now (marked_item item marked)
+        least) }
+    ensures refused { IfErr result (λ refused. (spots : ℕ → Option Spot) (height : ℕ)
+        → InTree (item_in pool.old (number_of region.now)) spots (lies_at node) height
+        → count place.now ≤ height → RefusesArrivalIn pool.old.spare place.now item
+        (tree_at height (item_in pool.old (number_of region.now)) (lies_at node)) refused) }
+    ensures nodes { OnOk result ((spots : ℕ → Option Spot) (height : ℕ)
+        → InTree (item_in pool.old (number_of region.now)) spots (lies_at node) height
+        → count place.now ≤ height → count_in pool.new (number_of region.now)
+        ≤ count_in pool.old (number_of region.now)
+        + new_nodes place.now (tree_at height (item_in pool.old (number_of region.now))
+        (lies_at node))) }
     ensures unchanged { OnErr result (pool.new.regions ≡ pool.old.regions) }
     ensures kept { KeepsRegions pool.old pool.new (number_of region.now) }
     ensures spare { pool.old.spare ≤ pool.new.spare + count place.now }
@@ -148,12 +181,20 @@ fn end<T: Drop>(
     node: Link,
     length: u32,
 ) -> Result<Option<u32>, CloseRefused>
-    requires { (number : ℕ) × ((spots : ℕ → Option Spot) × ((height : ℕ) × (InTree (item_in pool.old number) spots (lies_at node) height × (0 < height)))) }
-    ensures ok { IfOk result (λ least. (number : ℕ) → IsNode pool.old number (lies_at node) → ClosesIn (item_in pool.old number) (item_in pool.new number) (lies_at node) [] length least) }
-    ensures refused { IfErr result (λ refused. (number : ℕ) (spots : ℕ → Option Spot) (height : ℕ) → InTree (item_in pool.old number) spots (lies_at node) height → 0 < height → RefusesCloseIn pool.old.spare [] length (tree_at height (item_in pool.old number) (lies_at node)) refused) }
+    requires { (number : ℕ) × ((spots : ℕ → Option Spot)
+        × ((height : ℕ) × (InTree (item_in pool.old number) spots (lies_at node) height
+        × (0 < height)))) }
+    ensures ok { IfOk result (λ least. (number : ℕ) → IsNode pool.old number (lies_at node)
+        → ClosesIn (item_in pool.old number) (item_in pool.new number) (lies_at node) [] length
+        least) }
+    ensures refused { IfErr result (λ refused. (number : ℕ) (spots : ℕ → Option Spot) (height : ℕ)
+        → InTree (item_in pool.old number) spots (lies_at node) height → 0 < height
+        → RefusesCloseIn pool.old.spare [] length (tree_at height (item_in pool.old number)
+        (lies_at node)) refused) }
     ensures nodes { (number : ℕ) → count_in pool.new number ≡ count_in pool.old number }
     ensures unchanged { OnErr result (pool.new ≡ pool.old) }
-    ensures kept { (number : ℕ) → IsNode pool.old number (lies_at node) → KeepsRegions pool.old pool.new number }
+    ensures kept { (number : ℕ) → IsNode pool.old number (lies_at node)
+        → KeepsRegions pool.old pool.new number }
     ensures spare { pool.new.spare ≡ pool.old.spare }
 {
     let held = body(pool, node);
@@ -192,11 +233,22 @@ pub fn close_in<T: Drop>(
     length: u32,
 ) -> Result<Option<u32>, CloseRefused>
     requires live { IsLive pool.old region.now }
-    requires node { (spots : ℕ → Option Spot) × ((height : ℕ) × (InTree (item_in pool.old (number_of region.now)) spots (lies_at node) height × (count place.now < height))) }
+    requires node { (spots : ℕ → Option Spot)
+        × ((height : ℕ) × (InTree (item_in pool.old (number_of region.now)) spots (lies_at node)
+        height × (count place.now < height))) }
     requires short { count place.now < 2 ^ 32 }
-    ensures ok { IfOk result (λ least. ClosesIn (item_in pool.old (number_of region.now)) (item_in pool.new (number_of region.now)) (lies_at node) place.now length least) }
-    ensures refused { IfErr result (λ refused. (spots : ℕ → Option Spot) (height : ℕ) → InTree (item_in pool.old (number_of region.now)) spots (lies_at node) height → count place.now < height → RefusesCloseIn pool.old.spare place.now length (tree_at height (item_in pool.old (number_of region.now)) (lies_at node)) refused) }
-    ensures nodes { OnOk result ((spots : ℕ → Option Spot) (height : ℕ) → InTree (item_in pool.old (number_of region.now)) spots (lies_at node) height → count place.now < height → count_in pool.new (number_of region.now) ≤ count_in pool.old (number_of region.now) + new_nodes place.now (tree_at height (item_in pool.old (number_of region.now)) (lies_at node))) }
+    ensures ok { IfOk result (λ least. ClosesIn (item_in pool.old (number_of region.now))
+        (item_in pool.new (number_of region.now)) (lies_at node) place.now length least) }
+    ensures refused { IfErr result (λ refused. (spots : ℕ → Option Spot) (height : ℕ)
+        → InTree (item_in pool.old (number_of region.now)) spots (lies_at node) height
+        → count place.now < height → RefusesCloseIn pool.old.spare place.now length
+        (tree_at height (item_in pool.old (number_of region.now)) (lies_at node)) refused) }
+    ensures nodes { OnOk result ((spots : ℕ → Option Spot) (height : ℕ)
+        → InTree (item_in pool.old (number_of region.now)) spots (lies_at node) height
+        → count place.now < height → count_in pool.new (number_of region.now)
+        ≤ count_in pool.old (number_of region.now)
+        + new_nodes place.now (tree_at height (item_in pool.old (number_of region.now))
+        (lies_at node))) }
     ensures unchanged { OnErr result (pool.new.regions ≡ pool.old.regions) }
     ensures kept { KeepsRegions pool.old pool.new (number_of region.now) }
     ensures spare { pool.old.spare ≤ pool.new.spare + count place.now }
@@ -241,9 +293,17 @@ fn outward(whole: bool, least: Option<u32>) -> Option<u32>
 
 /// What `arrive_in` will answer for an item that can arrive.
 pub fn whole_by_arrival_in<T>(pool: &Pool<Slot<T>>, node: Link, place: &[u32]) -> u32
-    requires node { (number : ℕ) × ((spots : ℕ → Option Spot) × ((height : ℕ) × (InTree (item_in pool.now number) spots (lies_at node) height × (count place.now ≤ height) × CanArrive place.now (tree_at height (item_in pool.now number) (lies_at node))))) }
+    requires node { (number : ℕ) × ((spots : ℕ → Option Spot)
+        × ((height : ℕ) × (InTree (item_in pool.now number) spots (lies_at node) height
+        × (count place.now ≤ height) × CanArrive place.now (tree_at height (item_in pool.now number)
+        (lies_at node))))) }
     requires short { count place.now < 2 ^ 32 }
-    ensures least { (number : ℕ) (spots : ℕ → Option Spot) (height : ℕ) → InTree (item_in pool.now number) spots (lies_at node) height → count place.now ≤ height → CanArrive place.now (tree_at height (item_in pool.now number) (lies_at node)) → (x : Marked T) → least_whole place.now (arrive place.now x (tree_at height (item_in pool.now number) (lies_at node))) ≡ Some result }
+    ensures least { (number : ℕ) (spots : ℕ → Option Spot) (height : ℕ)
+        → InTree (item_in pool.now number) spots (lies_at node) height → count place.now ≤ height
+        → CanArrive place.now (tree_at height (item_in pool.now number) (lies_at node))
+        → (x : Marked T)
+        → least_whole place.now (arrive place.now x (tree_at height (item_in pool.now number)
+        (lies_at node))) ≡ Some result }
     ensures short { result ≤ count place.now }
 {
     let Some((&index, rest)) = place.split_first() else {
@@ -264,9 +324,16 @@ pub fn whole_by_close_in<T>(
     place: &[u32],
     length: u32,
 ) -> Option<u32>
-    requires node { (number : ℕ) × ((spots : ℕ → Option Spot) × ((height : ℕ) × (InTree (item_in pool.now number) spots (lies_at node) height × (count place.now < height) × CanClose place.now length (tree_at height (item_in pool.now number) (lies_at node))))) }
+    requires node { (number : ℕ) × ((spots : ℕ → Option Spot)
+        × ((height : ℕ) × (InTree (item_in pool.now number) spots (lies_at node) height
+        × (count place.now < height)
+        × CanClose place.now length (tree_at height (item_in pool.now number) (lies_at node))))) }
     requires short { count place.now < 2 ^ 32 }
-    ensures least { (number : ℕ) (spots : ℕ → Option Spot) (height : ℕ) → InTree (item_in pool.now number) spots (lies_at node) height → count place.now < height → CanClose place.now length (tree_at height (item_in pool.now number) (lies_at node)) → least_whole place.now (close_at place.now length (tree_at height (item_in pool.now number) (lies_at node))) ≡ result }
+    ensures least { (number : ℕ) (spots : ℕ → Option Spot) (height : ℕ)
+        → InTree (item_in pool.now number) spots (lies_at node) height → count place.now < height
+        → CanClose place.now length (tree_at height (item_in pool.now number) (lies_at node))
+        → least_whole place.now (close_at place.now length (tree_at height (item_in pool.now number)
+        (lies_at node))) ≡ result }
     ensures short { (k : ℕ) → result ≡ Some k → k ≤ count place.now }
 {
     let Some((&index, rest)) = place.split_first() else {

@@ -12,8 +12,11 @@ use tv_pool::{Link, Pool};
 
 /// At how many prefixes of a place, seen from a node, a marked item stands there or inside.
 pub(crate) fn marked_in<T>(pool: &Pool<Slot<T>>, node: Link, place: &[u32]) -> usize
-    requires { (number : ℕ) × ((r : Tree (Marked T)) × IsAt (item_in pool.now number) (lies_at node) r) }
-    ensures levels { (number : ℕ) (r : Tree (Marked T)) → IsAt (item_in pool.now number) (lies_at node) r → (k : ℕ) → k ≤ count place.now → nat_lt k result ≡ holds_some is_marked (known_at (take k place.now) r) }
+    requires { (number : ℕ) × ((r : Tree (Marked T)) × IsAt (item_in pool.now number) (lies_at node)
+        r) }
+    ensures levels { (number : ℕ) (r : Tree (Marked T)) → IsAt (item_in pool.now number)
+        (lies_at node) r → (k : ℕ) → k ≤ count place.now → nat_lt k result
+        ≡ holds_some is_marked (known_at (take k place.now) r) }
     ensures most { result ≤ count place.now + 1 }
 {
     if !body(pool, node).marked {

@@ -30,7 +30,8 @@ impl<'a, T> Look<'a, T> {
     /// The item here. Takes no memory, and the cost is constant.
     pub fn item(&self) -> Option<&'a T>
         requires { (r : Tree (Marked T)) × Shows self.now r }
-        ensures { (r : Tree (Marked T)) → Shows self.now r → MatchOption result (item_of r ≡ None) (λ item. item_of r ≡ Some item.now) }
+        ensures { (r : Tree (Marked T)) → Shows self.now r → MatchOption result (item_of r ≡ None)
+            (λ item. item_of r ≡ Some item.now) }
     {
         match &body(self.pool, self.node).part {
             Part::Item(item) => Some(item),
@@ -41,7 +42,8 @@ impl<'a, T> Look<'a, T> {
     /// The part at an index, or `None` where nothing is known of it. Takes no memory. Logarithmic in the known parts.
     pub fn part(&self, index: u32) -> Option<Look<'a, T>>
         requires { (r : Tree (Marked T)) × Shows self.now r }
-        ensures { (r : Tree (Marked T)) → Shows self.now r → MatchOption result (part_at r index ≡ wanting) (λ look. Shows look (part_at r index)) }
+        ensures { (r : Tree (Marked T)) → Shows self.now r → MatchOption result (part_at r index
+            ≡ wanting) (λ look. Shows look (part_at r index)) }
     {
         match seek(self.pool, self.node, index) {
             Stop::Found(node) => Some(Look {

@@ -44,10 +44,12 @@ impl<T> Partial<T> {
     where
         T: Drop,
         requires { IsLive pool.old region.now }
-        ensures ok { IfOk result (λ tree. Starts pool.old pool.new tree depth (number_of region.now)) }
+        ensures ok { IfOk result (λ tree. Starts pool.old pool.new tree depth
+            (number_of region.now)) }
         ensures stands { IfOk result (Stands pool.new) }
         ensures region { IfOk result (λ tree. IsIn tree region.now) }
-        ensures node { OnOk result (count_in pool.new (number_of region.now) ≡ count_in pool.old (number_of region.now) + 1) }
+        ensures node { OnOk result (count_in pool.new (number_of region.now)
+            ≡ count_in pool.old (number_of region.now) + 1) }
         ensures unchanged { OnErr result (pool.new.regions ≡ pool.old.regions) }
         ensures kept { KeepsRegions pool.old pool.new (number_of region.now) }
         ensures room { OnErr result (pool.old.spare ≡ 0) }
@@ -86,14 +88,18 @@ impl<T> Partial<T> {
         requires live { IsLive pool.old region.now }
         requires region { IsIn self.old region.now }
         requires stands { Stands pool.old self.old }
-        ensures tree { OnOk result (tree_of pool.new self.new ≡ arrived place.now (marked_item item false) (tree_of pool.old self.old)) }
+        ensures tree { OnOk result (tree_of pool.new self.new
+            ≡ arrived place.now (marked_item item false) (tree_of pool.old self.old)) }
         ensures can { OnOk result (CanArrive place.now (tree_of pool.old self.old)) }
         ensures short { OnOk result (length place.now ≤ self.old.depth) }
-        ensures refused { IfErr result (RefusesArrival pool.old.spare self.old.depth place.now item (tree_of pool.old self.old)) }
+        ensures refused { IfErr result (RefusesArrival pool.old.spare self.old.depth place.now item
+            (tree_of pool.old self.old)) }
         ensures unchanged { OnErr result (pool.new.regions ≡ pool.old.regions) }
         ensures same { self.new ≡ self.old }
         ensures trees { KeepsTrees pool.old pool.new self.old }
-        ensures nodes { OnOk result (count_in pool.new (number_of region.now) ≤ count_in pool.old (number_of region.now) + new_nodes place.now (tree_of pool.old self.old)) }
+        ensures nodes { OnOk result (count_in pool.new (number_of region.now)
+            ≤ count_in pool.old (number_of region.now)
+            + new_nodes place.now (tree_of pool.old self.old)) }
         ensures stands { Stands pool.new self.new }
         ensures kept { KeepsRegions pool.old pool.new (number_of region.now) }
         ensures spare { pool.old.spare ≤ pool.new.spare + self.old.depth }
@@ -119,15 +125,20 @@ impl<T> Partial<T> {
         requires live { IsLive pool.old region.now }
         requires region { IsIn self.old region.now }
         requires stands { Stands pool.old self.old }
-        ensures tree { OnOk result (tree_of pool.new self.new ≡ arrived place.now (marked_item item marked) (tree_of pool.old self.old)) }
-        ensures least { IfOk result (λ least. least_whole place.now (tree_of pool.new self.new) ≡ Some least) }
+        ensures tree { OnOk result (tree_of pool.new self.new
+            ≡ arrived place.now (marked_item item marked) (tree_of pool.old self.old)) }
+        ensures least { IfOk result (λ least. least_whole place.now (tree_of pool.new self.new)
+            ≡ Some least) }
         ensures can { OnOk result (CanArrive place.now (tree_of pool.old self.old)) }
         ensures short { OnOk result (length place.now ≤ self.old.depth) }
-        ensures refused { IfErr result (RefusesArrival pool.old.spare self.old.depth place.now item (tree_of pool.old self.old)) }
+        ensures refused { IfErr result (RefusesArrival pool.old.spare self.old.depth place.now item
+            (tree_of pool.old self.old)) }
         ensures unchanged { OnErr result (pool.new.regions ≡ pool.old.regions) }
         ensures same { self.new ≡ self.old }
         ensures trees { KeepsTrees pool.old pool.new self.old }
-        ensures nodes { OnOk result (count_in pool.new (number_of region.now) ≤ count_in pool.old (number_of region.now) + new_nodes place.now (tree_of pool.old self.old)) }
+        ensures nodes { OnOk result (count_in pool.new (number_of region.now)
+            ≤ count_in pool.old (number_of region.now)
+            + new_nodes place.now (tree_of pool.old self.old)) }
         ensures stands { Stands pool.new self.new }
         ensures kept { KeepsRegions pool.old pool.new (number_of region.now) }
         ensures spare { pool.old.spare ≤ pool.new.spare + self.old.depth }
@@ -155,14 +166,18 @@ impl<T> Partial<T> {
         requires live { IsLive pool.old region.now }
         requires region { IsIn self.old region.now }
         requires stands { Stands pool.old self.old }
-        ensures tree { OnOk result (tree_of pool.new self.new ≡ close_at place.now length (tree_of pool.old self.old)) }
+        ensures tree { OnOk result (tree_of pool.new self.new
+            ≡ close_at place.now length (tree_of pool.old self.old)) }
         ensures can { OnOk result (CanClose place.now length (tree_of pool.old self.old)) }
         ensures short { OnOk result (Rattle.std.specs.Prelude.length place.now < self.old.depth) }
-        ensures refused { IfErr result (RefusesClose pool.old.spare self.old.depth place.now length (tree_of pool.old self.old)) }
+        ensures refused { IfErr result (RefusesClose pool.old.spare self.old.depth place.now length
+            (tree_of pool.old self.old)) }
         ensures unchanged { OnErr result (pool.new.regions ≡ pool.old.regions) }
         ensures same { self.new ≡ self.old }
         ensures trees { KeepsTrees pool.old pool.new self.old }
-        ensures nodes { OnOk result (count_in pool.new (number_of region.now) ≤ count_in pool.old (number_of region.now) + new_nodes place.now (tree_of pool.old self.old)) }
+        ensures nodes { OnOk result (count_in pool.new (number_of region.now)
+            ≤ count_in pool.old (number_of region.now)
+            + new_nodes place.now (tree_of pool.old self.old)) }
         ensures stands { Stands pool.new self.new }
         ensures kept { KeepsRegions pool.old pool.new (number_of region.now) }
         ensures spare { pool.old.spare ≤ pool.new.spare + self.old.depth }
@@ -187,15 +202,20 @@ impl<T> Partial<T> {
         requires live { IsLive pool.old region.now }
         requires region { IsIn self.old region.now }
         requires stands { Stands pool.old self.old }
-        ensures tree { OnOk result (tree_of pool.new self.new ≡ close_at place.now length (tree_of pool.old self.old)) }
-        ensures least { IfOk result (λ least. least_whole place.now (tree_of pool.new self.new) ≡ least) }
+        ensures tree { OnOk result (tree_of pool.new self.new
+            ≡ close_at place.now length (tree_of pool.old self.old)) }
+        ensures least { IfOk result (λ least. least_whole place.now (tree_of pool.new self.new)
+            ≡ least) }
         ensures can { OnOk result (CanClose place.now length (tree_of pool.old self.old)) }
         ensures short { OnOk result (Rattle.std.specs.Prelude.length place.now < self.old.depth) }
-        ensures refused { IfErr result (RefusesClose pool.old.spare self.old.depth place.now length (tree_of pool.old self.old)) }
+        ensures refused { IfErr result (RefusesClose pool.old.spare self.old.depth place.now length
+            (tree_of pool.old self.old)) }
         ensures unchanged { OnErr result (pool.new.regions ≡ pool.old.regions) }
         ensures same { self.new ≡ self.old }
         ensures trees { KeepsTrees pool.old pool.new self.old }
-        ensures nodes { OnOk result (count_in pool.new (number_of region.now) ≤ count_in pool.old (number_of region.now) + new_nodes place.now (tree_of pool.old self.old)) }
+        ensures nodes { OnOk result (count_in pool.new (number_of region.now)
+            ≤ count_in pool.old (number_of region.now)
+            + new_nodes place.now (tree_of pool.old self.old)) }
         ensures stands { Stands pool.new self.new }
         ensures kept { KeepsRegions pool.old pool.new (number_of region.now) }
         ensures spare { pool.old.spare ≤ pool.new.spare + self.old.depth }
@@ -212,7 +232,9 @@ impl<T> Partial<T> {
         requires stands { Stands pool.now self.now }
         requires short { length place.now ≤ self.now.depth }
         requires can { CanArrive place.now (tree_of pool.now self.now) }
-        ensures { (item : Marked T) → least_whole place.now (arrived place.now item (tree_of pool.now self.now)) ≡ Some result }
+        ensures { (item : Marked T)
+            → least_whole place.now (arrived place.now item (tree_of pool.now self.now))
+            ≡ Some result }
     {
         whole_by_arrival_in(pool, self.root.link(), place.as_slice())
     }
@@ -222,7 +244,8 @@ impl<T> Partial<T> {
         requires stands { Stands pool.now self.now }
         requires short { Rattle.std.specs.Prelude.length place.now < self.now.depth }
         requires can { CanClose place.now length (tree_of pool.now self.now) }
-        ensures { least_whole place.now (close_at place.now length (tree_of pool.now self.now)) ≡ result }
+        ensures { least_whole place.now (close_at place.now length (tree_of pool.now self.now))
+            ≡ result }
     {
         whole_by_close_in(pool, self.root.link(), place.as_slice(), length)
     }
@@ -230,7 +253,9 @@ impl<T> Partial<T> {
     /// The node at a place.
     fn node_at(&self, pool: &Pool<Slot<T>>, place: &[u32]) -> Option<Link>
         requires stands { Stands pool.now self.now }
-        ensures { MatchOption result (known_at place.now (tree_of pool.now self.now) ≡ wanting) (λ link. IsAt (memory_of pool.now self.now) (lies_at link) (known_at place.now (tree_of pool.now self.now))) }
+        ensures { MatchOption result (known_at place.now (tree_of pool.now self.now) ≡ wanting)
+            (λ link. IsAt (memory_of pool.now self.now) (lies_at link)
+            (known_at place.now (tree_of pool.now self.now))) }
     {
         let mut node = self.root.link();
         'levels: for index in place {
@@ -267,7 +292,9 @@ impl<T> Partial<T> {
     /// The item at a place. Takes no memory.
     pub fn part_at<'a>(&self, pool: &'a Pool<Slot<T>>, place: &Place) -> Option<&'a T>
         requires stands { Stands pool.now self.now }
-        ensures { MatchOption result (item_of (known_at place.now (tree_of pool.now self.now)) ≡ None) (λ item. item_of (known_at place.now (tree_of pool.now self.now)) ≡ Some item.now) }
+        ensures { MatchOption result (item_of (known_at place.now (tree_of pool.now self.now))
+            ≡ None) (λ item. item_of (known_at place.now (tree_of pool.now self.now))
+            ≡ Some item.now) }
     {
         let node = self.node_at(pool, place.as_slice())?;
         match &body(pool, node).part {
@@ -328,7 +355,8 @@ impl<T> Partial<T> {
     /// Logarithmic in the known parts of each list on the way.
     pub fn marked_levels(&self, pool: &Pool<Slot<T>>, place: &Place) -> usize
         requires stands { Stands pool.now self.now }
-        ensures levels { (k : ℕ) → k ≤ length place.now → nat_lt k result ≡ holds_some is_marked (known_at (take k place.now) (tree_of pool.now self.now)) }
+        ensures levels { (k : ℕ) → k ≤ length place.now → nat_lt k result
+            ≡ holds_some is_marked (known_at (take k place.now) (tree_of pool.now self.now)) }
         ensures most { result ≤ length place.now + 1 }
     {
         marked_in(pool, self.root.link(), place.as_slice())

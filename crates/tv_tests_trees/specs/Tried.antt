@@ -24,7 +24,8 @@ abbrev pub HasBoth : Partial Value → Type 0
 HasBoth t = (v : Value) × ((w : Value) × (t ≡ arrive (0 ∷ []) v (arrive (1 ∷ []) w wanting)))
 
 -- three trees of these depths stand, and what is known of the first two is such
-pub record Tried (pool : Nodes) (outputs : Outputs) (region : Region) (P : Partial Value → Type 0) (third : Partial Value → Type 0) : Type 0 where
+pub record Tried (pool : Nodes) (outputs : Outputs) (region : Region) (P : Partial Value → Type 0)
+    (third : Partial Value → Type 0) : Type 0 where
   pub live : IsLive pool region
   pub stand : Stand pool outputs region
   pub deep : depths outputs ≡ 1 ∷ 1 ∷ 0 ∷ []

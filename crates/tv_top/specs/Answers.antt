@@ -67,7 +67,8 @@ module _ (knows : Name → Bool) where
 
   -- the document that the bytes are, where the check accepts it
   abbrev pub reading_of : List ℕ → Reading
-  reading_of bytes = if nat_lt byte_limit (length bytes) then Err (always TooLong) else reading_of_json (json_of bytes)
+  reading_of bytes = if nat_lt byte_limit (length bytes) then Err (always TooLong)
+      else reading_of_json (json_of bytes)
 
   -- the generated document of a number, where the check accepts it
   abbrev pub generated_reading : ℕ → Reading

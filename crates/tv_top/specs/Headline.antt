@@ -35,11 +35,21 @@ pub record Sink : Type 0 where
 
 -- of a value of a type that is a source, before and after
 abbrev pub source_told : {S : Type 0} → SourceGhosts S → S → S → Source
-source_told g old new = record { left = g.left old; left_after = g.left new; faults = g.faults old; faults_after = g.faults new }
+source_told g old new = record {
+  left = g.left old;
+  left_after = g.left new;
+  faults = g.faults old;
+  faults_after = g.faults new;
+}
 
 -- of a value of a type that is a sink, before and after
 abbrev pub sink_told : {K : Type 0} → SinkGhosts K → K → K → Sink
-sink_told g old new = record { sent = g.sent old; sent_after = g.sent new; faults = g.faults old; faults_after = g.faults new }
+sink_told g old new = record {
+  sent = g.sent old;
+  sent_after = g.sent new;
+  faults = g.faults old;
+  faults_after = g.faults new;
+}
 
 -- the source counted a fault
 abbrev pub ReadFailed : Source → Type 0
@@ -87,7 +97,8 @@ IsRefusal answer s status = OfDocument s (IsRefused answer status)
 -- the source was left so, and this refusal is the answer
 abbrev pub IsReadRefusal : {A : Type 0} → Leaving → (List ℕ → Result A StatusLine) → Source → Status
     → Type 0
-IsReadRefusal left answer s status = OfDocument s (λ bytes. IsRefused answer status bytes × left s bytes)
+IsReadRefusal left answer s status = OfDocument s (λ bytes. IsRefused answer status bytes
+    × left s bytes)
 
 -- why a call ended with this status
 abbrev pub Cause : Leaving → (List ℕ → Answer) → Source → Sink → Status → Type 0

@@ -191,7 +191,8 @@ AsksForward =
 
 -- a generated document asks as any other does, whatever there is to be read
 abbrev pub AsksGenerated : Type 0
-AsksGenerated = map (λ c. c.attempt) (asks_of local_gives local_knows (Some (gen 1)) []) ≡ 0 ∷ 0 ∷ 1 ∷ 0 ∷ []
+AsksGenerated = map (λ c. c.attempt) (asks_of local_gives local_knows (Some (gen 1)) []) ≡ 0 ∷ 0 ∷ 1
+    ∷ 0 ∷ []
 
 abbrev pub AsksNoCheck : Type 0
 AsksNoCheck = asks_for check two_steps ≡ []
@@ -220,7 +221,8 @@ TakesNothingElse =
 
 abbrev pub TellsCodes : Type 0
 TellsCodes =
-    map code_of (Done ∷ Usage ∷ ReadFault ∷ TooLong ∷ NotJson ∷ Form ∷ Check ∷ NoSuchElement ∷ WriteFault ∷ NoMemory ∷ []) ≡ 0 ∷ 2 ∷ 3 ∷ 4 ∷ 5 ∷ 6 ∷ 7 ∷ 8 ∷ 9 ∷ 10 ∷ []
+    map code_of (Done ∷ Usage ∷ ReadFault ∷ TooLong ∷ NotJson ∷ Form ∷ Check ∷ NoSuchElement
+    ∷ WriteFault ∷ NoMemory ∷ []) ≡ 0 ∷ 2 ∷ 3 ∷ 4 ∷ 5 ∷ 6 ∷ 7 ∷ 8 ∷ 9 ∷ 10 ∷ []
 
 abbrev pub TellsLines : Type 0
 TellsLines =

@@ -31,8 +31,10 @@ pub(crate) fn answer<A: Asker>(
     run: CheckedRun,
     asker: &mut A,
 ) -> Result<Text, Refusal>
-    ensures answer { GivesAnswer result (answer_to A.Services.gives (reading_view command) (run_view run)) }
-    ensures asked { GivesAsks (A.calls asker.old) (A.calls asker.new) result (asks_to A.Services.gives (reading_view command) (run_view run)) }
+    ensures answer { GivesAnswer result (answer_to A.Services.gives (reading_view command)
+        (run_view run)) }
+    ensures asked { GivesAsks (A.calls asker.old) (A.calls asker.new) result
+        (asks_to A.Services.gives (reading_view command) (run_view run)) }
 {
     match command {
         Reading::Check => Ok(depth_lines(alloc, &run)?),

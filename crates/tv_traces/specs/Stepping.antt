@@ -12,4 +12,12 @@ use Rattle.tv_marked.specs.Walking.{begins_of}
 abbrev pub telling_of : Flow → List Shape → (Place → Option What) → (Place → Bool) → Name × Step
     → Telling
 telling_of flow us what done s =
-    record { flow = flow; shapes = us; ports = ports_of flow s.1; begins = begins_of flow s.1; what = what; settled = done; name = s.0 }
+    record {
+      flow = flow;
+      shapes = us;
+      ports = ports_of flow s.1;
+      begins = begins_of flow s.1;
+      what = what;
+      settled = done;
+      name = s.0;
+    }

@@ -141,7 +141,8 @@ pub(crate) fn node_below(
     place: &Place,
 ) -> Result<Node, NoMemory>
     requires { AreGrouped records.old.groups walk.now }
-    ensures { IfOk result (λ u. IsBuilt (telling walk.now) levels place.now records.old records.new (node_view u)) }
+    ensures { IfOk result (λ u. IsBuilt (telling walk.now) levels place.now records.old records.new
+        (node_view u)) }
 {
     if levels == 0 {
         note_job(alloc, walk, records, place.as_slice())?;

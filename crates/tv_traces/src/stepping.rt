@@ -72,7 +72,8 @@ pub(crate) fn step_node(
     number: usize,
 ) -> Result<Node, NoMemory>
     requires number { number < length plan.now.steps }
-    requires grouped { AllAreGrouped (flow_view plan.now.flow) records.old.groups (shapes_view shapes.now) }
+    requires grouped { AllAreGrouped (flow_view plan.now.flow) records.old.groups
+        (shapes_view shapes.now) }
     ensures { IfOk result (λ u. (s : AName × Step)
         → slice_get (flow_view plan.now.flow).steps number ≡ Some s
         → IsBuilt (telling_of (flow_view plan.now.flow) (shapes_view shapes.now)

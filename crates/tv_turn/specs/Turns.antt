@@ -27,7 +27,8 @@ module _ (may : ℕ → Bool) (ss : List StepIdle) where
   abbrev pub first_of_steps_after : ℕ → List ℕ → List ℕ → Option ℕ
   first_of_steps_after s q [] = None
   first_of_steps_after s q (k ∷ ks) =
-      if k == s then option_or (first_of_step_after q k) (first_of_steps ks) else first_of_steps_after s q ks
+      if k == s then option_or (first_of_step_after q k) (first_of_steps ks)
+      else first_of_steps_after s q ks
 
   -- of all, or of those after a place of a step
   abbrev pub first_in_turn : List ℕ → Option (ℕ × List ℕ) → Option ℕ

@@ -22,7 +22,8 @@ pub fn first_ready(
     requires sound { IsSound wiring.now.after endings.now }
     requires steps { length idle.now.steps ≡ length wiring.now.after }
     requires order { list_all (λ k. nat_lt k (length wiring.now.after)) order.now ≡ true }
-    ensures { result ≡ first_in_turn (may_settle wiring.now endings.now) idle.now.steps order.now (option_map (λ a. (a.0, a.1.now)) after.entry) }
+    ensures { result ≡ first_in_turn (may_settle wiring.now endings.now) idle.now.steps order.now
+        (option_map (λ a. (a.0, a.1.now)) after.entry) }
 {
     match after {
         Some((step, place)) => first_of_steps_after(idle, endings, wiring, order, step, place),
@@ -42,7 +43,8 @@ fn first_of_steps_after(
     requires sound { IsSound wiring.now.after endings.now }
     requires steps { length idle.now.steps ≡ length wiring.now.after }
     requires order { list_all (λ k. nat_lt k (length wiring.now.after)) order.now ≡ true }
-    ensures { result ≡ first_of_steps_after (may_settle wiring.now endings.now) idle.now.steps step place.now order.now }
+    ensures { result ≡ first_of_steps_after (may_settle wiring.now endings.now) idle.now.steps step
+        place.now order.now }
 {
     for (at, other) in order.iter().enumerate() {
         if *other == step {
@@ -97,7 +99,8 @@ fn first_of_step_after(
     requires sound { IsSound wiring.now.after endings.now }
     requires steps { length idle.now.steps ≡ length wiring.now.after }
     requires step { step < length wiring.now.after }
-    ensures { result ≡ first_of_step_after (may_settle wiring.now endings.now) idle.now.steps place.now step }
+    ensures { result ≡ first_of_step_after (may_settle wiring.now endings.now) idle.now.steps
+        place.now step }
 {
     if endings.may_settle(wiring, step) {
         idle.first_after(step, place)

@@ -20,7 +20,8 @@ abbrev pub IsReading : Result Value ValueFault → Result spec.Value Complaint �
 IsReading (Ok v) r = r ≡ Ok (view v)
 IsReading (Err f) r = IsFault f r
 
-abbrev pub IsReadingOfItems : Result Items ValueFault → Result (Trees (Unit {0}) Scalar) Complaint → Type 0
+abbrev pub IsReadingOfItems : Result Items ValueFault → Result (Trees (Unit {0}) Scalar) Complaint
+    → Type 0
 IsReadingOfItems (Ok vs) r = r ≡ Ok (items_view vs)
 IsReadingOfItems (Err f) r = IsFault f r
 

@@ -13,7 +13,8 @@ DepthsAreThose = (v : Value) → (d : ℕ) → d < depth_limit → HasDepth v d 
 
 -- the least depth is one that the value has, and it has no lesser one
 abbrev pub LeastDepthIsLeast : Type 0
-LeastDepthIsLeast = (v : Value) → (d : ℕ) → d < depth_limit → least_depth v ≡ Some d → HasDepth v d × ((c : ℕ) → HasDepth v c → d ≤ c)
+LeastDepthIsLeast = (v : Value) → (d : ℕ) → d < depth_limit → least_depth v ≡ Some d → HasDepth v d
+    × ((c : ℕ) → HasDepth v c → d ≤ c)
 
 -- a value with no least depth has none below the limit
 abbrev pub RaggedHasNoDepth : Type 0

@@ -33,7 +33,8 @@ is_prefix (i ∷ q) (j ∷ r) = i == j && is_prefix q r
 -- with x in its place, once
 abbrev pub put_in_order : {A : Type 0} → (A → A → Ordering) → A → List A → List A
 put_in_order cmp x [] = x ∷ []
-put_in_order cmp x (y ∷ ys) = match_ordering (cmp x y) (x ∷ y ∷ ys) (y ∷ ys) (y ∷ put_in_order cmp x ys)
+put_in_order cmp x (y ∷ ys) = match_ordering (cmp x y) (x ∷ y ∷ ys) (y ∷ ys) (y
+    ∷ put_in_order cmp x ys)
 
 -- in order, each once
 abbrev pub in_order : {A : Type 0} → (A → A → Ordering) → List A → List A

@@ -31,9 +31,11 @@ item_count (item d ds) = suc (item_count ds)
 -- a list of well-formed items, if it has a depth
 abbrev pub read_list : Result (Trees (Unit {0}) Scalar) Complaint → Result Value Complaint
 read_list (Err c) = Err c
-read_list (Ok vs) = if is_some (least_depth (list_value vs)) then Ok (list_value vs) else Err (ragged [])
+read_list (Ok vs) = if is_some (least_depth (list_value vs)) then Ok (list_value vs)
+    else Err (ragged [])
 
-abbrev pub first_read : ℕ → Result Value Complaint → Result (Trees (Unit {0}) Scalar) Complaint → Result (Trees (Unit {0}) Scalar) Complaint
+abbrev pub first_read : ℕ → Result Value Complaint → Result (Trees (Unit {0}) Scalar) Complaint
+    → Result (Trees (Unit {0}) Scalar) Complaint
 first_read i (Err c) rest = Err (within i c)
 first_read i (Ok v) (Err c) = Err c
 first_read i (Ok v) (Ok vs) = Ok (tree v vs)
@@ -45,7 +47,8 @@ abbrev mutual
   read (boolean b) = Err (not_text [])
   read (number n) = read_number n
   read (string s) = Ok (text_value s)
-  read (array ds) = if nat_lt (item_count ds) length_limit then read_list (read_items 0 ds) else Err (ragged [])
+  read (array ds) = if nat_lt (item_count ds) length_limit then read_list (read_items 0 ds)
+      else Err (ragged [])
   read (object ms) = Err (not_text [])
 
   pub read_items : ℕ → Items → Result (Trees (Unit {0}) Scalar) Complaint

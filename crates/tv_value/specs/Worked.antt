@@ -32,7 +32,12 @@ ReadsValues =
 -- the first complaint in order, with its place, and items before their list
 abbrev pub TellsFirstComplaint : Type 0
 TellsFirstComplaint =
-    (read null ≡ Err (not_text [])) × (read (object no_members) ≡ Err (not_text [])) × (read (array_of (a_json ∷ array_of (a_json ∷ []) ∷ [])) ≡ Err (ragged [])) × (read (array_of (a_json ∷ array_of (a_json ∷ boolean true ∷ null ∷ []) ∷ [])) ≡ Err (not_text (1 ∷ 1 ∷ []))) × (read (array_of (a_json ∷ array_of (a_json ∷ array_of [] ∷ []) ∷ null ∷ [])) ≡ Err (ragged (1 ∷ [])))
+    (read null ≡ Err (not_text [])) × (read (object no_members) ≡ Err (not_text []))
+    × (read (array_of (a_json ∷ array_of (a_json ∷ []) ∷ [])) ≡ Err (ragged []))
+    × (read (array_of (a_json ∷ array_of (a_json ∷ boolean true ∷ null ∷ []) ∷ []))
+    ≡ Err (not_text (1 ∷ 1 ∷ [])))
+    × (read (array_of (a_json ∷ array_of (a_json ∷ array_of [] ∷ []) ∷ null ∷ []))
+    ≡ Err (ragged (1 ∷ [])))
 
 abbrev pub bounced : ErrorDoc
 bounced = record { at = (codes "n", 0 ∷ []) ∷ (codes "u", 1 ∷ 2 ∷ []) ∷ []; depth = 1; why = codes "bounced"; from = ((codes "q", []) ∷ []) ∷ [] }
@@ -47,7 +52,9 @@ LooksUp =
     (at (l (t (codes "a") ∷ l [] ∷ [])) (1 ∷ []) ≡ Some (l [])) × (at (l (t (codes "a") ∷ [])) [] ≡ Some (l (t (codes "a") ∷ []))) × (at (l (t (codes "a") ∷ [])) (1 ∷ []) ≡ None) × (at (t (codes "a")) (0 ∷ []) ≡ None)
 
 abbrev pub ComparesPlaces : Type 0
-ComparesPlaces = (is_prefix [] (1 ∷ []) ≡ true) × (is_prefix (1 ∷ []) (1 ∷ 2 ∷ []) ≡ true) × (is_prefix (1 ∷ 2 ∷ []) (1 ∷ 2 ∷ []) ≡ true) × (is_prefix (1 ∷ 2 ∷ []) (1 ∷ []) ≡ false) × (is_prefix (2 ∷ []) (1 ∷ 2 ∷ []) ≡ false)
+ComparesPlaces = (is_prefix [] (1 ∷ []) ≡ true) × (is_prefix (1 ∷ []) (1 ∷ 2 ∷ []) ≡ true)
+    × (is_prefix (1 ∷ 2 ∷ []) (1 ∷ 2 ∷ []) ≡ true) × (is_prefix (1 ∷ 2 ∷ []) (1 ∷ []) ≡ false)
+    × (is_prefix (2 ∷ []) (1 ∷ 2 ∷ []) ≡ false)
 
 -- names by step before place, and each once
 abbrev pub OrdersNames : Type 0

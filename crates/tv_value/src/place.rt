@@ -98,7 +98,8 @@ impl Place {
     /// The first `at` indices, and the others.
     pub fn split(&self, alloc: Global, at: usize) -> Result<(Place, Place), NoMemory>
         requires { at ≤ length self.now }
-        ensures ok { IfOk result (λ parts. (parts.0 ≡ take at self.now) × (parts.1 ≡ drop at self.now)) }
+        ensures ok { IfOk result (λ parts. (parts.0 ≡ take at self.now)
+            × (parts.1 ≡ drop at self.now)) }
         ensures short { length self.now ≤ 32 → IsOk result }
     {
         let (front, back) = self.indices.as_slice().split_at(at);

@@ -127,7 +127,8 @@ impl Value {
     /// The jobs that made the error documents in the value, in order of their names, each once. The order is level by
     /// level by step, then place, a prefix first. Takes n log n steps for n documents, and a copy of each name.
     pub fn faults(&self, alloc: Global) -> Result<JobNames, NoMemory>
-        ensures { IfOk result (λ ns. ns ≡ in_order job_name_cmp (makers_of (leaves (view self.now)))) }
+        ensures { IfOk result (λ ns. ns
+            ≡ in_order job_name_cmp (makers_of (leaves (view self.now)))) }
     {
         let mut makers = BTreeSet::new(alloc);
         self.put_makers(alloc, &mut makers)?;
@@ -137,7 +138,8 @@ impl Value {
     /// Puts the makers of the errors into a set, the last first.
     #[cycle(makers)]
     fn put_makers(&self, alloc: Global, makers: &mut BTreeSet<JobName>) -> Result<(), NoMemory>
-        ensures { OnOk result (makers.new.keys ≡ put_all job_name_cmp (makers_of (leaves (view self.now))) makers.old.keys) }
+        ensures { OnOk result (makers.new.keys
+            ≡ put_all job_name_cmp (makers_of (leaves (view self.now))) makers.old.keys) }
     {
         match self {
             Value::Text(_) => Ok(()),
@@ -245,7 +247,8 @@ impl Items {
 
     #[cycle(makers)]
     fn put_makers(&self, alloc: Global, makers: &mut BTreeSet<JobName>) -> Result<(), NoMemory>
-        ensures { OnOk result (makers.new.keys ≡ put_all job_name_cmp (makers_of (all_leaves (items_view self.now))) makers.old.keys) }
+        ensures { OnOk result (makers.new.keys
+            ≡ put_all job_name_cmp (makers_of (all_leaves (items_view self.now))) makers.old.keys) }
     {
         let mut left = self.values.len();
         while left > 0 {

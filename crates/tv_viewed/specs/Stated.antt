@@ -108,7 +108,8 @@ pub record IsBoundAsTold (v : View) (j : Job) (x : Name × Place) : Type 0 where
   pub values : (vs : List Value) → AreInputs v x vs → vs ≡ map plain j.inputs
   pub fault :
       (b : Bool)
-      → InAll v (λ instance results fs. Each (λ (f : InstanceStep). Each (HoldsFaultAt x b) f.jobs) fs)
+      → InAll v (λ instance results fs. Each (λ (f : InstanceStep). Each (HoldsFaultAt x b) f.jobs)
+      fs)
       → b ≡ list_any (λ w. holds_fault w) j.inputs
   pub bounced : list_any (λ w. holds_fault w) j.inputs ≡ is_bounced j.ending
 

@@ -24,7 +24,8 @@ to-of_link (Input x) = refl
 to-of_link (Output s o) = refl
 
 abbrev pub coded_link : Coded NumberedLink
-coded_link = code_by (ℕ ⊎ (ℕ × ℕ)) (coded⊎ coded_ℕ (coded× coded_ℕ coded_ℕ)) of_link to_link to-of_link
+coded_link = code_by (ℕ ⊎ (ℕ × ℕ)) (coded⊎ coded_ℕ (coded× coded_ℕ coded_ℕ)) of_link to_link
+    to-of_link
 
 abbrev pub of_feed : NumberedFeed → NumberedLink ⊎ (List NumberedLink ⊎ Unit {0})
 of_feed (Link l) = inl l
@@ -43,23 +44,47 @@ to-of_feed Constant = refl
 
 abbrev pub coded_feed : Coded NumberedFeed
 coded_feed =
-    code_by (NumberedLink ⊎ (List NumberedLink ⊎ Unit {0})) (coded⊎ coded_link (coded⊎ (coded_list coded_link) coded_unit)) of_feed to_feed to-of_feed
+    code_by (NumberedLink ⊎ (List NumberedLink ⊎ Unit {0}))
+    (coded⊎ coded_link (coded⊎ (coded_list coded_link) coded_unit)) of_feed to_feed to-of_feed
 
 abbrev pub coded_port : Coded Port
 coded_port =
-    code_by (NumberedFeed × (ℕ × ℕ)) (coded× coded_feed (coded× coded_ℕ coded_ℕ)) (λ p. (p.feed, (p.levels, p.leaf))) (λ q. record { feed = q.0; levels = q.1.0; leaf = q.1.1 }) (λ _. refl)
+    code_by (NumberedFeed × (ℕ × ℕ)) (coded× coded_feed (coded× coded_ℕ coded_ℕ))
+    (λ p. (p.feed, (p.levels, p.leaf))) (λ q. record {
+      feed = q.0;
+      levels = q.1.0;
+      leaf = q.1.1;
+    }) (λ _. refl)
 
 abbrev pub coded_wire : Coded Wire
 coded_wire =
-    code_by (ℕ × (ℕ × (Option ℕ × (ℕ × (ℕ × ℕ))))) (coded× coded_ℕ (coded× coded_ℕ (coded× (coded_option coded_ℕ) (coded× coded_ℕ (coded× coded_ℕ coded_ℕ)))))
+    code_by (ℕ × (ℕ × (Option ℕ × (ℕ × (ℕ × ℕ)))))
+    (coded× coded_ℕ
+    (coded× coded_ℕ (coded× (coded_option coded_ℕ) (coded× coded_ℕ (coded× coded_ℕ coded_ℕ)))))
     (λ w. (w.step, (w.port, (w.link, (w.output, (w.levels, w.leaf))))))
-    (λ q. record { step = q.0; port = q.1.0; link = q.1.1.0; output = q.1.1.1.0; levels = q.1.1.1.1.0; leaf = q.1.1.1.1.1 })
+    (λ q. record {
+      step = q.0;
+      port = q.1.0;
+      link = q.1.1.0;
+      output = q.1.1.1.0;
+      levels = q.1.1.1.1.0;
+      leaf = q.1.1.1.1.1;
+    })
     (λ _. refl)
 
 abbrev pub coded_wiring : Coded Wiring
 coded_wiring =
-    code_by (List (List Port) × (List NumberedFeed × (List (List ℕ) × (List (List Wire) × List (List ℕ)))))
-    (coded× (coded_list (coded_list coded_port)) (coded× (coded_list coded_feed) (coded× (coded_list (coded_list coded_ℕ)) (coded× (coded_list (coded_list coded_wire)) (coded_list (coded_list coded_ℕ))))))
+    code_by (List (List Port)
+    × (List NumberedFeed × (List (List ℕ) × (List (List Wire) × List (List ℕ)))))
+    (coded× (coded_list (coded_list coded_port)) (coded× (coded_list coded_feed)
+    (coded× (coded_list (coded_list coded_ℕ)) (coded× (coded_list (coded_list coded_wire))
+    (coded_list (coded_list coded_ℕ))))))
     (λ w. (w.ports, (w.outputs, (w.after, (w.wires, w.dependents)))))
-    (λ q. record { ports = q.0; outputs = q.1.0; after = q.1.1.0; wires = q.1.1.1.0; dependents = q.1.1.1.1 })
+    (λ q. record {
+      ports = q.0;
+      outputs = q.1.0;
+      after = q.1.1.0;
+      wires = q.1.1.1.0;
+      dependents = q.1.1.1.1;
+    })
     (λ _. refl)

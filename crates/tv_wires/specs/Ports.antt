@@ -20,7 +20,11 @@ levels_of f i = feed_depth f.inputs (flow_depths f) i.from - i.depth
 
 -- a port among the leaves of a strategy
 abbrev pub port_among : Flow → List Name → Name × StepInput → Port
-port_among f leaves i = record { feed = feed_numbered f i.1.from; levels = levels_of f i.1; leaf = leaf_number i.0 leaves }
+port_among f leaves i = record {
+  feed = feed_numbered f i.1.from;
+  levels = levels_of f i.1;
+  leaf = leaf_number i.0 leaves;
+}
 
 -- all of a step, in byte order of their names
 abbrev pub ports_of : Flow → Step → List Port

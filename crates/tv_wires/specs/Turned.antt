@@ -48,8 +48,17 @@ are_counted ps = nat_lt (length ps) (2 ^ 32) && list_all has_counted ps
 -- the wire of a link into a port of step t, with the step that it comes from; an input of the flow has none
 abbrev pub wire_of : ℕ → ℕ × Port → Option ℕ × NumberedLink → List (ℕ × Wire)
 wire_of t (p, port) (at, Input x) = []
-wire_of t (p, port) (at, Output s o) =
-    (s, record { step = t; port = p; link = at; output = o; levels = port.levels; leaf = port.leaf }) ∷ []
+wire_of t (p, port) (at, Output s o) = (
+  s,
+  record {
+    step = t;
+    port = p;
+    link = at;
+    output = o;
+    levels = port.levels;
+    leaf = port.leaf;
+  },
+) ∷ []
 
 abbrev pub port_wires : ℕ → ℕ × Port → List (ℕ × Wire)
 port_wires t x = flat_map (wire_of t x) (links_of x.1.feed)

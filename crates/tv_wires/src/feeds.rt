@@ -64,7 +64,8 @@ pub(crate) fn step_number(steps: &Steps, name: &Name) -> u32
 
 fn input_numbered(flow: &Flow, input: &Name) -> NumberedLink
     requires { is_flow (flow_view flow.now) ≡ true }
-    ensures { result ≡ link_numbered (flow_view flow.now) (Rattle.tv_flow.specs.Flows.input input.now) }
+    ensures { result ≡ link_numbered (flow_view flow.now) (Rattle.tv_flow.specs.Flows.input
+        input.now) }
 {
     NumberedLink::Input(position_in(flow.inputs.as_slice(), input))
 }
@@ -94,7 +95,8 @@ fn link_numbered(flow: &Flow, link: &Link) -> NumberedLink
 
 fn links_numbered(alloc: Global, flow: &Flow, links: &Links) -> Result<NumberedLinks, NoMemory>
     requires { is_flow (flow_view flow.now) ≡ true }
-    ensures { IfOk result (λ ls. ls ≡ map (link_numbered (flow_view flow.now)) (map link_view links.now)) }
+    ensures { IfOk result (λ ls. ls ≡ map (link_numbered (flow_view flow.now))
+        (map link_view links.now)) }
 {
     let mut numbered = Vec::with_capacity(alloc, links.as_slice().len())?;
     for link in links.as_slice() {
@@ -127,7 +129,8 @@ pub(crate) fn outputs_numbered(
     outputs: &FlowOutputs,
 ) -> Result<NumberedFeeds, NoMemory>
     requires { is_flow (flow_view flow.now) ≡ true }
-    ensures { IfOk result (λ fs. fs ≡ map (λ o. feed_numbered (flow_view flow.now) o.1) (each feed_view outputs.now)) }
+    ensures { IfOk result (λ fs. fs ≡ map (λ o. feed_numbered (flow_view flow.now) o.1)
+        (each feed_view outputs.now)) }
 {
     let mut feeds = Vec::with_capacity(alloc, outputs.as_slice().len())?;
     for (_, feed) in outputs.as_slice() {

@@ -23,7 +23,8 @@ pub(crate) fn leaf_number(leaves: &[&Name], name: &Name) -> u32
 /// Adds the leaves of a strategy, from left to right.
 #[cycle(push_leaves)]
 pub(crate) fn push_leaves<'a>(tree: &'a Tree, leaves: &mut Vec<&'a Name>) -> Result<(), NoMemory>
-    ensures { OnOk result (map (λ n. n.now) leaves.new.items ≡ map (λ n. n.now) leaves.old.items ++ leaf_names (strategy_view tree.now)) }
+    ensures { OnOk result (map (λ n. n.now) leaves.new.items ≡ map (λ n. n.now) leaves.old.items
+        ++ leaf_names (strategy_view tree.now)) }
 {
     match tree {
         Tree::Leaf(name) => push_leaf(name, leaves),
@@ -33,7 +34,8 @@ pub(crate) fn push_leaves<'a>(tree: &'a Tree, leaves: &mut Vec<&'a Name>) -> Res
 }
 
 fn push_leaf<'a>(name: &'a Name, leaves: &mut Vec<&'a Name>) -> Result<(), NoMemory>
-    ensures { OnOk result (map (λ n. n.now) leaves.new.items ≡ map (λ n. n.now) leaves.old.items ++ name.now ∷ []) }
+    ensures { OnOk result (map (λ n. n.now) leaves.new.items ≡ map (λ n. n.now) leaves.old.items
+        ++ name.now ∷ []) }
 {
     leaves.push(name)?;
     Ok(())
@@ -41,7 +43,8 @@ fn push_leaf<'a>(name: &'a Name, leaves: &mut Vec<&'a Name>) -> Result<(), NoMem
 
 #[cycle(push_leaves)]
 fn push_all_leaves<'a>(trees: &'a [Tree], leaves: &mut Vec<&'a Name>) -> Result<(), NoMemory>
-    ensures { OnOk result (map (λ n. n.now) leaves.new.items ≡ map (λ n. n.now) leaves.old.items ++ all_leaf_names (strategies_of (map strategy_view trees.now))) }
+    ensures { OnOk result (map (λ n. n.now) leaves.new.items ≡ map (λ n. n.now) leaves.old.items
+        ++ all_leaf_names (strategies_of (map strategy_view trees.now))) }
 {
     for tree in trees {
         push_leaves(tree, leaves)?;

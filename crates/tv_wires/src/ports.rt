@@ -60,8 +60,11 @@ fn ports_among(
 ) -> Result<Ports, NoMemory>
     requires flow { is_flow (flow_view flow.now) ≡ true }
     requires few { length leaves.now < 2 ^ 32 }
-    requires mismatch { mismatch.now ≡ map (λ i. (i.0, levels_of (flow_view flow.now) i.1)) (each step_input_view inputs.now) }
-    ensures { IfOk result (λ ps. ps ≡ map (port_among (flow_view flow.now) (map (λ n. n.now) leaves.now)) (each step_input_view inputs.now)) }
+    requires mismatch { mismatch.now ≡ map (λ i. (i.0, levels_of (flow_view flow.now) i.1))
+        (each step_input_view inputs.now) }
+    ensures { IfOk result (λ ps. ps
+        ≡ map (port_among (flow_view flow.now) (map (λ n. n.now) leaves.now))
+        (each step_input_view inputs.now)) }
 {
     let mut ports = Vec::with_capacity(alloc, inputs.len())?;
     for (number, input) in inputs.iter().enumerate() {

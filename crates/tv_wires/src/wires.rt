@@ -42,7 +42,8 @@ fn push_link(
     at: Option<u32>,
     link: NumberedLink,
 ) -> Result<(), NoMemory>
-    ensures { OnOk result (rows.new ≡ with_items rows.old (wire_of to.now.step (to.now.number, to.now.port.now) (at, link))) }
+    ensures { OnOk result (rows.new
+        ≡ with_items rows.old (wire_of to.now.step (to.now.number, to.now.port.now) (at, link))) }
 {
     match link {
         NumberedLink::Input(_) => Ok(()),
@@ -62,7 +63,9 @@ fn push_link(
 
 fn push_links(rows: &mut Rows<Wire>, to: &PortAt, links: &[NumberedLink]) -> Result<(), NoMemory>
     requires { length links.now < 2 ^ 32 }
-    ensures { OnOk result (rows.new ≡ with_items rows.old (flat_map (λ x. wire_of to.now.step (to.now.number, to.now.port.now) (Some x.0, x.1)) (numbered 0 links.now))) }
+    ensures { OnOk result (rows.new
+        ≡ with_items rows.old (flat_map (λ x. wire_of to.now.step (to.now.number, to.now.port.now)
+        (Some x.0, x.1)) (numbered 0 links.now))) }
 {
     for (number, link) in links.iter().enumerate() {
         push_link(rows, to, Some(number as u32), *link)?;
@@ -72,7 +75,8 @@ fn push_links(rows: &mut Rows<Wire>, to: &PortAt, links: &[NumberedLink]) -> Res
 
 fn push_port(rows: &mut Rows<Wire>, to: &PortAt) -> Result<(), NoMemory>
     requires { has_counted to.now.port.now ≡ true }
-    ensures { OnOk result (rows.new ≡ with_items rows.old (port_wires to.now.step (to.now.number, to.now.port.now))) }
+    ensures { OnOk result (rows.new
+        ≡ with_items rows.old (port_wires to.now.step (to.now.number, to.now.port.now))) }
 {
     match &to.port.feed {
         NumberedFeed::Link(link) => push_link(rows, to, None, *link),
@@ -100,7 +104,8 @@ fn push_ports(rows: &mut Rows<Wire>, step: u32, ports: &[Port]) -> Result<(), No
 pub fn wires_of(alloc: Global, ports: &[Ports]) -> Result<Rows<Wire>, NoMemory>
     requires few { length ports.now < 2 ^ 32 }
     requires counted { list_all are_counted ports.now ≡ true }
-    ensures { IfOk result (λ r. r ≡ from_each (range_with_len 0 (length ports.now)) (all_wires ports.now)) }
+    ensures { IfOk result (λ r. r ≡ from_each (range_with_len 0 (length ports.now))
+        (all_wires ports.now)) }
 {
     let mut rows = Rows::new(alloc, ports.len())?;
     for (step, ports) in ports.iter().enumerate() {
@@ -121,7 +126,8 @@ fn push_waits(rows: &mut Rows<u32>, step: u32, after: &[u32]) -> Result<(), NoMe
 /// For each step the steps that run after it, from those that each runs after. Linear in them.
 pub fn dependents_of(alloc: Global, after: &[Sequence<u32>]) -> Result<Rows<u32>, NoMemory>
     requires { length after.now < 2 ^ 32 }
-    ensures { IfOk result (λ r. r ≡ from_each (range_with_len 0 (length after.now)) (all_waits after.now)) }
+    ensures { IfOk result (λ r. r ≡ from_each (range_with_len 0 (length after.now))
+        (all_waits after.now)) }
 {
     let mut rows = Rows::new(alloc, after.len())?;
     for (step, after) in after.iter().enumerate() {

@@ -40,7 +40,8 @@ pub struct Wiring {
 /// name to run after, and is linear in the links beside.
 pub fn wiring_of(alloc: Global, flow: &Flow, ports: PortsBySteps) -> Result<Wiring, NoMemory>
     requires flow { is_flow (flow_view flow.now) ≡ true }
-    requires ports { ports ≡ map (λ s. ports_of (flow_view flow.now) s.1) (flow_view flow.now).steps }
+    requires ports { ports ≡ map (λ s. ports_of (flow_view flow.now) s.1)
+        (flow_view flow.now).steps }
     ensures { IfOk result (λ w. w ≡ wiring (flow_view flow.now)) }
 {
     let outputs = outputs_numbered(alloc, flow, &flow.outputs)?;
@@ -59,7 +60,8 @@ pub fn wiring_of(alloc: Global, flow: &Flow, ports: PortsBySteps) -> Result<Wiri
 fn after_by_steps(alloc: Global, steps: &Steps) -> Result<NumbersBySteps, NoMemory>
     requires in_order { is_ascending (map (λ s. s.0) steps.now) ≡ true }
     requires few { length steps.now < 2 ^ 32 }
-    ensures { IfOk result (λ ns. ns ≡ map (λ s. after_of (each step_view steps.now) s.1) (each step_view steps.now)) }
+    ensures { IfOk result (λ ns. ns ≡ map (λ s. after_of (each step_view steps.now) s.1)
+        (each step_view steps.now)) }
 {
     let mut after = Vec::with_capacity(alloc, steps.as_slice().len())?;
     for step in steps.as_slice() {

@@ -53,7 +53,8 @@ numbered_command word number workers =
 -- by the words, `--workers` and `--of`; all else gives no command
 abbrev pub command_in : List Text → Option Text → Option Text → Option Command
 command_in (word ∷ []) workers None = plain_command word workers
-command_in (word ∷ []) None (Some element) = option_and_then (element_command word) (element_of element)
+command_in (word ∷ []) None (Some element) = option_and_then (element_command word)
+    (element_of element)
 command_in (word ∷ number ∷ []) workers None = numbered_command word number workers
 command_in words workers of = None
 

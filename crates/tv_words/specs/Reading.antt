@@ -49,4 +49,5 @@ unless_refused (kind ∷ kinds) found = None
 
 -- what is found in the words; a request for help is refused too
 abbrev pub reading_of : List Text → Option Found
-reading_of words = unless_refused (fault_of command_line words) (found_in (matches_of command_line words))
+reading_of words = unless_refused (fault_of command_line words)
+    (found_in (matches_of command_line words))

@@ -6,7 +6,8 @@ use Rattle.tv_words.specs.Commands.{Command, run, check, trace, lineage, forward
 
 -- a reading takes exactly the decimal texts of the numbers from `least` to `most`, each for its number
 abbrev pub ReadsFrom : ℕ → ℕ → (Text → Option ℕ) → Type 0
-ReadsFrom least most reading = (t : Text) (n : ℕ) → (reading t ≡ Some n) ↔ ((t ≡ decimal n) × (least ≤ n) × (n ≤ most))
+ReadsFrom least most reading = (t : Text) (n : ℕ) → (reading t ≡ Some n)
+    ↔ ((t ≡ decimal n) × (least ≤ n) × (n ≤ most))
 
 abbrev pub CountsAreDecimal : Type 0
 CountsAreDecimal = ReadsFrom 1 64 count_of
@@ -28,4 +29,5 @@ IsBounded (forward port place) = Unit {0}
 IsBounded (gen number workers) = ((1 ≤ number) × (number ≤ 200)) × IsCount workers
 
 abbrev pub CommandsAreBounded : Type 0
-CommandsAreBounded = (words : List Text) (command : Command) → command_of words ≡ Some command → IsBounded command
+CommandsAreBounded = (words : List Text) (command : Command) → command_of words ≡ Some command
+    → IsBounded command

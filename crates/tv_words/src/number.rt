@@ -33,7 +33,8 @@ pub(crate) fn number_between(text: &str, least: u32, most: u32) -> Option<u32>
 
 // A plus, or a zero before other digits, stands first.
 fn has_sign_or_zero(text: &str) -> bool
-    ensures { result ≡ (slice_index text.now 0 == 43 || (slice_index text.now 0 == 48 && nat_lt 1 (length text.now))) }
+    ensures { result ≡ (slice_index text.now 0 == 43 || (slice_index text.now 0 == 48
+        && nat_lt 1 (length text.now))) }
 {
     text.starts_with('+') || (text.starts_with('0') && 1 < text.len())
 }

@@ -12,7 +12,8 @@ use tv_value::{Name, NoMemory, Place};
 
 /// The command that the words after the program's name give, or `None` where they give none. Linear in the words.
 pub fn read_words(alloc: Global, words: &[String]) -> Result<Option<Command>, NoMemory>
-    ensures { IfOk result (λ command. option_map command_view command ≡ command_of (map (λ w. string_bytes w) words.now)) }
+    ensures { IfOk result (λ command. option_map command_view command
+        ≡ command_of (map (λ w. string_bytes w) words.now)) }
 {
     let Some(matches) = matches_of(alloc, words)? else {
         return Ok(None);
@@ -50,7 +51,8 @@ fn command_in(
 }
 
 fn plain_command(word: &str, workers: Option<&str>) -> Option<Command>
-    ensures { option_map command_view result ≡ plain_command word.now (option_map (λ t. t.now) workers.entry) }
+    ensures { option_map command_view result
+        ≡ plain_command word.now (option_map (λ t. t.now) workers.entry) }
 {
     if word == "run" {
         return Some(Command::Run {
@@ -82,7 +84,8 @@ fn element_command(word: &str, port: Name, place: Place) -> Option<Command>
 }
 
 fn numbered_command(word: &str, number: &str, workers: Option<&str>) -> Option<Command>
-    ensures { option_map command_view result ≡ numbered_command word.now number.now (option_map (λ t. t.now) workers.entry) }
+    ensures { option_map command_view result ≡ numbered_command word.now number.now
+        (option_map (λ t. t.now) workers.entry) }
 {
     if word != "gen" {
         return None;

@@ -41,8 +41,10 @@ pub fn run_alone<V: Services, A: Asker<Services = V>>(
         → AsksInOrder V.gives board.old.document (A.calls asker.old) (A.calls asker.new)) }
     ensures beginning { OnErr result (HasOnlySettled board.old
         → AsksABeginning V.gives board.old.document (A.calls asker.old) (A.calls asker.new)) }
-    ensures accepted_in_order { OnOk result (HasOnlySettled board.old → AcceptsInOrder V.gives board.new) }
-    ensures accepted_beginning { OnErr result (HasOnlySettled board.old → AcceptsABeginning V.gives board.new) }
+    ensures accepted_in_order { OnOk result (HasOnlySettled board.old
+        → AcceptsInOrder V.gives board.new) }
+    ensures accepted_beginning { OnErr result (HasOnlySettled board.old
+        → AcceptsABeginning V.gives board.new) }
 {
     board.is_lawful();
     'turns: while turn(alloc, board, asker)? {}

@@ -78,7 +78,8 @@ fn has_places(
     mismatch: &Depths,
     places: &PortPlaces,
 ) -> Result<bool, NoMemory>
-    ensures { IfOk result (λ b. IsTrue b → HasPlaces mismatch.now places.now (strategy_view tree.now)) }
+    ensures { IfOk result (λ b. IsTrue b → HasPlaces mismatch.now places.now
+        (strategy_view tree.now)) }
 {
     let mut leaves = Vec::new(alloc);
     let Some(_) = visit(alloc, tree, mismatch, &mut leaves)? else {
@@ -99,7 +100,11 @@ fn visit(
     mismatch: &Depths,
     names: &mut Vec<Name>,
 ) -> Result<Option<u64>, NoMemory>
-    ensures { IfOk result (λ o. IfSome o (λ n. (n ≡ sum_over (number_of mismatch.now) (leaf_names (strategy_view tree.now))) × DotsAreFilled (strategy_view tree.now) × (names.new.items ≡ names.old.items ++ leaf_names (strategy_view tree.now)))) }
+    ensures { IfOk result
+        (λ o. IfSome o
+        (λ n. (n ≡ sum_over (number_of mismatch.now) (leaf_names (strategy_view tree.now)))
+        × DotsAreFilled (strategy_view tree.now) × (names.new.items ≡ names.old.items
+        ++ leaf_names (strategy_view tree.now)))) }
 {
     match tree {
         Tree::Leaf(name) => {
@@ -119,7 +124,11 @@ fn visit_dot(
     mismatch: &Depths,
     names: &mut Vec<Name>,
 ) -> Result<Option<u64>, NoMemory>
-    ensures { IfOk result (λ o. IfSome o (λ n. (n ≡ sum_over (number_of mismatch.now) (leaf_names (dot (children_view trees.now)))) × DotsAreFilled (dot (children_view trees.now)) × (names.new.items ≡ names.old.items ++ leaf_names (dot (children_view trees.now))))) }
+    ensures { IfOk result
+        (λ o. IfSome o
+        (λ n. (n ≡ sum_over (number_of mismatch.now) (leaf_names (dot (children_view trees.now))))
+        × DotsAreFilled (dot (children_view trees.now)) × (names.new.items ≡ names.old.items
+        ++ leaf_names (dot (children_view trees.now))))) }
 {
     let Some((first, others)) = trees.split_first() else {
         return Ok(None);
@@ -140,7 +149,11 @@ fn visit_all(
     mismatch: &Depths,
     names: &mut Vec<Name>,
 ) -> Result<Option<u64>, NoMemory>
-    ensures { IfOk result (λ o. IfSome o (λ n. (n ≡ sum_over (number_of mismatch.now) (all_leaf_names (children_view trees.now))) × AllDotsAreFilled (children_view trees.now) × (names.new.items ≡ names.old.items ++ all_leaf_names (children_view trees.now)))) }
+    ensures { IfOk result
+        (λ o. IfSome o
+        (λ n. (n ≡ sum_over (number_of mismatch.now) (all_leaf_names (children_view trees.now)))
+        × AllDotsAreFilled (children_view trees.now) × (names.new.items ≡ names.old.items
+        ++ all_leaf_names (children_view trees.now)))) }
 {
     let Some((first, others)) = trees.split_first() else {
         return Ok(Some(0));
