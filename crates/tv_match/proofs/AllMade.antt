@@ -12,7 +12,8 @@ use Rattle.tv_matching.specs.Matchers.{Matching, CanTellAll, out as out_of}
 use Rattle.tv_matching.specs.Stores.{store_for, worked_items}
 use Rattle.tv_match.specs.Entries.{Entry, no_entry, entry_at, kepts, front}
 use Rattle.tv_match.specs.Filed.{Filed}
-use Rattle.tv_match.specs.Seen.{telling_of, tellings_of, outcome_of, seen_as, AreSound}
+use Rattle.tv_match.specs.declared.matchers.Matcher.{Matcher}
+use Rattle.tv_match.specs.Seen.{telling_of, tellings_of, outcome_of, seen_as, AreSound, IsSound, matching}
 use Rattle.tv_match.specs.Ahead.{AheadIsMatched, NoneIsAhead}
 use Rattle.tv_match.specs.Brief.{briefs}
 use Rattle.tv_match.specs.Working.{unit_news, news_of}
@@ -72,3 +73,10 @@ none-ahead m a e =
     let l = none-left m.told m.log (empty-map (telling_of s) (drop m.told m.log) e) in
     let n : m.told ≡ length m.log = omega (arith, l, a.keeps.told_within) in
     sym (ap (map outcome_of) (ap (λ k. front k m.out) n ∙ a.keeps.done.out_full))
+
+-- where nothing is held, all that is listed was told
+pub told-all : (m : Matcher) → IsSound m → (matching m).held ≡ [] → (m.log ≡ take m.told m.log) × (m.out ≡ front m.told m.out)
+told-all m a e =
+    let l = none-left m.told m.log (empty-map (telling_of (strategy_view m.tree)) (drop m.told m.log) e) in
+    let n : m.told ≡ length m.log = omega (arith, l, a.keeps.told_within) in
+    (sym (ap (λ k. take k m.log) n ∙ all m.log), sym (ap (λ k. front k m.out) n ∙ a.keeps.done.out_full))

@@ -1,5 +1,5 @@
 -- What a contract sees of a matcher, and what is so of its fields.
-use Rattle.std.specs.Prelude.{◌≡◌, ℕ, ◌<◌, ◌≤◌, Bool, true, false, List, map, length, take, drop}
+use Rattle.std.specs.Prelude.{◌≡◌, ℕ, ◌<◌, ◌≤◌, Bool, true, false, List, [], map, length, take, drop}
 use Rattle.tv_value.specs.Nested.{Place}
 use Rattle.tv_value.specs.Values.{Name}
 use Rattle.tv_value.specs.Strategies.{Strategy}
@@ -29,6 +29,10 @@ telling_kind p q (kinds.Kind.Passed l) = arrival p q true
 -- a listed telling, of the leaf whose number it has
 abbrev pub telling_of : Strategy → Entry → spec.Told
 telling_of s e = telling_kind (leaf_name s e.number) e.place e.kind
+
+-- that a leaf has its whole value, which holds a fault or none
+abbrev pub bound_telling : Strategy → ℕ → Bool → spec.Told
+bound_telling s leaf b = telling_kind (leaf_name s leaf) [] (kinds.Kind.Job b)
 
 abbrev pub outcome_kind : Place → kinds.Kind → Outcome
 outcome_kind q (kinds.Kind.Job b) = job_at q

@@ -4,7 +4,7 @@ ghost use Rattle.tv_strategy.specs.Conditions.{Suits, number_of};
 ghost use Rattle.tv_matching.specs.Told.{Told as Telling, arrival, faulty, close, faulty_at, count_of_added};
 ghost use Rattle.tv_matching.specs.Matchers.{all_out, HasGivenAll, CanTell, CanTellAll, Starts, Holds, IsTold, Gives, IsFreed, leaf_name};
 ghost use Rattle.tv_match.specs.Entries.{entry};
-ghost use Rattle.tv_match.specs.Seen.{matched_view, outcome_kind};
+ghost use Rattle.tv_match.specs.Seen.{bound_telling, matched_view, outcome_kind};
 
 mod ahead;
 mod shells;
@@ -233,6 +233,34 @@ impl Matcher {
         ensures sound { IsSound self.new }
     {
         self.tell(leaf, place.as_slice(), Kind::Closed(length))
+    }
+
+    /// A leaf has its whole value, which is said to hold a fault or none, where no telling is held. Where it is refused nothing is
+    /// promised of the matcher.
+    ///
+    /// Linear in what is new at the nodes of the strategy, and in the strategy, with a logarithm for each item in a dot.
+    pub fn tell_bound(&mut self, leaf: u32, faulty: bool) -> Result<(), NoMemory>
+        requires sound { IsSound self.old }
+        requires leaf { leaf < length (leaf_names (matching self.old).strategy) }
+        requires free { (matching self.old).held ≡ [] }
+        requires new { CanTell (matching self.old) (bound_telling (matching self.old).strategy leaf faulty) }
+        ensures ok { OnOk result (IsTold (bound_telling (matching self.old).strategy leaf faulty) (matching self.old) (matching self.new)) }
+        ensures held { OnOk result ((matching self.new).held ≡ []) }
+        ensures sound { OnOk result (IsSound self.new) }
+    {
+        let before = self.out.len();
+        let kind = Kind::Job { faulty };
+        work(
+            &mut self.root,
+            &mut self.log,
+            &mut self.out,
+            leaf,
+            &[],
+            kind,
+        )?;
+        self.places.make(&self.out, before)?;
+        self.told = self.log.len();
+        Ok(())
     }
 
     /// The next thing that has not come out yet. Takes no memory: places that are too long for that were made beforehand.

@@ -4,13 +4,13 @@ ghost use Rattle.tv_value.specs.Views.{strategy_view};
 ghost use Rattle.tv_strategy.specs.Views.{children_view};
 
 use std::alloc::Global;
-use tv_value::{Copied, Depths, NoMemory, Tree};
+use tv_value::{Copied, Depths, Name, NoMemory, Tree};
 
 /// Has a strategy equal `tree`: it stays where it does, else it is a copy now.
 pub(super) fn keep_tree(alloc: Global, own: &mut Tree, tree: &Tree) -> Result<(), NoMemory>
     ensures { OnOk result (strategy_view own.new ≡ strategy_view tree.now) }
 {
-    if !same_tree(own, tree) {
+    if !same_leaf(own, tree) && !same_tree(own, tree) {
         *own = tree.copy(alloc)?;
     }
     Ok(())
@@ -29,7 +29,38 @@ pub(super) fn keep_depths(alloc: Global, own: &mut Depths, depths: &Depths) -> R
 fn same_depths(first: &Depths, second: &Depths) -> bool
     ensures { result ≡ true → first.now ≡ second.now }
 {
-    first == second
+    match (first.as_slice(), second.as_slice()) {
+        ([one], [other]) => same_depth(one, other),
+        _ => first == second,
+    }
+}
+
+fn same_depth(one: &(Name, u32), other: &(Name, u32)) -> bool
+    ensures { result ≡ true → one.now ≡ other.now }
+{
+    one.1 == other.1 && one.0.as_str() == other.0.as_str()
+}
+
+/// Whether two strategies are the same that have one child, which is a leaf.
+fn same_leaf(first: &Tree, second: &Tree) -> bool
+    ensures { result ≡ true → strategy_view first.now ≡ strategy_view second.now }
+{
+    match first {
+        Tree::Cross(trees) => match second {
+            Tree::Cross(others) => same_only(trees.as_slice(), others.as_slice()),
+            _ => false,
+        },
+        _ => false,
+    }
+}
+
+fn same_only(first: &[Tree], second: &[Tree]) -> bool
+    ensures { result ≡ true → children_view first.now ≡ children_view second.now }
+{
+    match (first, second) {
+        ([Tree::Leaf(name)], [Tree::Leaf(other)]) => name.as_str() == other.as_str(),
+        _ => false,
+    }
 }
 
 /// Whether two strategies are the same. Linear in them. Takes no memory.
