@@ -12,20 +12,23 @@ use Rattle.tv_lemmas.proofs.Lists.{map-take, get-end}
 use Rattle.tv_value.specs.Nested.{Place}
 use Rattle.tv_strategy.specs.Sources.{Each}
 use Rattle.tv_matching.specs.Told.{faulty_at}
-use Rattle.tv_matching.specs.Matchers.{Outcome, fault_at, job_at, list_at}
+use Rattle.tv_strategy.specs.Measures.{leaf_names}
+use Rattle.tv_value.specs.Strategies.{Strategy}
+use Rattle.tv_value.specs.Values.{Name}
+use Rattle.tv_matching.specs.Matchers.{CanTell, IsTold, Matching, Outcome, Starts, fault_at, job_at, list_at}
 use Rattle.tv_matching.proofs.OfMembers.{each-permutes}
 use Rattle.tv_match.specs.declared.kinds.Kind.{Kind}
 use Rattle.tv_match.specs.declared.kinds.Kind.TheVariants.{Job, Closed, Passed}
 use Rattle.tv_match.specs.declared.matchers.Matcher.{Matcher}
 use Rattle.tv_match.specs.declared.told.Told as code
 use Rattle.tv_match.specs.Entries.{front}
-use Rattle.tv_match.specs.Seen.{IsSound, matching, outcome_kind, outcome_of}
+use Rattle.tv_match.specs.Seen.{IsSound, bound_telling, matching, outcome_kind, outcome_of}
 use Rattle.tv_match.specs.Ahead.{in_order_ahead}
 use Rattle.tv_match.specs.Seen.{in_order}
 use Rattle.tv_match.proofs.Fronts.{front-first}
 use Rattle.tv_intake.specs.declared.found.Found.{Found}
 use Rattle.tv_intake.specs.Sorting.{brought, found_at, found_jobs, found_others, job_places, job_positions, other_positions, others_among}
-use Rattle.tv_intake.specs.Intaken.{AreSorted, CanHold, CanShow, IsFaultyAt, IsSoundAt, brought_in, followed_in, outcome_place, placed, positions_of, thing_in}
+use Rattle.tv_intake.specs.Intaken.{AreSorted, CanHold, CanShow, IsFaultyAt, IsSoundAt, IsToldAll, brought_in, followed_in, outcome_place, placed, positions_of, thing_in}
 
 abbrev no_job : Outcome
 no_job = job_at []
@@ -455,3 +458,20 @@ module _ (ms : List Matcher) (f : Found) (m : Matcher) (within : f.step < length
 
   pub faulty-there : (q : Place) (b : Bool) → b ≡ faulty_at (matching m).strategy (matching m).told q → IsFaultyAt (slice_get ms f.step) q b
   faulty-there q b e = subst (λ o. IsFaultyAt o q b) (sym stands) e
+
+-- ---- a matcher that starts, and is told one thing
+
+module _ (s : Strategy) (mm : List (Name × ℕ)) (m : Matching) (starts : Starts s mm m) (leaf : ℕ) (b : Bool) where
+  pub names-leaf : leaf < length (leaf_names s) → leaf < length (leaf_names m.strategy)
+  names-leaf h = subst (λ g. leaf < length (leaf_names g)) (sym starts.strategy_is) h
+
+  pub can-tell_bound : CanTell m (bound_telling s leaf b) → CanTell m (bound_telling m.strategy leaf b)
+  can-tell_bound h = subst (λ g. CanTell m (bound_telling g leaf b)) (sym starts.strategy_is) h
+
+  pub told-one : (n : Matching) → IsTold (bound_telling m.strategy leaf b) m n → n.held ≡ [] → IsToldAll s mm (bound_telling s leaf b ∷ []) n
+  told-one n h e = record {
+    strategy_is = h.strategy_is ∙ starts.strategy_is;
+    mismatch_is = h.mismatch_is ∙ starts.mismatch_is;
+    told = subst (λ g. IsPermutation n.told (bound_telling g leaf b ∷ [])) starts.strategy_is (subst (λ l. IsPermutation n.told (l ++ bound_telling m.strategy leaf b ∷ [])) starts.told_is h.told_is);
+    held = e;
+  }

@@ -4,8 +4,8 @@ use Rattle.std.specs.Prelude.{◌≡◌, ℕ, ◌+◌, ◌==◌, ◌≤◌, if�
 use Rattle.tv_value.specs.Nested.{Place}
 use Rattle.tv_value.specs.Strategies.{Strategy}
 use Rattle.tv_value.specs.Values.{Name}
-use Rattle.tv_matching.specs.Told.{faulty_at}
-use Rattle.tv_matching.specs.Matchers.{CanTellAll, IsFreed, Holds, Outcome, Starts, fault_at, job_at, list_at}
+use Rattle.tv_matching.specs.Told.{Told, faulty_at}
+use Rattle.tv_matching.specs.Matchers.{CanTellAll, IsFreed, Holds, Matching, Outcome, Starts, fault_at, job_at, list_at}
 use Rattle.tv_match.specs.declared.matchers.Matcher.{Matcher}
 use Rattle.tv_match.specs.declared.told.Told as code
 use Rattle.tv_match.specs.Seen.{IsSound, NameLeaves, matching, told_view}
@@ -117,6 +117,17 @@ OthersStay s i j = (k : ℕ) → (k ≡ s → ⊥) → matcher_at j k ≡ matche
 abbrev pub IsStartedAt : Strategy → List (Name × ℕ) → Option Matcher → Type 0
 IsStartedAt s mismatch None = ⊥
 IsStartedAt s mismatch (Some m) = Starts s mismatch (matching m)
+
+-- a matcher that was told this alone, in whatever order, and holds nothing
+pub record IsToldAll (s : Strategy) (mismatch : List (Name × ℕ)) (ts : List Told) (m : Matching) : Type 0 where
+  pub strategy_is : m.strategy ≡ s
+  pub mismatch_is : m.mismatch ≡ mismatch
+  pub told : IsPermutation m.told ts
+  pub held : m.held ≡ []
+
+abbrev pub IsToldAt : Strategy → List (Name × ℕ) → List Told → Option Matcher → Type 0
+IsToldAt s mismatch ts None = ⊥
+IsToldAt s mismatch ts (Some m) = IsToldAll s mismatch ts (matching m)
 
 -- room is held for these tellings, and what follows of those that were made stays
 abbrev pub HoldsThese : List code.Told → Option Matcher → Option Matcher → Type 0

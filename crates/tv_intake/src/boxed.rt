@@ -1,12 +1,12 @@
 //! A matcher that is moved in one word.
-ghost use Rattle.std.specs.Prelude.{◌≡◌, ◌++◌, ◌+◌, [], length, map, take, IfOk, OnOk, OnErr};
+ghost use Rattle.std.specs.Prelude.{◌≡◌, ◌<◌, ◌++◌, ◌+◌, [], length, map, take, IfOk, OnOk, OnErr};
 ghost use Rattle.tv_strategy.specs.Conditions.{Suits, number_of};
-ghost use Rattle.tv_strategy.specs.Measures.{DotsAgree, strategy_depth};
+ghost use Rattle.tv_strategy.specs.Measures.{DotsAgree, leaf_names, strategy_depth};
 ghost use Rattle.tv_value.specs.Views.{strategy_view};
 ghost use Rattle.tv_matching.specs.Told.{count_of_added};
-ghost use Rattle.tv_matching.specs.Matchers.{CanTellAll, Starts, Holds, IsFreed};
+ghost use Rattle.tv_matching.specs.Matchers.{CanTell, CanTellAll, Starts, Holds, IsFreed, IsTold};
 ghost use Rattle.tv_match.specs.Ahead.{in_order_ahead};
-ghost use Rattle.tv_match.specs.Seen.{IsSound, NameLeaves, in_order, matching, told_view};
+ghost use Rattle.tv_match.specs.Seen.{IsSound, NameLeaves, bound_telling, in_order, matching, told_view};
 
 use std::alloc::Global;
 use std::marker::Model;
@@ -56,6 +56,19 @@ impl Boxed {
         ensures sound { OnOk result (IsSound self.new) }
     {
         self.inside.restart(tree, mismatch, depth)
+    }
+
+    /// As `Matcher::tell_bound`.
+    pub fn tell_bound(&mut self, leaf: u32, faulty: bool) -> Result<(), NoMemory>
+        requires sound { IsSound self.old }
+        requires leaf { leaf < length (leaf_names (matching self.old).strategy) }
+        requires free { (matching self.old).held ≡ [] }
+        requires new { CanTell (matching self.old) (bound_telling (matching self.old).strategy leaf faulty) }
+        ensures ok { OnOk result (IsTold (bound_telling (matching self.old).strategy leaf faulty) (matching self.old) (matching self.new)) }
+        ensures held { OnOk result ((matching self.new).held ≡ []) }
+        ensures sound { OnOk result (IsSound self.new) }
+    {
+        self.inside.tell_bound(leaf, faulty)
     }
 
     /// As `Matcher::hold`.

@@ -1,6 +1,7 @@
-ghost use Rattle.std.specs.Prelude.{◌≡◌, ◌++◌, ◌+◌, ◌-◌, ℕ, ◌<◌, ◌^◌, ◌≤◌, [], not, count_by, All, IfOk, IfSome, IsNone, OnErr, OnOk, Some, length, map, slice_get, sum_by, take, vec_capacity, vec_len};
+ghost use Rattle.std.specs.Prelude.{◌≡◌, ◌∷◌, ◌++◌, ◌+◌, ◌-◌, ℕ, ◌<◌, ◌^◌, ◌≤◌, [], not, count_by, All, IfOk, IfSome, IsNone, OnErr, OnOk, Some, length, map, slice_get, sum_by, take, vec_capacity, vec_len};
 ghost use Rattle.tv_strategy.specs.Conditions.{Suits, number_of};
-ghost use Rattle.tv_strategy.specs.Measures.{DotsAgree, strategy_depth};
+ghost use Rattle.tv_strategy.specs.Measures.{DotsAgree, leaf_names, strategy_depth};
+ghost use Rattle.tv_matching.specs.Matchers.{CanTell, Matching};
 ghost use Rattle.tv_match.specs.Seen.{is_faulty};
 
 use crate::boxed::Boxed;
@@ -25,12 +26,12 @@ pub struct Intakes {
 
 impl Intakes {
     ghost use Rattle.tv_value.specs.Views.{strategy_view};
-    ghost use Rattle.tv_match.specs.Seen.{IsSound, matching, outcome_kind};
+    ghost use Rattle.tv_match.specs.Seen.{IsSound, bound_telling, matching, outcome_kind};
     ghost use Rattle.tv_matching.specs.Matchers.{Starts};
     ghost use Rattle.tv_match.specs.Ahead.{in_order_ahead};
     ghost use Rattle.tv_match.specs.Seen.{in_order};
     ghost use Rattle.tv_intake.specs.Sorting.{job_places, jobs_among, others_among};
-    ghost use Rattle.tv_intake.specs.Intaken.{AreIntaken, CanHold, CanShow, HasRoom, HoldsNone, HoldsThese, IsFaultyAt, IsMadeAt, IsSame, IsStartedAt, OthersStay, brought_at, faulty_ahead_at, followed_at, known_jobs, matcher_at, waiting_things};
+    ghost use Rattle.tv_intake.specs.Intaken.{AreIntaken, CanHold, CanShow, HasRoom, HoldsNone, HoldsThese, IsFaultyAt, IsMadeAt, IsSame, IsStartedAt, IsToldAt, OthersStay, brought_at, faulty_ahead_at, followed_at, known_jobs, matcher_at, waiting_things};
 
     /// Of no step. Takes no memory.
     pub fn new(alloc: Global) -> Intakes
@@ -87,6 +88,39 @@ impl Intakes {
             None => Boxed::unused(alloc)?,
         };
         matcher.restart(tree, mismatch, depth)?;
+        self.take_in(matcher)
+    }
+
+    /// As `add`, and then the leaf of that number has its whole value, which is said to hold a fault or none: what follows of that
+    /// is known too, and waits.
+    pub fn add_bound(
+        &mut self,
+        alloc: Global,
+        tree: &Tree,
+        mismatch: &Depths,
+        depth: u32,
+        leaf: u32,
+        faulty: bool,
+    ) -> Result<(), NoMemory>
+        requires sound { AreIntaken self.old }
+        requires suits { Suits mismatch.now (strategy_view tree.now) }
+        requires agree { DotsAgree (number_of mismatch.now) (strategy_view tree.now) }
+        requires deep { depth ≡ strategy_depth (number_of mismatch.now) (strategy_view tree.now) }
+        requires leaf { leaf < length (leaf_names (strategy_view tree.now)) }
+        requires new { (m : Matching) → Starts (strategy_view tree.now) mismatch.now m → CanTell m (bound_telling (strategy_view tree.now) leaf faulty) }
+        ensures refused { OnErr result (IsSame self.old self.new) }
+        ensures told { OnOk result (IsToldAt (strategy_view tree.now) mismatch.now (bound_telling (strategy_view tree.now) leaf faulty ∷ []) (matcher_at self.new (length self.old.matchers.items))) }
+        ensures others { OthersStay (length self.old.matchers.items) self.old self.new }
+        ensures jobs { OnOk result (known_jobs self.new ≡ known_jobs self.old ++ map (λ q. (length self.old.matchers.items, q)) (job_places (followed_at self.new (length self.old.matchers.items)))) }
+        ensures waiting { OnOk result (waiting_things self.new ≡ waiting_things self.old ++ map (λ o. (length self.old.matchers.items, o)) (others_among (followed_at self.new (length self.old.matchers.items)))) }
+        ensures sound { AreIntaken self.new }
+    {
+        let mut matcher = match self.spare.pop() {
+            Some(spare) => spare,
+            None => Boxed::unused(alloc)?,
+        };
+        matcher.restart(tree, mismatch, depth)?;
+        matcher.tell_bound(leaf, faulty)?;
         self.take_in(matcher)
     }
 
