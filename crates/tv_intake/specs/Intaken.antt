@@ -51,7 +51,8 @@ pub record AreSorted (ms : List Matcher) (jobs waiting : List Found) : Type 0 wh
   pub sound : (k : ℕ) → IsSoundAt (slice_get ms k)
   pub jobs_are : (k : ℕ) → positions_of k jobs ≡ job_positions 0 (followed_in ms k)
   pub settled : ℕ → List ℕ
-  pub others_are : (k : ℕ) → IsPermutation (positions_of k waiting ++ settled k) (other_positions 0 (followed_in ms k))
+  pub others_are : (k : ℕ) → IsPermutation (positions_of k waiting ++ settled k)
+      (other_positions 0 (followed_in ms k))
 
 -- ---- what a contract sees
 
@@ -90,7 +91,8 @@ faulty_ahead_at (Some m) q = faulty_ahead m q
 abbrev pub CanHold : Option Matcher → List code.Told → Type 0
 CanHold None ts = ⊥
 CanHold (Some m) ts =
-    NameLeaves (matching m).strategy ts × CanTellAll (matching m) (map (told_view (matching m).strategy) ts)
+    NameLeaves (matching m).strategy ts
+    × CanTellAll (matching m) (map (told_view (matching m).strategy) ts)
 
 -- what is held can be told
 abbrev pub CanShow : Option Matcher → Type 0
@@ -99,7 +101,8 @@ CanShow (Some m) = CanTellAll (matching m) (matching m).held
 
 -- so many items can be put in each list with no memory
 abbrev pub HasRoom : ℕ → Intakes → Type 0
-HasRoom n i = (vec_len i.jobs + n ≤ vec_capacity i.jobs) × (vec_len i.waiting + n ≤ vec_capacity i.waiting)
+HasRoom n i = (vec_len i.jobs + n ≤ vec_capacity i.jobs)
+    × (vec_len i.waiting + n ≤ vec_capacity i.waiting)
 
 -- ---- what the calls change
 
@@ -119,7 +122,8 @@ IsStartedAt s mismatch None = ⊥
 IsStartedAt s mismatch (Some m) = Starts s mismatch (matching m)
 
 -- a matcher that was told this alone, in whatever order, and holds nothing
-pub record IsToldAll (s : Strategy) (mismatch : List (Name × ℕ)) (ts : List Told) (m : Matching) : Type 0 where
+pub record IsToldAll (s : Strategy) (mismatch : List (Name × ℕ)) (ts : List Told)
+    (m : Matching) : Type 0 where
   pub strategy_is : m.strategy ≡ s
   pub mismatch_is : m.mismatch ≡ mismatch
   pub told : IsPermutation m.told ts
@@ -132,7 +136,8 @@ IsToldAt s mismatch ts (Some m) = IsToldAll s mismatch ts (matching m)
 -- room is held for these tellings, and what follows of those that were made stays
 abbrev pub HoldsThese : List code.Told → Option Matcher → Option Matcher → Type 0
 HoldsThese ts (Some m) (Some n) =
-    Holds (map (told_view (matching m).strategy) ts) (matching m) (matching n) × (in_order n ≡ in_order m)
+    Holds (map (told_view (matching m).strategy) ts) (matching m) (matching n)
+    × (in_order n ≡ in_order m)
 HoldsThese ts (Some m) None = ⊥
 HoldsThese ts None _ = ⊥
 

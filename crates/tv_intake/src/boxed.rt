@@ -52,7 +52,8 @@ impl Boxed {
         requires suits { Suits mismatch.now (strategy_view tree.now) }
         requires agree { DotsAgree (number_of mismatch.now) (strategy_view tree.now) }
         requires deep { depth ≡ strategy_depth (number_of mismatch.now) (strategy_view tree.now) }
-        ensures ok { OnOk result (Starts (strategy_view tree.now) mismatch.now (matching self.new)) }
+        ensures ok { OnOk result (Starts (strategy_view tree.now) mismatch.now
+            (matching self.new)) }
         ensures sound { OnOk result (IsSound self.new) }
     {
         self.inside.restart(tree, mismatch, depth)
@@ -63,8 +64,10 @@ impl Boxed {
         requires sound { IsSound self.old }
         requires leaf { leaf < length (leaf_names (matching self.old).strategy) }
         requires free { (matching self.old).held ≡ [] }
-        requires new { CanTell (matching self.old) (bound_telling (matching self.old).strategy leaf faulty) }
-        ensures ok { OnOk result (IsTold (bound_telling (matching self.old).strategy leaf faulty) (matching self.old) (matching self.new)) }
+        requires new { CanTell (matching self.old) (bound_telling (matching self.old).strategy leaf
+            faulty) }
+        ensures ok { OnOk result (IsTold (bound_telling (matching self.old).strategy leaf faulty)
+            (matching self.old) (matching self.new)) }
         ensures held { OnOk result ((matching self.new).held ≡ []) }
         ensures sound { OnOk result (IsSound self.new) }
     {
@@ -75,11 +78,14 @@ impl Boxed {
     pub fn hold(&mut self, told: &Tolds) -> Result<u64, NoMemory>
         requires sound { IsSound self.old }
         requires leaves { NameLeaves (matching self.old).strategy told.now }
-        requires new { CanTellAll (matching self.old) (map (told_view (matching self.old).strategy) told.now) }
-        ensures ok { OnOk result (Holds (map (told_view (matching self.old).strategy) told.now) (matching self.old) (matching self.new)) }
+        requires new { CanTellAll (matching self.old) (map (told_view (matching self.old).strategy)
+            told.now) }
+        ensures ok { OnOk result (Holds (map (told_view (matching self.old).strategy) told.now)
+            (matching self.old) (matching self.new)) }
         ensures refused { OnErr result (IsFreed (matching self.old) (matching self.new)) }
         ensures same_order { in_order self.new ≡ in_order self.old }
-        ensures ahead { IfOk result (λ n. length (in_order_ahead self.new) ≡ length (in_order self.old) + n) }
+        ensures ahead { IfOk result (λ n. length (in_order_ahead self.new)
+            ≡ length (in_order self.old) + n) }
         ensures sound { IsSound self.new }
     {
         self.inside.hold(told)
@@ -89,7 +95,8 @@ impl Boxed {
     pub fn tell_held(&mut self)
         requires sound { IsSound self.old }
         requires new { CanTellAll (matching self.old) (matching self.old).held }
-        ensures told { (matching self.new).told ≡ (matching self.old).told ++ (matching self.old).held }
+        ensures told { (matching self.new).told ≡ (matching self.old).told
+            ++ (matching self.old).held }
         ensures held { (matching self.new).held ≡ [] }
         ensures strategy { (matching self.new).strategy ≡ (matching self.old).strategy }
         ensures mismatch { (matching self.new).mismatch ≡ (matching self.old).mismatch }

@@ -77,10 +77,15 @@ impl Intakes {
         requires agree { DotsAgree (number_of mismatch.now) (strategy_view tree.now) }
         requires deep { depth ≡ strategy_depth (number_of mismatch.now) (strategy_view tree.now) }
         ensures refused { OnErr result (IsSame self.old self.new) }
-        ensures started { OnOk result (IsStartedAt (strategy_view tree.now) mismatch.now (matcher_at self.new (length self.old.matchers.items))) }
+        ensures started { OnOk result (IsStartedAt (strategy_view tree.now) mismatch.now
+            (matcher_at self.new (length self.old.matchers.items))) }
         ensures others { OthersStay (length self.old.matchers.items) self.old self.new }
-        ensures jobs { OnOk result (known_jobs self.new ≡ known_jobs self.old ++ map (λ q. (length self.old.matchers.items, q)) (job_places (followed_at self.new (length self.old.matchers.items)))) }
-        ensures waiting { OnOk result (waiting_things self.new ≡ waiting_things self.old ++ map (λ o. (length self.old.matchers.items, o)) (others_among (followed_at self.new (length self.old.matchers.items)))) }
+        ensures jobs { OnOk result (known_jobs self.new ≡ known_jobs self.old
+            ++ map (λ q. (length self.old.matchers.items, q))
+            (job_places (followed_at self.new (length self.old.matchers.items)))) }
+        ensures waiting { OnOk result (waiting_things self.new ≡ waiting_things self.old
+            ++ map (λ o. (length self.old.matchers.items, o))
+            (others_among (followed_at self.new (length self.old.matchers.items)))) }
         ensures sound { AreIntaken self.new }
     {
         let mut matcher = match self.spare.pop() {
@@ -107,12 +112,19 @@ impl Intakes {
         requires agree { DotsAgree (number_of mismatch.now) (strategy_view tree.now) }
         requires deep { depth ≡ strategy_depth (number_of mismatch.now) (strategy_view tree.now) }
         requires leaf { leaf < length (leaf_names (strategy_view tree.now)) }
-        requires new { (m : Matching) → Starts (strategy_view tree.now) mismatch.now m → CanTell m (bound_telling (strategy_view tree.now) leaf faulty) }
+        requires new { (m : Matching) → Starts (strategy_view tree.now) mismatch.now m
+            → CanTell m (bound_telling (strategy_view tree.now) leaf faulty) }
         ensures refused { OnErr result (IsSame self.old self.new) }
-        ensures told { OnOk result (IsToldAt (strategy_view tree.now) mismatch.now (bound_telling (strategy_view tree.now) leaf faulty ∷ []) (matcher_at self.new (length self.old.matchers.items))) }
+        ensures told { OnOk result (IsToldAt (strategy_view tree.now) mismatch.now
+            (bound_telling (strategy_view tree.now) leaf faulty ∷ [])
+            (matcher_at self.new (length self.old.matchers.items))) }
         ensures others { OthersStay (length self.old.matchers.items) self.old self.new }
-        ensures jobs { OnOk result (known_jobs self.new ≡ known_jobs self.old ++ map (λ q. (length self.old.matchers.items, q)) (job_places (followed_at self.new (length self.old.matchers.items)))) }
-        ensures waiting { OnOk result (waiting_things self.new ≡ waiting_things self.old ++ map (λ o. (length self.old.matchers.items, o)) (others_among (followed_at self.new (length self.old.matchers.items)))) }
+        ensures jobs { OnOk result (known_jobs self.new ≡ known_jobs self.old
+            ++ map (λ q. (length self.old.matchers.items, q))
+            (job_places (followed_at self.new (length self.old.matchers.items)))) }
+        ensures waiting { OnOk result (waiting_things self.new ≡ waiting_things self.old
+            ++ map (λ o. (length self.old.matchers.items, o))
+            (others_among (followed_at self.new (length self.old.matchers.items)))) }
         ensures sound { AreIntaken self.new }
     {
         let mut matcher = match self.spare.pop() {
@@ -130,10 +142,13 @@ impl Intakes {
         requires own { IsSound matcher }
         requires none { (matching matcher).held ≡ [] }
         ensures refused { OnErr result (IsSame self.old self.new) }
-        ensures there { OnOk result (matcher_at self.new (length self.old.matchers.items) ≡ Some matcher) }
+        ensures there { OnOk result (matcher_at self.new (length self.old.matchers.items)
+            ≡ Some matcher) }
         ensures others { OthersStay (length self.old.matchers.items) self.old self.new }
-        ensures jobs { OnOk result (known_jobs self.new ≡ known_jobs self.old ++ map (λ q. (length self.old.matchers.items, q)) (job_places (in_order matcher))) }
-        ensures waiting { OnOk result (waiting_things self.new ≡ waiting_things self.old ++ map (λ o. (length self.old.matchers.items, o)) (others_among (in_order matcher))) }
+        ensures jobs { OnOk result (known_jobs self.new ≡ known_jobs self.old
+            ++ map (λ q. (length self.old.matchers.items, q)) (job_places (in_order matcher))) }
+        ensures waiting { OnOk result (waiting_things self.new ≡ waiting_things self.old
+            ++ map (λ o. (length self.old.matchers.items, o)) (others_among (in_order matcher))) }
         ensures sound { AreIntaken self.new }
     {
         let step = self.room_for_step(matcher.read().ahead())?;
@@ -160,8 +175,10 @@ impl Intakes {
     pub fn hold(&mut self, step: u32, told: &Tolds) -> Result<u64, NoMemory>
         requires sound { AreIntaken self.old }
         requires can { CanHold (matcher_at self.old step) told.now }
-        ensures ok { OnOk result (HoldsThese told.now (matcher_at self.old step) (matcher_at self.new step)) }
-        ensures refused { OnErr result (HoldsNone (matcher_at self.old step) (matcher_at self.new step)) }
+        ensures ok { OnOk result (HoldsThese told.now (matcher_at self.old step)
+            (matcher_at self.new step)) }
+        ensures refused { OnErr result (HoldsNone (matcher_at self.old step)
+            (matcher_at self.new step)) }
         ensures count { IfOk result (λ n. n ≡ length (brought_at self.new step)) }
         ensures others { OthersStay step self.old self.new }
         ensures jobs { known_jobs self.new ≡ known_jobs self.old }
@@ -177,8 +194,10 @@ impl Intakes {
     pub fn make_room(&mut self, steps: &[u32]) -> Result<u64, NoMemory>
         requires sound { AreIntaken self.old }
         requires steps { All (λ s. s < vec_len self.old.matchers) steps.now }
-        ensures room { OnOk result (HasRoom (sum_by (λ s. length (brought_at self.old s)) steps.now) self.new) }
-        ensures count { IfOk result (λ n. n ≡ sum_by (λ s. jobs_among (brought_at self.old s)) steps.now) }
+        ensures room { OnOk result (HasRoom (sum_by (λ s. length (brought_at self.old s)) steps.now)
+            self.new) }
+        ensures count { IfOk result (λ n. n ≡ sum_by (λ s. jobs_among (brought_at self.old s))
+            steps.now) }
         ensures same { IsSame self.old self.new }
     {
         let mut all = 0;
@@ -213,8 +232,10 @@ impl Intakes {
     pub fn new_jobs(&self, step: u32) -> (usize, usize)
         requires sound { AreIntaken self.now }
         requires can { CanShow (matcher_at self.now step) }
-        ensures good { result.0 ≡ count_by (λ q. not (faulty_ahead_at (matcher_at self.now step) q)) (job_places (brought_at self.now step)) }
-        ensures faulty { result.1 ≡ count_by (faulty_ahead_at (matcher_at self.now step)) (job_places (brought_at self.now step)) }
+        ensures good { result.0 ≡ count_by (λ q. not (faulty_ahead_at (matcher_at self.now step) q))
+            (job_places (brought_at self.now step)) }
+        ensures faulty { result.1 ≡ count_by (faulty_ahead_at (matcher_at self.now step))
+            (job_places (brought_at self.now step)) }
     {
         let matcher = self.matchers[step as usize].read();
         count_each(matcher, matcher.shown())
@@ -238,9 +259,12 @@ impl Intakes {
         requires room { HasRoom (length (brought_at self.old step)) self.old }
         ensures made { IsMadeAt (matcher_at self.old step) (matcher_at self.new step) }
         ensures others { OthersStay step self.old self.new }
-        ensures jobs { known_jobs self.new ≡ known_jobs self.old ++ map (λ q. (step, q)) (job_places (brought_at self.old step)) }
-        ensures waiting { waiting_things self.new ≡ waiting_things self.old ++ map (λ o. (step, o)) (others_among (brought_at self.old step)) }
-        ensures room { (n : ℕ) → HasRoom (length (brought_at self.old step) + n) self.old → HasRoom n self.new }
+        ensures jobs { known_jobs self.new ≡ known_jobs self.old
+            ++ map (λ q. (step, q)) (job_places (brought_at self.old step)) }
+        ensures waiting { waiting_things self.new ≡ waiting_things self.old
+            ++ map (λ o. (step, o)) (others_among (brought_at self.old step)) }
+        ensures room { (n : ℕ) → HasRoom (length (brought_at self.old step) + n) self.old
+            → HasRoom n self.new }
         ensures sound { AreIntaken self.new }
     {
         let matcher = &mut self.matchers[step as usize];
@@ -281,7 +305,8 @@ impl Intakes {
     pub fn waiting_at(&self, at: usize) -> (u32, &[u32], Kind)
         requires sound { AreIntaken self.now }
         requires at { at < length (waiting_things self.now) }
-        ensures { slice_get (waiting_things self.now) at ≡ Some (result.0, outcome_kind result.1.now result.2) }
+        ensures { slice_get (waiting_things self.now) at
+            ≡ Some (result.0, outcome_kind result.1.now result.2) }
     {
         let found = self.waiting[at];
         let (place, kind) = self.matchers[found.step as usize].read().item(found.at);
@@ -291,7 +316,8 @@ impl Intakes {
     /// The last thing that waits is settled. Takes no memory.
     pub fn settle_last(&mut self)
         requires { AreIntaken self.old }
-        ensures waiting { waiting_things self.new ≡ take (length (waiting_things self.old) - 1) (waiting_things self.old) }
+        ensures waiting { waiting_things self.new ≡ take (length (waiting_things self.old) - 1)
+            (waiting_things self.old) }
         ensures matchers { self.new.matchers.items ≡ self.old.matchers.items }
         ensures jobs { self.new.jobs.items ≡ self.old.jobs.items }
         ensures room { (n : ℕ) → HasRoom n self.old → HasRoom n self.new }

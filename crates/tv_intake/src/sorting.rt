@@ -55,12 +55,18 @@ pub(crate) fn sort_from(
     jobs: &mut Vec<Found>,
     waiting: &mut Vec<Found>,
 )
-    requires jobs_room { vec_len jobs.old + (length (in_order_ahead matcher.now) - from) ≤ vec_capacity jobs.old }
-    requires waiting_room { vec_len waiting.old + (length (in_order_ahead matcher.now) - from) ≤ vec_capacity waiting.old }
-    ensures jobs { jobs.new.items ≡ jobs.old.items ++ found_jobs step from (drop from (in_order_ahead matcher.now)) }
-    ensures waiting { waiting.new.items ≡ waiting.old.items ++ found_others step from (drop from (in_order_ahead matcher.now)) }
-    ensures jobs_len { vec_len jobs.new ≤ vec_len jobs.old + (length (in_order_ahead matcher.now) - from) }
-    ensures waiting_len { vec_len waiting.new ≤ vec_len waiting.old + (length (in_order_ahead matcher.now) - from) }
+    requires jobs_room { vec_len jobs.old + (length (in_order_ahead matcher.now) - from)
+        ≤ vec_capacity jobs.old }
+    requires waiting_room { vec_len waiting.old + (length (in_order_ahead matcher.now) - from)
+        ≤ vec_capacity waiting.old }
+    ensures jobs { jobs.new.items ≡ jobs.old.items
+        ++ found_jobs step from (drop from (in_order_ahead matcher.now)) }
+    ensures waiting { waiting.new.items ≡ waiting.old.items
+        ++ found_others step from (drop from (in_order_ahead matcher.now)) }
+    ensures jobs_len { vec_len jobs.new ≤ vec_len jobs.old + (length (in_order_ahead matcher.now)
+        - from) }
+    ensures waiting_len { vec_len waiting.new ≤ vec_len waiting.old
+        + (length (in_order_ahead matcher.now) - from) }
     ensures jobs_capacity { vec_capacity jobs.old ≤ vec_capacity jobs.new }
     ensures waiting_capacity { vec_capacity waiting.old ≤ vec_capacity waiting.new }
 {
@@ -100,8 +106,10 @@ fn one_of_each(kind: Kind) -> (usize, usize)
 pub(crate) fn count_each(matcher: &Matcher, from: usize) -> (usize, usize)
     requires sound { IsSound matcher.now }
     requires can { CanTellAll (matching matcher.now) (matching matcher.now).held }
-    ensures good { result.0 ≡ count_by (λ q. not (faulty_ahead matcher.now q)) (job_places (drop from (in_order_ahead matcher.now))) }
-    ensures faulty { result.1 ≡ count_by (faulty_ahead matcher.now) (job_places (drop from (in_order_ahead matcher.now))) }
+    ensures good { result.0 ≡ count_by (λ q. not (faulty_ahead matcher.now q))
+        (job_places (drop from (in_order_ahead matcher.now))) }
+    ensures faulty { result.1 ≡ count_by (faulty_ahead matcher.now)
+        (job_places (drop from (in_order_ahead matcher.now))) }
 {
     let mut good = 0;
     let mut faulty = 0;

@@ -14,7 +14,8 @@ abbrev pub AheadIsMatched : Type 0
 AheadIsMatched =
     (m : Matcher) → IsSound m
     → let n = matching m in
-    IsPermutation (in_order_ahead m) (map (out n.strategy) (matched_after n.strategy (n.told ++ n.held)))
+    IsPermutation (in_order_ahead m) (map (out n.strategy) (matched_after n.strategy (n.told
+    ++ n.held)))
 
 -- where nothing is held, nothing is ahead
 abbrev pub NoneIsAhead : Type 0

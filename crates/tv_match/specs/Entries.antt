@@ -60,7 +60,8 @@ pub record AreMore (n : ℕ) (old new : List Entry) : Type 0 where
 pub record FoundBefore (q : Place) (es : List Entry) (before i : ℕ) : Type 0 where
   pub is_before : i < before
   pub is_there : (entry_at es i).place ≡ q
-  pub is_last : latest_at q (kepts (take before es)) ≡ kept_entry (entry_at es i) ∷ latest_at q (kepts (take i es))
+  pub is_last : latest_at q (kepts (take before es)) ≡ kept_entry (entry_at es i)
+      ∷ latest_at q (kepts (take i es))
 
 -- no item has a smaller number than one before it
 abbrev pub Rise : List Entry → Type 0

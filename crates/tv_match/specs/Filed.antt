@@ -32,7 +32,8 @@ module _ (read : List Entry → List Kept) where
 -- without what tellings with greater numbers brought
 abbrev pub fronted : ℕ → Filed → Filed
 fronted n (filed_leaf l) = filed_leaf l
-fronted n (filed_cross es ys f r) = filed_cross (front n es) (front n ys) (fronted n f) (fronted n r)
+fronted n (filed_cross es ys f r) = filed_cross (front n es) (front n ys) (fronted n f)
+    (fronted n r)
 fronted n (filed_dot xs ys f r) = filed_dot (front n xs) (front n ys) (fronted n f) (fronted n r)
 
 -- each list has more of this number, and nothing else changes
@@ -41,11 +42,13 @@ Adds n (filed_leaf l) (filed_leaf m) = l ≡ m
 Adds n (filed_leaf l) (filed_cross fs zs g s) = ⊥
 Adds n (filed_leaf l) (filed_dot fs zs g s) = ⊥
 Adds n (filed_cross es ys f r) (filed_leaf m) = ⊥
-Adds n (filed_cross es ys f r) (filed_cross fs zs g s) = AreMore n es fs × AreMore n ys zs × Adds n f g × Adds n r s
+Adds n (filed_cross es ys f r) (filed_cross fs zs g s) = AreMore n es fs × AreMore n ys zs
+    × Adds n f g × Adds n r s
 Adds n (filed_cross es ys f r) (filed_dot fs zs g s) = ⊥
 Adds n (filed_dot es ys f r) (filed_leaf m) = ⊥
 Adds n (filed_dot es ys f r) (filed_cross fs zs g s) = ⊥
-Adds n (filed_dot es ys f r) (filed_dot fs zs g s) = AreMore n es fs × AreMore n ys zs × Adds n f g × Adds n r s
+Adds n (filed_dot es ys f r) (filed_dot fs zs g s) = AreMore n es fs × AreMore n ys zs × Adds n f g
+    × Adds n r s
 
 -- what a leaf is told
 abbrev pub news_view : News → spec.News (Unit {0}) ℕ

@@ -14,7 +14,8 @@ pub record IsPlaced (p : Places) (i : ℕ) (q : Place) : Type 0 where
 pub record ArePlaced (depth : ℕ) (p : Places) (out : List Entry) (given : ℕ) : Type 0 where
   pub shallow : p.deep ≡ false → depth ≤ 32
   pub long : p.deep ≡ true → length out ≤ length p.made.items
-  pub made : p.deep ≡ true → (i : ℕ) → given ≤ i → i < length out → get_or p.made.items i [] ≡ (entry_at out i).place
+  pub made : p.deep ≡ true → (i : ℕ) → given ≤ i → i < length out → get_or p.made.items i []
+      ≡ (entry_at out i).place
 
 -- places at other positions stay
 pub record OthersStay (at : ℕ) (old new : List Place) : Type 0 where

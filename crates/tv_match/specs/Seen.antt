@@ -63,7 +63,8 @@ NameLeaves s ts = Each (λ t. leaf_of t < length (leaf_names s)) ts
 
 -- a listed telling names a leaf, and is kept as what it tells
 abbrev pub IsProper : Strategy → Entry → Type 0
-IsProper s e = (e.number < length (leaf_names s)) × (kept s (marked (telling_of s e)).item ≡ kept_entry e)
+IsProper s e = (e.number < length (leaf_names s)) × (kept s (marked (telling_of s e)).item
+    ≡ kept_entry e)
 
 abbrev pub tellings_of : Strategy → List Entry → List spec.Told
 tellings_of s es = map (telling_of s) es
@@ -80,7 +81,8 @@ seen_as s mismatch log out n g =
     }
 
 -- what is so of every matcher between calls
-pub record AreSound (s : Strategy) (mismatch : List (Name × ℕ)) (root : Filed) (log out : List Entry) (n g : ℕ) : Type 0 where
+pub record AreSound (s : Strategy) (mismatch : List (Name × ℕ)) (root : Filed)
+    (log out : List Entry) (n g : ℕ) : Type 0 where
   pub suits : Suits mismatch s
   pub agree : DotsAgree (number_of mismatch) s
   pub fit : Each (IsFit (number_of mismatch)) (tellings_of s (take n log))
@@ -96,7 +98,8 @@ matching m = seen_as (strategy_view m.tree) m.mismatch m.log m.out m.told m.give
 -- and its places are made, where they have to be
 pub record IsSound (m : Matcher) : Type 0 where
   pub keeps : AreSound (strategy_view m.tree) m.mismatch (filed m.root) m.log m.out m.told m.given
-  pub placed : ArePlaced (strategy_depth (number_of m.mismatch) (strategy_view m.tree)) m.places m.out m.given
+  pub placed : ArePlaced (strategy_depth (number_of m.mismatch) (strategy_view m.tree)) m.places
+      m.out m.given
 
 -- the next held telling is this one
 abbrev pub IsNext : Matcher → Entry → Type 0

@@ -24,7 +24,9 @@ pub record AreTold (n : Matching) (values : Name → Value) : Type 0 where
 
 -- the ends, lists and passed faults of their iteration whose sources were told
 abbrev pub known_out : Matching → (Name → Value) → List Outcome
-known_out n values = map (node_out n.strategy) (known_items (node_told (number_of n.mismatch) n.told) (iteration (walks (number_of n.mismatch) (labelled values)) n.strategy))
+known_out n values = map (node_out n.strategy)
+    (known_items (node_told (number_of n.mismatch) n.told)
+    (iteration (walks (number_of n.mismatch) (labelled values)) n.strategy))
 
 abbrev pub outcome_place : Outcome → Place
 outcome_place (job_at q) = q
@@ -65,7 +67,8 @@ abbrev pub OrderIsKnown : Type 0
 OrderIsKnown =
     (m : Matcher) → IsSound m
     → (take (length (matching m).given) (in_order m) ≡ (matching m).given)
-    × ((values : Name → Value) → AreTold (matching m) values → IsPermutation (in_order m) (known_out (matching m) values))
+    × ((values : Name → Value) → AreTold (matching m) values
+    → IsPermutation (in_order m) (known_out (matching m) values))
 
 -- nothing follows exactly where what has come out is all that is known
 pub record EndsWithAll (m : Matcher) (values : Name → Value) : Type 0 where

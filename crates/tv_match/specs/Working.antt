@@ -27,8 +27,10 @@ IsFull n (filed_dot xs ys f r) = (front n xs ≡ xs) × (front n ys ≡ ys) × I
 
 -- up to the telling m
 pub record IsWorked (s : Strategy) (m : ℕ) (root : Filed) (log out : List Entry) : Type 0 where
-  pub store : (k : ℕ) → k ≤ m → kept_store (λ es. kepts (front k es)) root ≡ brief_store (worked (store_for 0 s) (news_to k log))
-  pub items : (k : ℕ) → k ≤ m → kepts (front k out) ≡ briefs (worked_items (store_for 0 s) (news_to k log))
+  pub store : (k : ℕ) → k ≤ m → kept_store (λ es. kepts (front k es)) root
+      ≡ brief_store (worked (store_for 0 s) (news_to k log))
+  pub items : (k : ℕ) → k ≤ m → kepts (front k out)
+      ≡ briefs (worked_items (store_for 0 s) (news_to k log))
 
 -- and no further
 pub record IsDone (s : Strategy) (root : Filed) (log out : List Entry) : Type 0 where

@@ -101,7 +101,8 @@ impl Bag {
         kind: Kind,
         number: usize,
     ) -> Result<(), NoMemory>
-        ensures ok { OnOk result (self.new ≡ self.old ++ entry number (at.now ++ inside.now) kind ∷ []) }
+        ensures ok { OnOk result (self.new ≡ self.old ++ entry number (at.now ++ inside.now) kind
+            ∷ []) }
         ensures err { OnErr result (self.new ≡ self.old) }
     {
         let start = self.indices.len();

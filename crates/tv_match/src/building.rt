@@ -24,7 +24,8 @@ pub struct Built {
 /// Has a store be that of a strategy that was told nothing, whatever it was before. Linear in the strategy, and constant where it
 /// is one leaf, or has one child that is.
 pub fn rebuild(alloc: Global, store: &mut Store, tree: &Tree) -> Result<(), NoMemory>
-    ensures store { OnOk result (kept_store kepts (filed store.new) ≡ store_for 0 (strategy_view tree.now)) }
+    ensures store { OnOk result (kept_store kepts (filed store.new)
+        ≡ store_for 0 (strategy_view tree.now)) }
     ensures full { OnOk result (IsFull 0 (filed store.new)) }
 {
     if is_one_leaf(tree) {
@@ -46,7 +47,8 @@ fn put_leaf(store: &mut Store)
 
 #[inline(never)]
 fn rebuild_whole(alloc: Global, store: &mut Store, tree: &Tree) -> Result<(), NoMemory>
-    ensures store { OnOk result (kept_store kepts (filed store.new) ≡ store_for 0 (strategy_view tree.now)) }
+    ensures store { OnOk result (kept_store kepts (filed store.new)
+        ≡ store_for 0 (strategy_view tree.now)) }
     ensures full { OnOk result (IsFull 0 (filed store.new)) }
 {
     *store = build(alloc, tree, 0)?.store;
@@ -86,7 +88,8 @@ fn is_only_leaf(trees: &[Tree]) -> bool
 /// The store of a strategy whose leaves are numbered from `from`. Linear in the strategy.
 #[cycle(build)]
 pub fn build(alloc: Global, tree: &Tree, from: u32) -> Result<Built, NoMemory>
-    ensures store { IfOk result (λ b. kept_store kepts (filed b.store) ≡ store_for from (strategy_view tree.now)) }
+    ensures store { IfOk result (λ b. kept_store kepts (filed b.store)
+        ≡ store_for from (strategy_view tree.now)) }
     ensures full { IfOk result (λ b. IsFull 0 (filed b.store)) }
     ensures next { IfOk result (λ b. b.next ≡ from + length (leaf_names (strategy_view tree.now))) }
 {
@@ -106,9 +109,11 @@ pub fn build(alloc: Global, tree: &Tree, from: u32) -> Result<Built, NoMemory>
 /// The store of a cross.
 #[cycle(build)]
 fn build_cross(alloc: Global, trees: &[Tree], from: u32) -> Result<Built, NoMemory>
-    ensures store { IfOk result (λ b. kept_store kepts (filed b.store) ≡ store_for_cross from (children_view trees.now)) }
+    ensures store { IfOk result (λ b. kept_store kepts (filed b.store)
+        ≡ store_for_cross from (children_view trees.now)) }
     ensures full { IfOk result (λ b. IsFull 0 (filed b.store)) }
-    ensures next { IfOk result (λ b. b.next ≡ from + length (all_leaf_names (children_view trees.now))) }
+    ensures next { IfOk result (λ b. b.next ≡ from
+        + length (all_leaf_names (children_view trees.now))) }
 {
     match trees.split_first() {
         None => Ok(Built {
@@ -125,9 +130,12 @@ fn build_cross(alloc: Global, trees: &[Tree], from: u32) -> Result<Built, NoMemo
 /// The store of a cross of what stands in front and these children.
 #[cycle(build)]
 fn build_crossed(alloc: Global, front: Built, trees: &[Tree]) -> Result<Built, NoMemory>
-    ensures store { IfOk result (λ b. kept_store kepts (filed b.store) ≡ crossed_with front.next (kept_store kepts (filed front.store)) (children_view trees.now)) }
+    ensures store { IfOk result (λ b. kept_store kepts (filed b.store)
+        ≡ crossed_with front.next (kept_store kepts (filed front.store))
+        (children_view trees.now)) }
     ensures full { IfOk result (λ b. IsFull 0 (filed front.store) → IsFull 0 (filed b.store)) }
-    ensures next { IfOk result (λ b. b.next ≡ front.next + length (all_leaf_names (children_view trees.now))) }
+    ensures next { IfOk result (λ b. b.next ≡ front.next
+        + length (all_leaf_names (children_view trees.now))) }
 {
     match trees.split_first() {
         None => Ok(front),
@@ -146,9 +154,11 @@ fn build_crossed(alloc: Global, front: Built, trees: &[Tree]) -> Result<Built, N
 /// The store of a dot.
 #[cycle(build)]
 fn build_dot(alloc: Global, trees: &[Tree], from: u32) -> Result<Built, NoMemory>
-    ensures store { IfOk result (λ b. kept_store kepts (filed b.store) ≡ store_for_dot from (children_view trees.now)) }
+    ensures store { IfOk result (λ b. kept_store kepts (filed b.store)
+        ≡ store_for_dot from (children_view trees.now)) }
     ensures full { IfOk result (λ b. IsFull 0 (filed b.store)) }
-    ensures next { IfOk result (λ b. b.next ≡ from + length (all_leaf_names (children_view trees.now))) }
+    ensures next { IfOk result (λ b. b.next ≡ from
+        + length (all_leaf_names (children_view trees.now))) }
 {
     match trees.split_first() {
         None => Ok(Built {

@@ -30,7 +30,8 @@ pub fn push_below(
     number: usize,
     out: &mut Bag,
 ) -> Result<(), NoMemory>
-    ensures ok { OnOk result (kepts out.new ≡ kepts out.old ++ briefs (map (below at.now (if_so faulty tt)) (kepts ys.now))) }
+    ensures ok { OnOk result (kepts out.new ≡ kepts out.old
+        ++ briefs (map (below at.now (if_so faulty tt)) (kepts ys.now))) }
     ensures more { AreMore number out.old out.new }
 {
     for i in 0..ys.len() {
@@ -48,7 +49,8 @@ fn push_replaced(
     out: &mut Bag,
 ) -> Result<(), NoMemory>
     requires { at < length xs.now }
-    ensures ok { OnOk result (kepts out.new ≡ kepts out.old ++ briefs (crossed_items (kept_entry (entry_at xs.now at) ∷ []) (kepts ys.now))) }
+    ensures ok { OnOk result (kepts out.new ≡ kepts out.old
+        ++ briefs (crossed_items (kept_entry (entry_at xs.now at) ∷ []) (kepts ys.now))) }
     ensures more { AreMore number out.old out.new }
 {
     match xs.kind(at) {
@@ -60,7 +62,8 @@ fn push_replaced(
 
 /// Puts the cross of the first child's new items with what the second child had. Linear in what it puts.
 pub fn push_crossed(xs: &Bag, ys: &Bag, number: usize, out: &mut Bag) -> Result<(), NoMemory>
-    ensures ok { OnOk result (kepts out.new ≡ kepts out.old ++ briefs (crossed_items (kepts xs.now) (kepts ys.now))) }
+    ensures ok { OnOk result (kepts out.new ≡ kepts out.old
+        ++ briefs (crossed_items (kepts xs.now) (kepts ys.now))) }
     ensures more { AreMore number out.old out.new }
 {
     for i in 0..xs.len() {
@@ -78,7 +81,8 @@ fn push_below_one(
     out: &mut Bag,
 ) -> Result<(), NoMemory>
     requires { at < length es.now }
-    ensures ok { OnOk result (kepts out.new ≡ kepts out.old ++ briefs (below_jobs (kept_entry (entry_at es.now at) ∷ []) (kepts ys.now))) }
+    ensures ok { OnOk result (kepts out.new ≡ kepts out.old
+        ++ briefs (below_jobs (kept_entry (entry_at es.now at) ∷ []) (kepts ys.now))) }
     ensures more { AreMore number out.old out.new }
 {
     match es.kind(at) {
@@ -90,7 +94,8 @@ fn push_below_one(
 /// Puts the part of a cross that stands below jobs of the first child, with the second child's new items. Linear in what it
 /// puts, where the first bag has jobs alone.
 pub fn push_below_jobs(es: &Bag, ys: &Bag, number: usize, out: &mut Bag) -> Result<(), NoMemory>
-    ensures ok { OnOk result (kepts out.new ≡ kepts out.old ++ briefs (below_jobs (kepts es.now) (kepts ys.now))) }
+    ensures ok { OnOk result (kepts out.new ≡ kepts out.old
+        ++ briefs (below_jobs (kepts es.now) (kepts ys.now))) }
     ensures more { AreMore number out.old out.new }
 {
     if ys.len() == 0 {
@@ -116,7 +121,8 @@ pub fn push_all(xs: &Bag, number: usize, out: &mut Bag) -> Result<(), NoMemory>
 /// Adds an item to others, if it is a job.
 fn push_job(xs: &Bag, at: usize, number: usize, out: &mut Bag) -> Result<(), NoMemory>
     requires { at < length xs.now }
-    ensures ok { OnOk result (kepts out.new ≡ kepts out.old ++ only_jobs (kept_entry (entry_at xs.now at) ∷ [])) }
+    ensures ok { OnOk result (kepts out.new ≡ kepts out.old
+        ++ only_jobs (kept_entry (entry_at xs.now at) ∷ [])) }
     ensures more { AreMore number out.old out.new }
 {
     match xs.kind(at) {
@@ -158,7 +164,8 @@ fn push_met_first(
     out: &mut Bag,
 ) -> Result<(), NoMemory>
     requires { at < length xs.now }
-    ensures ok { OnOk result (kepts out.new ≡ kepts out.old ++ briefs (met_by_first (kept_entry (entry_at xs.now at) ∷ []) (kepts ys.now))) }
+    ensures ok { OnOk result (kepts out.new ≡ kepts out.old
+        ++ briefs (met_by_first (kept_entry (entry_at xs.now at) ∷ []) (kepts ys.now))) }
     ensures more { AreMore number out.old out.new }
 {
     let place = xs.place(at);
@@ -180,7 +187,8 @@ fn push_met_second(
     out: &mut Bag,
 ) -> Result<(), NoMemory>
     requires { at < length ys.now }
-    ensures ok { OnOk result (kepts out.new ≡ kepts out.old ++ briefs (met_by_second (kepts xs.now) (kept_entry (entry_at ys.now at) ∷ []))) }
+    ensures ok { OnOk result (kepts out.new ≡ kepts out.old
+        ++ briefs (met_by_second (kepts xs.now) (kept_entry (entry_at ys.now at) ∷ []))) }
     ensures more { AreMore number out.old out.new }
 {
     let place = ys.place(at);
@@ -200,7 +208,8 @@ pub fn push_all_met_first(
     number: usize,
     out: &mut Bag,
 ) -> Result<(), NoMemory>
-    ensures ok { OnOk result (kepts out.new ≡ kepts out.old ++ briefs (met_by_first (kepts xs.now) (kepts ys.now))) }
+    ensures ok { OnOk result (kepts out.new ≡ kepts out.old
+        ++ briefs (met_by_first (kepts xs.now) (kepts ys.now))) }
     ensures more { AreMore number out.old out.new }
 {
     for i in 0..xs.len() {
@@ -216,7 +225,8 @@ pub fn push_all_met_second(
     number: usize,
     out: &mut Bag,
 ) -> Result<(), NoMemory>
-    ensures ok { OnOk result (kepts out.new ≡ kepts out.old ++ briefs (met_by_second (kepts xs.now) (kepts ys.now))) }
+    ensures ok { OnOk result (kepts out.new ≡ kepts out.old
+        ++ briefs (met_by_second (kepts xs.now) (kepts ys.now))) }
     ensures more { AreMore number out.old out.new }
 {
     for i in 0..ys.len() {

@@ -15,8 +15,10 @@ use tv_value::NoMemory;
 /// Works a telling.
 fn work_told(root: &mut Store, log: &mut Bag, out: &mut Bag, told: &Told) -> Result<(), NoMemory>
     ensures log { OnOk result (log.new ≡ log.old ++ entry_of told.now ∷ []) }
-    ensures done { OnOk result ((s : Strategy) → IsDone s (filed root.old) log.old out.old → IsDone s (filed root.new) log.new out.new) }
-    ensures still { (s : Strategy) → IsDone s (filed root.old) log.old out.old → IsWorked s (length log.old) (filed root.new) log.new out.new × Rise out.new }
+    ensures done { OnOk result ((s : Strategy) → IsDone s (filed root.old) log.old out.old
+        → IsDone s (filed root.new) log.new out.new) }
+    ensures still { (s : Strategy) → IsDone s (filed root.old) log.old out.old
+        → IsWorked s (length log.old) (filed root.new) log.new out.new × Rise out.new }
     ensures listed { take (length log.old) log.new ≡ log.old }
     ensures front { (k : ℕ) → k ≤ length log.old → front k out.new ≡ front k out.old }
     ensures grows { length out.old ≤ length out.new }
@@ -57,8 +59,10 @@ pub fn work_all(
     tolds: &[Told],
 ) -> Result<(), NoMemory>
     ensures log { OnOk result (log.new ≡ log.old ++ map entry_of tolds.now) }
-    ensures done { OnOk result ((s : Strategy) → IsDone s (filed root.old) log.old out.old → IsDone s (filed root.new) log.new out.new) }
-    ensures still { (s : Strategy) → IsDone s (filed root.old) log.old out.old → IsWorked s (length log.old) (filed root.new) log.new out.new × Rise out.new }
+    ensures done { OnOk result ((s : Strategy) → IsDone s (filed root.old) log.old out.old
+        → IsDone s (filed root.new) log.new out.new) }
+    ensures still { (s : Strategy) → IsDone s (filed root.old) log.old out.old
+        → IsWorked s (length log.old) (filed root.new) log.new out.new × Rise out.new }
     ensures listed { take (length log.old) log.new ≡ log.old }
     ensures front { (k : ℕ) → k ≤ length log.old → front k out.new ≡ front k out.old }
     ensures grows { length out.old ≤ length out.new }

@@ -100,7 +100,8 @@ impl Matcher {
         requires suits { Suits mismatch.now (strategy_view tree.now) }
         requires agree { DotsAgree (number_of mismatch.now) (strategy_view tree.now) }
         requires deep { depth ≡ strategy_depth (number_of mismatch.now) (strategy_view tree.now) }
-        ensures ok { OnOk result (Starts (strategy_view tree.now) mismatch.now (matching self.new)) }
+        ensures ok { OnOk result (Starts (strategy_view tree.now) mismatch.now
+            (matching self.new)) }
         ensures sound { OnOk result (IsSound self.new) }
     {
         keep_tree(self.alloc, &mut self.tree, tree)?;
@@ -123,13 +124,17 @@ impl Matcher {
     pub fn reserve(&mut self, told: &Tolds) -> Result<u64, NoMemory>
         requires sound { IsSound self.old }
         requires leaves { NameLeaves (matching self.old).strategy told.now }
-        requires new { CanTellAll (matching self.old) (map (told_view (matching self.old).strategy) told.now) }
-        ensures ok { OnOk result (Holds (map (told_view (matching self.old).strategy) told.now) (matching self.old) (matching self.new)) }
-        ensures count { IfOk result (λ n. n ≡ count_of_added (matching self.old).strategy (matching self.old).told (map (told_view (matching self.old).strategy) told.now)) }
+        requires new { CanTellAll (matching self.old) (map (told_view (matching self.old).strategy)
+            told.now) }
+        ensures ok { OnOk result (Holds (map (told_view (matching self.old).strategy) told.now)
+            (matching self.old) (matching self.new)) }
+        ensures count { IfOk result (λ n. n ≡ count_of_added (matching self.old).strategy
+            (matching self.old).told (map (told_view (matching self.old).strategy) told.now)) }
         ensures refused { OnErr result (IsUnchanged self.old self.new) }
         ensures order { take (length (in_order self.old)) (in_order self.new) ≡ in_order self.old }
         ensures same_order { in_order self.new ≡ in_order self.old }
-        ensures ahead { IfOk result (λ n. length (in_order_ahead self.new) ≡ length (in_order self.old) + n) }
+        ensures ahead { IfOk result (λ n. length (in_order_ahead self.new)
+            ≡ length (in_order self.old) + n) }
         ensures sound { IsSound self.new }
     {
         if self.told == self.log.len() {
@@ -145,13 +150,17 @@ impl Matcher {
     pub fn hold(&mut self, told: &Tolds) -> Result<u64, NoMemory>
         requires sound { IsSound self.old }
         requires leaves { NameLeaves (matching self.old).strategy told.now }
-        requires new { CanTellAll (matching self.old) (map (told_view (matching self.old).strategy) told.now) }
-        ensures ok { OnOk result (Holds (map (told_view (matching self.old).strategy) told.now) (matching self.old) (matching self.new)) }
-        ensures count { IfOk result (λ n. n ≡ count_of_added (matching self.old).strategy (matching self.old).told (map (told_view (matching self.old).strategy) told.now)) }
+        requires new { CanTellAll (matching self.old) (map (told_view (matching self.old).strategy)
+            told.now) }
+        ensures ok { OnOk result (Holds (map (told_view (matching self.old).strategy) told.now)
+            (matching self.old) (matching self.new)) }
+        ensures count { IfOk result (λ n. n ≡ count_of_added (matching self.old).strategy
+            (matching self.old).told (map (told_view (matching self.old).strategy) told.now)) }
         ensures refused { OnErr result (IsFreed (matching self.old) (matching self.new)) }
         ensures order { take (length (in_order self.old)) (in_order self.new) ≡ in_order self.old }
         ensures same_order { in_order self.new ≡ in_order self.old }
-        ensures ahead { IfOk result (λ n. length (in_order_ahead self.new) ≡ length (in_order self.old) + n) }
+        ensures ahead { IfOk result (λ n. length (in_order_ahead self.new)
+            ≡ length (in_order self.old) + n) }
         ensures sound { IsSound self.new }
     {
         take_back(&mut self.root, &mut self.log, &mut self.out, self.told);
@@ -184,11 +193,16 @@ impl Matcher {
     pub fn on_arrival(&mut self, leaf: u32, place: &Place, fault: bool) -> Result<(), NoMemory>
         requires sound { IsSound self.old }
         requires leaf { leaf < length (leaf_names (matching self.old).strategy) }
-        requires new { CanTell (matching self.old) (arrival (leaf_name (matching self.old).strategy leaf) place.now fault) }
-        ensures ok { OnOk result (IsTold (arrival (leaf_name (matching self.old).strategy leaf) place.now fault) (matching self.old) (matching self.new)) }
-        ensures let_go { OnOk result (LetsGo (arrival (leaf_name (matching self.old).strategy leaf) place.now fault) (matching self.old) (matching self.new)) }
+        requires new { CanTell (matching self.old)
+            (arrival (leaf_name (matching self.old).strategy leaf) place.now fault) }
+        ensures ok { OnOk result (IsTold (arrival (leaf_name (matching self.old).strategy leaf)
+            place.now fault) (matching self.old) (matching self.new)) }
+        ensures let_go { OnOk result (LetsGo (arrival (leaf_name (matching self.old).strategy leaf)
+            place.now fault) (matching self.old) (matching self.new)) }
         ensures refused { OnErr result (IsUnchanged self.old self.new) }
-        ensures held { (rest : List Telling) → (matching self.old).held ≡ arrival (leaf_name (matching self.old).strategy leaf) place.now fault ∷ rest → IsOk result × ((matching self.new).held ≡ rest) }
+        ensures held { (rest : List Telling) → (matching self.old).held
+            ≡ arrival (leaf_name (matching self.old).strategy leaf) place.now fault ∷ rest
+            → IsOk result × ((matching self.new).held ≡ rest) }
         ensures order { take (length (in_order self.old)) (in_order self.new) ≡ in_order self.old }
         ensures sound { IsSound self.new }
     {
@@ -206,11 +220,16 @@ impl Matcher {
     pub fn on_faulty(&mut self, leaf: u32, place: &Place) -> Result<(), NoMemory>
         requires sound { IsSound self.old }
         requires leaf { leaf < length (leaf_names (matching self.old).strategy) }
-        requires new { CanTell (matching self.old) (faulty (leaf_name (matching self.old).strategy leaf) place.now) }
-        ensures ok { OnOk result (IsTold (faulty (leaf_name (matching self.old).strategy leaf) place.now) (matching self.old) (matching self.new)) }
-        ensures let_go { OnOk result (LetsGo (faulty (leaf_name (matching self.old).strategy leaf) place.now) (matching self.old) (matching self.new)) }
+        requires new { CanTell (matching self.old)
+            (faulty (leaf_name (matching self.old).strategy leaf) place.now) }
+        ensures ok { OnOk result (IsTold (faulty (leaf_name (matching self.old).strategy leaf)
+            place.now) (matching self.old) (matching self.new)) }
+        ensures let_go { OnOk result (LetsGo (faulty (leaf_name (matching self.old).strategy leaf)
+            place.now) (matching self.old) (matching self.new)) }
         ensures refused { OnErr result (IsUnchanged self.old self.new) }
-        ensures held { (rest : List Telling) → (matching self.old).held ≡ faulty (leaf_name (matching self.old).strategy leaf) place.now ∷ rest → IsOk result × ((matching self.new).held ≡ rest) }
+        ensures held { (rest : List Telling) → (matching self.old).held
+            ≡ faulty (leaf_name (matching self.old).strategy leaf) place.now ∷ rest → IsOk result
+            × ((matching self.new).held ≡ rest) }
         ensures order { take (length (in_order self.old)) (in_order self.new) ≡ in_order self.old }
         ensures sound { IsSound self.new }
     {
@@ -223,13 +242,20 @@ impl Matcher {
     /// for the next held telling. Where others are held, it copies all that is kept before.
     pub fn on_close(&mut self, leaf: u32, place: &Place, length: u32) -> Result<(), NoMemory>
         requires sound { IsSound self.old }
-        requires leaf { leaf < Rattle.std.specs.Prelude.length (leaf_names (matching self.old).strategy) }
-        requires new { CanTell (matching self.old) (close (leaf_name (matching self.old).strategy leaf) place.now length) }
-        ensures ok { OnOk result (IsTold (close (leaf_name (matching self.old).strategy leaf) place.now length) (matching self.old) (matching self.new)) }
-        ensures let_go { OnOk result (LetsGo (close (leaf_name (matching self.old).strategy leaf) place.now length) (matching self.old) (matching self.new)) }
+        requires leaf { leaf < Rattle.std.specs.Prelude.length
+            (leaf_names (matching self.old).strategy) }
+        requires new { CanTell (matching self.old)
+            (close (leaf_name (matching self.old).strategy leaf) place.now length) }
+        ensures ok { OnOk result (IsTold (close (leaf_name (matching self.old).strategy leaf)
+            place.now length) (matching self.old) (matching self.new)) }
+        ensures let_go { OnOk result (LetsGo (close (leaf_name (matching self.old).strategy leaf)
+            place.now length) (matching self.old) (matching self.new)) }
         ensures refused { OnErr result (IsUnchanged self.old self.new) }
-        ensures held { (rest : List Telling) → (matching self.old).held ≡ close (leaf_name (matching self.old).strategy leaf) place.now length ∷ rest → IsOk result × ((matching self.new).held ≡ rest) }
-        ensures order { take (Rattle.std.specs.Prelude.length (in_order self.old)) (in_order self.new) ≡ in_order self.old }
+        ensures held { (rest : List Telling) → (matching self.old).held
+            ≡ close (leaf_name (matching self.old).strategy leaf) place.now length ∷ rest
+            → IsOk result × ((matching self.new).held ≡ rest) }
+        ensures order { take (Rattle.std.specs.Prelude.length (in_order self.old))
+            (in_order self.new) ≡ in_order self.old }
         ensures sound { IsSound self.new }
     {
         self.tell(leaf, place.as_slice(), Kind::Closed(length))
@@ -243,8 +269,10 @@ impl Matcher {
         requires sound { IsSound self.old }
         requires leaf { leaf < length (leaf_names (matching self.old).strategy) }
         requires free { (matching self.old).held ≡ [] }
-        requires new { CanTell (matching self.old) (bound_telling (matching self.old).strategy leaf faulty) }
-        ensures ok { OnOk result (IsTold (bound_telling (matching self.old).strategy leaf faulty) (matching self.old) (matching self.new)) }
+        requires new { CanTell (matching self.old) (bound_telling (matching self.old).strategy leaf
+            faulty) }
+        ensures ok { OnOk result (IsTold (bound_telling (matching self.old).strategy leaf faulty)
+            (matching self.old) (matching self.new)) }
         ensures held { OnOk result ((matching self.new).held ≡ []) }
         ensures sound { OnOk result (IsSound self.new) }
     {
@@ -266,8 +294,10 @@ impl Matcher {
     /// The next thing that has not come out yet. Takes no memory: places that are too long for that were made beforehand.
     pub fn next(&mut self) -> Option<Matched>
         requires { IsSound self.old }
-        ensures some { IfSome result (λ x. Gives (matched_view x) (matching self.old) (matching self.new)) }
-        ensures none { IsNone result → HasGivenAll (matching self.old) × (matching self.new ≡ matching self.old) }
+        ensures some { IfSome result (λ x. Gives (matched_view x) (matching self.old)
+            (matching self.new)) }
+        ensures none { IsNone result → HasGivenAll (matching self.old)
+            × (matching self.new ≡ matching self.old) }
         ensures order { take (length (in_order self.old)) (in_order self.new) ≡ in_order self.old }
         ensures sound { IsSound self.new }
     {
@@ -282,9 +312,11 @@ impl Matcher {
     /// The place and the kind of what comes out next, if something has not come out yet. Takes no memory.
     pub fn first(&self) -> Option<(&[u32], Kind)>
         requires { IsSound self.now }
-        ensures some { IfSome result (λ x. HasMore self.now × (next_out self.now ≡ outcome_kind x.0.now x.1)) }
+        ensures some { IfSome result (λ x. HasMore self.now
+            × (next_out self.now ≡ outcome_kind x.0.now x.1)) }
         ensures place { IfSome result (λ x. x.0.now ≡ next_place self.now) }
-        ensures faulty { IfSome result (λ x. is_faulty x.1 ≡ faulty_at (matching self.now).strategy (matching self.now).told x.0.now) }
+        ensures faulty { IfSome result (λ x. is_faulty x.1 ≡ faulty_at (matching self.now).strategy
+            (matching self.now).told x.0.now) }
         ensures none { IsNone result → HasGivenAll (matching self.now) }
     {
         if self.given < self.out.len() && self.out.number(self.given) <= self.told {
@@ -350,8 +382,10 @@ impl Matcher {
     pub fn item(&self, at: usize) -> (&[u32], Kind)
         requires sound { IsSound self.now }
         requires within { at < length (in_order self.now) }
-        ensures item { get_or (in_order self.now) at (outcome_kind result.0.now result.1) ≡ outcome_kind result.0.now result.1 }
-        ensures faulty { is_faulty result.1 ≡ faulty_at (matching self.now).strategy (matching self.now).told result.0.now }
+        ensures item { get_or (in_order self.now) at (outcome_kind result.0.now result.1)
+            ≡ outcome_kind result.0.now result.1 }
+        ensures faulty { is_faulty result.1 ≡ faulty_at (matching self.now).strategy
+            (matching self.now).told result.0.now }
     {
         (self.out.place(at), self.out.kind(at))
     }
@@ -391,11 +425,18 @@ impl Matcher {
     fn tell(&mut self, leaf: u32, place: &[u32], kind: Kind) -> Result<(), NoMemory>
         requires sound { IsSound self.old }
         requires proper { IsProper (strategy_view self.old.tree) (entry leaf place.now kind) }
-        requires new { CanTell (matching self.old) (telling_of (strategy_view self.old.tree) (entry leaf place.now kind)) }
-        ensures ok { OnOk result (IsTold (telling_of (strategy_view self.old.tree) (entry leaf place.now kind)) (matching self.old) (matching self.new)) }
-        ensures let_go { OnOk result (LetsGo (telling_of (strategy_view self.old.tree) (entry leaf place.now kind)) (matching self.old) (matching self.new)) }
+        requires new { CanTell (matching self.old) (telling_of (strategy_view self.old.tree)
+            (entry leaf place.now kind)) }
+        ensures ok { OnOk result
+            (IsTold (telling_of (strategy_view self.old.tree) (entry leaf place.now kind))
+            (matching self.old) (matching self.new)) }
+        ensures let_go { OnOk result
+            (LetsGo (telling_of (strategy_view self.old.tree) (entry leaf place.now kind))
+            (matching self.old) (matching self.new)) }
         ensures refused { OnErr result (IsUnchanged self.old self.new) }
-        ensures held { (rest : List Telling) → (matching self.old).held ≡ telling_of (strategy_view self.old.tree) (entry leaf place.now kind) ∷ rest → IsOk result × ((matching self.new).held ≡ rest) }
+        ensures held { (rest : List Telling) → (matching self.old).held
+            ≡ telling_of (strategy_view self.old.tree) (entry leaf place.now kind) ∷ rest
+            → IsOk result × ((matching self.new).held ≡ rest) }
         ensures order { take (length (in_order self.old)) (in_order self.new) ≡ in_order self.old }
         ensures sound { IsSound self.new }
     {
@@ -416,10 +457,14 @@ impl Matcher {
     fn tell_other(&mut self, leaf: u32, place: &[u32], kind: Kind) -> Result<(), NoMemory>
         requires sound { IsSound self.old }
         requires proper { IsProper (strategy_view self.old.tree) (entry leaf place.now kind) }
-        requires new { CanTell (matching self.old) (telling_of (strategy_view self.old.tree) (entry leaf place.now kind)) }
-        ensures ok { OnOk result (IsTold (telling_of (strategy_view self.old.tree) (entry leaf place.now kind)) (matching self.old) (matching self.new)) }
+        requires new { CanTell (matching self.old) (telling_of (strategy_view self.old.tree)
+            (entry leaf place.now kind)) }
+        ensures ok { OnOk result
+            (IsTold (telling_of (strategy_view self.old.tree) (entry leaf place.now kind))
+            (matching self.old) (matching self.new)) }
         ensures let_go { OnOk result ((matching self.new).held ≡ []) }
-        ensures refused { OnErr result (IsFreed (matching self.old) (matching self.new) × (in_order self.new ≡ in_order self.old)) }
+        ensures refused { OnErr result (IsFreed (matching self.old) (matching self.new)
+            × (in_order self.new ≡ in_order self.old)) }
         ensures order { take (length (in_order self.old)) (in_order self.new) ≡ in_order self.old }
         ensures sound { IsSound self.new }
     {

@@ -27,7 +27,8 @@ impl Places {
     /// Of no item. Takes no memory. Linear in the strategy.
     pub fn start(alloc: Global, tree: &Tree, mismatch: &Depths) -> Places
         requires { Suits mismatch.now (strategy_view tree.now) }
-        ensures { result.deep ≡ false → strategy_depth (number_of mismatch.now) (strategy_view tree.now) ≤ 32 }
+        ensures { result.deep ≡ false → strategy_depth (number_of mismatch.now)
+            (strategy_view tree.now) ≤ 32 }
     {
         Places {
             alloc,
@@ -71,8 +72,10 @@ impl Places {
     pub fn make(&mut self, out: &Bag, from: usize) -> Result<(), NoMemory>
         requires { from ≤ length out.now }
         ensures deep { self.new.deep ≡ self.old.deep }
-        ensures ok { OnOk result (self.new.deep ≡ true → self.new.made.items ≡ take from self.old.made.items ++ places_of (drop from out.now)) }
-        ensures first { from ≤ length self.old.made.items → take from self.new.made.items ≡ take from self.old.made.items }
+        ensures ok { OnOk result (self.new.deep ≡ true → self.new.made.items
+            ≡ take from self.old.made.items ++ places_of (drop from out.now)) }
+        ensures first { from ≤ length self.old.made.items → take from self.new.made.items
+            ≡ take from self.old.made.items }
     {
         if self.deep {
             self.made.truncate(from);
@@ -100,7 +103,8 @@ impl Places {
 /// Whether places may be longer than 32.
 fn is_deep(tree: &Tree, mismatch: &Depths) -> bool
     requires { Suits mismatch.now (strategy_view tree.now) }
-    ensures { result ≡ false → strategy_depth (number_of mismatch.now) (strategy_view tree.now) ≤ 32 }
+    ensures { result ≡ false → strategy_depth (number_of mismatch.now) (strategy_view tree.now)
+        ≤ 32 }
 {
     match depth_of(tree, mismatch) {
         Ok(depth) => depth > 32,

@@ -13,8 +13,10 @@ use tv_value::NoMemory;
 
 /// Works what follows from nothing. Where memory is wanting some of it is there.
 pub fn begin(root: &mut Store, out: &mut Bag) -> Result<(), NoMemory>
-    ensures store { OnOk result (kept_store kepts (filed root.new) ≡ brief_store (grown (told_by unit_news) (kept_store kepts (filed root.old)))) }
-    ensures items { OnOk result (kepts out.new ≡ kepts out.old ++ briefs (gain (told_by unit_news) (kept_store kepts (filed root.old)))) }
+    ensures store { OnOk result (kept_store kepts (filed root.new)
+        ≡ brief_store (grown (told_by unit_news) (kept_store kepts (filed root.old)))) }
+    ensures items { OnOk result (kepts out.new ≡ kepts out.old
+        ++ briefs (gain (told_by unit_news) (kept_store kepts (filed root.old)))) }
     ensures more { AreMore 0 out.old out.new }
     ensures adds { Adds 0 (filed root.old) (filed root.new) }
 {
@@ -40,8 +42,10 @@ pub fn work(
     kind: Kind,
 ) -> Result<(), NoMemory>
     ensures log { OnOk result (log.new ≡ log.old ++ entry leaf place.now kind ∷ []) }
-    ensures done { OnOk result ((s : Strategy) → IsDone s (filed root.old) log.old out.old → IsDone s (filed root.new) log.new out.new) }
-    ensures still { (s : Strategy) → IsDone s (filed root.old) log.old out.old → IsWorked s (length log.old) (filed root.new) log.new out.new × Rise out.new }
+    ensures done { OnOk result ((s : Strategy) → IsDone s (filed root.old) log.old out.old
+        → IsDone s (filed root.new) log.new out.new) }
+    ensures still { (s : Strategy) → IsDone s (filed root.old) log.old out.old
+        → IsWorked s (length log.old) (filed root.new) log.new out.new × Rise out.new }
     ensures listed { take (length log.old) log.new ≡ log.old }
     ensures more { AreMore (length log.old + 1) out.old out.new }
 {
@@ -59,7 +63,9 @@ pub fn work(
 pub fn take_back(root: &mut Store, log: &mut Bag, out: &mut Bag, told: usize)
     ensures log { log.new ≡ take told log.old }
     ensures out { out.new ≡ front told out.old }
-    ensures done { (s : Strategy) (m : ℕ) → told ≤ m → m ≤ length log.old → IsWorked s m (filed root.old) log.old out.old → Rise out.old → IsDone s (filed root.new) log.new out.new }
+    ensures done { (s : Strategy) (m : ℕ) → told ≤ m → m ≤ length log.old
+        → IsWorked s m (filed root.old) log.old out.old → Rise out.old
+        → IsDone s (filed root.new) log.new out.new }
 {
     root.cut(told);
     log.truncate(told);

@@ -62,8 +62,11 @@ impl Store {
     ///
     /// Linear in what is new at the nodes, and in the strategy. Where memory is wanting some of it is there, all with this number.
     pub fn tell(&mut self, news: &News, out: &mut Bag) -> Result<(), NoMemory>
-        ensures store { OnOk result (kept_store kepts (filed self.new) ≡ brief_store (grown (told_by (news_view news.now)) (kept_store kepts (filed self.old)))) }
-        ensures items { OnOk result (kepts out.new ≡ kepts out.old ++ briefs (gain (told_by (news_view news.now)) (kept_store kepts (filed self.old)))) }
+        ensures store { OnOk result (kept_store kepts (filed self.new)
+            ≡ brief_store (grown (told_by (news_view news.now))
+            (kept_store kepts (filed self.old)))) }
+        ensures items { OnOk result (kepts out.new ≡ kepts out.old
+            ++ briefs (gain (told_by (news_view news.now)) (kept_store kepts (filed self.old)))) }
         ensures more { AreMore news.now.number out.old out.new }
         ensures adds { Adds news.now.number (filed self.old) (filed self.new) }
     {
@@ -112,7 +115,8 @@ impl Store {
 
 /// Puts the item if it is for this leaf.
 fn tell_leaf(leaf: Option<u32>, news: &News, out: &mut Bag) -> Result<(), NoMemory>
-    ensures items { OnOk result (kepts out.new ≡ kepts out.old ++ briefs (told_by (news_view news.now) leaf)) }
+    ensures items { OnOk result (kepts out.new ≡ kepts out.old
+        ++ briefs (told_by (news_view news.now) leaf)) }
     ensures more { AreMore news.now.number out.old out.new }
 {
     if is_for(news.leaf, leaf) {
@@ -140,7 +144,8 @@ fn cross_first(
     ends: &mut Bag,
     out: &mut Bag,
 ) -> Result<(), NoMemory>
-    ensures items { OnOk result (kepts out.new ≡ kepts out.old ++ briefs (crossed_items (kepts fresh.now) (kepts rests.now))) }
+    ensures items { OnOk result (kepts out.new ≡ kepts out.old
+        ++ briefs (crossed_items (kepts fresh.now) (kepts rests.now))) }
     ensures keeps { OnOk result (kepts ends.new ≡ kepts ends.old ++ only_jobs (kepts fresh.now)) }
     ensures more { AreMore number out.old out.new }
     ensures more_ends { AreMore number ends.old ends.new }
@@ -157,7 +162,8 @@ fn cross_rest(
     rests: &mut Bag,
     out: &mut Bag,
 ) -> Result<(), NoMemory>
-    ensures items { OnOk result (kepts out.new ≡ kepts out.old ++ briefs (below_jobs (kepts ends.now) (kepts fresh.now))) }
+    ensures items { OnOk result (kepts out.new ≡ kepts out.old
+        ++ briefs (below_jobs (kepts ends.now) (kepts fresh.now))) }
     ensures keeps { OnOk result (kepts rests.new ≡ kepts rests.old ++ kepts fresh.now) }
     ensures more { AreMore number out.old out.new }
     ensures more_rests { AreMore number rests.old rests.new }
@@ -174,7 +180,8 @@ fn dot_first(
     firsts: &mut Found,
     out: &mut Bag,
 ) -> Result<(), NoMemory>
-    ensures items { OnOk result (kepts out.new ≡ kepts out.old ++ briefs (met_by_first (kepts fresh.now) (kepts rests.now))) }
+    ensures items { OnOk result (kepts out.new ≡ kepts out.old
+        ++ briefs (met_by_first (kepts fresh.now) (kepts rests.now))) }
     ensures keeps { OnOk result (kepts firsts.new ≡ kepts firsts.old ++ kepts fresh.now) }
     ensures more { AreMore number out.old out.new }
     ensures more_firsts { AreMore number firsts.old firsts.new }
@@ -191,7 +198,8 @@ fn dot_rest(
     rests: &mut Found,
     out: &mut Bag,
 ) -> Result<(), NoMemory>
-    ensures items { OnOk result (kepts out.new ≡ kepts out.old ++ briefs (met_by_second (kepts firsts.now) (kepts fresh.now))) }
+    ensures items { OnOk result (kepts out.new ≡ kepts out.old
+        ++ briefs (met_by_second (kepts firsts.now) (kepts fresh.now))) }
     ensures keeps { OnOk result (kepts rests.new ≡ kepts rests.old ++ kepts fresh.now) }
     ensures more { AreMore number out.old out.new }
     ensures more_rests { AreMore number rests.old rests.new }

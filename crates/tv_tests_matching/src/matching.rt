@@ -85,7 +85,8 @@ fn push_arrival(
     place: &[u32],
     fault: bool,
 ) -> Result<(), NoMemory>
-    ensures { OnOk result (tolds.new.items ≡ tolds.old.items ++ Told.Arrival leaf place.now fault ∷ []) }
+    ensures { OnOk result (tolds.new.items ≡ tolds.old.items ++ Told.Arrival leaf place.now fault
+        ∷ []) }
 {
     let place = Place::of(alloc, place)?;
     tolds.push(Told::Arrival { leaf, place, fault })?;
@@ -112,7 +113,8 @@ fn push_close(
     place: &[u32],
     length: u32,
 ) -> Result<(), NoMemory>
-    ensures { OnOk result (tolds.new.items ≡ tolds.old.items ++ Told.Close leaf place.now length ∷ []) }
+    ensures { OnOk result (tolds.new.items ≡ tolds.old.items ++ Told.Close leaf place.now length
+        ∷ []) }
 {
     let place = Place::of(alloc, place)?;
     tolds.push(Told::Close {
@@ -134,7 +136,9 @@ fn nested(alloc: Global) -> Result<Depths, NoMemory>
 
 /// Two jobs, and then the lists that they stand in.
 fn jobs_first(alloc: Global) -> Result<Tolds, NoMemory>
-    ensures { IfOk result (λ ts. ts ≡ Told.Arrival 0 (2 ∷ 1 ∷ []) false ∷ Told.Arrival 0 (0 ∷ 0 ∷ []) false ∷ Told.Close 0 [] 3 ∷ Told.Close 0 (1 ∷ []) 0 ∷ Told.Close 0 (0 ∷ []) 1 ∷ []) }
+    ensures { IfOk result (λ ts. ts ≡ Told.Arrival 0 (2 ∷ 1 ∷ []) false
+        ∷ Told.Arrival 0 (0 ∷ 0 ∷ []) false ∷ Told.Close 0 [] 3 ∷ Told.Close 0 (1 ∷ []) 0
+        ∷ Told.Close 0 (0 ∷ []) 1 ∷ []) }
 {
     let mut tolds = Vec::new(alloc);
     push_arrival(alloc, &mut tolds, 0, &[2, 1], false)?;
@@ -147,7 +151,8 @@ fn jobs_first(alloc: Global) -> Result<Tolds, NoMemory>
 
 /// A list of one and a fault, and then the item.
 fn fault_second(alloc: Global) -> Result<Tolds, NoMemory>
-    ensures { IfOk result (λ ts. ts ≡ Told.Close 0 [] 1 ∷ Told.Arrival 1 [] true ∷ Told.Arrival 0 (0 ∷ []) false ∷ []) }
+    ensures { IfOk result (λ ts. ts ≡ Told.Close 0 [] 1 ∷ Told.Arrival 1 [] true
+        ∷ Told.Arrival 0 (0 ∷ []) false ∷ []) }
 {
     let mut tolds = Vec::new(alloc);
     push_close(alloc, &mut tolds, 0, &[], 1)?;
@@ -158,7 +163,8 @@ fn fault_second(alloc: Global) -> Result<Tolds, NoMemory>
 
 /// A list of two, and a list of one, which holds a fault.
 fn two_lists(alloc: Global) -> Result<Tolds, NoMemory>
-    ensures { IfOk result (λ ts. ts ≡ Told.Arrival 0 (0 ∷ []) false ∷ Told.Close 0 [] 2 ∷ Told.Faulty 1 (0 ∷ []) ∷ Told.Close 1 [] 1 ∷ Told.Arrival 0 (1 ∷ []) false ∷ []) }
+    ensures { IfOk result (λ ts. ts ≡ Told.Arrival 0 (0 ∷ []) false ∷ Told.Close 0 [] 2
+        ∷ Told.Faulty 1 (0 ∷ []) ∷ Told.Close 1 [] 1 ∷ Told.Arrival 0 (1 ∷ []) false ∷ []) }
 {
     let mut tolds = Vec::new(alloc);
     push_arrival(alloc, &mut tolds, 0, &[0], false)?;
@@ -249,7 +255,8 @@ fn start(alloc: Global, script: &Script) -> Result<Matcher, NoMemory>
     requires { IsScript (strategy_view script.now.tree) script.now.mismatch script.now.tolds }
     ensures sound { IfOk result (λ m. IsSound m) }
     ensures leaves { IfOk result (λ m. NameLeaves (matching m).strategy script.now.tolds) }
-    ensures new { IfOk result (λ m. CanTellAll (matching m) (map (told_view (matching m).strategy) script.now.tolds)) }
+    ensures new { IfOk result (λ m. CanTellAll (matching m) (map (told_view (matching m).strategy)
+        script.now.tolds)) }
 {
     Matcher::start(alloc, &script.tree, &script.mismatch)
 }
@@ -275,8 +282,10 @@ fn pass_all(matcher: &mut Matcher, text: &mut String) -> Result<(), Fail>
 fn tell(matcher: &mut Matcher, told: &Told) -> Result<(), NoMemory>
     requires sound { IsSound matcher.old }
     requires leaf { leaf_of told.now < length (leaf_names (matching matcher.old).strategy) }
-    requires new { CanTell (matching matcher.old) (told_view (matching matcher.old).strategy told.now) }
-    ensures ok { OnOk result (IsTold (told_view (matching matcher.old).strategy told.now) (matching matcher.old) (matching matcher.new)) }
+    requires new { CanTell (matching matcher.old) (told_view (matching matcher.old).strategy
+        told.now) }
+    ensures ok { OnOk result (IsTold (told_view (matching matcher.old).strategy told.now)
+        (matching matcher.old) (matching matcher.new)) }
     ensures sound { IsSound matcher.new }
 {
     match told {
@@ -294,7 +303,8 @@ fn tell(matcher: &mut Matcher, told: &Told) -> Result<(), NoMemory>
 fn tell_all(matcher: &mut Matcher, tolds: &[Told], text: &mut String) -> Result<(), Fail>
     requires sound { IsSound matcher.old }
     requires leaves { NameLeaves (matching matcher.old).strategy tolds.now }
-    requires new { CanTellAll (matching matcher.old) (map (told_view (matching matcher.old).strategy) tolds.now) }
+    requires new { CanTellAll (matching matcher.old)
+        (map (told_view (matching matcher.old).strategy) tolds.now) }
 {
     let Some((first, others)) = tolds.split_first() else {
         return Ok(());
@@ -309,7 +319,8 @@ fn tell_all(matcher: &mut Matcher, tolds: &[Told], text: &mut String) -> Result<
 fn tell_script(matcher: &mut Matcher, script: &Script, text: &mut String) -> Result<(), Fail>
     requires sound { IsSound matcher.old }
     requires leaves { NameLeaves (matching matcher.old).strategy script.now.tolds }
-    requires new { CanTellAll (matching matcher.old) (map (told_view (matching matcher.old).strategy) script.now.tolds) }
+    requires new { CanTellAll (matching matcher.old)
+        (map (told_view (matching matcher.old).strategy) script.now.tolds) }
 {
     pass_all(matcher, text)?;
     tell_all(matcher, script.tolds.as_slice(), text)
@@ -319,7 +330,8 @@ fn tell_script(matcher: &mut Matcher, script: &Script, text: &mut String) -> Res
 fn tell_reserved(matcher: &mut Matcher, script: &Script, text: &mut String) -> Result<(), Fail>
     requires sound { IsSound matcher.old }
     requires leaves { NameLeaves (matching matcher.old).strategy script.now.tolds }
-    requires new { CanTellAll (matching matcher.old) (map (told_view (matching matcher.old).strategy) script.now.tolds) }
+    requires new { CanTellAll (matching matcher.old)
+        (map (told_view (matching matcher.old).strategy) script.now.tolds) }
 {
     matcher.hold(&script.tolds)?;
     let count = matcher.reserve(&script.tolds)?;
@@ -331,7 +343,8 @@ fn tell_reserved(matcher: &mut Matcher, script: &Script, text: &mut String) -> R
 fn tell_ahead(matcher: &mut Matcher, script: &Script, text: &mut String) -> Result<(), Fail>
     requires sound { IsSound matcher.old }
     requires leaves { NameLeaves (matching matcher.old).strategy script.now.tolds }
-    requires new { CanTellAll (matching matcher.old) (map (told_view (matching matcher.old).strategy) script.now.tolds) }
+    requires new { CanTellAll (matching matcher.old)
+        (map (told_view (matching matcher.old).strategy) script.now.tolds) }
 {
     matcher.reserve(&script.tolds)?;
     for at in 0..matcher.ahead() {
@@ -345,7 +358,8 @@ fn tell_ahead(matcher: &mut Matcher, script: &Script, text: &mut String) -> Resu
 fn tell_at_once(matcher: &mut Matcher, script: &Script) -> Result<(), NoMemory>
     requires sound { IsSound matcher.old }
     requires leaves { NameLeaves (matching matcher.old).strategy script.now.tolds }
-    requires new { CanTellAll (matching matcher.old) (map (told_view (matching matcher.old).strategy) script.now.tolds) }
+    requires new { CanTellAll (matching matcher.old)
+        (map (told_view (matching matcher.old).strategy) script.now.tolds) }
     ensures { OnOk result (IsSound matcher.new) }
 {
     matcher.reserve(&script.tolds)?;
@@ -466,7 +480,8 @@ fn shown_and_taken(
 ) -> Result<(), Fail>
     requires sound { IsSound matcher.old }
     requires leaves { NameLeaves (matching matcher.old).strategy script.now.tolds }
-    requires new { CanTellAll (matching matcher.old) (map (told_view (matching matcher.old).strategy) script.now.tolds) }
+    requires new { CanTellAll (matching matcher.old)
+        (map (told_view (matching matcher.old).strategy) script.now.tolds) }
 {
     tell_at_once(matcher, script)?;
     shown(rt, alloc, matcher, want)?;

@@ -11,7 +11,11 @@ use tv_value::{Depths, NoMemory, Sequence, Tree, Trees};
 
 /// A dot of two leaves, as the second child of a cross.
 fn worked(alloc: Global) -> Result<Tree, NoMemory>
-    ensures { IfOk result (λ t. strategy_view t ≡ cross (strategy (port (97 ∷ [])) (strategy (dot (strategy (port (98 ∷ [])) (strategy (port (99 ∷ [])) no_strategies))) (strategy (port (100 ∷ [])) no_strategies)))) }
+    ensures { IfOk result (λ t. strategy_view t
+        ≡ cross
+        (strategy (port (97 ∷ []))
+        (strategy (dot (strategy (port (98 ∷ [])) (strategy (port (99 ∷ [])) no_strategies)))
+        (strategy (port (100 ∷ [])) no_strategies)))) }
 {
     let first = leaf(alloc, "a")?;
     let second = pair(alloc, "b", "c")?;
@@ -21,7 +25,8 @@ fn worked(alloc: Global) -> Result<Tree, NoMemory>
 }
 
 fn levels(alloc: Global) -> Result<Depths, NoMemory>
-    ensures { IfOk result (λ ds. ds ≡ (97 ∷ [], 2) ∷ (98 ∷ [], 1) ∷ (99 ∷ [], 1) ∷ (100 ∷ [], 3) ∷ []) }
+    ensures { IfOk result (λ ds. ds ≡ (97 ∷ [], 2) ∷ (98 ∷ [], 1) ∷ (99 ∷ [], 1) ∷ (100 ∷ [], 3)
+        ∷ []) }
 {
     let mut depths = Vec::new(alloc);
     push_levels(alloc, &mut depths, "a", 2)?;

@@ -15,7 +15,8 @@ pub(crate) fn leaf(alloc: Global, name: &str) -> Result<Tree, NoMemory>
 
 /// Two leaves, one beside the other.
 pub(crate) fn pair(alloc: Global, first: &str, second: &str) -> Result<Tree, NoMemory>
-    ensures { IfOk result (λ t. strategy_view t ≡ dot (strategy (port first.now) (strategy (port second.now) no_strategies))) }
+    ensures { IfOk result (λ t. strategy_view t
+        ≡ dot (strategy (port first.now) (strategy (port second.now) no_strategies))) }
 {
     let first = leaf(alloc, first)?;
     let second = leaf(alloc, second)?;

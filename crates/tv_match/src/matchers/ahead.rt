@@ -20,8 +20,11 @@ impl Matcher {
     /// The place and the kind of one of these, by its position among them. Takes no memory.
     pub fn item_ahead(&self, at: usize) -> (&[u32], Kind)
         requires { at < length (in_order_ahead self.now) }
-        ensures item { slice_get (in_order_ahead self.now) at ≡ Some (outcome_kind result.0.now result.1) }
-        ensures faulty { IsSound self.now → CanTellAll (matching self.now) (matching self.now).held → is_faulty result.1 ≡ faulty_at (matching self.now).strategy ((matching self.now).told ++ (matching self.now).held) result.0.now }
+        ensures item { slice_get (in_order_ahead self.now) at
+            ≡ Some (outcome_kind result.0.now result.1) }
+        ensures faulty { IsSound self.now → CanTellAll (matching self.now) (matching self.now).held
+            → is_faulty result.1 ≡ faulty_at (matching self.now).strategy ((matching self.now).told
+            ++ (matching self.now).held) result.0.now }
     {
         (self.out.place(at), self.out.kind(at))
     }
@@ -30,7 +33,8 @@ impl Matcher {
     pub fn tell_held(&mut self)
         requires sound { IsSound self.old }
         requires new { CanTellAll (matching self.old) (matching self.old).held }
-        ensures told { (matching self.new).told ≡ (matching self.old).told ++ (matching self.old).held }
+        ensures told { (matching self.new).told ≡ (matching self.old).told
+            ++ (matching self.old).held }
         ensures held { (matching self.new).held ≡ [] }
         ensures strategy { (matching self.new).strategy ≡ (matching self.old).strategy }
         ensures mismatch { (matching self.new).mismatch ≡ (matching self.old).mismatch }
