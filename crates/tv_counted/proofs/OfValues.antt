@@ -32,9 +32,9 @@ mutual
   known-few wanting v h = zero-le
   known-few (item w) v h = has-one v
   known-few (growing ps) (leaf n a) h = absurd h
-  known-few (growing ps) (list n vs) h = suc-le-suc {m = known_nodes_of ps} (first-few ps vs h)
+  known-few (growing ps) (list n vs) h = suc-le-suc {n = known_nodes_of ps} (first-few ps vs h)
   known-few (closed ps) (leaf n a) h = absurd h
-  known-few (closed ps) (list n vs) h = suc-le-suc {m = known_nodes_of ps} (each-few ps vs h)
+  known-few (closed ps) (list n vs) h = suc-le-suc {n = known_nodes_of ps} (each-few ps vs h)
 
   first-few : (ps : Parts Value) (vs : Values) → FirstBelow ps vs → known_nodes_of ps ≤ length (all_notes vs)
   first-few no_parts vs h = zero-le

@@ -36,10 +36,10 @@ module _ {A : Type 0} where
   pub count-within : (r : Partial A) (ps : Parts A) (i c : ℕ) → part_count ps ≤ c → i < c → part_count (with_part r ps i) ≤ c
   count-within r no_parts zero c h l = omega arith
   count-within r no_parts (suc i) zero h l = absurd (omega arith)
-  count-within r no_parts (suc i) (suc c) h l = suc-le-suc {m = (part_count (with_part r no_parts i))} (count-within r no_parts i c (omega arith) (less-back i c l))
+  count-within r no_parts (suc i) (suc c) h l = suc-le-suc {n = (part_count (with_part r no_parts i))} (count-within r no_parts i c (omega arith) (less-back i c l))
   count-within r (part p ps) zero c h l = h
   count-within r (part p ps) (suc i) zero h l = absurd (omega arith)
-  count-within r (part p ps) (suc i) (suc c) h l = suc-le-suc {m = (part_count (with_part r ps i))} (count-within r ps i c (le_of_suc-le-suc {n = part_count ps} {m = c} h) (less-back i c l))
+  count-within r (part p ps) (suc i) (suc c) h l = suc-le-suc {n = (part_count (with_part r ps i))} (count-within r ps i c (le_of_suc-le-suc {n = part_count ps} {m = c} h) (less-back i c l))
 
   pub count-kept : (r : Partial A) (ps : Parts A) (i : ℕ) → i < part_count ps → part_count (with_part r ps i) ≡ part_count ps
   count-kept r no_parts i l = absurd (omega arith)

@@ -44,7 +44,7 @@ module _ {A : Type 0} where
   pub part-listed : (n : ℕ) (f : ℕ → Partial A) (i : ℕ) → ((j : ℕ) → n ≤ j → f j ≡ wanting) → part_of (listed n f) i ≡ f i
   part-listed zero f i h = sym (h i zero-le)
   part-listed (suc n) f zero h = refl
-  part-listed (suc n) f (suc i) h = part-listed n (λ j. f (suc j)) i (λ j k. h (suc j) (suc-le-suc {m = n} k))
+  part-listed (suc n) f (suc i) h = part-listed n (λ j. f (suc j)) i (λ j k. h (suc j) (suc-le-suc {n = n} k))
 
   pub count-listed : (n : ℕ) (f : ℕ → Partial A) → part_count (listed n f) ≡ n
   count-listed zero f = refl
@@ -58,7 +58,7 @@ module _ {A : Type 0} where
   with-listed (suc n) f g zero same none = ap (part (g 0)) (listed-same n (λ j. f (suc j)) (λ j. g (suc j)) (λ j. sym (same (suc j) (suc-ne-zero j))))
   with-listed (suc n) f g (suc i) same none =
       ap (λ p. part p (with_part (g (suc i)) (listed n (λ j. f (suc j))) i)) (sym (same 0 (zero-not_suc i)))
-      ∙ ap (part (g 0)) (with-listed n (λ j. f (suc j)) (λ j. g (suc j)) i (λ j ne. same (suc j) (suc-apart j i ne)) (λ j h. none (suc j) (suc-le-suc {m = n} h)))
+      ∙ ap (part (g 0)) (with-listed n (λ j. f (suc j)) (λ j. g (suc j)) i (λ j ne. same (suc j) (suc-apart j i ne)) (λ j h. none (suc j) (suc-le-suc {n = n} h)))
 
   pub filled-listed : (n most : ℕ) (f : ℕ → Partial A) → most ≤ n → ((j : ℕ) → most ≤ j → f j ≡ wanting) → filled (listed most f) n ≡ listed n f
   filled-listed zero zero f h none = refl
@@ -69,7 +69,7 @@ module _ {A : Type 0} where
   filled-listed (suc n) zero f h none =
       ap (λ p. part p (filled no_parts n)) (sym (none 0 zero-le))
       ∙ ap (part (f 0)) (filled-listed n zero (λ j. f (suc j)) (zero-le) (λ j k. none (suc j) (zero-le)))
-  filled-listed (suc n) (suc most) f h none = ap (part (f 0)) (filled-listed n most (λ j. f (suc j)) (down most n h) (λ j k. none (suc j) (suc-le-suc {m = most} k)))
+  filled-listed (suc n) (suc most) f h none = ap (part (f 0)) (filled-listed n most (λ j. f (suc j)) (down most n h) (λ j k. none (suc j) (suc-le-suc {n = most} k)))
     where
       down : (m n : ℕ) → suc m ≤ suc n → m ≤ n
       down m n h = omega arith
