@@ -171,12 +171,24 @@ fn put_both(indices: &mut Vec<u32>, first: &[u32], second: &[u32]) -> Result<(),
 }
 
 /// Puts indices at the end. Where memory is wanting the list stays as it was.
+#[inline(always)]
 fn put_all(indices: &mut Vec<u32>, more: &[u32]) -> Result<(), NoMemory>
     ensures ok { OnOk result (indices.new.items ≡ indices.old.items ++ more.now) }
     ensures err { OnErr result (indices.new.items ≡ indices.old.items) }
 {
+    if more.is_empty() {
+        return Ok(());
+    }
+    put_some(indices, more)
+}
+
+/// The same where there may be some.
+#[inline(never)]
+fn put_some(indices: &mut Vec<u32>, more: &[u32]) -> Result<(), NoMemory>
+    ensures ok { OnOk result (indices.new.items ≡ indices.old.items ++ more.now) }
+    ensures err { OnErr result (indices.new.items ≡ indices.old.items) }
+{
     match more {
-        [] => Ok(()),
         [index] => match indices.push(*index) {
             Ok(()) => Ok(()),
             Err(_full) => Err(NoMemory),

@@ -69,6 +69,7 @@ impl Places {
     }
 
     /// Makes the places of the items from one on, if they have to be made beforehand. Those of the first items stay.
+    #[inline(always)]
     pub fn make(&mut self, out: &Bag, from: usize) -> Result<(), NoMemory>
         requires { from ≤ length out.now }
         ensures deep { self.new.deep ≡ self.old.deep }
@@ -78,11 +79,22 @@ impl Places {
             ≡ take from self.old.made.items }
     {
         if self.deep {
-            self.made.truncate(from);
-            put_places(self.alloc, out, from, &mut self.made)
+            self.make_deep(out, from)
         } else {
             Ok(())
         }
+    }
+
+    /// Makes them in any case.
+    #[inline(never)]
+    fn make_deep(&mut self, out: &Bag, from: usize) -> Result<(), NoMemory>
+        requires { from ≤ length out.now }
+        ensures deep { self.new.deep ≡ self.old.deep }
+        ensures ok { OnOk result (self.new.made.items ≡ take from self.old.made.items ++ places_of (drop from out.now)) }
+        ensures first { from ≤ length self.old.made.items → take from self.new.made.items ≡ take from self.old.made.items }
+    {
+        self.made.truncate(from);
+        put_places(self.alloc, out, from, &mut self.made)
     }
 
     /// Takes out the place of an item. Takes no memory.

@@ -1,5 +1,5 @@
 //! Jobs with their places, by the order in which they were put.
-ghost use Rattle.std.specs.Prelude.{◌≡◌, ◌++◌, ◌∷◌, ◌<◌, ◌-◌, [], length, OnOk, OnErr};
+ghost use Rattle.std.specs.Prelude.{◌≡◌, ◌++◌, ◌∷◌, ◌<◌, ◌≤◌, ◌+◌, ◌-◌, [], length, vec_capacity, vec_len, OnOk, OnErr};
 ghost use Rattle.tv_ready.specs.Orders.{place_at, number_at, is_before};
 ghost use Rattle.tv_ready.specs.Sought.{stands_after};
 
@@ -105,10 +105,7 @@ impl Table {
         ensures room { self.new.room ≡ self.old.room - 1 }
     {
         let start = self.indices.len();
-        match self.indices.extend_from_slice(place) {
-            Ok(()) => (),
-            Err(_full) => unreachable!(),
-        }
+        put_indices(&mut self.indices, place);
         self.slots.push_reserved(Slot { start, number });
         self.room -= 1;
     }
@@ -154,5 +151,21 @@ impl Table {
             Ordering::Equal => first < second,
             Ordering::Greater => false,
         }
+    }
+}
+
+/// Puts the indices of a place at the end of a list that has room for them.
+fn put_indices(indices: &mut Vec<u32>, place: &[u32])
+    requires { vec_len indices.old + length place.now ≤ vec_capacity indices.old }
+    ensures items { indices.new.items ≡ indices.old.items ++ place.now }
+    ensures capacity { vec_capacity indices.old ≤ vec_capacity indices.new }
+{
+    match place {
+        [] => (),
+        [index] => indices.push_reserved(*index),
+        _ => match indices.extend_from_slice(place) {
+            Ok(()) => (),
+            Err(_full) => unreachable!(),
+        },
     }
 }
