@@ -4,7 +4,7 @@ use Rattle.std.specs.Option.{option_map_or}
 use Rattle.std.specs.Prelude.{◌≡◌, ◌⊎◌, refl, ℕ, zero, suc, ◌+◌, ◌<◌, ◌≤◌, ◌==◌, Bool, true, false, List, [], ◌∷◌, ◌++◌, IsPermutation, drop, flat_map, if◌then◌else◌, length, map, Option, Some, None, slice_get}
 use Rattle.std.proofs.Common.{arith, sym, ap, subst, ◌∙◌, append-nil, append_assoc, eq-eqb, eqb-true, inl, inr, length-append, ne_of_lt}
 use Rattle.std.proofs.Math.Seq.{drop-append_seam}
-use Rattle.std.proofs.lemmas.List.Sorted.{IsPermutation-refl}
+use Rattle.std.proofs.lemmas.List.Sorted.{IsPermutation-refl, IsPermutation-trans}
 use Rattle.std.proofs.lemmas.Option.{slice_get_past}
 use Rattle.tv_value.specs.Nested.{Place}
 use Rattle.tv_value.specs.Strategies.{Strategy}
@@ -16,9 +16,9 @@ use Rattle.tv_wires.specs.Ports.{mismatches}
 use Rattle.tv_matching.specs.Matchers.{Outcome, fault_at, job_at, list_at}
 use Rattle.tv_matching.specs.Told.{Told}
 use Rattle.tv_match.specs.declared.matchers.Matcher.{Matcher}
-use Rattle.tv_match.specs.Seen.{in_order}
+use Rattle.tv_match.specs.Seen.{in_order, matching}
 use Rattle.tv_intake.specs.declared.intakes.Intakes.{Intakes}
-use Rattle.tv_intake.specs.Intaken.{AreIntaken, IsStartedAt, OthersStay, followed_at, known_jobs, matcher_at, waiting_things}
+use Rattle.tv_intake.specs.Intaken.{AreIntaken, IsStartedAt, IsToldAt, OthersStay, followed_at, known_jobs, matcher_at, waiting_things}
 use Rattle.tv_intake.specs.Sorting.{job_places, others_among}
 use Rattle.tv_idle.specs.Idles.{Idles, StepIdle, of_step}
 use Rattle.tv_idle.specs.Kept.{IsKept}
@@ -187,23 +187,39 @@ idle-within (s ∷ ss) (suc k) j h = omega (arith, idle-within ss k j h)
 
 -- ---- a step more
 
--- the intakes before and after a step was added
-pub record IsAdded (count : ℕ) (st : Strategy) (mm : List (Name × ℕ)) (i j : Intakes) : Type 0 where
-  pub started : IsStartedAt st mm (matcher_at j count)
+-- a matcher that was told nothing
+pub started-none : (st : Strategy) (mm : List (Name × ℕ)) (o : Option Matcher) → IsStartedAt st mm o → IsToldAt st mm [] o
+started-none st mm None w = absurd w
+started-none st mm (Some m) w = record { strategy_is = w.strategy_is; mismatch_is = w.mismatch_is; told = subst (λ l. IsPermutation l []) (sym w.told_is) (IsPermutation-refl []); held = w.held_is }
+
+module _ (tells : ℕ → Step → List Told) (count : ℕ) (s : Step) where
+  pub but-own : IsPermutation [] (but_at count tells count s)
+  but-own = subst (λ b. IsPermutation [] (if b then [] else tells count s)) (sym (eq-eqb count count refl)) (IsPermutation-refl [])
+
+  pub but-other : (n : ℕ) → (n ≡ count → ⊥) → but_at count tells n s ≡ tells n s
+  but-other n ne = by (n == count) refl
+    where
+      by : (b : Bool) → (n == count) ≡ b → (if b then [] else tells n s) ≡ tells n s
+      by true g = absurd (ne (eqb-true n count g))
+      by false g = refl
+
+-- the intakes before and after a step was added that was told this
+pub record IsAdded (count : ℕ) (st : Strategy) (mm : List (Name × ℕ)) (ts : List Told) (i j : Intakes) : Type 0 where
+  pub told : IsToldAt st mm ts (matcher_at j count)
   pub others : OthersStay count i j
   pub jobs : known_jobs j ≡ known_jobs i ++ jobs_at j count
   pub waiting : waiting_things j ≡ waiting_things i ++ things_at j count
   pub intaken : AreIntaken j
 
-module _ (f : Flow) (tells : ℕ → Step → List Told) (count : ℕ) (i j : Intakes) (idle mid : Idles) (s : Name × Step) (st : Strategy) (mm : List (Name × ℕ)) (h : HaveBegun f tells count i idle) (at : slice_get f.steps count ≡ Some s) (st_is : st ≡ strategy_of s.1) (mm_is : mm ≡ mismatches f s.1) (a : IsAdded count st mm i j) (same : HasSameJobs idle mid) (many : length mid.steps ≡ count + 1) (levels : (n : ℕ) → n < count → (of_step mid.steps n).levels ≡ (of_step idle.steps n).levels) (last : (of_step mid.steps count).levels ≡ levels_at f s.1) where
+module _ (f : Flow) (tells : ℕ → Step → List Told) (count : ℕ) (i j : Intakes) (idle mid : Idles) (s : Name × Step) (st : Strategy) (mm : List (Name × ℕ)) (ts : List Told) (goes : ℕ → Step → List Told) (h : HaveBegun f tells count i idle) (at : slice_get f.steps count ≡ Some s) (st_is : st ≡ strategy_of s.1) (mm_is : mm ≡ mismatches f s.1) (own_goes : IsPermutation ts (goes count s.1)) (other_goes : (n : ℕ) (t : Step) → (n ≡ count → ⊥) → goes n t ≡ tells n t) (a : IsAdded count st mm ts i j) (same : HasSameJobs idle mid) (many : length mid.steps ≡ count + 1) (levels : (n : ℕ) → n < count → (of_step mid.steps n).levels ≡ (of_step idle.steps n).levels) (last : (of_step mid.steps count).levels ≡ levels_at f s.1) where
   own : (t : Name × Step) (n : ℕ) → slice_get f.steps n ≡ Some t → n ≡ count → t ≡ s
   own t n e is = let g : Some t ≡ Some s = sym e ∙ ap (slice_get f.steps) is ∙ at in cc
 
-  started-told : (o : Option Matcher) → IsStartedAt st mm o → HasBegun f s.1 [] o
+  started-told : (o : Option Matcher) → IsToldAt st mm ts o → HasBegun f s.1 (goes count s.1) o
   started-told None w = absurd w
-  started-told (Some m) w = record { strategy_is = w.strategy_is ∙ st_is; mismatch_is = w.mismatch_is ∙ mm_is; told = subst (λ l. IsPermutation l []) (sym w.told_is) (IsPermutation-refl []); held = w.held_is }
+  started-told (Some m) w = record { strategy_is = w.strategy_is ∙ st_is; mismatch_is = w.mismatch_is ∙ mm_is; told = IsPermutation-trans (matching m).told ts (goes count s.1) w.told own_goes; held = w.held }
 
-  there : (o : Option Matcher) → IsStartedAt st mm o → matcher_at j count ≡ o → length j.matchers.items ≡ count + 1
+  there : (o : Option Matcher) → IsToldAt st mm ts o → matcher_at j count ≡ o → length j.matchers.items ≡ count + 1
   there None w e = absurd w
   there (Some m) w e = one-longer j.matchers.items count m e (a.others (suc count) (next count) ∙ slice_get_past i.matchers.items (suc count) (let n = h.as_many in omega (arith, n))) ∙ plus count
     where
@@ -218,13 +234,13 @@ module _ (f : Flow) (tells : ℕ → Step → List Told) (count : ℕ) (i j : In
       let lt : n < count = subst (λ m. n < m) h.steps (idle-within idle.steps n (p, q) (h.idle_are.all p (n, q) e)) in
       ap (λ o. faulty_now_at o q) (a.others n (ne_of_lt {a = n} {b = count} lt))
 
-  pub step-begun : (now : Idles) → now ≡ with_all_new (is_faulty_now j) (drop (length (known_jobs i)) (known_jobs j)) mid → HaveBegun f (but_at count tells) (count + 1) j now
-  step-begun now is = subst (HaveBegun f (but_at count tells) (count + 1) j) (sym (is ∙ ap (λ l. with_all_new (is_faulty_now j) l mid) (ap (drop (length (known_jobs i))) a.jobs ∙ drop-append_seam (known_jobs i) (jobs_at j count)))) begun
+  pub step-begun : (now : Idles) → now ≡ with_all_new (is_faulty_now j) (drop (length (known_jobs i)) (known_jobs j)) mid → HaveBegun f goes (count + 1) j now
+  step-begun now is = subst (HaveBegun f goes (count + 1) j) (sym (is ∙ ap (λ l. with_all_new (is_faulty_now j) l mid) (ap (drop (length (known_jobs i))) a.jobs ∙ drop-append_seam (known_jobs i) (jobs_at j count)))) begun
     where
       lt : count < length mid.steps
       lt = let m = many in omega (arith, m)
 
-      matchers : (n : ℕ) (t : Name × Step) → n < count + 1 → slice_get f.steps n ≡ Some t → HasBegun f t.1 (but_at count tells n t.1) (matcher_at j n)
+      matchers : (n : ℕ) (t : Name × Step) → n < count + 1 → slice_get f.steps n ≡ Some t → HasBegun f t.1 (goes n t.1) (matcher_at j n)
       matchers n t low e = by (n == count) refl
         where
           not-both : (b : Bool) → b ≡ false → b ≡ true → ⊥
@@ -233,18 +249,18 @@ module _ (f : Flow) (tells : ℕ → Step → List Told) (count : ℕ) (i j : In
           below : (n c : ℕ) → n < c + 1 → (n ≡ c → ⊥) → n < c
           below n c p q = omega (arith, p, q)
 
-          by : (b : Bool) → (n == count) ≡ b → HasBegun f t.1 (if b then [] else tells n t.1) (matcher_at j n)
+          by : (b : Bool) → (n == count) ≡ b → HasBegun f t.1 (goes n t.1) (matcher_at j n)
           by true g =
               let is : n ≡ count = eqb-true n count g in
-              subst (λ (u : Name × Step). HasBegun f u.1 [] (matcher_at j n)) (sym (own t n e is)) (subst (λ m. HasBegun f s.1 [] (matcher_at j m)) (sym is) (started-told (matcher_at j count) a.started))
+              subst (λ (u : Name × Step). HasBegun f u.1 (goes n u.1) (matcher_at j n)) (sym (own t n e is)) (subst (λ m. HasBegun f s.1 (goes m s.1) (matcher_at j m)) (sym is) (started-told (matcher_at j count) a.told))
           by false g =
               let ne : n ≡ count → ⊥ = λ is. not-both (n == count) g (eq-eqb n count is) in
-              subst (HasBegun f t.1 (tells n t.1)) (sym (a.others n ne)) (h.matchers n t (below n count low ne) e)
+              subst (HasBegun f t.1 (goes n t.1)) (sym (a.others n ne)) (subst (λ l. HasBegun f t.1 l (matcher_at i n)) (sym (other_goes n t.1 ne)) (h.matchers n t (below n count low ne) e))
 
-      begun : HaveBegun f (but_at count tells) (count + 1) j (with_all_new (is_faulty_now j) (jobs_at j count) mid)
+      begun : HaveBegun f goes (count + 1) j (with_all_new (is_faulty_now j) (jobs_at j count) mid)
       begun = record {
         intaken = a.intaken;
-        as_many = there (matcher_at j count) a.started refl;
+        as_many = there (matcher_at j count) a.told refl;
         matchers = matchers;
         jobs_are =
             lists-more (jobs_at i) (jobs_at j) count (known_jobs i) [] (jobs_at j count) (known_jobs j) (h.jobs_are ∙ sym (append-nil (flat_map (jobs_at i) (range_with_len 0 count))))

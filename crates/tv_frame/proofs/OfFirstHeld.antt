@@ -1,5 +1,5 @@
 -- What a step is told at the start can be told.
-use Rattle.std.specs.Prelude.{◌≡◌, refl, ℕ, zero, suc, ◌+◌, ◌<◌, ◌≤◌, true, ◌&&◌, List, [], ◌∷◌, ◌++◌, IsPermutation, if◌then◌else◌, is_some, length, map, Option, Some, None, slice_get}
+use Rattle.std.specs.Prelude.{◌≡◌, refl, ℕ, zero, suc, ◌+◌, ◌<◌, ◌≤◌, Bool, false, true, ◌&&◌, List, [], ◌∷◌, ◌++◌, IsPermutation, if◌then◌else◌, is_some, length, map, Option, Some, None, slice_get}
 use Rattle.std.proofs.Common.{arith, sym, ap, subst, ◌∙◌, append-nil, eq-eqb, get_or}
 use Rattle.std.proofs.lemmas.List.{length-map}
 use Rattle.std.proofs.lemmas.List.Sorted.{IsPermutation-append, IsPermutation-map, IsPermutation-sym}
@@ -27,14 +27,14 @@ use Rattle.tv_check.specs.declared.plans.StepPlan.{StepPlan}
 use Rattle.tv_check.specs.Plans as plan
 use Rattle.tv_check.specs.PlanViews.{step_plan_view}
 use Rattle.tv_wires.specs.declared.ports.Port.{Port}
-use Rattle.tv_wires.specs.Ports.{levels_of, ports_of}
-use Rattle.tv_matching.specs.Matchers.{CanTellAll, leaf_name}
+use Rattle.tv_wires.specs.Ports.{levels_of, mismatches, ports_of}
+use Rattle.tv_matching.specs.Matchers.{CanTell, CanTellAll, Matching, Starts, leaf_name}
 use Rattle.tv_matching.specs.Told.{Told, telling, told_leaf}
 use Rattle.tv_matching.proofs.OfMembers.{each-permutes}
 use Rattle.tv_matching.proofs.Onces.{each-flat}
 use Rattle.tv_match.specs.declared.told.Told as code
 use Rattle.tv_match.specs.declared.matchers.Matcher.{Matcher}
-use Rattle.tv_match.specs.Seen.{NameLeaves, leaf_of, matching, told_view}
+use Rattle.tv_match.specs.Seen.{NameLeaves, bound_telling, leaf_of, matching, told_view}
 use Rattle.tv_intake.specs.declared.intakes.Intakes.{Intakes}
 use Rattle.tv_intake.specs.Intaken.{CanHold, matcher_at}
 use Rattle.tv_idle.specs.Idles.{Idles, of_step}
@@ -111,10 +111,35 @@ module _ (flows : List (Name × Flow)) (p : FlowPlan) (vs : List Value) (can : C
         (subst (λ l. IsPermutation l (step_start (flow_view p.flow) (named_values (flow_view p.flow).inputs vs) s.1)) (sym (append-nil (map (told_view (strategy_of s.1)) ts))) h))),
   )
 
+  -- one telling of a leaf's whole value
+  module _ (leaf : ℕ) (b : Bool) (h : IsPermutation (bound_telling (strategy_of s.1) leaf b ∷ []) (step_start (flow_view p.flow) (named_values (flow_view p.flow).inputs vs) s.1)) where
+    bound-leaf : (g : Strategy) (c : Bool) → told_leaf (bound_telling g leaf c) ≡ leaf_name g leaf
+    bound-leaf g true = refl
+    bound-leaf g false = refl
+
+    pub bound-below : (g : Strategy) → g ≡ strategy_of s.1 → leaf < length (leaf_names g)
+    bound-below g e =
+        subst (λ x. leaf < length (leaf_names x)) (sym e)
+        (named-below (leaf_names (strategy_of s.1)) leaf (told_leaf (bound_telling (strategy_of s.1) leaf b)) (sym (bound-leaf (strategy_of s.1) b))
+        (each-permutes (λ t. is_name (told_leaf t) ≡ true) (step_start (flow_view p.flow) (named_values (flow_view p.flow).inputs vs) s.1) (bound_telling (strategy_of s.1) leaf b ∷ []) (IsPermutation-sym _ _ h) start-named).0)
+
+    pub bound-can_be_told : (g : Strategy) (mm : List (Name × ℕ)) → g ≡ strategy_of s.1 → mm ≡ mismatches (flow_view p.flow) s.1 → (m : Matching) → Starts g mm m → CanTell m (bound_telling g leaf b)
+    bound-can_be_told g mm e f m starts =
+        subst (λ x. CanTell m (bound_telling x leaf b)) (sym e)
+        (start-can_be_told flows (levels_in (flow_view p.flow)) view begun n s at m (starts.mismatch_is ∙ f) (bound_telling (strategy_of s.1) leaf b ∷ []) []
+        (IsPermutation-map telling (m.told ++ (bound_telling (strategy_of s.1) leaf b ∷ [])) (step_start (flow_view p.flow) (named_values (flow_view p.flow).inputs vs) s.1)
+        (subst (λ l. IsPermutation (l ++ (bound_telling (strategy_of s.1) leaf b ∷ [])) (step_start (flow_view p.flow) (named_values (flow_view p.flow).inputs vs) s.1)) (sym starts.told_is) h))).0
+
   -- what the ports are told by their numbers
   pub told-is : (ts : List code.Told) (ports : List Port) (constants : ℕ → Option Value) → constants ≡ constant_of_port (flow_constants (flow_view p.flow)) n → ports ≡ ports_of (flow_view p.flow) s.1 → AreTellings ts (λ g. ports_start vs constants g ports) → IsPermutation (map (told_view (strategy_of s.1)) ts) (step_start (flow_view p.flow) (named_values (flow_view p.flow).inputs vs) s.1)
   told-is ts ports constants c e h =
       subst (λ l. IsPermutation l (step_start (flow_view p.flow) (named_values (flow_view p.flow).inputs vs) s.1)) (sym (h (strategy_of s.1) ∙ ap (λ k. ports_start vs k (strategy_of s.1) ports) c ∙ ap (ports_start vs (constant_of_port (flow_constants (flow_view p.flow)) n) (strategy_of s.1)) e))
+      (ports-start (flow_view p.flow) (plan-wired p) vs (many flows p vs can) n s at (constant_of_port (flow_constants (flow_view p.flow)) n) (λ k i there. constant-at (flow_view p.flow) n k s i at there))
+
+  -- the same by one telling
+  pub told-one : (t : Told) (ports : List Port) (constants : ℕ → Option Value) → constants ≡ constant_of_port (flow_constants (flow_view p.flow)) n → ports ≡ ports_of (flow_view p.flow) s.1 → ports_start vs constants (strategy_of s.1) ports ≡ t ∷ [] → IsPermutation (t ∷ []) (step_start (flow_view p.flow) (named_values (flow_view p.flow).inputs vs) s.1)
+  told-one t ports constants c e h =
+      subst (λ l. IsPermutation l (step_start (flow_view p.flow) (named_values (flow_view p.flow).inputs vs) s.1)) (sym (ap (λ k. ports_start vs k (strategy_of s.1) ports) c ∙ ap (ports_start vs (constant_of_port (flow_constants (flow_view p.flow)) n) (strategy_of s.1)) e) ∙ h)
       (ports-start (flow_view p.flow) (plan-wired p) vs (many flows p vs can) n s at (constant_of_port (flow_constants (flow_view p.flow)) n) (λ k i there. constant-at (flow_view p.flow) n k s i at there))
 
   -- ---- a step's plan

@@ -25,10 +25,11 @@ use Rattle.tv_wires.specs.declared.wiring.Wiring.{Wiring}
 use Rattle.tv_endings.specs.declared.endings.Endings.{Endings}
 use Rattle.tv_endings.specs.Ends.{IsSound as IsSoundEndings}
 use Rattle.tv_matching.specs.Matchers.{Outcome, fault_at, job_at, list_at}
+use Rattle.tv_matching.specs.Told.{Told}
 use Rattle.tv_match.specs.declared.matchers.Matcher.{Matcher}
 use Rattle.tv_match.specs.Seen.{in_order, matching}
 use Rattle.tv_intake.specs.declared.intakes.Intakes.{Intakes}
-use Rattle.tv_intake.specs.Intaken.{AreIntaken, HoldsThese, IsSoundAt, IsStartedAt, OthersStay, brought_at, brought_in, followed_at, known_jobs, matcher_at, waiting_things}
+use Rattle.tv_intake.specs.Intaken.{AreIntaken, HoldsThese, IsSoundAt, OthersStay, brought_at, brought_in, followed_at, known_jobs, matcher_at, waiting_things, IsToldAt}
 use Rattle.tv_intake.specs.Sorting.{job_places, jobs_among, others_among}
 use Rattle.tv_spread.specs.Spreads.{IsLevelled, new_places}
 use Rattle.tv_spread.proofs.OfShowing.{Shows, new-there, new-at, made-levels, places-at, ordered-at}
@@ -117,12 +118,12 @@ module _ (idle a r m : Idles) (count depth : ℕ) (many : length idle.steps ≡ 
 -- ---- the places of jobs have as many indices as the strategy has levels
 
 -- the jobs that a step has from the start
-pub first-jobs : (j : Intakes) (c d levels : ℕ) (st : Strategy) (mm : List (Name × ℕ)) (before : List (ℕ × Place)) → AreIntaken j → IsStartedAt st mm (matcher_at j c) → d ≡ strategy_depth (number_of mm) st → levels ≡ d → known_jobs j ≡ before ++ map (λ q. (c, q)) (job_places (followed_at j c)) → (known : ℕ) → known ≡ length before → Each (IsAt c levels) (drop known (known_jobs j))
-first-jobs j c d levels st mm before a started deep e jobs known k =
+pub first-jobs : (j : Intakes) (c d levels : ℕ) (st : Strategy) (mm : List (Name × ℕ)) (ts : List Told) (before : List (ℕ × Place)) → AreIntaken j → IsToldAt st mm ts (matcher_at j c) → d ≡ strategy_depth (number_of mm) st → levels ≡ d → known_jobs j ≡ before ++ map (λ q. (c, q)) (job_places (followed_at j c)) → (known : ℕ) → known ≡ length before → Each (IsAt c levels) (drop known (known_jobs j))
+first-jobs j c d levels st mm ts before a started deep e jobs known k =
     subst (Each (IsAt c levels)) (sym (ap (λ n. drop n (known_jobs j)) k ∙ ap (drop (length before)) jobs ∙ drop-append_seam before (map (λ q. (c, q)) (job_places (followed_at j c)))))
     (new-at c levels (job_places (followed_at j c)) (by (matcher_at j c) (a.sound c) started))
   where
-    by : (o : Option Matcher) → IsSoundAt o → IsStartedAt st mm o → Each (λ q. length q ≡ levels) (job_places (option_map_or in_order o []))
+    by : (o : Option Matcher) → IsSoundAt o → IsToldAt st mm ts o → Each (λ q. length q ≡ levels) (job_places (option_map_or in_order o []))
     by None s w = absurd w
     by (Some m) s w =
         let depth : strategy_depth (number_of (matching m).mismatch) (matching m).strategy ≡ levels = (λ i. strategy_depth (number_of (w.mismatch_is i)) (w.strategy_is i)) ∙ sym deep ∙ sym e in
@@ -144,8 +145,8 @@ plan-parts f q (n, s) e = (ap (λ (r : plan.StepPlan). r.tree) e, ap (λ (r : pl
 pub step-room : (old new : List StepIdle) (s : StepIdle) (count : ℕ) → new ≡ old ++ s ∷ [] → length old ≡ count → count < length new
 step-room old new s count e many = let n = ap length e in let p = push-many old s in omega (arith, n, p, many)
 
-pub added-at : (i j : Intakes) (n count : ℕ) → n ≡ count → (st : Strategy) (mm : List (Name × ℕ)) → IsStartedAt st mm (matcher_at j n) → OthersStay n i j → known_jobs j ≡ known_jobs i ++ map (λ q. (n, q)) (job_places (followed_at j n)) → waiting_things j ≡ waiting_things i ++ map (λ o. (n, o)) (others_among (followed_at j n)) → AreIntaken j → IsAdded count st mm i j
-added-at i j n count e st mm s o js ws a = subst (λ k. IsAdded k st mm i j) e (record { started = s; others = o; jobs = js; waiting = ws; intaken = a })
+pub added-at : (i j : Intakes) (n count : ℕ) → n ≡ count → (st : Strategy) (mm : List (Name × ℕ)) (ts : List Told) → IsToldAt st mm ts (matcher_at j n) → OthersStay n i j → known_jobs j ≡ known_jobs i ++ map (λ q. (n, q)) (job_places (followed_at j n)) → waiting_things j ≡ waiting_things i ++ map (λ o. (n, o)) (others_among (followed_at j n)) → AreIntaken j → IsAdded count st mm ts i j
+added-at i j n count e st mm ts s o js ws a = subst (λ k. IsAdded k st mm ts i j) e (record { told = s; others = o; jobs = js; waiting = ws; intaken = a })
 
 -- ---- rooms of a step that is there
 

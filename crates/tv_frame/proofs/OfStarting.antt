@@ -1,8 +1,8 @@
 -- What ports are told at the start, one after the other.
 use Rattle.std.specs.Borrow.{Bor}
 use Rattle.std.specs.Prelude.{◌≡◌, refl, ℕ, ◌+◌, ◌-◌, ◌<◌, ◌≤◌, List, ◌++◌, flat_map, is_some, length, Option, Some, None, option_map, reverse, slice_get, take}
-use Rattle.std.proofs.Common.{arith, sym, ap, ap₂, subst, ◌∙◌, get_or}
-use Rattle.std.proofs.lemmas.List.{get_or-reverse, length-reverse, take_all, map-append}
+use Rattle.std.proofs.Common.{arith, sym, ap, subst, ◌∙◌, get_or}
+use Rattle.std.proofs.lemmas.List.{get_or-reverse, length-reverse, take_all}
 use Rattle.std.proofs.lemmas.Option.{get_or_from_slice_get}
 use Rattle.tv_lemmas.proofs.Lists.{get-read}
 use Rattle.tv_value.specs.Strategies.{Strategy}
@@ -13,8 +13,7 @@ use Rattle.tv_naming.proofs.OfTold.{get-numbered, length-numbered}
 use Rattle.tv_cell.specs.declared.cell.Cell.{Cell}
 use Rattle.tv_matching.specs.Told.{Told}
 use Rattle.tv_match.specs.declared.told.Told as code
-use Rattle.tv_match.specs.Seen.{told_view}
-use Rattle.tv_telling.specs.Views.{AreTellings}
+use Rattle.tv_telling.specs.Views.{AddsTellings, AreTellings}
 use Rattle.tv_wires.specs.declared.feeds.NumberedFeed.{NumberedFeed}
 use Rattle.tv_wires.specs.declared.ports.Port.{Port}
 use Rattle.tv_opening.specs.Openings.{IsFedFrom, fixed_in, numbered_port_start}
@@ -47,10 +46,10 @@ module _ (vs : List Value) (constants : ℕ → Option Value) (ps : List Port) w
   abbrev pub last_start : ℕ → Strategy → List Told
   last_start back s = flat_map (λ (x : ℕ × Port). numbered_port_start vs (fixed_value (constants x.0)) s x.1) (take back (reverse (numbered 0 ps)))
 
-  pub ports-next : (back : ℕ) (p : Port) (before told : List code.Told) → back < length ps → p ≡ get_or ps (length ps - 1 - back) p → AreTellings before (last_start back) → AreTellings told (λ s. numbered_port_start vs (fixed_value (constants (length ps - 1 - back))) s p) → AreTellings (before ++ told) (last_start (back + 1))
-  ports-next back p before told lt is h t s =
-      map-append (told_view s) before told
-      ∙ ap₂ (λ a b. a ++ b) (h s) (t s)
+  pub ports-next : (back : ℕ) (p : Port) (before after : List code.Told) → back < length ps → p ≡ get_or ps (length ps - 1 - back) p → AreTellings before (last_start back) → AddsTellings before after (λ s. numbered_port_start vs (fixed_value (constants (length ps - 1 - back))) s p) → AreTellings after (last_start (back + 1))
+  ports-next back p before after lt is h t s =
+      t s
+      ∙ ap (λ a. a ++ numbered_port_start vs (fixed_value (constants (length ps - 1 - back))) s p) (h s)
       ∙ sym (flat-next (λ (x : ℕ × Port). numbered_port_start vs (fixed_value (constants x.0)) s x.1) (reverse (numbered 0 ps)) back (length ps - 1 - back, p) (port-at ps back (length ps - 1 - back) p lt refl is))
 
   pub ports-all : (back : ℕ) (tellings : List code.Told) → length ps ≤ back → AreTellings tellings (last_start back) → AreTellings tellings (λ s. ports_start vs constants s ps)

@@ -30,6 +30,7 @@ use tv_check::FlowPlan;
 use tv_endings::Endings;
 use tv_idle::Idle;
 use tv_intake::Intakes;
+use tv_match::Tolds;
 use tv_outputs::{Faults, Nodes, Outputs};
 use tv_pool::Region;
 use tv_spread::Spread;
@@ -52,6 +53,8 @@ pub struct Frame {
     pub(crate) ahead: Ahead,
     // The flow's outputs, once the instance has ended.
     pub(crate) outs: Option<Pieces>,
+    // The room of what a step is told at the start.
+    pub(crate) told: Tolds,
 }
 
 /// What the last room call found, for the call that follows it.
@@ -90,6 +93,7 @@ impl Frame {
                 faults: Faults::new(alloc),
             },
             outs: None,
+            told: Tolds::empty(alloc),
         }
     }
 
@@ -148,7 +152,11 @@ impl Frame {
         let tables = self.tables.read();
         let faulty = self.faulty_inputs.as_slice();
         let (intakes, idle) = (&mut self.intakes, &mut self.idle);
-        start_steps(self.alloc, plan, tables, inputs, faulty, intakes, idle)?;
+        let before = mem::replace(&mut self.told, Tolds::empty(self.alloc));
+        let told = start_steps(
+            self.alloc, plan, tables, inputs, faulty, intakes, idle, before,
+        )?;
+        self.told = kept(self.alloc, told);
         self.endings.restart(plan.wiring.after.as_slice())?;
         Ok(())
     }
@@ -230,6 +238,15 @@ impl Frame {
         pool.release(region);
         self.inputs = Row::empty(self.alloc);
     }
+}
+
+/// Tellings whose memory stays for those of a later start, or none where it has room for many.
+fn kept(alloc: Global, told: Tolds) -> Tolds {
+    let tellings = told.into_vec();
+    if tellings.capacity() > 16 {
+        return Tolds::empty(alloc);
+    }
+    Tolds::of(tellings)
 }
 
 /// Of each input whether it holds a fault, in place of what stood there.

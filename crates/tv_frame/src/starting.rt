@@ -1,17 +1,19 @@
 //! What the steps are told at the start: all that is known of inputs and constants.
-ghost use Rattle.std.specs.Prelude.{◌≡◌, ◌+◌, ◌++◌, ℕ, List, Some, IfOk, OnOk, IsPermutation, length, map, slice_get};
-ghost use Rattle.tv_value.specs.Values.{Name, holds_fault};
+ghost use Rattle.std.specs.Prelude.{◌≡◌, ◌<◌, ◌+◌, ◌∷◌, [], ℕ, List, Option, Some, IfOk, IfSome, OnOk, IsPermutation, length, map, slice_get};
+ghost use Rattle.tv_value.specs.Strategies.{Strategy};
+ghost use Rattle.tv_value.specs.Values.{Name, Value, holds_fault};
 ghost use Rattle.tv_value.specs.Views.{strategy_view};
 ghost use Rattle.tv_flow.specs.Flows.{Flow, Step};
 ghost use Rattle.tv_flow.specs.Views.{flow_view};
 ghost use Rattle.tv_strategy.specs.Conditions.{Suits, number_of};
-ghost use Rattle.tv_strategy.specs.Measures.{DotsAgree, strategy_depth};
+ghost use Rattle.tv_strategy.specs.Measures.{DotsAgree, leaf_names, strategy_depth};
 ghost use Rattle.tv_depths.specs.Steps.{strategy_of};
 ghost use Rattle.tv_check.specs.Plans.{step_plan};
 ghost use Rattle.tv_check.specs.PlanViews.{step_plan_view};
 ghost use Rattle.tv_cell.specs.PieceValues.{piece_values};
+ghost use Rattle.tv_matching.specs.Matchers.{CanTell, Matching, Starts};
 ghost use Rattle.tv_matching.specs.Told.{Told as TheTold};
-ghost use Rattle.tv_match.specs.Seen.{told_view};
+ghost use Rattle.tv_match.specs.Seen.{bound_telling, told_view};
 ghost use Rattle.tv_telling.specs.Views.{AreTellings};
 ghost use Rattle.tv_bound.specs.Constants.{constant_of_port, constants_view, flow_constants};
 ghost use Rattle.tv_intake.specs.Intaken.{CanHold, matcher_at};
@@ -28,14 +30,15 @@ use tv_cell::Piece;
 use tv_check::{FlowPlan, StepPlan};
 use tv_idle::Idle;
 use tv_intake::Intakes;
-use tv_match::{Told, Tolds};
+use tv_match::Tolds;
 use tv_opening::port_start;
 use tv_spread::add_known;
 use tv_value::NoMemory;
-use tv_wires::Port;
+use tv_wires::{NumberedFeed, NumberedLink, Port};
 
 /// Adds a matcher for each step, tells it what is known of inputs, each of which is said to hold a fault or none, and of constants,
-/// and takes in the jobs that are known with that.
+/// and takes in the jobs that are known with that. What was told before goes, and its memory is room for what is told, which is
+/// answered.
 pub(crate) fn start_steps(
     alloc: Global,
     plan: &FlowPlan,
@@ -44,7 +47,8 @@ pub(crate) fn start_steps(
     faulty: &[bool],
     intakes: &mut Intakes,
     idle: &mut Idle,
-) -> Result<(), NoMemory>
+    before: Tolds,
+) -> Result<Tolds, NoMemory>
     requires can { (flows : List (Name × Flow))
         × CanStart flows plan.now (piece_values inputs.now) }
     requires constants { constants_view tables.now.constants
@@ -57,13 +61,26 @@ pub(crate) fn start_steps(
         (at_start (flow_view plan.now.flow) (given_values plan.now inputs.now))
         (length (flow_view plan.now.flow).steps) intakes.new idle.new) }
 {
+    let mut told = before;
     for (number, step) in plan.steps.as_slice().iter().enumerate() {
         let ports = plan.wiring.ports.as_slice()[number].as_slice();
-        let told = step_start(alloc, &tables.constants, inputs, faulty, number, ports)?;
-        start_step(alloc, number as u32, step, intakes, idle)?;
-        tell(intakes, idle, number as u32, &told)?;
+        if let Some((leaf, fault)) = only_whole(ports, faulty) {
+            start_whole(alloc, number as u32, step, leaf, fault, intakes, idle)?;
+        } else {
+            told = step_start(
+                alloc,
+                &tables.constants,
+                inputs,
+                faulty,
+                number,
+                ports,
+                told,
+            )?;
+            start_step(alloc, number as u32, step, intakes, idle)?;
+            tell(intakes, idle, number as u32, &told)?;
+        }
     }
-    Ok(())
+    Ok(told)
 }
 
 /// Adds the matcher of a step. Where the step has no ports, its one job is known.
@@ -87,6 +104,63 @@ fn start_step(
 {
     let known = intakes.known();
     intakes.add(alloc, &step.tree, &step.mismatch, step.depth)?;
+    idle.add_step(alloc, step.depth as usize)?;
+    let jobs = intakes.known() - known;
+    idle.reserve(number, jobs, jobs)?;
+    idle.reserve_numbers(jobs)?;
+    add_known(intakes, idle, number, known);
+    Ok(())
+}
+
+/// The leaf of the only port, where it takes an input whole, and whether that holds a fault.
+fn only_whole(ports: &[Port], faulty: &[bool]) -> Option<(u32, bool)>
+    requires { (constants : ℕ → Option Value) × AreFed (length faulty.now) constants ports.now }
+    ensures { IfSome result (λ x. (values : List Value) (constants : ℕ → Option Value) (s : Strategy)
+        → faulty.now ≡ map holds_fault values
+        → ports_start values constants s ports.now ≡ bound_telling s x.0 x.1 ∷ []) }
+{
+    match ports {
+        [port] => match &port.feed {
+            NumberedFeed::Link(NumberedLink::Input(input)) => {
+                if port.levels == 0 {
+                    Some((port.leaf, faulty[*input as usize]))
+                } else {
+                    None
+                }
+            }
+            _ => None,
+        },
+        _ => None,
+    }
+}
+
+/// Adds the matcher of a step whose only port has its whole value, which holds a fault or none.
+fn start_whole(
+    alloc: Global,
+    number: u32,
+    step: &StepPlan,
+    leaf: u32,
+    faulty: bool,
+    intakes: &mut Intakes,
+    idle: &mut Idle,
+) -> Result<(), NoMemory>
+    requires begun { (f : Flow) × (tells : ℕ → Step → List TheTold)
+        × HaveBegun f tells number intakes.old idle.old }
+    requires suits { Suits step.now.mismatch (strategy_view step.now.tree) }
+    requires agree { DotsAgree (number_of step.now.mismatch) (strategy_view step.now.tree) }
+    requires deep { step.now.depth
+        ≡ strategy_depth (number_of step.now.mismatch) (strategy_view step.now.tree) }
+    requires leaf { leaf < length (leaf_names (strategy_view step.now.tree)) }
+    requires new { (m : Matching) → Starts (strategy_view step.now.tree) step.now.mismatch m
+        → CanTell m (bound_telling (strategy_view step.now.tree) leaf faulty) }
+    ensures { OnOk result ((f : Flow) (tells : ℕ → Step → List TheTold) (s : Name × Step)
+        → HaveBegun f tells number intakes.old idle.old → slice_get f.steps number ≡ Some s
+        → step_plan_view step.now ≡ step_plan f s
+        → IsPermutation (bound_telling (strategy_of s.1) leaf faulty ∷ []) (tells number s.1)
+        → HaveBegun f tells (number + 1) intakes.new idle.new) }
+{
+    let known = intakes.known();
+    intakes.add_bound(alloc, &step.tree, &step.mismatch, step.depth, leaf, faulty)?;
     idle.add_step(alloc, step.depth as usize)?;
     let jobs = intakes.known() - known;
     idle.reserve(number, jobs, jobs)?;
@@ -119,7 +193,8 @@ fn tell(intakes: &mut Intakes, idle: &mut Idle, step: u32, told: &Tolds) -> Resu
     Ok(())
 }
 
-/// What the ports of a step are told at the start, the last port first.
+/// What the ports of a step are told at the start, the last port first. What was told before goes, and its memory is room for
+/// these.
 fn step_start(
     alloc: Global,
     constants: &Constants,
@@ -127,6 +202,7 @@ fn step_start(
     faulty: &[bool],
     step: usize,
     ports: &[Port],
+    before: Tolds,
 ) -> Result<Tolds, NoMemory>
     requires faulty { faulty.now ≡ map holds_fault (piece_values inputs.now) }
     requires fed { AreFed (length inputs.now) (constant_of_port (constants_view constants.now) step)
@@ -134,26 +210,13 @@ fn step_start(
     ensures { IfOk result (λ ts. AreTellings ts (λ s. ports_start (piece_values inputs.now)
         (constant_of_port (constants_view constants.now) step) s ports.now)) }
 {
-    let mut tellings = Vec::new(alloc);
+    let mut tellings = before.into_vec();
+    tellings.clear();
     let count = ports.len();
     for back in 0..count {
         let number = count - 1 - back;
         let fixed = constants.of_port(step, number);
-        let told = port_start(alloc, inputs, faulty, &ports[number], fixed)?;
-        tellings = joined(tellings, told)?;
+        port_start(alloc, inputs, faulty, &ports[number], fixed, &mut tellings)?;
     }
     Ok(Tolds::of(tellings))
-}
-
-/// The tellings, and more behind them. Takes no memory where one of the two is empty.
-fn joined(tellings: Vec<Told>, more: Tolds) -> Result<Vec<Told>, NoMemory>
-    ensures { IfOk result (λ ts. ts.items ≡ tellings.items ++ more) }
-{
-    let mut more = more.into_vec();
-    if tellings.is_empty() {
-        return Ok(more);
-    }
-    let mut all = tellings;
-    all.append(&mut more)?;
-    Ok(all)
 }

@@ -79,4 +79,4 @@ pub told-all : (m : Matcher) → IsSound m → (matching m).held ≡ [] → (m.l
 told-all m a e =
     let l = none-left m.told m.log (empty-map (telling_of (strategy_view m.tree)) (drop m.told m.log) e) in
     let n : m.told ≡ length m.log = omega (arith, l, a.keeps.told_within) in
-    (sym (ap (λ k. take k m.log) n ∙ all m.log), sym (ap (λ k. front k m.out) n ∙ a.keeps.done.out_full))
+    (sym (ap (λ k. take k m.log) n ∙ take-length m.log), sym (ap (λ k. front k m.out) n ∙ a.keeps.done.out_full))

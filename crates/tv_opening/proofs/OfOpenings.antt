@@ -1,5 +1,5 @@
 -- What is told at the start, feed by feed and link by link.
-use Rattle.std.specs.Prelude.{◌≡◌, refl, ℕ, zero, suc, ◌+◌, ◌<◌, List, [], ◌∷◌, ◌++◌, length, take, Result, Ok, Err, IfOk}
+use Rattle.std.specs.Prelude.{◌≡◌, refl, ℕ, zero, suc, ◌+◌, ◌<◌, List, [], ◌∷◌, ◌++◌, length, take, Result, Ok, Err, OnOk, map}
 use Rattle.std.proofs.Common.{arith, get_or, ap, sym, ◌∙◌, append_assoc, append-nil}
 use Rattle.tv_lemmas.proofs.Numbers.{none-below}
 use Rattle.tv_value.specs.Values.{Name, Value}
@@ -7,8 +7,9 @@ use Rattle.tv_wires.specs.declared.feeds.NumberedLink.{NumberedLink}
 use Rattle.tv_value.specs.Strategies.{Strategy}
 use Rattle.tv_matching.specs.Told.{Told}
 use Rattle.tv_match.specs.declared.told.Told as code
+use Rattle.tv_match.specs.Seen.{told_view}
 use Rattle.tv_telling.specs.ValueTellings.{value_told}
-use Rattle.tv_telling.specs.Views.{AreTellings}
+use Rattle.tv_telling.specs.Views.{AddsTellings}
 use Rattle.tv_wires.specs.declared.feeds.NumberedFeed.TheVariants.{Constant, Link, Merge}
 use Rattle.tv_wires.specs.declared.feeds.NumberedLink.TheVariants.{Input, Output}
 use Rattle.tv_opening.specs.Openings.{numbered_feed_start, numbered_link_start, numbered_links_start}
@@ -59,7 +60,11 @@ pub fixed-opens : (values : List Value) (c : Value) (p : Name) (k : ℕ) → val
 fixed-opens values c p zero = refl
 fixed-opens values c p (suc k) = refl
 
--- what is answered is told the same
-pub tells-alike : {E : Type 0} (r : Result (List code.Told) E) (f g : Strategy → List Told) → ((s : Strategy) → f s ≡ g s) → IfOk r (λ ts. AreTellings ts f) → IfOk r (λ ts. AreTellings ts g)
-tells-alike (Ok ts) f g e h = λ s. h s ∙ e s
-tells-alike (Err x) f g e h = h
+-- what is told is told the same
+pub tells-alike : {E : Type 0} (r : Result Unit E) (before after : List code.Told) (f g : Strategy → List Told) → ((s : Strategy) → f s ≡ g s) → OnOk r (AddsTellings before after f) → OnOk r (AddsTellings before after g)
+tells-alike (Ok x) before after f g e h = λ s. h s ∙ ap (λ t. map (told_view s) before ++ t) (e s)
+tells-alike (Err x) before after f g e h = h
+
+-- behind what is told, and then what comes next of a list
+pub added-next : (after before old x all next : List Told) → after ≡ before ++ x → before ≡ old ++ all → all ++ x ≡ next → after ≡ old ++ next
+added-next after before old x all next e f g = e ∙ ap (λ t. t ++ x) f ∙ append_assoc old all x ∙ ap (λ t. old ++ t) g

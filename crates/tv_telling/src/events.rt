@@ -44,29 +44,31 @@ pub fn tellings_with(
     Ok(Tolds::of(tellings))
 }
 
-/// What a port is told of a value that is known throughout, of which it walks so many levels, and which is said to hold a fault or
-/// none. Where the port merges links, the value stands at the link's number.
+/// Tells a port of a value that is known throughout, of which it walks so many levels, and which is said to hold a fault or none,
+/// behind what stands in the list. Where the port merges links, the value stands at the link's number.
 ///
 /// Linear in the tellings; where a value with a fault is walked, what stands at the end of the walk is asked for faults.
-pub fn tellings_of(
+pub fn tell_known(
     alloc: Global,
     leaf: u32,
     levels: u32,
     item: Option<u32>,
     piece: &Piece,
     faulty: bool,
-) -> Result<Tolds, NoMemory>
+    tellings: &mut Vec<Told>,
+) -> Result<(), NoMemory>
     requires { faulty ≡ holds_fault (piece_value piece.now) }
-    ensures { IfOk result (λ ts. AreTellings ts (λ s. value_told (leaf_name s leaf) levels (place_of_item item) (piece_value piece.now))) }
+    ensures { OnOk result (AddsTellings tellings.old.items tellings.new.items (λ s. value_told (leaf_name s leaf) levels (place_of_item item) (piece_value piece.now))) }
 {
-    let mut tellings = Vec::new(alloc);
+    if levels == 0 {
+        return match item {
+            Some(index) => tell_bound(alloc, leaf, [index].as_slice(), faulty, tellings),
+            None => tell_bound(alloc, leaf, &[], faulty, tellings),
+        };
+    }
     let mut place = Vec::new(alloc);
     if let Some(index) = item {
         place.push(index)?;
-    }
-    if levels == 0 {
-        tell_bound(alloc, leaf, place.as_slice(), faulty, &mut tellings)?;
-        return Ok(Tolds::of(tellings));
     }
     tell_piece(
         alloc,
@@ -75,9 +77,8 @@ pub fn tellings_of(
         &mut place,
         piece,
         faulty,
-        &mut tellings,
-    )?;
-    Ok(Tolds::of(tellings))
+        tellings,
+    )
 }
 
 /// Tells the port at the end of a way. The place is working room.

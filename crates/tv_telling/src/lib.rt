@@ -17,5 +17,5 @@ mod telling;
 mod walking;
 mod ways;
 
-pub use events::{tellings_of, tellings_with};
+pub use events::{tell_known, tellings_with};
 pub use ways::{Event, Happened, Way, Whole};

@@ -77,7 +77,8 @@ fn starts(
 {
     let inputs = [Piece::Part(pair(alloc)?, Path::top(alloc))];
     let faulty = [inputs[0].holds_fault()];
-    let told = port_start(alloc, &inputs, &faulty, port, fixed)?;
+    let mut told = Vec::new(alloc);
+    port_start(alloc, &inputs, &faulty, port, fixed, &mut told)?;
     Ok(are(told.as_slice(), wanted))
 }
 

@@ -8,7 +8,7 @@ use std::test::Fail;
 use tv_cell::{Cell, Piece, Pieces, Row};
 use tv_match::Told;
 use tv_path::Path;
-use tv_telling::{Event, Happened, Way, Whole, tellings_of, tellings_with};
+use tv_telling::{Event, Happened, Way, Whole, tell_known, tellings_with};
 use tv_value::{ErrorDoc, Items, NoMemory, Sequence, Text, Value};
 
 /// A telling that is looked for: an arrival with whether it is a fault, a value that holds one, or a list with its length.
@@ -106,7 +106,8 @@ fn tells(
     wanted: &[Want],
 ) -> Result<bool, NoMemory> {
     let faulty = value.holds_fault();
-    let told = tellings_of(alloc, 3, levels, item, value, faulty)?;
+    let mut told = Vec::new(alloc);
+    tell_known(alloc, 3, levels, item, value, faulty, &mut told)?;
     Ok(are(told.as_slice(), 3, wanted))
 }
 

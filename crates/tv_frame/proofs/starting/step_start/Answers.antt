@@ -1,4 +1,4 @@
-use Rattle.std.specs.Prelude.{◌-◌, length, map}
+use Rattle.std.specs.Prelude.{◌++◌, ◌-◌, length, map}
 use Rattle.std.proofs.Common.{arith, ◌∙◌, ap}
 use Rattle.tv_lemmas.proofs.Lists.{get-read}
 use Rattle.tv_cell.specs.PieceValues.{piece_values}
@@ -25,9 +25,8 @@ loop-back-preserved c s =
     let port = c.index-ports-number.result in
     let values = piece_values c.args.inputs.now in
     let fixed = fixed-lent c.of_port-fixed.result (constants (length c.args.ports.now - 1 - c.loop-back.back)) c.of_port-fixed.ensures in
-    ap (map (told_view s)) c.in_ok-tellings.ensures
-    ∙ ports-next values constants c.args.ports.now c.loop-back.back port c.loop-back.tellings.items c.in_ok-told.told c.loop-back-test.true c.index-ports-number.is c.loop-back.invariant
-    (λ t. c.in_ok-told.ensures t ∙ ap (λ v. numbered_port_start values v t port) fixed) s
+    ports-next values constants c.args.ports.now c.loop-back.back port c.loop-back.tellings.items c.port_start.new.tellings.items c.loop-back-test.true c.index-ports-number.is c.loop-back.invariant
+    (λ t. c.in_ok-port_start.ensures t ∙ ap (λ v. map (told_view t) c.loop-back.tellings.items ++ numbered_port_start values v t port) fixed) s
 
 pub returns : goal.returns
 returns c s =

@@ -5,8 +5,8 @@ use Rattle.tv_cell.specs.PieceValues.{piece_value}
 use Rattle.tv_opening.specs.Openings.{IsInput}
 use Rattle.tv_opening.proofs.opening.link_start.Goals as goal
 
-pub tellings_of-requires : goal.tellings_of-requires
-tellings_of-requires c =
+pub tell_known-requires : goal.tell_known-requires
+tell_known-requires c =
     let xs = c.args.inputs.now in
     let i = c.in-Input.input in
     let x = c.index-inputs-input.result in

@@ -1,16 +1,15 @@
-use Rattle.std.proofs.Common.{◌-◌, ◌++◌, ◌∷◌, [], ap, ap₂, sym, subst, ◌∙◌, IfOk, length, map}
-use Rattle.std.proofs.lemmas.List.{length-map, map-append}
+use Rattle.std.proofs.Common.{◌-◌, ◌∷◌, ◌∙◌, [], ap, sym, subst, OnOk, length, map}
+use Rattle.std.proofs.lemmas.List.{length-map}
 use Rattle.tv_value.specs.Nested.{list, no_trees}
 use Rattle.tv_value.specs.Values.{holds_fault}
 use Rattle.tv_strategy.specs.Sources.{Each}
 use Rattle.tv_cell.specs.PieceValues.{piece_value}
 use Rattle.tv_matching.specs.Matchers.{leaf_name}
 use Rattle.tv_matching.specs.Told.{close}
-use Rattle.tv_match.specs.Seen.{told_view}
-use Rattle.tv_telling.specs.Views.{AreTellings}
+use Rattle.tv_telling.specs.Views.{AddsTellings}
 use Rattle.tv_wires.specs.declared.feeds.NumberedFeed.TheVariants.{Merge}
 use Rattle.tv_opening.specs.Openings.{IsInput, numbered_feed_start}
-use Rattle.tv_opening.proofs.OfOpenings.{next-link}
+use Rattle.tv_opening.proofs.OfOpenings.{added-next, next-link}
 use Rattle.tv_opening.proofs.opening.merge_start.Goals as goal
 
 pub whole_merge_start-requires : goal.whole_merge_start-requires
@@ -22,15 +21,13 @@ whole_merge_start-requires c =
 
 pub returns-then-levels-eq0 : goal.returns-then-levels-eq0
 returns-then-levels-eq0 c =
-    subst (λ k. IfOk c.whole_merge_start.result (λ ts. AreTellings ts (λ s. numbered_feed_start (map piece_value c.args.inputs.now) (list tt no_trees) (leaf_name s c.args.leaf) k (Merge c.args.links.now))))
+    subst (λ k. OnOk c.whole_merge_start.result (AddsTellings c.args.tellings.now.items c.whole_merge_start.new.tellings.items (λ s. numbered_feed_start (map piece_value c.args.inputs.now) (list tt no_trees) (leaf_name s c.args.leaf) k (Merge c.args.links.now))))
     (sym c.if-levels-eq0.true) (c.whole_merge_start.ensures (map piece_value c.args.inputs.now) c.requires.faulty)
 
 pub loop-index-preserved : goal.loop-index-preserved
 loop-index-preserved c = λ s.
     let values = map piece_value c.args.inputs.now in
     let p = leaf_name s c.args.leaf in
-    ap (map (told_view s)) (c.in_ok-append.ensures.items ∙ ap (λ xs. c.loop-index.tellings.items ++ xs) c.into_vec.ensures)
-    ∙ map-append (told_view s) c.loop-index.tellings.items c.in_ok-told.told
-    ∙ ap₂ (λ a b. a ++ b) (c.loop-index.invariant s) (c.in_ok-told.ensures s)
-    ∙ ap (λ t. close p [] (length c.args.links.now) ∷ t)
-    (sym (next-link values (list tt no_trees) p (c.args.levels - 1) c.args.links.now c.loop-index.index _ c.loop-index-test.true))
+    added-next _ _ _ _ _ _ (c.in_ok-link_start.ensures s) (c.loop-index.invariant s)
+    (ap (λ t. close p [] (length c.args.links.now) ∷ t)
+    (sym (next-link values (list tt no_trees) p (c.args.levels - 1) c.args.links.now c.loop-index.index _ c.loop-index-test.true)))

@@ -1,4 +1,4 @@
-use Rattle.std.proofs.Common.{◌≡◌, ◌-◌, ◌∷◌, [], length, map, take}
+use Rattle.std.proofs.Common.{◌≡◌, ◌++◌, ◌-◌, ◌∷◌, [], length, map, take}
 use Rattle.tv_value.specs.Nested.{list, no_trees}
 use Rattle.tv_value.specs.Strategies.{Strategy}
 use Rattle.tv_cell.specs.PieceValues.{piece_value}
@@ -12,5 +12,6 @@ abbrev pub invariant-loop-index : goal.invariant-loop-index
 invariant-loop-index l =
     (s : Strategy)
     → map (told_view s) l.tellings.items
-    ≡ close (leaf_name s l.leaf) [] (length l.links)
+    ≡ map (told_view s) l.fn.tellings.items
+    ++ close (leaf_name s l.leaf) [] (length l.links)
     ∷ numbered_links_start (map piece_value l.inputs) (list tt no_trees) (leaf_name s l.leaf) (l.levels - 1) 0 (take l.index l.links)

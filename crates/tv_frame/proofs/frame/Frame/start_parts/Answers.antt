@@ -20,5 +20,5 @@ returns-clause-parts c =
           subst
           (λ ps. HaveBegun (flow_view plan.flow) (at_start (flow_view plan.flow) (given_values plan ps))
           (length (flow_view plan.flow).steps) c.start_steps.new.intakes c.start_steps.new.idle)
-          c.as_slice-inputs.ensures c.in_ok-start_steps.ensures;
+          c.as_slice-inputs.ensures c.in_ok-told.ensures;
     }
