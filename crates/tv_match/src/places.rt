@@ -90,8 +90,10 @@ impl Places {
     fn make_deep(&mut self, out: &Bag, from: usize) -> Result<(), NoMemory>
         requires { from ≤ length out.now }
         ensures deep { self.new.deep ≡ self.old.deep }
-        ensures ok { OnOk result (self.new.made.items ≡ take from self.old.made.items ++ places_of (drop from out.now)) }
-        ensures first { from ≤ length self.old.made.items → take from self.new.made.items ≡ take from self.old.made.items }
+        ensures ok { OnOk result (self.new.made.items ≡ take from self.old.made.items
+            ++ places_of (drop from out.now)) }
+        ensures first { from ≤ length self.old.made.items → take from self.new.made.items
+            ≡ take from self.old.made.items }
     {
         self.made.truncate(from);
         put_places(self.alloc, out, from, &mut self.made)

@@ -49,10 +49,12 @@ module _ (values : List Value) (fixed_value : Value) where
 
   abbrev pub numbered_links_start : Name → ℕ → ℕ → List NumberedLink → List Told
   numbered_links_start p k i [] = []
-  numbered_links_start p k i (l ∷ ls) = numbered_link_start p k (i ∷ []) l ++ numbered_links_start p k (suc i) ls
+  numbered_links_start p k i (l ∷ ls) = numbered_link_start p k (i ∷ []) l
+      ++ numbered_links_start p k (suc i) ls
 
   abbrev pub numbered_feed_start : Name → ℕ → NumberedFeed → List Told
-  numbered_feed_start p zero f = if_so (is_numbered_given f) (bound_told p [] (numbered_given_faulty f))
+  numbered_feed_start p zero f = if_so (is_numbered_given f)
+      (bound_told p [] (numbered_given_faulty f))
   numbered_feed_start p (suc k) (Link l) = numbered_link_start p (suc k) [] l
   numbered_feed_start p (suc k) (Merge ls) = close p [] (length ls) ∷ numbered_links_start p k 0 ls
   numbered_feed_start p (suc k) Constant = value_told p (suc k) [] fixed_value

@@ -37,7 +37,8 @@ pub fn port_start(
 ) -> Result<(), NoMemory>
     requires fed { IsFedFrom (length inputs.now) (is_some fixed) port.now.feed }
     requires faulty { faulty.now ≡ map holds_fault (map piece_value inputs.now) }
-    ensures { OnOk result (AddsTellings tellings.old.items tellings.new.items (λ s. numbered_port_start (map piece_value inputs.now) (fixed_in fixed.entry) s port.now)) }
+    ensures { OnOk result (AddsTellings tellings.old.items tellings.new.items
+        (λ s. numbered_port_start (map piece_value inputs.now) (fixed_in fixed.entry) s port.now)) }
 {
     match &port.feed {
         NumberedFeed::Link(link) => {
@@ -76,7 +77,8 @@ fn fixed_start(
     cell: &Cell,
     tellings: &mut Vec<Told>,
 ) -> Result<(), NoMemory>
-    ensures { OnOk result (AddsTellings tellings.old.items tellings.new.items (λ s. value_told (leaf_name s leaf) levels [] (view cell.now))) }
+    ensures { OnOk result (AddsTellings tellings.old.items tellings.new.items
+        (λ s. value_told (leaf_name s leaf) levels [] (view cell.now))) }
 {
     let faulty = cell.holds_fault();
     let cell = cell.share()?;
@@ -98,7 +100,9 @@ fn link_start(
 ) -> Result<(), NoMemory>
     requires input { IsInput (length inputs.now) link.now }
     requires faulty { faulty.now ≡ map holds_fault (map piece_value inputs.now) }
-    ensures { OnOk result (AddsTellings tellings.old.items tellings.new.items (λ s. numbered_link_start (map piece_value inputs.now) (list tt no_trees) (leaf_name s leaf) levels (place_of_item item) link.now)) }
+    ensures { OnOk result (AddsTellings tellings.old.items tellings.new.items
+        (λ s. numbered_link_start (map piece_value inputs.now) (list tt no_trees) (leaf_name s leaf)
+        levels (place_of_item item) link.now)) }
 {
     match link {
         NumberedLink::Input(input) => {
@@ -130,7 +134,9 @@ fn merge_start(
     requires inputs { Each (IsInput (length inputs.now)) links.now }
     requires few { length links.now < 4294967296 }
     requires faulty { faulty.now ≡ map holds_fault (map piece_value inputs.now) }
-    ensures { OnOk result (AddsTellings tellings.old.items tellings.new.items (λ s. numbered_feed_start (map piece_value inputs.now) (list tt no_trees) (leaf_name s leaf) levels (Merge links.now))) }
+    ensures { OnOk result (AddsTellings tellings.old.items tellings.new.items
+        (λ s. numbered_feed_start (map piece_value inputs.now) (list tt no_trees) (leaf_name s leaf)
+        levels (Merge links.now))) }
 {
     if levels == 0 {
         return whole_merge_start(alloc, faulty, leaf, links, tellings);

@@ -45,7 +45,8 @@ pub record HasOutput (e : Event) (k : ℕ) : Type 0 where
 abbrev pub way_tellings : Strategy → Event → Way → List Told
 way_tellings s e w =
     told_on_way
-    (leaf_name s w.leaf) w.levels (place_of_item w.item) e.whole_from (get_or e.faults.now w.output 0) e.place.now
+    (leaf_name s w.leaf) w.levels (place_of_item w.item) e.whole_from (get_or e.faults.now w.output
+    0) e.place.now
     (happening e.happened w.output)
 
 -- that a port has its whole value
@@ -54,7 +55,8 @@ whole_telling s w = bound_told (leaf_name s w.leaf) [] w.faulty
 
 -- whatever strategy has the leaf, these are the tellings before, and then those that are made of its name
 abbrev pub AddsTellings : List code.Told → List code.Told → (Strategy → List Told) → Type 0
-AddsTellings before after more = (s : Strategy) → map (told_view s) after ≡ map (told_view s) before ++ more s
+AddsTellings before after more = (s : Strategy) → map (told_view s) after ≡ map (told_view s) before
+    ++ more s
 
 abbrev pub AreTellings : List code.Told → (Strategy → List Told) → Type 0
 AreTellings ts tellings = (s : Strategy) → map (told_view s) ts ≡ tellings s

@@ -24,7 +24,8 @@ told_there p k q passed = arrival p q true ∷ []
 -- Where r is no shorter than the walk, the port is told of the value where its walk ends, once it is whole; else of what happened.
 abbrev pub told_on_way : Name → ℕ → Place → ℕ → ℕ → Place → Happening → List Told
 told_on_way p k q from faults r h =
-    if nat_le k (length r) then if_so (nat_le from k) (bound_told p (q ++ take k r) (nat_lt k faults))
+    if nat_le k (length r)
+    then if_so (nat_le from k) (bound_told p (q ++ take k r) (nat_lt k faults))
     else told_there p (k - length r) (q ++ r) h
 
 -- an item of a merge stands at its number, and any other value at the top

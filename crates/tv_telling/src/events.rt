@@ -31,7 +31,8 @@ pub fn tellings_with(
     place: &mut Vec<u32>,
 ) -> Result<Tolds, NoMemory>
     requires { Each (λ w. HasOutput event.now w.output) ways.now }
-    ensures { IfOk result (λ ts. AreTellings ts (λ s. flat_map (way_tellings s event.now) ways.now ++ map (whole_telling s) whole.now)) }
+    ensures { IfOk result (λ ts. AreTellings ts (λ s. flat_map (way_tellings s event.now) ways.now
+        ++ map (whole_telling s) whole.now)) }
 {
     let mut tellings = before.into_vec();
     tellings.clear();
@@ -58,7 +59,8 @@ pub fn tell_known(
     tellings: &mut Vec<Told>,
 ) -> Result<(), NoMemory>
     requires { faulty ≡ holds_fault (piece_value piece.now) }
-    ensures { OnOk result (AddsTellings tellings.old.items tellings.new.items (λ s. value_told (leaf_name s leaf) levels (place_of_item item) (piece_value piece.now))) }
+    ensures { OnOk result (AddsTellings tellings.old.items tellings.new.items
+        (λ s. value_told (leaf_name s leaf) levels (place_of_item item) (piece_value piece.now))) }
 {
     if levels == 0 {
         return match item {
@@ -90,7 +92,8 @@ fn tell_way(
     tellings: &mut Vec<Told>,
 ) -> Result<(), NoMemory>
     requires { HasOutput event.now way.now.output }
-    ensures { OnOk result (AddsTellings tellings.old.items tellings.new.items (λ s. way_tellings s event.now way.now)) }
+    ensures { OnOk result (AddsTellings tellings.old.items tellings.new.items
+        (λ s. way_tellings s event.now way.now)) }
 {
     place.clear();
     if let Some(index) = way.item {
@@ -129,7 +132,9 @@ fn tell_there(
 ) -> Result<(), NoMemory>
     requires piece { HasPiece happened.now way.now.output }
     requires faulty { faulty ≡ false → IsFaultless (happening happened.now way.now.output) }
-    ensures { OnOk result (AddsTellings tellings.old.items tellings.new.items (λ s. told_there (leaf_name s way.now.leaf) levels place.old.items (happening happened.now way.now.output))) }
+    ensures { OnOk result (AddsTellings tellings.old.items tellings.new.items
+        (λ s. told_there (leaf_name s way.now.leaf) levels place.old.items
+        (happening happened.now way.now.output))) }
 {
     match happened {
         Happened::Gave(pieces) => {

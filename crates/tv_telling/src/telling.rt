@@ -16,7 +16,8 @@ pub(crate) fn tell_bound(
     faulty: bool,
     tellings: &mut Vec<Told>,
 ) -> Result<(), NoMemory>
-    ensures { OnOk result (AddsTellings tellings.old.items tellings.new.items (λ s. bound_told (leaf_name s leaf) place.now faulty ∷ [])) }
+    ensures { OnOk result (AddsTellings tellings.old.items tellings.new.items
+        (λ s. bound_told (leaf_name s leaf) place.now faulty ∷ [])) }
 {
     let place = Place::of(alloc, place)?;
     if faulty {
@@ -38,7 +39,8 @@ pub(crate) fn tell_fault(
     place: &[u32],
     tellings: &mut Vec<Told>,
 ) -> Result<(), NoMemory>
-    ensures { OnOk result (AddsTellings tellings.old.items tellings.new.items (λ s. arrival (leaf_name s leaf) place.now true ∷ [])) }
+    ensures { OnOk result (AddsTellings tellings.old.items tellings.new.items
+        (λ s. arrival (leaf_name s leaf) place.now true ∷ [])) }
 {
     let place = Place::of(alloc, place)?;
     tellings.push(Told::Arrival {
@@ -57,7 +59,8 @@ pub(crate) fn tell_list(
     count: usize,
     tellings: &mut Vec<Told>,
 ) -> Result<(), NoMemory>
-    ensures { OnOk result (AddsTellings tellings.old.items tellings.new.items (λ s. close (leaf_name s leaf) place.now count ∷ [])) }
+    ensures { OnOk result (AddsTellings tellings.old.items tellings.new.items
+        (λ s. close (leaf_name s leaf) place.now count ∷ [])) }
 {
     let place = Place::of(alloc, place)?;
     let length = index_of(count)?;

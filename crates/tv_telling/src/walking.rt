@@ -28,7 +28,8 @@ pub(crate) fn tell_piece(
     tellings: &mut Vec<Told>,
 ) -> Result<(), NoMemory>
     requires faulty { faulty ≡ false → holds_fault (piece_value piece.now) ≡ false }
-    ensures told { OnOk result (AddsTellings tellings.old.items tellings.new.items (λ s. value_told (leaf_name s leaf) levels place.old.items (piece_value piece.now))) }
+    ensures told { OnOk result (AddsTellings tellings.old.items tellings.new.items
+        (λ s. value_told (leaf_name s leaf) levels place.old.items (piece_value piece.now))) }
     ensures place { OnOk result (place.new.items ≡ place.old.items) }
 {
     if levels == 0 {
@@ -63,8 +64,11 @@ fn tell_pieces(
     faulty: bool,
     tellings: &mut Vec<Told>,
 ) -> Result<(), NoMemory>
-    requires faulty { faulty ≡ false → list_any (λ p. holds_fault (piece_value p)) pieces.now ≡ false }
-    ensures told { OnOk result (AddsTellings tellings.old.items tellings.new.items (λ s. values_told (leaf_name s leaf) levels place.old.items 0 (trees_of (map piece_value pieces.now)))) }
+    requires faulty { faulty ≡ false → list_any (λ p. holds_fault (piece_value p)) pieces.now
+        ≡ false }
+    ensures told { OnOk result (AddsTellings tellings.old.items tellings.new.items
+        (λ s. values_told (leaf_name s leaf) levels place.old.items 0
+        (trees_of (map piece_value pieces.now)))) }
     ensures place { OnOk result (place.new.items ≡ place.old.items) }
 {
     tellings.reserve(pieces.len())?;
@@ -88,7 +92,8 @@ fn tell_value(
     tellings: &mut Vec<Told>,
 ) -> Result<(), NoMemory>
     requires faulty { faulty ≡ false → holds_fault (view value.now) ≡ false }
-    ensures told { OnOk result (AddsTellings tellings.old.items tellings.new.items (λ s. value_told (leaf_name s leaf) levels place.old.items (view value.now))) }
+    ensures told { OnOk result (AddsTellings tellings.old.items tellings.new.items
+        (λ s. value_told (leaf_name s leaf) levels place.old.items (view value.now))) }
     ensures place { OnOk result (place.new.items ≡ place.old.items) }
 {
     if levels == 0 {
@@ -123,7 +128,8 @@ fn tell_items(
     tellings: &mut Vec<Told>,
 ) -> Result<(), NoMemory>
     requires faulty { faulty ≡ false → holds_fault (list tt (items_view items.now)) ≡ false }
-    ensures told { OnOk result (AddsTellings tellings.old.items tellings.new.items (λ s. values_told (leaf_name s leaf) levels place.old.items 0 (items_view items.now))) }
+    ensures told { OnOk result (AddsTellings tellings.old.items tellings.new.items
+        (λ s. values_told (leaf_name s leaf) levels place.old.items 0 (items_view items.now))) }
     ensures place { OnOk result (place.new.items ≡ place.old.items) }
 {
     tellings.reserve(items.values.len())?;
