@@ -18,6 +18,7 @@ use Rattle.tv_run.specs.Rooms.{HasRoomBeside, IsAsBefore, IsSameButRooms, IsSame
 use Rattle.tv_run.specs.declared.instances.Instance as code
 use Rattle.tv_run.specs.declared.plans.FlowLook.{FlowLook}
 use Rattle.tv_run.specs.declared.run.OpenRun.{OpenRun}
+use Rattle.tv_run.specs.declared.slots.Husk.{Husk}
 use Rattle.tv_run.proofs.OfRooms.{before-but_pool}
 
 -- a list of one with another in its place
@@ -61,7 +62,7 @@ module _ (r : OpenRun) (instances : Vec code.Instance Global) (same : instances.
   abbrev with_room : OpenRun
   with_room = record r { instances = instances }
 
-  taken-with : (husks : Vec (Vec Open Global) Global) → IsSameButRooms r (record with_room { husks = husks })
+  taken-with : (husks : Vec Husk Global) → IsSameButRooms r (record with_room { husks = husks })
   taken-with husks = record {
     alloc = refl;
     run = refl;
@@ -80,14 +81,14 @@ module _ (r : OpenRun) (instances : Vec code.Instance Global) (same : instances.
   }
 
   -- and in another pool with the same regions, with other husks
-  pub before-room : (husks : Vec (Vec Open Global) Global) (pool : Nodes) → SameRegions r.pool pool
+  pub before-room : (husks : Vec Husk Global) (pool : Nodes) → SameRegions r.pool pool
       → IsAsBefore r (record with_room { pool = pool; husks = husks })
   before-room husks pool regions =
       before-but_pool r (record with_room { pool = pool; husks = husks })
       (record { rooms = taken-with husks; regions = regions })
 
   -- the room for the rest was refused, and the region that was started is given up
-  module _ (husks : Vec (Vec Open Global) Global) (mid after : Nodes) (t : OpenRun) (o : Open)
+  module _ (husks : Vec Husk Global) (mid after : Nodes) (t : OpenRun) (o : Open)
       (rooms : IsSameButRooms (record with_room { pool = mid; husks = husks }) t)
       (own : number_of o.frame.region ≡ length r.pool.regions)
       (keeps : KeepsRegions r.pool mid (number_of o.frame.region))
@@ -119,7 +120,7 @@ module _ (r : OpenRun) (instances : Vec code.Instance Global) (same : instances.
         before-but_pool r (record t { pool = after }) (record { rooms = rooms-then; regions = regions-same })
 
   -- the room is there for it to enter
-  pub is-entering : (husks : Vec (Vec Open Global) Global) (mid : Nodes) (t : OpenRun) (o : Open) (jobs : Vec ℕ Global)
+  pub is-entering : (husks : Vec Husk Global) (mid : Nodes) (t : OpenRun) (o : Open) (jobs : Vec ℕ Global)
       (slot : Vec Open Global)
       → IsSameButRooms (record with_room { pool = mid; husks = husks }) t → slot.items ≡ o ∷ [] → jobs.items ≡ []
       → HasRoomBeside t (length o.seats.seats) → length jobs.items + length o.seats.seats ≤ vec_capacity jobs

@@ -131,6 +131,6 @@ module _ (r s : OpenRun) (a : AreAlike r s) where
             opener = λ m h. ap (λ l. slice_get l m) names-alike ∙ k.opener m (sym c.2.opener ∙ h);
             numbered = λ n m h.
                 ap (λ l. slice_get l m) numbers-alike ∙ k.numbered n m (ap (λ l. slice_get l n) (sym c.2.jobs) ∙ h);
-            as_many = ap length c.2.jobs ∙ k.as_many;
+            as_many = λ now. ap length c.2.jobs ∙ k.as_many now;
             life = life i c.0 e x c.1 at there k;
           }

@@ -1,5 +1,5 @@
 -- A job of an open instance that can be bounced, by its number: what it gives, and what the calls that bounce it want.
-use Rattle.std.specs.Prelude.{◌≡◌, ℕ, ◌<◌, true, List, Some, codes, length, map, slice_get, slice_index_or}
+use Rattle.std.specs.Prelude.{◌≡◌, ℕ, ◌<◌, true, List, Some, codes, is_some, length, map, slice_get, slice_index_or}
 use Rattle.std.proofs.Common.{ap, arith, subst, sym, ◌∙◌}
 use Rattle.std.proofs.lemmas.Option.{same_Some, slice_get-get_or, slice_get_within}
 use Rattle.tv_value.specs.Values.{JobName, Name, Value}
@@ -170,7 +170,7 @@ module _ (gives : Giving) (r : OpenRun) (i n : ℕ) (o : IsOpenIn gives r i) (fo
       let c = its-code r i o.instances o.instance o.view here-open in
       let s = its gives r i n o found in
       let low = slice_get_within o.instance.seats n s.0 s.1 in
-      let many = c.kept.as_many in
+      let many = c.kept.as_many (ap is_some o.is_open) in
       let same = ap (λ (a : code.Instance). length a.jobs.items) (read-is r i o.instances o.instance o.view here-open g read) in
       omega (arith, low, many, same)
 

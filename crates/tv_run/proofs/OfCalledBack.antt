@@ -415,7 +415,7 @@ module _ (r s : OpenRun) (n : ℕ) (all : IsAllBack r s n) (xs : Instances) (fit
         opener = λ m h. ap (λ l. slice_get l m) names-back ∙ kept.opener m (sym w.same.opener ∙ h);
         numbered = λ m a h.
             ap (λ l. slice_get l a) numbers-back ∙ kept.numbered m a (ap (λ l. slice_get l m) (sym w.same.numbers) ∙ h);
-        as_many = ap length w.same.numbers ∙ kept.as_many ∙ sym (length-map x.seats back);
+        as_many = λ now. ap length w.same.numbers ∙ kept.as_many now ∙ sym (length-map x.seats back);
         life = life-back w.was e x x.view w.is_back kept.life;
       }
 

@@ -195,7 +195,7 @@ module _ (r m t s : OpenRun) (xs : Instances) (flow : ℕ) (f : Flow) (opener : 
         numbered =
             tells-still r s (length xs) 0 n k e.jobs.items jobs-are
             (subst (TellsNumbers (numbers_of r) k) (sym same.jobs) kept.numbered);
-        as_many = ap length same.jobs ∙ kept.as_many;
+        as_many = λ now. ap length same.jobs ∙ kept.as_many now;
         life = life-old k e z h kept.life;
       }
 
@@ -226,7 +226,7 @@ module _ (r m t s : OpenRun) (xs : Instances) (flow : ℕ) (f : Flow) (opener : 
         tells-more r s (length xs) 0 n [] enters.itself.jobs.items jobs-are refl
         (enters.numbers ∙ ap (λ l. range_with_len (length l) n) (rooms.jobs ∙ started.jobs))
         (λ q b e. absurd (none-some b e));
-    as_many = ap length enters.numbers ∙ length-range_with_len (length t.jobs.items) n;
+    as_many = λ now. ap length enters.numbers ∙ length-range_with_len (length t.jobs.items) n;
     life = life-new;
   }
 

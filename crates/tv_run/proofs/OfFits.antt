@@ -1,6 +1,6 @@
 -- A run of which an open instance was told something, and what follows is so: it fits the instances that it has then.
 use Rattle.std.specs.List.{range_with_len, sum_by}
-use Rattle.std.specs.Prelude.{◌≡◌, ◌≢◌, refl, ℕ, zero, suc, ◌+◌, ◌-◌, ◌<◌, ◌≤◌, ◌⊎◌, ◌++◌, Bool, true, false, if◌then◌else◌, List, [], ◌∷◌, Option, Some, cond, count_by, length, map, option_and_then, option_map, slice_get}
+use Rattle.std.specs.Prelude.{◌≡◌, ◌≢◌, refl, ℕ, zero, suc, ◌+◌, ◌-◌, ◌<◌, ◌≤◌, ◌⊎◌, ◌++◌, Bool, true, false, if◌then◌else◌, List, [], ◌∷◌, Option, Some, cond, count_by, is_some, length, map, option_and_then, option_map, slice_get}
 use Rattle.std.proofs.Common.{ap, ap₂, arith, inl, inr, length-append, subst, sym, ◌∙◌}
 use Rattle.std.proofs.lemmas.List.{length-map, length-set}
 use Rattle.std.proofs.lemmas.List.FromFn.{length-range_with_len}
@@ -217,8 +217,11 @@ module _ (r t s : OpenRun) (xs : Instances) (i : ℕ) (x : Instance) (v : View) 
   }
 
   -- how many had numbers, and how many have none
+  numbered-before : length turned.before.jobs.items ≡ length x.seats
+  numbered-before = kept.as_many (ap is_some here.is_open)
+
   numbered-long : length turned.after.jobs.items ≡ length x.seats
-  numbered-long = ap (λ l. length l.items) turned.numbers ∙ kept.as_many
+  numbered-long = ap (λ l. length l.items) turned.numbers ∙ numbered-before
 
   unnumbered-is : unnumbered turned.after ≡ more
   unnumbered-is =
@@ -273,12 +276,12 @@ module _ (r t s : OpenRun) (xs : Instances) (i : ℕ) (x : Instance) (v : View) 
     main = λ none. kept.main (sym ((itself f is).opener ∙ turned.opener) ∙ none);
     opener = λ m some. kept.opener m (sym ((itself f is).opener ∙ turned.opener) ∙ some);
     numbered =
-        tells-more r s i (length x.seats) more turned.before.jobs.items f.jobs.items jobs-are kept.as_many
+        tells-more r s i (length x.seats) more turned.before.jobs.items f.jobs.items jobs-are numbered-before
         (numbers-are f is) kept.numbered;
-    as_many =
+    as_many = λ now.
         ap length (numbers-are f is)
         ∙ length-append turned.before.jobs.items (range_with_len (length r.jobs.items) more)
-        ∙ ap₂ (λ a b. a + b) (kept.as_many ∙ sym long) (length-range_with_len (length r.jobs.items) more ∙ sym tells.many)
+        ∙ ap₂ (λ a b. a + b) (numbered-before ∙ sym long) (length-range_with_len (length r.jobs.items) more ∙ sym tells.many)
         ∙ sym (length-append ss tells.new);
     life = life-then f is;
   }

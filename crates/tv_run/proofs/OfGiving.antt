@@ -1,6 +1,6 @@
 -- An open instance is told of a result, or of a list or fault: what the calls want, and what the run is then.
 use Rattle.std.specs.Option.{option_map_or}
-use Rattle.std.specs.Prelude.{◌≡◌, refl, ℕ, ◌+◌, ◌-◌, ◌≤◌, ◌||◌, true, List, [], ◌∷◌, Some, cond, length, map, slice_get, slice_index_or, slice_set, vec_capacity}
+use Rattle.std.specs.Prelude.{◌≡◌, refl, ℕ, ◌+◌, ◌-◌, ◌≤◌, ◌||◌, true, List, [], ◌∷◌, Some, cond, is_some, length, map, slice_get, slice_index_or, slice_set, vec_capacity}
 use Rattle.std.specs.List.{sum_by}
 use Rattle.std.proofs.Common.{ap, arith, length-append, subst, sym, ◌∙◌}
 use Rattle.std.proofs.lemmas.List.{length-map}
@@ -105,7 +105,7 @@ module _ (r : OpenRun) (i : ℕ) (xs : Instances) (x : Instance) (v : View) (her
   numbered-long : length its-turned.after.jobs.items ≡ length x.seats
   numbered-long =
       ap (λ l. length l.items) its-turned.numbers
-      ∙ (here.fits.kept i its-turned.before x its-turned.was here.there).as_many
+      ∙ (here.fits.kept i its-turned.before x its-turned.was here.there).as_many (ap is_some here.is_open)
 
   seats-long : length w.seats.seats ≡ length x.seats + more
   seats-long =

@@ -1,7 +1,7 @@
 -- A run of which one instance has more jobs, or is new: with the numbers of these it fits what its instances are then.
 use Rattle.std.specs.Option.{option_map_or}
 use Rattle.std.specs.List.{range_with_len, sum_by}
-use Rattle.std.specs.Prelude.{◌≡◌, refl, ℕ, zero, suc, ◌+◌, ◌<◌, ◌⊎◌, ◌++◌, true, List, [], ◌∷◌, None, Some, length, map, slice_get}
+use Rattle.std.specs.Prelude.{◌≡◌, refl, ℕ, zero, suc, ◌+◌, ◌<◌, ◌⊎◌, ◌++◌, true, List, [], ◌∷◌, None, Some, is_some, length, map, slice_get}
 use Rattle.std.proofs.Common.{ap, arith, inl, inr, subst, sym, ◌∙◌}
 use Rattle.std.proofs.lemmas.List.{length-map, map-append}
 use Rattle.std.proofs.lemmas.List.FromFn.{get_or-range_with_len, length-range_with_len}
@@ -225,7 +225,7 @@ pub record IsGrown (r s : OpenRun) (k : ℕ) (e : code.Instance) (y : Instance) 
   pub main : e.opener ≡ None → (k ≡ 0) × (y.name ≡ [])
   pub opener : (m : ℕ) → e.opener ≡ Some m → slice_get (names_of r) m ≡ Some y.name
   pub numbered : TellsNumbers (numbers_of s) k e.jobs.items
-  pub as_many : length e.jobs.items ≡ length y.seats
+  pub as_many : is_some y.view ≡ true → length e.jobs.items ≡ length y.seats
   pub life : IsLife s e y y.view
 
 -- s is r with n more jobs of instance i

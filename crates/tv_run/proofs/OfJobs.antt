@@ -181,16 +181,6 @@ module _ (r : OpenRun) (xs : Instances) (fits : Fits r xs) where
       let p = same_Some (i, n) (j, m) (sym e ∙ ap (slice_get (numbers_of r)) h ∙ f) in
       (ap (λ (q : ℕ × ℕ). q.0) p, ap (λ (q : ℕ × ℕ). q.1) p)
 
-  -- the list of an instance has it
-  pub number-listed : (k i n : ℕ) (c : code.Instance) (x : Instance) (s : Seat) → slice_get r.instances.items i ≡ Some c
-      → IsAt xs i x → slice_get x.seats n ≡ Some s → slice_get (numbers_of r) k ≡ Some (i, n)
-      → slice_get c.jobs.items n ≡ Some k
-  number-listed k i n c x s at_code at sits e =
-      let kept = fits.kept i c x at_code at in
-      let l =
-      get-within c.jobs.items n (subst (λ m. n < m) (sym kept.as_many) (slice_get_within x.seats n s sits)) in
-      l.1 ∙ ap Some (fits.numbered.apart l.0 k i n (kept.numbered n l.0 l.1) e)
-
   -- ---- what is looked up of it
 
   module _ (k i n : ℕ) (x : Instance) (s : Seat) (t : Name × Step) (w : IsKnownAs r xs k i n x s t) where

@@ -1,7 +1,7 @@
 -- A run of which one instance is another with the same jobs: it fits that, with the same names.
 use Rattle.std.specs.List.{sum_by}
 use Rattle.std.specs.Option.{option_map_or}
-use Rattle.std.specs.Prelude.{◌≡◌, refl, ℕ, zero, suc, ◌+◌, ◌<◌, ◌≤◌, ◌++◌, List, [], ◌∷◌, None, Option, Some, length, map, option_map, slice_get, slice_set}
+use Rattle.std.specs.Prelude.{◌≡◌, refl, ℕ, zero, suc, ◌+◌, ◌<◌, ◌≤◌, ◌++◌, true, List, [], ◌∷◌, None, Option, Some, is_some, length, map, option_map, slice_get, slice_set}
 use Rattle.std.proofs.Common.{ap, arith, subst, sym, ◌∙◌}
 use Rattle.std.proofs.lemmas.List.{length-map, length-set}
 use Rattle.std.proofs.lemmas.List.Sums.{sum_by-cons}
@@ -69,6 +69,7 @@ pub record IsMovedTo (r s : OpenRun) (i : ℕ) (x y : Instance) : Type 0 where
   pub life : (e : code.Instance) → slice_get s.instances.items i ≡ Some e → IsLife s e y y.view
   pub theirs : AreTheirs s.pool (frame_at s)
   pub due : s.due + due_in x ≡ r.due + due_in y
+  pub was_open : is_some x.view ≡ true
 
 -- ---- seats of the same jobs
 
@@ -238,8 +239,8 @@ module _ (r s : OpenRun) (i : ℕ) (m : IsMoved r s i) where
     -- instance k was kept, and has this flow and these jobs
     kept-by : (k : ℕ) (c e : code.Instance) (u z : Instance) → IsKept r k c u → HasSameJobs c e → z.name ≡ u.name
         → z.flow ≡ u.flow → map job_of z.seats ≡ map job_of u.seats → seats_of e ≡ z.seats → IsLife s e z z.view
-        → IsKept s k e z
-    kept-by k c e u z kept same name flow jobs seats life = record {
+        → (is_some z.view ≡ true → is_some u.view ≡ true) → IsKept s k e z
+    kept-by k c e u z kept same name flow jobs seats life was_open = record {
       flow =
           (λ j. option_map (λ (f : Name × Flow). f.1) (slice_get (run_view (m.run j)).flows (same.flow j)))
           ∙ kept.flow ∙ ap Some (sym flow);
@@ -250,8 +251,8 @@ module _ (r s : OpenRun) (i : ℕ) (m : IsMoved r s i) where
       opener = λ n h. ap (λ l. slice_get l n) names-moved ∙ kept.opener n (sym same.opener ∙ h) ∙ ap Some (sym name);
       numbered = λ n a h.
           ap (λ l. slice_get l a) numbers-moved ∙ kept.numbered n a (ap (λ l. slice_get l n) (sym same.numbers) ∙ h);
-      as_many =
-          ap length same.numbers ∙ kept.as_many ∙ sym (length-map u.seats job_of) ∙ sym (ap length jobs)
+      as_many = λ now.
+          ap length same.numbers ∙ kept.as_many (was_open now) ∙ sym (length-map u.seats job_of) ∙ sym (ap length jobs)
           ∙ length-map z.seats job_of;
       life = life;
     }
@@ -266,12 +267,12 @@ module _ (r s : OpenRun) (i : ℕ) (m : IsMoved r s i) where
         let new : z ≡ y = one-at ys i z y (subst (λ n. slice_get ys n ≡ Some z) h there) (at-set xs i x y at) in
         subst (IsKept s k e) (sym new)
         (kept-by k c.0 e x y (fits.kept k c.0 x c.1 (subst (λ n. IsAt xs n x) (sym h) at)) c.2 to.name to.flow to.jobs
-        (to.seats e here) (to.life e here)))
+        (to.seats e here) (to.life e here) (λ now. to.was_open)))
         (λ ne.
         let old = fits.kept k c.0 z c.1 (of-set xs i x y at k z ne there) in
         let same : e ≡ c.0 = same_Some e c.0 (sym is ∙ m.others.others k ne ∙ c.1) in
         kept-by k c.0 e z z old c.2 refl refl refl (ap seats_of same ∙ old.seats)
-        (subst (λ g. IsLife s g z z.view) (sym same) (life-same c.0 z z.view old.life)))
+        (subst (λ g. IsLife s g z z.view) (sym same) (life-same c.0 z z.view old.life)) (λ now. now))
 
     pub fits-moved : Fits s (with_instance xs i y)
     fits-moved = record {

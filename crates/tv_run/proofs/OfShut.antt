@@ -5,10 +5,11 @@ use Rattle.std.specs.Vec.{with_item}
 use Rattle.std.specs.Prelude.{Vec, ◌≡◌, ◌≢◌, refl, ℕ, ◌<◌, ◌++◌, true, [], ◌∷◌, None, Option, Some, is_some, length, option_and_then, option_map, slice_get, slice_index_or, slice_set}
 use Rattle.std.proofs.Common.{ap, append-nil, arith, inl, subst, sym, ◌∙◌}
 use Rattle.std.proofs.lemmas.List.{length-set}
-use Rattle.std.proofs.lemmas.Option.{same_Some, slice_get_within}
+use Rattle.std.proofs.lemmas.Option.{none-some, same_Some, slice_get_within}
 use Rattle.tv_check.specs.RunViews.{run_view}
 use Rattle.tv_pool.specs.Pool.{number_of, regions_with}
 use Rattle.tv_model.specs.Members.{In}
+use Rattle.tv_model.proofs.Tests.{true≠false}
 use Rattle.tv_outputs.specs.Known.{Nodes}
 use Rattle.tv_framing.specs.Views.{View}
 use Rattle.tv_frame.specs.declared.frame.Frame.{Frame}
@@ -27,6 +28,7 @@ use Rattle.tv_run.specs.Looks.{IsFlow}
 use Rattle.tv_run.specs.Standing.{Fits, IsKept, due_in, frame_at, names_of, seats_of}
 use Rattle.tv_run.specs.declared.instances.Instance as code
 use Rattle.tv_run.specs.declared.run.OpenRun.{OpenRun}
+use Rattle.tv_run.specs.declared.slots.Husk.{Husk}
 use Rattle.tv_run.proofs.OfGrown.{AreMore, HasGrown, IsGrown, fits-grown, more_jobs, names-grown, tells-still}
 use Rattle.tv_run.proofs.OfItself.{its, its-code, o, read-is}
 use Rattle.tv_run.proofs.OfJobs.{seats_by}
@@ -50,7 +52,7 @@ pub record IsShut (r s : OpenRun) (i : ℕ) (itself : Open) : Type 0 where
   pub others : OthersAreSame r s i
   pub flow : after.flow ≡ before.flow
   pub opener : after.opener ≡ before.opener
-  pub numbers : after.jobs ≡ before.jobs
+  pub none_numbered : after.jobs.items ≡ []
   pub is_busy : after.is_busy ≡ before.is_busy
   pub opened : before.open.items ≡ itself ∷ []
   pub closed : after.open.items ≡ []
@@ -143,8 +145,8 @@ module _ (r s : OpenRun) (xs : Instances) (i : ℕ) (x : Instance) (v : View) (i
     opener = λ m some. kept.opener m (sym w.opener ∙ some);
     numbered =
         tells-still r s i (length x.seats) 0 i w.after.jobs.items jobs-are
-        (λ m k e. kept.numbered m k (ap (λ l. slice_get l.items m) (sym w.numbers) ∙ e));
-    as_many = ap (λ l. length l.items) w.numbers ∙ kept.as_many;
+        (λ m k e. absurd (none-some k (sym (ap (λ l. slice_get l m) w.none_numbered) ∙ e)));
+    as_many = λ now. absurd (true≠false (sym now));
     life = (w.closed, ap is_some w.is_left);
   }
 
@@ -280,7 +282,7 @@ pub record IsClosed (r s : OpenRun) (i : ℕ) (c : code.Instance) (p : Open) : T
   pub instances : s.instances.items ≡ slice_set r.instances.items i then_is
   pub flow : then_is.flow ≡ c.flow
   pub opener : then_is.opener ≡ c.opener
-  pub numbers : then_is.jobs ≡ c.jobs
+  pub none_numbered : then_is.jobs.items ≡ []
   pub is_busy : then_is.is_busy ≡ c.is_busy
   pub closed : then_is.open.items ≡ []
   pub left : Rows
@@ -289,8 +291,9 @@ pub record IsClosed (r s : OpenRun) (i : ℕ) (c : code.Instance) (p : Open) : T
   pub gone : s.pool.regions ≡ regions_with r.pool (number_of p.frame.region) None
 
 -- the run with this instance closed
-abbrev pub with_closed : OpenRun → ℕ → code.Instance → Vec Open Global → Rows → Nodes → Vec (Vec Open Global) Global → OpenRun
-with_closed r i c none left pool husks =
+abbrev pub with_closed : OpenRun → ℕ → code.Instance → Vec Open Global → Vec ℕ Global → Rows → Nodes → Vec Husk Global
+    → OpenRun
+with_closed r i c none numbers left pool husks =
     record r {
       pool = pool;
       husks = husks;
@@ -299,7 +302,7 @@ with_closed r i c none left pool husks =
           (record {
             flow = c.flow;
             opener = c.opener;
-            jobs = c.jobs;
+            jobs = numbers;
             is_busy = c.is_busy;
             «open» = none;
             seats = Some left;
@@ -307,10 +310,11 @@ with_closed r i c none left pool husks =
     }
 
 pub closes : (r : OpenRun) (i : ℕ) (c : code.Instance) (p : Open) (none : Vec Open Global) → none.items ≡ []
+    → (numbers : Vec ℕ Global) → numbers.items ≡ []
     → (left : Rows) → left.seats ≡ p.seats.seats → (pool : Nodes)
-    → pool.regions ≡ regions_with r.pool (number_of p.frame.region) None → (husks : Vec (Vec Open Global) Global)
-    → IsClosed r (with_closed r i c none left pool husks) i c p
-closes r i c p none empty left seats pool gone husks = record {
+    → pool.regions ≡ regions_with r.pool (number_of p.frame.region) None → (husks : Vec Husk Global)
+    → IsClosed r (with_closed r i c none numbers left pool husks) i c p
+closes r i c p none empty numbers cleared left seats pool gone husks = record {
   run = refl;
   looks = refl;
   busy = refl;
@@ -322,7 +326,7 @@ closes r i c p none empty left seats pool gone husks = record {
   then_is = record {
     flow = c.flow;
     opener = c.opener;
-    jobs = c.jobs;
+    jobs = numbers;
     is_busy = c.is_busy;
     «open» = none;
     seats = Some left;
@@ -330,7 +334,7 @@ closes r i c p none empty left seats pool gone husks = record {
   instances = refl;
   flow = refl;
   opener = refl;
-  numbers = refl;
+  none_numbered = cleared;
   is_busy = refl;
   closed = empty;
   left = left;
@@ -365,7 +369,7 @@ module _ (r : OpenRun) (i : ℕ) (xs : Instances) (x : Instance) (v : View) (her
     };
     flow = w.flow ∙ ap (λ (g : code.Instance). g.flow) (read-is r i xs x v here c read);
     opener = w.opener ∙ ap (λ (g : code.Instance). g.opener) (read-is r i xs x v here c read);
-    numbers = w.numbers ∙ ap (λ (g : code.Instance). g.jobs) (read-is r i xs x v here c read);
+    none_numbered = w.none_numbered;
     is_busy = w.is_busy ∙ ap (λ (g : code.Instance). g.is_busy) (read-is r i xs x v here c read);
     opened = (its-code r i xs x v here).opened.there;
     closed = w.closed;

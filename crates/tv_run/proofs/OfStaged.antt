@@ -1,6 +1,6 @@
 -- A job that is out is at another stage from now on, and its frame is told nothing: the run fits that.
 use Rattle.std.specs.Option.{option_map_or}
-use Rattle.std.specs.Prelude.{◌≡◌, refl, ℕ, ◌+◌, true, false, List, [], ◌∷◌, Option, Some, cond, count_by, map, option_and_then, option_map, slice_get, slice_set}
+use Rattle.std.specs.Prelude.{◌≡◌, refl, ℕ, ◌+◌, true, false, List, [], ◌∷◌, Option, Some, cond, count_by, map, option_and_then, option_map, slice_get, slice_set, is_some}
 use Rattle.std.proofs.Common.{ap, append-nil, arith, subst, sym, ◌∙◌}
 use Rattle.std.proofs.lemmas.Option.{same_Some}
 use Rattle.tv_flow.specs.Views.{flow_view}
@@ -203,6 +203,7 @@ module _ (r s : OpenRun) (i n : ℕ) (y : Stage) (before : code.Instance) (old n
           let more = due-more x.seats n y t out.seat (out-not_due t.stage out.out) due in
           let one = w.due in
           omega (arith, more, one);
+      was_open = ap is_some out.here.is_open;
     }
 
     pub moves-staged : MovesTo r s (with_instance xs i (seated x (with_stage n y x.seats)))

@@ -1,6 +1,6 @@
 -- A job of an open instance is taken: its try goes out, or its flow is opened.
 use Rattle.std.specs.Option.{option_map_or}
-use Rattle.std.specs.Prelude.{◌≡◌, refl, ℕ, ◌+◌, ◌<◌, ◌≤◌, ◌||◌, Bool, true, false, List, [], ◌∷◌, None, Option, Some, length, map, option_and_then, option_map, slice_get, slice_index_or, slice_set}
+use Rattle.std.specs.Prelude.{◌≡◌, refl, ℕ, ◌+◌, ◌<◌, ◌≤◌, ◌||◌, Bool, true, false, List, [], ◌∷◌, None, Option, Some, is_some, length, map, option_and_then, option_map, slice_get, slice_index_or, slice_set}
 use Rattle.std.proofs.Common.{ap, append-nil, arith, inl, inr, subst, sym, ◌∙◌}
 use Rattle.std.proofs.lemmas.List.{length-set}
 use Rattle.std.proofs.lemmas.Option.{get_or_from_slice_get, none-some, same_Some, slice_get_within}
@@ -313,6 +313,7 @@ module _ (r : OpenRun) (i : ℕ) (xs : Instances) (x : Instance) (v : View) (her
         life = life;
         theirs = theirs;
         due = let less = fewer w in let due = at.due in omega (arith, less, due);
+        was_open = ap is_some here.is_open;
       }
 
       names-same : names_of s ≡ names_of r

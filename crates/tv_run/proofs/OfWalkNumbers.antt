@@ -1,5 +1,5 @@
 -- The number in the run of a job of an instance, as the code has it.
-use Rattle.std.specs.Prelude.{◌≡◌, ℕ, ◌<◌, List, Some, length, slice_get}
+use Rattle.std.specs.Prelude.{◌≡◌, ℕ, ◌<◌, true, List, Some, is_some, length, slice_get}
 use Rattle.std.proofs.Common.{ap, get_or, subst, sym, ◌∙◌}
 use Rattle.std.proofs.lemmas.Option.{get_or_from_slice_get}
 use Rattle.tv_lemmas.proofs.Lists.{get-within}
@@ -20,10 +20,10 @@ module _ (r : OpenRun) (xs : Instances) (fits : Fits r xs) (i n : ℕ) (x : Inst
       let c = instance-there r xs fits i x at in
       at-index r.instances.items i c.0 e found c.1
 
-  pub jobs-low : n < length x.seats → n < length e.jobs.items
-  jobs-low low =
+  pub jobs-low : is_some x.view ≡ true → n < length x.seats → n < length e.jobs.items
+  jobs-low now low =
       let c = instance-there r xs fits i x at in
-      subst (λ (q : code.Instance). n < length q.jobs.items) (sym itself-is) (subst (λ l. n < l) (sym c.2.as_many) low)
+      subst (λ (q : code.Instance). n < length q.jobs.items) (sym itself-is) (subst (λ l. n < l) (sym (c.2.as_many now)) low)
 
   pub number-is : n < length e.jobs.items → (k : ℕ) → k ≡ get_or e.jobs.items n k → slice_get (numbers_of r) k ≡ Some (i, n)
   number-is low k is =

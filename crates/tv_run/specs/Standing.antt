@@ -110,7 +110,8 @@ pub record IsKept (r : OpenRun) (i : ℕ) (c : code.Instance) (x : Instance) : T
   pub main : c.opener ≡ None → (i ≡ 0) × (x.name ≡ [])
   pub opener : (k : ℕ) → c.opener ≡ Some k → slice_get (names_of r) k ≡ Some x.name
   pub numbered : TellsNumbers (numbers_of r) i c.jobs.items
-  pub as_many : length c.jobs.items ≡ length x.seats
+  -- while it is open
+  pub as_many : is_some x.view ≡ true → length c.jobs.items ≡ length x.seats
   pub life : IsLife r c x x.view
 
 -- ---- all instances

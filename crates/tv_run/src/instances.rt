@@ -13,7 +13,7 @@ pub(crate) struct Instance {
     pub(crate) flow: u32,
     // The job that opened it, of the main instance none.
     pub(crate) opener: Option<u64>,
-    // Of each job that it knows its number in the run.
+    // While it is open, of each job that it knows its number in the run.
     pub(crate) jobs: Vec<u64>,
     // It stands among those in which something may be settled.
     pub(crate) is_busy: bool,

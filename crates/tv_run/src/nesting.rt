@@ -24,7 +24,7 @@ ghost use Rattle.tv_run.specs.Turns.{MovesTo, SettlesTo, StaysAs};
 use crate::ended::Ended;
 use crate::instances::Numbered;
 use crate::run::OpenRun;
-use crate::slots::keep;
+use crate::slots::{Husk, keep};
 use std::mem;
 use tv_cell::Pieces;
 use tv_dispatch::{Kind, Plan};
@@ -259,10 +259,11 @@ impl OpenRun {
         ensures due { self.new.due ≡ self.old.due }
     {
         let ended = &mut self.instances[instance as usize];
-        let mut husk = mem::replace(&mut ended.open, Vec::new(self.alloc));
-        let (outs, seats, levels) = husk[0].finish(self.alloc, &mut self.pool);
+        let mut slot = mem::replace(&mut ended.open, Vec::new(self.alloc));
+        let numbers = mem::replace(&mut ended.jobs, Vec::new(self.alloc));
+        let (outs, seats, levels) = slot[0].finish(self.alloc, &mut self.pool);
         ended.seats = Some(seats);
-        keep(&mut self.husks, husk);
+        keep(&mut self.husks, Husk { slot, numbers });
         Ended { outs, levels }
     }
 }

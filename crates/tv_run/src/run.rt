@@ -18,7 +18,7 @@ ghost use Rattle.tv_run.specs.Standing.{Fits, StandsOpen};
 use crate::ended::Ended;
 use crate::instances::{Instance, Numbered};
 use crate::plans::{FlowLook, looks_of};
-use crate::slots::{Slot, slot_with};
+use crate::slots::{Husk, husk_with};
 use std::alloc::Global;
 use tv_cell::{Pieces, Row};
 use tv_check::{CheckedRun, FlowPlan};
@@ -50,8 +50,8 @@ pub struct OpenRun {
     pub(crate) failed: u64,
     // What the main instance gives, once it has ended.
     pub(crate) outs: Option<Ended>,
-    // Where instances stood that have ended, each in a list of one, for those that are opened.
-    pub(crate) husks: Vec<Slot>,
+    // The memory of instances that have ended, for those that are opened.
+    pub(crate) husks: Vec<Husk>,
 }
 
 /// So many husks are kept.
@@ -148,30 +148,30 @@ impl OpenRun {
         let plan = self.run.flow(flow);
         let tables = &self.looks[flow as usize].tables;
         let (pool, husks) = (&mut self.pool, &mut self.husks);
-        let mut slot = slot_with(self.alloc, plan, tables, inputs, pool, husks)?;
-        let mut jobs = Vec::new(self.alloc);
-        match self.reserve(&mut jobs, slot[0].known()) {
+        let mut husk = husk_with(self.alloc, plan, tables, inputs, pool, husks)?;
+        match self.reserve(&mut husk.numbers, husk.slot[0].known()) {
             Ok(()) => {
-                self.enter(flow, opener, jobs, slot);
+                self.enter(flow, opener, husk);
                 Ok(())
             }
             Err(error) => {
-                slot[0].abandon(&mut self.pool);
+                husk.slot[0].abandon(&mut self.pool);
                 Err(error)
             }
         }
     }
 
     /// An instance is open from now on. Takes no memory.
-    fn enter(&mut self, flow: u32, opener: Option<u64>, jobs: Vec<u64>, slot: Slot)
-        requires { (o : Held) × IsEntering self.old jobs slot o }
-        ensures { (o : Held) → slot.items ≡ o ∷ [] → Enters self.old self.new flow opener o }
+    fn enter(&mut self, flow: u32, opener: Option<u64>, husk: Husk)
+        requires { (o : Held) × IsEntering self.old husk.numbers husk.slot o }
+        ensures { (o : Held) → husk.slot.items ≡ o ∷ [] → Enters self.old self.new flow opener o }
     {
         let number = self.instances.len() as u64;
+        let Husk { slot, numbers } = husk;
         self.instances.push_reserved(Instance {
             flow,
             opener,
-            jobs,
+            jobs: numbers,
             is_busy: false,
             open: slot,
             seats: None,

@@ -1,4 +1,4 @@
-//! Where open instances stand: in lists of one, which are kept for others once they have ended.
+//! Where open instances stand: in lists of one, which are kept for others once they have ended, with the lists of their jobs' numbers.
 ghost use Rattle.std.specs.Prelude.{◌≡◌, ◌∷◌, [], IfOk, OnErr, length};
 ghost use Rattle.tv_flow.specs.Flows.{Document};
 ghost use Rattle.tv_flow.specs.Views.{flow_view};
@@ -19,42 +19,55 @@ use tv_value::NoMemory;
 /// A list of one.
 pub(crate) type Slot = Vec<Open>;
 
-/// A list of one, which is of no instance: the last of those that are kept, or a new one.
-fn slot_of(alloc: Global, tables: &FlowTables, husks: &mut Vec<Slot>) -> Result<Slot, NoMemory>
-    ensures { IfOk result (λ slot. length slot.items ≡ 1) }
+/// The memory of an instance: where it stands, and the list of its jobs' numbers in the run.
+#[derive(Drop)]
+pub(crate) struct Husk {
+    pub(crate) slot: Slot,
+    pub(crate) numbers: Vec<u64>,
+}
+
+/// A list of one, which is of no instance, and a list of numbers: the last of those that are kept, or new ones.
+fn husk_of(alloc: Global, tables: &FlowTables, husks: &mut Vec<Husk>) -> Result<Husk, NoMemory>
+    ensures { IfOk result (λ husk. length husk.slot.items ≡ 1) }
 {
     if let Some(husk) = husks.pop() {
-        if husk.len() == 1 {
+        if husk.slot.len() == 1 {
             return Ok(husk);
         }
     }
     let mut slot = Vec::with_capacity(alloc, 1)?;
     slot.push(Open::unused(alloc, tables.share()?))?;
-    Ok(slot)
+    Ok(Husk {
+        slot,
+        numbers: Vec::new(alloc),
+    })
 }
 
-/// The instance of a plan's flow on its inputs, as `Open::start`, in a list of one.
-pub(crate) fn slot_with(
+/// The instance of a plan's flow on its inputs, as `Open::start`, in a list of one, with a list for the numbers of its jobs.
+pub(crate) fn husk_with(
     alloc: Global,
     plan: &FlowPlan,
     tables: &FlowTables,
     inputs: Pieces,
     pool: &mut Nodes,
-    husks: &mut Vec<Slot>,
-) -> Result<Slot, NoMemory>
+    husks: &mut Vec<Husk>,
+) -> Result<Husk, NoMemory>
     requires can { (d : Document) × CanStart d.flows plan.now (piece_values inputs) }
     requires sound { AreSound inputs }
     requires tables { AreTables (flow_view plan.now.flow) tables.now }
-    ensures ok { IfOk result (HoldsStarted plan.now (piece_values inputs) pool.old pool.new) }
+    ensures ok { IfOk result (λ husk.
+        HoldsStarted plan.now (piece_values inputs) pool.old pool.new husk.slot) }
+    ensures none { IfOk result (λ husk. husk.numbers.items ≡ []) }
     ensures refused { OnErr result (SameRegions pool.old pool.new) }
 {
-    let mut slot = slot_of(alloc, tables, husks)?;
-    slot[0].start(alloc, plan, tables, inputs, pool)?;
-    Ok(slot)
+    let mut husk = husk_of(alloc, tables, husks)?;
+    husk.numbers.clear();
+    husk.slot[0].start(alloc, plan, tables, inputs, pool)?;
+    Ok(husk)
 }
 
-/// Keeps the place of an instance that has ended, as long as that takes no memory.
-pub(crate) fn keep(husks: &mut Vec<Slot>, husk: Slot) {
+/// Keeps the memory of an instance that has ended, as long as that takes no more.
+pub(crate) fn keep(husks: &mut Vec<Husk>, husk: Husk) {
     if husks.len() < husks.capacity() {
         husks.push_reserved(husk);
     }

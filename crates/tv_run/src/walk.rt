@@ -1,5 +1,5 @@
 //! The walk to the first job that goes on.
-ghost use Rattle.std.specs.Prelude.{◌≡◌, ◌<◌, ◌+◌, IfSome, Some, false, length, true};
+ghost use Rattle.std.specs.Prelude.{◌≡◌, ◌<◌, ◌+◌, IfSome, Some, false, is_some, length, true};
 ghost use Rattle.std.specs.Option.{option_map_or};
 ghost use Rattle.tv_gate.specs.Outcomes.{Giving};
 ghost use Rattle.tv_framing.specs.Views.{View};
@@ -140,10 +140,10 @@ impl OpenRun {
         None
     }
 
-    /// The number in the run of a job of an instance.
+    /// The number in the run of a job of an open instance.
     fn in_run(&self, instance: u64, number: Option<u64>) -> Option<u64>
         requires { (xs : Instances) × (x : Instance) × Fits self.now xs × IsAt xs instance x
-            × IfSome number (λ n. n < length x.seats) }
+            × (is_some x.view ≡ true) × IfSome number (λ n. n < length x.seats) }
         ensures { (xs : Instances) (x : Instance) → Fits self.now xs → IsAt xs instance x
             → AreInRun self.now instance number result }
     {

@@ -1,4 +1,5 @@
-use Rattle.std.proofs.Common.{IfSome, arith, get_or, length, subst, sym, ◌*◌, ◌+◌, ◌-◌, ◌<◌, ◌≡◌, ◌∙◌}
+use Rattle.std.specs.Prelude.{is_some}
+use Rattle.std.proofs.Common.{IfSome, ap, arith, get_or, length, subst, sym, ◌*◌, ◌+◌, ◌-◌, ◌<◌, ◌≡◌, ◌∙◌}
 use Rattle.tv_run.specs.Walking.{IsFoundBefore, IsFoundInside, IsFoundOf}
 use Rattle.tv_run.proofs.OfWalkInside.{NoneOfFirst, none-deeper, none-left, none-passed, one-more, some-at}
 use Rattle.tv_run.proofs.OfWalkNested.{behind-none, end-none, found-some, inner-at, nested-low, nested-stage, next-none}
@@ -15,6 +16,7 @@ first_at-in_run-requires t c =
       w.2,
       w.4.fits,
       w.5,
+      ap is_some w.6,
       own-low w.0 c.args.self.now w.1 w.4 c.args.instance w.2 w.3 w.5 w.6 c.args.seeking c.args.step c.first_own-own.result
           (c.first_own-own.ensures.own w.0 w.1 w.2 w.3 w.4 w.5 w.6 w.8),
     )

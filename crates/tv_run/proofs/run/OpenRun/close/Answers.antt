@@ -18,8 +18,8 @@ index_mut-requires c =
     let q = c.requires in
     let g = c.index_mut-ended.result.now in
     let low = open-low c.args.self.now c.args.instance q.0 q.1 q.2 q.3 g c.index_mut-ended.ensures.value in
-    let same = ap (λ v. length v.items) c.replace-husk.ensures.value in
-    omega (arith, low, same, c.replace-husk.result.ok.0)
+    let same = ap (λ v. length v.items) c.replace-slot.ensures.value in
+    omega (arith, low, same, c.replace-slot.result.ok.0)
 
 pub finish-outs-requires : goal.finish-outs-requires
 finish-outs-requires c =
@@ -29,7 +29,7 @@ finish-outs-requires c =
     let g = c.index_mut-ended.result.now in
     let p = c.index_mut.result.now in
     let same =
-    open-read r i q.0 q.1 q.2 q.3 g c.index_mut-ended.ensures.value p (c.index_mut.ensures.value ∙ ap (λ w. slice_index_or w.items 0 p) c.replace-husk.ensures.value) in
+    open-read r i q.0 q.1 q.2 q.3 g c.index_mut-ended.ensures.value p (c.index_mut.ensures.value ∙ ap (λ w. slice_index_or w.items 0 p) c.replace-slot.ensures.value) in
     let w = open-some r i q.0 q.1 q.2 q.3 p same in
     record { ended = (run_view r.run, w.0, q.2, w.1, q.4) }
 
@@ -39,7 +39,7 @@ returns-clause-outputs c = λ xs x v here ends.
     let i = c.args.instance in
     let g = c.index_mut-ended.result.now in
     let p = c.index_mut.result.now in
-    let same = open-read r i xs x v here g c.index_mut-ended.ensures.value p (c.index_mut.ensures.value ∙ ap (λ w. slice_index_or w.items 0 p) c.replace-husk.ensures.value) in
+    let same = open-read r i xs x v here g c.index_mut-ended.ensures.value p (c.index_mut.ensures.value ∙ ap (λ w. slice_index_or w.items 0 p) c.replace-slot.ensures.value) in
     let w = open-some r i xs x v here p same in
     c.finish-outs.ensures.outputs (run_view r.run) w.0 v w.1
 
@@ -49,7 +49,7 @@ returns-clause-levels c = λ xs x v here ends.
     let i = c.args.instance in
     let g = c.index_mut-ended.result.now in
     let p = c.index_mut.result.now in
-    let same = open-read r i xs x v here g c.index_mut-ended.ensures.value p (c.index_mut.ensures.value ∙ ap (λ w. slice_index_or w.items 0 p) c.replace-husk.ensures.value) in
+    let same = open-read r i xs x v here g c.index_mut-ended.ensures.value p (c.index_mut.ensures.value ∙ ap (λ w. slice_index_or w.items 0 p) c.replace-slot.ensures.value) in
     let w = open-some r i xs x v here p same in
     c.finish-outs.ensures.levels (run_view r.run) w.0 v w.1
 
@@ -59,9 +59,10 @@ returns-clause-shut c = λ xs x v here ends.
     let i = c.args.instance in
     let g = c.index_mut-ended.result.now in
     let p = c.index_mut.result.now in
-    let same = open-read r i xs x v here g c.index_mut-ended.ensures.value p (c.index_mut.ensures.value ∙ ap (λ w. slice_index_or w.items 0 p) c.replace-husk.ensures.value) in
+    let same = open-read r i xs x v here g c.index_mut-ended.ensures.value p (c.index_mut.ensures.value ∙ ap (λ w. slice_index_or w.items 0 p) c.replace-slot.ensures.value) in
     changes-closed r i xs x v here _ g c.index_mut-ended.ensures.value p same
-    (closes r i g p c.replace-husk.new.dest (ap (λ w. w.items) c.replace-husk.ensures.after ∙ c.new.ensures.items) c.finish-outs.result.1 c.finish-outs.ensures.seats
+    (closes r i g p c.replace-slot.new.dest (ap (λ w. w.items) c.replace-slot.ensures.after ∙ c.new.ensures.items)
+    c.replace-numbers.new.dest (ap (λ w. w.items) c.replace-numbers.ensures.after ∙ c.new-2.ensures.items) c.finish-outs.result.1 c.finish-outs.ensures.seats
     c.finish-outs.new.pool c.finish-outs.ensures.gone c.keep.new.husks)
 
 pub returns-clause-names : goal.returns-clause-names
@@ -72,9 +73,10 @@ returns-clause-names c =
     let g = c.index_mut-ended.result.now in
     let p = c.index_mut.result.now in
     let same =
-    open-read r i q.0 q.1 q.2 q.3 g c.index_mut-ended.ensures.value p (c.index_mut.ensures.value ∙ ap (λ w. slice_index_or w.items 0 p) c.replace-husk.ensures.value) in
+    open-read r i q.0 q.1 q.2 q.3 g c.index_mut-ended.ensures.value p (c.index_mut.ensures.value ∙ ap (λ w. slice_index_or w.items 0 p) c.replace-slot.ensures.value) in
     names-closed r i q.0 q.1 q.2 q.3
-    (with_closed r i g c.replace-husk.new.dest c.finish-outs.result.1 c.finish-outs.new.pool c.keep.new.husks)
+    (with_closed r i g c.replace-slot.new.dest c.replace-numbers.new.dest c.finish-outs.result.1 c.finish-outs.new.pool c.keep.new.husks)
     g c.index_mut-ended.ensures.value p same
-    (closes r i g p c.replace-husk.new.dest (ap (λ w. w.items) c.replace-husk.ensures.after ∙ c.new.ensures.items) c.finish-outs.result.1 c.finish-outs.ensures.seats
+    (closes r i g p c.replace-slot.new.dest (ap (λ w. w.items) c.replace-slot.ensures.after ∙ c.new.ensures.items)
+    c.replace-numbers.new.dest (ap (λ w. w.items) c.replace-numbers.ensures.after ∙ c.new-2.ensures.items) c.finish-outs.result.1 c.finish-outs.ensures.seats
     c.finish-outs.new.pool c.finish-outs.ensures.gone c.keep.new.husks)
