@@ -1,5 +1,5 @@
 //! The instance, its start and its end.
-ghost use Rattle.std.specs.Prelude.{◌≡◌, ◌-◌, ◌<◌, ◌++◌, ◌∷◌, ℕ, [], true, IfOk, None, OnErr, OnOk, Some, length, map, slice_get, option_map};
+ghost use Rattle.std.specs.Prelude.{◌≡◌, ◌-◌, ◌<◌, ◌≤◌, ◌++◌, ◌∷◌, ℕ, [], true, IfOk, None, OnErr, OnOk, Some, length, map, slice_get, option_map};
 ghost use Rattle.tv_value.specs.Nested.{Place};
 ghost use Rattle.tv_flow.specs.Flows.{Document};
 ghost use Rattle.tv_flow.specs.Views.{flow_view};
@@ -173,6 +173,7 @@ impl Open {
             → AreItsLevels v (map level_view result.2.items) }
         ensures gone { pool.new.regions
             ≡ regions_with pool.old (number_of self.old.frame.region) None }
+        ensures spare { pool.old.spare ≤ pool.new.spare }
     {
         let outs = self.frame.finish(pool);
         let seats = self.seats.finish(alloc);

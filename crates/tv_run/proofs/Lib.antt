@@ -59,6 +59,7 @@ pub mod OfOpens
 pub mod OfOutCounts
 pub mod OfOutcomes
 pub mod OfOutputs
+pub mod OfOuts
 pub mod OfOver
 pub mod OfPlannedJobs
 pub mod OfPlans

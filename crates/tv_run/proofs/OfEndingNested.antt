@@ -18,14 +18,14 @@ use Rattle.tv_seated.specs.Seated.{spot_of}
 use Rattle.tv_forest.specs.Entries.{shut, told, with_instance}
 use Rattle.tv_forest.specs.Forest.{Instance, Instances, IsAt, Stand}
 use Rattle.tv_forest.proofs.OfEnds as ends
-use Rattle.tv_forest.proofs.OfLists.{of-set, to-set}
+use Rattle.tv_forest.proofs.OfLists.{of-set, set-swap, to-set}
 use Rattle.tv_entries.specs.Runs.{Run, meant, past_of}
 use Rattle.tv_entries.specs.declared.entry.Entry.TheVariants as entry
 use Rattle.tv_entries.proofs.OfTold.{tells-ended}
 use Rattle.tv_open.specs.declared.events.Spot.{Spot}
-use Rattle.tv_run.specs.Changes.{ChangesTo, IsOpenHere, IsReadyIn, IsSeatHere, MayBeGivenIn, TellsIn}
+use Rattle.tv_run.specs.Changes.{ChangesTo, IsOpenHere, IsReadyIn, IsSeatHere, LeavesOthers, MayBeGivenIn, TellsIn}
 use Rattle.tv_run.specs.Rooms.{IsAsBefore, IsNoted}
-use Rattle.tv_run.specs.Settlements.{EndsIn, IsOpenIn, OfOpen, SettlesIn}
+use Rattle.tv_run.specs.Settlements.{EndsIn, GivesTo, IsOpenIn, OfOpen, SettlesIn}
 use Rattle.tv_run.specs.Standing.{Stands, names_of, run_of}
 use Rattle.tv_run.specs.declared.instances.Numbered.{Numbered}
 use Rattle.tv_run.specs.declared.run.OpenRun.{OpenRun}
@@ -35,6 +35,7 @@ use Rattle.tv_run.proofs.OfFailing.{ended-fails_none}
 use Rattle.tv_run.proofs.OfJobs.{spot-is}
 use Rattle.tv_run.proofs.OfLevels.{instance-named}
 use Rattle.tv_run.proofs.OfNext.{KeepsMain, goes-noted, main-kept, names-kept}
+use Rattle.tv_run.proofs.OfReadies.{ready-still}
 use Rattle.tv_run.proofs.OfRooms.{stands-before}
 use Rattle.tv_run.proofs.OfSettlings.{settles-in}
 
@@ -54,9 +55,25 @@ changes-then r s t xs ys a b = record {
 }
 
 module _ (gives : Giving) (r : OpenRun) (i : ℕ) (h : IsOpenIn gives r i) (ends-in : OfOpen r i EndsIn) (k : ℕ)
+    (m : Numbered) (q : HasOpener gives r i h ends-in k m) where
+  pub gives-to :
+      GivesTo r h.instances m.instance q.around (ending.v gives r i h ends-in k m q) m.number q.seat q.step i h.instance
+      h.view
+  gives-to = record {
+    seat = ending.seat-here gives r i h ends-in k m q;
+    here = ending.open-here gives r i h;
+    ends = ending.ends-now gives r i h ends-in;
+    apart = ending.not-itself gives r i h ends-in k m q;
+    may = λ vs outs. ending.may-give gives r i h ends-in k m q vs outs;
+  }
+
+  pub here-ready : (ready : OpenRun) → IsAsBefore r ready → IsOpenHere ready h.instances i h.instance h.view
+  here-ready ready b = record { fits = b.fits h.instances h.stands.fits; there = h.there; is_open = h.is_open }
+
+module _ (gives : Giving) (r : OpenRun) (i : ℕ) (h : IsOpenIn gives r i) (ends-in : OfOpen r i EndsIn) (k : ℕ)
     (m : Numbered) (q : HasOpener gives r i h ends-in k m) (ready : OpenRun) (b : IsAsBefore r ready) (vs : List Value)
     (outs : AreOutputs h.view vs) where
-  abbrev pub xs : Instances
+  abbrev xs : Instances
   xs = h.instances
 
   abbrev pub v : View
@@ -68,55 +85,63 @@ module _ (gives : Giving) (r : OpenRun) (i : ℕ) (h : IsOpenIn gives r i) (ends
   its-around : IsAt xs m.instance q.around
   its-around = q.is_number.is_job.instance
 
-  -- ---- once its room is taken
+  -- the room is for what it gives
+  pub ready-for : (us : List Value) → AreOutputs h.view us → (p : Spot) → IsReadyIn ready m.instance v q.seat q.step us p
+      → IsReadyIn ready m.instance v q.seat q.step vs p
+  ready-for us theirs p w =
+      subst (λ l. IsReadyIn ready m.instance v q.seat q.step l p)
+      (ending.result-is gives r i h ends-in k m q us theirs ∙ sym (ending.result-is gives r i h ends-in k m q vs outs)) w
 
-  pub seat-ready : IsSeatHere ready xs m.instance q.around v m.number q.seat q.step
-  seat-ready = record {
-    here = record {
-      fits = b.fits xs h.stands.fits;
-      there = its-around;
-      is_open = (ending.around-open gives r i h ends-in k m q).1;
-    };
-    seat = q.known.seat;
-    step = q.known.step;
-  }
+  -- ---- once it is shut
 
-  pub may-be_given : (p : Spot) → IsReadyIn ready m.instance v q.seat q.step vs p
-      → MayBeGivenIn ready xs m.instance q.around v m.number q.seat q.step vs p
-  may-be_given p w = record {
-    seat = seat-ready;
-    ready = w;
-    runs = ending.runs-nested gives r i h ends-in k m q;
-    taken = ending.is-taken_now gives r i h ends-in k m q;
-  }
-
-  -- ---- once it was given
-
-  module _ (given : OpenRun) (more : ℕ)
-      (tells :
-      TellsIn ready given xs m.instance q.around v (gave q.step.0 q.seat.place vs) more
-      (with_stage m.number stage.Settled q.around.seats)) where
-    abbrev pub around-then : Instance
-    around-then = told q.around tells.view (with_stage m.number stage.Settled q.around.seats ++ tells.new)
-
+  module _ (closed : OpenRun) (changes : ChangesTo ready closed (with_instance xs i (shut h.instance)))
+      (due : closed.due ≡ ready.due) (leaves : LeavesOthers ready closed i) where
     abbrev pub zs : Instances
-    zs = with_instance xs m.instance around-then
+    zs = with_instance xs i (shut h.instance)
 
-    pub here-given : IsOpenHere given zs i h.instance h.view
-    here-given = record {
-      fits = tells.changes.fits;
-      there = to-set xs m.instance q.around around-then its-around i h.instance not-its h.there;
-      is_open = h.is_open;
+    around-there : IsAt zs m.instance q.around
+    around-there =
+        to-set xs i h.instance (shut h.instance) h.there m.instance q.around (λ e. not-its (sym e)) its-around
+
+    pub seat-closed : IsSeatHere closed zs m.instance q.around v m.number q.seat q.step
+    seat-closed = record {
+      here = record {
+        fits = changes.fits;
+        there = around-there;
+        is_open = (ending.around-open gives r i h ends-in k m q).1;
+      };
+      seat = q.known.seat;
+      step = q.known.step;
     }
 
-    -- ---- once it is shut
+    pub may-be_given : (p : Spot) → IsReadyIn ready m.instance v q.seat q.step vs p
+        → MayBeGivenIn closed zs m.instance q.around v m.number q.seat q.step vs p
+    may-be_given p w = record {
+      seat = seat-closed;
+      ready =
+          ready-still ready closed i m.instance (λ e. not-its (sym e)) changes.rest due leaves v q.seat q.step vs p w;
+      runs = ending.runs-nested gives r i h ends-in k m q;
+      taken = ending.is-taken_now gives r i h ends-in k m q;
+    }
 
-    module _ (closed : OpenRun) (changes : ChangesTo given closed (with_instance zs i (shut h.instance)))
-        (due : closed.due ≡ given.due) (s : OpenRun) (noted : IsNoted closed s (entry.Ended i))
+    -- ---- once it was given
+
+    module _ (given : OpenRun) (more : ℕ)
+        (tells :
+        TellsIn closed given zs m.instance q.around v (gave q.step.0 q.seat.place vs) more
+        (with_stage m.number stage.Settled q.around.seats))
+        (s : OpenRun) (noted : IsNoted given s (entry.Ended i))
         (room : length ready.entries.items + ready.due + more + 1 ≤ vec_capacity ready.entries)
         (undone : ready.outs ≡ None) where
+      abbrev around-then : Instance
+      around-then = told q.around tells.view (with_stage m.number stage.Settled q.around.seats ++ tells.new)
+
       abbrev ys : Instances
-      ys = with_instance zs i (shut h.instance)
+      ys = with_instance zs m.instance around-then
+
+      -- the same as if it had been given first
+      given-first : ys ≡ with_instance (with_instance xs m.instance around-then) i (shut h.instance)
+      given-first = set-swap xs i m.instance (shut h.instance) around-then not-its
 
       abbrev name : JobName
       name = q.job.name
@@ -133,6 +158,14 @@ module _ (gives : Giving) (r : OpenRun) (i : ℕ) (h : IsOpenIn gives r i) (ends
       spot : spot_of q.around.flow.steps q.seat ≡ (q.step.0, q.seat.place)
       spot = spot-is r xs h.stands.fits k m.instance m.number q.around q.seat q.step q.known
 
+      goes :
+          GoesOn (run_view ready.run) (levels_in q.around.flow) v tells.view (gave q.step.0 q.seat.place vs) tells.new
+      goes =
+          subst
+          (λ p.
+          GoesOn (run_view p) (levels_in q.around.flow) v tells.view (gave q.step.0 q.seat.place vs) tells.new)
+          changes.rest.run tells.goes_on
+
       on :
           GoesOn (run_view ready.run) (levels_in q.around.flow) v tells.view
           (gave (spot_of q.around.flow.steps q.seat).0 q.seat.place q.job.result) tells.new
@@ -144,11 +177,16 @@ module _ (gives : Giving) (r : OpenRun) (i : ℕ) (h : IsOpenIn gives r i) (ends
           (subst
           (λ us.
           GoesOn (run_view ready.run) (levels_in q.around.flow) v tells.view (gave q.step.0 q.seat.place us) tells.new)
-          (ending.result-is gives r i h ends-in k m q vs outs) tells.goes_on)
+          (ending.result-is gives r i h ends-in k m q vs outs) goes)
 
       stand : Stand gives (run_view ready.run) levels_in (ended name ∷ past_of (run_of ready)) ys
       stand =
-          subst (λ (p : Run). Stand gives p.document levels_in (ended name ∷ past_of p) ys) (sym b.same)
+          subst (Stand gives (run_view ready.run) levels_in (ended name ∷ past_of (run_of ready))) (sym given-first)
+          (subst
+          (λ (p : Run).
+          Stand gives p.document levels_in (ended name ∷ past_of p)
+          (with_instance (with_instance xs m.instance around-then) i (shut h.instance)))
+          (sym b.same)
           (ends.ending gives (run_view r.run) levels_in (past_of (run_of r)) xs h.stands.stand m.instance m.number q.around
           q.seat q.job v q.is_number.is_job (ending.around-open gives r i h ends-in k m q).1 i h.instance tells.view
           tells.new q.nested h.there
@@ -158,29 +196,30 @@ module _ (gives : Giving) (r : OpenRun) (i : ℕ) (h : IsOpenIn gives r i) (ends
           (λ (p : Run).
           GoesOn p.document (levels_in q.around.flow) v tells.view
           (gave (spot_of q.around.flow.steps q.seat).0 q.seat.place q.job.result) tells.new)
-          b.same on))
+          b.same on)))
 
       main : KeepsMain xs ys
       main p z was is =
           main-kept xs m.instance q.around around-then its-around
           (sym (ap (λ (o : Option View). is_none o) (ending.around-open gives r i h ends-in k m q).1)) p z was
-          (of-set zs i h.instance (shut h.instance) here-given.there 0 z
-          (λ e. let low = q.before in omega (arith, low, e)) is)
+          (of-set (with_instance xs m.instance around-then) i h.instance (shut h.instance)
+          (to-set xs m.instance q.around around-then its-around i h.instance not-its h.there) 0 z
+          (λ e. let low = q.before in omega (arith, low, e)) (subst (λ l. IsAt l 0 z) given-first is))
 
-      room-left : length ready.entries.items + closed.due + 1 ≤ vec_capacity s.entries
+      room-left : length ready.entries.items + given.due + 1 ≤ vec_capacity s.entries
       room-left =
           let given-due = tells.due in
-          let first = ap vec_capacity tells.changes.rest.entries in
-          let second = ap vec_capacity changes.rest.entries in
+          let first = ap vec_capacity changes.rest.entries in
+          let second = ap vec_capacity tells.changes.rest.entries in
           let wide = noted.capacity in
           omega (arith, due, given-due, first, second, wide, room)
 
       pub ends-nested : SettlesIn gives r s i true
       ends-nested =
           settles-in gives r ready s i (entry.Ended i) b.same refl
-          (goes-noted gives ready closed s xs ys (entry.Ended i) (ended name)
+          (goes-noted gives ready given s xs ys (entry.Ended i) (ended name)
           (record {
-            changes = changes-then ready given closed zs ys tells.changes changes;
+            changes = changes-then ready closed given zs ys changes tells.changes;
             noted = noted;
             told =
                 tells-ended (run_of ready) i name
@@ -192,8 +231,8 @@ module _ (gives : Giving) (r : OpenRun) (i : ℕ) (h : IsOpenIn gives r i) (ends
                 ended-fails_none gives (run_view ready.run) levels_in (past_of (run_of ready)) xs now.stand name can;
             room = room-left;
             names =
-                names-kept zs i h.instance (shut h.instance) here-given.there refl
-                ∙ names-kept xs m.instance q.around around-then its-around refl;
+                names-kept zs m.instance q.around around-then around-there refl
+                ∙ names-kept xs i h.instance (shut h.instance) h.there refl;
             main = main;
           })
           now undone)

@@ -1,19 +1,24 @@
--- An open instance is ready for an event by any plan of its flow.
-use Rattle.std.specs.Prelude.{◌≡◌, ℕ, List}
+-- An open instance is ready for an event by any plan of its flow, and still is once another has ended.
+use Rattle.std.specs.Prelude.{◌≡◌, ◌≢◌, ℕ, List, length, vec_capacity}
+use Rattle.std.proofs.Common.{ap, arith, subst, sym, ◌∙◌}
 use Rattle.tv_value.specs.Values.{Name, Value}
 use Rattle.tv_flow.specs.Flows.{Document, Flow, Step}
 use Rattle.tv_flow.specs.Views.{flow_view}
+use Rattle.tv_check.specs.RunViews.{run_view}
 use Rattle.tv_check.specs.declared.plans.FlowPlan.{FlowPlan}
 use Rattle.tv_outputs.specs.Known.{Nodes}
-use Rattle.tv_instance.specs.Events.{Event}
+use Rattle.tv_instance.specs.Events.{Event, gave}
 use Rattle.tv_framing.specs.Views.{View}
 use Rattle.tv_frame.specs.Prepared.{IsReadyFor}
 use Rattle.tv_frame.specs.declared.frame.Frame.{Frame}
+use Rattle.tv_beside.proofs.OfFrames.{ready-beside}
 use Rattle.tv_seats.specs.Seats.{Seat}
 use Rattle.tv_open.specs.Events.{IsReadyToGive, IsReadyToSettleAt}
 use Rattle.tv_open.specs.declared.events.Spot.{Spot}
 use Rattle.tv_open.specs.declared.open.Open.{Open}
-use Rattle.tv_run.proofs.OfOpens.{keeps-any, open-any}
+use Rattle.tv_run.specs.Changes.{HasSameRest, IsReadyIn, LeavesOthers}
+use Rattle.tv_run.specs.declared.run.OpenRun.{OpenRun}
+use Rattle.tv_run.proofs.OfOpens.{keeps-any, open-any, open-beside}
 
 ready-for_plan :
     (flows : List (Name × Flow)) (plan other : FlowPlan) (pool : Nodes) (f : Frame) (v : View) (n : ℕ) (s : Name × Step)
@@ -67,4 +72,45 @@ settle-by_plan d plan other pool o v e more h k = record {
   level = k.level;
   next = k.next;
   is_level = k.is_level;
+}
+
+-- what was ready is so once another instance has ended
+pub ready-still : (r s : OpenRun) (i k : ℕ) → k ≢ i → HasSameRest r s → s.due ≡ r.due → LeavesOthers r s i → (v : View)
+    (n : Seat) (t : Name × Step) (vs : List Value) (x : Spot) → IsReadyIn r k v n t vs x → IsReadyIn s k v n t vs x
+ready-still r s i k ne rest due leaves v n t vs x w = record {
+  ready = λ c o plan at opened flow.
+      let was = sym (leaves.others.others k ne) ∙ at in
+      let same = leaves.regions k c o ne was opened in
+      let h = w.ready c o plan was opened flow in
+      subst (λ d. IsReadyToGive (run_view d) plan s.pool o v n t vs x) (sym rest.run)
+      (record {
+        is_open = open-beside (run_view r.run) plan r.pool s.pool o v same h.is_open;
+        step = h.step;
+        place = h.place;
+        ready =
+            ready-beside (run_view r.run).flows plan r.pool s.pool o.frame v n.step t (gave t.0 n.place vs) h.ready same
+            leaves.spare;
+        brings = h.brings;
+        room = h.room;
+      });
+  room = record {
+    numbers = λ c at. w.room.numbers c (sym (leaves.others.others k ne) ∙ at);
+    beside = record {
+      jobs =
+          let room = w.room.beside.jobs in
+          let long = ap (λ l. length l.items) leaves.jobs in
+          let wide = ap vec_capacity leaves.jobs in
+          omega (arith, room, long, wide);
+      busy =
+          let room = w.room.beside.busy in
+          let long = ap (λ l. length l.items) leaves.busy in
+          let wide = ap vec_capacity leaves.busy in
+          omega (arith, room, long, wide);
+      entries =
+          let room = w.room.beside.entries in
+          let long = ap (λ l. length l.items) rest.entries in
+          let wide = ap vec_capacity rest.entries in
+          omega (arith, room, long, wide, due);
+    };
+  };
 }

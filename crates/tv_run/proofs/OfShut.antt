@@ -2,7 +2,7 @@
 use Rattle.std.specs.Option.{option_map_or}
 use Rattle.std.specs.Global.{Global}
 use Rattle.std.specs.Vec.{with_item}
-use Rattle.std.specs.Prelude.{Vec, ◌≡◌, ◌≢◌, refl, ℕ, ◌<◌, ◌++◌, true, [], ◌∷◌, None, Option, Some, is_some, length, option_and_then, option_map, slice_get, slice_index_or, slice_set}
+use Rattle.std.specs.Prelude.{Vec, ◌≡◌, ◌≢◌, refl, ℕ, ◌<◌, ◌≤◌, ◌++◌, true, [], ◌∷◌, None, Option, Some, is_some, length, option_and_then, option_map, slice_get, slice_index_or, slice_set}
 use Rattle.std.proofs.Common.{ap, append-nil, arith, inl, subst, sym, ◌∙◌}
 use Rattle.std.proofs.lemmas.List.{length-set}
 use Rattle.std.proofs.lemmas.Option.{none-some, same_Some, slice_get_within}
@@ -22,7 +22,7 @@ use Rattle.tv_forest.specs.Entries.{shut, with_instance}
 use Rattle.tv_forest.specs.Forest.{Instance, Instances, IsAt}
 use Rattle.tv_forest.proofs.OfLists.{at-set, of-set, one-at, same-number, to-set}
 use Rattle.tv_open.specs.declared.open.Open.{Open}
-use Rattle.tv_run.specs.Changes.{ChangesTo, IsOpenHere}
+use Rattle.tv_run.specs.Changes.{ChangesTo, IsOpenHere, LeavesOthers}
 use Rattle.tv_run.specs.Following.{OthersAreSame}
 use Rattle.tv_run.specs.Looks.{IsFlow}
 use Rattle.tv_run.specs.Standing.{Fits, IsKept, due_in, frame_at, names_of, seats_of}
@@ -384,3 +384,20 @@ module _ (r : OpenRun) (i : ℕ) (xs : Instances) (x : Instance) (v : View) (her
 
   pub changes-closed : ChangesTo r s (with_instance xs i (shut x))
   changes-closed = changes-shut r s xs i x v (o r i xs x v here) is-shut here
+
+  pub leaves-others : r.pool.spare ≤ s.pool.spare → LeavesOthers r s i
+  leaves-others spare = record {
+    others = is-shut.others;
+    busy = w.busy;
+    jobs = w.jobs;
+    regions = λ k e q ne at opened.
+        releases-keep r.pool s.pool q.frame (number_of (o r i xs x v here).frame.region)
+        (λ h.
+        ne
+        (here.fits.theirs.apart k i q.frame (o r i xs x v here).frame (frame-is r k e q [] at opened)
+        (frame-is r i (its r i xs x v here) (o r i xs x v here) [] (its-code r i xs x v here).there
+        (its-code r i xs x v here).opened.there)
+        h))
+        is-shut.gone;
+    spare = spare;
+  }

@@ -10,6 +10,7 @@ use Rattle.tv_framing.specs.Answers.{IsReadyJob}
 use Rattle.tv_framing.specs.Views.{View}
 use Rattle.tv_frame.specs.Calls.{CanStart}
 use Rattle.tv_frame.specs.Tables.{levels_in}
+use Rattle.tv_beside.specs.Beside.{SameRegion}
 use Rattle.tv_seats.specs.Seats.{Seat, room_at, step_at, with_stage}
 use Rattle.tv_seats.specs.Stages.{is_nested, is_out, is_waiting}
 use Rattle.tv_seats.specs.declared.stage.Stage.{Stage}
@@ -20,6 +21,7 @@ use Rattle.tv_forest.specs.Forest.{Instance, Instances, IsAt}
 use Rattle.tv_open.specs.Events.{IsReadyToGive, IsReadyToSettleAt}
 use Rattle.tv_open.specs.declared.events.Spot.{Spot}
 use Rattle.tv_open.specs.declared.open.Open.{Open}
+use Rattle.tv_run.specs.Following.{OthersAreSame}
 use Rattle.tv_run.specs.Looks.{IsFlow}
 use Rattle.tv_run.specs.Rooms.{HasRoomIn}
 use Rattle.tv_run.specs.Standing.{Fits, names_of}
@@ -122,6 +124,16 @@ pub record IsReadyToSettleIn (r : OpenRun) (i : ℕ) (v : View) (e : Event) (mor
       → IsReadyToSettleAt (run_view r.run) plan r.pool o v e more
 
 -- ---- instances
+
+-- each instance but that of this number is as it was, with its region, and what there is room for is the same
+pub record LeavesOthers (r s : OpenRun) (i : ℕ) : Type 0 where
+  pub others : OthersAreSame r s i
+  pub busy : s.busy ≡ r.busy
+  pub jobs : s.jobs ≡ r.jobs
+  pub regions :
+      (k : ℕ) (c : code.Instance) (o : Open) → (k ≡ i → ⊥) → slice_get r.instances.items k ≡ Some c
+      → c.open.items ≡ o ∷ [] → SameRegion r.pool s.pool o.frame
+  pub spare : r.pool.spare ≤ s.pool.spare
 
 -- it is of this flow, on these inputs, told nothing, and all its jobs wait
 pub record IsOpenedOn (d : Document) (f : Flow) (values : List Value) (name : JobName)

@@ -1,8 +1,8 @@
 -- What is settled in an instance, and when a flow is opened.
-use Rattle.std.specs.Prelude.{Bool, Box, None, Option, Some, false, find, length, not, slice_get, true, ℕ, ◌+◌, ◌-◌, ◌≡◌}
+use Rattle.std.specs.Prelude.{Bool, Box, List, None, Option, Some, false, find, length, not, slice_get, true, ℕ, ◌+◌, ◌-◌, ◌≡◌}
 use Rattle.std.specs.declared.alloc.Global.{Global}
 use Rattle.tv_value.specs.declared.place.Place.{Place}
-use Rattle.tv_value.specs.Values.{Name}
+use Rattle.tv_value.specs.Values.{Name, Value}
 use Rattle.tv_gate.specs.Outcomes.{Giving}
 use Rattle.tv_flow.specs.Flows.{Step}
 use Rattle.tv_dispatch.specs.declared.plan.Plan.{Plan}
@@ -11,9 +11,10 @@ use Rattle.tv_instance.specs.Events.{Event}
 use Rattle.tv_model.specs.Jobs.{Job}
 use Rattle.tv_history.specs.Histories.{next_ask}
 use Rattle.tv_order.specs.Moments.{IsQuiet, all_jobs}
-use Rattle.tv_framing.specs.Answers.{CanSettle, has_ended_now}
+use Rattle.tv_framing.specs.Answers.{AreOutputs, CanSettle, has_ended_now}
 use Rattle.tv_framing.specs.Views.{View}
 use Rattle.tv_frame.specs.Calls.{SameRegions}
+use Rattle.tv_frame.specs.Prepared.{MayGive}
 use Rattle.tv_frame.specs.Tables.{levels_in}
 use Rattle.tv_frame.specs.declared.events.Settled.{Settled}
 use Rattle.tv_frame.specs.declared.events.Settled.TheVariants as settled
@@ -28,7 +29,7 @@ use Rattle.tv_entries.specs.declared.entry.Entry.{Entry}
 use Rattle.tv_entries.specs.declared.entry.Entry.TheVariants as entry
 use Rattle.tv_open.specs.Firsts.{BindsFault, IsReadySeat}
 use Rattle.tv_open.specs.declared.firsts.Seeking.TheVariants as seeking
-use Rattle.tv_run.specs.Changes.{IsReadyToSettleIn}
+use Rattle.tv_run.specs.Changes.{IsOpenHere, IsReadyToSettleIn, IsSeatHere}
 use Rattle.tv_run.specs.Rooms.{IsAsBefore}
 use Rattle.tv_run.specs.Standing.{Fits, Stands, StandsStill, run_of}
 use Rattle.tv_run.specs.Turns.{StaysAs}
@@ -73,6 +74,16 @@ BouncesIn n x v = (s : Seat) × (slice_get x.seats n ≡ Some s) × IsReadySeat 
 
 abbrev pub EndsIn : Instance → View → Type 0
 EndsIn x v = has_ended_now (levels_in v.flow) v ≡ true
+
+-- the job of seat n of instance i, which is s, of step t, may give what instance k gives, which has ended
+pub record GivesTo (r : OpenRun) (xs : Instances) (i : ℕ) (x : Instance) (v : View) (n : ℕ)
+    (s : Seat)
+    (t : Name × Step) (k : ℕ) (y : Instance) (w : View) : Type 0 where
+  pub seat : IsSeatHere r xs i x v n s t
+  pub here : IsOpenHere r xs k y w
+  pub ends : EndsIn y w
+  pub apart : k ≡ i → ⊥
+  pub may : (vs : List Value) → AreOutputs w vs → MayGive v t s.place vs
 
 abbrev pub EndsNot : Instance → View → Type 0
 EndsNot x v = has_ended_now (levels_in v.flow) v ≡ false

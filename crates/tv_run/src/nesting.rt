@@ -9,15 +9,17 @@ ghost use Rattle.tv_cell.specs.Soundness.{AreSound};
 ghost use Rattle.tv_framing.specs.Answers.{AreOutputs};
 ghost use Rattle.tv_framing.specs.Views.{View};
 ghost use Rattle.tv_seats.specs.Firsts.{MayNest};
+ghost use Rattle.tv_seats.specs.Seats.{Seat};
 ghost use Rattle.tv_seats.specs.declared.stage.Stage.TheVariants.{Nested as ANested};
 ghost use Rattle.tv_levels.specs.Views.{level_view};
 ghost use Rattle.tv_open.specs.Events.{WaitsReady};
 ghost use Rattle.tv_open.specs.Levels.{AreItsLevels};
 ghost use Rattle.tv_forest.specs.Entries.{shut, with_instance};
 ghost use Rattle.tv_forest.specs.Forest.{Instance, Instances, IsAt};
-ghost use Rattle.tv_run.specs.Changes.{ChangesTo, HasNestRoom, IsOpenHere, TakesIn};
+ghost use Rattle.tv_run.specs.Changes.{ChangesTo, HasNestRoom, IsOpenHere, IsReadyIn, LeavesOthers, TakesIn};
 ghost use Rattle.tv_run.specs.Looks.{OpensNumber};
-ghost use Rattle.tv_run.specs.Settlements.{EndsIn, EndsOrNot, GoesOnFirst, IsOpenIn, IsOpenerOf, IsQuietRun, OfOpen, OpensFirst, SettlesIn, has_flow_next, opened_flow};
+ghost use Rattle.tv_run.specs.Rooms.{IsAsBefore};
+ghost use Rattle.tv_run.specs.Settlements.{EndsIn, EndsOrNot, GivesTo, GoesOnFirst, IsOpenIn, IsOpenerOf, IsQuietRun, OfOpen, OpensFirst, SettlesIn, has_flow_next, opened_flow};
 ghost use Rattle.tv_run.specs.Standing.{Fits, StandsOpen, names_of};
 ghost use Rattle.tv_run.specs.Turns.{MovesTo, SettlesTo, StaysAs};
 
@@ -26,10 +28,9 @@ use crate::instances::Numbered;
 use crate::run::OpenRun;
 use crate::slots::{Husk, keep};
 use std::mem;
-use tv_cell::Pieces;
 use tv_dispatch::{Kind, Plan};
 use tv_entries::{Entry, Moved};
-use tv_open::Seeking;
+use tv_open::{Seeking, Spot};
 use tv_seats::Stage;
 use tv_value::{Copied, NoMemory};
 
@@ -220,26 +221,36 @@ impl OpenRun {
             → StaysAs gives self.old self.new) }
     {
         let outer = self.known(job);
-        let pieces = self.outs_of(instance)?;
-        let spot = self.room_for_result(outer.instance, outer.number, &pieces)?;
-        self.give(outer.instance, outer.number, spot, pieces);
-        let _ended = self.close(instance);
+        let spot = self.room_for_outs(outer.instance, outer.number, instance)?;
+        let ended = self.close(instance);
+        self.give(outer.instance, outer.number, spot, ended.outs);
         self.note(Entry::Ended { instance });
         Ok(())
     }
 
-    /// What an instance gives that has ended. The cells are shared.
-    fn outs_of(&self, instance: u64) -> Result<Pieces, NoMemory>
-        requires { (xs : Instances) × (x : Instance) × (v : View)
-            × IsOpenHere self.now xs instance x v × EndsIn x v }
-        ensures sound { IfOk result AreSound }
-        ensures outputs { IfOk result (λ ps. (xs : Instances) (x : Instance) (v : View)
-            → IsOpenHere self.now xs instance x v → EndsIn x v → AreOutputs v (piece_values ps)) }
+    /// Takes all the room that the result of a job of an open instance needs, with its entry, where that is what another gives that
+    /// has ended. Answers where it goes.
+    fn room_for_outs(&mut self, instance: u64, number: u64, inner: u64) -> Result<Spot, NoMemory>
+        requires { (xs : Instances) × (x : Instance) × (v : View) × (s : Seat) × (t : Name × Step)
+            × (y : Instance) × (w : View) × GivesTo self.old xs instance x v number s t inner y w }
+        ensures same { IsAsBefore self.old self.new }
+        ensures ready { IfOk result (λ p. (xs : Instances) (x : Instance) (v : View) (s : Seat)
+            (t : Name × Step) (y : Instance) (w : View)
+            → GivesTo self.old xs instance x v number s t inner y w
+            → (vs : _) × AreOutputs w vs × IsReadyIn self.new instance v s t vs p) }
     {
-        match self.opened(instance).outputs() {
-            Some(outs) => outs.copy(self.alloc),
-            None => unreachable!(),
-        }
+        let plan = self.run.flow(self.instances[instance as usize].flow);
+        // It stands aside while the other is looked at.
+        let outer = &mut self.instances[instance as usize];
+        let mut slot = mem::replace(&mut outer.open, Vec::new(self.alloc));
+        let Some(outs) = self.instances[inner as usize].open[0].outputs() else {
+            unreachable!()
+        };
+        let room = slot[0].room_for_result(self.alloc, plan, &mut self.pool, number, outs);
+        self.instances[instance as usize].open = slot;
+        let spot = room?;
+        self.reserve_in(instance, spot.more)?;
+        Ok(spot)
     }
 
     /// An instance that has ended is open no more, and gives back its region. Takes no memory.
@@ -255,6 +266,9 @@ impl OpenRun {
         ensures shut { (xs : Instances) (x : Instance) (v : View)
             → IsOpenHere self.old xs instance x v → EndsIn x v
             → ChangesTo self.old self.new (with_instance xs instance (shut x)) }
+        ensures others { (xs : Instances) (x : Instance) (v : View)
+            → IsOpenHere self.old xs instance x v → EndsIn x v
+            → LeavesOthers self.old self.new instance }
         ensures names { names_of self.new ≡ names_of self.old }
         ensures due { self.new.due ≡ self.old.due }
     {

@@ -3,7 +3,7 @@ use Rattle.std.proofs.Common.{ap, arith, ◌∙◌}
 use Rattle.tv_check.specs.RunViews.{run_view}
 use Rattle.tv_run.proofs.OfEnding.{open-some}
 use Rattle.tv_run.proofs.OfItself.{number-low, open-low, open-read}
-use Rattle.tv_run.proofs.OfShut.{changes-closed, closes, names-closed, with_closed}
+use Rattle.tv_run.proofs.OfShut.{changes-closed, closes, leaves-others, names-closed, with_closed}
 use Rattle.tv_run.proofs.run.OpenRun.close.Goals as goal
 
 pub index_mut-ended-requires : goal.index_mut-ended-requires
@@ -64,6 +64,19 @@ returns-clause-shut c = λ xs x v here ends.
     (closes r i g p c.replace-slot.new.dest (ap (λ w. w.items) c.replace-slot.ensures.after ∙ c.new.ensures.items)
     c.replace-numbers.new.dest (ap (λ w. w.items) c.replace-numbers.ensures.after ∙ c.new-2.ensures.items) c.finish-outs.result.1 c.finish-outs.ensures.seats
     c.finish-outs.new.pool c.finish-outs.ensures.gone c.keep.new.husks)
+
+pub returns-clause-others : goal.returns-clause-others
+returns-clause-others c = λ xs x v here ends.
+    let r = c.args.self.now in
+    let i = c.args.instance in
+    let g = c.index_mut-ended.result.now in
+    let p = c.index_mut.result.now in
+    let same = open-read r i xs x v here g c.index_mut-ended.ensures.value p (c.index_mut.ensures.value ∙ ap (λ w. slice_index_or w.items 0 p) c.replace-slot.ensures.value) in
+    leaves-others r i xs x v here _ g c.index_mut-ended.ensures.value p same
+    (closes r i g p c.replace-slot.new.dest (ap (λ w. w.items) c.replace-slot.ensures.after ∙ c.new.ensures.items)
+    c.replace-numbers.new.dest (ap (λ w. w.items) c.replace-numbers.ensures.after ∙ c.new-2.ensures.items) c.finish-outs.result.1 c.finish-outs.ensures.seats
+    c.finish-outs.new.pool c.finish-outs.ensures.gone c.keep.new.husks)
+    c.finish-outs.ensures.spare
 
 pub returns-clause-names : goal.returns-clause-names
 returns-clause-names c =
