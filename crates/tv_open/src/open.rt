@@ -107,7 +107,8 @@ impl Open {
             → CanStart d.flows plan.now (piece_values inputs)
             → StartsOpen d plan.now (piece_values inputs) pool.new self.new) }
         ensures own { OnOk result (number_of self.new.frame.region ≡ length pool.old.regions) }
-        ensures kept { OnOk result (KeepsRegions pool.old pool.new (number_of self.new.frame.region)) }
+        ensures kept { OnOk result (KeepsRegions pool.old pool.new
+            (number_of self.new.frame.region)) }
         ensures refused { OnErr result (SameRegions pool.old pool.new) }
     {
         self.seats.start(alloc, tables.levels())?;

@@ -22,7 +22,8 @@ impl Open {
     /// A job that is out is idle from now on, with this try as its next. Takes no memory.
     pub fn put_back(&mut self, number: u64, activity: u32, attempt: u32)
         requires out { stands is_out self.old.seats.seats number ≡ true }
-        requires room { 0 < back_room self.old.seats.back_rooms (step_at self.old.seats.seats number) }
+        requires room { 0 < back_room self.old.seats.back_rooms (step_at self.old.seats.seats
+            number) }
         ensures { HasStage self.old self.new number (AnIdle activity attempt) }
     {
         self.turns.take_in(self.seats.step(number));
@@ -41,7 +42,8 @@ impl Open {
     /// A job that is out has the flow of this activity next. Takes no memory.
     pub fn set_aside(&mut self, number: u64, activity: u32)
         requires out { stands is_out self.old.seats.seats number ≡ true }
-        requires room { 0 < room_at self.old.seats.aside_rooms (step_at self.old.seats.seats number) }
+        requires room { 0 < room_at self.old.seats.aside_rooms (step_at self.old.seats.seats
+            number) }
         ensures { HasStage self.old self.new number (AnAside activity) }
     {
         self.turns.take_in(self.seats.step(number));

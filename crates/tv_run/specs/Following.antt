@@ -116,7 +116,8 @@ pub record FollowsIn (r s : OpenRun) (i : ℕ) : Type 0 where
   pub itself :
       (c e : code.Instance) → slice_get r.instances.items i ≡ Some c
       → slice_get s.instances.items i ≡ Some e
-      → HasNumbers (record c { is_busy = true }) e (c.jobs.items ++ range_with_len (length r.jobs.items) (unnumbered c))
+      → HasNumbers (record c { is_busy = true }) e (c.jobs.items
+      ++ range_with_len (length r.jobs.items) (unnumbered c))
   pub jobs :
       (c : code.Instance) → slice_get r.instances.items i ≡ Some c
       → s.jobs.items ≡ r.jobs.items

@@ -11,7 +11,8 @@ use Rattle.tv_run.specs.declared.run.OpenRun.{OpenRun}
 
 -- how many are out
 abbrev pub out_in : List code.Instance → ℕ
-out_in cs = sum_by (λ (c : code.Instance). sum_by (λ (o : Open). out_count o.seats.seats) c.open.items) cs
+out_in cs = sum_by (λ (c : code.Instance). sum_by (λ (o : Open). out_count o.seats.seats)
+    c.open.items) cs
 
 -- ---- rooms
 
