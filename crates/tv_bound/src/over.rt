@@ -41,14 +41,16 @@ pub struct Over<'a> {
 }
 
 /// The pieces of what a flow's outputs deliver once the event is shown, in order: as `flow_outputs` after it. No tree is
-/// changed, and no value is copied.
+/// changed, and no value is copied. They stand in the memory of `room`, which is empty.
 pub fn flow_outputs_over(
     alloc: Global,
     sources: &Sources<'_>,
     constants: &Constants,
     feeds: &[NumberedFeed],
     over: &Over<'_>,
+    room: Vec<Piece>,
 ) -> Result<Pieces, NoMemory>
+    requires room { room.items ≡ [] }
     requires stand { Stand sources.now }
     requires over { CanCome sources.now over.now }
     requires counted { Each IsCounted feeds.now }
@@ -58,7 +60,8 @@ pub fn flow_outputs_over(
         (constants_view constants.now) feeds.now ≡ Some (piece_values ps)) }
     ensures sound { IfOk result AreSound }
 {
-    let mut pieces = Vec::with_capacity(alloc, feeds.len())?;
+    let mut pieces = room;
+    pieces.reserve_exact(feeds.len())?;
     for (number, feed) in feeds.iter().enumerate() {
         let constant = constants.of_output(number);
         pieces.push(feed_over(alloc, sources, over, feed, constant)?)?;

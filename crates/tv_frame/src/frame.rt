@@ -55,6 +55,8 @@ pub struct Frame {
     pub(crate) outs: Option<Pieces>,
     // The room of what a step is told at the start.
     pub(crate) told: Tolds,
+    // Where the inputs stood of an instance that has ended, for the outputs of the next.
+    pub(crate) spare: Vec<Piece>,
 }
 
 /// What the last room call found, for the call that follows it.
@@ -94,6 +96,7 @@ impl Frame {
             },
             outs: None,
             told: Tolds::empty(alloc),
+            spare: Vec::new(alloc),
         }
     }
 
@@ -236,7 +239,9 @@ impl Frame {
     {
         let region = mem::replace(&mut self.region, Region::none());
         pool.release(region);
-        self.inputs = Row::empty(self.alloc);
+        let inputs = mem::replace(&mut self.inputs, Row::empty(self.alloc));
+        self.spare = inputs.into_vec();
+        self.spare.clear();
     }
 }
 

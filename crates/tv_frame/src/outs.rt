@@ -37,14 +37,17 @@ pub(crate) struct Over<'a> {
 }
 
 impl Frame {
-    /// The flow's outputs, where all steps are whole with the event. No tree is changed, and no value is copied.
+    /// The flow's outputs, where all steps are whole with the event. No tree is changed, and no value is copied. They stand in
+    /// the memory of `room`, which is empty.
     pub(crate) fn outs_with(
         &self,
         plan: &FlowPlan,
         pool: &Nodes,
         over: &Over,
+        room: Vec<Piece>,
     ) -> Result<Pieces, NoMemory>
-        requires { (flows : List (Name × Flow)) × (v : View) × (s : Name × Step) × (e : TheEvent)
+        requires room { room.items ≡ [] }
+        requires over { (flows : List (Name × Flow)) × (v : View) × (s : Name × Step) × (e : TheEvent)
             × (from : ℕ) × Keeps flows plan.now pool.now self.now v
             × IsLaidOver flows v s e over.now from × AllAreWhole (with_event v e []) }
         ensures sound { IfOk result AreSound }
@@ -68,6 +71,7 @@ impl Frame {
             self.tables.constants(),
             plan.wiring.outputs.as_slice(),
             &coming,
+            room,
         )
     }
 }

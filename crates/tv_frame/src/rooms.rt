@@ -33,6 +33,7 @@ use crate::frame::Frame;
 use crate::outs::{Change, Over};
 use crate::tables::{outputs_of, trees_of};
 use std::alloc::Global;
+use std::mem;
 use tv_bound::{Sources, feed_piece};
 use tv_cell::{Piece, Pieces, Row};
 use tv_check::FlowPlan;
@@ -356,7 +357,9 @@ impl Frame {
         if whole_from != 0 || !self.endings.is_last(&plan.wiring, over.step) {
             return Ok(());
         }
-        self.ahead.outs = Some(self.outs_with(plan, pool, over)?);
+        let mut room = mem::replace(&mut self.spare, Vec::new(self.alloc));
+        room.clear();
+        self.ahead.outs = Some(self.outs_with(plan, pool, over, room)?);
         Ok(())
     }
 

@@ -26,8 +26,8 @@ returns-then-whole_from-ne0-clause-outs c = λ flows v s e k l.
       | then-whole_from-ne0-via-else-whole_from-ne0+then-not-is_last w ↦ true≢false (sym h ∙ sym w.is_last.ensures ∙ w.if-not-is_last.true)
     ])
 
-pub outs_with-requires : goal.outs_with-requires
-outs_with-requires c =
+pub outs_with-requires-clause-over : goal.outs_with-requires-clause-over
+outs_with-requires-clause-over c =
     let r = c.requires in (
       r.0,
       r.1,

@@ -6,20 +6,20 @@ use Rattle.tv_frame.proofs.frame.Frame.outs_with.Goals as goal
 
 pub brought_by-brought-requires : goal.brought_by-brought-requires
 brought_by-brought-requires c =
-    let r = c.requires in
+    let r = c.requires.over in
     many-there r.0 c.args.plan.now c.args.pool.now c.args.self.now r.1 r.5 r.2 r.3 c.args.over.now r.4 r.6 c.as_slice-outputs.result.now
     (c.as_slice-outputs.ensures ∙ outputs-same r.0 c.args.plan.now c.args.pool.now c.args.self.now r.1 r.5 c.args.over.now.step r.2 r.6.at c.as_slice.result.now c.as_slice.ensures c.index-as_slice-over.result)
 
 pub overflow_cast-coming : goal.overflow_cast-coming
 overflow_cast-coming c =
-    let r = c.requires in
+    let r = c.requires.over in
     let same = ap length (c.as_slice-outputs.ensures ∙ outputs-same r.0 c.args.plan.now c.args.pool.now c.args.self.now r.1 r.5 c.args.over.now.step r.2 r.6.at c.as_slice.result.now c.as_slice.ensures c.index-as_slice-over.result) in
     let few = outputs-few r.0 c.args.plan.now c.args.pool.now c.args.self.now r.1 r.5 c.args.over.now.step r.2 r.6.at in
     omega (arith, same, few)
 
 pub flow_outputs_over-requires-clause-over : goal.flow_outputs_over-requires-clause-over
 flow_outputs_over-requires-clause-over c =
-    let r = c.requires in
+    let r = c.requires.over in
     can-come r.0 c.args.plan.now c.args.pool.now c.args.self.now r.1 r.5 c.sources.result (record { inputs = c.sources.ensures.inputs; outputs = c.sources.ensures.outputs; nodes = c.sources.ensures.pool; firsts = c.sources.ensures.firsts }) r.2 r.3 c.args.over.now r.4 r.6 _
     (coming-of r.2 c.args.over.now _ c.as_slice-outputs.result.now
     (c.as_slice-outputs.ensures ∙ outputs-same r.0 c.args.plan.now c.args.pool.now c.args.self.now r.1 r.5 c.args.over.now.step r.2 r.6.at c.as_slice.result.now c.as_slice.ensures c.index-as_slice-over.result)
@@ -30,7 +30,7 @@ flow_outputs_over-requires-clause-counted c = outputs-counted c.args.plan.now c.
 
 pub flow_outputs_over-requires-clause-found : goal.flow_outputs_over-requires-clause-found
 flow_outputs_over-requires-clause-found c =
-    let r = c.requires in
+    let r = c.requires.over in
     found-so r.0 c.args.plan.now c.args.pool.now c.args.self.now r.1 r.5 c.sources.result (record { inputs = c.sources.ensures.inputs; outputs = c.sources.ensures.outputs; nodes = c.sources.ensures.pool; firsts = c.sources.ensures.firsts }) r.2 r.3 c.args.over.now r.4 r.6
     (record { step = c.args.over.now.step; outputs = length c.as_slice-outputs.result.now; place = c.args.over.now.place; brought = c.brought_by-brought.result })
     (coming-of r.2 c.args.over.now _ c.as_slice-outputs.result.now
