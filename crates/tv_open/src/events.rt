@@ -97,6 +97,7 @@ impl Open {
     }
 
     /// Of a waiting job the frame is told that it is taken.
+    #[inline(always)]
     fn take(&mut self, plan: &FlowPlan, pool: &Nodes, number: u64)
         requires { (d : Document) × (v : View) × IsOpen d plan.now pool.now self.old v
             × WaitsReady v self.old.seats.seats number }
@@ -112,6 +113,7 @@ impl Open {
     }
 
     /// Takes all the room that a job's result needs. Answers where it goes. Linear in the pieces and in what becomes known with them.
+    #[inline(always)]
     pub fn room_for_result(
         &mut self,
         alloc: Global,
@@ -150,6 +152,7 @@ impl Open {
     }
 
     /// A job that runs is settled with these. Takes no memory.
+    #[inline(always)]
     pub fn give(
         &mut self,
         plan: &FlowPlan,

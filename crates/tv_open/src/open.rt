@@ -45,6 +45,7 @@ pub struct Open {
 
 /// The jobs that a frame knows and that have no seat sit down, and their steps aren't passed any
 /// more. Takes no memory.
+#[inline(always)]
 pub(crate) fn seat_new(frame: &Frame, seats: &mut Seats, turns: &mut Turns)
     requires keeps { IsKept frame.now }
     requires can { CanSit frame.now seats.old }

@@ -92,6 +92,7 @@ impl Open {
     }
 
     /// Passes the steps in front that are quiet, up to this one. Linear in those that it passes.
+    #[inline(always)]
     pub(crate) fn pass_quiet(&mut self, step: u32)
         requires { IsSome self.old }
         ensures open { (d : Document) (plan : ThePlan) (pool : TheNodes) (v : View)

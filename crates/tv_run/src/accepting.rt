@@ -350,6 +350,7 @@ impl OpenRun {
     }
 
     /// The job is settled with these.
+    #[inline(always)]
     fn settle_with(&mut self, ticket: Ticket, right: bool, pieces: Pieces) -> Result<(), NoMemory>
         requires settles { (gives : Giving) × StandsOpen gives self.old
             × SettlesWith gives self.old ticket right (piece_values pieces) }

@@ -254,6 +254,7 @@ impl OpenRun {
     }
 
     /// An instance that has ended is open no more, and gives back its region. Takes no memory.
+    #[inline(always)]
     fn close(&mut self, instance: u64) -> Ended
         requires { (xs : Instances) × (x : Instance) × (v : View)
             × IsOpenHere self.old xs instance x v × EndsIn x v }

@@ -20,6 +20,7 @@ use tv_value::NoMemory;
 
 impl OpenRun {
     /// Takes all the room that the result of a job of an open instance needs, with its entry. Answers where it goes.
+    #[inline(always)]
     pub(crate) fn room_for_result(
         &mut self,
         instance: u64,
@@ -46,6 +47,7 @@ impl OpenRun {
     }
 
     /// A job that runs is settled with these. Takes no memory.
+    #[inline(always)]
     pub(crate) fn give(&mut self, instance: u64, number: u64, spot: Spot, pieces: Pieces)
         requires may { (xs : Instances) × (x : Instance) × (v : View) × (s : Seat)
             × (t : Name × Step)

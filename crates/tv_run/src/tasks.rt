@@ -99,6 +99,7 @@ impl OpenRun {
     }
 
     /// What a job of an open instance binds.
+    #[inline(always)]
     pub(crate) fn inputs_of(&self, job: u64) -> Result<Pieces, NoMemory>
         requires { (xs : Instances) × Fits self.now xs × IsOfOpen self.now job }
         ensures sound { IfOk result AreSound }
