@@ -9,6 +9,7 @@ use Rattle.std.proofs.lemmas.List.Sorted.{IsPermutation-sym}
 use Rattle.tv_value.specs.Nested.{Place, at, leaf, notes}
 use Rattle.tv_value.specs.Orders.{same_name}
 use Rattle.tv_value.specs.Values.{JobName, Name}
+use Rattle.tv_value.proofs.OfNames.{same_name-refl}
 use Rattle.tv_gate.specs.Outcomes.{Giving}
 use Rattle.tv_flow.specs.Flows.{Document, Feed, Flow, Step}
 use Rattle.tv_strategy.specs.Iterations.{Binding, job}
@@ -249,7 +250,7 @@ module _ (gives : Giving) (d : Document) (flow : Flow) (is : IsMainFlow d flow) 
                   pick false g h rec = rec h
 
               differ : t ≡ s.0 → same_name t s.0 ≡ false → ⊥
-              differ g e = no (sym (subst (λ m. same_name t m ≡ true) g (Rattle.tv_naming.proofs.ByPosition.same_name-refl t)) ∙ e)
+              differ g e = no (sym (subst (λ m. same_name t m ≡ true) g (same_name-refl t)) ∙ e)
                 where
                   no : true ≡ false → ⊥
                   no h = cc

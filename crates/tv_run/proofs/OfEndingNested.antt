@@ -29,6 +29,7 @@ use Rattle.tv_run.specs.Settlements.{EndsIn, GivesTo, IsOpenIn, OfOpen, SettlesI
 use Rattle.tv_run.specs.Standing.{Stands, names_of, run_of}
 use Rattle.tv_run.specs.declared.instances.Numbered.{Numbered}
 use Rattle.tv_run.specs.declared.run.OpenRun.{OpenRun}
+use Rattle.tv_run.proofs.OfBouncing.{open-here}
 use Rattle.tv_run.proofs.OfEnding as ending
 use Rattle.tv_run.proofs.OfEnding.{HasOpener}
 use Rattle.tv_run.proofs.OfFailing.{ended-fails_none}
@@ -61,7 +62,7 @@ module _ (gives : Giving) (r : OpenRun) (i : ℕ) (h : IsOpenIn gives r i) (ends
       h.view
   gives-to = record {
     seat = ending.seat-here gives r i h ends-in k m q;
-    here = ending.open-here gives r i h;
+    here = open-here gives r i h;
     ends = ending.ends-now gives r i h ends-in;
     apart = ending.not-itself gives r i h ends-in k m q;
     may = λ vs outs. ending.may-give gives r i h ends-in k m q vs outs;
