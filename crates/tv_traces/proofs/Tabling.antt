@@ -8,6 +8,7 @@ use Rattle.std.specs.Cmp.Lexicographic.{texts_ties}
 use Rattle.tv_lemmas.proofs.Lists.{take-next}
 use Rattle.tv_value.specs.Nested.{Place}
 use Rattle.tv_value.specs.Orders.{place_cmp, same_name}
+use Rattle.tv_value.proofs.OfNames.{same_name-refl}
 use Rattle.tv_naming.proofs.ByPosition.{same_name-is}
 use Rattle.tv_levels.specs.Levels as levels
 use Rattle.tv_levels.specs.Views.{level_view, what_view}
@@ -36,7 +37,7 @@ module _ (found more : Place → Option What) (key : Place) (l : Level) (key_is 
 
       by : (b : Bool) → same_name (n ∷ q) key ≡ b → ((n ∷ q ≡ key) ⊎ (n ∷ q ≡ key → ⊥))
       by true e = inl (same_name-is (n ∷ q) key e)
-      by false e = inr (λ f. no (sym (subst (λ k. same_name (n ∷ q) k ≡ true) f (Rattle.tv_naming.proofs.ByPosition.same_name-refl (n ∷ q))) ∙ e))
+      by false e = inr (λ f. no (sym (subst (λ k. same_name (n ∷ q) k ≡ true) f (same_name-refl (n ∷ q))) ∙ e))
 
   pub one-told : IsTableOf ls (told_in found) → IsTableOf (ls ++ level_view l ∷ []) (told_in more)
   one-told h = record {
