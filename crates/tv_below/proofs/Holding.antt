@@ -9,7 +9,7 @@ use Rattle.tv_strategy.specs.Origins.{plain}
 use Rattle.tv_naming.specs.Naming.{is_there}
 use Rattle.tv_naming.specs.Numbers.{position}
 use Rattle.tv_naming.proofs.ByPosition.{there}
-use Rattle.tv_depths.specs.Delivered.{link_delivers}
+use Rattle.tv_instance.specs.Delivered.{link_delivers}
 use Rattle.tv_parts.specs.Below.{Below}
 use Rattle.tv_wires.specs.Feeds.{outputs_of}
 use Rattle.tv_check.specs.declared.plans.FlowPlan.{FlowPlan}
@@ -18,9 +18,9 @@ use Rattle.tv_model.specs.Instances.{given_of}
 use Rattle.tv_instance.specs.ByResults.{step_of}
 use Rattle.tv_framing.specs.Arriving.{part_so_far}
 use Rattle.tv_framing.specs.Views.{View, steps_with}
-use Rattle.tv_fed.proofs.OfNames.{is-named}
-use Rattle.tv_truly.specs.Known as truly
-use Rattle.tv_truly.proofs.OfNumbers.{step-there}
+use Rattle.tv_framing.proofs.feeds.OfNames.{is-named}
+use Rattle.tv_framing.specs.faults.Known as truly
+use Rattle.tv_framing.proofs.faults.OfNumbers.{step-there}
 use Rattle.tv_frame.specs.declared.frame.Frame.{Frame}
 use Rattle.tv_frame.specs.Kept.{Keeps, declared_at}
 use Rattle.tv_frame.specs.Tables.{levels_in}
@@ -35,7 +35,7 @@ module _ (flows : List (Name × Flow)) (plan : FlowPlan) (pool : Nodes) (f : Fra
   abbrev levels : Name → ℕ
   levels = levels_in v.flow
 
-  pub tree-is : tree_of pool f v.flow t o ≡ truly.tree_of v.flow levels v.inputs v.events t o
+  pub tree-is : tree_of pool f v.flow t o ≡ truly.tree_of v.flow levels v.events t o
   tree-is =
       let b = step-there v.flow t o there_is in
       let st = is-named t v.flow.steps b.0 in

@@ -6,14 +6,14 @@ use Rattle.std.specs.Prelude.{◌≡◌, refl, ℕ, zero, suc, Bool, true, List,
 use Rattle.std.proofs.Common.{sym, ap, subst, ◌∙◌}
 use Rattle.std.proofs.lemmas.Bool.{and_parts}
 use Rattle.std.proofs.lemmas.Option.{none-some, same_Some}
+use Rattle.tv_lemmas.specs.Members.{Each}
 use Rattle.tv_value.specs.Nested.{Place, at, item_at, list, no_trees, note, trees_of}
 use Rattle.tv_value.specs.Values.{JobName, Name, Value}
 use Rattle.tv_flow.specs.Flows.{Feed, Flow, Link, StepInput, constant, input, link, merge, output}
 use Rattle.tv_strategy.specs.Origins.{Origin, Traced, fixed, plain}
-use Rattle.tv_strategy.specs.Sources.{Each}
 use Rattle.tv_strategy.proofs.OfEach.{each-weaken}
 use Rattle.tv_naming.specs.Naming.{feed_links, is_there}
-use Rattle.tv_depths.specs.Delivered.{Delivered, link_delivers, wrapped}
+use Rattle.tv_instance.specs.Delivered.{Delivered, link_delivers, wrapped}
 use Rattle.tv_parts.specs.Below.{Below}
 use Rattle.tv_parts.specs.Partials.{Partial, part_of, shows}
 use Rattle.tv_parts.proofs.Known.{whole-noted}
@@ -25,20 +25,21 @@ use Rattle.tv_instance.specs.ByResults.{InstanceStep, Results, result_at, step_o
 use Rattle.tv_instance.specs.Events.{Extends, is_known_by, known_by}
 use Rattle.tv_framing.specs.Arriving.{part_so_far}
 use Rattle.tv_framing.specs.Views.{AreOfDepth, View, steps_with}
-use Rattle.tv_joined.specs.WiredFlows.{IsWired}
-use Rattle.tv_joined.proofs.OfPieces.{so_far-shows}
-use Rattle.tv_begun.proofs.OfPorts.{link-found}
-use Rattle.tv_begun.proofs.OfSteps.{IsMade, IsPlaced, all_depths, steps-placed}
+use Rattle.tv_framing.specs.engine.WiredFlows.{IsWired}
+use Rattle.tv_framing.proofs.engine.OfPieces.{so_far-shows}
+use Rattle.tv_framing.proofs.starts.OfPorts.{link-found}
+use Rattle.tv_framing.proofs.starts.OfSteps.{IsMade, IsPlaced, all_depths, steps-placed}
 use Rattle.tv_frame.specs.declared.frame.Frame.{Frame}
 use Rattle.tv_frame.specs.Kept.{Keeps}
 use Rattle.tv_frame.specs.Tables.{levels_in}
 use Rattle.tv_frame.proofs.OfFeeds.{fit-step, output-found, output-tree}
+use Rattle.tv_frame.proofs.OfKnownFeeds.{traced-note}
 use Rattle.tv_below.specs.Exact.{FlowOutputsAreExact, IsAllKnown, OutputsAreExact, PortsAreExact}
 use Rattle.tv_below.specs.Known.{input_of, known_of_feed, known_of_port, tree_of}
 use Rattle.tv_below.specs.Parts.{link_part, parts_of, wraps_of}
 use Rattle.tv_below.proofs.Holding.{outputs-below, tree-is}
 use Rattle.tv_below.proofs.OfFeeds.{delivers, feed-below, flow_output-links, port-below, port-links, port-takes, wired}
-use Rattle.tv_below.proofs.OfShown.{IsShown, input-note, out-shown, traced-note, wrapped-shown}
+use Rattle.tv_below.proofs.OfShown.{IsShown, input-note, out-shown, wrapped-shown}
 
 -- a tree that shows the known nodes is whole where all are known
 all-known : (known : Origin → Bool) (r : Partial Value) (u : Traced) → Below r (plain u) → IsShown known r u → IsAllKnown known r u

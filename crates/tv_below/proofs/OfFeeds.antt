@@ -4,6 +4,7 @@ use Rattle.std.specs.Option.{IsSomeAnd}
 use Rattle.std.specs.Prelude.{◌≡◌, ℕ, zero, suc, ◌-◌, true, List, [], ◌∷◌, Some, map, option_and_then, option_map, slice_index_or}
 use Rattle.std.proofs.Common.{sym, ap, subst, ◌∙◌}
 use Rattle.std.proofs.lemmas.Bool.{and_parts}
+use Rattle.tv_lemmas.specs.Members.{In}
 use Rattle.tv_value.specs.Nested.{map_trees, trees_of}
 use Rattle.tv_value.specs.Orders.{named}
 use Rattle.tv_value.specs.Values.{JobName, Name, Value}
@@ -13,23 +14,22 @@ use Rattle.tv_strategy.specs.Origins.{Traced, fixed, plain}
 use Rattle.tv_naming.specs.Naming.{feed_links, has_name, is_there}
 use Rattle.tv_naming.specs.Numbers.{position}
 use Rattle.tv_naming.proofs.FormedParts.{ascending, passes, step-at, step-inputs}
-use Rattle.tv_depths.specs.Delivered.{Delivered, Ported, feed_delivers, link_delivers, ported, wrapped}
+use Rattle.tv_instance.specs.Delivered.{Delivered, Ported, feed_delivers, link_delivers, at_port, wrapped}
 use Rattle.tv_parts.specs.Below.{Below, EachBelow}
 use Rattle.tv_parts.specs.Partials.{Partial}
 use Rattle.tv_check.specs.PlanViews.{IsOfDocument}
 use Rattle.tv_check.specs.declared.plans.FlowPlan.{FlowPlan}
 use Rattle.tv_outputs.specs.Known.{Nodes}
-use Rattle.tv_bound.specs.Delivered.{no_items}
+use Rattle.tv_binding.specs.Delivered.{no_items}
 use Rattle.tv_model.specs.Instances.{given_of}
-use Rattle.tv_model.specs.Members.{In}
 use Rattle.tv_instance.specs.ByResults.{InstanceStep, Results, step_of}
 use Rattle.tv_instance.specs.Events.{Extends}
 use Rattle.tv_framing.specs.Views.{AreOfDepth, View, steps_with}
 use Rattle.tv_framing.proofs.OfFrames.{in-finds, steps-distinct}
-use Rattle.tv_joined.specs.WiredFlows.{IsWired}
-use Rattle.tv_begun.proofs.OfPlain.{plain-traced}
-use Rattle.tv_fed.proofs.OfStanding.{fed-depth, stands}
-use Rattle.tv_drawn.proofs.OfRanks.{in-at}
+use Rattle.tv_framing.specs.engine.WiredFlows.{IsWired}
+use Rattle.tv_framing.proofs.starts.OfPlain.{plain-traced}
+use Rattle.tv_framing.proofs.feeds.OfStanding.{fed-depth, stands}
+use Rattle.tv_lemmas.proofs.OfMembers.{get-in as in-at}
 use Rattle.tv_frame.specs.declared.frame.Frame.{Frame}
 use Rattle.tv_frame.specs.Kept.{Keeps}
 use Rattle.tv_frame.specs.Tables.{levels_in}
@@ -115,7 +115,7 @@ module _ (flows : List (Name × Flow)) (plan : FlowPlan) (pool : Nodes) (f : Fra
         ∙ ap (option_and_then (λ (g : InstanceStep). option_map (λ (p : Ported). p.value) (named i.0 g.step.inputs))) found
         ∙ ap (λ ps. option_map (λ (p : Ported). p.value) (named i.0 ps)) h.stands.inputs
         ∙ ap (option_map (λ (p : Ported). p.value))
-        (named-mapped (λ (j : StepInput). ported j.depth (delivers j.from)) i.0 s.1.inputs i.1
+        (named-mapped (λ (j : StepInput). at_port j.depth (delivers j.from)) i.0 s.1.inputs i.1
         (named-there s.1.inputs k.0 i (ascending is_step_input 0 16 s.1.inputs (step-inputs s.1 (step-at v.flow wired.formed n.0 s n.1))) k.1))
         ∙ ap (λ c. Some (wrapped (i.1.depth - c) (delivers i.1.from).value)) (fed-depth flows (levels_in v.flow) v keeps.of_depths wired instance results i.1.from)
 

@@ -1,41 +1,29 @@
 -- The known part of a value that is put together of inputs, constants and outputs shows exactly the
 -- nodes that are known.
-use Rattle.std.specs.Prelude.{◌≡◌, refl, ℕ, zero, suc, ◌+◌, pred, Bool, true, false, ◌||◌, is_some, List, [], ◌∷◌, ◌++◌, Option, Some, None, option_and_then}
-use Rattle.std.proofs.Common.{arith, sym, ap, subst, ◌∙◌, append_assoc, append-nil}
+use Rattle.std.specs.Prelude.{◌≡◌, refl, ℕ, zero, suc, ◌+◌, pred, Bool, true, false, ◌||◌, is_some, [], ◌∷◌, ◌++◌, Option, Some, None, option_and_then}
+use Rattle.std.proofs.Common.{arith, sym, ap, subst, ◌∙◌}
 use Rattle.std.proofs.lemmas.Option.{none-some, same_Some}
 use Rattle.std.proofs.Math.Bool.{or-false}
-use Rattle.tv_value.specs.Nested.{Place, Trees, at, count, item_at, leaf, list, map_trees, no_trees, note, tree}
+use Rattle.tv_value.specs.Nested.{Place, Trees, at, count, item_at, leaf, list, no_trees, note, tree}
 use Rattle.tv_value.specs.Values.{JobName, Name, Scalar, Value}
 use Rattle.tv_strategy.specs.Iterations.{Iteration, Iterations, job, passed}
-use Rattle.tv_strategy.specs.Origins.{Origin, Traced, at_start, fixed, from_job, input_value, input_values, traced}
+use Rattle.tv_strategy.specs.Origins.{Origin, Traced, at_start, fixed, from_job, input_value, input_values}
 use Rattle.tv_strategy.specs.Outputs.{output_below, outputs_from}
-use Rattle.tv_depths.specs.Delivered.{wrapped}
-use Rattle.tv_depths.specs.Steps.{spot}
-use Rattle.tv_parts.specs.Partials.{Partial, closed, growing, item, part_at, known_at, shows, wanting}
+use Rattle.tv_instance.specs.Delivered.{wrapped}
+use Rattle.tv_instance.specs.Steps.{spot}
+use Rattle.tv_parts.specs.Partials.{Partial, closed, growing, item, part_at, shows, wanting}
 use Rattle.tv_instance.specs.Events.{Events, closed_with, has_fault, has_result, known_by}
-use Rattle.tv_instances.proofs.OfEvents.{level-known, result-known}
-use Rattle.tv_joined.proofs.OfPieces.{ShowsFrom}
-use Rattle.tv_joined.proofs.OfShowing.{IsItemIf, IsListIf, StandsBy, told}
+use Rattle.tv_framing.proofs.instances.OfEvents.{level-known, result-known}
+use Rattle.tv_framing.proofs.engine.OfPieces.{ShowsFrom}
+use Rattle.tv_framing.proofs.engine.OfShowing.{IsItemIf, IsListIf}
 use Rattle.tv_below.specs.Parts.{wrapped_part}
-use Rattle.tv_frame.proofs.OfKnownFeeds.{level-parts}
+use Rattle.tv_frame.proofs.OfKnownFeeds.{level-parts, traced-note, top-of, item-of}
 
 -- the tree shows exactly the nodes of the value that are known
 abbrev pub IsShown : (Origin → Bool) → Partial Value → Traced → Type 0
 IsShown known r u = (y : Place) (w : Traced) → at u y ≡ Some w → known (note w) ≡ shows r y
 
 -- ---- values of one origin, and inputs
-
-mutual
-  pub traced-note : (o : Origin) (v : Value) (y : Place) (u : Traced) → at (traced o v) y ≡ Some u → note u ≡ o
-  traced-note o (leaf n a) [] u e = ap note (sym (same_Some (traced o (leaf n a)) u e))
-  traced-note o (list n vs) [] u e = ap note (sym (same_Some (traced o (list n vs)) u e))
-  traced-note o (leaf n a) (i ∷ y) u e = absurd (none-some u e)
-  traced-note o (list n vs) (i ∷ y) u e = traced-notes o vs i y u e
-
-  traced-notes : (o : Origin) (vs : Trees (Unit {0}) Scalar) (i : ℕ) (y : Place) (u : Traced) → option_and_then (λ (x : Traced). at x y) (item_at (map_trees (λ _. o) (λ a. a) vs) i) ≡ Some u → note u ≡ o
-  traced-notes o no_trees i y u e = absurd (none-some u e)
-  traced-notes o (tree v vs) zero y u e = traced-note o v y u e
-  traced-notes o (tree v vs) (suc i) y u e = traced-notes o vs i y u e
 
 mutual
   pub input-note : (x : Name) (q : Place) (v : Value) (y : Place) (u : Traced) → at (input_value x q v) y ≡ Some u → (note u).known ≡ at_start
@@ -97,20 +85,14 @@ module _ (instance : JobName) (s : Name) (es : Events) (made : Place → Value) 
   abbrev out : Place → ℕ → Iteration → Traced
   out q l t = output_below (spot instance s) made declared q l t
 
-  top-of : (q : Place) (t : Iteration) (p : Partial Value) → ShowsFrom es s q t p → StandsBy (told es s) q t p
-  top-of q t p h = subst (λ y. StandsBy (told es s) y t p) (append-nil q) (h [] t refl)
-
-  item-of : (q : Place) (r : List Origin) (ts : Iterations) (p : Partial Value) (j : ℕ) (u : Iteration) → ShowsFrom es s q (list r ts) p → item_at ts j ≡ Some u → ShowsFrom es s (q ++ j ∷ []) u (part_at p j)
-  item-of q r ts p j u h e x v g = subst (λ y. StandsBy (told es s) y v (known_at x (part_at p j))) (sym (append_assoc q (j ∷ []) x)) (h (j ∷ x) v (ap (option_and_then (λ (y : Iteration). at y x)) e ∙ g))
-
   mutual
     pub out-shown : (t : Iteration) (q : Place) (l : ℕ) (p : Partial Value) → ShowsFrom es s q t p → IsShown known p (out q l t)
     out-shown (leaf r (job b)) q l p h y u a =
         ap known (traced-note (from_job (spot instance s q)) (made q) y u a)
         ∙ sym (result-known instance es s q)
-        ∙ item-shown (has_result es s q) p y (top-of q (leaf r (job b)) p h)
+        ∙ item-shown (has_result es s q) p y (top-of instance s es made declared q (leaf r (job b)) p h)
     out-shown (leaf r (passed m e)) q l p h [] u a =
-        let here = top-of q (leaf r (passed m e)) p h in
+        let here = top-of instance s es made declared q (leaf r (passed m e)) p h in
         ap (λ (t : Traced). known (note t)) (sym (same_Some (out q l (leaf r (passed m e))) u a))
         ∙ sym (level-known instance es s q)
         ∙ level-parts es s q
@@ -119,15 +101,15 @@ module _ (instance : JobName) (s : Name) (es : Events) (made : Place → Value) 
         ∙ item-shown (has_fault es s q) p [] here.0
     out-shown (leaf r (passed m e)) q l p h (i ∷ y) u a = absurd (none-some u a)
     out-shown (list r ts) q l p h [] u a =
-        let here = top-of q (list r ts) p h in
+        let here = top-of instance s es made declared q (list r ts) p h in
         ap (λ (t : Traced). known (note t)) (sym (same_Some (out q l (list r ts)) u a))
         ∙ sym (level-known instance es s q)
         ∙ level-parts es s q
         ∙ ap (λ b. b || is_some (closed_with es s q)) here.1
         ∙ list-shown (closed_with es s q) (count ts) p here.0
     out-shown (list r ts) q l p h (i ∷ y) u a =
-        outs-shown ts q (pred l) 0 i i p (zero-plus i) (λ n v e c g. subst (λ m. ShowsFrom es s (q ++ m ∷ []) v (part_at p m)) (sym (g ∙ sym (zero-plus n))) (item-of q r ts p n v h e)) y u a
-        ∙ part-shown (closed_with es s q) (count ts) p (top-of q (list r ts) p h).0 i y
+        outs-shown ts q (pred l) 0 i i p (zero-plus i) (λ n v e c g. subst (λ m. ShowsFrom es s (q ++ m ∷ []) v (part_at p m)) (sym (g ∙ sym (zero-plus n))) (item-of instance s es made declared q r ts p n v h e)) y u a
+        ∙ part-shown (closed_with es s q) (count ts) p (top-of instance s es made declared q (list r ts) p h).0 i y
       where
         zero-plus : (n : ℕ) → n ≡ 0 + n
         zero-plus n = omega arith

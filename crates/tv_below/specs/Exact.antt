@@ -3,18 +3,18 @@
 use Rattle.std.specs.List.{list_all}
 use Rattle.std.specs.Option.{IsSomeAnd}
 use Rattle.std.specs.Prelude.{◌≡◌, true, Bool, List, Some}
+use Rattle.tv_lemmas.specs.Members.{In}
 use Rattle.tv_value.specs.Nested.{Place, at, note, notes}
 use Rattle.tv_value.specs.Values.{Name, Value}
 use Rattle.tv_flow.specs.Flows.{Feed, Flow, Step, StepInput, output}
 use Rattle.tv_strategy.specs.Origins.{Origin, Traced, plain}
 use Rattle.tv_naming.specs.Naming.{is_there}
-use Rattle.tv_depths.specs.Delivered.{feed_delivers, link_delivers}
+use Rattle.tv_instance.specs.Delivered.{feed_delivers, link_delivers}
 use Rattle.tv_parts.specs.Below.{value_in}
 use Rattle.tv_parts.specs.Partials.{Partial, shows, whole}
 use Rattle.tv_check.specs.declared.plans.FlowPlan.{FlowPlan}
 use Rattle.tv_outputs.specs.Known.{Nodes}
 use Rattle.tv_model.specs.Instances.{given_of}
-use Rattle.tv_model.specs.Members.{In}
 use Rattle.tv_instance.specs.ByResults.{step_of}
 use Rattle.tv_instance.specs.Events.{known_by}
 use Rattle.tv_framing.specs.Views.{InAll, View}

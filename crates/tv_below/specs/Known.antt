@@ -7,7 +7,7 @@ use Rattle.tv_parts.specs.Partials.{Partial}
 use Rattle.tv_wires.specs.Feeds.{outputs_of}
 use Rattle.tv_cell.specs.PieceValues.{piece_values}
 use Rattle.tv_outputs.specs.Known.{Nodes, known, tree_in}
-use Rattle.tv_bound.specs.Delivered.{no_items}
+use Rattle.tv_binding.specs.Delivered.{no_items}
 use Rattle.tv_frame.specs.declared.frame.Frame.{Frame}
 use Rattle.tv_frame.specs.Tables.{first_tree}
 use Rattle.tv_below.specs.Parts.{feed_part, port_part}

@@ -3,7 +3,7 @@
 use Rattle.std.specs.Prelude.{ℕ, zero, suc, ◌-◌, List, [], ◌∷◌, map}
 use Rattle.tv_value.specs.Values.{Name, Value}
 use Rattle.tv_flow.specs.Flows.{Feed, Flow, Link, StepInput, constant, input, link, merge, output}
-use Rattle.tv_depths.specs.CheckedDepths.{feed_depth, flow_depths}
+use Rattle.tv_instance.specs.CheckedDepths.{feed_depth, flow_depths}
 use Rattle.tv_parts.specs.Partials.{Partial, Parts, closed, item, no_parts, part}
 
 -- partial trees as the parts of a list

@@ -2,17 +2,17 @@
 -- value, whatever isn't told yet.
 use Rattle.std.specs.Option.{IsSomeAnd}
 use Rattle.std.specs.Prelude.{◌≡◌, true, List, Option, find, option_and_then, option_map}
+use Rattle.tv_lemmas.specs.Members.{In}
 use Rattle.tv_value.specs.Orders.{named, same_name}
 use Rattle.tv_value.specs.Values.{Name}
 use Rattle.tv_flow.specs.Flows.{Feed, Flow, Step, StepInput, output}
 use Rattle.tv_strategy.specs.Origins.{Traced, plain}
 use Rattle.tv_naming.specs.Naming.{is_there}
-use Rattle.tv_depths.specs.Delivered.{feed_delivers, link_delivers}
+use Rattle.tv_instance.specs.Delivered.{feed_delivers, link_delivers}
 use Rattle.tv_parts.specs.Below.{Below}
 use Rattle.tv_check.specs.declared.plans.FlowPlan.{FlowPlan}
 use Rattle.tv_outputs.specs.Known.{Nodes}
 use Rattle.tv_model.specs.Instances.{given_of}
-use Rattle.tv_model.specs.Members.{In}
 use Rattle.tv_instance.specs.ByResults.{InstanceStep, step_of}
 use Rattle.tv_framing.specs.Views.{InAll, View}
 use Rattle.tv_frame.specs.Kept.{Keeps}

@@ -1,3 +1,4 @@
 pub mod OfRegions
 pub mod OfFrames
 pub mod OfTheirs
+pub mod nodes

@@ -9,7 +9,7 @@ use Rattle.tv_stream.specs.Stands.{IsIn}
 use Rattle.tv_stream.specs.Trees.{tree_at}
 use Rattle.tv_stream.proofs.Others.{stays-elsewhere}
 use Rattle.tv_cell.specs.declared.piece.Piece.{Piece}
-use Rattle.tv_outputs.specs.Known.{Nodes, all_nodes, known, known_in, known_of, shown}
+use Rattle.tv_outputs.specs.Known.{Nodes, all_nodes, known, known_in, known_of, value_tree}
 use Rattle.tv_outputs.specs.Kept.{AreKept, EachItem, IsNoted}
 use Rattle.tv_frame.specs.Kept.{AreTrees}
 use Rattle.tv_beside.specs.Beside.{GivenUpKeeps, KeepsBeside, OthersCallsKeep, ReadyBeside, RefusalsKeep, ReleasesKeep, RoomsKeep, SameKeeps, StartsKeep}
@@ -24,7 +24,7 @@ module _ (pool after : Nodes) (r : Region) (same : region_at after (number_of r)
 
   one-known : (t : Handle Piece) → IsIn t r → known_of after t ≡ known_of pool t
   one-known t within =
-      ap (λ o. shown (tree_at t.depth (λ s. lying_in (stored_in o) s) (slot_of t.root))) (its-region t within)
+      ap (λ o. value_tree (tree_at t.depth (λ s. lying_in (stored_in o) s) (slot_of t.root))) (its-region t within)
 
   trees-known : (ts : List (Handle Piece)) → ((k : ℕ) (t : Handle Piece) → slice_get ts k ≡ Some t → IsIn t r)
       → known_in after ts ≡ known_in pool ts

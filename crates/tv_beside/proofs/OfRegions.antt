@@ -1,5 +1,5 @@
 -- The regions of a pool by their numbers: after a call, a start and a release.
-use Rattle.std.specs.Prelude.{IsSomeAnd, List, None, Option, Some, [], fold, length, refl, slice_index_or, slice_set, suc, zero, ℕ, ◌+◌, ◌∷◌, ◌≡◌, ◌≢◌}
+use Rattle.std.specs.Prelude.{IsSomeAnd, List, None, Option, Some, [], fold, length, refl, slice_index_or, suc, ℕ, ◌+◌, ◌∷◌, ◌≡◌, ◌≢◌}
 use Rattle.std.proofs.Common.{ap, inl, inr, subst, sym, ◌∙◌}
 use Rattle.std.proofs.lemmas.Bool.{cases_eq}
 use Rattle.tv_pool.specs.Pool.{Contents, IsLive, live_count, number_of, region_at, regions_with, stored_in}
@@ -7,6 +7,7 @@ use Rattle.tv_pool.specs.declared.handles.Region.{Region}
 use Rattle.tv_nodes.specs.Calls.{KeepsRegions}
 use Rattle.tv_outputs.specs.Known.{Nodes}
 use Rattle.tv_frame.specs.Calls.{SameRegions}
+use Rattle.tv_frame.proofs.OfRegions.{past-end, set-none, set-other}
 
 -- ---- options
 
@@ -25,26 +26,6 @@ module _ {A : Type 0} where
   some-there : (o : Option A) (P : A → Type 0) → IsSomeAnd o P → o ≡ None → ⊥
   some-there None P k e = k
   some-there (Some x) P k e = subst is_there e tt
-
--- ---- lists
-
-module _ {A : Type 0} where
-  set-none : (xs : List (Option A)) (n : ℕ) → slice_index_or (slice_set xs n None) n None ≡ None
-  set-none [] n = refl
-  set-none (x ∷ xs) zero = refl
-  set-none (x ∷ xs) (suc n) = set-none xs n
-
-  set-other : (xs : List (Option A)) (n k : ℕ) (y : Option A) → k ≢ n
-      → slice_index_or (slice_set xs n y) k None ≡ slice_index_or xs k None
-  set-other [] n k y h = refl
-  set-other (x ∷ xs) zero zero y h = absurd (h refl)
-  set-other (x ∷ xs) zero (suc k) y h = refl
-  set-other (x ∷ xs) (suc n) zero y h = refl
-  set-other (x ∷ xs) (suc n) (suc k) y h = set-other xs n k y (λ e. h (ap suc e))
-
-  past-end : (xs : List (Option A)) → slice_index_or xs (length xs) None ≡ None
-  past-end [] = refl
-  past-end (x ∷ xs) = past-end xs
 
 -- ---- regions
 

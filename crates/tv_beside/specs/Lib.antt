@@ -1,2 +1,3 @@
 pub mod Beside
 pub mod Theirs
+pub mod nodes

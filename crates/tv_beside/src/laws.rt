@@ -2,6 +2,8 @@
 ghost use Rattle.tv_beside.specs.Beside.{GivenUpKeeps, KeepsBeside, OthersCallsKeep, ReadyBeside, RefusalsKeep, ReleasesKeep, RoomsKeep, SameKeeps, StartsKeep};
 ghost use Rattle.tv_beside.specs.Theirs.{FirstTheirs, NoneLive, TheirsAfterCall, TheirsAfterGivingUp, TheirsAfterRefusal, TheirsAfterRelease, TheirsAfterStart, TheirsAreOnly};
 
+pub mod nodes;
+
 /// A frame whose region is what it was keeps what it kept, and is ready for what it was ready for.
 pub fn beside()
     ensures keeps { KeepsBeside }

@@ -5,6 +5,7 @@
 //!
 //! - `specs/Beside.antt`: a frame whose region is what it was, and which calls leave it so
 //! - `specs/Theirs.antt`: whose the regions of a pool are, and after each call
+//! - `specs/nodes/`: how many nodes the region of a frame has (`laws::nodes`)
 //! - `laws`: each law as the clause of a function that does nothing
 #![tactic(auto)]
 

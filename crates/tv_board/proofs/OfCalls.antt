@@ -8,7 +8,7 @@ use Rattle.tv_gate.specs.Outcomes.{Giving}
 use Rattle.tv_flow.specs.Views.{each}
 use Rattle.tv_strategy.specs.Origins.{plain}
 use Rattle.tv_history.specs.Histories.{is_done}
-use Rattle.tv_entries.specs.Calls.{IsNothingOffered, NothingSettles, Settles, hands_out, out_count, state_of}
+use Rattle.tv_entries.specs.Calls.{IsNothingOffered, NothingSettles, Settles, hands_out, out_now, state_of}
 use Rattle.tv_entries.specs.Idle.{AreIdle}
 use Rattle.tv_entries.specs.Recalls.{IsRecalled}
 use Rattle.tv_entries.specs.Runs.{Appends, IsLegalRun, Run, meant, past_of}
@@ -36,8 +36,8 @@ module _ (gives : Giving) (r : OpenRun) (x : Run) (e : run_of r ≡ x) (over : I
   pub over-offers : (x ≡ x) × IsNothingOffered gives x
   over-offers = (refl, subst (IsNothingOffered gives) e over.nothing_offered)
 
-  pub over-out : out_count gives x ≡ 0
-  over-out = subst (λ y. out_count gives y ≡ 0) e over.none_out
+  pub over-out : out_now gives x ≡ 0
+  over-out = subst (λ y. out_now gives y ≡ 0) e over.none_out
 
   pub over-idle : AreIdle gives x x
   over-idle = λ k a t h. absurd (over.no_state_out k a t (ap (λ y. state_of gives y k) e ∙ h))
@@ -130,8 +130,8 @@ module _ (gives : Giving) (r s : OpenRun) (x : Run) (e : run_of r ≡ x) (st : S
   recall-stands (Ok n) h k = still gives s (h gives st).stands
   recall-stands (Err m) h k = still gives s (k gives st).stands
 
-  pub recall-counts : {E : Type 0} (o : Result ℕ E) → IfOk o Recalls → IfOk o (λ n. n ≡ out_count gives x)
-  recall-counts (Ok n) h = (h gives st).count ∙ ap (out_count gives) e
+  pub recall-counts : {E : Type 0} (o : Result ℕ E) → IfOk o Recalls → IfOk o (λ n. n ≡ out_now gives x)
+  recall-counts (Ok n) h = (h gives st).count ∙ ap (out_now gives) e
   recall-counts (Err m) h = tt
 
   pub recall-tells : {E : Type 0} (o : Result ℕ E) → IfOk o Recalls → IfOk o (λ n. IsRecalled x (run_of s) n)
@@ -146,7 +146,7 @@ module _ (gives : Giving) (r s : OpenRun) (x : Run) (e : run_of r ≡ x) (st : S
   recall-idle (Ok n) h = subst (λ y. AreIdle gives y (run_of s)) e (h gives st).idle
   recall-idle (Err m) h = tt
 
-  pub recall-none_out : {E : Type 0} (o : Result ℕ E) → IfOk o Recalls → OnOk o (out_count gives (run_of s) ≡ 0)
+  pub recall-none_out : {E : Type 0} (o : Result ℕ E) → IfOk o Recalls → OnOk o (out_now gives (run_of s) ≡ 0)
   recall-none_out (Ok n) h = (h gives st).none_out
   recall-none_out (Err m) h = tt
 

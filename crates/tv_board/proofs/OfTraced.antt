@@ -4,7 +4,7 @@ use Rattle.std.proofs.Common.{subst}
 use Rattle.tv_gate.specs.Outcomes.{Giving}
 use Rattle.tv_lineage.specs.Kept.{records_of}
 use Rattle.tv_lineage.specs.Members.{HaveSame}
-use Rattle.tv_followed.specs.Recorded.{main_records}
+use Rattle.tv_model.specs.records.Recorded.{main_records}
 use Rattle.tv_history.specs.Histories.{is_done}
 use Rattle.tv_entries.specs.Runs.{Run, meant, past_of}
 use Rattle.tv_traces.specs.declared.traces.Traces.{Traces}

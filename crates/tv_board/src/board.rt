@@ -8,12 +8,12 @@ ghost use Rattle.tv_strategy.specs.Origins.{plain};
 ghost use Rattle.tv_check.specs.RunViews.{run_view};
 ghost use Rattle.tv_lineage.specs.Kept.{records_of};
 ghost use Rattle.tv_lineage.specs.Members.{HaveSame};
-ghost use Rattle.tv_marked.specs.Settled.{settled_records};
+ghost use Rattle.tv_traces.specs.Settled.{settled_records};
 ghost use Rattle.tv_model.specs.Totals as model;
 ghost use Rattle.tv_model.specs.TotalsViews.{totals_view};
-ghost use Rattle.tv_history.specs.Histories.{is_done, kept, room};
+ghost use Rattle.tv_history.specs.Histories.{is_done, kept_results, node_room};
 ghost use Rattle.tv_entries.specs.Answers.{question};
-ghost use Rattle.tv_entries.specs.Calls.{IsNothingOffered, IsTask, IsTaskFault, hands_out, out_count, totals_so_far, try_if_out};
+ghost use Rattle.tv_entries.specs.Calls.{IsNothingOffered, IsTask, IsTaskFault, hands_out, out_now, totals_so_far, try_if_out};
 ghost use Rattle.tv_entries.specs.Declarations.{declared_for};
 ghost use Rattle.tv_entries.specs.Idle.{AreIdle};
 ghost use Rattle.tv_board.specs.Asked.{AsksAndAccepts, AsksOnceAtMost};
@@ -162,12 +162,12 @@ impl<V: Services> Board<V> {
 
     /// Takes back all tries that are out, and tells how many. They are on offer again. Takes no memory where none is out.
     pub fn recall_all(&mut self) -> Result<u64, NoMemory>
-        ensures count { IfOk result (λ n. n ≡ out_count V.gives self.old) }
+        ensures count { IfOk result (λ n. n ≡ out_now V.gives self.old) }
         ensures recalled { IfOk result (λ n. IsRecalled self.old self.new n) }
         ensures names { self.new.names ≡ self.old.names }
         ensures idle { OnOk result (AreIdle V.gives self.old self.new) }
-        ensures none_out { OnOk result (out_count V.gives self.new ≡ 0) }
-        ensures quiet { out_count V.gives self.old ≡ 0 → IsOk result }
+        ensures none_out { OnOk result (out_now V.gives self.new ≡ 0) }
+        ensures quiet { out_now V.gives self.old ≡ 0 → IsOk result }
         ensures refused { OnErr result (self.new ≡ self.old) }
         ensures legal { IsLegalRun V.gives self.new }
     {
@@ -272,8 +272,8 @@ impl<V: Services> Board<V> {
     /// each output of each settled job in an open instance, at most those of the values and iterations of the
     /// open instances, and none once the run is done. Constant. Takes no memory.
     pub fn live(&self) -> u64
-        ensures kept { kept (meant V.gives self.now) (past_of self.now) ≤ result }
-        ensures room { result ≤ room (meant V.gives self.now) (past_of self.now) }
+        ensures kept { kept_results (meant V.gives self.now) (past_of self.now) ≤ result }
+        ensures room { result ≤ node_room (meant V.gives self.now) (past_of self.now) }
         ensures done { is_done (past_of self.now) ≡ true → result ≡ 0 }
     {
         self.run.live()

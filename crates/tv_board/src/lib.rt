@@ -27,10 +27,12 @@
 //! - `board`: the type and its calls
 //! - `answer`, `refused`: what is asked for a task, and answers that are given back
 //! - `traced`: what the jobs of a run that is done used
+//! - `laws`: between how many results and how much room the nodes of a run's pool lie
 #![tactic(auto)]
 
 mod answer;
 mod board;
+pub mod laws;
 mod refused;
 mod traced;
 

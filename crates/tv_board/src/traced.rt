@@ -1,6 +1,6 @@
 //! What the jobs of a run that is done used.
 ghost use Rattle.std.specs.Prelude.{◌≡◌, IfErr, IfOk, map, option_map, true};
-ghost use Rattle.tv_followed.specs.Recorded.{leaves, main_records, marks_of, output_at};
+ghost use Rattle.tv_model.specs.records.Recorded.{leaves, main_records, marks_of, output_at};
 ghost use Rattle.tv_history.specs.Histories.{is_done};
 ghost use Rattle.tv_entries.specs.Runs.{meant, past_of};
 ghost use Rattle.tv_lineage.specs.Kept.{records_of};

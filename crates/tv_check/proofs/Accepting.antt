@@ -4,7 +4,7 @@ use Rattle.std.specs.Option.{is_none, option_map_or}
 use Rattle.tv_value.specs.Values.{Name}
 use Rattle.tv_value.specs.Activities.{Activity, service, nested}
 use Rattle.tv_flow.specs.Flows.{Feed, Step, Flow, Document}
-use Rattle.tv_naming.specs.Faulty.{Complaint, plainly, strategy_ports, no_such_port, no_such_flow, at_main, at_step, at_input, at_after, at_flow_output, first_of}
+use Rattle.tv_naming.specs.Faulty.{CheckComplaint, plainly, strategy_ports, no_such_port, no_such_flow, at_main, at_step, at_input, at_after, at_flow_output, first_of}
 use Rattle.tv_naming.specs.Naming.{complain_if, has_name, fits_ports, link_complaints, numbered, activity_complaints, step_naming, flow_naming, naming_complaints}
 use Rattle.tv_depths.specs.Cycles.{cycle_complaints, nesting_complaints, link_cycle_complaints}
 use Rattle.tv_depths.specs.Depthwise.{depth_complaints}
@@ -14,7 +14,7 @@ use Rattle.tv_check.specs.Plans.{IsAccepted}
 
 -- ---- lists that say nothing
 
-pub first-none : (cs : List Complaint) → first_of cs ≡ None → cs ≡ []
+pub first-none : (cs : List CheckComplaint) → first_of cs ≡ None → cs ≡ []
 first-none [] e = refl
 first-none (c ∷ cs) e = cc
 
@@ -65,10 +65,10 @@ module _ (knows : Name → Bool) (d : Document) where
       both-nil main (flat_map (flow_naming (λ n. true) d) d.flows) (left-nil main flows e) (flat-nil (flow_naming knows d) (flow_naming (λ n. true) d) flow-nil d.flows (right-nil main flows e))
 
   -- what the last five passes say
-  abbrev after_names : List Complaint → List Complaint
+  abbrev after_names : List CheckComplaint → List CheckComplaint
   after_names ns = ns ++ cycle_complaints d ++ nesting_complaints d ++ link_cycle_complaints d ++ depth_complaints d ++ given_complaints d
 
-  names-only : (ns : List Complaint) → after_names ns ≡ [] → ns ≡ []
+  names-only : (ns : List CheckComplaint) → after_names ns ≡ [] → ns ≡ []
   names-only ns e =
       let c = ns ++ cycle_complaints d in
       let n = c ++ nesting_complaints d in

@@ -3,17 +3,18 @@ use Rattle.std.specs.Prelude.{◌≡◌, ℕ, ◌<◌, ◌^◌, List, [], ◌∷
 use Rattle.std.specs.List.{list_all}
 use Rattle.std.proofs.Common.{arith, get_or, ap, sym, ◌∙◌}
 use Rattle.std.proofs.lemmas.List.{length-map}
+use Rattle.tv_lemmas.specs.Members.{Each}
 use Rattle.tv_value.specs.Values.{Name}
 use Rattle.tv_flow.specs.Flows.{Flow, Document}
 use Rattle.tv_flow.specs.Formed.{is_ascending, is_flow}
 use Rattle.tv_graph.specs.Graphs.{by_least}
 use Rattle.tv_graph.proofs.Cycles.{no_cycle-all_come, all_come-no_cycle}
-use Rattle.tv_naming.specs.Faulty.{Complaint, plainly, link_cycle, at_step, first_of}
-use Rattle.tv_depths.specs.Ranks.{earlier_steps, ranked}
+use Rattle.tv_naming.specs.Faulty.{CheckComplaint, plainly, link_cycle, at_step, first_of}
+use Rattle.tv_instance.specs.Ranks.{earlier_steps, ranked}
 use Rattle.tv_depths.specs.Cycles.{reaches, steps_before, flow_link_cycles, link_cycle_complaints}
 use Rattle.tv_check.specs.NamedGraphs.{numbers_of, links_inside}
 use Rattle.tv_check.specs.RankLaws.{is_acyclic}
-use Rattle.tv_naming.proofs.OfLists.{Each, each-get}
+use Rattle.tv_naming.proofs.OfLists.{each-get}
 use Rattle.tv_naming.proofs.ByPosition.{names_of}
 use Rattle.tv_check.proofs.OfGraphs.{graph, at, graph_of-is}
 use Rattle.tv_check.proofs.OfCycles.{first-reaching, on_cycle, first-told}
@@ -72,11 +73,11 @@ acyclic-from n f e =
     (mapped-none (λ s. plainly link_cycle (at_step n s.0)) _ (sym (first-told (λ s. reaches (steps_before f) (length f.steps) s.0 s.0) (λ s. plainly link_cycle (at_step n s.0)) f.steps) ∙ e))
 
 -- so of each flow of a document
-none-each : {X : Type 0} (G : X → List Complaint) (xs : List X) → first_of (flat_map G xs) ≡ None → Each (λ x. first_of (G x) ≡ None) xs
+none-each : {X : Type 0} (G : X → List CheckComplaint) (xs : List X) → first_of (flat_map G xs) ≡ None → Each (λ x. first_of (G x) ≡ None) xs
 none-each G [] e = tt
 none-each G (x ∷ xs) e = cases (G x) e (none-each G xs)
   where
-    cases : (cs : List Complaint) → first_of (cs ++ flat_map G xs) ≡ None → (first_of (flat_map G xs) ≡ None → Each (λ x. first_of (G x) ≡ None) xs) → (first_of cs ≡ None) × Each (λ x. first_of (G x) ≡ None) xs
+    cases : (cs : List CheckComplaint) → first_of (cs ++ flat_map G xs) ≡ None → (first_of (flat_map G xs) ≡ None → Each (λ x. first_of (G x) ≡ None) xs) → (first_of cs ≡ None) × Each (λ x. first_of (G x) ≡ None) xs
     cases [] h t = (refl, t h)
     cases (c ∷ cs) h t = cc
 

@@ -5,17 +5,18 @@ use Rattle.std.specs.Option.{option_map_or}
 use Rattle.std.proofs.Common.{get_or, ap, ◌∙◌}
 use Rattle.std.proofs.lemmas.List.Folds.{list_all-append}
 use Rattle.std.proofs.lemmas.Bool.{and_parts}
+use Rattle.tv_lemmas.specs.Members.{Each}
 use Rattle.tv_lemmas.proofs.Lists.{append-none}
 use Rattle.tv_value.specs.Values.{Name}
 use Rattle.tv_value.specs.Orders.{named}
 use Rattle.tv_value.specs.Activities.{Activity, service, nested}
 use Rattle.tv_flow.specs.Flows.{Link, input, output, Feed, link, merge, constant, Step, Flow, Document}
-use Rattle.tv_naming.specs.Faulty.{Where, Complaint, plainly, no_such_port, no_such_flow, at_main, at_input, at_after}
+use Rattle.tv_naming.specs.Faulty.{Where, CheckComplaint, plainly, no_such_port, no_such_flow, at_main, at_input, at_after}
 use Rattle.tv_naming.specs.Naming.{has_name, is_there, complain_if, link_complaints, numbered, activity_complaints, step_naming, flow_naming, naming_complaints}
-use Rattle.tv_depths.specs.Ranks.{link_step, feed_steps, earlier_steps}
+use Rattle.tv_instance.specs.Ranks.{link_step, feed_steps, earlier_steps}
 use Rattle.tv_depths.specs.Cycles.{opened_flow, opened_flows}
 use Rattle.tv_check.specs.NamedGraphs.{leads_inside, links_inside, names_inside}
-use Rattle.tv_naming.proofs.OfLists.{list_all-at, Each}
+use Rattle.tv_naming.proofs.OfLists.{list_all-at}
 
 pub nil-each : {X Y : Type 0} (f : X → List Y) (xs : List X) → flat_map f xs ≡ [] → Each (λ x. f x ≡ []) xs
 nil-each f [] e = tt
@@ -33,7 +34,7 @@ pub each-by : {X : Type 0} (P Q : X → Type 0) (xs : List X) → ((x : X) → P
 each-by P Q [] h e = tt
 each-by P Q (x ∷ xs) h e = (h x e.0, each-by P Q xs h e.1)
 
-pub silent : (b : Bool) (c : Complaint) → complain_if (not b) c ≡ [] → b ≡ true
+pub silent : (b : Bool) (c : CheckComplaint) → complain_if (not b) c ≡ [] → b ≡ true
 silent true c e = refl
 silent false c e = cc
 

@@ -6,19 +6,20 @@ use Rattle.std.specs.Option.{option_map_or}
 use Rattle.std.proofs.Common.{arith, get_or, ap, sym, subst, ◌∙◌, cond}
 use Rattle.std.proofs.lemmas.List.{length-map, drop_more, drop_all}
 use Rattle.std.proofs.lemmas.Bool.{and_parts}
+use Rattle.tv_lemmas.specs.Members.{Each}
 use Rattle.tv_lemmas.proofs.Orderings.{is_lt-less}
 use Rattle.tv_value.specs.Values.{Name}
 use Rattle.tv_value.specs.Orders.{same_name, name_cmp, named}
-use Rattle.tv_value.proofs.OfNames.{same_name-refl}
+use Rattle.tv_value.proofs.OfNames.{same_name-is, same_name-refl}
 use Rattle.tv_flow.specs.Formed.{is_ascending}
 use Rattle.tv_graph.specs.Graphs.{vertices, comes_before, is_on_cycle, first_on_cycle}
 use Rattle.tv_naming.specs.Naming.{has_name, complain_if}
 use Rattle.tv_naming.specs.Numbers.{position}
 use Rattle.tv_depths.specs.Cycles.{reaches}
-use Rattle.tv_naming.specs.Faulty.{Complaint, first_of}
+use Rattle.tv_naming.specs.Faulty.{CheckComplaint, first_of}
 use Rattle.tv_check.specs.NamedGraphs.{numbers_of}
-use Rattle.tv_naming.proofs.OfLists.{Each, each-at, find-same, find-map, find-each}
-use Rattle.tv_naming.proofs.ByPosition.{names_of, same_name-is, below-differs, there, named-at}
+use Rattle.tv_naming.proofs.OfLists.{each-at, find-same, find-map, find-each}
+use Rattle.tv_naming.proofs.ByPosition.{names_of, below-differs, there, named-at}
 use Rattle.tv_flow.specs.Views.{each}
 use Rattle.tv_naming.proofs.OfForms.{length-each, entry-each}
 use Rattle.tv_naming.proofs.OfTold.{first-left}
@@ -100,7 +101,7 @@ module _ {A : Type 0} (f : A → List Name) (xs : List (Name × A)) where
 
 -- ---- the first complaint
 
-pub first-told : {X : Type 0} (p : X → Bool) (c : X → Complaint) (xs : List X) → first_of (flat_map (λ x. complain_if (p x) (c x)) xs) ≡ option_map c (find p xs)
+pub first-told : {X : Type 0} (p : X → Bool) (c : X → CheckComplaint) (xs : List X) → first_of (flat_map (λ x. complain_if (p x) (c x)) xs) ≡ option_map c (find p xs)
 first-told p c [] = refl
 first-told p c (x ∷ xs) = cases (p x) (first-told p c xs)
   where
@@ -108,8 +109,8 @@ first-told p c (x ∷ xs) = cases (p x) (first-told p c xs)
     cases true h = refl
     cases false h = h
 
-module _ {A : Type 0} (f : A → List Name) (xs : List (Name × A)) (rises : is_ascending (names_of xs) ≡ true) (c : Name → Complaint) where
-  abbrev pub told : Option Complaint
+module _ {A : Type 0} (f : A → List Name) (xs : List (Name × A)) (rises : is_ascending (names_of xs) ≡ true) (c : Name → CheckComplaint) where
+  abbrev pub told : Option CheckComplaint
   told = first_of (flat_map (λ x. complain_if (on_cycle f xs rises x) (c x.0)) xs)
 
   -- what is told where no vertex is on a cycle, and where one is the least
@@ -139,7 +140,7 @@ module _ {A : Type 0} (f : A → List Name) (xs : List (Name × A)) (rises : is_
           })
 
 -- the same, of the code's list
-module _ {A B : Type 0} (v : A → B) (f : B → List Name) (xs : List (Name × A)) (rises : is_ascending (names_of (each v xs)) ≡ true) (c : Name → Complaint) (k : ℕ) (e : first_on_cycle (graph f (each v xs)) ≡ Some k) where
+module _ {A B : Type 0} (v : A → B) (f : B → List Name) (xs : List (Name × A)) (rises : is_ascending (names_of (each v xs)) ≡ true) (c : Name → CheckComplaint) (k : ℕ) (e : first_on_cycle (graph f (each v xs)) ≡ Some k) where
   pub cycle-inside : k < length xs
   cycle-inside = subst (λ n. k < n) (length-each v xs) (a-cycle f (each v xs) rises c k e).inside
 
@@ -148,19 +149,19 @@ module _ {A B : Type 0} (v : A → B) (f : B → List Name) (xs : List (Name × 
 
 -- ---- what a search for the first complaint has passed
 
-pub first-passed : (cs ds : List Complaint) → first_of cs ≡ None → first_of (cs ++ ds) ≡ first_of ds
+pub first-passed : (cs ds : List CheckComplaint) → first_of cs ≡ None → first_of (cs ++ ds) ≡ first_of ds
 first-passed [] ds e = refl
 first-passed (c ∷ cs) ds e = cc
 
-module _ {X : Type 0} (G : X → List Complaint) (xs : List X) (i : ℕ) (x : X) (lt : i < length xs) (is : x ≡ get_or xs i x) where
+module _ {X : Type 0} (G : X → List CheckComplaint) (xs : List X) (i : ℕ) (x : X) (lt : i < length xs) (is : x ≡ get_or xs i x) where
   rest : flat_map G (drop i xs) ≡ G x ++ flat_map G (drop (i + 1) xs)
   rest = ap (flat_map G) (drop_more xs i x lt ∙ ap (λ y. y ∷ drop (i + 1) xs) (sym is))
 
   pub passed : first_of (G x) ≡ None → first_of (flat_map G xs) ≡ first_of (flat_map G (drop i xs)) → first_of (flat_map G xs) ≡ first_of (flat_map G (drop (i + 1) xs))
   passed none so_far = so_far ∙ ap first_of rest ∙ first-passed (G x) (flat_map G (drop (i + 1) xs)) none
 
-  pub stopped : (c : Complaint) → first_of (G x) ≡ Some c → first_of (flat_map G xs) ≡ first_of (flat_map G (drop i xs)) → first_of (flat_map G xs) ≡ Some c
+  pub stopped : (c : CheckComplaint) → first_of (G x) ≡ Some c → first_of (flat_map G xs) ≡ first_of (flat_map G (drop i xs)) → first_of (flat_map G xs) ≡ Some c
   stopped c some so_far = so_far ∙ ap first_of rest ∙ first-left (G x) (flat_map G (drop (i + 1) xs)) c some
 
-pub passed-all : {X : Type 0} (G : X → List Complaint) (xs : List X) (i : ℕ) → length xs ≤ i → first_of (flat_map G xs) ≡ first_of (flat_map G (drop i xs)) → first_of (flat_map G xs) ≡ None
+pub passed-all : {X : Type 0} (G : X → List CheckComplaint) (xs : List X) (i : ℕ) → length xs ≤ i → first_of (flat_map G xs) ≡ first_of (flat_map G (drop i xs)) → first_of (flat_map G xs) ≡ None
 passed-all G xs i past so_far = so_far ∙ ap (λ ys. first_of (flat_map G ys)) (drop_all i xs past)

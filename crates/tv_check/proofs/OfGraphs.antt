@@ -1,5 +1,5 @@
 -- Graphs of named things: they are graphs, and what the names say of them.
-use Rattle.std.specs.Prelude.{◌≡◌, ℕ, suc, ◌<◌, ◌^◌, List, [], ◌∷◌, length, map, Bool, true, false, ◌&&◌, ◌||◌, ◌==◌, nat_lt, Option, Some, None, refl, is_some, unwrap_or, slice_get, if◌then◌else◌}
+use Rattle.std.specs.Prelude.{◌≡◌, ℕ, suc, ◌<◌, ◌^◌, List, [], ◌∷◌, length, map, Bool, true, false, ◌&&◌, ◌||◌, ◌==◌, nat_lt, Option, Some, None, refl, unwrap_or, slice_get, if◌then◌else◌}
 use Rattle.std.specs.List.{list_all, list_any, cons_option}
 use Rattle.std.specs.Option.{option_map_or}
 use Rattle.std.proofs.Common.{get_or, ap, sym, subst, ◌∙◌}
@@ -8,14 +8,15 @@ use Rattle.std.proofs.lemmas.List.{length-map}
 use Rattle.std.proofs.lemmas.Simd.{map-map}
 use Rattle.tv_value.specs.Values.{Name}
 use Rattle.tv_value.specs.Orders.{same_name, named}
-use Rattle.tv_value.proofs.OfNames.{same_name-refl}
+use Rattle.tv_value.proofs.OfNames.{same_name-is, same_name-refl}
 use Rattle.tv_flow.specs.Views.{each}
 use Rattle.tv_graph.specs.Graphs.{Graph, is_graph, before}
 use Rattle.tv_naming.specs.Naming.{has_name}
 use Rattle.tv_naming.specs.Numbers.{number_in, position}
 use Rattle.tv_check.specs.NamedGraphs.{numbers_of, graph_of}
-use Rattle.tv_naming.proofs.ByPosition.{same_name-is, there, number-found}
+use Rattle.tv_naming.proofs.ByPosition.{there, number-found}
 use Rattle.tv_naming.proofs.OfLists.{map-same, filter_map-same}
+use Rattle.tv_depths.proofs.OfNested.{number-each}
 
 -- ---- the numbers are vertices
 
@@ -45,20 +46,8 @@ module _ {A : Type 0} (xs : List (Name × A)) where
 -- ---- things of the code, and what they stand for
 
 module _ {A B : Type 0} (v : A → B) where
-  named-each : (n : Name) (xs : List (Name × A)) → is_some (named n (each v xs)) ≡ is_some (named n xs)
-  named-each n [] = refl
-  named-each n (x ∷ xs) = cases (same_name n x.0) (named-each n xs)
-    where
-      cases : (b : Bool) → is_some (named n (each v xs)) ≡ is_some (named n xs) → is_some (if b then Some (v x.1) else named n (each v xs)) ≡ is_some (if b then Some x.1 else named n xs)
-      cases true h = refl
-      cases false h = h
-
-  position-each : (n : Name) (xs : List (Name × A)) → position n (each v xs) ≡ position n xs
-  position-each n [] = refl
-  position-each n (x ∷ xs) = ap (λ k. if same_name n x.0 then 0 else suc k) (position-each n xs)
-
   pub number_in-each : (xs : List (Name × A)) (n : Name) → number_in (each v xs) n ≡ number_in xs n
-  number_in-each xs n = ap (λ b. if b then Some (position n (each v xs)) else None) (named-each n xs) ∙ ap (λ k. if is_some (named n xs) then Some k else None) (position-each n xs)
+  number_in-each xs n = number-each v n xs
 
   pub graph_of-each : (f : B → List Name) (xs : List (Name × A)) → graph_of f (each v xs) ≡ map (λ x. numbers_of xs (f (v x.1))) xs
   graph_of-each f xs =

@@ -14,7 +14,7 @@ use Rattle.tv_flow.specs.Flows.{Flow, Document}
 use Rattle.tv_flow.specs.Formed.{is_ascending}
 use Rattle.tv_graph.specs.Graphs.{Graph, first_on_cycle, greatest, height, heights}
 use Rattle.tv_naming.specs.Naming.{complain_if}
-use Rattle.tv_naming.specs.Faulty.{Complaint, first_of}
+use Rattle.tv_naming.specs.Faulty.{CheckComplaint, first_of}
 use Rattle.tv_depths.specs.Cycles.{opened_flows, flows_in, nesting, nestings, cycle_complaints}
 use Rattle.tv_naming.specs.Faulty.{at_flow, flow_cycle, plainly}
 use Rattle.tv_check.specs.NamedGraphs.{numbers_of, leads_inside}
@@ -67,8 +67,8 @@ cycle-free d rises e =
 
 -- ---- the first complaint about numbers
 
-module _ {X : Type 0} (p : ℕ → Bool) (h : X → ℕ) (c : X → Complaint) where
-  abbrev told : List X → Option Complaint
+module _ {X : Type 0} (p : ℕ → Bool) (h : X → ℕ) (c : X → CheckComplaint) where
+  abbrev told : List X → Option CheckComplaint
   told xs = first_of (flat_map (λ x. complain_if (p (h x)) (c x)) xs)
 
   pub record IsToldAt (xs : List X) (k : ℕ) : Type 0 where

@@ -10,15 +10,15 @@ use Rattle.tv_flow.specs.Flows.{Feed, Step, Flow}
 use Rattle.tv_flow.specs.Views.{each, step_input_view}
 use Rattle.tv_flow.specs.declared.document.StepInput.{StepInput as CodeInput}
 use Rattle.tv_strategy.specs.Measures.{strategy_depth}
-use Rattle.tv_depths.specs.CheckedDepths.{feed_depth, port_depth, flow_depths, measured_outputs}
-use Rattle.tv_depths.specs.Ranks.{ranked}
-use Rattle.tv_depths.specs.Steps.{strategy_of, ports_of}
+use Rattle.tv_instance.specs.CheckedDepths.{feed_depth, port_depth, flow_depths, measured_outputs}
+use Rattle.tv_instance.specs.Ranks.{ranked}
+use Rattle.tv_instance.specs.Steps.{strategy_of, ports_of}
 use Rattle.tv_naming.specs.Numbers.{position}
 use Rattle.tv_wires.specs.Wirings.{wiring}
 use Rattle.tv_wires.specs.declared.wiring.Wiring.{Wiring}
 use Rattle.tv_check.specs.Plans as plan
 use Rattle.tv_check.specs.Planned.{planned, IsPlanned}
-use Rattle.tv_depths.specs.Tables.{known, IsMeasured, step_level, Agree}
+use Rattle.tv_depths.specs.Tables.{known_steps, IsMeasured, step_level, Agree}
 use Rattle.tv_depths.proofs.OfDepths.{feed-agree}
 use Rattle.tv_naming.proofs.FormedParts.{steps-ascend}
 use Rattle.tv_depths.proofs.OfRanked.{all-ranked}
@@ -29,12 +29,12 @@ ports-listed [] = refl
 ports-listed (i ∷ is) = ap (strategy (port i.0)) (ports-listed is)
 
 -- a step's plan is the one by the table
-pub planned-is : (f : Flow) (ls : List (Option ℕ)) → Agree (flow_depths f) (known f.steps ls) → (s : Name × Step) (rank depth : ℕ) → rank ≡ position s.0 (ranked f.steps) → depth ≡ strategy_depth (port_depth f.inputs (flow_depths f) s.1) (strategy_of s.1) → planned f ls rank depth s.1 ≡ plan.step_plan f s
+pub planned-is : (f : Flow) (ls : List (Option ℕ)) → Agree (flow_depths f) (known_steps f.steps ls) → (s : Name × Step) (rank depth : ℕ) → rank ≡ position s.0 (ranked f.steps) → depth ≡ strategy_depth (port_depth f.inputs (flow_depths f) s.1) (strategy_of s.1) → planned f ls rank depth s.1 ≡ plan.step_plan f s
 planned-is f ls same (n, s) rank depth r d =
     let whole : (Feed → ℕ) → ℕ → ℕ → plan.StepPlan =
     λ g k v. record { rank = k; tree = strategy_of s; depth = v; delivered = map (λ i. (i.0, g i.1.from)) s.inputs; mismatch = map (λ i. (i.0, g i.1.from - i.1.depth)) s.inputs }
     in
-    ap (λ g. whole g rank depth) (sym (feed-agree f.inputs (flow_depths f) (known f.steps ls) same)) ∙ ap (λ k. whole (feed_depth f.inputs (flow_depths f)) k depth) r ∙ ap (whole (feed_depth f.inputs (flow_depths f)) (position n (ranked f.steps))) d
+    ap (λ g. whole g rank depth) (sym (feed-agree f.inputs (flow_depths f) (known_steps f.steps ls) same)) ∙ ap (λ k. whole (feed_depth f.inputs (flow_depths f)) k depth) r ∙ ap (whole (feed_depth f.inputs (flow_depths f)) (position n (ranked f.steps))) d
 
 module _ {A B C : Type 0} (v : A → B) (g : C → B) where
   next-mapped : (ys : List C) (j : ℕ) (y : C) → slice_get ys j ≡ Some y → map g (take (suc j) ys) ≡ map g (take j ys) ++ g y ∷ []

@@ -3,10 +3,12 @@ use Rattle.std.proofs.lemmas.Bool.{lt-ltb, and_parts}
 use Rattle.std.specs.Prelude.{nat_lt, ◌≡◌, ℕ, zero, suc, ◌≤◌, List, [], ◌∷◌, length, map, Bool, true, false, not, ◌&&◌, ◌||◌, Option, Some, None, option_map, refl, is_some, find, filter, if◌then◌else◌}
 use Rattle.std.specs.List.{list_all, cons_option, range_with_len}
 use Rattle.std.specs.Option.{option_map_or}
-use Rattle.std.proofs.Common.{arith, get_or, ap, sym, ◌∙◌, cond}
+use Rattle.std.proofs.Common.{arith, get_or, ap, sym, ◌∙◌}
 use Rattle.std.proofs.lemmas.List.{length-map}
 use Rattle.std.proofs.lemmas.Simd.{map-map}
+use Rattle.tv_lemmas.specs.Members.{Each}
 use Rattle.tv_lemmas.proofs.Lists.{filter-all}
+use Rattle.tv_lemmas.proofs.OfMembers.{each-filter}
 use Rattle.tv_value.specs.Values.{Name}
 use Rattle.tv_value.specs.Orders.{same_name}
 use Rattle.tv_flow.specs.Flows.{Step}
@@ -14,11 +16,12 @@ use Rattle.tv_flow.specs.Formed.{is_ascending}
 use Rattle.tv_graph.specs.Graphs.{Graph, before, vertices, is_one_of, is_next, taken_by_least, by_least}
 use Rattle.tv_naming.specs.Naming.{has_name}
 use Rattle.tv_naming.specs.Numbers.{position}
-use Rattle.tv_depths.specs.Ranks.{earlier_steps, is_among, by_rank, ranked}
-use Rattle.tv_check.specs.RankNumbers.{place, numbers_by_rank, ranks_by_number}
+use Rattle.tv_instance.specs.Ranks.{earlier_steps, is_among, by_rank, ranked}
+use Rattle.tv_check.specs.RankNumbers.{first_at, numbers_by_rank, ranks_by_number}
 use Rattle.tv_check.specs.NamedGraphs.{numbers_of, leads_inside}
-use Rattle.tv_naming.proofs.OfLists.{Each, each-at, list_all-at, find-same, find-map, find-each, find-filter, filter-filter, filter-same, map-each}
-use Rattle.tv_naming.proofs.ByPosition.{names_of, same_name-sym, there, named-at, number-there}
+use Rattle.tv_naming.proofs.OfLists.{each-at, list_all-at, find-same, find-map, find-each, find-filter, filter-filter, filter-same, map-each}
+use Rattle.tv_naming.proofs.ByPosition.{names_of, there, named-at, number-there}
+use Rattle.tv_value.proofs.OfNames.{same_name-sym}
 use Rattle.tv_check.proofs.OfGraphs.{graph, at, before-next, position-apart}
 use Rattle.tv_check.proofs.OfCycles.{IsThere, each-there, positions, vertices-are}
 
@@ -66,18 +69,10 @@ module _ {A : Type 0} (xs : List (Name × A)) where
 -- ---- the steps that are taken are there
 
 module _ (P : Name × Step → Type 0) where
-  each-filter : (p : Name × Step → Bool) (ys : List (Name × Step)) → Each P ys → Each P (filter p ys)
-  each-filter p [] h = tt
-  each-filter p (y ∷ ys) h = cases (p y) (each-filter p ys h.1)
-    where
-      cases : (b : Bool) → Each P (filter p ys) → Each P (cond b (y ∷ filter p ys) (filter p ys))
-      cases true g = (h.0, g)
-      cases false g = g
-
-  each-by_rank : (k : ℕ) (done : List Name) (ys : List (Name × Step)) → Each P ys → Each P (by_rank k done ys)
+  pub each-by_rank : (k : ℕ) (done : List Name) (ys : List (Name × Step)) → Each P ys → Each P (by_rank k done ys)
   each-by_rank zero done ys h = tt
   each-by_rank (suc k) done ys h =
-      cases (find (λ s. list_all (is_among done) (earlier_steps s.1)) ys) refl (λ s. each-by_rank k (s.0 ∷ done) (filter (λ t. not (same_name s.0 t.0)) ys) (each-filter (λ t. not (same_name s.0 t.0)) ys h))
+      cases (find (λ s. list_all (is_among done) (earlier_steps s.1)) ys) refl (λ s. each-by_rank k (s.0 ∷ done) (filter (λ t. not (same_name s.0 t.0)) ys) (each-filter P (λ t. not (same_name s.0 t.0)) ys h))
     where
       cases : (o : Option (Name × Step)) → find (λ s. list_all (is_among done) (earlier_steps s.1)) ys ≡ o → ((s : Name × Step) → Each P (by_rank k (s.0 ∷ done) (filter (λ t. not (same_name s.0 t.0)) ys))) → Each P (option_map_or (λ s. s ∷ by_rank k (s.0 ∷ done) (filter (λ t. not (same_name s.0 t.0)) ys)) o [])
       cases None e g = tt
@@ -156,17 +151,17 @@ module _ (xs : List (Name × Step)) (rises : is_ascending (names_of xs) ≡ true
   pub ranked-below : list_all (λ v. nat_lt v (length xs)) (numbers_by_rank xs) ≡ true
   ranked-below = number-below (ranked xs) ranked-there
 
-  place-position : (n : Name) (ys : List (Name × Step)) → has_name xs n ≡ true → Each (IsThere xs) ys → place (position n xs) (map (λ s. position s.0 xs) ys) ≡ position n ys
+  place-position : (n : Name) (ys : List (Name × Step)) → has_name xs n ≡ true → Each (IsThere xs) ys → first_at (position n xs) (map (λ s. position s.0 xs) ys) ≡ position n ys
   place-position n [] h e = refl
   place-position n (y ∷ ys) h e =
-      ap (λ c. if c then 0 else suc (place (position n xs) (map (λ s. position s.0 xs) ys))) (position-apart xs n y.0 h e.0.0)
+      ap (λ c. if c then 0 else suc (first_at (position n xs) (map (λ s. position s.0 xs) ys))) (position-apart xs n y.0 h e.0.0)
       ∙ ap (λ k. if same_name n y.0 then 0 else suc k) (place-position n ys h e.1)
 
   -- the ranks are the places among the steps by rank
-  pub ranks-placed : map (λ v. place v (numbers_by_rank xs)) (range_with_len 0 (length xs)) ≡ ranks_by_number xs
+  pub ranks-placed : map (λ v. first_at v (numbers_by_rank xs)) (range_with_len 0 (length xs)) ≡ ranks_by_number xs
   ranks-placed =
-      ap (map (λ v. place v (numbers_by_rank xs))) (sym (positions xs rises))
-      ∙ map-map (λ v. place v (numbers_by_rank xs)) (λ s. position s.0 xs) xs
+      ap (map (λ v. first_at v (numbers_by_rank xs))) (sym (positions xs rises))
+      ∙ map-map (λ v. first_at v (numbers_by_rank xs)) (λ s. position s.0 xs) xs
       ∙ map-each (IsThere xs) _ _ xs (each-there xs rises) (λ s e. place-position s.0 (ranked xs) e.0 ranked-there)
 
 -- ---- as many as are ranked

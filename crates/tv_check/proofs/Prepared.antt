@@ -10,6 +10,7 @@ use Rattle.std.proofs.lemmas.List.{length-map}
 use Rattle.std.proofs.lemmas.List.Folds.{list_all-append}
 use Rattle.std.proofs.lemmas.Option.{slice_get-get_or}
 use Rattle.std.proofs.lemmas.Simd.{map-map}
+use Rattle.tv_lemmas.specs.Members.{Each}
 use Rattle.tv_lemmas.proofs.Lists.{append-none}
 use Rattle.tv_value.specs.Values.{Name}
 use Rattle.tv_value.specs.Strategies.{Strategy}
@@ -18,8 +19,8 @@ use Rattle.tv_flow.specs.Flows.{Step, Flow, Document}
 use Rattle.tv_flow.specs.Formed.{is_ascending, is_formed}
 use Rattle.tv_graph.specs.Graphs.{Graph, before, greatest, height}
 use Rattle.tv_graph.proofs.Depths.{height-next}
-use Rattle.tv_depths.specs.Ranks.{ranked}
-use Rattle.tv_naming.specs.Faulty.{Complaint, plainly, strategy_ports, no_such_flow, at_main, at_step, first_of}
+use Rattle.tv_instance.specs.Ranks.{ranked}
+use Rattle.tv_naming.specs.Faulty.{CheckComplaint, plainly, strategy_ports, no_such_flow, at_main, at_step, first_of}
 use Rattle.tv_naming.specs.Naming.{has_name, fits_ports, complain_if, step_naming, flow_naming, naming_complaints}
 use Rattle.tv_depths.specs.Cycles.{opened_flow, opened_flows, flows_in, nestings, cycle_complaints}
 use Rattle.tv_naming.specs.Numbers.{position}
@@ -28,7 +29,7 @@ use Rattle.tv_check.specs.NamedGraphs.{numbers_of, leads_inside}
 use Rattle.tv_depths.specs.Tables.{AreAt, has_fitting}
 use Rattle.tv_check.specs.Plannable.{AreByRank}
 use Rattle.tv_depths.specs.Measured.{flow_nesting, opens_lower, AreOrders, IsPrepared}
-use Rattle.tv_naming.proofs.OfLists.{Each, each-at, map-same, map-each, pair-same}
+use Rattle.tv_naming.proofs.OfLists.{each-at, map-same, map-each, pair-same}
 use Rattle.tv_naming.proofs.ByPosition.{names_of, there}
 use Rattle.tv_check.proofs.OfCycles.{IsThere, each-there}
 use Rattle.tv_check.proofs.OfGraphs.{graph, at, before-next, graph_of-is}
@@ -64,7 +65,7 @@ orders-are (f ∷ fs) (o ∷ os) rises e =
 
 -- ---- strategies that fit their ports
 
-fits : (s : Step) (c : Complaint) (o : Option Strategy) → option_map_or (λ t. complain_if (not (fits_ports s t)) c) o [] ≡ [] → option_map_or (fits_ports s) o true ≡ true
+fits : (s : Step) (c : CheckComplaint) (o : Option Strategy) → option_map_or (λ t. complain_if (not (fits_ports s t)) c) o [] ≡ [] → option_map_or (fits_ports s) o true ≡ true
 fits s c None e = refl
 fits s c (Some t) e = cases (fits_ports s t) e
   where

@@ -11,9 +11,10 @@ use Rattle.tv_value.specs.Values.{Name}
 use Rattle.tv_value.specs.Orders.{named}
 use Rattle.tv_flow.specs.Flows.{Flow, Document}
 use Rattle.tv_flow.specs.Formed.{is_flow, is_formed}
-use Rattle.tv_naming.specs.Faulty.{Complaint, plainly, no_such_flow, at_main, too_deep, at_flow, with_numbers, first_of}
+use Rattle.tv_naming.specs.Faulty.{CheckComplaint, plainly, no_such_flow, at_main, too_deep, at_flow, with_numbers, first_of}
 use Rattle.tv_naming.specs.Naming.{has_name, complain_if, flow_naming, naming_complaints}
-use Rattle.tv_depths.specs.Cycles.{nesting_complaints, nesting_limit, link_cycle_complaints}
+use Rattle.tv_depths.specs.Cycles.{nesting_complaints, link_cycle_complaints}
+use Rattle.tv_instance.specs.Nesting.{nesting_limit}
 use Rattle.tv_check.specs.Plans.{IsAccepted}
 use Rattle.tv_check.specs.PlanViews.{IsOfDocument}
 use Rattle.tv_check.specs.RankNumbers.{numbers_by_rank}
@@ -75,7 +76,7 @@ module _ (knows : Name → Bool) (d : Document) (formed : is_formed d ≡ true) 
       let inside = list_all-at (λ f. links_inside f.1) d.flows k x (and_parts _ _ (names-inside knows d named_so)).1 lt in
       eq-eqb _ _ (all-ranked-formed f.1 ((flows-named d formed).pass k x lt) inside (flow-acyclic d (ap first_of free) k x lt))
 
-  shallow : (b : Bool) (c : Complaint) → complain_if b c ≡ [] → b ≡ false
+  shallow : (b : Bool) (c : CheckComplaint) → complain_if b c ≡ [] → b ≡ false
   shallow false c e = refl
   shallow true c e = cc
 

@@ -19,7 +19,7 @@ use Rattle.tv_naming.specs.Inputs.{given_complaints}
 use Rattle.tv_naming.proofs.FormedParts.{few, passes, step-at, step-inputs}
 use Rattle.tv_depths.specs.Cycles.{cycle_complaints, link_cycle_complaints, nesting_complaints}
 use Rattle.tv_depths.specs.Depthwise.{depth_complaints}
-use Rattle.tv_depths.specs.Steps.{ports_of, strategy_of}
+use Rattle.tv_instance.specs.Steps.{ports_of, strategy_of}
 use Rattle.tv_depths.specs.Tables.{has_fitting}
 use Rattle.tv_check.specs.Passes.{checked, complaints}
 use Rattle.tv_check.specs.Plans.{IsAccepted}

@@ -18,11 +18,11 @@ pub use Rattle.tv_naming.specs.Inputs
 pub use Rattle.tv_naming.specs.Naming
 pub use Rattle.tv_naming.specs.Numbers
 pub use Rattle.tv_naming.specs.Told
-pub use Rattle.tv_depths.specs.CheckedDepths
+pub use Rattle.tv_instance.specs.CheckedDepths
 pub use Rattle.tv_depths.specs.Cycles
-pub use Rattle.tv_depths.specs.Delivered
+pub use Rattle.tv_instance.specs.Delivered
 pub use Rattle.tv_depths.specs.Depthwise
 pub use Rattle.tv_depths.specs.Measured
-pub use Rattle.tv_depths.specs.Ranks
-pub use Rattle.tv_depths.specs.Steps
+pub use Rattle.tv_instance.specs.Ranks
+pub use Rattle.tv_instance.specs.Steps
 pub use Rattle.tv_depths.specs.Tables

@@ -4,7 +4,7 @@ use Rattle.std.specs.List.{list_all}
 use Rattle.tv_value.specs.Values.{Name}
 use Rattle.tv_flow.specs.Flows.{Flow, Document}
 use Rattle.tv_graph.specs.Graphs.{Graph}
-use Rattle.tv_depths.specs.Ranks.{earlier_steps}
+use Rattle.tv_instance.specs.Ranks.{earlier_steps}
 use Rattle.tv_naming.specs.Naming.{has_name}
 use Rattle.tv_depths.specs.Cycles.{opened_flows}
 use Rattle.tv_naming.specs.Numbers.{number_in}

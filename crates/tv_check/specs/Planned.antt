@@ -3,9 +3,9 @@ use Rattle.std.specs.Prelude.{◌≡◌, ℕ, List, map, Option, Some}
 use Rattle.tv_flow.specs.Flows.{Step, Flow}
 use Rattle.tv_value.specs.Values.{Name}
 use Rattle.tv_strategy.specs.Measures.{strategy_depth}
-use Rattle.tv_depths.specs.CheckedDepths.{port_depth, flow_depths}
-use Rattle.tv_depths.specs.Ranks.{ranked}
-use Rattle.tv_depths.specs.Steps.{strategy_of}
+use Rattle.tv_instance.specs.CheckedDepths.{port_depth, flow_depths}
+use Rattle.tv_instance.specs.Ranks.{ranked}
+use Rattle.tv_instance.specs.Steps.{strategy_of}
 use Rattle.tv_naming.specs.Numbers.{position}
 use Rattle.tv_check.specs.Plans as plan
 use Rattle.tv_depths.specs.Tables.{IsMeasured, table_depth, table_mismatch}

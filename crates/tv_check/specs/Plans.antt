@@ -5,9 +5,9 @@ use Rattle.tv_value.specs.Values.{Name}
 use Rattle.tv_value.specs.Strategies.{Strategy}
 use Rattle.tv_flow.specs.Flows.{Step, Flow, Document}
 use Rattle.tv_strategy.specs.Measures.{strategy_depth}
-use Rattle.tv_depths.specs.Ranks.{ranked}
-use Rattle.tv_depths.specs.Steps.{strategy_of}
-use Rattle.tv_depths.specs.CheckedDepths.{feed_depth, port_depth, flow_depths, measured_outputs}
+use Rattle.tv_instance.specs.Ranks.{ranked}
+use Rattle.tv_instance.specs.Steps.{strategy_of}
+use Rattle.tv_instance.specs.CheckedDepths.{feed_depth, port_depth, flow_depths, measured_outputs}
 use Rattle.tv_check.specs.Passes.{checked}
 use Rattle.tv_naming.specs.Numbers.{position}
 use Rattle.tv_wires.specs.Wirings.{wiring}

@@ -2,7 +2,7 @@
 use Rattle.std.specs.Prelude.{ℕ, suc, List, [], ◌∷◌, map, ◌==◌, if◌then◌else◌}
 use Rattle.tv_value.specs.Values.{Name}
 use Rattle.tv_flow.specs.Flows.{Step}
-use Rattle.tv_depths.specs.Ranks.{ranked}
+use Rattle.tv_instance.specs.Ranks.{ranked}
 use Rattle.tv_naming.specs.Numbers.{position}
 
 -- the number of each step, in the order of ranks
@@ -14,6 +14,6 @@ abbrev pub ranks_by_number : List (Name × Step) → List ℕ
 ranks_by_number steps = map (λ s. position s.0 (ranked steps)) steps
 
 -- where a number stands first in a list, the list's length where it doesn't
-abbrev pub place : ℕ → List ℕ → ℕ
-place v [] = 0
-place v (u ∷ us) = if v == u then 0 else suc (place v us)
+abbrev pub first_at : ℕ → List ℕ → ℕ
+first_at v [] = 0
+first_at v (u ∷ us) = if v == u then 0 else suc (first_at v us)

@@ -3,7 +3,7 @@ ghost use Rattle.std.specs.Prelude.{◌≡◌, ◌++◌, IfOk, List, [], option_
 ghost use Rattle.tv_flow.specs.DocumentViews.{document_view};
 ghost use Rattle.tv_check.specs.Answered.{IsCheckOf};
 ghost use Rattle.tv_depths.specs.Cycles.{nestings, cycle_complaints, nesting_complaints, link_cycle_complaints};
-ghost use Rattle.tv_naming.specs.Faulty.{Complaint, first_of};
+ghost use Rattle.tv_naming.specs.Faulty.{CheckComplaint, first_of};
 ghost use Rattle.tv_naming.specs.FaultViews.{fault_view};
 ghost use Rattle.tv_naming.specs.Naming.{naming_complaints};
 ghost use Rattle.tv_check.specs.Passes.{checked};
@@ -65,7 +65,7 @@ fn names_and_links<V: Services>(
 
 /// The refusal for a pass that found a fault.
 fn told(fault: Option<CheckFault>) -> Result<(), CheckRefused>
-    ensures { (cs : List Complaint) → option_map fault_view fault ≡ first_of cs
+    ensures { (cs : List CheckComplaint) → option_map fault_view fault ≡ first_of cs
         → IsToldOf cs result }
 {
     match fault {

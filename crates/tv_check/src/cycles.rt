@@ -6,10 +6,11 @@ ghost use Rattle.tv_flow.specs.Formed.{is_flow};
 ghost use Rattle.tv_flow.specs.DocumentViews.{document_view};
 ghost use Rattle.tv_graph.specs.Graphs.{by_least, first_on_cycle, heights};
 ghost use Rattle.tv_check.specs.NamedGraphs.{leads_inside, links_inside};
-ghost use Rattle.tv_check.specs.RankNumbers.{numbers_by_rank, ranks_by_number, place};
+ghost use Rattle.tv_check.specs.RankNumbers.{numbers_by_rank, ranks_by_number, first_at};
 ghost use Rattle.tv_naming.specs.FaultViews.{fault_view};
 ghost use Rattle.tv_naming.specs.Faulty.{at_flow, at_step, flow_cycle, link_cycle, plainly, too_deep, with_numbers, first_of};
-ghost use Rattle.tv_depths.specs.Cycles.{cycle_complaints, flow_link_cycles, link_cycle_complaints, nesting_complaints, nesting_limit, nestings, opened_flows};
+ghost use Rattle.tv_depths.specs.Cycles.{cycle_complaints, flow_link_cycles, link_cycle_complaints, nesting_complaints, nestings, opened_flows};
+ghost use Rattle.tv_instance.specs.Nesting.{nesting_limit};
 
 use crate::graphs::{flow_graph, step_graph};
 use std::alloc::Global;
@@ -124,7 +125,8 @@ pub(crate) fn ranks(alloc: Global, flow: &Flow, by_rank: &[u32]) -> Result<Vec<u
 fn places(alloc: Global, list: &[u32], count: usize) -> Result<Vec<u32>, NoMemory>
     requires few { length list.now < 2 ^ 32 }
     requires below { list_all (λ v. nat_lt v count) list.now ≡ true }
-    ensures { IfOk result (λ ps. ps.items ≡ map (λ v. place v list.now) (range_with_len 0 count)) }
+    ensures { IfOk result (λ ps. ps.items ≡ map (λ v. first_at v list.now)
+        (range_with_len 0 count)) }
 {
     let mut places = vec![in alloc; list.len() as u32; count]?;
     for place in (0..list.len()).rev() {

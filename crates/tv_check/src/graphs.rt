@@ -3,7 +3,7 @@
 ghost use Rattle.std.specs.Prelude.{◌≡◌, ◌<◌, ◌^◌, ◌++◌, ◌∷◌, [], true, map, length, flat_map, filter_map, IfOk, OnOk};
 ghost use Rattle.tv_flow.specs.Formed.{is_ascending};
 ghost use Rattle.tv_flow.specs.Views.{each, link_view, feed_view, activity_view, step_input_view, step_view, flow_view};
-ghost use Rattle.tv_depths.specs.Ranks.{link_step, feed_steps, earlier_steps};
+ghost use Rattle.tv_instance.specs.Ranks.{link_step, feed_steps, earlier_steps};
 ghost use Rattle.tv_depths.specs.Cycles.{opened_flow, opened_flows};
 ghost use Rattle.tv_check.specs.NamedGraphs.{numbers_of, graph_of};
 

@@ -4,7 +4,7 @@ ghost use Rattle.tv_value.specs.Strategies.{cross, dot};
 ghost use Rattle.tv_value.specs.Views.{strategy_view, strategies_view};
 ghost use Rattle.tv_flow.specs.Formed.{is_flow};
 ghost use Rattle.tv_flow.specs.Views.{each, flow_view, step_view, step_input_view};
-ghost use Rattle.tv_depths.specs.Steps.{strategy_of, ports_of};
+ghost use Rattle.tv_instance.specs.Steps.{strategy_of, ports_of};
 ghost use Rattle.tv_depths.specs.Tables.{IsTable, table_depth, table_mismatch};
 ghost use Rattle.tv_check.specs.PlanViews.{step_plan_view, IsOfDocument};
 ghost use Rattle.tv_check.specs.FlowPlanViews.{flow_plan_view};

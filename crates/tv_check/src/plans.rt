@@ -40,5 +40,17 @@ pub struct FlowPlan {
     pub outputs: Depths,
     /// What feeds each port and each output, and which ports and steps wait for each step, by numbers.
     pub wiring: Wiring,
-    pub ghost kept: { IsFlowPlan (record { flow = flow_view flow; steps = map step_plan_view steps; outputs = outputs; wiring = wiring }) } by { IsFlowPlan-prop (record { flow = flow_view flow; steps = map step_plan_view steps; outputs = outputs; wiring = wiring }) },
+    pub ghost kept: { IsFlowPlan
+        (record {
+          flow = flow_view flow;
+          steps = map step_plan_view steps;
+          outputs = outputs;
+          wiring = wiring;
+        }) } by { IsFlowPlan-prop
+            (record {
+              flow = flow_view flow;
+              steps = map step_plan_view steps;
+              outputs = outputs;
+              wiring = wiring;
+            }) },
 }

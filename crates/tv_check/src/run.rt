@@ -12,5 +12,7 @@ pub struct CheckedRun {
     pub(crate) document: Document,
     pub(crate) main: u32,
     pub(crate) plans: FlowPlans,
-    pub ghost kept: { IsChecked (document_view document) main (map flow_plan_view plans) } by { IsChecked-prop (document_view document) main (map flow_plan_view plans) },
+    pub ghost kept: { IsChecked (document_view document) main
+        (map flow_plan_view plans) } by { IsChecked-prop (document_view document) main
+            (map flow_plan_view plans) },
 }

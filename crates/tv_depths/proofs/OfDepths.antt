@@ -17,19 +17,20 @@ use Rattle.tv_flow.specs.Formed.{is_flow}
 use Rattle.tv_flow.specs.Views.{each, step_view, flow_view}
 use Rattle.tv_flow.specs.declared.document.Step.{Step as CodeStep}
 use Rattle.tv_flow.specs.declared.document.Flow.{Flow as CodeFlow}
-use Rattle.tv_depths.specs.Ranks.{ranked}
+use Rattle.tv_instance.specs.Ranks.{ranked}
 use Rattle.tv_depths.specs.Measured.{IsReady, step_opens}
 use Rattle.tv_depths.specs.declared.measured.Measured.{Measured}
 use Rattle.tv_strategy.specs.Measures.{strategy_depth, first_difference}
-use Rattle.tv_depths.specs.Steps.{strategy_of}
-use Rattle.tv_naming.specs.Faulty.{Complaint, Where, at_step, at_input, at_output, at_flow_output}
+use Rattle.tv_instance.specs.Steps.{strategy_of}
+use Rattle.tv_naming.specs.Faulty.{CheckComplaint, Where, at_step, at_input, at_output, at_flow_output}
 use Rattle.tv_naming.specs.Naming.{numbered}
-use Rattle.tv_depths.specs.CheckedDepths.{StepDepths, link_depth, merged_depth, feed_depth, port_depth, step_depths, steps_depths, flow_depths, measured_outputs}
+use Rattle.tv_instance.specs.CheckedDepths.{StepDepths, link_depth, merged_depth, feed_depth, port_depth, step_depths, steps_depths, flow_depths, measured_outputs}
 use Rattle.tv_depths.specs.Depthwise.{past_limit, fed_complaints, nested_complaints, dot_complaints, merge_difference, step_complaints, steps_complaints, flow_complaints}
-use Rattle.tv_depths.specs.Tables.{with_level, known, IsTable, IsSound, IsMeasured, is_level, level_most, has_fitting, table_depth, Agree, AreAt}
+use Rattle.tv_depths.specs.Tables.{with_level, known_steps, IsTable, IsSound, IsMeasured, is_level, level_most, has_fitting, table_depth, Agree, AreAt}
 use Rattle.tv_naming.specs.Told.{StopsAt}
 use Rattle.tv_naming.specs.declared.faults.CheckRefused.{CheckRefused}
-use Rattle.tv_depths.proofs.OfRanked.{IsOrdered, port-stays, feeds-none, ranks-apart, one-place, get-set-same, get-set-other}
+use Rattle.tv_depths.proofs.OfRanked.{one-place, get-set-same, get-set-other}
+use Rattle.tv_instance.proofs.OfRanks.{IsOrdered, port-stays, feeds-none, ranks-apart}
 use Rattle.tv_naming.proofs.FormedParts.{steps-ascend, step-at, passes}
 use Rattle.tv_depths.proofs.OfLinks.{length-each, each-get}
 use Rattle.tv_depths.proofs.OfTables.{agree-set, found-empty}
@@ -65,7 +66,7 @@ module _ (given : List (Name × ℕ)) (made table : List StepDepths) (same : Agr
 
   pub step-agree : (d : Document) (f : Name) (s : Name × Step) → step_complaints d f given made s ≡ step_complaints d f given table s
   step-agree d f (n, s) =
-      let parts : (Where → Feed → List Complaint) → (Name → ℕ) → List Complaint =
+      let parts : (Where → Feed → List CheckComplaint) → (Name → ℕ) → List CheckComplaint =
       λ fed ports. flat_map (λ i. fed (at_input f n i.0) i.1.from) s.inputs ++ dot_complaints (at_step f n) (first_difference ports (strategy_of s)) ++ flat_map (λ o. past_limit (at_output f n o.0) (o.1 + strategy_depth ports (strategy_of s))) s.outputs ++ flat_map (nested_complaints d f n s) (numbered 0 s.activities)
       in
       ap (λ fed. parts fed (port_depth given made s)) (fun_ext (λ w. fun_ext (fed-agree w))) ∙ ap (parts (fed_complaints given table)) (port-agree s)
@@ -130,7 +131,7 @@ level_after f rs s = strategy_depth (port_depth f.inputs (steps_depths f.inputs 
 
 pub record StepsSo (d : Document) (n : Name) (f : Flow) (rs : List (Name × Step)) (ls : List (Option ℕ)) (i : ℕ) : Type 0 where
   pub table : IsTable f ls
-  pub agree : Agree (steps_depths f.inputs [] (take i rs)) (known f.steps ls)
+  pub agree : Agree (steps_depths f.inputs [] (take i rs)) (known_steps f.steps ls)
   pub rest : steps_complaints d n f.inputs [] rs ≡ steps_complaints d n f.inputs (steps_depths f.inputs [] (take i rs)) (drop i rs)
   pub kept : (j k : ℕ) (t : Name × Step) → j < i → slice_get rs j ≡ Some t → slice_get f.steps k ≡ Some t → slice_get ls k ≡ Some (Some (level_after f (take i rs) t.1))
 
@@ -149,12 +150,12 @@ module _ (d : Document) (n : Name) (f : Flow) (rs : List (Name × Step)) where
     abbrev made : List StepDepths
     made = steps_depths f.inputs [] (take i rs)
 
-    next-is : steps_complaints d n f.inputs [] rs ≡ step_complaints d n f.inputs (known f.steps ls) r ++ steps_complaints d n f.inputs (step_depths f.inputs made r ∷ made) (drop (suc i) rs)
+    next-is : steps_complaints d n f.inputs [] rs ≡ step_complaints d n f.inputs (known_steps f.steps ls) r ++ steps_complaints d n f.inputs (step_depths f.inputs made r ∷ made) (drop (suc i) rs)
     next-is =
         so.rest ∙ rest-suc f.inputs d n made rs i r here
-        ∙ ap (λ cs. cs ++ steps_complaints d n f.inputs (step_depths f.inputs made r ∷ made) (drop (suc i) rs)) (step-agree f.inputs made (known f.steps ls) so.agree d n r)
+        ∙ ap (λ cs. cs ++ steps_complaints d n f.inputs (step_depths f.inputs made r ∷ made) (drop (suc i) rs)) (step-agree f.inputs made (known_steps f.steps ls) so.agree d n r)
 
-    pub steps-stop : (e : CheckRefused) → StopsAt (step_complaints d n f.inputs (known f.steps ls) r) e → StopsAt (steps_complaints d n f.inputs [] rs) e
+    pub steps-stop : (e : CheckRefused) → StopsAt (step_complaints d n f.inputs (known_steps f.steps ls) r) e → StopsAt (steps_complaints d n f.inputs [] rs) e
     steps-stop e h = subst (λ cs. StopsAt cs e) (sym next-is) (stops-left _ _ e h)
 
     -- the depths of steps that were taken stay as they are
@@ -163,16 +164,16 @@ module _ (d : Document) (n : Name) (f : Flow) (rs : List (Name × Step)) where
         ap (λ ms. strategy_depth (port_depth f.inputs ms t.1) (strategy_of t.1)) (taken-suc f.inputs [] rs i r here)
         ∙ ap (λ ports. strategy_depth ports (strategy_of t.1)) (port-stays f.inputs made (step_depths f.inputs made r) t.1 (feeds-none [] rs j i t r ordered e here le))
 
-    pub steps-more : (v : ℕ) → v ≡ strategy_depth (port_depth f.inputs (known f.steps ls) r.1) (strategy_of r.1) → v ≤ level_most → step_complaints d n f.inputs (known f.steps ls) r ≡ [] → StepsSo d n f rs (set ls k (Some v)) (i + 1)
+    pub steps-more : (v : ℕ) → v ≡ strategy_depth (port_depth f.inputs (known_steps f.steps ls) r.1) (strategy_of r.1) → v ≤ level_most → step_complaints d n f.inputs (known_steps f.steps ls) r ≡ [] → StepsSo d n f rs (set ls k (Some v)) (i + 1)
     steps-more v is small silent =
         let j : suc i ≡ i + 1 = omega arith in
         let taken : steps_depths f.inputs [] (take (suc i) rs) ≡ with_level r v ∷ made =
-        taken-suc f.inputs [] rs i r here ∙ ap (λ m. m ∷ made) (depths-agree f.inputs made (known f.steps ls) so.agree r ∙ ap (with_level r) (sym is))
+        taken-suc f.inputs [] rs i r here ∙ ap (λ m. m ∷ made) (depths-agree f.inputs made (known_steps f.steps ls) so.agree r ∙ ap (with_level r) (sym is))
         in
         subst (λ m. StepsSo d n f rs (set ls k (Some v)) m) j
         (record {
           table = record { formed = so.table.formed; entries = length-set ls k (Some v) ∙ so.table.entries; small = small-set ls k v small so.table.small };
-          agree = subst (λ ms. Agree ms (known f.steps (set ls k (Some v)))) (sym taken) (agree-set made f.steps ls k r v (steps-ascend f so.table.formed) there k-below so.agree);
+          agree = subst (λ ms. Agree ms (known_steps f.steps (set ls k (Some v)))) (sym taken) (agree-set made f.steps ls k r v (steps-ascend f so.table.formed) there k-below so.agree);
           rest =
               next-is
               ∙ ap (λ cs. cs ++ steps_complaints d n f.inputs (step_depths f.inputs made r ∷ made) (drop (suc i) rs)) silent
@@ -188,7 +189,7 @@ module _ (d : Document) (n : Name) (f : Flow) (rs : List (Name × Step)) where
             let s : Some t ≡ Some r = sym e ∙ (ap (slice_get rs) q ∙ here) in
             let p : t ≡ r = cc in
             let place : k ≡ l = one-place f.steps k l r t (steps-ascend f so.table.formed) there g (ap (λ (u : Name × Step). u.0) (sym p)) in
-            let value : v ≡ level_after f (take i rs) r.1 = is ∙ ap (λ ports. strategy_depth ports (strategy_of r.1)) (sym (port-agree f.inputs made (known f.steps ls) so.agree r.1)) in
+            let value : v ≡ level_after f (take i rs) r.1 = is ∙ ap (λ ports. strategy_depth ports (strategy_of r.1)) (sym (port-agree f.inputs made (known_steps f.steps ls) so.agree r.1)) in
             subst (λ o. slice_get (set ls k (Some v)) o ≡ Some (Some (level_after f (take (suc i) rs) t.1))) place
             (get-set-same ls k (Some v) k-below ∙ ap (λ w. Some (Some w)) (value ∙ ap (λ (u : Name × Step). level_after f (take i rs) u.1) (sym p) ∙ sym (level-stays m t (omega (arith, q)) e)))
         by_place m l t lt e g (inr q) =
@@ -221,7 +222,7 @@ steps-end d n f ls i h so =
     let whole = take-whole rs i h in
     record {
       table = so.table;
-      agree = subst (λ xs. Agree (steps_depths f.inputs [] xs) (known f.steps ls)) whole so.agree;
+      agree = subst (λ xs. Agree (steps_depths f.inputs [] xs) (known_steps f.steps ls)) whole so.agree;
       levels = λ j k s e g. subst (λ xs. slice_get ls k ≡ Some (Some (level_after f xs s.1))) whole (so.kept j k s (omega (arith, slice_get_within rs j s e, h)) e g);
       outputs_are = refl;
     }
@@ -264,17 +265,17 @@ module _ (f : CodeFlow) (xs : List (Name × CodeStep)) (order : List ℕ) (i : �
 
 -- ---- the outputs of a flow
 
-module _ (d : Document) (n : Name) (f : Flow) (ls : List (Option ℕ)) (same : Agree (flow_depths f) (known f.steps ls)) where
-  abbrev outputs_told : List Complaint
-  outputs_told = flat_map (λ o. fed_complaints f.inputs (known f.steps ls) (at_flow_output n o.0) o.1) f.outputs
+module _ (d : Document) (n : Name) (f : Flow) (ls : List (Option ℕ)) (same : Agree (flow_depths f) (known_steps f.steps ls)) where
+  abbrev outputs_told : List CheckComplaint
+  outputs_told = flat_map (λ o. fed_complaints f.inputs (known_steps f.steps ls) (at_flow_output n o.0) o.1) f.outputs
 
-  abbrev steps_told : List Complaint
+  abbrev steps_told : List CheckComplaint
   steps_told = steps_complaints d n f.inputs [] (ranked f.steps)
 
   flow-told : flow_complaints d (n, f) ≡ steps_told ++ outputs_told
   flow-told =
-      let told : (Where → Feed → List Complaint) → List Complaint = λ fed. steps_complaints d n f.inputs [] (ranked f.steps) ++ flat_map (λ o. fed (at_flow_output n o.0) o.1) f.outputs in
-      ap told (fun_ext (λ w. fun_ext (fed-agree f.inputs (flow_depths f) (known f.steps ls) same w)))
+      let told : (Where → Feed → List CheckComplaint) → List CheckComplaint = λ fed. steps_complaints d n f.inputs [] (ranked f.steps) ++ flat_map (λ o. fed (at_flow_output n o.0) o.1) f.outputs in
+      ap told (fun_ext (λ w. fun_ext (fed-agree f.inputs (flow_depths f) (known_steps f.steps ls) same w)))
 
   pub outputs-stop : (e : CheckRefused) → steps_told ≡ [] → StopsAt outputs_told e → StopsAt (flow_complaints d (n, f)) e
   outputs-stop e s h = subst (λ cs. StopsAt cs e) (sym flow-told) (stops-right steps_told outputs_told e s h)
@@ -283,4 +284,4 @@ module _ (d : Document) (n : Name) (f : Flow) (ls : List (Option ℕ)) (same : A
   flow-silent s o = flow-told ∙ ap (λ cs. cs ++ outputs_told) s ∙ o
 
 pub flow-measured : (f : Flow) (ls : List (Option ℕ)) → IsMeasured f ls (measured_outputs f) → (os : List (Name × ℕ)) → os ≡ each (table_depth f ls) f.outputs → IsMeasured f ls os
-flow-measured f ls m os e = record { table = m.table; agree = m.agree; levels = m.levels; outputs_are = e ∙ ap (λ g. each g f.outputs) (sym (feed-agree f.inputs (flow_depths f) (known f.steps ls) m.agree)) }
+flow-measured f ls m os e = record { table = m.table; agree = m.agree; levels = m.levels; outputs_are = e ∙ ap (λ g. each g f.outputs) (sym (feed-agree f.inputs (flow_depths f) (known_steps f.steps ls) m.agree)) }

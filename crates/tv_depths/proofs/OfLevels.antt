@@ -17,15 +17,16 @@ use Rattle.tv_flow.specs.Formed.{is_ascending, is_between, is_tree, are_trees, i
 use Rattle.tv_flow.specs.Views.{each}
 use Rattle.tv_strategy.specs.Measures.{strategy_depth, sum_of_depths, first_depth, leaf_names, all_leaf_names, first_difference, first_inside}
 use Rattle.tv_strategy.specs.Conditions.{Suits, number_of, times, EachOnce, DotsAreFilled, AllDotsAreFilled, sum_over}
-use Rattle.tv_depths.specs.CheckedDepths.{port_depth}
-use Rattle.tv_naming.specs.Faulty.{Where, Complaint, too_deep, with_numbers}
+use Rattle.tv_instance.specs.CheckedDepths.{port_depth}
+use Rattle.tv_naming.specs.Faulty.{Where, CheckComplaint, too_deep, with_numbers}
 use Rattle.tv_naming.specs.Naming.{are_the_same, fits_ports, complain_if}
 use Rattle.tv_depths.specs.Depthwise.{depth_most, past_limit, feed_depths, fed_complaints, dot_complaints}
-use Rattle.tv_depths.specs.Steps.{ports_of, strategy_of}
+use Rattle.tv_instance.specs.Steps.{ports_of, strategy_of}
 use Rattle.tv_naming.specs.declared.faults.CheckRefused.{CheckRefused}
 use Rattle.tv_naming.specs.Told.{IsToldOf}
-use Rattle.tv_depths.specs.Tables.{known, table_depth, table_mismatch, are_within, IsSound}
-use Rattle.tv_naming.proofs.ByPosition.{names_of, same_name-is, named-at}
+use Rattle.tv_depths.specs.Tables.{known_steps, table_depth, table_mismatch, are_within, IsSound}
+use Rattle.tv_naming.proofs.ByPosition.{names_of, named-at}
+use Rattle.tv_value.proofs.OfNames.{same_name-is}
 use Rattle.tv_naming.proofs.FormedParts.{each-names, few, step-inputs}
 use Rattle.tv_naming.proofs.Kept.{named-each}
 
@@ -161,21 +162,21 @@ within-one w d h = by_cases (nat_lt depth_most d) refl h
     by_cases true e h = cc
     by_cases false e h = grind (arith, nat_tests)
 
-silent-right : (xs ys : List Complaint) → xs ++ ys ≡ [] → ys ≡ []
+silent-right : (xs ys : List CheckComplaint) → xs ++ ys ≡ [] → ys ≡ []
 silent-right [] ys e = e
 silent-right (x ∷ xs) ys e = cc
 
-silent-left : (xs ys : List Complaint) → xs ++ ys ≡ [] → xs ≡ []
+silent-left : (xs ys : List CheckComplaint) → xs ++ ys ≡ [] → xs ≡ []
 silent-left [] ys e = refl
 silent-left (x ∷ xs) ys e = cc
 
 module _ (f : Flow) (ls : List (Option ℕ)) where
-  pub within : (w : Name × StepInput → Where) (is : List (Name × StepInput)) → flat_map (λ i. fed_complaints f.inputs (known f.steps ls) (w i) i.1.from) is ≡ [] → are_within f ls is ≡ true
+  pub within : (w : Name × StepInput → Where) (is : List (Name × StepInput)) → flat_map (λ i. fed_complaints f.inputs (known_steps f.steps ls) (w i) i.1.from) is ≡ [] → are_within f ls is ≡ true
   within w [] h = refl
   within w (i ∷ is) h =
-      let here = silent-left (fed_complaints f.inputs (known f.steps ls) (w i) i.1.from) _ h in
-      let depth = within-one (w i) (table_depth f ls i.1.from) (silent-right (feed_depths f.inputs (known f.steps ls) (w i) i.1.from) _ here) in
-      let rest = within w is (silent-right (fed_complaints f.inputs (known f.steps ls) (w i) i.1.from) _ h) in
+      let here = silent-left (fed_complaints f.inputs (known_steps f.steps ls) (w i) i.1.from) _ h in
+      let depth = within-one (w i) (table_depth f ls i.1.from) (silent-right (feed_depths f.inputs (known_steps f.steps ls) (w i) i.1.from) _ here) in
+      let rest = within w is (silent-right (fed_complaints f.inputs (known_steps f.steps ls) (w i) i.1.from) _ h) in
       ap (λ b. b && are_within f ls is) depth ∙ rest
 
   module _ (s : Step) (sound : IsSound s) (fed : are_within f ls s.inputs ≡ true) where
@@ -183,7 +184,7 @@ module _ (f : Flow) (ls : List (Option ℕ)) where
     mismatch = number_of (each (table_mismatch f ls) s.inputs)
 
     abbrev ports : Name → ℕ
-    ports = port_depth f.inputs (known f.steps ls) s
+    ports = port_depth f.inputs (known_steps f.steps ls) s
 
     pub port-is : mismatch ≡ ports
     port-is = mismatch-is (table_mismatch f ls) s.inputs

@@ -17,7 +17,7 @@ use Rattle.tv_depths.specs.Depthwise.{merge_difference}
 use Rattle.tv_naming.specs.declared.faults.CheckRefused.{CheckRefused}
 use Rattle.tv_naming.specs.Told.{StopsAt}
 use Rattle.tv_naming.specs.Numbers.{number_in}
-use Rattle.tv_depths.specs.Tables.{with_level, known, IsTable, is_level, depth_of_output}
+use Rattle.tv_depths.specs.Tables.{with_level, known_steps, IsTable, is_level, depth_of_output}
 use Rattle.tv_naming.proofs.ByPosition.{IsAt, number-found, number-absent}
 use Rattle.tv_naming.proofs.FormedParts.{steps-ascend, step-at, passes}
 use Rattle.tv_naming.proofs.Kept.{named-each}
@@ -42,21 +42,21 @@ module _ (f : Flow) (ls : List (Option ℕ)) (t : IsTable (flow_view f) ls) wher
   pub in-table : (i : ℕ) → i < length f.steps → i < length ls
   in-table i lt = omega (arith, t.entries, length-each step_view f.steps)
 
-  pub found-number : (n : Name) (i : ℕ) (d : Name × Step) (l : Option ℕ) → number_in f.steps n ≡ Some i → get_or ls i None ≡ l → found n (known (flow_view f).steps ls) ≡ option_map (with_level ((get_or f.steps i d).0, step_view (get_or f.steps i d).1)) l
+  pub found-number : (n : Name) (i : ℕ) (d : Name × Step) (l : Option ℕ) → number_in f.steps n ≡ Some i → get_or ls i None ≡ l → found n (known_steps (flow_view f).steps ls) ≡ option_map (with_level ((get_or f.steps i d).0, step_view (get_or f.steps i d).1)) l
   found-number n i d l e g =
       let at : IsAt n f.steps i (named n f.steps) = number-found f.steps n i e in
       let s = get_or f.steps i d in
       let there : slice_get ls i ≡ Some l = slice_get-get_or ls i None (in-table i at.below) ∙ ap Some g in
-      subst (λ m. found m (known (flow_view f).steps ls) ≡ option_map (with_level (s.0, step_view s.1)) l) (at.name d)
+      subst (λ m. found m (known_steps (flow_view f).steps ls) ≡ option_map (with_level (s.0, step_view s.1)) l) (at.name d)
       (found-at (flow_view f).steps ls i (s.0, step_view s.1) l (steps-ascend (flow_view f) t.formed) (seen-at f i d at.below) there)
 
-  pub found-nothing : (n : Name) → number_in f.steps n ≡ None → found n (known (flow_view f).steps ls) ≡ None
+  pub found-nothing : (n : Name) → number_in f.steps n ≡ None → found n (known_steps (flow_view f).steps ls) ≡ None
   found-nothing n e = found-none n (flow_view f).steps ls (named-each step_view n f.steps ∙ ap (option_map step_view) (number-absent f.steps n e))
 
   pub entry-small : (i : ℕ) → i < length f.steps → is_level (get_or ls i None) ≡ true
   entry-small i lt = passes is_level ls i (get_or ls i None) t.small (slice_get-get_or ls i None (in-table i lt))
 
-  pub output-there : (n p : Name) (xs : List (Name × Step)) (i : ℕ) (d : Name × Step) → xs ≡ f.steps → number_in f.steps n ≡ Some i → depth_of_output p (option_map (λ k. map (λ (q : Name × ℕ). (q.0, k + q.1)) (get_or xs i d).1.outputs) (get_or ls i None)) ≡ option_map_or (λ m. unwrap_or (named p m.outputs) 1) (found n (known (flow_view f).steps ls)) 1
+  pub output-there : (n p : Name) (xs : List (Name × Step)) (i : ℕ) (d : Name × Step) → xs ≡ f.steps → number_in f.steps n ≡ Some i → depth_of_output p (option_map (λ k. map (λ (q : Name × ℕ). (q.0, k + q.1)) (get_or xs i d).1.outputs) (get_or ls i None)) ≡ option_map_or (λ m. unwrap_or (named p m.outputs) 1) (found n (known_steps (flow_view f).steps ls)) 1
   output-there n p xs i d x e =
       ap (λ ys. depth_of_output p (option_map (λ k. map (λ (q : Name × ℕ). (q.0, k + q.1)) (get_or ys i d).1.outputs) (get_or ls i None))) x
       ∙ same_outputs (get_or ls i None)

@@ -24,7 +24,7 @@ use Rattle.tv_depths.specs.Measured.{IsWorked, AreWorked, is_measured, opens_mea
 use Rattle.tv_naming.specs.Told.{StopsAt}
 use Rattle.tv_naming.specs.declared.faults.CheckRefused.{CheckRefused}
 use Rattle.tv_depths.specs.declared.measured.Measured.{Measured}
-use Rattle.tv_naming.proofs.ByPosition.{IsAt, number-found, number-absent}
+use Rattle.tv_naming.proofs.ByPosition.{position-each, IsAt, number-found, number-absent}
 use Rattle.tv_depths.proofs.OfLinks.{length-each, each-get}
 use Rattle.tv_naming.proofs.Kept.{named-each}
 
@@ -79,10 +79,6 @@ worked-at (x ∷ fs) (y ∷ ws) zero f w h e g =
 worked-at (x ∷ fs) (y ∷ ws) (suc i) f w h e g = worked-at fs ws i f w h.1 e g
 
 -- ---- numbers of flows
-
-pub position-each : {A B : Type 0} (g : A → B) (n : Name) (xs : List (Name × A)) → position n (each g xs) ≡ position n xs
-position-each g n [] = refl
-position-each g n (x ∷ xs) = ap (λ k. if same_name n x.0 then 0 else suc k) (position-each g n xs)
 
 pub number-each : {A B : Type 0} (g : A → B) (n : Name) (xs : List (Name × A)) → number_in (each g xs) n ≡ number_in xs n
 number-each g n xs =

@@ -4,7 +4,7 @@ use Rattle.std.proofs.Common.{ap}
 use Rattle.tv_value.specs.Values.{Name}
 use Rattle.tv_flow.specs.Flows.{StepInput}
 use Rattle.tv_strategy.specs.Measures.{all_leaf_names}
-use Rattle.tv_depths.specs.Steps.{ports_of}
+use Rattle.tv_instance.specs.Steps.{ports_of}
 
 pub default-ports : (is : List (Name × StepInput)) → all_leaf_names (ports_of is) ≡ map (λ i. i.0) is
 default-ports [] = refl

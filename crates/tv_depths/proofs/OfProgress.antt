@@ -14,7 +14,7 @@ use Rattle.tv_value.specs.Orders.{named}
 use Rattle.tv_value.specs.Activities.{Activity, service, nested}
 use Rattle.tv_flow.specs.Flows.{Step, Flow, Document}
 use Rattle.tv_flow.specs.Formed.{is_flow, is_formed}
-use Rattle.tv_depths.specs.Ranks.{ranked}
+use Rattle.tv_instance.specs.Ranks.{ranked}
 use Rattle.tv_naming.specs.Naming.{has_name}
 use Rattle.tv_depths.specs.Cycles.{nesting}
 use Rattle.tv_naming.specs.Numbers.{number_in, position}

@@ -7,9 +7,10 @@ use Rattle.tv_value.specs.Orders.{same_name, named}
 use Rattle.tv_value.specs.Activities.{Activity, service, nested}
 use Rattle.tv_flow.specs.Flows.{Flow, Document}
 use Rattle.tv_graph.specs.Graphs.{greatest}
-use Rattle.tv_depths.specs.Ranks.{earlier_steps}
-use Rattle.tv_naming.specs.Faulty.{flow_cycle, link_cycle, too_deep, at_flow, at_step, Complaint, plainly, with_numbers}
+use Rattle.tv_instance.specs.Ranks.{earlier_steps}
+use Rattle.tv_naming.specs.Faulty.{flow_cycle, link_cycle, too_deep, at_flow, at_step, CheckComplaint, plainly, with_numbers}
 use Rattle.tv_naming.specs.Naming.{complain_if}
+use Rattle.tv_instance.specs.Nesting.{nesting_limit}
 
 -- whether n reaches m by so many edges or fewer, and at least one
 module _ (next : Name → List Name) where
@@ -41,24 +42,21 @@ nesting d (suc levels) f = suc (greatest (map (nesting d levels) (flows_in d f))
 abbrev pub nestings : Document → List ℕ
 nestings d = map (λ f. nesting d (length d.flows) f.0) d.flows
 
--- how deep flows may nest, the outermost counted
-abbrev pub nesting_limit : ℕ
-nesting_limit = 8
-
 -- first the flows that reach themselves, and, where there are none, those that nest too deep
-abbrev pub cycle_complaints : Document → List Complaint
+abbrev pub cycle_complaints : Document → List CheckComplaint
 cycle_complaints d = flat_map (λ f. complain_if (reaches (flows_in d) (length d.flows) f.0 f.0)
     (plainly flow_cycle (at_flow f.0))) d.flows
 
-abbrev pub nesting_complaints : Document → List Complaint
+abbrev pub nesting_complaints : Document → List CheckComplaint
 nesting_complaints d =
-    flat_map (λ f. let n = nesting d (length d.flows) f.0 in complain_if (nat_lt nesting_limit n) (with_numbers too_deep (at_flow f.0) n nesting_limit)) d.flows
+    flat_map (λ f. let n = nesting d (length d.flows) f.0 in complain_if (nat_lt nesting_limit n)
+    (with_numbers too_deep (at_flow f.0) n nesting_limit)) d.flows
 
 -- the steps of a flow that reach themselves by links and by what they run after
-abbrev pub flow_link_cycles : Name → Flow → List Complaint
+abbrev pub flow_link_cycles : Name → Flow → List CheckComplaint
 flow_link_cycles n f = flat_map (λ s. complain_if (reaches (steps_before f) (length f.steps) s.0
     s.0) (plainly link_cycle (at_step n s.0))) f.steps
 
 -- and so flow by flow
-abbrev pub link_cycle_complaints : Document → List Complaint
+abbrev pub link_cycle_complaints : Document → List CheckComplaint
 link_cycle_complaints d = flat_map (λ f. flow_link_cycles f.0 f.1) d.flows

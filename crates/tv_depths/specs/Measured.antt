@@ -8,8 +8,8 @@ use Rattle.tv_value.specs.Orders.{named}
 use Rattle.tv_value.specs.Activities.{Activity, service, nested}
 use Rattle.tv_flow.specs.Flows.{Step, Flow, Document}
 use Rattle.tv_flow.specs.Formed.{is_flow}
-use Rattle.tv_depths.specs.Ranks.{ranked}
-use Rattle.tv_naming.specs.Faulty.{Complaint}
+use Rattle.tv_instance.specs.Ranks.{ranked}
+use Rattle.tv_naming.specs.Faulty.{CheckComplaint}
 use Rattle.tv_naming.specs.Naming.{has_name}
 use Rattle.tv_depths.specs.Cycles.{nesting}
 use Rattle.tv_depths.specs.Depthwise.{fits_flow, flow_complaints}
@@ -70,8 +70,8 @@ AreOrders (f ∷ fs) (o ∷ os) = AreAt f.1.steps o.items (ranked f.1.steps) × 
 
 -- what is known of a document whose names and nesting were checked: orders of steps, nestings, fitting strategies, and that a
 -- flow nests deeper than those that it opens
-pub record IsPrepared (d : Document) (orders : List (Vec ℕ Global)) (nestings : List ℕ) : Type
-    0 where
+pub record IsPrepared (d : Document) (orders : List (Vec ℕ Global))
+    (nestings : List ℕ) : Type 0 where
   pub orders_are : AreOrders d.flows orders
   pub nestings_are : nestings ≡ map (λ f. flow_nesting d f.0) d.flows
   pub fitting : list_all (λ f. list_all (λ s. has_fitting s.1) f.1.steps) d.flows ≡ true
@@ -85,5 +85,5 @@ pub record IsProgress (d : Document) (ws : List (Option Measured)) (n j : ℕ) :
       ⊎ ((flow_nesting d f.0 ≡ n) × (i < j)) → is_measured ws i ≡ true
 
 -- what is said of the flows of a nesting
-abbrev pub nesting_told : Document → ℕ → List Complaint
+abbrev pub nesting_told : Document → ℕ → List CheckComplaint
 nesting_told d n = flat_map (flow_complaints d) (filter (λ f. flow_nesting d f.0 == n) d.flows)

@@ -7,10 +7,10 @@ use Rattle.tv_value.specs.Orders.{same_name, named}
 use Rattle.tv_flow.specs.Flows.{Feed, StepInput, Step, Flow}
 use Rattle.tv_flow.specs.Formed.{is_step, is_flow}
 use Rattle.tv_strategy.specs.Measures.{strategy_depth, first_difference}
-use Rattle.tv_depths.specs.Ranks.{ranked}
-use Rattle.tv_depths.specs.Steps.{strategy_of}
-use Rattle.tv_depths.specs.CheckedDepths.{StepDepths, feed_depth, port_depth, flow_depths, measured_outputs}
-use Rattle.tv_naming.specs.Faulty.{at_step, at_input, at_output, Complaint}
+use Rattle.tv_instance.specs.Ranks.{ranked}
+use Rattle.tv_instance.specs.Steps.{strategy_of}
+use Rattle.tv_instance.specs.CheckedDepths.{StepDepths, feed_depth, port_depth, flow_depths, measured_outputs}
+use Rattle.tv_naming.specs.Faulty.{at_step, at_input, at_output, CheckComplaint}
 use Rattle.tv_naming.specs.Naming.{fits_ports}
 use Rattle.tv_depths.specs.Depthwise.{depth_most, past_limit, fed_complaints, dot_complaints}
 
@@ -19,11 +19,11 @@ abbrev pub with_level : Name × Step → ℕ → StepDepths
 with_level s k = record { step = s.0; outputs = map (λ p. (p.0, k + p.1)) s.1.outputs }
 
 -- the steps whose depth stands in the table
-abbrev pub known : List (Name × Step) → List (Option ℕ) → List StepDepths
-known [] ls = []
-known (s ∷ ss) [] = []
-known (s ∷ ss) (None ∷ ls) = known ss ls
-known (s ∷ ss) (Some k ∷ ls) = with_level s k ∷ known ss ls
+abbrev pub known_steps : List (Name × Step) → List (Option ℕ) → List StepDepths
+known_steps [] ls = []
+known_steps (s ∷ ss) [] = []
+known_steps (s ∷ ss) (None ∷ ls) = known_steps ss ls
+known_steps (s ∷ ss) (Some k ∷ ls) = with_level s k ∷ known_steps ss ls
 
 -- no strategy is deeper: 16 ports of depth 32
 abbrev pub level_most : ℕ
@@ -46,7 +46,7 @@ Agree made table = (s : Name) → find (λ m. same_name s m.step) made ≡ find 
 
 -- the depth that a feed delivers, and the levels that an input port iterates
 abbrev pub table_depth : Flow → List (Option ℕ) → Feed → ℕ
-table_depth f ls = feed_depth f.inputs (known f.steps ls)
+table_depth f ls = feed_depth f.inputs (known_steps f.steps ls)
 
 abbrev pub table_mismatch : Flow → List (Option ℕ) → StepInput → ℕ
 table_mismatch f ls i = table_depth f ls i.from - i.depth
@@ -66,7 +66,7 @@ pub record IsSound (s : Step) : Type 0 where
 
 -- what is said of a step's ports, before its activities
 abbrev pub ports_complaints : Name → List (Name × ℕ) → List StepDepths → Name × Step
-    → List Complaint
+    → List CheckComplaint
 ports_complaints f given so_far (n, s) =
     let mismatch = port_depth given so_far s in
     let levels = strategy_depth mismatch (strategy_of s) in
@@ -89,7 +89,7 @@ step_level f s = strategy_depth (port_depth f.inputs (flow_depths f) s) (strateg
 -- a table of a whole flow, with the delivered depths of its outputs: it has the depth of each step that has a rank
 pub record IsMeasured (f : Flow) (ls : List (Option ℕ)) (outputs : List (Name × ℕ)) : Type 0 where
   pub table : IsTable f ls
-  pub agree : Agree (flow_depths f) (known f.steps ls)
+  pub agree : Agree (flow_depths f) (known_steps f.steps ls)
   pub levels : (j k : ℕ) (s : Name × Step) → slice_get (ranked f.steps) j ≡ Some s
       → slice_get f.steps k ≡ Some s → slice_get ls k ≡ Some (Some (step_level f s.1))
   pub outputs_are : outputs ≡ measured_outputs f

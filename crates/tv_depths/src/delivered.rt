@@ -8,9 +8,9 @@ ghost use Rattle.tv_value.specs.Views.{view as value_view};
 ghost use Rattle.tv_flow.specs.Flows.{input, output};
 ghost use Rattle.tv_flow.specs.Formed.{is_flow, is_step, is_depth, are_named};
 ghost use Rattle.tv_flow.specs.Views.{flow_view, step_view, feed_view, link_view};
-ghost use Rattle.tv_depths.specs.CheckedDepths.{link_depth, feed_depth, merged_depth, constant_depth};
+ghost use Rattle.tv_instance.specs.CheckedDepths.{link_depth, feed_depth, merged_depth, constant_depth};
 ghost use Rattle.tv_depths.specs.Depthwise.{past_limit, merge_difference, feed_depths, fed_complaints};
-ghost use Rattle.tv_depths.specs.Tables.{known, IsTable, level_most, is_level, depth_of_output};
+ghost use Rattle.tv_depths.specs.Tables.{known_steps, IsTable, level_most, is_level, depth_of_output};
 ghost use Rattle.tv_naming.specs.AtViews.{at_view};
 ghost use Rattle.tv_naming.specs.Told.{IsToldOf};
 
@@ -25,8 +25,8 @@ const DEPTH_MOST: u32 = 32;
 /// The depth that a feed delivers. One look-up, also for a merge, whose first link decides.
 pub fn feed_depth(flow: &Flow, levels: &[Option<u32>], feed: &Feed) -> u32
     requires { IsTable (flow_view flow.now) levels.now }
-    ensures { result ≡ feed_depth (flow_view flow.now).inputs (known (flow_view flow.now).steps
-        levels.now) (feed_view feed.now) }
+    ensures { result ≡ feed_depth (flow_view flow.now).inputs
+        (known_steps (flow_view flow.now).steps levels.now) (feed_view feed.now) }
 {
     match feed {
         Feed::Input(name) => input_depth(flow, name),
@@ -46,8 +46,8 @@ fn merged_depth(flow: &Flow, levels: &[Option<u32>], links: &[Link]) -> u32
     requires { IsTable (flow_view flow.now) levels.now }
     ensures { result
         ≡ merged_depth
-        (map (link_depth (flow_view flow.now).inputs (known (flow_view flow.now).steps levels.now))
-        (map link_view links.now)) }
+        (map (link_depth (flow_view flow.now).inputs (known_steps (flow_view flow.now).steps
+        levels.now)) (map link_view links.now)) }
 {
     match links.first() {
         Some(link) => link_depth(flow, levels, link) + 1,
@@ -58,7 +58,7 @@ fn merged_depth(flow: &Flow, levels: &[Option<u32>], links: &[Link]) -> u32
 fn link_depth(flow: &Flow, levels: &[Option<u32>], link: &Link) -> u32
     requires { IsTable (flow_view flow.now) levels.now }
     ensures depth { result ≡ link_depth (flow_view flow.now).inputs
-        (known (flow_view flow.now).steps levels.now) (link_view link.now) }
+        (known_steps (flow_view flow.now).steps levels.now) (link_view link.now) }
     ensures small { result ≤ 544 }
 {
     match link {
@@ -81,7 +81,7 @@ fn input_depth(flow: &Flow, name: &Name) -> u32
 fn output_depth(flow: &Flow, levels: &[Option<u32>], step: &Name, port: &Name) -> u32
     requires { IsTable (flow_view flow.now) levels.now }
     ensures depth { result ≡ link_depth (flow_view flow.now).inputs
-        (known (flow_view flow.now).steps levels.now) (output step.now port.now) }
+        (known_steps (flow_view flow.now).steps levels.now) (output step.now port.now) }
     ensures small { result ≤ 544 }
 {
     match number_of(&flow.steps, step) {
@@ -128,7 +128,8 @@ pub(crate) fn fed(
     feed: &Feed,
 ) -> Result<(), CheckRefused>
     requires { IsTable (flow_view flow.now) levels.now }
-    ensures { IsToldOf (fed_complaints (flow_view flow.now).inputs (known (flow_view flow.now).steps
+    ensures { IsToldOf (fed_complaints (flow_view flow.now).inputs
+        (known_steps (flow_view flow.now).steps
         levels.now) (at_view at.entry) (feed_view feed.now)) result }
 {
     merged(alloc, flow, levels, at, feed)?;
@@ -154,7 +155,8 @@ fn merged(
     feed: &Feed,
 ) -> Result<(), CheckRefused>
     requires { IsTable (flow_view flow.now) levels.now }
-    ensures { IsToldOf (feed_depths (flow_view flow.now).inputs (known (flow_view flow.now).steps
+    ensures { IsToldOf (feed_depths (flow_view flow.now).inputs
+        (known_steps (flow_view flow.now).steps
         levels.now) (at_view at.entry) (feed_view feed.now)) result }
 {
     match feed {
@@ -180,8 +182,8 @@ fn same_depths(
 ) -> Result<(), CheckRefused>
     requires { IsTable (flow_view flow.now) levels.now }
     ensures { IsToldOf (merge_difference (at_view at.entry) (first
-        ∷ map (link_depth (flow_view flow.now).inputs (known (flow_view flow.now).steps levels.now))
-        (map link_view links.now))) result }
+        ∷ map (link_depth (flow_view flow.now).inputs (known_steps (flow_view flow.now).steps
+        levels.now)) (map link_view links.now))) result }
 {
     for link in links {
         let depth = link_depth(flow, levels, link);

@@ -4,12 +4,12 @@ ghost use Rattle.tv_flow.specs.DocumentViews.{document_view};
 ghost use Rattle.tv_flow.specs.Formed.{is_feed};
 ghost use Rattle.tv_flow.specs.Views.{each, flow_view, step_view, feed_view};
 ghost use Rattle.tv_strategy.specs.Measures.{strategy_depth};
-ghost use Rattle.tv_depths.specs.Ranks.{ranked};
-ghost use Rattle.tv_depths.specs.Steps.{strategy_of};
-ghost use Rattle.tv_depths.specs.CheckedDepths.{port_depth, flow_depths, measured_outputs};
+ghost use Rattle.tv_instance.specs.Ranks.{ranked};
+ghost use Rattle.tv_instance.specs.Steps.{strategy_of};
+ghost use Rattle.tv_instance.specs.CheckedDepths.{port_depth, flow_depths, measured_outputs};
 ghost use Rattle.tv_depths.specs.Depthwise.{fed_complaints, step_complaints, steps_complaints, flow_complaints, depth_complaints};
 ghost use Rattle.tv_naming.specs.Faulty.{at_flow_output};
-ghost use Rattle.tv_depths.specs.Tables.{known, IsTable, IsSound, IsMeasured, Agree, AreAt, level_most, table_depth};
+ghost use Rattle.tv_depths.specs.Tables.{known_steps, IsTable, IsSound, IsMeasured, Agree, AreAt, level_most, table_depth};
 ghost use Rattle.tv_depths.specs.Measured.{AreWorked, IsReady, IsPrepared, IsProgress, step_opens, nesting_told};
 ghost use Rattle.tv_naming.specs.Told.{IsToldOf};
 
@@ -166,10 +166,11 @@ fn step_level(
     requires opened { step_opens (document_view document.now) measured.now (step_view step.now.1)
         ≡ true }
     ensures told { IsToldOf (step_complaints (document_view document.now) name.now
-        (flow_view flow.now).inputs (known (flow_view flow.now).steps levels.now)
+        (flow_view flow.now).inputs (known_steps (flow_view flow.now).steps levels.now)
         (step.now.0, step_view step.now.1)) result }
     ensures level { IfOk result (λ k. k
-        ≡ strategy_depth (port_depth (flow_view flow.now).inputs (known (flow_view flow.now).steps
+        ≡ strategy_depth (port_depth (flow_view flow.now).inputs
+        (known_steps (flow_view flow.now).steps
         levels.now) (step_view step.now.1)) (strategy_of (step_view step.now.1))) }
     ensures small { IfOk result (λ k. k ≤ level_most) }
 {
@@ -187,7 +188,7 @@ fn outputs_fed(
 ) -> Result<(), CheckRefused>
     requires { IsTable (flow_view flow.now) levels.now }
     ensures { IsToldOf (flat_map (λ o. fed_complaints (flow_view flow.now).inputs
-        (known (flow_view flow.now).steps levels.now) (at_flow_output name.now o.0) o.1)
+        (known_steps (flow_view flow.now).steps levels.now) (at_flow_output name.now o.0) o.1)
         (flow_view flow.now).outputs) result }
 {
     for (port, feed) in flow.outputs.as_slice() {

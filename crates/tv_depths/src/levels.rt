@@ -6,11 +6,11 @@ ghost use Rattle.tv_flow.specs.Formed.{is_depth, is_step_input, are_named};
 ghost use Rattle.tv_flow.specs.Views.{each, flow_view, step_view, step_input_view};
 ghost use Rattle.tv_strategy.specs.Conditions.{Suits, number_of};
 ghost use Rattle.tv_strategy.specs.Measures.{strategy_depth, first_difference};
-ghost use Rattle.tv_depths.specs.CheckedDepths.{port_depth};
+ghost use Rattle.tv_instance.specs.CheckedDepths.{port_depth};
 ghost use Rattle.tv_depths.specs.Depthwise.{past_limit, fed_complaints, dot_complaints};
 ghost use Rattle.tv_naming.specs.Faulty.{at_input, at_output};
-ghost use Rattle.tv_depths.specs.Steps.{strategy_of, ports_of};
-ghost use Rattle.tv_depths.specs.Tables.{known, IsTable, IsSound, level_most, table_mismatch, are_within, ports_complaints};
+ghost use Rattle.tv_instance.specs.Steps.{strategy_of, ports_of};
+ghost use Rattle.tv_depths.specs.Tables.{known_steps, IsTable, IsSound, level_most, table_mismatch, are_within, ports_complaints};
 ghost use Rattle.tv_naming.specs.AtViews.{at_view};
 ghost use Rattle.tv_naming.specs.Told.{IsToldOf};
 
@@ -34,9 +34,11 @@ pub(crate) fn ports_level(
     requires table { IsTable (flow_view flow.now) levels.now }
     requires step { IsSound (step_view step.now) }
     ensures told { IsToldOf (ports_complaints name.now (flow_view flow.now).inputs
-        (known (flow_view flow.now).steps levels.now) (step_name.now, step_view step.now)) result }
+        (known_steps (flow_view flow.now).steps levels.now) (step_name.now, step_view step.now))
+        result }
     ensures level { IfOk result (λ k. k
-        ≡ strategy_depth (port_depth (flow_view flow.now).inputs (known (flow_view flow.now).steps
+        ≡ strategy_depth (port_depth (flow_view flow.now).inputs
+        (known_steps (flow_view flow.now).steps
         levels.now) (step_view step.now)) (strategy_of (step_view step.now))) }
     ensures small { IfOk result (λ k. k ≤ level_most) }
 {
@@ -56,7 +58,7 @@ fn inputs_fed(
 ) -> Result<(), CheckRefused>
     requires { IsTable (flow_view flow.now) levels.now }
     ensures { IsToldOf (flat_map (λ i. fed_complaints (flow_view flow.now).inputs
-        (known (flow_view flow.now).steps levels.now) (at_input name.now step_name.now i.0)
+        (known_steps (flow_view flow.now).steps levels.now) (at_input name.now step_name.now i.0)
         i.1.from) (each step_input_view inputs.now)) result }
 {
     for (port, input) in inputs.as_slice() {
@@ -84,10 +86,12 @@ fn step_level(
     requires within { are_within (flow_view flow.now) levels.now (step_view step.now).inputs
         ≡ true }
     ensures told { IsToldOf (dot_complaints (at_view at.entry)
-        (first_difference (port_depth (flow_view flow.now).inputs (known (flow_view flow.now).steps
+        (first_difference (port_depth (flow_view flow.now).inputs
+        (known_steps (flow_view flow.now).steps
         levels.now) (step_view step.now)) (strategy_of (step_view step.now)))) result }
     ensures level { IfOk result (λ k. k
-        ≡ strategy_depth (port_depth (flow_view flow.now).inputs (known (flow_view flow.now).steps
+        ≡ strategy_depth (port_depth (flow_view flow.now).inputs
+        (known_steps (flow_view flow.now).steps
         levels.now) (step_view step.now)) (strategy_of (step_view step.now))) }
     ensures small { IfOk result (λ k. k ≤ level_most) }
 {

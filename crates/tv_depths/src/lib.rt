@@ -4,10 +4,7 @@
 //! the first complaint of the pass (`specs/Depthwise.antt`), or what was measured of each flow (`specs/Tables.antt`,
 //! `specs/Measured.antt`). `feed_depth` and `mismatches` read the depths of a flow that was measured.
 //!
-//! The definitions of delivered values are public for the contracts above: the order of steps by rank
-//! (`specs/Ranks.antt`), delivered values, wrapped or to be iterated (`specs/Delivered.antt`), and a step's strategy,
-//! nodes, outputs and ending (`specs/Steps.antt`). They take the results of an instance's jobs as a function of their
-//! names, and the steps so far in whatever form the crate above keeps them.
+//! What depths are, without a check, are definitions of one instance (`tv_instance`, `specs/CheckedDepths.antt`).
 //!
 //! - `measured`: what is kept of each flow
 //! - `delivered`: the depths of feeds

@@ -6,7 +6,7 @@ use Rattle.tv_value.specs.Values.{Value, text_value, list_value, fault_value}
 use Rattle.tv_value.specs.Orders.{same_name}
 use Rattle.tv_gate.specs.Outcomes.{good, bad, Giving}
 use Rattle.tv_value.specs.Activities.{service, nested}
-use Rattle.tv_dispatch.specs.Jobs.{judged, tries, Taken, taken, right, opens, wrong}
+use Rattle.tv_dispatch.specs.Jobs.{judged, tries, Taken, take_tries, right, opens, wrong}
 use Rattle.tv_dispatch.specs.Plans.{number}
 
 abbrev faulty : Value
@@ -46,17 +46,17 @@ abbrev numbers : Taken → List (ℕ × ℕ)
 numbers t = map number t.asks
 
 -- failing over after one retry
-failover : numbers (taken giving [] (tries inputs (0 ∷ []) 1 0 (service (codes "fail_if") ∷ service (codes "echo") ∷ []))) ≡ (0, 0) ∷ (0, 1) ∷ (1, 0) ∷ []
+failover : numbers (take_tries giving [] (tries inputs (0 ∷ []) 1 0 (service (codes "fail_if") ∷ service (codes "echo") ∷ []))) ≡ (0, 0) ∷ (0, 1) ∷ (1, 0) ∷ []
 failover = refl
 
-failover_right : (taken giving [] (tries inputs (0 ∷ []) 1 0 (service (codes "fail_if") ∷ service (codes "echo") ∷ []))).fate ≡ right inputs
+failover_right : (take_tries giving [] (tries inputs (0 ∷ []) 1 0 (service (codes "fail_if") ∷ service (codes "echo") ∷ []))).fate ≡ right inputs
 failover_right = refl
 
 -- no try is left, and the reason is that of the last
-none_left : (taken giving [] (tries inputs (1 ∷ []) 0 0 (service (codes "fail_if") ∷ service (codes "echo") ∷ []))).fate ≡ wrong (codes "outcome value 1 lacks depth 1")
+none_left : (take_tries giving [] (tries inputs (1 ∷ []) 0 0 (service (codes "fail_if") ∷ service (codes "echo") ∷ []))).fate ≡ wrong (codes "outcome value 1 lacks depth 1")
 unfolding digits
 none_left = refl
 
 -- a flow ends the tries
-flow_last : (taken giving [] (tries inputs (0 ∷ []) 0 0 (service (codes "fail_if") ∷ nested (codes "g") ∷ service (codes "echo") ∷ []))).fate ≡ opens (codes "g")
+flow_last : (take_tries giving [] (tries inputs (0 ∷ []) 0 0 (service (codes "fail_if") ∷ nested (codes "g") ∷ service (codes "echo") ∷ []))).fate ≡ opens (codes "g")
 flow_last = refl

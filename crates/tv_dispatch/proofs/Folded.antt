@@ -11,8 +11,8 @@ use Rattle.tv_dispatch.specs.declared.plan.Plan.{Plan}
 use Rattle.tv_dispatch.specs.declared.plan.Next.{Next}
 use Rattle.tv_dispatch.specs.declared.plan.Next.TheVariants as next
 use Rattle.tv_value.specs.Activities.{Activity, service, nested}
-use Rattle.tv_dispatch.specs.Jobs.{Ask, Try, ask, open_flow, tries, outcome_of, Taken, taken, match_result, right}
-use Rattle.tv_dispatch.specs.Plans.{Turn, asks, nests, turns, turns_of, left_after, first_next, next_try, asked, reached, taken_turns, kind_of, IsFate, number, came_right}
+use Rattle.tv_dispatch.specs.Jobs.{Ask, Try, ask, open_flow, tries, outcome_of, Taken, take_tries, match_result, right}
+use Rattle.tv_dispatch.specs.Plans.{PlanTurn, asks, nests, turns, turns_of, left_after, first_next, next_try, asked, reached, taken_turns, kind_of, IsFate, number, came_right}
 use Rattle.tv_dispatch.proofs.Turns.{attempts, rest, left-rest, rest-again, rest-over}
 
 none_more : (p : Plan) (x : Next) (rs : List Bool) → ((k n : ℕ) → x ≡ next.Ask k n → ⊥) → asked p x rs ≡ []
@@ -25,9 +25,9 @@ none_more p next.Failed (r ∷ rs) h = refl
 
 module _ (p : Plan) where
   -- what may be left of the turns: nothing, a flow first, or an attempt at a service with what follows it
-  pub data IsLeft : List Turn → Type 0 where
+  pub data IsLeft : List PlanTurn → Type 0 where
     over : IsLeft []
-    nesting : (k : ℕ) (ts : List Turn) → IsLeft (nests k ∷ ts)
+    nesting : (k : ℕ) (ts : List PlanTurn) → IsLeft (nests k ∷ ts)
     asking : (k n : ℕ) → slice_get p.activities k ≡ Some Service → n ≤ p.retries → IsLeft (asks k n ∷ rest p.retries p.activities k n)
 
   head_is : (ks ls : List Kind) (k : ℕ) (l : Kind) → drop k ks ≡ l ∷ ls → (slice_get ks k ≡ Some l) × (drop (suc k) ks ≡ ls)
@@ -66,7 +66,7 @@ module _ (p : Plan) where
       by (inr q) = subst IsLeft (sym (rest-over p.retries p.activities k n q)) (left_at (k + 1) (drop (k + 1) p.activities) refl)
 
   -- the asks are the turns, up to the first that is right or opens a flow
-  pub asked-turns : (ts : List Turn) → IsLeft ts → (rs : List Bool) → asked p (next_try ts) rs ≡ taken_turns ts rs
+  pub asked-turns : (ts : List PlanTurn) → IsLeft ts → (rs : List Bool) → asked p (next_try ts) rs ≡ taken_turns ts rs
   asked-turns _ over rs = none_more p next.Failed rs (λ k n e. cc)
   asked-turns _ (nesting k ts) rs = none_more p (next.Nest k) rs (λ j n e. cc)
   asked-turns _ (asking k n s q) [] = refl
@@ -76,7 +76,7 @@ module _ (p : Plan) where
       ∙ ap (λ l. (k, n) ∷ l) (asked-turns (rest p.retries p.activities k n) (left_rest k n s q) rs)
 
 -- the tries and the turns of the same activities
-abbrev Match : List Activity → List Try → List Turn → Type 0
+abbrev Match : List Activity → List Try → List PlanTurn → Type 0
 Match as' [] [] = Unit {0}
 Match as' [] (u ∷ us) = ⊥
 Match as' (t ∷ ts) [] = ⊥
@@ -85,7 +85,7 @@ Match as' (open_flow f ∷ ts) (nests k ∷ us) = (slice_get as' k ≡ Some (nes
 Match as' (ask a ∷ ts) (nests k ∷ us) = ⊥
 Match as' (open_flow f ∷ ts) (asks k n ∷ us) = ⊥
 
-match_attempts : (as' : List Activity) (f : ℕ → Ask) (k : ℕ) → ((n : ℕ) → number (f n) ≡ (k, n)) → (a m : ℕ) (ts : List Try) (us : List Turn) → Match as' ts us → Match as' (map (λ n. ask (f n)) (range_with_len a m) ++ ts) (attempts k a m ++ us)
+match_attempts : (as' : List Activity) (f : ℕ → Ask) (k : ℕ) → ((n : ℕ) → number (f n) ≡ (k, n)) → (a m : ℕ) (ts : List Try) (us : List PlanTurn) → Match as' ts us → Match as' (map (λ n. ask (f n)) (range_with_len a m) ++ ts) (attempts k a m ++ us)
 match_attempts as' f k e a zero ts us h = h
 match_attempts as' f k e a (suc m) ts us h = (e a, match_attempts as' f k e (a + 1) m ts us h)
 
@@ -117,7 +117,7 @@ module _ (p : Plan) (gives : Giving) (as' : List Activity) where
   abbrev Again : Ask → Result (List Value) Text → (Text → Taken) → Taken
   Again a r later = match_result {C = Taken} r (λ vs. record { asks = a ∷ []; fate = right vs }) (λ reason. record { asks = a ∷ (later reason).asks; fate = (later reason).fate })
 
-  asked_once : (a : Ask) (k n : ℕ) (later : Text → Taken) (us : List Turn) → number a ≡ (k, n) → left_after k n (turns_of p) ≡ us → ((w : Text) → Follows (next_try us) (later w)) → (r : Result (List Value) Text) → outcome_of gives a ≡ r → Follows (next.Ask k n) (Again a r later)
+  asked_once : (a : Ask) (k n : ℕ) (later : Text → Taken) (us : List PlanTurn) → number a ≡ (k, n) → left_after k n (turns_of p) ≡ us → ((w : Text) → Follows (next_try us) (later w)) → (r : Result (List Value) Text) → outcome_of gives a ≡ r → Follows (next.Ask k n) (Again a r later)
   asked_once a k n later us e l h (Ok ws) o =
       let true_is : came_right gives a ≡ true = ap is_ok o in (
         ap (λ b. asked p (next.Ask k n) (b ∷ [])) true_is ∙ ap (λ x. x ∷ []) (sym e),
@@ -133,7 +133,7 @@ module _ (p : Plan) (gives : Giving) (as' : List Activity) where
         subst (λ x. IsFate as' (later w).fate x) (sym (ap (λ b. reached p (next.Ask k n) (b ∷ rs)) false_is ∙ ap (λ ts. reached p (next_try ts) rs) l)) (h w).1,
       )
 
-  follows : (why : Text) (ts : List Try) (us : List Turn) → IsLeft p us → Match as' ts us → Follows (next_try us) (taken gives why ts)
+  follows : (why : Text) (ts : List Try) (us : List PlanTurn) → IsLeft p us → Match as' ts us → Follows (next_try us) (take_tries gives why ts)
   follows why [] [] h m = (refl, refl)
   follows why [] (u ∷ us) h m = absurd m
   follows why (t ∷ ts) [] h m = absurd m
@@ -141,20 +141,20 @@ module _ (p : Plan) (gives : Giving) (as' : List Activity) where
   follows why (open_flow f ∷ ts) (asks k n ∷ us) h m = absurd m
   follows why (ask a ∷ ts) (nests k ∷ us) h m = absurd m
   follows why (ask a ∷ ts) (asks k n ∷ _) (asking _ _ s q) m =
-      asked_once a k n (λ w. taken gives w ts) (rest p.retries p.activities k n) m.0 (left-rest p.retries p.activities k n s q) (λ w. follows w ts (rest p.retries p.activities k n) (left_rest p k n s q) m.1) (outcome_of gives a) refl
+      asked_once a k n (λ w. take_tries gives w ts) (rest p.retries p.activities k n) m.0 (left-rest p.retries p.activities k n s q) (λ w. follows w ts (rest p.retries p.activities k n) (left_rest p k n s q) m.1) (outcome_of gives a) refl
 
-  pub follows-taken : (vs : List Value) (ds : List ℕ) → p.activities ≡ map kind_of as' → Follows (next_try (turns_of p)) (taken gives [] (tries vs ds p.retries 0 as'))
+  pub follows-taken : (vs : List Value) (ds : List ℕ) → p.activities ≡ map kind_of as' → Follows (next_try (turns_of p)) (take_tries gives [] (tries vs ds p.retries 0 as'))
   follows-taken vs ds e = follows [] (tries vs ds p.retries 0 as') (turns_of p) (left_start p) (subst (λ ks. Match as' (tries vs ds p.retries 0 as') (turns p.retries 0 ks)) (sym e) (match_tries vs ds p.retries as' 0 as' (stand_all as')))
 
 -- as many as the turns at the most
-taken_few : (ts : List Turn) (rs : List Bool) → length (taken_turns ts rs) ≤ length ts
+taken_few : (ts : List PlanTurn) (rs : List Bool) → length (taken_turns ts rs) ≤ length ts
 taken_few [] rs = omega arith
 taken_few (nests k ∷ ts) rs = omega arith
 taken_few (asks k n ∷ ts) [] = omega arith
 taken_few (asks k n ∷ ts) (true ∷ rs) = omega arith
 taken_few (asks k n ∷ ts) (false ∷ rs) = let h = taken_few ts rs in omega arith
 
-attempts_few : (k a m : ℕ) (ts : List Turn) → length (attempts k a m ++ ts) ≡ m + length ts
+attempts_few : (k a m : ℕ) (ts : List PlanTurn) → length (attempts k a m ++ ts) ≡ m + length ts
 attempts_few k a zero ts = omega arith
 attempts_few k a (suc m) ts = let h = attempts_few k (a + 1) m ts in omega arith
 

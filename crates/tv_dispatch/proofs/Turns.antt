@@ -6,14 +6,14 @@ use Rattle.std.proofs.lemmas.Bool.{eq-eqb, cond-true, cond-false}
 use Rattle.std.proofs.lemmas.Bool.Decides.{eqb_tells}
 use Rattle.tv_dispatch.specs.declared.plan.Kind.{Kind}
 use Rattle.tv_dispatch.specs.declared.plan.Kind.TheVariants.{Service, Nested}
-use Rattle.tv_dispatch.specs.Plans.{Turn, asks, turns, left_after}
+use Rattle.tv_dispatch.specs.Plans.{PlanTurn, asks, turns, left_after}
 
 -- attempts n and on, so many of them, at activity k
-abbrev pub attempts : ℕ → ℕ → ℕ → List Turn
+abbrev pub attempts : ℕ → ℕ → ℕ → List PlanTurn
 attempts k n m = map (asks k) (range_with_len n m)
 
 -- what is left after attempt n at activity k of these
-abbrev pub rest : ℕ → List Kind → ℕ → ℕ → List Turn
+abbrev pub rest : ℕ → List Kind → ℕ → ℕ → List PlanTurn
 rest retries ks k n = attempts k (n + 1) (retries - n) ++ turns retries (k + 1) (drop (k + 1) ks)
 
 other : (m n : ℕ) → m < n → (m == n) ≡ false
@@ -24,14 +24,14 @@ other m n h = by (eqb_tells m n)
     by (inr e) = e.0
 
 -- attempts at another activity are passed over
-past_block : (k n j a m : ℕ) (ts : List Turn) → (j == k) ≡ false → left_after k n (attempts j a m ++ ts) ≡ left_after k n ts
+past_block : (k n j a m : ℕ) (ts : List PlanTurn) → (j == k) ≡ false → left_after k n (attempts j a m ++ ts) ≡ left_after k n ts
 past_block k n j a zero ts e = refl
 past_block k n j a (suc m) ts e =
     cond-false (j == k && a == n) (attempts j (a + 1) m ++ ts) (left_after k n (attempts j (a + 1) m ++ ts)) (ap (λ b. b && a == n) e)
     ∙ past_block k n j (a + 1) m ts e
 
 -- of the attempts at this activity those from the next on are left
-in_block : (k n a m d : ℕ) (ts : List Turn) → a ≤ n → n + 1 + d ≡ a + m → left_after k n (attempts k a m ++ ts) ≡ attempts k (n + 1) d ++ ts
+in_block : (k n a m d : ℕ) (ts : List PlanTurn) → a ≤ n → n + 1 + d ≡ a + m → left_after k n (attempts k a m ++ ts) ≡ attempts k (n + 1) d ++ ts
 in_block k n a zero d ts h e = absurd (none n a d h e)
   where
     none : (n a d : ℕ) → a ≤ n → n + 1 + d ≡ a + 0 → ⊥
@@ -41,7 +41,7 @@ in_block k n a (suc m) d ts h e = by (eqb_tells a n) (λ p q. in_block k n (a + 
     here : (k == k && a == n) ≡ (a == n)
     here = ap (λ b. b && a == n) (eq-eqb k k refl)
 
-    later : List Turn
+    later : List PlanTurn
     later = attempts k (a + 1) m ++ ts
 
     by : ((a == n) ≡ true) × (a ≡ n) ⊎ ((a == n) ≡ false) × (a ≢ n) → (a + 1 ≤ n → n + 1 + d ≡ a + 1 + m → left_after k n later ≡ attempts k (n + 1) d ++ ts) → left_after k n (attempts k a (suc m) ++ ts) ≡ attempts k (n + 1) d ++ ts

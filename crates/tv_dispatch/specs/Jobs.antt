@@ -12,7 +12,8 @@ abbrev pub value_complaint : ℕ → ℕ → Value → Option Text
 value_complaint k d v =
     if holds_fault v
     then Some (codes "outcome value " ++ decimal k ++ codes " holds an error")
-    else (if has_depth v d then None else Some (codes "outcome value " ++ decimal k ++ codes " lacks depth " ++ decimal d))
+    else (if has_depth v d then None
+    else Some (codes "outcome value " ++ decimal k ++ codes " lacks depth " ++ decimal d))
 
 abbrev pub or_else : {A : Type 0} → Option A → Option A → Option A
 or_else (Some a) o = Some a
@@ -78,13 +79,14 @@ match_result (Ok a) f g = f a
 match_result (Err b) f g = g b
 
 -- the tries in order, up to the first whose outcome is right or that opens a flow; `why` is the reason so far
-abbrev pub taken : Giving → Text → List Try → Taken
-taken gives why [] = record { asks = []; fate = wrong why }
-taken gives why (open_flow f ∷ ts) = record { asks = []; fate = opens f }
-taken gives why (ask a ∷ ts) =
+abbrev pub take_tries : Giving → Text → List Try → Taken
+take_tries gives why [] = record { asks = []; fate = wrong why }
+take_tries gives why (open_flow f ∷ ts) = record { asks = []; fate = opens f }
+take_tries gives why (ask a ∷ ts) =
     match_result (outcome_of gives a)
     (λ vs. record { asks = a ∷ []; fate = right vs })
-    (λ reason. let rest = taken gives reason ts in record { asks = a ∷ rest.asks; fate = rest.fate })
+    (λ reason. let rest = take_tries gives reason ts
+    in record { asks = a ∷ rest.asks; fate = rest.fate })
 
 -- the jobs that made the faults in these inputs, in order, each once
 abbrev pub fault_makers : List Value → List JobName

@@ -11,28 +11,28 @@ use Rattle.tv_dispatch.specs.declared.plan.Next.{Next}
 use Rattle.tv_dispatch.specs.declared.plan.Next.TheVariants as next
 
 -- a place in the list of tries: an attempt at an activity that is a service, or an activity that opens a flow
-pub data Turn : Type 0 where
-  asks : ℕ → ℕ → Turn
-  nests : ℕ → Turn
+pub data PlanTurn : Type 0 where
+  asks : ℕ → ℕ → PlanTurn
+  nests : ℕ → PlanTurn
 
 -- all turns, activity by activity from number k: a service with attempts 0 to `retries`, a nested flow once
-abbrev pub turns : ℕ → ℕ → List Kind → List Turn
+abbrev pub turns : ℕ → ℕ → List Kind → List PlanTurn
 turns retries k [] = []
 turns retries k (Service ∷ ks) = map (asks k) (range_with_len 0 (suc retries))
     ++ turns retries (suc k) ks
 turns retries k (Nested ∷ ks) = nests k ∷ turns retries (suc k) ks
 
-abbrev pub turns_of : Plan → List Turn
+abbrev pub turns_of : Plan → List PlanTurn
 turns_of p = turns p.retries 0 p.activities
 
 -- what is left once attempt n at activity k was made
-abbrev pub left_after : ℕ → ℕ → List Turn → List Turn
+abbrev pub left_after : ℕ → ℕ → List PlanTurn → List PlanTurn
 left_after k n [] = []
 left_after k n (nests j ∷ ts) = left_after k n ts
 left_after k n (asks j m ∷ ts) = if j == k && m == n then ts else left_after k n ts
 
 -- the first of the turns that are left; where none is, the job has failed
-abbrev pub next_try : List Turn → Next
+abbrev pub next_try : List PlanTurn → Next
 next_try [] = next.Failed
 next_try (asks k n ∷ ts) = next.Ask k n
 next_try (nests k ∷ ts) = next.Nest k
@@ -62,7 +62,7 @@ reached p x [] = x
 reached p x (r ∷ rs) = reached p (answered p x r) rs
 
 -- the turns in order, up to the first whose outcome is right or that opens a flow, as far as there are outcomes
-abbrev pub taken_turns : List Turn → List Bool → List (ℕ × ℕ)
+abbrev pub taken_turns : List PlanTurn → List Bool → List (ℕ × ℕ)
 taken_turns [] rs = []
 taken_turns (nests k ∷ ts) rs = []
 taken_turns (asks k n ∷ ts) [] = []
@@ -81,5 +81,6 @@ IsFate as' (wrong why) x = x ≡ next.Failed
 abbrev pub number : Ask → ℕ × ℕ
 number a = (a.activity, a.attempt)
 
+-- whether what the services give is right
 abbrev pub came_right : Giving → Ask → Bool
 came_right gives a = is_ok (outcome_of gives a)

@@ -4,7 +4,7 @@ ghost use Rattle.tv_value.specs.Values.{Value};
 ghost use Rattle.tv_gate.specs.Outcomes.{Giving, Outcome, good};
 ghost use Rattle.tv_dispatch.specs.declared.plan.Plan.{Plan};
 ghost use Rattle.tv_value.specs.Activities.{Activity};
-ghost use Rattle.tv_dispatch.specs.Jobs.{judged, tries, taken};
+ghost use Rattle.tv_dispatch.specs.Jobs.{judged, tries, take_tries};
 ghost use Rattle.tv_dispatch.specs.Plans.{asked, reached, first_next, taken_turns, turns_of, kind_of, came_right, number, IsFate};
 
 /// However its outcomes come out, a job asks its tries in order, up to the first whose outcome is right or that opens a
@@ -18,10 +18,12 @@ pub fn asks_in_turn()
 /// Step by step a job makes the asks that the fold of its finished list of tries takes, and comes to the same end.
 pub fn steps_are_the_fold()
     ensures asks { (p : Plan) (gives : Giving) (as' : List Activity) (vs : List Value) (ds : List ℕ)
-        → p.activities ≡ map kind_of as' → let t = taken gives [] (tries vs ds p.retries 0 as') in
+        → p.activities ≡ map kind_of as' → let t = take_tries gives []
+        (tries vs ds p.retries 0 as') in
         asked p (first_next p false) (map (came_right gives) t.asks) ≡ map number t.asks }
     ensures end { (p : Plan) (gives : Giving) (as' : List Activity) (vs : List Value) (ds : List ℕ)
-        → p.activities ≡ map kind_of as' → let t = taken gives [] (tries vs ds p.retries 0 as') in
+        → p.activities ≡ map kind_of as' → let t = take_tries gives []
+        (tries vs ds p.retries 0 as') in
         IsFate as' t.fate (reached p (first_next p false) (map (came_right gives) t.asks)) }
 {}
 

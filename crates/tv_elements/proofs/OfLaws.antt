@@ -8,12 +8,12 @@ use Rattle.std.proofs.Common.{ap, append_assoc, arith, subst, sym, ◌∙◌}
 use Rattle.std.proofs.lemmas.Fmt.{decimal_nonempty, digits_decimal}
 use Rattle.std.proofs.lemmas.List.Splits.{join_with_byte-slice_split}
 use Rattle.std.proofs.lemmas.Bool.{and_parts}
+use Rattle.tv_lemmas.specs.Members.{Each}
 use Rattle.tv_lemmas.proofs.Numbers.{digits-model}
 use Rattle.tv_value.specs.Nested.{Place}
 use Rattle.tv_value.specs.Printed.{element_text}
 use Rattle.tv_value.specs.Values.{Name, Text}
 use Rattle.tv_flow.specs.Forms.{is_name, is_name_byte}
-use Rattle.tv_lineage.specs.Members.{Each}
 use Rattle.tv_elements.specs.Elements.{at_place, closed, element_of, index_of, indices_of, opened, place_of}
 use Rattle.tv_elements.specs.Stated.{IsElement, ReadsPrinted}
 use Rattle.tv_elements.proofs.OfBrackets.{Lacks, closed-at, closed-is, opened-at, opened-is}

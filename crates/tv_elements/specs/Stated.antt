@@ -1,10 +1,10 @@
 -- What holds of elements that are read and printed.
 use Rattle.std.specs.Prelude.{Some, true, ◌<◌, ◌^◌, ◌↔◌, ◌≡◌}
+use Rattle.tv_lemmas.specs.Members.{Each}
 use Rattle.tv_value.specs.Nested.{Place}
 use Rattle.tv_value.specs.Printed.{element_text}
 use Rattle.tv_value.specs.Values.{Name, Text}
 use Rattle.tv_flow.specs.Forms.{is_name}
-use Rattle.tv_lineage.specs.Members.{Each}
 use Rattle.tv_elements.specs.Elements.{element_of}
 
 -- the text of an element, as it is printed, whose port is a name and whose indices have 32 bits

@@ -12,6 +12,7 @@ use Rattle.tv_endings.specs.Ends.{after_of, ended_now, has_ended, is_one_of, is_
 use Rattle.tv_endings.specs.Counting.{to_lower, IsCounting}
 use Rattle.tv_endings.proofs.Counts.{count-append, count-cons, count-same, count-set, count-split, one, one-more, ones}
 use Rattle.tv_endings.proofs.Turns.{as-often}
+use Rattle.tv_lemmas.proofs.Tests.{and-right_false}
 
 -- ---- one more step has ended
 
@@ -106,10 +107,6 @@ pub record Lowers (e e2 : Endings) (d : ℕ) : Type 0 where
   pub whole : e2.whole ≡ e.whole
   pub growing : e2.growing ≡ e.growing
 
-pub and-false : (a b : Bool) → b ≡ false → (a && b) ≡ false
-and-false true b h = h
-and-false false b h = refl
-
 one-is-last : (n : ℕ) → 1 ≤ n → (n - 1 == 0) ≡ (n == 1)
 one-is-last n h =
     elim (cases_eq n 1) [
@@ -141,7 +138,7 @@ module _ (after dependents : List (List ℕ)) (was : ℕ → Bool) (e : Endings)
   pub still-open : has_ended e d ≡ false
   still-open =
       let a = some-left in
-      c.ended d inside ∙ and-false (is_whole e d) (get_or e.left.items d 0 == 0) (ne_eqb (get_or e.left.items d 0) 0 (λ q. omega (arith, q, a)))
+      c.ended d inside ∙ and-right_false (is_whole e d) (get_or e.left.items d 0 == 0) (ne_eqb (get_or e.left.items d 0) 0 (λ q. omega (arith, q, a)))
 
   pub has-room : length e.fresh.items < vec_capacity e.fresh
   has-room =

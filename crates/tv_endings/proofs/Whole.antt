@@ -14,7 +14,8 @@ use Rattle.tv_endings.specs.Counting.{to_lower, IsCounting}
 use Rattle.tv_endings.specs.Stated.{AllEndWhereAllAreWhole, AreRanked}
 use Rattle.tv_endings.proofs.Counts.{count-cons, count-none, count-same, count-set, none-fails, one}
 use Rattle.tv_endings.proofs.Turns.{row-inside}
-use Rattle.tv_endings.proofs.Lowering.{EndsOne, and-false, ended-itself, ended-more, ended-other, fewer-left, fewer-to-end, lower-more-often, now-more}
+use Rattle.tv_endings.proofs.Lowering.{EndsOne, ended-itself, ended-more, ended-other, fewer-left, fewer-to-end, lower-more-often, now-more}
+use Rattle.tv_lemmas.proofs.Tests.{and-right_false}
 
 -- ---- the next step whose dependents are counted down
 
@@ -193,7 +194,7 @@ module _ (after dependents : List (List ℕ)) (turned : AreTurned after dependen
       ended = λ s lt. elim (cases_eq s step) [
         | inl p ↦
             ap (has_ended e2) p ∙ same-at step ∙ not-ended
-            ∙ sym (ap (λ t. is_whole e2 t && get_or e2.left.items t 0 == 0) p ∙ and-false (is_whole e2 step) (get_or e2.left.items step 0 == 0) (ap (λ v. get_or v.items step 0 == 0) m.left ∙ no))
+            ∙ sym (ap (λ t. is_whole e2 t && get_or e2.left.items t 0 == 0) p ∙ and-right_false (is_whole e2 step) (get_or e2.left.items step 0 == 0) (ap (λ v. get_or v.items step 0 == 0) m.left ∙ no))
         | inr ne ↦ ended-elsewhere s lt ne (same-at s)
       ];
       now = λ s. ap (λ ns. is_one_of ns s) same-fresh ∙ and-not (has_ended e s) ∙ ap (λ b. b && not (has_ended e s)) (sym (same-at s));

@@ -5,7 +5,8 @@ use Rattle.tv_value.specs.Nested.{Place}
 use Rattle.tv_value.specs.Orders.{named}
 use Rattle.tv_value.specs.Values.{JobName, Name}
 use Rattle.tv_flow.specs.Flows.{Document, Flow, Step}
-use Rattle.tv_entries.specs.Runs.{first_flow, flow_of, step_name}
+use Rattle.tv_entries.specs.Runs.{flow_of, step_name}
+use Rattle.tv_model.specs.Opening.{first_nested}
 
 -- ---- behind a name
 
@@ -17,7 +18,7 @@ chained f g (Some x) = refl
 module _ (flows : List (Name × Flow)) where
   -- the name of the flow that a step opens
   abbrev opens : Step → Option Name
-  opens s = first_flow s.activities
+  opens s = first_nested s.activities
 
   -- the flow that the step of this name opens, seen from its flow
   abbrev next_flow : Name × Place → Flow → Option Flow
@@ -42,7 +43,7 @@ module _ (flows : List (Name × Flow)) where
 module _ (d : Document) (n : JobName) (f : Flow) (flow : flow_of d.flows d.main n ≡ Some f) where
   -- a job of an instance of flow f opens this one
   pub flow-opened : (k : Name × Place) (s : Step) (g : Name) (h : Flow)
-      → named k.0 f.steps ≡ Some s → first_flow s.activities ≡ Some g → named g d.flows ≡ Some h
+      → named k.0 f.steps ≡ Some s → first_nested s.activities ≡ Some g → named g d.flows ≡ Some h
       → flow_of d.flows d.main (n ++ k ∷ []) ≡ Some h
   flow-opened k s g h step opened is =
       flow-behind d.flows d.main n k

@@ -14,8 +14,8 @@ use Rattle.tv_model.proofs.Tests.{both_true}
 use Rattle.tv_history.specs.Entries as history
 use Rattle.tv_history.specs.Entries.{History}
 use Rattle.tv_history.specs.Histories.{is_legal, is_legal_after}
-use Rattle.tv_outcomes.specs.Agreed.{ready}
-use Rattle.tv_entries.specs.Runs.{Appends, IsLegalRun, Run, all_distinct, all_have_numbers, has_numbers, is_among, meant, opened_number, past_of}
+use Rattle.tv_history.specs.activities.Agreed.{ready}
+use Rattle.tv_entries.specs.Runs.{Appends, IsLegalRun, Run, all_distinct, all_have_numbers, has_numbers, has_job_name, meant, opened_number, past_of}
 use Rattle.tv_entries.specs.declared.entry.Entry.{Entry}
 use Rattle.tv_entries.specs.declared.entry.Entry.TheVariants as entry
 use Rattle.tv_entries.proofs.OfNumbers.{as-many_opened, instance_count, instances-counted, numbers-appended, numbers-more}
@@ -25,7 +25,7 @@ use Rattle.tv_entries.proofs.OfTold.{IsTold, past-told}
 pub record HasNames (gives : Giving) (d : Document) (past : History) (ns : List JobName) : Type 0 where
   pub distinct : all_distinct ns ≡ true
   pub jobs : list_all (λ n. list_any (λ (j : Job). same_job n j.name) (meaning gives d).jobs) ns ≡ true
-  pub numbered : list_all (is_among ns) (ready (meaning gives d) past) ≡ true
+  pub numbered : list_all (has_job_name ns) (ready (meaning gives d) past) ≡ true
 
 -- ---- instances by number
 
@@ -93,7 +93,7 @@ module _ (gives : Giving) (r s : Run) (e : Entry) (h : history.Entry) (l : IsLeg
         legal = (λ i. is_legal gives (meaning gives (a.document i)) (past i)) ∙ both_true (is_legal gives (meant gives r) (past_of r)) (is_legal_after gives (meant gives r) (past_of r) h) l.legal legal;
         distinct = names.distinct;
         jobs = (λ i. list_all (λ n. list_any (λ (j : Job). same_job n j.name) (meaning gives (a.document i)).jobs) s.names) ∙ names.jobs;
-        numbered = (λ i. list_all (is_among s.names) (ready (meaning gives (a.document i)) (past i))) ∙ names.numbered;
+        numbered = (λ i. list_all (has_job_name s.names) (ready (meaning gives (a.document i)) (past i))) ∙ names.numbered;
         instances = subst (λ es. InOrder (filter_map opened_number es)) (sym a.entries) (instances-in_order r.entries e l.instances (λ i o. next i o ∙ ap suc (as-many_opened r.names r.entries)));
         numbers = more-numbers;
       }

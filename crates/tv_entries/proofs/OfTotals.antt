@@ -10,7 +10,7 @@ use Rattle.tv_history.specs.Entries as history
 use Rattle.tv_history.specs.Histories.{is_done, is_legal, is_settled}
 use Rattle.tv_history.specs.ReadOff.{accepted_name, bounced_name, read_totals}
 use Rattle.tv_history.proofs.Sums.{done-as_meant}
-use Rattle.tv_outcomes.proofs.Filtered.{filter-all}
+use Rattle.tv_history.proofs.activities.Filtered.{filter-all}
 use Rattle.tv_entries.specs.Calls.{totals_so_far}
 use Rattle.tv_entries.specs.Counted.{is_acceptance, is_bounce}
 use Rattle.tv_entries.specs.Runs.{Run, instances_of, meant, past_of, with_names}

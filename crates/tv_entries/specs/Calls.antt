@@ -14,7 +14,7 @@ use Rattle.tv_history.specs.Entries.{History, is_out}
 use Rattle.tv_history.specs.Histories as histories
 use Rattle.tv_history.specs.Histories.{has_open_instance, is_ask, is_legal_after, is_offered, is_ready, is_running, is_settled, next_ask}
 use Rattle.tv_history.specs.ReadOff.{read_totals}
-use Rattle.tv_outcomes.specs.Activities.{last_activity}
+use Rattle.tv_history.specs.activities.Activities.{last_activity}
 use Rattle.tv_entries.specs.Answers.{Question}
 use Rattle.tv_entries.specs.Runs.{Appends, Run, meant, past_of}
 use Rattle.tv_entries.specs.declared.told.TaskFault.{TaskFault}
@@ -72,7 +72,7 @@ job_at m names k = option_and_then (λ n. find (λ (j : Job). same_job n j.name)
 abbrev pub job_of : Giving → Run → ℕ → Option Job
 job_of gives r k = job_at (meant gives r) r.names k
 
-module _ (m : Meaning) (past : History) where
+module _ (past : History) where
   -- this try of the job, where it is out
   abbrev pub try_out : ℕ → ℕ → Job → Option Ask
   try_out a t j =
@@ -89,19 +89,19 @@ module _ (m : Meaning) (past : History) where
       option_map_or (λ a. state.Idle a.activity a.attempt) (next_ask past j)
       (state.Idle (last_activity j.asks) 0)
 
-  -- where the job stands
-  abbrev pub state_after : Job → JobState
-  state_after j =
-      if is_settled past j then state.Settled
-      else (if is_out past j.name then out_state j
-      else (if has_open_instance past j then state.Nested
-      else (if is_running past j then idle_state j
-      else (if is_ready m past j then state.Ready else state.Waiting))))
+-- where the job stands
+abbrev pub state_after : Meaning → History → Job → JobState
+state_after m past j =
+    if is_settled past j then state.Settled
+    else (if is_out past j.name then out_state past j
+    else (if has_open_instance past j then state.Nested
+    else (if is_running past j then idle_state past j
+    else (if is_ready m past j then state.Ready else state.Waiting))))
 
 -- the try of a ticket, where it is out
 abbrev pub try_if_out : Giving → Run → Ticket → Option Ask
 try_if_out gives r t =
-    option_and_then (try_out (meant gives r) (past_of r) t.activity t.attempt)
+    option_and_then (try_out (past_of r) t.activity t.attempt)
     (job_of gives r t.job)
 
 abbrev pub state_of : Giving → Run → ℕ → JobState
@@ -127,8 +127,8 @@ pub record IsOther (gives : Giving) (r : Run) (q : Question) : Type 0 where
 
 -- ---- what is told
 
-abbrev pub out_count : Giving → Run → ℕ
-out_count gives r = histories.out_count (meant gives r) (past_of r)
+abbrev pub out_now : Giving → Run → ℕ
+out_now gives r = histories.out_count (meant gives r) (past_of r)
 
 abbrev pub totals_so_far : Giving → Run → model.Totals
 totals_so_far gives r = read_totals (past_of r)

@@ -2,7 +2,6 @@
 use Rattle.std.specs.List.{list_all, list_any}
 use Rattle.std.specs.Prelude.{Bool, List, None, Option, Some, [], filter_map, if◌then◌else◌, is_some, length, map, nat_lt, not, option_and_then, option_map, reverse, slice_get, suc, true, unwrap_or, ℕ, ◌&&◌, ◌++◌, ◌∷◌, ◌≡◌}
 use Rattle.std.specs.List.{range_with_len}
-use Rattle.tv_value.specs.Activities.{Activity, nested, service}
 use Rattle.tv_value.specs.Orders.{named, same_job}
 use Rattle.tv_value.specs.Values.{JobName, Name}
 use Rattle.tv_gate.specs.Outcomes.{Giving}
@@ -11,10 +10,11 @@ use Rattle.tv_check.specs.Steps.{spot}
 use Rattle.tv_model.specs.Jobs.{Job}
 use Rattle.tv_model.specs.Made.{Meaning}
 use Rattle.tv_model.specs.Meanings.{meaning}
+use Rattle.tv_model.specs.Opening.{first_nested}
 use Rattle.tv_history.specs.Entries as history
 use Rattle.tv_history.specs.Entries.{History}
 use Rattle.tv_history.specs.Histories.{is_legal}
-use Rattle.tv_outcomes.specs.Agreed.{ready}
+use Rattle.tv_history.specs.activities.Agreed.{ready}
 use Rattle.tv_entries.specs.declared.entry.Entry.{Entry}
 use Rattle.tv_entries.specs.declared.entry.Entry.TheVariants as entry
 
@@ -32,18 +32,12 @@ name_at names k = unwrap_or (slice_get names k) []
 
 -- ---- the names of instances and steps
 
--- the first flow among a step's activities: no other is ever opened
-abbrev pub first_flow : List Activity → Option Name
-first_flow [] = None
-first_flow (service s ∷ as') = first_flow as'
-first_flow (nested f ∷ as') = Some f
-
 -- the flow of the instance of that name, seen from this flow
 abbrev pub flow_of : List (Name × Flow) → Name → JobName → Option Flow
 flow_of flows f [] = named f flows
 flow_of flows f (k ∷ n) =
     option_and_then (λ flow. option_and_then (λ s. option_and_then (λ g. flow_of flows g n)
-    (first_flow s.activities)) (named k.0 flow.steps)) (named f flows)
+    (first_nested s.activities)) (named k.0 flow.steps)) (named f flows)
 
 abbrev pub step_name : Document → JobName → ℕ → Name
 step_name d n k =
@@ -82,12 +76,12 @@ meant gives r = meaning gives r.document
 
 -- ---- what holds of every run
 
-abbrev pub is_among : List JobName → JobName → Bool
-is_among ns n = list_any (same_job n) ns
+abbrev pub has_job_name : List JobName → JobName → Bool
+has_job_name ns n = list_any (same_job n) ns
 
 abbrev pub all_distinct : List JobName → Bool
 all_distinct [] = true
-all_distinct (n ∷ ns) = not (is_among ns n) && all_distinct ns
+all_distinct (n ∷ ns) = not (has_job_name ns n) && all_distinct ns
 
 abbrev pub opened_number : Entry → Option ℕ
 opened_number (entry.Opened k i) = Some i
@@ -118,7 +112,7 @@ pub record IsLegalRun (gives : Giving) (r : Run) : Type 0 where
   pub jobs : list_all (λ n. list_any (λ (j : Job). same_job n j.name) (meant gives r).jobs) r.names
       ≡ true
   -- every ready job has a number
-  pub numbered : list_all (is_among r.names) (ready (meant gives r) (past_of r)) ≡ true
+  pub numbered : list_all (has_job_name r.names) (ready (meant gives r) (past_of r)) ≡ true
   -- instances are numbered from 1 in the order in which they were opened
   pub instances :
       filter_map opened_number r.entries

@@ -17,15 +17,15 @@ use Rattle.tv_value.specs.declared.tree.Tree.TheFolds.{fold_out-Trees}
 use Rattle.tv_value.specs.Readings.{item_count}
 use Rattle.tv_flow.specs.declared.faults.FormFault.{FormFault}
 use Rattle.tv_flow.specs.declared.faults.FormFault.TheVariants.{Form, NoMemory}
-use Rattle.tv_flow.specs.Answers.{told}
+use Rattle.tv_flow.specs.Answers.{fault_result}
 use Rattle.tv_flow.proofs.Shapes.{items-count}
 use Rattle.tv_flow.specs.declared.faults.FormKind.TheVariants.{Missing}
-use Rattle.tv_flow.specs.Complaints.{Path, Complaint, complaint, key, index, given}
+use Rattle.tv_flow.specs.Complaints.{Path, Complaint, complaint, key, index, and_then}
 use Rattle.tv_flow.specs.Forms.{fields_form, present, has, node_form, tree_form, children_form, trees_form, each_tree, items_form, counted}
 use Rattle.tv_flow.specs.Branch.{branch}
 use Rattle.tv_flow.specs.Formed.{is_tree, are_trees, strategy_count, is_between}
 
-pub given-given : {A B C : Type 0} (r : Result A Complaint) (f : A → Result B Complaint) (g : B → Result C Complaint) → given (given r f) g ≡ given r (λ a. given (f a) g)
+pub given-given : {A B C : Type 0} (r : Result A Complaint) (f : A → Result B Complaint) (g : B → Result C Complaint) → and_then (and_then r f) g ≡ and_then r (λ a. and_then (f a) g)
 given-given (Ok a) f g = refl
 given-given (Err c) f g = refl
 
@@ -43,15 +43,15 @@ children_form-get k there (member l d ms) =
 abbrev pub Child : Type 0
 Child = Option (Result Strategies Complaint)
 
-branch-of : (k : Text) (here : Path) (ms : Members) (r : Result (Unit {0}) Complaint) (o : Option Data) (d : Data) (make : Strategies → Strategy) → o ≡ Some d → given r (λ u. given (trees_form (key here k) d) (λ ts. Ok (make ts))) ≡ given (given r (λ u. given (present (key here k) o) (trees_form (key here k)))) (λ ts. Ok (make ts))
+branch-of : (k : Text) (here : Path) (ms : Members) (r : Result (Unit {0}) Complaint) (o : Option Data) (d : Data) (make : Strategies → Strategy) → o ≡ Some d → and_then r (λ u. and_then (trees_form (key here k) d) (λ ts. Ok (make ts))) ≡ and_then (and_then r (λ u. and_then (present (key here k) o) (trees_form (key here k)))) (λ ts. Ok (make ts))
 branch-of k here ms r o d make e =
-    ap (λ p. given r (λ u. given (given p (trees_form (key here k))) (λ ts. Ok (make ts)))) (ap (present (key here k)) (sym e))
-    ∙ sym (given-given r (λ u. given (present (key here k) o) (trees_form (key here k))) (λ ts. Ok (make ts)))
+    ap (λ p. and_then r (λ u. and_then (and_then p (trees_form (key here k))) (λ ts. Ok (make ts)))) (ap (present (key here k)) (sym e))
+    ∙ sym (given-given r (λ u. and_then (present (key here k) o) (trees_form (key here k))) (λ ts. Ok (make ts)))
 
-missing-of : (k : Text) (here : Path) (r : Result (Unit {0}) Complaint) (o : Option Data) (make : Strategies → Strategy) → o ≡ None → given r (λ u. complaint Missing (key here k)) ≡ given (given r (λ u. given (present (key here k) o) (trees_form (key here k)))) (λ ts. Ok (make ts))
+missing-of : (k : Text) (here : Path) (r : Result (Unit {0}) Complaint) (o : Option Data) (make : Strategies → Strategy) → o ≡ None → and_then r (λ u. complaint Missing (key here k)) ≡ and_then (and_then r (λ u. and_then (present (key here k) o) (trees_form (key here k)))) (λ ts. Ok (make ts))
 missing-of k here r o make e =
-    ap (λ p. given r (λ u. given (given p (trees_form (key here k))) (λ ts. Ok (make ts)))) (ap (present (key here k)) (sym e))
-    ∙ sym (given-given r (λ u. given (present (key here k) o) (trees_form (key here k))) (λ ts. Ok (make ts)))
+    ap (λ p. and_then r (λ u. and_then (and_then p (trees_form (key here k))) (λ ts. Ok (make ts)))) (ap (present (key here k)) (sym e))
+    ∙ sym (given-given r (λ u. and_then (present (key here k) o) (trees_form (key here k))) (λ ts. Ok (make ts)))
 
 some-of : (o : Option Data) → is_some o ≡ true → (d : Data) × (o ≡ Some d)
 some-of (Some d) e = (d, refl)
@@ -70,14 +70,14 @@ module _ (here : Path) (ms : Members) where
       ap (λ c. node_form here ms c (children_form (codes "dot") (key here (codes "dot")) ms)) (children_form-get (codes "cross") (key here (codes "cross")) ms)
       ∙ ap (node_form here ms (child (codes "cross"))) (children_form-get (codes "dot") (key here (codes "dot")) ms)
 
-  pub node-cross : has (codes "cross") (object ms) ≡ true → tree_form here (object ms) ≡ given (branch (codes "cross") here (object ms)) (λ ts. Ok (cross ts))
+  pub node-cross : has (codes "cross") (object ms) ≡ true → tree_form here (object ms) ≡ and_then (branch (codes "cross") here (object ms)) (λ ts. Ok (cross ts))
   node-cross e =
       let s = some-of (get_member (codes "cross") ms) e in
       node
       ∙ ap (λ o. node_form here ms (option_map (trees_form (key here (codes "cross"))) o) (child (codes "dot"))) s.1
       ∙ branch-of (codes "cross") here ms (fields_form (codes "cross" ∷ []) here (object ms)) (get_member (codes "cross") ms) s.0 cross s.1
 
-  pub node-dot : has (codes "cross") (object ms) ≡ false → has (codes "dot") (object ms) ≡ true → tree_form here (object ms) ≡ given (branch (codes "dot") here (object ms)) (λ ts. Ok (dot ts))
+  pub node-dot : has (codes "cross") (object ms) ≡ false → has (codes "dot") (object ms) ≡ true → tree_form here (object ms) ≡ and_then (branch (codes "dot") here (object ms)) (λ ts. Ok (dot ts))
   node-dot n e =
       let s = some-of (get_member (codes "dot") ms) e in
       node
@@ -85,7 +85,7 @@ module _ (here : Path) (ms : Members) where
       ∙ ap (λ o. node_form here ms None (option_map (trees_form (key here (codes "dot"))) o)) s.1
       ∙ branch-of (codes "dot") here ms (fields_form (codes "dot" ∷ []) here (object ms)) (get_member (codes "dot") ms) s.0 dot s.1
 
-  pub node-neither : has (codes "cross") (object ms) ≡ false → has (codes "dot") (object ms) ≡ false → tree_form here (object ms) ≡ given (branch (codes "cross") here (object ms)) (λ ts. Ok (cross ts))
+  pub node-neither : has (codes "cross") (object ms) ≡ false → has (codes "dot") (object ms) ≡ false → tree_form here (object ms) ≡ and_then (branch (codes "cross") here (object ms)) (λ ts. Ok (cross ts))
   node-neither n e =
       let m = none-of (get_member (codes "cross") ms) n in
       node
@@ -95,18 +95,18 @@ module _ (here : Path) (ms : Members) where
 
 -- ---- children as a list
 
-grown : (t : Strategy) (r : Result (List Strategy) Complaint) → given (given r (λ ts. Ok (strategies_of ts))) (λ ss. Ok (strategy t ss)) ≡ given (given r (λ ts. Ok (t ∷ ts))) (λ ts. Ok (strategies_of ts))
+grown : (t : Strategy) (r : Result (List Strategy) Complaint) → and_then (and_then r (λ ts. Ok (strategies_of ts))) (λ ss. Ok (strategy t ss)) ≡ and_then (and_then r (λ ts. Ok (t ∷ ts))) (λ ts. Ok (strategies_of ts))
 grown t (Ok ts) = refl
 grown t (Err c) = refl
 
-grown-any : (r : Result Strategy Complaint) (s : Result (List Strategy) Complaint) → given r (λ t. given (given s (λ ts. Ok (strategies_of ts))) (λ ss. Ok (strategy t ss))) ≡ given (given r (λ t. given s (λ ts. Ok (t ∷ ts)))) (λ ts. Ok (strategies_of ts))
+grown-any : (r : Result Strategy Complaint) (s : Result (List Strategy) Complaint) → and_then r (λ t. and_then (and_then s (λ ts. Ok (strategies_of ts))) (λ ss. Ok (strategy t ss))) ≡ and_then (and_then r (λ t. and_then s (λ ts. Ok (t ∷ ts)))) (λ ts. Ok (strategies_of ts))
 grown-any (Ok t) s = grown t s
 grown-any (Err c) s = refl
 
-pub each_tree-items : (here : Path) (i : ℕ) (ds : Items) → each_tree here i ds ≡ given (items_form tree_form here i ds) (λ ts. Ok (strategies_of ts))
+pub each_tree-items : (here : Path) (i : ℕ) (ds : Items) → each_tree here i ds ≡ and_then (items_form tree_form here i ds) (λ ts. Ok (strategies_of ts))
 each_tree-items here i no_items = refl
 each_tree-items here i (item d ds) =
-    ap (λ r. given (tree_form (index here i) d) (λ t. given r (λ ss. Ok (strategy t ss)))) (each_tree-items here (suc i) ds)
+    ap (λ r. and_then (tree_form (index here i) d) (λ t. and_then r (λ ss. Ok (strategy t ss)))) (each_tree-items here (suc i) ds)
     ∙ grown-any (tree_form (index here i) d) (items_form tree_form here (suc i) ds)
 
 pub count-each : (ts : List Strategy) → strategy_count (strategies_of ts) ≡ length ts
@@ -121,22 +121,22 @@ trees-each (t ∷ ts) = ap (λ b. is_tree t && b) (trees-each ts)
 pub strategies_view-each : (ts : Trees) → strategies_view ts ≡ strategies_of (map strategy_view ts.trees.items)
 strategies_view-each ts = fold_out-Trees _ _ tree_step trees_step ts
 
-pub passed : {A B : Type 0} (f : FormFault) (r : Result A Complaint) (k : A → Result B Complaint) → r ≡ told f r → given r k ≡ told f (given r k)
-passed (Form kind path) r k e = ap (λ s. given s k) e
+pub passed : {A B : Type 0} (f : FormFault) (r : Result A Complaint) (k : A → Result B Complaint) → r ≡ fault_result f r → and_then r k ≡ fault_result f (and_then r k)
+passed (Form kind path) r k e = ap (λ s. and_then s k) e
 passed NoMemory r k e = refl
 
 module _ (here : Path) (ds : Items) (d : Data) (n : ℕ) (is : d ≡ array ds) (same : n ≡ item_count ds) (fits : counted 1 16 here n ≡ Ok tt) where
-  pub trees-array : trees_form here d ≡ given (items_form tree_form here 0 ds) (λ ts. Ok (strategies_of ts))
+  pub trees-array : trees_form here d ≡ and_then (items_form tree_form here 0 ds) (λ ts. Ok (strategies_of ts))
   trees-array =
       ap (trees_form here) is
-      ∙ ap (λ r. given r (λ u. each_tree here 0 ds)) (ap (counted 1 16 here) (sym same) ∙ fits)
+      ∙ ap (λ r. and_then r (λ u. each_tree here 0 ds)) (ap (counted 1 16 here) (sym same) ∙ fits)
       ∙ each_tree-items here 0 ds
 
-  pub trees-stop : (f : FormFault) → items_form tree_form here 0 ds ≡ told f (items_form tree_form here 0 ds) → trees_form here d ≡ told f (trees_form here d)
-  trees-stop f e = trees-array ∙ passed f (items_form tree_form here 0 ds) (λ ts. Ok (strategies_of ts)) e ∙ ap (told f) (sym trees-array)
+  pub trees-stop : (f : FormFault) → items_form tree_form here 0 ds ≡ fault_result f (items_form tree_form here 0 ds) → trees_form here d ≡ fault_result f (trees_form here d)
+  trees-stop f e = trees-array ∙ passed f (items_form tree_form here 0 ds) (λ ts. Ok (strategies_of ts)) e ∙ ap (fault_result f) (sym trees-array)
 
   pub trees-read : (ts : List Strategy) → items_form tree_form here 0 ds ≡ Ok ts → trees_form here d ≡ Ok (strategies_of ts)
-  trees-read ts e = trees-array ∙ ap (λ r. given r (λ us. Ok (strategies_of us))) e
+  trees-read ts e = trees-array ∙ ap (λ r. and_then r (λ us. Ok (strategies_of us))) e
 
   pub trees-kept : (ts : List Strategy) → items_form tree_form here 0 ds ≡ Ok ts → is_between 1 16 n ≡ true → list_all is_tree ts ≡ true → (is_between 1 16 (strategy_count (strategies_of ts)) && are_trees (strategies_of ts)) ≡ true
   trees-kept ts e b h =

@@ -19,7 +19,7 @@ use Rattle.tv_value.specs.Strategies.{port, cross, dot, Strategies, strategy}
 use Rattle.tv_flow.specs.declared.faults.FormKind.{FormKind}
 use Rattle.tv_flow.specs.declared.faults.FormKind.TheVariants.{Missing, Unknown, BadName, OutOfRange, Empty, NotText, Ragged}
 use Rattle.tv_flow.specs.declared.faults.Part.TheVariants.{Index}
-use Rattle.tv_flow.specs.Complaints.{Path, Complaint, complaint, key, index, place, given}
+use Rattle.tv_flow.specs.Complaints.{Path, Complaint, complaint, key, index, place, and_then}
 use Rattle.tv_flow.specs.Flows.{input, output, link, merge, constant}
 use Rattle.tv_flow.specs.Forms.{wanted, is_name, name_or_not, name_form, in_range, number_form, depth_form, unknown_key, none_unknown, fields_form, present, required, or_else, optional, counted, member_count, entries_form, named_form, items_form, array_form, of_reading, value_form, has, input_link, output_link, link_form, link_feed, merge_feed, constant_feed, is_link, feed_form, node_form, tree_form, children_form, trees_form, each_tree, service_activity, nested_activity, activity_form, step_input_form, names_form, given_tree, step_fields, step_form, flow_form, document_form}
 use Rattle.tv_flow.specs.Listed.{wrong, wrong_unless, all_wanted, all_name, all_range, all_number, all_depth, all_unknown, all_fields, all_present, all_required, all_given, all_optional, all_counted, all_entries, all_named, all_items, all_array, all_ragged, all_value, all_values, all_input_link, all_output_link, all_link, all_merge, all_constant, all_feed, all_node, all_tree, all_children, all_trees, each_all_tree, all_service, all_nested, all_activity, all_step_input, all_step, all_flow, all_document, first_of, complaint_of}
@@ -41,18 +41,18 @@ and-next : (o : Option Complaint) (cs ds : List Complaint) → None ≡ first_of
 and-next o [] ds e h = h
 and-next o (x ∷ cs) ds e h = absurd (some-none x (sym e))
 
-one-then : {A B : Type 0} (r : Result A Complaint) (f : A → Result B Complaint) (cs ds : List Complaint) → Leads r cs → ((a : A) → Leads (f a) ds) → Leads (given r f) (cs ++ ds)
+one-then : {A B : Type 0} (r : Result A Complaint) (f : A → Result B Complaint) (cs ds : List Complaint) → Leads r cs → ((a : A) → Leads (f a) ds) → Leads (and_then r f) (cs ++ ds)
 one-then (Ok a) f cs ds e h = and-next (complaint_of (f a)) cs ds e (h a)
 one-then (Err c) f cs ds e h = and-first c cs ds e
 
 -- what is made of a thing that was read says nothing more
-made : {A B : Type 0} (r : Result A Complaint) (f : A → B) (cs : List Complaint) → Leads r cs → Leads (given r (λ a. Ok (f a))) cs
+made : {A B : Type 0} (r : Result A Complaint) (f : A → B) (cs : List Complaint) → Leads r cs → Leads (and_then r (λ a. Ok (f a))) cs
 made (Ok a) f cs e = e
 made (Err c) f cs e = e
 
 -- ---- kinds, names and numbers
 
-wanted-then : {A B : Type 0} (here : Path) (f : A → Result B Complaint) (g : A → List Complaint) (o : Option A) → ((a : A) → Leads (f a) (g a)) → Leads (given (wanted here o) f) (all_wanted here g o)
+wanted-then : {A B : Type 0} (here : Path) (f : A → Result B Complaint) (g : A → List Complaint) (o : Option A) → ((a : A) → Leads (f a) (g a)) → Leads (and_then (wanted here o) f) (all_wanted here g o)
 wanted-then here f g None h = refl
 wanted-then here f g (Some a) h = h a
 
@@ -88,10 +88,10 @@ unknown-leads fields here (member k d ms) = by (list_any (same_name k) fields) (
     by true h = h
     by false h = refl
 
-fields-then : {A : Type 0} (fields : List Text) (here : Path) (d : Data) (r : Result A Complaint) (cs : List Complaint) → Leads r cs → Leads (given (fields_form fields here d) (λ u. r)) (all_fields fields here cs d)
+fields-then : {A : Type 0} (fields : List Text) (here : Path) (d : Data) (r : Result A Complaint) (cs : List Complaint) → Leads r cs → Leads (and_then (fields_form fields here d) (λ u. r)) (all_fields fields here cs d)
 fields-then fields here d r cs h = by (as_object d)
   where
-    by : (o : Option Members) → Leads (given (given (wanted here o) (λ ms. none_unknown here (unknown_key fields ms))) (λ u. r)) (all_wanted here (λ ms. all_unknown fields here ms ++ cs) o)
+    by : (o : Option Members) → Leads (and_then (and_then (wanted here o) (λ ms. none_unknown here (unknown_key fields ms))) (λ u. r)) (all_wanted here (λ ms. all_unknown fields here ms ++ cs) o)
     by None = refl
     by (Some ms) = one-then (none_unknown here (unknown_key fields ms)) (λ u. r) (all_unknown fields here ms) cs (unknown-leads fields here ms) (λ u. h)
 
@@ -99,7 +99,7 @@ module _ {A : Type 0} (form : Path → Data → Result A Complaint) (all : Path 
   required-leads : (k : Text) (here : Path) (d : Data) → Leads (required form k here d) (all_required all k here d)
   required-leads k here d = by (get k d)
     where
-      by : (o : Option Data) → Leads (given (present (key here k) o) (form (key here k))) (all_present (all (key here k)) (key here k) o)
+      by : (o : Option Data) → Leads (and_then (present (key here k) o) (form (key here k))) (all_present (all (key here k)) (key here k) o)
       by None = refl
       by (Some e) = leads (key here k) e
 
@@ -124,30 +124,30 @@ module _ {A : Type 0} (form : Path → Data → Result A Complaint) (all : Path 
   entries-leads : (here : Path) (ms : Members) → Leads (entries_form form here ms) (all_entries all here ms)
   entries-leads here no_members = refl
   entries-leads here (member k d ms) =
-      one-then (name_or_not (key here k) k) (λ n. given (form (key here k) d) (λ a. given (entries_form form here ms) (λ as'. Ok ((n, a) ∷ as')))) (wrong_unless (is_name k) BadName (key here k)) (all (key here k) d ++ all_entries all here ms) (name-first (key here k) k)
-      (λ n. one-then (form (key here k) d) (λ a. given (entries_form form here ms) (λ as'. Ok ((n, a) ∷ as'))) (all (key here k) d) (all_entries all here ms) (leads (key here k) d)
+      one-then (name_or_not (key here k) k) (λ n. and_then (form (key here k) d) (λ a. and_then (entries_form form here ms) (λ as'. Ok ((n, a) ∷ as')))) (wrong_unless (is_name k) BadName (key here k)) (all (key here k) d ++ all_entries all here ms) (name-first (key here k) k)
+      (λ n. one-then (form (key here k) d) (λ a. and_then (entries_form form here ms) (λ as'. Ok ((n, a) ∷ as'))) (all (key here k) d) (all_entries all here ms) (leads (key here k) d)
       (λ a. made (entries_form form here ms) (λ as'. (n, a) ∷ as') (all_entries all here ms) (entries-leads here ms)))
 
   named-leads : (least most : ℕ) (here : Path) (d : Data) → Leads (named_form form least most here d) (all_named all least most here d)
   named-leads least most here d =
-      wanted-then here (λ ms. given (counted least most here (member_count ms)) (λ u. entries_form form here ms)) (λ ms. all_counted least most here (member_count ms) ++ all_entries all here ms) (as_object d)
+      wanted-then here (λ ms. and_then (counted least most here (member_count ms)) (λ u. entries_form form here ms)) (λ ms. all_counted least most here (member_count ms) ++ all_entries all here ms) (as_object d)
       (λ ms. one-then (counted least most here (member_count ms)) (λ u. entries_form form here ms) (all_counted least most here (member_count ms)) (all_entries all here ms) (counted-leads least most here (member_count ms)) (λ u. entries-leads here ms))
 
   items-leads : (here : Path) (i : ℕ) (ds : Items) → Leads (items_form form here i ds) (all_items all here i ds)
   items-leads here i no_items = refl
   items-leads here i (item d ds) =
-      one-then (form (index here i) d) (λ a. given (items_form form here (suc i) ds) (λ as'. Ok (a ∷ as'))) (all (index here i) d) (all_items all here (suc i) ds) (leads (index here i) d)
+      one-then (form (index here i) d) (λ a. and_then (items_form form here (suc i) ds) (λ as'. Ok (a ∷ as'))) (all (index here i) d) (all_items all here (suc i) ds) (leads (index here i) d)
       (λ a. made (items_form form here (suc i) ds) (λ as'. a ∷ as') (all_items all here (suc i) ds) (items-leads here (suc i) ds))
 
   array-leads : (least most : ℕ) (here : Path) (d : Data) → Leads (array_form form least most here d) (all_array all least most here d)
   array-leads least most here d =
-      wanted-then here (λ ds. given (counted least most here (item_count ds)) (λ u. items_form form here 0 ds)) (λ ds. all_counted least most here (item_count ds) ++ all_items all here 0 ds) (as_array d)
+      wanted-then here (λ ds. and_then (counted least most here (item_count ds)) (λ u. items_form form here 0 ds)) (λ ds. all_counted least most here (item_count ds) ++ all_items all here 0 ds) (as_array d)
       (λ ds. one-then (counted least most here (item_count ds)) (λ u. items_form form here 0 ds) (all_counted least most here (item_count ds)) (all_items all here 0 ds) (counted-leads least most here (item_count ds)) (λ u. items-leads here 0 ds))
 
 -- ---- values
 
 -- a complaint of reading, seen from the document
-abbrev located : {A : Type 0} → Path → Result A reading.Complaint → Result A Complaint
+abbrev located : {A : Type 0} → Path → Result A reading.ReadingComplaint → Result A Complaint
 located here (Ok a) = Ok a
 located here (Err (not_text q)) = complaint NotText (place here q)
 located here (Err (ragged q)) = complaint Ragged (place here q)
@@ -158,11 +158,11 @@ at-top k here = ap (λ p. Some (record { kind = k; path = p })) (append-nil here
 inside : (here : Path) (i : ℕ) (q : List ℕ) → place here (i ∷ q) ≡ place (index here i) q
 inside here i q = sym (append_assoc here (Index i ∷ []) (map Index q))
 
-within-located : (here : Path) (i : ℕ) (c : reading.Complaint) → complaint_of (located {A = Trees (Unit {0}) Scalar} here (Err (within i c))) ≡ complaint_of (located {A = Value} (index here i) (Err c))
+within-located : (here : Path) (i : ℕ) (c : reading.ReadingComplaint) → complaint_of (located {A = Trees (Unit {0}) Scalar} here (Err (within i c))) ≡ complaint_of (located {A = Value} (index here i) (Err c))
 within-located here i (not_text q) = ap (λ p. Some (record { kind = NotText; path = p })) (inside here i q)
 within-located here i (ragged q) = ap (λ p. Some (record { kind = Ragged; path = p })) (inside here i q)
 
-ragged-last : (here : Path) (r : Result (Trees (Unit {0}) Scalar) reading.Complaint) (cs : List Complaint) → Leads (located here r) cs → Leads (located here (read_list r)) (cs ++ all_ragged here r)
+ragged-last : (here : Path) (r : Result (Trees (Unit {0}) Scalar) reading.ReadingComplaint) (cs : List Complaint) → Leads (located here r) cs → Leads (located here (read_list r)) (cs ++ all_ragged here r)
 ragged-last here (Err (not_text q)) cs h = and-first (record { kind = NotText; path = place here q }) cs [] h
 ragged-last here (Err (ragged q)) cs h = and-first (record { kind = Ragged; path = place here q }) cs [] h
 ragged-last here (Ok vs) cs h = by (is_some (least_depth (list_value vs)))
@@ -171,7 +171,7 @@ ragged-last here (Ok vs) cs h = by (is_some (least_depth (list_value vs)))
     by true = and-next None cs [] h refl
     by false = and-next (Some (record { kind = Ragged; path = place here [] })) cs (wrong Ragged here) h (at-top Ragged here)
 
-first-then : (here : Path) (i : ℕ) (r : Result Value reading.Complaint) (rs : Result (Trees (Unit {0}) Scalar) reading.Complaint) (cs ds : List Complaint) → Leads (located (index here i) r) cs → Leads (located here rs) ds → Leads (located here (first_read i r rs)) (cs ++ ds)
+first-then : (here : Path) (i : ℕ) (r : Result Value reading.ReadingComplaint) (rs : Result (Trees (Unit {0}) Scalar) reading.ReadingComplaint) (cs ds : List Complaint) → Leads (located (index here i) r) cs → Leads (located here rs) ds → Leads (located here (first_read i r rs)) (cs ++ ds)
 first-then here i (Err (not_text q)) rs cs ds h k = within-located here i (not_text q) ∙ and-first (record { kind = NotText; path = place (index here i) q }) cs ds h
 first-then here i (Err (ragged q)) rs cs ds h k = within-located here i (ragged q) ∙ and-first (record { kind = Ragged; path = place (index here i) q }) cs ds h
 first-then here i (Ok v) (Err (not_text q)) cs ds h k = and-next (Some (record { kind = NotText; path = place here q })) cs ds h k
@@ -200,7 +200,7 @@ mutual
 value-leads : (here : Path) (d : Data) → Leads (value_form here d) (all_value here d)
 value-leads here d = same (read d) ∙ read-leads here d
   where
-    same : (r : Result Value reading.Complaint) → complaint_of (of_reading here r) ≡ complaint_of (located here r)
+    same : (r : Result Value reading.ReadingComplaint) → complaint_of (of_reading here r) ≡ complaint_of (located here r)
     same (Ok v) = refl
     same (Err (not_text q)) = refl
     same (Err (ragged q)) = refl
@@ -208,12 +208,12 @@ value-leads here d = same (read d) ∙ read-leads here d
 -- ---- feeds
 
 input_link-leads : (here : Path) (d : Data) → Leads (input_link here d) (all_input_link here d)
-input_link-leads here d = fields-then (codes "input" ∷ []) here d (given (required name_form (codes "input") here d) (λ n. Ok (input n))) (all_required all_name (codes "input") here d)
+input_link-leads here d = fields-then (codes "input" ∷ []) here d (and_then (required name_form (codes "input") here d) (λ n. Ok (input n))) (all_required all_name (codes "input") here d)
     (made (required name_form (codes "input") here d) input (all_required all_name (codes "input") here d) (required-leads name_form all_name name-leads (codes "input") here d))
 
 output_link-leads : (here : Path) (d : Data) → Leads (output_link here d) (all_output_link here d)
-output_link-leads here d = fields-then (codes "step" ∷ codes "port" ∷ []) here d (given (required name_form (codes "step") here d) (λ s. given (required name_form (codes "port") here d) (λ p. Ok (output s p)))) (all_required all_name (codes "step") here d ++ all_required all_name (codes "port") here d)
-    (one-then (required name_form (codes "step") here d) (λ s. given (required name_form (codes "port") here d) (λ p. Ok (output s p))) (all_required all_name (codes "step") here d) (all_required all_name (codes "port") here d) (required-leads name_form all_name name-leads (codes "step") here d)
+output_link-leads here d = fields-then (codes "step" ∷ codes "port" ∷ []) here d (and_then (required name_form (codes "step") here d) (λ s. and_then (required name_form (codes "port") here d) (λ p. Ok (output s p)))) (all_required all_name (codes "step") here d ++ all_required all_name (codes "port") here d)
+    (one-then (required name_form (codes "step") here d) (λ s. and_then (required name_form (codes "port") here d) (λ p. Ok (output s p))) (all_required all_name (codes "step") here d) (all_required all_name (codes "port") here d) (required-leads name_form all_name name-leads (codes "step") here d)
     (λ s. made (required name_form (codes "port") here d) (output s) (all_required all_name (codes "port") here d) (required-leads name_form all_name name-leads (codes "port") here d)))
 
 -- one of two, by the same test
@@ -230,11 +230,11 @@ link_feed-leads : (here : Path) (d : Data) → Leads (link_feed here d) (all_lin
 link_feed-leads here d = made (link_form here d) link (all_link here d) (link-leads here d)
 
 merge-leads : (here : Path) (d : Data) → Leads (merge_feed here d) (all_merge here d)
-merge-leads here d = fields-then (codes "merge" ∷ []) here d (given (required (array_form link_form 1 16) (codes "merge") here d) (λ ls. Ok (merge ls))) (all_required (all_array all_link 1 16) (codes "merge") here d)
+merge-leads here d = fields-then (codes "merge" ∷ []) here d (and_then (required (array_form link_form 1 16) (codes "merge") here d) (λ ls. Ok (merge ls))) (all_required (all_array all_link 1 16) (codes "merge") here d)
     (made (required (array_form link_form 1 16) (codes "merge") here d) merge (all_required (all_array all_link 1 16) (codes "merge") here d) (required-leads (array_form link_form 1 16) (all_array all_link 1 16) (array-leads link_form all_link link-leads 1 16) (codes "merge") here d))
 
 constant-leads : (here : Path) (d : Data) → Leads (constant_feed here d) (all_constant here d)
-constant-leads here d = fields-then (codes "constant" ∷ []) here d (given (required value_form (codes "constant") here d) (λ v. Ok (constant v))) (all_required all_value (codes "constant") here d)
+constant-leads here d = fields-then (codes "constant" ∷ []) here d (and_then (required value_form (codes "constant") here d) (λ v. Ok (constant v))) (all_required all_value (codes "constant") here d)
     (made (required value_form (codes "constant") here d) constant (all_required all_value (codes "constant") here d) (required-leads value_form all_value value-leads (codes "constant") here d))
 
 feed-leads : (here : Path) (d : Data) → Leads (feed_form here d) (all_feed here d)
@@ -258,11 +258,11 @@ of-order Greater a b c x y z h k l = l
 
 node-leads : (here : Path) (ms : Members) (a b : Option (Result Strategies Complaint)) (x y : Option (List Complaint)) → ChildLeads a x → ChildLeads b y → Leads (node_form here ms a b) (all_node here ms x y)
 node-leads here ms (Some r) b (Some cs) y h k =
-    one-then (none_unknown here (unknown_key (codes "cross" ∷ []) ms)) (λ u. given r (λ ts. Ok (cross ts))) (all_unknown (codes "cross" ∷ []) here ms) cs (unknown-leads (codes "cross" ∷ []) here ms) (λ u. made r cross cs h)
+    one-then (none_unknown here (unknown_key (codes "cross" ∷ []) ms)) (λ u. and_then r (λ ts. Ok (cross ts))) (all_unknown (codes "cross" ∷ []) here ms) cs (unknown-leads (codes "cross" ∷ []) here ms) (λ u. made r cross cs h)
 node-leads here ms (Some r) b None y h k = absurd h
 node-leads here ms None b (Some cs) y h k = absurd h
 node-leads here ms None (Some r) None (Some cs) h k =
-    one-then (none_unknown here (unknown_key (codes "dot" ∷ []) ms)) (λ u. given r (λ ts. Ok (dot ts))) (all_unknown (codes "dot" ∷ []) here ms) cs (unknown-leads (codes "dot" ∷ []) here ms) (λ u. made r dot cs k)
+    one-then (none_unknown here (unknown_key (codes "dot" ∷ []) ms)) (λ u. and_then r (λ ts. Ok (dot ts))) (all_unknown (codes "dot" ∷ []) here ms) cs (unknown-leads (codes "dot" ∷ []) here ms) (λ u. made r dot cs k)
 node-leads here ms None (Some r) None None h k = absurd k
 node-leads here ms None None None (Some cs) h k = absurd k
 node-leads here ms None None None None h k =
@@ -296,7 +296,7 @@ mutual
   each-leads : (here : Path) (i : ℕ) (ds : Items) → Leads (each_tree here i ds) (each_all_tree here i ds)
   each-leads here i no_items = refl
   each-leads here i (item d ds) =
-      one-then (tree_form (index here i) d) (λ t. given (each_tree here (suc i) ds) (λ ts. Ok (strategy t ts))) (all_tree (index here i) d) (each_all_tree here (suc i) ds) (tree-leads (index here i) d)
+      one-then (tree_form (index here i) d) (λ t. and_then (each_tree here (suc i) ds) (λ ts. Ok (strategy t ts))) (all_tree (index here i) d) (each_all_tree here (suc i) ds) (tree-leads (index here i) d)
       (λ t. made (each_tree here (suc i) ds) (strategy t) (each_all_tree here (suc i) ds) (each-leads here (suc i) ds))
 
 -- ---- steps, flows and documents
@@ -305,11 +305,11 @@ depth-leads : (here : Path) (d : Data) → Leads (depth_form here d) (all_depth 
 depth-leads = number-leads 0 32
 
 service-leads : (here : Path) (d : Data) → Leads (service_activity here d) (all_service here d)
-service-leads here d = fields-then (codes "service" ∷ []) here d (given (required name_form (codes "service") here d) (λ n. Ok (service n))) (all_required all_name (codes "service") here d)
+service-leads here d = fields-then (codes "service" ∷ []) here d (and_then (required name_form (codes "service") here d) (λ n. Ok (service n))) (all_required all_name (codes "service") here d)
     (made (required name_form (codes "service") here d) service (all_required all_name (codes "service") here d) (required-leads name_form all_name name-leads (codes "service") here d))
 
 nested-leads : (here : Path) (d : Data) → Leads (nested_activity here d) (all_nested here d)
-nested-leads here d = fields-then (codes "flow" ∷ []) here d (given (required name_form (codes "flow") here d) (λ n. Ok (nested n))) (all_required all_name (codes "flow") here d)
+nested-leads here d = fields-then (codes "flow" ∷ []) here d (and_then (required name_form (codes "flow") here d) (λ n. Ok (nested n))) (all_required all_name (codes "flow") here d)
     (made (required name_form (codes "flow") here d) nested (all_required all_name (codes "flow") here d) (required-leads name_form all_name name-leads (codes "flow") here d))
 
 activity-leads : (here : Path) (d : Data) → Leads (activity_form here d) (all_activity here d)
@@ -320,9 +320,9 @@ activity-leads here d =
 step_input-leads : (here : Path) (d : Data) → Leads (step_input_form here d) (all_step_input here d)
 step_input-leads here d =
     fields-then (codes "depth" ∷ codes "from" ∷ []) here d
-    (given (required depth_form (codes "depth") here d) (λ depth. given (required feed_form (codes "from") here d) (λ from. Ok (record { depth = depth; from = from }))))
+    (and_then (required depth_form (codes "depth") here d) (λ depth. and_then (required feed_form (codes "from") here d) (λ from. Ok (record { depth = depth; from = from }))))
     (all_required all_depth (codes "depth") here d ++ all_required all_feed (codes "from") here d)
-    (one-then (required depth_form (codes "depth") here d) (λ depth. given (required feed_form (codes "from") here d) (λ from. Ok (record { depth = depth; from = from }))) (all_required all_depth (codes "depth") here d) (all_required all_feed (codes "from") here d) (required-leads depth_form all_depth depth-leads (codes "depth") here d)
+    (one-then (required depth_form (codes "depth") here d) (λ depth. and_then (required feed_form (codes "from") here d) (λ from. Ok (record { depth = depth; from = from }))) (all_required all_depth (codes "depth") here d) (all_required all_feed (codes "from") here d) (required-leads depth_form all_depth depth-leads (codes "depth") here d)
     (λ depth. made (required feed_form (codes "from") here d) (λ from. record { depth = depth; from = from }) (all_required all_feed (codes "from") here d) (required-leads feed_form all_feed feed-leads (codes "from") here d)))
 
 names-leads : (here : Path) (d : Data) → Leads (names_form here d) (all_array all_name 0 16 here d)

@@ -11,21 +11,21 @@ use Rattle.tv_flow.specs.declared.faults.FormFault.{FormFault}
 use Rattle.tv_flow.specs.declared.faults.FormFault.TheVariants.{Form, NoMemory}
 use Rattle.tv_value.specs.Readings.{item_count}
 use Rattle.tv_value.proofs.OfReading.{item-at}
-use Rattle.tv_flow.specs.Complaints.{Path, Complaint, key, index, given}
-use Rattle.tv_flow.specs.Answers.{told}
+use Rattle.tv_flow.specs.Complaints.{Path, Complaint, key, index, and_then}
+use Rattle.tv_flow.specs.Answers.{fault_result}
 use Rattle.tv_flow.specs.Forms.{name_or_not, entries_form, items_form, member_count}
 
 module _ {A : Type 0} where
   abbrev pub put_before : List A → Result (List A) Complaint → Result (List A) Complaint
-  put_before xs r = given r (λ ys. Ok (xs ++ ys))
+  put_before xs r = and_then r (λ ys. Ok (xs ++ ys))
 
-  pub put_before-push : (xs : List A) (x : A) (r : Result (List A) Complaint) → put_before xs (given r (λ ys. Ok (x ∷ ys))) ≡ put_before (xs ++ x ∷ []) r
+  pub put_before-push : (xs : List A) (x : A) (r : Result (List A) Complaint) → put_before xs (and_then r (λ ys. Ok (x ∷ ys))) ≡ put_before (xs ++ x ∷ []) r
   put_before-push xs x (Ok ys) = ap Ok (sym (append_assoc xs (x ∷ []) ys))
   put_before-push xs x (Err c) = refl
 
   -- a fault of the next thing is that of the whole
-  pub stopped : {B : Type 0} (f : FormFault) (xs : List A) (a : Result B Complaint) (k : B → Result (List A) Complaint) → a ≡ told f a → put_before xs (given a k) ≡ told f (put_before xs (given a k))
-  stopped (Form k p) xs a next e = ap (λ r. put_before xs (given r next)) e
+  pub stopped : {B : Type 0} (f : FormFault) (xs : List A) (a : Result B Complaint) (k : B → Result (List A) Complaint) → a ≡ fault_result f a → put_before xs (and_then a k) ≡ fault_result f (put_before xs (and_then a k))
+  stopped (Form k p) xs a next e = ap (λ r. put_before xs (and_then r next)) e
   stopped NoMemory xs a next e = refl
 
 -- ---- items of an array
@@ -36,16 +36,16 @@ module _ {A : Type 0} (form : Path → Data → Result A Complaint) (here : Path
   pub items-more : (i : ℕ) (d : Json) (as' : List A) (a : A) → i < length xs → form (index here i) (json_view (get_or xs i d)) ≡ Ok a → put_before as' (items_from i) ≡ put_before (as' ++ a ∷ []) (items_from (i + 1))
   items-more i d as' a h e =
       ap (λ ds. put_before as' (items_form form here i ds)) (item-at xs i d h)
-      ∙ ap (λ r. put_before as' (given r (λ b. given (items_from (suc i)) (λ bs. Ok (b ∷ bs))))) e
+      ∙ ap (λ r. put_before as' (and_then r (λ b. and_then (items_from (suc i)) (λ bs. Ok (b ∷ bs))))) e
       ∙ put_before-push as' a (items_from (suc i))
       ∙ ap (λ n. put_before (as' ++ a ∷ []) (items_from n)) (sym (next i))
 
-  pub items-stop : (i : ℕ) (d : Json) (as' : List A) (f : FormFault) → i < length xs → form (index here i) (json_view (get_or xs i d)) ≡ told f (form (index here i) (json_view (get_or xs i d))) → put_before as' (items_from i) ≡ told f (put_before as' (items_from i))
+  pub items-stop : (i : ℕ) (d : Json) (as' : List A) (f : FormFault) → i < length xs → form (index here i) (json_view (get_or xs i d)) ≡ fault_result f (form (index here i) (json_view (get_or xs i d))) → put_before as' (items_from i) ≡ fault_result f (put_before as' (items_from i))
   items-stop i d as' f h e =
       let r = put_before as' (items_from i) in
       let a = form (index here i) (json_view (get_or xs i d)) in
-      let split : r ≡ put_before as' (given a (λ b. given (items_from (suc i)) (λ bs. Ok (b ∷ bs)))) = ap (λ ds. put_before as' (items_form form here i ds)) (item-at xs i d h) in
-      split ∙ stopped f as' a (λ b. given (items_from (suc i)) (λ bs. Ok (b ∷ bs))) e ∙ ap (told f) (sym split)
+      let split : r ≡ put_before as' (and_then a (λ b. and_then (items_from (suc i)) (λ bs. Ok (b ∷ bs)))) = ap (λ ds. put_before as' (items_form form here i ds)) (item-at xs i d h) in
+      split ∙ stopped f as' a (λ b. and_then (items_from (suc i)) (λ bs. Ok (b ∷ bs))) e ∙ ap (fault_result f) (sym split)
 
 -- ---- members of an object
 pub name-same : {p q : Path} {s t : Text} → p ≡ q → s ≡ t → name_or_not p s ≡ name_or_not q t
@@ -65,27 +65,27 @@ module _ {A : Type 0} (form : Path → Data → Result A Complaint) (here : Path
   thing_of e = form (key here (string_bytes e.0)) (json_view e.1)
 
   abbrev pub thing_then : Entry → Result (List (Name × A)) Complaint → Name → Result (List (Name × A)) Complaint
-  thing_then e rest n = given (thing_of e) (λ a. given rest (λ bs. Ok ((n, a) ∷ bs)))
+  thing_then e rest n = and_then (thing_of e) (λ a. and_then rest (λ bs. Ok ((n, a) ∷ bs)))
 
   pub entries-more : (es ts : List Entry) (e : Entry) (as' : List (Name × A)) (n : Name) (a : A) → es ≡ e ∷ ts → name_of e ≡ Ok n → thing_of e ≡ Ok a → put_before as' (entries_of es) ≡ put_before (as' ++ (n, a) ∷ []) (entries_of ts)
   entries-more es ts e as' n a split p q =
       ap (λ xs. put_before as' (entries_of xs)) split
-      ∙ ap (λ r. put_before as' (given r (thing_then e (entries_of ts)))) p
-      ∙ ap (λ r. put_before as' (given r (λ b. given (entries_of ts) (λ bs. Ok ((n, b) ∷ bs))))) q
+      ∙ ap (λ r. put_before as' (and_then r (thing_then e (entries_of ts)))) p
+      ∙ ap (λ r. put_before as' (and_then r (λ b. and_then (entries_of ts) (λ bs. Ok ((n, b) ∷ bs))))) q
       ∙ put_before-push as' (n, a) (entries_of ts)
 
-  pub entries-unnamed : (es ts : List Entry) (e : Entry) (as' : List (Name × A)) (f : FormFault) → es ≡ e ∷ ts → name_of e ≡ told f (name_of e) → put_before as' (entries_of es) ≡ told f (put_before as' (entries_of es))
+  pub entries-unnamed : (es ts : List Entry) (e : Entry) (as' : List (Name × A)) (f : FormFault) → es ≡ e ∷ ts → name_of e ≡ fault_result f (name_of e) → put_before as' (entries_of es) ≡ fault_result f (put_before as' (entries_of es))
   entries-unnamed es ts e as' f split p =
-      let whole : put_before as' (entries_of es) ≡ put_before as' (given (name_of e) (thing_then e (entries_of ts))) = ap (λ xs. put_before as' (entries_of xs)) split in
-      whole ∙ stopped f as' (name_of e) (thing_then e (entries_of ts)) p ∙ ap (told f) (sym whole)
+      let whole : put_before as' (entries_of es) ≡ put_before as' (and_then (name_of e) (thing_then e (entries_of ts))) = ap (λ xs. put_before as' (entries_of xs)) split in
+      whole ∙ stopped f as' (name_of e) (thing_then e (entries_of ts)) p ∙ ap (fault_result f) (sym whole)
 
-  pub entries-unread : (es ts : List Entry) (e : Entry) (as' : List (Name × A)) (n : Name) (f : FormFault) → es ≡ e ∷ ts → name_of e ≡ Ok n → thing_of e ≡ told f (thing_of e) → put_before as' (entries_of es) ≡ told f (put_before as' (entries_of es))
+  pub entries-unread : (es ts : List Entry) (e : Entry) (as' : List (Name × A)) (n : Name) (f : FormFault) → es ≡ e ∷ ts → name_of e ≡ Ok n → thing_of e ≡ fault_result f (thing_of e) → put_before as' (entries_of es) ≡ fault_result f (put_before as' (entries_of es))
   entries-unread es ts e as' n f split p q =
-      let rest = λ (b : A). given (entries_of ts) (λ bs. Ok ((n, b) ∷ bs)) in
-      let whole : put_before as' (entries_of es) ≡ put_before as' (given (thing_of e) rest) =
+      let rest = λ (b : A). and_then (entries_of ts) (λ bs. Ok ((n, b) ∷ bs)) in
+      let whole : put_before as' (entries_of es) ≡ put_before as' (and_then (thing_of e) rest) =
       ap (λ xs. put_before as' (entries_of xs)) split
-      ∙ ap (λ r. put_before as' (given r (thing_then e (entries_of ts)))) p in
-      whole ∙ stopped f as' (thing_of e) rest q ∙ ap (told f) (sym whole)
+      ∙ ap (λ r. put_before as' (and_then r (thing_then e (entries_of ts)))) p in
+      whole ∙ stopped f as' (thing_of e) rest q ∙ ap (fault_result f) (sym whole)
 
 -- ---- what each passes
 pub all-push : {A : Type 0} (test : A → Bool) (xs : List A) (x : A) → list_all test xs ≡ true → test x ≡ true → list_all test (xs ++ x ∷ []) ≡ true

@@ -5,13 +5,13 @@ use Rattle.serde_json.specs.Data.{Data, Num, unsigned, negative, float, null, bo
 use Rattle.tv_value.specs.Nested.{Trees, no_trees, tree, count}
 use Rattle.tv_value.specs.Values.{Value, Scalar, list_value}
 use Rattle.tv_value.specs.DepthSets.{least_depth}
-use Rattle.tv_value.specs.Readings.{Complaint, ragged, read, read_items, read_number, read_list, first_read, item_count, length_limit}
+use Rattle.tv_value.specs.Readings.{ReadingComplaint, ragged, read, read_items, read_number, read_list, first_read, item_count, length_limit}
 use Rattle.tv_flow.specs.Formed.{is_value, are_values}
 
-ok : {A : Type 0} (a b : A) → ◌≡◌ {A = Result A Complaint} (Ok a) (Ok b) → a ≡ b
+ok : {A : Type 0} (a b : A) → ◌≡◌ {A = Result A ReadingComplaint} (Ok a) (Ok b) → a ≡ b
 ok a b e = cc
 
-never : {A : Type 0} {P : Type 0} (a : A) (c : Complaint) → ◌≡◌ {A = Result A Complaint} (Err c) (Ok a) → P
+never : {A : Type 0} {P : Type 0} (a : A) (c : ReadingComplaint) → ◌≡◌ {A = Result A ReadingComplaint} (Err c) (Ok a) → P
 never a c e = absurd (cc)
 
 number-kept : (n : Num) (v : Value) → read_number n ≡ Ok v → is_value v ≡ true
@@ -30,15 +30,15 @@ module _ (n : ℕ) (vs : Trees (Unit {0}) Scalar) (v : Value) (kept : are_values
   deep true false p q e = never v _ e
   deep false c p q e = never v _ e
 
-no-list : (b : Bool) (c d : Complaint) (v : Value) {P : Type 0} → (if b then Err c else Err d) ≡ Ok v → P
+no-list : (b : Bool) (c d : ReadingComplaint) (v : Value) {P : Type 0} → (if b then Err c else Err d) ≡ Ok v → P
 no-list true c d v e = never v c e
 no-list false c d v e = never v d e
 
-list-kept : (n : ℕ) (r : Result (Trees (Unit {0}) Scalar) Complaint) (v : Value) → ((vs : Trees (Unit {0}) Scalar) → r ≡ Ok vs → (are_values vs ≡ true) × (count vs ≡ n)) → (if nat_lt n length_limit then read_list r else Err (ragged [])) ≡ Ok v → is_value v ≡ true
+list-kept : (n : ℕ) (r : Result (Trees (Unit {0}) Scalar) ReadingComplaint) (v : Value) → ((vs : Trees (Unit {0}) Scalar) → r ≡ Ok vs → (are_values vs ≡ true) × (count vs ≡ n)) → (if nat_lt n length_limit then read_list r else Err (ragged [])) ≡ Ok v → is_value v ≡ true
 list-kept n (Err c) v k e = no-list (nat_lt n length_limit) c (ragged []) v e
 list-kept n (Ok vs) v k e = deep n vs v (k vs refl).0 (k vs refl).1 (nat_lt n length_limit) (is_some (least_depth (list_value vs))) refl refl e
 
-first-kept : (i n : ℕ) (a : Result Value Complaint) (r : Result (Trees (Unit {0}) Scalar) Complaint) (vs : Trees (Unit {0}) Scalar) → ((v : Value) → a ≡ Ok v → is_value v ≡ true) → ((ws : Trees (Unit {0}) Scalar) → r ≡ Ok ws → (are_values ws ≡ true) × (count ws ≡ n)) → first_read i a r ≡ Ok vs → (are_values vs ≡ true) × (count vs ≡ suc n)
+first-kept : (i n : ℕ) (a : Result Value ReadingComplaint) (r : Result (Trees (Unit {0}) Scalar) ReadingComplaint) (vs : Trees (Unit {0}) Scalar) → ((v : Value) → a ≡ Ok v → is_value v ≡ true) → ((ws : Trees (Unit {0}) Scalar) → r ≡ Ok ws → (are_values ws ≡ true) × (count ws ≡ n)) → first_read i a r ≡ Ok vs → (are_values vs ≡ true) × (count vs ≡ suc n)
 first-kept i n (Err c) r vs f g e = never vs _ e
 first-kept i n (Ok v) (Err c) vs f g e = never vs _ e
 first-kept i n (Ok v) (Ok ws) vs f g e =

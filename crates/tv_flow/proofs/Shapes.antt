@@ -16,14 +16,14 @@ use Rattle.tv_flow.specs.declared.faults.FormKind.TheVariants.{BadName}
 use Rattle.tv_flow.specs.declared.faults.FormFault.{FormFault}
 use Rattle.tv_flow.specs.Answers.{IsForm}
 use Rattle.tv_flow.specs.Views.{each}
-use Rattle.tv_flow.specs.Complaints.{Path, Complaint, complaint, key, index, given}
+use Rattle.tv_flow.specs.Complaints.{Path, Complaint, complaint, key, index, and_then}
 use Rattle.tv_flow.specs.Forms.{is_name, name_or_not, entries_form, items_form, member_count}
 use Rattle.tv_flow.specs.Formed.{is_ascending, is_between, are_entries, are_named, are_listed}
 
 pub ok : {A : Type 0} {a b : A} → ◌≡◌ {A = Result A Complaint} (Ok a) (Ok b) → a ≡ b
 ok e = cc
 
-pub given-ok : {A B : Type 0} (r : Result A Complaint) (f : A → Result B Complaint) (b : B) → given r f ≡ Ok b → (a : A) × ((r ≡ Ok a) × (f a ≡ Ok b))
+pub given-ok : {A B : Type 0} (r : Result A Complaint) (f : A → Result B Complaint) (b : B) → and_then r f ≡ Ok b → (a : A) × ((r ≡ Ok a) × (f a ≡ Ok b))
 given-ok (Ok a) f b e = (a, (refl, e))
 given-ok (Err c) f b e = absurd (cc)
 
@@ -39,15 +39,15 @@ module _ {A : Type 0} (form : Path → Data → Result A Complaint) (here : Path
   pub items-count : (i : ℕ) (ds : Items) (as' : List A) → items_form form here i ds ≡ Ok as' → length as' ≡ item_count ds
   items-count i no_items as' e = ap length (sym (ok e))
   items-count i (item d ds) as' e =
-      let p = given-ok (form (index here i) d) (λ a. given (items_form form here (suc i) ds) (λ bs. Ok (a ∷ bs))) as' e in
+      let p = given-ok (form (index here i) d) (λ a. and_then (items_form form here (suc i) ds) (λ bs. Ok (a ∷ bs))) as' e in
       let q = given-ok (items_form form here (suc i) ds) (λ bs. Ok (p.0 ∷ bs)) as' p.1.1 in
       ap length (sym (ok q.1.1)) ∙ ap suc (items-count (suc i) ds q.0 q.1.0)
 
   pub entries-names : (ms : Members) (es : List (Name × A)) → entries_form form here ms ≡ Ok es → map (λ e. e.0) es ≡ member_keys ms
   entries-names no_members es e = ap (map (λ e. e.0)) (sym (ok e))
   entries-names (member k d ms) es e =
-      let p = given-ok (name_or_not (key here k) k) (λ n. given (form (key here k) d) (λ a. given (entries_form form here ms) (λ bs. Ok ((n, a) ∷ bs)))) es e in
-      let q = given-ok (form (key here k) d) (λ a. given (entries_form form here ms) (λ bs. Ok ((p.0, a) ∷ bs))) es p.1.1 in
+      let p = given-ok (name_or_not (key here k) k) (λ n. and_then (form (key here k) d) (λ a. and_then (entries_form form here ms) (λ bs. Ok ((n, a) ∷ bs)))) es e in
+      let q = given-ok (form (key here k) d) (λ a. and_then (entries_form form here ms) (λ bs. Ok ((p.0, a) ∷ bs))) es p.1.1 in
       let r = given-ok (entries_form form here ms) (λ bs. Ok ((p.0, q.0) ∷ bs)) es q.1.1 in
       ap (map (λ e. e.0)) (sym (ok r.1.1))
       ∙ ap (λ n. n ∷ map (λ e. e.0) r.0) (sym (if-name (is_name k) (key here k) k p.0 p.1.0))

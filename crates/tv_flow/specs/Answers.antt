@@ -9,11 +9,11 @@ abbrev pub said : FormFault → Complaint → Complaint
 said (Form k p) c = record { kind = k; path = p }
 said NoMemory c = c
 
-abbrev pub told : {A : Type 0} → FormFault → Result A Complaint → Result A Complaint
-told (Form k p) r = Err (record { kind = k; path = p })
-told NoMemory r = r
+abbrev pub fault_result : {A : Type 0} → FormFault → Result A Complaint → Result A Complaint
+fault_result (Form k p) r = Err (record { kind = k; path = p })
+fault_result NoMemory r = r
 
 -- a thing that was read is what the form gives, and a fault is its complaint
 abbrev pub IsForm : {A B : Type 0} → (A → B) → Result A FormFault → Result B Complaint → Type 0
 IsForm view (Ok x) r = r ≡ Ok (view x)
-IsForm view (Err f) r = r ≡ told f r
+IsForm view (Err f) r = r ≡ fault_result f r

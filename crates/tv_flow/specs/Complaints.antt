@@ -28,7 +28,7 @@ abbrev pub place : Path → Place → Path
 place here q = here ++ map Index q
 
 -- what follows from a thing that was read, unless there is a complaint
-abbrev pub given : {A B : Type 0} → Result A Complaint → (A → Result B Complaint)
+abbrev pub and_then : {A B : Type 0} → Result A Complaint → (A → Result B Complaint)
     → Result B Complaint
-given (Ok a) f = f a
-given (Err c) f = Err c
+and_then (Ok a) f = f a
+and_then (Err c) f = Err c

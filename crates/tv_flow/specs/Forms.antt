@@ -12,7 +12,7 @@ use Rattle.tv_value.specs.Readings.{read, not_text, ragged, item_count}
 use Rattle.tv_value.specs.Strategies.{Strategy, port, cross, dot, Strategies, no_strategies, strategy}
 use Rattle.tv_value.specs.Activities.{Activity, service, nested}
 use Rattle.tv_flow.specs.declared.faults.FormKind.TheVariants.{Missing, Unknown, WrongKind, BadName, OutOfRange, Empty, NotText, Ragged}
-use Rattle.tv_flow.specs.Complaints.{Path, Complaint, complaint, key, index, place, given}
+use Rattle.tv_flow.specs.Complaints.{Path, Complaint, complaint, key, index, place, and_then}
 use Rattle.tv_flow.specs.Flows.{Link, input, output, Feed, link, merge, constant, StepInput, Step, Flow, Document}
 
 -- ---- kinds, names and numbers
@@ -34,7 +34,7 @@ abbrev pub name_or_not : Path → Text → Result Name Complaint
 name_or_not here s = if is_name s then Ok s else complaint BadName here
 
 abbrev pub name_form : Path → Data → Result Name Complaint
-name_form here d = given (wanted here (as_str d)) (name_or_not here)
+name_form here d = and_then (wanted here (as_str d)) (name_or_not here)
 
 -- an integer in a range, which a float is not
 abbrev pub in_range : ℕ → ℕ → Path → Num → Result ℕ Complaint
@@ -44,7 +44,7 @@ in_range low high here (negative z) = complaint OutOfRange here
 in_range low high here (float x) = complaint WrongKind here
 
 abbrev pub number_form : ℕ → ℕ → Path → Data → Result ℕ Complaint
-number_form low high here d = given (wanted here (as_number d)) (in_range low high here)
+number_form low high here d = and_then (wanted here (as_number d)) (in_range low high here)
 
 abbrev pub depth_form : Path → Data → Result ℕ Complaint
 depth_form = number_form 0 32
@@ -63,7 +63,7 @@ none_unknown here (Some k) = complaint Unknown (key here k)
 
 -- an object that has these fields and no others
 abbrev pub fields_form : List Text → Path → Data → Result (Unit {0}) Complaint
-fields_form fields here d = given (wanted here (as_object d))
+fields_form fields here d = and_then (wanted here (as_object d))
     (λ ms. none_unknown here (unknown_key fields ms))
 
 abbrev pub present : Path → Option Data → Result Data Complaint
@@ -73,7 +73,7 @@ present there None = complaint Missing there
 -- a field that must be there, in its form
 abbrev pub required : {A : Type 0} → (Path → Data → Result A Complaint) → Text → Path → Data
     → Result A Complaint
-required form k here d = given (present (key here k) (get k d)) (form (key here k))
+required form k here d = and_then (present (key here k) (get k d)) (form (key here k))
 
 abbrev pub or_else : {A : Type 0} → A → (Data → Result A Complaint) → Option Data
     → Result A Complaint
@@ -101,32 +101,32 @@ abbrev pub entries_form : {A : Type 0} → (Path → Data → Result A Complaint
     → Result (List (Name × A)) Complaint
 entries_form form here no_members = Ok []
 entries_form form here (member k d ms) =
-    given (name_or_not (key here k) k) (λ n. given (form (key here k) d)
-    (λ a. given (entries_form form here ms) (λ as'. Ok ((n, a) ∷ as'))))
+    and_then (name_or_not (key here k) k) (λ n. and_then (form (key here k) d)
+    (λ a. and_then (entries_form form here ms) (λ as'. Ok ((n, a) ∷ as'))))
 
 -- an object whose keys are names, its number of members before them
 abbrev pub named_form : {A : Type 0} → (Path → Data → Result A Complaint) → ℕ → ℕ → Path → Data
     → Result (List (Name × A)) Complaint
 named_form form least most here d =
-    given (wanted here (as_object d)) (λ ms. given (counted least most here (member_count ms))
+    and_then (wanted here (as_object d)) (λ ms. and_then (counted least most here (member_count ms))
     (λ u. entries_form form here ms))
 
 abbrev pub items_form : {A : Type 0} → (Path → Data → Result A Complaint) → Path → ℕ → Items
     → Result (List A) Complaint
 items_form form here i no_items = Ok []
-items_form form here i (item d ds) = given (form (index here i) d)
-    (λ a. given (items_form form here (suc i) ds) (λ as'. Ok (a ∷ as')))
+items_form form here i (item d ds) = and_then (form (index here i) d)
+    (λ a. and_then (items_form form here (suc i) ds) (λ as'. Ok (a ∷ as')))
 
 -- an array, its number of items before them
 abbrev pub array_form : {A : Type 0} → (Path → Data → Result A Complaint) → ℕ → ℕ → Path → Data
     → Result (List A) Complaint
 array_form form least most here d =
-    given (wanted here (as_array d)) (λ ds. given (counted least most here (item_count ds))
+    and_then (wanted here (as_array d)) (λ ds. and_then (counted least most here (item_count ds))
     (λ u. items_form form here 0 ds))
 
 -- ---- values and feeds
 
-abbrev pub of_reading : Path → Result Value reading.Complaint → Result Value Complaint
+abbrev pub of_reading : Path → Result Value reading.ReadingComplaint → Result Value Complaint
 of_reading here (Ok v) = Ok v
 of_reading here (Err (not_text q)) = complaint NotText (place here q)
 of_reading here (Err (ragged q)) = complaint Ragged (place here q)
@@ -140,31 +140,32 @@ has k d = is_some (get k d)
 
 abbrev pub input_link : Path → Data → Result Link Complaint
 input_link here d =
-    given (fields_form (codes "input" ∷ []) here d) (λ u.
-    given (required name_form (codes "input") here d) (λ n. Ok (input n)))
+    and_then (fields_form (codes "input" ∷ []) here d) (λ u.
+    and_then (required name_form (codes "input") here d) (λ n. Ok (input n)))
 
 abbrev pub output_link : Path → Data → Result Link Complaint
 output_link here d =
-    given (fields_form (codes "step" ∷ codes "port" ∷ []) here d) (λ u.
-    given (required name_form (codes "step") here d) (λ s.
-    given (required name_form (codes "port") here d) (λ p. Ok (output s p))))
+    and_then (fields_form (codes "step" ∷ codes "port" ∷ []) here d) (λ u.
+    and_then (required name_form (codes "step") here d) (λ s.
+    and_then (required name_form (codes "port") here d) (λ p. Ok (output s p))))
 
 -- decided by the first key that is there of `input` and `step`; with neither it is an input
 abbrev pub link_form : Path → Data → Result Link Complaint
-link_form here d = if has (codes "input") d then input_link here d else (if has (codes "step") d then output_link here d else input_link here d)
+link_form here d = if has (codes "input") d then input_link here d
+    else (if has (codes "step") d then output_link here d else input_link here d)
 
 abbrev pub link_feed : Path → Data → Result Feed Complaint
-link_feed here d = given (link_form here d) (λ l. Ok (link l))
+link_feed here d = and_then (link_form here d) (λ l. Ok (link l))
 
 abbrev pub merge_feed : Path → Data → Result Feed Complaint
 merge_feed here d =
-    given (fields_form (codes "merge" ∷ []) here d) (λ u.
-    given (required (array_form link_form 1 16) (codes "merge") here d) (λ ls. Ok (merge ls)))
+    and_then (fields_form (codes "merge" ∷ []) here d) (λ u.
+    and_then (required (array_form link_form 1 16) (codes "merge") here d) (λ ls. Ok (merge ls)))
 
 abbrev pub constant_feed : Path → Data → Result Feed Complaint
 constant_feed here d =
-    given (fields_form (codes "constant" ∷ []) here d) (λ u.
-    given (required value_form (codes "constant") here d) (λ v. Ok (constant v)))
+    and_then (fields_form (codes "constant" ∷ []) here d) (λ u.
+    and_then (required value_form (codes "constant") here d) (λ v. Ok (constant v)))
 
 abbrev pub is_link : Data → Bool
 is_link d = has (codes "input") d || has (codes "step") d
@@ -172,25 +173,32 @@ is_link d = has (codes "input") d || has (codes "step") d
 -- decided by the first key that is there of `input`, `step`, `merge` and `constant`; with none of them it is an input
 abbrev pub feed_form : Path → Data → Result Feed Complaint
 feed_form here d =
-    if is_link d then link_feed here d else (if has (codes "merge") d then merge_feed here d else (if has (codes "constant") d then constant_feed here d else link_feed here d))
+    if is_link d then link_feed here d
+    else (if has (codes "merge") d then merge_feed here d
+    else (if has (codes "constant") d then constant_feed here d else link_feed here d))
 
 -- ---- strategies
 
 -- a node is decided by the first key that is there of `cross` and `dot`; with neither it is a cross
 abbrev pub node_form : Path → Members → Option (Result Strategies Complaint)
     → Option (Result Strategies Complaint) → Result Strategy Complaint
-node_form here ms (Some trees) other = given (fields_form (codes "cross" ∷ []) here (object ms)) (λ u. given trees (λ ts. Ok (cross ts)))
-node_form here ms None (Some trees) = given (fields_form (codes "dot" ∷ []) here (object ms)) (λ u. given trees (λ ts. Ok (dot ts)))
-node_form here ms None None = given (fields_form (codes "cross" ∷ []) here (object ms)) (λ u. complaint Missing (key here (codes "cross")))
+node_form here ms (Some trees) other = and_then (fields_form (codes "cross" ∷ []) here (object ms))
+    (λ u. and_then trees (λ ts. Ok (cross ts)))
+node_form here ms None (Some trees) = and_then (fields_form (codes "dot" ∷ []) here (object ms))
+    (λ u. and_then trees (λ ts. Ok (dot ts)))
+node_form here ms None None = and_then (fields_form (codes "cross" ∷ []) here (object ms))
+    (λ u. complaint Missing (key here (codes "cross")))
 
 abbrev mutual
   pub tree_form : Path → Data → Result Strategy Complaint
   tree_form here null = complaint WrongKind here
   tree_form here (boolean b) = complaint WrongKind here
   tree_form here (number n) = complaint WrongKind here
-  tree_form here (string s) = given (name_or_not here s) (λ n. Ok (port n))
+  tree_form here (string s) = and_then (name_or_not here s) (λ n. Ok (port n))
   tree_form here (array ds) = complaint WrongKind here
-  tree_form here (object ms) = node_form here ms (children_form (codes "cross") (key here (codes "cross")) ms) (children_form (codes "dot") (key here (codes "dot")) ms)
+  tree_form here (object ms) =
+      node_form here ms (children_form (codes "cross") (key here (codes "cross")) ms)
+      (children_form (codes "dot") (key here (codes "dot")) ms)
 
   -- the trees of the member at a key, if there is one; the path is that of the member
   pub children_form : Text → Path → Members → Option (Result Strategies Complaint)
@@ -203,56 +211,60 @@ abbrev mutual
   trees_form here (boolean b) = complaint WrongKind here
   trees_form here (number n) = complaint WrongKind here
   trees_form here (string s) = complaint WrongKind here
-  trees_form here (array ds) = given (counted 1 16 here (item_count ds)) (λ u. each_tree here 0 ds)
+  trees_form here (array ds) = and_then (counted 1 16 here (item_count ds))
+      (λ u. each_tree here 0 ds)
   trees_form here (object ms) = complaint WrongKind here
 
   pub each_tree : Path → ℕ → Items → Result Strategies Complaint
   each_tree here i no_items = Ok no_strategies
-  each_tree here i (item d ds) = given (tree_form (index here i) d)
-      (λ t. given (each_tree here (suc i) ds) (λ ts. Ok (strategy t ts)))
+  each_tree here i (item d ds) = and_then (tree_form (index here i) d)
+      (λ t. and_then (each_tree here (suc i) ds) (λ ts. Ok (strategy t ts)))
 
 -- ---- steps
 
 abbrev pub service_activity : Path → Data → Result Activity Complaint
 service_activity here d =
-    given (fields_form (codes "service" ∷ []) here d) (λ u.
-    given (required name_form (codes "service") here d) (λ n. Ok (service n)))
+    and_then (fields_form (codes "service" ∷ []) here d) (λ u.
+    and_then (required name_form (codes "service") here d) (λ n. Ok (service n)))
 
 abbrev pub nested_activity : Path → Data → Result Activity Complaint
 nested_activity here d =
-    given (fields_form (codes "flow" ∷ []) here d) (λ u.
-    given (required name_form (codes "flow") here d) (λ n. Ok (nested n)))
+    and_then (fields_form (codes "flow" ∷ []) here d) (λ u.
+    and_then (required name_form (codes "flow") here d) (λ n. Ok (nested n)))
 
 -- decided by the first key that is there of `service` and `flow`; with neither it is a service
 abbrev pub activity_form : Path → Data → Result Activity Complaint
-activity_form here d = if has (codes "service") d then service_activity here d else (if has (codes "flow") d then nested_activity here d else service_activity here d)
+activity_form here d = if has (codes "service") d then service_activity here d
+    else (if has (codes "flow") d then nested_activity here d else service_activity here d)
 
 abbrev pub step_input_form : Path → Data → Result StepInput Complaint
 step_input_form here d =
-    given (fields_form (codes "depth" ∷ codes "from" ∷ []) here d) (λ u.
-    given (required depth_form (codes "depth") here d) (λ depth.
-    given (required feed_form (codes "from") here d) (λ from. Ok (record { depth = depth; from = from }))))
+    and_then (fields_form (codes "depth" ∷ codes "from" ∷ []) here d) (λ u.
+    and_then (required depth_form (codes "depth") here d) (λ depth.
+    and_then (required feed_form (codes "from") here d)
+    (λ from. Ok (record { depth = depth; from = from }))))
 
 -- the names of an array, in byte order, each once
 abbrev pub names_form : Path → Data → Result (List Name) Complaint
-names_form here d = given (array_form name_form 0 16 here d) (λ ns. Ok (in_order name_cmp ns))
+names_form here d = and_then (array_form name_form 0 16 here d) (λ ns. Ok (in_order name_cmp ns))
 
 abbrev pub given_tree : Path → Data → Result (Option Strategy) Complaint
-given_tree here d = given (tree_form here d) (λ t. Ok (Some t))
+given_tree here d = and_then (tree_form here d) (λ t. Ok (Some t))
 
 abbrev pub step_fields : List Text
-step_fields = codes "inputs" ∷ codes "outputs" ∷ codes "strategy" ∷ codes "activities" ∷ codes "retries" ∷ codes "jobs" ∷ codes "after" ∷ []
+step_fields = codes "inputs" ∷ codes "outputs" ∷ codes "strategy" ∷ codes "activities"
+    ∷ codes "retries" ∷ codes "jobs" ∷ codes "after" ∷ []
 
 abbrev pub step_form : Path → Data → Result Step Complaint
 step_form here d =
-    given (fields_form step_fields here d) (λ u.
-    given (optional [] (named_form step_input_form 0 16) (codes "inputs") here d) (λ inputs.
-    given (optional [] (named_form depth_form 0 16) (codes "outputs") here d) (λ outputs.
-    given (optional None given_tree (codes "strategy") here d) (λ strategy.
-    given (required (array_form activity_form 1 8) (codes "activities") here d) (λ activities.
-    given (optional 0 (number_form 0 100) (codes "retries") here d) (λ retries.
-    given (optional 1 (number_form 1 64) (codes "jobs") here d) (λ jobs.
-    given (optional [] names_form (codes "after") here d) (λ after.
+    and_then (fields_form step_fields here d) (λ u.
+    and_then (optional [] (named_form step_input_form 0 16) (codes "inputs") here d) (λ inputs.
+    and_then (optional [] (named_form depth_form 0 16) (codes "outputs") here d) (λ outputs.
+    and_then (optional None given_tree (codes "strategy") here d) (λ strategy.
+    and_then (required (array_form activity_form 1 8) (codes "activities") here d) (λ activities.
+    and_then (optional 0 (number_form 0 100) (codes "retries") here d) (λ retries.
+    and_then (optional 1 (number_form 1 64) (codes "jobs") here d) (λ jobs.
+    and_then (optional [] names_form (codes "after") here d) (λ after.
     Ok (record {
       inputs = inputs;
       outputs = outputs;
@@ -267,19 +279,20 @@ step_form here d =
 
 abbrev pub flow_form : Path → Data → Result Flow Complaint
 flow_form here d =
-    given (fields_form (codes "inputs" ∷ codes "steps" ∷ codes "outputs" ∷ []) here d) (λ u.
-    given (optional [] (named_form depth_form 0 16) (codes "inputs") here d) (λ inputs.
-    given (optional [] (named_form step_form 0 1000) (codes "steps") here d) (λ steps.
-    given (required (named_form feed_form 0 16) (codes "outputs") here d) (λ outputs.
+    and_then (fields_form (codes "inputs" ∷ codes "steps" ∷ codes "outputs" ∷ []) here d) (λ u.
+    and_then (optional [] (named_form depth_form 0 16) (codes "inputs") here d) (λ inputs.
+    and_then (optional [] (named_form step_form 0 1000) (codes "steps") here d) (λ steps.
+    and_then (required (named_form feed_form 0 16) (codes "outputs") here d) (λ outputs.
     Ok (record { inputs = inputs; steps = steps; outputs = outputs })))))
 
 abbrev pub document_form : Path → Data → Result Document Complaint
 document_form here d =
-    given (fields_form (codes "taverna" ∷ codes "main" ∷ codes "flows" ∷ codes "inputs" ∷ []) here d) (λ u.
-    given (required (number_form 1 1) (codes "taverna") here d) (λ format.
-    given (required name_form (codes "main") here d) (λ main.
-    given (required (named_form flow_form 1 256) (codes "flows") here d) (λ flows.
-    given (optional [] (named_form value_form 0 16) (codes "inputs") here d) (λ inputs.
+    and_then (fields_form (codes "taverna" ∷ codes "main" ∷ codes "flows" ∷ codes "inputs" ∷ [])
+    here d) (λ u.
+    and_then (required (number_form 1 1) (codes "taverna") here d) (λ format.
+    and_then (required name_form (codes "main") here d) (λ main.
+    and_then (required (named_form flow_form 1 256) (codes "flows") here d) (λ flows.
+    and_then (optional [] (named_form value_form 0 16) (codes "inputs") here d) (λ inputs.
     Ok (record { format = format; main = main; flows = flows; inputs = inputs }))))))
 
 -- the document that a whole JSON tree is, or the first complaint about its form

@@ -96,7 +96,8 @@ all_integer here (negative z) = []
 all_integer here (float x) = wrong NotText here
 
 -- a list of which no item is wrong, if it has no depth
-abbrev pub all_ragged : Path → Result (Trees (Unit {0}) Scalar) reading.Complaint → List Complaint
+abbrev pub all_ragged : Path → Result (Trees (Unit {0}) Scalar) reading.ReadingComplaint
+    → List Complaint
 all_ragged here (Err c) = []
 all_ragged here (Ok vs) = wrong_unless (is_some (least_depth (list_value vs))) Ragged here
 
@@ -116,23 +117,32 @@ abbrev mutual
   all_values here i (item d ds) = all_value (index here i) d ++ all_values here (suc i) ds
 
 abbrev pub all_input_link : Path → Data → List Complaint
-all_input_link here d = all_fields (codes "input" ∷ []) here (all_required all_name (codes "input") here d) d
+all_input_link here d =
+    all_fields (codes "input" ∷ []) here (all_required all_name (codes "input") here d) d
 
 abbrev pub all_output_link : Path → Data → List Complaint
 all_output_link here d =
-    all_fields (codes "step" ∷ codes "port" ∷ []) here (all_required all_name (codes "step") here d ++ all_required all_name (codes "port") here d) d
+    all_fields (codes "step" ∷ codes "port" ∷ []) here
+    (all_required all_name (codes "step") here d ++ all_required all_name (codes "port") here d)
+    d
 
 abbrev pub all_link : Path → Data → List Complaint
-all_link here d = if has (codes "input") d then all_input_link here d else (if has (codes "step") d then all_output_link here d else all_input_link here d)
+all_link here d = if has (codes "input") d then all_input_link here d
+    else (if has (codes "step") d then all_output_link here d else all_input_link here d)
 
 abbrev pub all_merge : Path → Data → List Complaint
-all_merge here d = all_fields (codes "merge" ∷ []) here (all_required (all_array all_link 1 16) (codes "merge") here d) d
+all_merge here d =
+    all_fields (codes "merge" ∷ []) here
+    (all_required (all_array all_link 1 16) (codes "merge") here d) d
 
 abbrev pub all_constant : Path → Data → List Complaint
-all_constant here d = all_fields (codes "constant" ∷ []) here (all_required all_value (codes "constant") here d) d
+all_constant here d =
+    all_fields (codes "constant" ∷ []) here (all_required all_value (codes "constant") here d) d
 
 abbrev pub all_feed : Path → Data → List Complaint
-all_feed here d = if is_link d then all_link here d else (if has (codes "merge") d then all_merge here d else (if has (codes "constant") d then all_constant here d else all_link here d))
+all_feed here d = if is_link d then all_link here d
+    else (if has (codes "merge") d then all_merge here d
+    else (if has (codes "constant") d then all_constant here d else all_link here d))
 
 -- ---- strategies
 
@@ -140,7 +150,8 @@ abbrev pub all_node : Path → Members → Option (List Complaint) → Option (L
     → List Complaint
 all_node here ms (Some inside) other = all_unknown (codes "cross" ∷ []) here ms ++ inside
 all_node here ms None (Some inside) = all_unknown (codes "dot" ∷ []) here ms ++ inside
-all_node here ms None None = all_unknown (codes "cross" ∷ []) here ms ++ wrong Missing (key here (codes "cross"))
+all_node here ms None None = all_unknown (codes "cross" ∷ []) here ms
+    ++ wrong Missing (key here (codes "cross"))
 
 abbrev mutual
   pub all_tree : Path → Data → List Complaint
@@ -149,7 +160,9 @@ abbrev mutual
   all_tree here (number n) = wrong WrongKind here
   all_tree here (string s) = wrong_unless (is_name s) BadName here
   all_tree here (array ds) = wrong WrongKind here
-  all_tree here (object ms) = all_node here ms (all_children (codes "cross") (key here (codes "cross")) ms) (all_children (codes "dot") (key here (codes "dot")) ms)
+  all_tree here (object ms) =
+      all_node here ms (all_children (codes "cross") (key here (codes "cross")) ms)
+      (all_children (codes "dot") (key here (codes "dot")) ms)
 
   pub all_children : Text → Path → Members → Option (List Complaint)
   all_children k there no_members = None
@@ -176,17 +189,22 @@ all_of [] = []
 all_of (cs ∷ css) = cs ++ all_of css
 
 abbrev pub all_service : Path → Data → List Complaint
-all_service here d = all_fields (codes "service" ∷ []) here (all_required all_name (codes "service") here d) d
+all_service here d =
+    all_fields (codes "service" ∷ []) here (all_required all_name (codes "service") here d) d
 
 abbrev pub all_nested : Path → Data → List Complaint
-all_nested here d = all_fields (codes "flow" ∷ []) here (all_required all_name (codes "flow") here d) d
+all_nested here d =
+    all_fields (codes "flow" ∷ []) here (all_required all_name (codes "flow") here d) d
 
 abbrev pub all_activity : Path → Data → List Complaint
-all_activity here d = if has (codes "service") d then all_service here d else (if has (codes "flow") d then all_nested here d else all_service here d)
+all_activity here d = if has (codes "service") d then all_service here d
+    else (if has (codes "flow") d then all_nested here d else all_service here d)
 
 abbrev pub all_step_input : Path → Data → List Complaint
 all_step_input here d =
-    all_fields (codes "depth" ∷ codes "from" ∷ []) here (all_required all_depth (codes "depth") here d ++ all_required all_feed (codes "from") here d) d
+    all_fields (codes "depth" ∷ codes "from" ∷ []) here
+    (all_required all_depth (codes "depth") here d
+    ++ all_required all_feed (codes "from") here d) d
 
 abbrev pub all_step : Path → Data → List Complaint
 all_step here d =

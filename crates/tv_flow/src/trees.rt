@@ -3,7 +3,7 @@ ghost use Rattle.std.specs.Prelude.{◌≡◌, ◌<◌, ◌^◌, ◌&&◌, IfOk,
 ghost use Rattle.std.specs.List.{list_all};
 ghost use Rattle.serde_json.specs.View.{view as json_view, items_view as json_items};
 ghost use Rattle.tv_value.specs.Views.{strategy_view, strategies_view};
-ghost use Rattle.tv_flow.specs.Complaints.{given};
+ghost use Rattle.tv_flow.specs.Complaints.{and_then};
 ghost use Rattle.tv_value.specs.Strategies.{cross, dot};
 ghost use Rattle.tv_flow.specs.Branch.{branch};
 ghost use Rattle.tv_flow.specs.PathViews.{at_view};
@@ -44,7 +44,7 @@ pub(crate) fn tree<'a>(alloc: Global, json: &Json, at: &'a At<'a>) -> Result<Tre
 #[cycle(trees)]
 fn cross_node<'a>(alloc: Global, json: &Json, at: &'a At<'a>) -> Result<Tree, FormFault>
     ensures read { IsForm strategy_view result
-        (given (branch (codes "cross") (at_view at.now) (json_view json.now))
+        (and_then (branch (codes "cross") (at_view at.now) (json_view json.now))
         (λ ts. Ok (cross ts))) }
     ensures kept { IfOk result (λ t. is_tree (strategy_view t) ≡ true) }
 {
@@ -55,7 +55,8 @@ fn cross_node<'a>(alloc: Global, json: &Json, at: &'a At<'a>) -> Result<Tree, Fo
 #[cycle(trees)]
 fn dot_node<'a>(alloc: Global, json: &Json, at: &'a At<'a>) -> Result<Tree, FormFault>
     ensures read { IsForm strategy_view result
-        (given (branch (codes "dot") (at_view at.now) (json_view json.now)) (λ ts. Ok (dot ts))) }
+        (and_then (branch (codes "dot") (at_view at.now) (json_view json.now))
+        (λ ts. Ok (dot ts))) }
     ensures kept { IfOk result (λ t. is_tree (strategy_view t) ≡ true) }
 {
     let trees = children(alloc, json, at, "dot")?;

@@ -8,3 +8,9 @@ pub mod OfRecalls
 pub mod OfOpening
 pub mod OfEnds
 pub mod OfMainEnd
+pub mod views
+pub mod runs
+pub mod seats
+pub mod stands
+pub mod firsts
+pub mod tries

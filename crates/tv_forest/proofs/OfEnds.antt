@@ -4,6 +4,7 @@ use Rattle.std.proofs.Common.{ap, subst, sym, ◌∙◌}
 use Rattle.std.proofs.lemmas.Bool.{false_from_ne_true}
 use Rattle.std.proofs.lemmas.Option.{none-some, same_Some}
 use Rattle.tv_lemmas.proofs.Options.{is_some-some}
+use Rattle.tv_lemmas.proofs.Lists.{in-front, get-map}
 use Rattle.tv_value.specs.Nested.{Place}
 use Rattle.tv_value.specs.Orders.{same_job}
 use Rattle.tv_value.specs.Values.{Name}
@@ -22,14 +23,13 @@ use Rattle.tv_framing.proofs.OfNumbers.{jobs-differ}
 use Rattle.tv_seats.specs.Seats.{Seat, staged, with_stage}
 use Rattle.tv_seats.specs.declared.stage.Stage.TheVariants as stage
 use Rattle.tv_seats.proofs.Staging.{staged-here, staged-other}
-use Rattle.tv_viewed.specs.InRun.{IsJobThere}
-use Rattle.tv_going.proofs.OfElsewhere.{others-are_elsewhere}
-use Rattle.tv_seated.specs.GoingOn.{MaySettle}
-use Rattle.tv_seated.specs.Seated.{HasEnded, Sit, spot_of}
-use Rattle.tv_seated.proofs.OfEntries.{end-settles_job, job-settles}
-use Rattle.tv_seated.proofs.OfEnds.{ends-settled}
-use Rattle.tv_seated.proofs.OfLists.{get-image, in-front}
-use Rattle.tv_forest.specs.Entries.{Ending, shut, told, with_instance}
+use Rattle.tv_forest.specs.views.InRun.{IsJobThere}
+use Rattle.tv_forest.proofs.runs.OfElsewhere.{others-are_elsewhere}
+use Rattle.tv_forest.specs.seats.GoingOn.{MaySettle}
+use Rattle.tv_forest.specs.seats.Seated.{HasEnded, Sit, spot_of}
+use Rattle.tv_forest.proofs.seats.OfEntries.{end-settles_job, job-settles}
+use Rattle.tv_forest.proofs.seats.OfEnds.{ends-settled}
+use Rattle.tv_forest.specs.Entries.{Ending, shut, with_view, with_instance}
 use Rattle.tv_forest.specs.Forest.{Instance, Instances, IsAt, IsJobAt, IsOpenAt, Stand}
 use Rattle.tv_forest.proofs.OfEntries.{On, by-view, its-seat, same-flow, sit}
 use Rattle.tv_forest.proofs.OfInstances.{Becomes, IsOpenNumber, Later, StaysThen, job-was, later-itself, later-shut, one-job, sits, stand-then}
@@ -55,7 +55,7 @@ module _ (gives : Giving) (d : Document) (levels : Flow → Name → ℕ) (past 
   us = with_stage n stage.Settled x.seats ++ ns
 
   abbrev x' : Instance
-  x' = told x w us
+  x' = with_view x w us
 
   abbrev zs : Instances
   zs = with_instance xs i x'
@@ -211,7 +211,7 @@ module _ (gives : Giving) (d : Document) (levels : Flow → Name → ℕ) (past 
 
   listed : (l : ℕ) (t : Seat) → slice_get x.seats l ≡ Some t → slice_get v.jobs l ≡ Some (spot_of v.flow.steps t)
   listed l t f =
-      ap (λ ps. slice_get ps l) (sym its_sit.jobs) ∙ get-image (spot_of v.flow.steps) x.seats l t f
+      ap (λ ps. slice_get ps l) (sym its_sit.jobs) ∙ get-map (spot_of v.flow.steps) x.seats l t f
 
   one-seat : (l : ℕ) (t : Seat) → slice_get x.seats l ≡ Some t
       → spot_of v.flow.steps t ≡ spot_of v.flow.steps s → l ≡ n
@@ -277,9 +277,9 @@ pub ending-shut_first : (gives : Giving) (d : Document) (levels : Flow → Name 
     (nests : s.stage ≡ stage.Nested k) (y_at : IsAt xs k y) (can : can_end (meaning gives d) past j.name ≡ true)
     (goes : On gives d levels past xs stand i n x s j v is is_open w (λ l. gave l s.place j.result) ns)
     → Stand gives d levels (ended j.name ∷ past)
-    (with_instance (with_instance xs k (shut y)) i (told x w (with_stage n stage.Settled x.seats ++ ns)))
+    (with_instance (with_instance xs k (shut y)) i (with_view x w (with_stage n stage.Settled x.seats ++ ns)))
 ending-shut_first gives d levels past xs stand i n x s j v is is_open k y w ns nests y_at can goes =
     subst (Stand gives d levels (ended j.name ∷ past))
-    (set-swap xs i k (told x w (with_stage n stage.Settled x.seats ++ ns)) (shut y)
+    (set-swap xs i k (with_view x w (with_stage n stage.Settled x.seats ++ ns)) (shut y)
     (differ gives d levels past xs stand i n x s j v is is_open k y w ns nests y_at can goes))
     (ends gives d levels past xs stand i n x s j v is is_open k y w ns nests y_at can goes)

@@ -5,7 +5,7 @@ use Rattle.tv_value.specs.Nested.{Place}
 use Rattle.tv_value.specs.Values.{JobName, Name}
 use Rattle.tv_gate.specs.Outcomes.{Giving}
 use Rattle.tv_flow.specs.Flows.{Document, Flow}
-use Rattle.tv_depths.specs.Steps.{spot}
+use Rattle.tv_instance.specs.Steps.{spot}
 use Rattle.tv_instance.specs.Events as events
 use Rattle.tv_instance.specs.Events.{Event, fault_set, gave, took}
 use Rattle.tv_model.specs.Jobs.{Job}
@@ -21,15 +21,15 @@ use Rattle.tv_seats.specs.Seats.{Seat, with_stage}
 use Rattle.tv_seats.specs.Stages.{is_nested}
 use Rattle.tv_seats.specs.declared.stage.Stage.{Stage}
 use Rattle.tv_seats.specs.declared.stage.Stage.TheVariants as stage
-use Rattle.tv_viewed.specs.InRun.{IsJobThere}
-use Rattle.tv_viewed.specs.Stated.{entry_of}
-use Rattle.tv_viewed.proofs.OfLaws.{levels-settle_as_told}
-use Rattle.tv_going.specs.Elsewhere.{name_in}
-use Rattle.tv_seated.specs.GoingOn.{GoesOn, IsSeatOf, MaySettle}
-use Rattle.tv_seated.specs.Seated.{IsNextTry, Sit, spot_of}
-use Rattle.tv_seated.proofs.OfEntries.{handed_out-again, handed_out-first, job-settles, put_aside, tried_again}
-use Rattle.tv_seated.proofs.OfRuns.{level_settles}
-use Rattle.tv_forest.specs.Entries.{GoesOnAs, GoesOnWith, HandingOutAgain, HandingOutFirst, LevelSettling, Settling, TryingAgain, seated, told, with_instance}
+use Rattle.tv_forest.specs.views.InRun.{IsJobThere}
+use Rattle.tv_forest.specs.views.Stated.{entry_of}
+use Rattle.tv_forest.proofs.views.OfLaws.{levels-settle_as_told}
+use Rattle.tv_forest.specs.runs.Elsewhere.{name_in}
+use Rattle.tv_forest.specs.seats.GoingOn.{GoesOn, IsSeatOf, MaySettle}
+use Rattle.tv_forest.specs.seats.Seated.{IsNextTry, Sit, spot_of}
+use Rattle.tv_forest.proofs.seats.OfEntries.{handed_out-again, handed_out-first, job-settles, put_aside, tried_again}
+use Rattle.tv_forest.proofs.seats.OfRuns.{level_settles}
+use Rattle.tv_forest.specs.Entries.{GoesOnAs, GoesOnWith, HandingOutAgain, HandingOutFirst, LevelSettling, Settling, TryingAgain, seated, with_view, with_instance}
 use Rattle.tv_forest.specs.Forest.{Instance, Instances, IsAt, IsJobAt, Stand, Stays}
 use Rattle.tv_forest.proofs.OfInstances.{sits}
 use Rattle.tv_forest.proofs.OfOne.{one-goes_on}
@@ -52,7 +52,7 @@ module _ (x : Instance) (us : List Seat) (spots : Spots x.seats us) (were : Were
   }
 
   -- and told something
-  pub told-goes_on : (v w : View) → x.view ≡ Some v → w.inputs ≡ v.inputs → GoesOnAs x (told x w us)
+  pub told-goes_on : (v w : View) → x.view ≡ Some v → w.inputs ≡ v.inputs → GoesOnAs x (with_view x w us)
   told-goes_on v w is_open i = record {
     name = refl;
     flow = refl;
@@ -127,9 +127,9 @@ module _ (gives : Giving) (d : Document) (levels : Flow → Name → ℕ) (past 
     -- and of which it is
     pub told-on : (w : View) (c : Name → Event) (ns : List Seat) → On w c ns
         → Sit gives d (e ∷ past) x.name (levels x.flow) w (us ++ ns)
-        → Stand gives d levels (e ∷ past) (with_instance xs i (told x w (us ++ ns)))
+        → Stand gives d levels (e ∷ past) (with_instance xs i (with_view x w (us ++ ns)))
     told-on w c ns on now =
-        one-goes_on gives d levels past xs stand e i x (told x w (us ++ ns)) p.0 p.1 is.instance then-named legal
+        one-goes_on gives d levels past xs stand e i x (with_view x w (us ++ ns)) p.0 p.1 is.instance then-named legal
         no_opening no_end
         (told-goes_on x (us ++ ns) (spots-behind x.seats us ns spots)
         (were-behind x.seats us ns on.new.waiting were) (stay-behind x.seats us ns spots stay) v w is_open
@@ -143,14 +143,14 @@ module _ (gives : Giving) (d : Document) (levels : Flow → Name → ℕ) (past 
       → is_legal_after gives m past (handed_out j.name a t) ≡ true
       → On w (λ k. took k s.place) []
       → Stand gives d levels (handed_out j.name a t ∷ past)
-      (with_instance xs i (told x w (with_stage n (stage.Out a t) x.seats)))
+      (with_instance xs i (with_view x w (with_stage n (stage.Out a t) x.seats)))
   first-out a t w waits next legal on =
       let e = handed_out j.name a t in
       let us = with_stage n (stage.Out a t) x.seats in
       let now =
       handed_out-first gives d past x.name (levels x.flow) v x.seats sit j n s.stage its-seat waits a t next legal w
       (by-view w (λ k. took k s.place) [] on) in
-      subst (λ l. Stand gives d levels (e ∷ past) (with_instance xs i (told x w l))) (append-nil us)
+      subst (λ l. Stand gives d levels (e ∷ past) (with_instance xs i (with_view x w l))) (append-nil us)
       (told-on e refl legal (λ k. refl) (λ k. refl) (ap is_nested waits) (stage.Out a t) refl w (λ k. took k s.place) [] on
       (subst (Sit gives d (e ∷ past) x.name (levels x.flow) w) (sym (append-nil us)) now))
 
@@ -193,7 +193,7 @@ module _ (gives : Giving) (d : Document) (levels : Flow → Name → ℕ) (past 
       → MaySettle j s.stage e → ((k : JobName) → is_ended_entry k e ≡ false)
       → is_legal_after gives m past e ≡ true → is_settled (e ∷ past) j ≡ true
       → On w (λ k. gave k s.place j.result) ns
-      → Stand gives d levels (e ∷ past) (with_instance xs i (told x w (with_stage n stage.Settled x.seats ++ ns)))
+      → Stand gives d levels (e ∷ past) (with_instance xs i (with_view x w (with_stage n stage.Settled x.seats ++ ns)))
   settles e w ns may no_end legal settled on =
       let r = plain-entry e no_end s.stage may in
       told-on e r.named legal r.opens_none no_end r.plain stage.Settled refl w (λ k. gave k s.place j.result) ns on
@@ -262,11 +262,11 @@ level-entry v I (fault_set s q f) c = record {
 module _ (gives : Giving) (d : Document) (levels : Flow → Name → ℕ) (past : History) (xs : Instances)
     (stand : Stand gives d levels past xs) (i : ℕ) (x : Instance) (v w : View) (e : Event) (ns : List Seat)
     (at : IsAt xs i x) (is_open : x.view ≡ Some v) (can : CanSettle v e) (on : GoesOn d (levels x.flow) v w e ns) where
-  level-settles : Stand gives d levels (entry_of x.name e ∷ past) (with_instance xs i (told x w (x.seats ++ ns)))
+  level-settles : Stand gives d levels (entry_of x.name e ∷ past) (with_instance xs i (with_view x w (x.seats ++ ns)))
   level-settles =
       let h = sits gives d levels past xs stand i x v at is_open in
       let r = level-entry v x.name e can in
-      one-goes_on gives d levels past xs stand (entry_of x.name e) i x (told x w (x.seats ++ ns)) r.step r.place at
+      one-goes_on gives d levels past xs stand (entry_of x.name e) i x (with_view x w (x.seats ++ ns)) r.step r.place at
       r.named ((levels-settle_as_told gives d past x.name (levels x.flow) v h.1.in_run).settles e can) r.opens_none
       r.ends_none
       (told-goes_on x (x.seats ++ ns) (spots-behind x.seats x.seats ns (spots-same x.seats))

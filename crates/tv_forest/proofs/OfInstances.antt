@@ -4,6 +4,7 @@ use Rattle.std.specs.Option.{option_map_or}
 use Rattle.std.specs.Prelude.{◌≡◌, refl, ℕ, suc, ◌||◌, ◌∷◌, [], List, false, true, Some, map, slice_get}
 use Rattle.std.proofs.Common.{ap, subst, sym, ◌∙◌}
 use Rattle.std.proofs.lemmas.Option.{none-some}
+use Rattle.tv_lemmas.specs.Members.{In}
 use Rattle.tv_value.specs.Nested.{Place}
 use Rattle.tv_value.specs.Values.{JobName, Name, Value}
 use Rattle.tv_gate.specs.Outcomes.{Giving}
@@ -11,7 +12,6 @@ use Rattle.tv_flow.specs.Flows.{Document, Flow}
 use Rattle.tv_model.specs.Jobs.{Job}
 use Rattle.tv_model.specs.Made.{Meaning}
 use Rattle.tv_model.specs.Meanings.{meaning}
-use Rattle.tv_model.specs.Members.{In}
 use Rattle.tv_model.proofs.Tests.{both_true}
 use Rattle.tv_history.specs.Entries.{Entry, History, is_opened_entry}
 use Rattle.tv_history.specs.Histories.{is_legal, is_legal_after}
@@ -19,8 +19,8 @@ use Rattle.tv_history.proofs.Ready.{AnyNumber, are-jobs, document-whole}
 use Rattle.tv_framing.specs.Views.{View}
 use Rattle.tv_seats.specs.Seats.{Seat}
 use Rattle.tv_seats.specs.declared.stage.Stage.TheVariants as stage
-use Rattle.tv_viewed.specs.InRun.{IsJobThere, IsOfJob}
-use Rattle.tv_seated.specs.Seated.{Sit, spot_of}
+use Rattle.tv_forest.specs.views.InRun.{IsJobThere, IsOfJob}
+use Rattle.tv_forest.specs.seats.Seated.{Sit, spot_of}
 use Rattle.tv_forest.specs.Entries.{shut}
 use Rattle.tv_forest.specs.Forest.{Instance, Instances, IsAt, IsJobAt, IsMain, IsNamed, IsOfSeat, IsOpenAt, IsOpened, Stand, Stays}
 use Rattle.tv_forest.proofs.OfLists.{no-last, one-at}

@@ -66,10 +66,6 @@ module _ {A : Type 0} where
 
   -- ---- one more
 
-  pub at-last : (xs : List A) (x : A) → slice_get (xs ++ x ∷ []) (length xs) ≡ Some x
-  at-last [] x = refl
-  at-last (z ∷ xs) x = at-last xs x
-
   pub of-last : (xs : List A) (y : A) (n : ℕ) (x : A) → slice_get (xs ++ y ∷ []) n ≡ Some x
       → (slice_get xs n ≡ Some x) ⊎ ((n ≡ length xs) × (y ≡ x))
   of-last [] y zero x e = inr (refl, same_Some y x e)

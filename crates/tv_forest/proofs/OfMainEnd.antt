@@ -9,7 +9,7 @@ use Rattle.tv_value.specs.Orders.{same_job}
 use Rattle.tv_value.specs.Values.{JobName, Name}
 use Rattle.tv_gate.specs.Outcomes.{Giving}
 use Rattle.tv_flow.specs.Flows.{Document, Flow}
-use Rattle.tv_depths.specs.Delivered.{StepMeaning}
+use Rattle.tv_instance.specs.Delivered.{StepMeaning}
 use Rattle.tv_model.specs.Jobs.{Job}
 use Rattle.tv_model.specs.Made.{Meaning}
 use Rattle.tv_model.specs.Meanings.{meaning}
@@ -20,10 +20,10 @@ use Rattle.tv_history.specs.Histories.{can_end}
 use Rattle.tv_framing.specs.Views.{View}
 use Rattle.tv_seats.specs.Seats.{Seat}
 use Rattle.tv_seats.specs.declared.stage.Stage.TheVariants as stage
-use Rattle.tv_viewed.specs.InRun.{IsJobThere}
-use Rattle.tv_going.proofs.OfElsewhere.{main-ends_elsewhere}
-use Rattle.tv_seated.specs.Seated.{HasEnded, spot_of}
-use Rattle.tv_seated.proofs.OfEnds.{ends-settled}
+use Rattle.tv_forest.specs.views.InRun.{IsJobThere}
+use Rattle.tv_forest.proofs.runs.OfElsewhere.{main-ends_elsewhere}
+use Rattle.tv_forest.specs.seats.Seated.{HasEnded, spot_of}
+use Rattle.tv_forest.proofs.seats.OfEnds.{ends-settled}
 use Rattle.tv_forest.specs.Entries.{EndingMain, NoneOpenAtEnd, shut, with_instance}
 use Rattle.tv_forest.specs.Forest.{Instance, Instances, IsAt, IsOpenAt, Stand, Stays}
 use Rattle.tv_forest.proofs.OfInstances.{Becomes, Later, StaysThen, job-named, later-itself, later-shut, stand-then}

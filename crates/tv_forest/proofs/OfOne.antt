@@ -7,15 +7,15 @@ use Rattle.tv_value.specs.Nested.{Place}
 use Rattle.tv_value.specs.Values.{JobName, Name, Value}
 use Rattle.tv_gate.specs.Outcomes.{Giving}
 use Rattle.tv_flow.specs.Flows.{Document, Flow}
-use Rattle.tv_depths.specs.Steps.{spot}
+use Rattle.tv_instance.specs.Steps.{spot}
 use Rattle.tv_model.specs.Meanings.{meaning}
 use Rattle.tv_history.specs.Entries.{Entry, History, is_ended_entry, is_opened_entry}
 use Rattle.tv_history.specs.Histories.{is_legal_after}
 use Rattle.tv_framing.specs.Views.{View}
-use Rattle.tv_going.specs.Elsewhere.{IsElsewhere, name_in}
-use Rattle.tv_going.proofs.OfElsewhere.{others-are_elsewhere}
-use Rattle.tv_seated.proofs.OfRuns.{elsewhere-stays}
-use Rattle.tv_seated.proofs.OfEnds.{ended_stays}
+use Rattle.tv_forest.specs.runs.Elsewhere.{IsElsewhere, name_in}
+use Rattle.tv_forest.proofs.runs.OfElsewhere.{others-are_elsewhere}
+use Rattle.tv_forest.proofs.seats.OfRuns.{elsewhere-stays}
+use Rattle.tv_forest.proofs.seats.OfEnds.{ended_stays}
 use Rattle.tv_forest.specs.Entries.{GoesOnAs, OneGoesOn, with_instance}
 use Rattle.tv_forest.specs.Forest.{Instance, Instances, IsAt, IsOpenAt, Stand, Stays}
 use Rattle.tv_forest.proofs.OfInstances.{Becomes, Later, StaysThen, later-itself, stand-then}

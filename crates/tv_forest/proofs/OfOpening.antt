@@ -3,19 +3,20 @@ use Rattle.std.specs.List.{list_any}
 use Rattle.std.specs.Prelude.{◌≡◌, refl, ℕ, suc, ◌<◌, ◌⊎◌, [], ◌∷◌, ◌++◌, List, Option, None, Some, true, false, is_some, length, slice_get}
 use Rattle.std.proofs.Common.{ap, inl, inr, length-set, subst, sym, ◌∙◌}
 use Rattle.std.proofs.lemmas.Option.{same_Some, slice_get_within}
+use Rattle.tv_lemmas.specs.Members.{In}
 use Rattle.tv_lemmas.proofs.Cases.{on_either, on_or}
+use Rattle.tv_lemmas.proofs.Lists.{in-front, get-end}
 use Rattle.tv_value.specs.Nested.{Place}
 use Rattle.tv_value.specs.Orders.{same_job}
 use Rattle.tv_value.specs.Values.{JobName, Name}
 use Rattle.tv_value.proofs.OfJobNames.{same_job_decides}
 use Rattle.tv_gate.specs.Outcomes.{Giving}
 use Rattle.tv_flow.specs.Flows.{Document, Flow}
-use Rattle.tv_depths.specs.Steps.{spot}
+use Rattle.tv_instance.specs.Steps.{spot}
 use Rattle.tv_instance.specs.Events.{took}
 use Rattle.tv_model.specs.Jobs.{Job}
 use Rattle.tv_model.specs.Made.{Meaning}
 use Rattle.tv_model.specs.Meanings.{meaning}
-use Rattle.tv_model.specs.Members.{In}
 use Rattle.tv_model.proofs.Tests.{both_true, true≠false}
 use Rattle.tv_history.specs.Entries.{Entry, History, is_ended_entry, is_opened_entry, opened}
 use Rattle.tv_history.specs.Histories as histories
@@ -26,18 +27,17 @@ use Rattle.tv_seats.specs.Stages.{is_nested}
 use Rattle.tv_seats.specs.declared.stage.Stage.{Stage}
 use Rattle.tv_seats.specs.declared.stage.Stage.TheVariants as stage
 use Rattle.tv_seats.proofs.Staging.{staged-here}
-use Rattle.tv_viewed.specs.InRun.{IsOfJob}
-use Rattle.tv_going.proofs.OfSettled.{settled-by_end}
-use Rattle.tv_going.proofs.OfElsewhere.{others-are_elsewhere}
-use Rattle.tv_seated.specs.Seated.{IsStage, Sit, spot_of}
-use Rattle.tv_seated.proofs.OfEntries.{opened-after_tries, opened_first}
-use Rattle.tv_seated.proofs.OfRuns.{sit-where_opened}
-use Rattle.tv_seated.proofs.OfLists.{in-front}
-use Rattle.tv_forest.specs.Entries.{IsFresh, IsTakenFor, Opening, told, with_instance}
+use Rattle.tv_forest.specs.views.InRun.{IsOfJob}
+use Rattle.tv_forest.proofs.runs.OfSettled.{settled-by_end}
+use Rattle.tv_forest.proofs.runs.OfElsewhere.{others-are_elsewhere}
+use Rattle.tv_forest.specs.seats.Seated.{IsStage, Sit, spot_of}
+use Rattle.tv_forest.proofs.seats.OfEntries.{opened-after_tries, opened_first}
+use Rattle.tv_forest.proofs.seats.OfRuns.{sit-where_opened}
+use Rattle.tv_forest.specs.Entries.{IsFresh, IsTakenFor, Opening, with_view, with_instance}
 use Rattle.tv_forest.specs.Forest.{Instance, Instances, IsAt, IsJobAt, IsNamed, IsOpenAt, IsOpened, Stand, Stays}
 use Rattle.tv_forest.proofs.OfEntries.{by-view, its-seat, same-flow, sit}
 use Rattle.tv_forest.proofs.OfInstances.{Becomes, Later, StaysThen, later-itself, main-then, named-then, opened-then}
-use Rattle.tv_forest.proofs.OfLists.{at-each, at-last, at-set, of-last, of-set, same-number, to-set}
+use Rattle.tv_forest.proofs.OfLists.{at-each, at-set, of-last, of-set, same-number, to-set}
 use Rattle.tv_forest.proofs.OfOne.{stays-elsewhere}
 use Rattle.tv_forest.proofs.OfSeats.{Spots, number_of, other-seat, spots-staged, stay-staged, this-seat, this-stage, waiting-not_nested}
 
@@ -62,7 +62,7 @@ module _ (gives : Giving) (d : Document) (levels : Flow → Name → ℕ) (past 
   us = with_stage n nests x.seats
 
   abbrev x' : Instance
-  x' = told x w us
+  x' = with_view x w us
 
   abbrev zs : Instances
   zs = with_instance xs i x'
@@ -147,7 +147,7 @@ module _ (gives : Giving) (d : Document) (levels : Flow → Name → ℕ) (past 
   x-there = at-set xs i x x' is.instance
 
   y-there : IsAt ys (length xs) y
-  y-there = subst (λ k. IsAt ys k y) as-long (at-last zs y)
+  y-there = subst (λ k. IsAt ys k y) as-long (get-end zs y)
 
   spots : Spots x.seats us
   spots = spots-staged x.seats n s nests is.seat

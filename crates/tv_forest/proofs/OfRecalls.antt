@@ -15,15 +15,15 @@ use Rattle.tv_seats.specs.Seats.{Seat, back, staged}
 use Rattle.tv_seats.specs.Stages as stages
 use Rattle.tv_seats.specs.declared.stage.Stage.{Stage}
 use Rattle.tv_seats.specs.declared.stage.Stage.TheVariants as stage
-use Rattle.tv_seated.specs.Seated.{HasEnded}
-use Rattle.tv_seated.proofs.OfEnds.{ended_stays}
-use Rattle.tv_seated.proofs.OfRuns.{recalled_all}
-use Rattle.tv_seated.proofs.OfLists.{get-image, of-image}
+use Rattle.tv_forest.specs.seats.Seated.{HasEnded}
+use Rattle.tv_forest.proofs.seats.OfEnds.{ended_stays}
+use Rattle.tv_forest.proofs.seats.OfRuns.{recalled_all}
 use Rattle.tv_forest.specs.Entries.{Recalling, called_back}
 use Rattle.tv_forest.specs.Forest.{Instance, Instances, IsAt, IsOpenAt, Stand, Stays}
 use Rattle.tv_forest.proofs.OfInstances.{Becomes, Later, StaysThen, stand-then}
 use Rattle.tv_forest.proofs.OfLists.{one-at}
 use Rattle.tv_forest.proofs.OfSeats.{WereNested, not-nested}
+use Rattle.tv_lemmas.proofs.Lists.{of-image, get-map}
 
 -- ---- one instance
 
@@ -51,9 +51,9 @@ later-back ys x = record {
   name = refl;
   flow = refl;
   views = λ w e. (w, e, refl);
-  spots = λ n s e. (back s, get-image back x.seats n s e, refl, refl);
+  spots = λ n s e. (back s, get-map back x.seats n s e, refl, refl);
   still = λ n k s t e f h is.
-      ap (λ (u : Seat). u.stage) (one-at (map back x.seats) n t (back s) f (get-image back x.seats n s e))
+      ap (λ (u : Seat). u.stage) (one-at (map back x.seats) n t (back s) f (get-map back x.seats n s e))
       ∙ ap stages.called_back h;
 }
 
@@ -79,7 +79,7 @@ module _ (gives : Giving) (d : Document) (levels : Flow → Name → ℕ) (past 
   legal = both_true (nat_lt 0 k) (k == out_count m past) (lt-ltb 0 k some) (eq-eqb k (out_count m past) all)
 
   on : (i : ℕ) (x : Instance) → IsAt xs i x → Becomes gives d levels past xs stand e ys i x
-  on i x at = record { after = called_back x; there = get-image called_back xs i x at; later = later-back ys x }
+  on i x at = record { after = called_back x; there = get-map called_back xs i x at; later = later-back ys x }
 
   stays : (x : Instance) (o : Option View) → Stays gives d levels past x o
       → Stays gives d levels (e ∷ past) (called_back x) o
@@ -104,7 +104,7 @@ module _ (gives : Giving) (d : Document) (levels : Flow → Name → ℕ) (past 
   open-then : (n : JobName) (i : ℕ) → IsOpenAt xs i n → IsOpenAt ys i n
   open-then n i o = record {
     instance = called_back o.instance;
-    there = get-image called_back xs i o.instance o.there;
+    there = get-map called_back xs i o.instance o.there;
     is_its = o.is_its;
     is_open = o.is_open;
   }

@@ -2,13 +2,14 @@
 use Rattle.std.specs.Prelude.{◌≡◌, ◌≢◌, refl, ℕ, false, List, ◌++◌, Some, slice_get}
 use Rattle.std.proofs.Common.{ap, subst, sym, ◌∙◌}
 use Rattle.tv_lemmas.proofs.Cases.{on_either}
+use Rattle.tv_lemmas.proofs.Lists.{in-front}
 use Rattle.tv_model.proofs.Tests.{true≠false}
 use Rattle.tv_seats.specs.Seats.{Seat, staged, with_stage}
 use Rattle.tv_seats.specs.Stages.{is_nested}
 use Rattle.tv_seats.specs.declared.stage.Stage.{Stage}
 use Rattle.tv_seats.specs.declared.stage.Stage.TheVariants as stage
 use Rattle.tv_seats.proofs.Staging.{staged-here, staged-other}
-use Rattle.tv_seated.proofs.OfLists.{in-either, in-front}
+use Rattle.tv_forest.proofs.seats.OfLists.{in-either}
 use Rattle.tv_forest.proofs.OfLists.{one-at, same-number}
 
 -- each job sits where it sat

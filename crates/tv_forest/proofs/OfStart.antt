@@ -9,9 +9,9 @@ use Rattle.tv_model.proofs.Tests.{true≠false}
 use Rattle.tv_framing.specs.Views.{View}
 use Rattle.tv_seats.specs.Seats.{Seat}
 use Rattle.tv_seats.specs.declared.stage.Stage.TheVariants as stage
-use Rattle.tv_going.specs.Stated.{IsMainFlow}
-use Rattle.tv_seated.specs.GoingOn.{IsNew}
-use Rattle.tv_seated.proofs.OfRuns.{sit-at_start}
+use Rattle.tv_forest.specs.runs.Stated.{IsMainFlow}
+use Rattle.tv_forest.specs.seats.GoingOn.{IsNew}
+use Rattle.tv_forest.proofs.seats.OfRuns.{sit-at_start}
 use Rattle.tv_forest.specs.Entries.{Starting, main_of}
 use Rattle.tv_forest.specs.Forest.{Instance, Instances, IsAt, Stand, Stays}
 use Rattle.tv_forest.proofs.OfSeats.{waiting-not_nested}

@@ -4,7 +4,7 @@ use Rattle.tv_value.specs.Nested.{Place}
 use Rattle.tv_value.specs.Values.{JobName, Name}
 use Rattle.tv_gate.specs.Outcomes.{Giving}
 use Rattle.tv_flow.specs.Flows.{Document, Flow}
-use Rattle.tv_depths.specs.Steps.{spot}
+use Rattle.tv_instance.specs.Steps.{spot}
 use Rattle.tv_instance.specs.Events.{Event, gave, took}
 use Rattle.tv_model.specs.Jobs.{Job}
 use Rattle.tv_model.specs.Meanings.{meaning}
@@ -15,12 +15,12 @@ use Rattle.tv_framing.specs.Views.{View}
 use Rattle.tv_seats.specs.Seats.{Seat, back, with_stage}
 use Rattle.tv_seats.specs.declared.stage.Stage.{Stage}
 use Rattle.tv_seats.specs.declared.stage.Stage.TheVariants as stage
-use Rattle.tv_viewed.specs.Stated.{entry_of}
-use Rattle.tv_going.specs.Elsewhere.{name_in}
-use Rattle.tv_going.specs.Opened.{IsOpenedBy}
-use Rattle.tv_going.specs.Stated.{IsMainFlow}
-use Rattle.tv_seated.specs.GoingOn.{GoesOn, IsNew, MaySettle}
-use Rattle.tv_seated.specs.Seated.{IsNextFlow, IsNextTry, spot_of}
+use Rattle.tv_forest.specs.views.Stated.{entry_of}
+use Rattle.tv_forest.specs.runs.Elsewhere.{name_in}
+use Rattle.tv_forest.specs.runs.Opened.{IsOpenedBy}
+use Rattle.tv_forest.specs.runs.Stated.{IsMainFlow}
+use Rattle.tv_forest.specs.seats.GoingOn.{GoesOn, IsNew, MaySettle}
+use Rattle.tv_forest.specs.seats.Seated.{IsNextFlow, IsNextTry, spot_of}
 use Rattle.tv_forest.specs.Forest.{Instance, Instances, IsAt, IsJobAt, Stand, Stays}
 
 -- ---- the changes
@@ -29,8 +29,8 @@ abbrev pub seated : Instance → List Seat → Instance
 seated x ss = record { name = x.name; flow = x.flow; seats = ss; view = x.view }
 
 -- told so much, with these seats
-abbrev pub told : Instance → View → List Seat → Instance
-told x v ss = record { name = x.name; flow = x.flow; seats = ss; view = Some v }
+abbrev pub with_view : Instance → View → List Seat → Instance
+with_view x v ss = record { name = x.name; flow = x.flow; seats = ss; view = Some v }
 
 abbrev pub shut : Instance → Instance
 shut x = record { name = x.name; flow = x.flow; seats = x.seats; view = None }
@@ -116,7 +116,7 @@ HandingOutFirst =
     → is_legal_after gives (meaning gives d) past (handed_out j.name a t) ≡ true
     → GoesOn d (levels x.flow) v w (took (spot_of x.flow.steps s).0 s.place) []
     → Stand gives d levels (handed_out j.name a t ∷ past)
-    (with_instance xs i (told x w (with_stage n (stage.Out a t) x.seats))))
+    (with_instance xs i (with_view x w (with_stage n (stage.Out a t) x.seats))))
 
 -- and an idle job's, of which its frame is told nothing
 abbrev pub HandingOutAgain : Type 0
@@ -136,7 +136,7 @@ Settling =
     → is_legal_after gives (meaning gives d) past e ≡ true → is_settled (e ∷ past) j ≡ true
     → GoesOn d (levels x.flow) v w (gave (spot_of x.flow.steps s).0 s.place j.result) ns
     → Stand gives d levels (e ∷ past)
-    (with_instance xs i (told x w (with_stage n stage.Settled x.seats ++ ns))))
+    (with_instance xs i (with_view x w (with_stage n stage.Settled x.seats ++ ns))))
 
 -- where an outcome doesn't settle it, the job has this try or this flow next
 abbrev pub GoesOnWith : History → Job → Stage → Type 0
@@ -164,7 +164,7 @@ LevelSettling =
     (i : ℕ) (x : Instance) (v w : View) (e : Event) (ns : List Seat)
     → IsAt xs i x → x.view ≡ Some v → CanSettle v e → GoesOn d (levels x.flow) v w e ns
     → Stand gives d levels (entry_of x.name e ∷ past)
-    (with_instance xs i (told x w (x.seats ++ ns))))
+    (with_instance xs i (with_view x w (x.seats ++ ns))))
 
 -- all that is out, of whatever instance, is recalled
 abbrev pub Recalling : Type 0
@@ -203,7 +203,8 @@ Opening =
     → is_legal_after gives (meaning gives d) past (opened j.name) ≡ true
     → IsTakenFor d levels x s v w s.stage → IsFresh d levels j y u
     → Stand gives d levels (opened j.name ∷ past)
-    (with_instance xs i (told x w (with_stage n (stage.Nested (length xs)) x.seats)) ++ y ∷ []))
+    (with_instance xs i (with_view x w (with_stage n (stage.Nested (length xs)) x.seats)) ++ y
+    ∷ []))
 
 -- ---- ends
 
@@ -216,7 +217,7 @@ Ending =
     → can_end (meaning gives d) past j.name ≡ true
     → GoesOn d (levels x.flow) v w (gave (spot_of x.flow.steps s).0 s.place j.result) ns
     → Stand gives d levels (ended j.name ∷ past)
-    (with_instance (with_instance xs i (told x w (with_stage n stage.Settled x.seats ++ ns))) k
+    (with_instance (with_instance xs i (with_view x w (with_stage n stage.Settled x.seats ++ ns))) k
     (shut y)))
 
 -- the main instance ends

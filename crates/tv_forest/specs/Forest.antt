@@ -3,6 +3,7 @@
 use Rattle.std.specs.List.{list_any}
 use Rattle.std.specs.Option.{option_map_or}
 use Rattle.std.specs.Prelude.{List, None, Option, Some, [], is_some, map, slice_get, suc, true, ℕ, ◌++◌, ◌<◌, ◌∷◌, ◌≡◌}
+use Rattle.tv_lemmas.specs.Members.{In}
 use Rattle.tv_value.specs.Orders as orders
 use Rattle.tv_value.specs.Values.{JobName, Name}
 use Rattle.tv_gate.specs.Outcomes.{Giving}
@@ -11,14 +12,13 @@ use Rattle.tv_flow.specs.Formed.{is_formed}
 use Rattle.tv_check.specs.Plans.{IsAccepted}
 use Rattle.tv_model.specs.Jobs.{Job}
 use Rattle.tv_model.specs.Meanings.{meaning}
-use Rattle.tv_model.specs.Members.{In}
 use Rattle.tv_history.specs.Entries.{History, is_opened_entry}
 use Rattle.tv_history.specs.Histories.{is_legal}
 use Rattle.tv_framing.specs.Views.{View}
 use Rattle.tv_seats.specs.Seats.{Seat}
 use Rattle.tv_seats.specs.declared.stage.Stage.TheVariants as stage
-use Rattle.tv_viewed.specs.InRun.{IsJobThere, IsOfJob}
-use Rattle.tv_seated.specs.Seated.{HasEnded, Sit, spot_of}
+use Rattle.tv_forest.specs.views.InRun.{IsJobThere, IsOfJob}
+use Rattle.tv_forest.specs.seats.Seated.{HasEnded, Sit, spot_of}
 
 pub record Instance : Type 0 where
   pub name : JobName

@@ -1,6 +1,13 @@
 //! How the instances of every run go on with each entry: each law is the clause of a function that does nothing.
 ghost use Rattle.tv_forest.specs.Entries.{Ending, EndingMain, HandingOutAgain, HandingOutFirst, LevelSettling, NoneOpenAtEnd, OneGoesOn, Opening, Recalling, Settling, Starting, TryingAgain};
 
+pub mod firsts;
+pub mod runs;
+pub mod seats;
+pub mod stands;
+pub mod tries;
+pub mod views;
+
 /// Before any entry the main instance stands alone.
 pub fn instances_start()
     ensures { Starting }

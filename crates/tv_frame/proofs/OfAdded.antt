@@ -4,9 +4,9 @@ use Rattle.std.specs.Cmp.Lexicographic.{slice_cmp}
 use Rattle.std.specs.Ordering.{is_lt, nat_cmp}
 use Rattle.std.proofs.Common.{sym, ap, subst, ◌∙◌, arith, inl, inr}
 use Rattle.std.proofs.lemmas.Option.{none-some, same_Some}
+use Rattle.tv_lemmas.specs.Members.{In}
 use Rattle.tv_value.specs.Nested.{Place}
 use Rattle.tv_lemmas.proofs.Cases.{on_either}
-use Rattle.tv_model.specs.Members.{In}
 use Rattle.tv_ready.specs.Listed.{with_job}
 use Rattle.tv_idle.specs.Idles.{Idles, StepIdle, of_step, with_idle}
 use Rattle.tv_idle.specs.Kept.{IsKept}

@@ -6,12 +6,14 @@ use Rattle.std.proofs.Common.{arith, sym, ap, subst, ◌∙◌, append-nil, appe
 use Rattle.std.proofs.Math.Seq.{drop-append_seam}
 use Rattle.std.proofs.lemmas.List.Sorted.{IsPermutation-refl, IsPermutation-trans}
 use Rattle.std.proofs.lemmas.Option.{slice_get_past}
+use Rattle.tv_lemmas.specs.Members.{In}
 use Rattle.tv_value.specs.Nested.{Place}
 use Rattle.tv_value.specs.Strategies.{Strategy}
 use Rattle.tv_value.specs.Values.{Name}
 use Rattle.tv_flow.specs.Flows.{Flow, Step}
 use Rattle.tv_lemmas.proofs.Cases.{on_either}
-use Rattle.tv_depths.specs.Steps.{strategy_of}
+use Rattle.tv_lemmas.proofs.Lists.{in-front, in-behind}
+use Rattle.tv_instance.specs.Steps.{strategy_of}
 use Rattle.tv_wires.specs.Ports.{mismatches}
 use Rattle.tv_matching.specs.Matchers.{Outcome, fault_at, job_at, list_at}
 use Rattle.tv_matching.specs.Told.{Told}
@@ -24,10 +26,9 @@ use Rattle.tv_idle.specs.Idles.{Idles, StepIdle, of_step}
 use Rattle.tv_idle.specs.Kept.{IsKept}
 use Rattle.tv_spread.specs.Spreads.{faulty_now_at, is_faulty_now, with_all_new}
 use Rattle.tv_spread.proofs.OfAdding.{all-many}
-use Rattle.tv_model.specs.Members.{In}
-use Rattle.tv_turn.specs.IdleJobs.{IsIdle}
+use Rattle.tv_framing.specs.turns.IdleJobs.{IsIdle}
 use Rattle.tv_frame.specs.Started.{AllAreIdle, HasBegun, HaveBegun, but_at}
-use Rattle.tv_frame.specs.Tables.{levels_at}
+use Rattle.tv_depths.specs.Tables.{step_level}
 use Rattle.tv_frame.proofs.OfAdded.{IsNew, all-known, all-levels, all-new, all-of, all-placed, all-stay, queue}
 
 -- ---- lists
@@ -40,15 +41,6 @@ module _ {A : Type 0} where
     where
       more : (n l p : ℕ) → n ≡ l + p → suc n ≡ suc l + p
       more n l p e = omega (arith, e)
-
-  in-front : (xs ys : List A) (n : ℕ) (x : A) → slice_get xs n ≡ Some x → slice_get (xs ++ ys) n ≡ Some x
-  in-front [] ys n x e = cc
-  in-front (y ∷ xs) ys zero x e = e
-  in-front (y ∷ xs) ys (suc n) x e = in-front xs ys n x e
-
-  in-behind : (xs ys : List A) (p : ℕ) (x : A) → slice_get ys p ≡ Some x → slice_get (xs ++ ys) (length xs + p) ≡ Some x
-  in-behind [] ys p x e = let m : 0 + p ≡ p = omega arith in ap (slice_get ys) m ∙ e
-  in-behind (y ∷ xs) ys p x e = let m : suc (length xs) + p ≡ suc (length xs + p) = omega arith in ap (slice_get (y ∷ (xs ++ ys))) m ∙ in-behind xs ys p x e
 
   range-more : (g : ℕ → List A) (a n : ℕ) → flat_map g (range_with_len a (suc n)) ≡ flat_map g (range_with_len a n) ++ g (a + n)
   range-more g a zero = let m : a ≡ a + 0 = omega arith in append-nil (g a) ∙ ap g m
@@ -111,7 +103,7 @@ module _ (i j : Intakes) (idle mid : Idles) (js : List (ℕ × Place)) (h : AllA
   from-new : (b : Bool) (c : ℕ) (k : ℕ × List ℕ) → IsNew flag js mid.known b c k → slice_get (known_jobs j) k.0 ≡ Some (c, k.1)
   from-new b c k w =
       let at : k.0 ≡ length (known_jobs i) + w.at = w.number ∙ ap (λ m. m + w.at) numbers in
-      ap (λ l. slice_get l k.0) more ∙ ap (slice_get (known_jobs i ++ js)) at ∙ in-behind (known_jobs i) js w.at (c, k.1) w.there
+      ap (λ l. slice_get l k.0) more ∙ ap (slice_get (known_jobs i ++ js)) at ∙ in-behind (known_jobs i) js w.at ∙ w.there
 
   from-old : (c : ℕ) (k : ℕ × List ℕ) → IsIdle idle.steps c k → slice_get (known_jobs j) k.0 ≡ Some (c, k.1)
   from-old c k a = ap (λ l. slice_get l k.0) more ∙ in-front (known_jobs i) js k.0 (c, k.1) (h.none_else c k a)
@@ -211,7 +203,7 @@ pub record IsAdded (count : ℕ) (st : Strategy) (mm : List (Name × ℕ)) (ts :
   pub waiting : waiting_things j ≡ waiting_things i ++ things_at j count
   pub intaken : AreIntaken j
 
-module _ (f : Flow) (tells : ℕ → Step → List Told) (count : ℕ) (i j : Intakes) (idle mid : Idles) (s : Name × Step) (st : Strategy) (mm : List (Name × ℕ)) (ts : List Told) (goes : ℕ → Step → List Told) (h : HaveBegun f tells count i idle) (at : slice_get f.steps count ≡ Some s) (st_is : st ≡ strategy_of s.1) (mm_is : mm ≡ mismatches f s.1) (own_goes : IsPermutation ts (goes count s.1)) (other_goes : (n : ℕ) (t : Step) → (n ≡ count → ⊥) → goes n t ≡ tells n t) (a : IsAdded count st mm ts i j) (same : HasSameJobs idle mid) (many : length mid.steps ≡ count + 1) (levels : (n : ℕ) → n < count → (of_step mid.steps n).levels ≡ (of_step idle.steps n).levels) (last : (of_step mid.steps count).levels ≡ levels_at f s.1) where
+module _ (f : Flow) (tells : ℕ → Step → List Told) (count : ℕ) (i j : Intakes) (idle mid : Idles) (s : Name × Step) (st : Strategy) (mm : List (Name × ℕ)) (ts : List Told) (goes : ℕ → Step → List Told) (h : HaveBegun f tells count i idle) (at : slice_get f.steps count ≡ Some s) (st_is : st ≡ strategy_of s.1) (mm_is : mm ≡ mismatches f s.1) (own_goes : IsPermutation ts (goes count s.1)) (other_goes : (n : ℕ) (t : Step) → (n ≡ count → ⊥) → goes n t ≡ tells n t) (a : IsAdded count st mm ts i j) (same : HasSameJobs idle mid) (many : length mid.steps ≡ count + 1) (levels : (n : ℕ) → n < count → (of_step mid.steps n).levels ≡ (of_step idle.steps n).levels) (last : (of_step mid.steps count).levels ≡ step_level f s.1) where
   own : (t : Name × Step) (n : ℕ) → slice_get f.steps n ≡ Some t → n ≡ count → t ≡ s
   own t n e is = let g : Some t ≡ Some s = sym e ∙ ap (slice_get f.steps) is ∙ at in cc
 
@@ -273,7 +265,7 @@ module _ (f : Flow) (tells : ℕ → Step → List Told) (count : ℕ) (i j : In
         idle_are = added-idle i j idle mid (jobs_at j count) h.idle_are same a.jobs (own-steps count (job_places (followed_at j count)) (length mid.steps) lt) flags-stay;
       }
         where
-          level : (n : ℕ) (t : Name × Step) → n < count + 1 → slice_get f.steps n ≡ Some t → (of_step mid.steps n).levels ≡ levels_at f t.1
+          level : (n : ℕ) (t : Name × Step) → n < count + 1 → slice_get f.steps n ≡ Some t → (of_step mid.steps n).levels ≡ step_level f t.1
           level n t low e = by (n == count) refl
             where
               not-both : (b : Bool) → b ≡ false → b ≡ true → ⊥
@@ -282,10 +274,10 @@ module _ (f : Flow) (tells : ℕ → Step → List Told) (count : ℕ) (i j : In
               below : (n c : ℕ) → n < c + 1 → (n ≡ c → ⊥) → n < c
               below n c p q = omega (arith, p, q)
 
-              by : (b : Bool) → (n == count) ≡ b → (of_step mid.steps n).levels ≡ levels_at f t.1
+              by : (b : Bool) → (n == count) ≡ b → (of_step mid.steps n).levels ≡ step_level f t.1
               by true g =
                   let is : n ≡ count = eqb-true n count g in
-                  ap (λ m. (of_step mid.steps m).levels) is ∙ last ∙ ap (λ (u : Name × Step). levels_at f u.1) (sym (own t n e is))
+                  ap (λ m. (of_step mid.steps m).levels) is ∙ last ∙ ap (λ (u : Name × Step). step_level f u.1) (sym (own t n e is))
               by false g =
                   let low2 : n < count = below n count low (λ is. not-both (n == count) g (eq-eqb n count is)) in
                   levels n low2 ∙ h.levels n t low2 e

@@ -4,6 +4,8 @@ use Rattle.std.specs.Prelude.{◌≡◌, refl, ℕ, suc, ◌+◌, ◌≤◌, Boo
 use Rattle.std.proofs.Common.{arith, inl, sym, ap, ap₂, subst, ◌∙◌}
 use Rattle.std.proofs.lemmas.List.Sorted.{IsPermutation-sym}
 use Rattle.std.proofs.lemmas.Option.{get_or_from_slice_get, none-some, same_Some, slice_get_within}
+use Rattle.tv_lemmas.specs.Members.{Each, In}
+use Rattle.tv_lemmas.proofs.OfMembers.{each_in, in-flat, in_each}
 use Rattle.tv_lemmas.proofs.Lists.{get-map, of-get_map}
 use Rattle.tv_value.specs.Nested.{Place, at, leaf, list, nodes}
 use Rattle.tv_value.specs.Orders.{named, same_name}
@@ -15,32 +17,30 @@ use Rattle.tv_strategy.specs.Conditions.{number_of}
 use Rattle.tv_strategy.specs.Iterations.{Iteration, job, passed}
 use Rattle.tv_strategy.specs.Measures.{AllDotsAgree, DotsAgree, HaveOneDepth, first_depth, leaf_names, strategy_depth, sum_of_depths}
 use Rattle.tv_strategy.specs.Origins.{Origin, plain}
-use Rattle.tv_strategy.specs.Sources.{Each}
 use Rattle.tv_strategy.specs.Splits.{split}
 use Rattle.tv_strategy.proofs.OfLaws.{split-names_leaves}
 use Rattle.tv_strategy.proofs.OfSources.{each-append}
 use Rattle.tv_naming.proofs.ByPosition.{named-at, names_of}
 use Rattle.tv_flow.specs.Formed.{is_ascending}
-use Rattle.tv_depths.specs.Steps.{bound_values, strategy_of}
+use Rattle.tv_instance.specs.Steps.{bound_values, strategy_of}
 use Rattle.tv_matching.specs.Items.{Bound, Item, Stopped, kind_of, known_items}
 use Rattle.tv_matching.specs.Told.{Spot}
-use Rattle.tv_matching.proofs.OfMembers.{each-from, each-in, in-flat, in-permutes}
-use Rattle.tv_model.specs.Members.{In}
+use Rattle.tv_matching.proofs.OfMembers.{in-permutes}
 use Rattle.tv_wires.specs.Ports.{leaf_number, levels_of, mismatches, port_among}
-use Rattle.tv_bound.specs.declared.jobs.StepPorts.{StepPorts}
-use Rattle.tv_bound.specs.Parts.{IsPartOf}
+use Rattle.tv_binding.specs.declared.jobs.StepPorts.{StepPorts}
+use Rattle.tv_binding.specs.Parts.{IsPartOf}
 use Rattle.tv_starts.specs.Starts.{cross_starts, dot_starts, starts}
 use Rattle.tv_starts.proofs.OfStarts.{places-split}
 use Rattle.tv_instance.specs.ByResults.{InstanceStep, PlacedJob, jobs_at_node}
 use Rattle.tv_instance.specs.Events.{gave, known_by}
-use Rattle.tv_instances.proofs.OfSettling.{node-listed}
+use Rattle.tv_framing.proofs.instances.OfSettling.{node-listed}
 use Rattle.tv_framing.specs.Answers.{AreInputs, AreInputsOf}
 use Rattle.tv_framing.specs.Frames.{FitsKind, IsFrame, known_jobs}
 use Rattle.tv_framing.specs.Views.{View, steps_with}
 use Rattle.tv_framing.proofs.OfFrames.{job-end, known-stands}
 use Rattle.tv_framing.proofs.OfPossible.{some-possible}
-use Rattle.tv_drawn.specs.Steps.{IsOfRankedFlow}
-use Rattle.tv_drawn.proofs.OfSteps.{IsMadeOf, made-of, steps-paired}
+use Rattle.tv_framing.specs.matches.Steps.{IsOfRankedFlow}
+use Rattle.tv_framing.proofs.matches.OfSteps.{IsMadeOf, made-of, steps-paired}
 use Rattle.tv_frame.proofs.OfJobPorts.{leaf-at}
 use Rattle.tv_frame.proofs.OfPlans.{each-there}
 
@@ -55,7 +55,7 @@ placed flow s f made known x i n q place fits =
     by : (u : Iteration) → at f.step.iteration q ≡ Some u → FitsKind (gave n q []) (kind_of u) → (k : PlacedJob) × In k f.jobs × (k.step ≡ s.0) × (k.place ≡ q)
     by (leaf r (job b)) e h =
         let k : PlacedJob = record { step = s.0; place = q; inputs = bound_values s.1 b; waits = r ++ made.before } in
-        (k, subst (In k) (sym made.jobs) (in-flat (jobs_at_node s.0 s.1 made.before) k (q, leaf r (job b)) (nodes f.step.iteration) (node-listed f.step.iteration q (leaf r (job b)) e) (inl refl)), refl, refl)
+        (k, subst (In k) (sym made.jobs) (in-flat (jobs_at_node s.0 s.1 made.before) (q, leaf r (job b)) k (nodes f.step.iteration) (node-listed f.step.iteration q (leaf r (job b)) e) (inl refl)), refl, refl)
     by (leaf r (passed m d)) e h = absurd h
     by (list r ts) e h = absurd h
 
@@ -68,7 +68,7 @@ binds-once flows levels v w frame s q i vs ws a b =
     let t = made-of v.flow fs v.flow.steps (steps-paired flows levels v w [] r.0 r.1) j.0 j.1 in
     let k = placed v.flow t.0 j.0 t.2 known j.3 j.4 s q j.5 j.6 in
     let bound : (us : List Value) → AreInputs v (s, q) us → us ≡ map plain k.0.inputs =
-    λ us h. each-in (AreInputsOf (s, q) us) k.0 j.0.jobs (each-in (λ (f : InstanceStep). Each (AreInputsOf (s, q) us) f.jobs) j.0 fs (h [] r.0 r.1 r.2) j.1) k.1 (k.2 ∙ sym t.2.name ∙ j.2) k.3 in
+    λ us h. each_in (AreInputsOf (s, q) us) j.0.jobs (each_in (λ (f : InstanceStep). Each (AreInputsOf (s, q) us) f.jobs) fs (h [] r.0 r.1 r.2) j.0 j.1) k.0 k.1 (k.2 ∙ sym t.2.name ∙ j.2) k.3 in
     bound vs a ∙ sym (bound ws b)
 
 -- ---- where leaves begin
@@ -79,7 +79,7 @@ module _ (ports : Name → ℕ) where
   FitsIn end x = x.1 + ports x.0 ≤ end
 
   wider : (a b : ℕ) → a ≤ b → (xs : List (Name × ℕ)) → Each (FitsIn a) xs → Each (FitsIn b) xs
-  wider a b le xs h = each-from (FitsIn b) xs (λ x i. more (x.1 + ports x.0) a b (each-in (FitsIn a) x xs h i) le)
+  wider a b le xs h = in_each (FitsIn b) xs (λ x i. more (x.1 + ports x.0) a b (each_in (FitsIn a) xs h x i) le)
     where
       more : (n a b : ℕ) → n ≤ a → a ≤ b → n ≤ b
       more n a b h k = omega arith
@@ -155,7 +155,7 @@ module _ (f : Flow) (s : Name × Step) (agree : DotsAgree (number_of (mismatches
       let n = leaf_number i.0 (leaf_names (strategy_of s.1)) in
       let rs = split levels (strategy_of s.1) q in
       let names = split-names_leaves levels (strategy_of s.1) q in
-      let l = leaf-at (λ r. Unit {0}) i.0 rs (subst (λ ns. list_any (same_name i.0) ns ≡ true) (sym names) here_so) (each-from (λ r. Unit {0}) rs (λ r h. tt)) in
+      let l = leaf-at (λ r. Unit {0}) i.0 rs (subst (λ ns. list_any (same_name i.0) ns ≡ true) (sym names) here_so) (in_each (λ r. Unit {0}) rs (λ r h. tt)) in
       let here : slice_get rs n ≡ Some (i.0, l.place) = ap (λ ns. slice_get rs (leaf_number i.0 ns)) (sym names) ∙ l.here in
       let places = places-split levels (strategy_of s.1) agree q deep in
       let x = of-get_map part begins n (i.0, l.place) (ap (λ ts. slice_get ts n) (sym places) ∙ here) in

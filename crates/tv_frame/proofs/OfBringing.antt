@@ -7,17 +7,17 @@ use Rattle.std.proofs.lemmas.List.{length-map}
 use Rattle.std.proofs.lemmas.List.Sorted.{IsPermutation-refl, length_permutation}
 use Rattle.std.proofs.lemmas.List.Sums.{sum_by-cons}
 use Rattle.std.proofs.lemmas.Bool.{eqb-true}
+use Rattle.tv_lemmas.specs.Members.{Each}
 use Rattle.tv_lemmas.proofs.Cases.{on_test}
 use Rattle.tv_value.specs.Strategies.{Strategy}
 use Rattle.tv_value.specs.Values.{Name}
 use Rattle.tv_value.specs.Views.{strategy_view}
 use Rattle.tv_flow.specs.Flows.{Flow, Step}
-use Rattle.tv_strategy.specs.Sources.{Each}
 use Rattle.tv_strategy.proofs.OfEach.{each-weaken}
 use Rattle.tv_naming.specs.Naming.{numbered}
-use Rattle.tv_depths.specs.Steps.{strategy_of}
+use Rattle.tv_instance.specs.Steps.{strategy_of}
 use Rattle.tv_check.specs.declared.plans.FlowPlan.{FlowPlan}
-use Rattle.tv_matching.specs.Matchers.{Outcome, fault_at, job_at, list_at, out}
+use Rattle.tv_matching.specs.Matchers.{Outcome, out}
 use Rattle.tv_matching.specs.Told.{Told, matched_after}
 use Rattle.tv_match.specs.declared.matchers.Matcher.{Matcher}
 use Rattle.tv_match.specs.Ahead.{in_order_ahead}
@@ -26,24 +26,24 @@ use Rattle.tv_match.specs.Seen.{IsSound, in_order, matching}
 use Rattle.tv_match.proofs.AllMade.{ahead-matched}
 use Rattle.tv_match.proofs.Faults.{all-in_order}
 use Rattle.tv_intake.specs.Intaken.{IsSoundAt, brought_at, matcher_at}
-use Rattle.tv_intake.specs.Sorting.{brought, jobs_among}
+use Rattle.tv_intake.specs.Sorting.{brought, job_places, jobs_among}
 use Rattle.tv_intake.proofs.OfIntakes.{ahead-parts}
 use Rattle.tv_outputs.specs.Known.{Nodes}
 use Rattle.tv_spread.specs.Spreads.{IsAscending, new_count}
 use Rattle.tv_instance.specs.Events.{Event}
 use Rattle.tv_framing.specs.Frames.{AreNewWith, IsFrame, with_event}
 use Rattle.tv_framing.specs.Views.{View}
-use Rattle.tv_drawn.specs.Jobs.{all_jobs, jobs_of}
-use Rattle.tv_drawn.specs.Sorting.{job_places}
-use Rattle.tv_drawn.specs.Stated.{IsBrought}
-use Rattle.tv_drawn.specs.Steps.{IsStepTold}
-use Rattle.tv_drawn.proofs.OfLaws.{new_jobs-are_brought}
+use Rattle.tv_framing.specs.matches.Jobs.{all_jobs, jobs_of}
+use Rattle.tv_framing.specs.matches.Stated.{IsBrought}
+use Rattle.tv_framing.specs.matches.Steps.{IsStepTold}
+use Rattle.tv_framing.proofs.matches.OfLaws.{new_jobs-are_brought}
 use Rattle.tv_frame.specs.declared.frame.Frame.{Frame}
 use Rattle.tv_frame.specs.Calls.{Brings}
 use Rattle.tv_frame.specs.Kept.{HasMatcher, followed_by}
 use Rattle.tv_frame.specs.Prepared.{IsReadyFor, IsToldWith, is_one_of}
 use Rattle.tv_frame.specs.Tables.{levels_in}
 use Rattle.tv_frame.proofs.OfKeeping.{kept-ranked}
+use Rattle.tv_spread.proofs.OfShowing.{places-many}
 
 -- ---- one step: what its matcher was told, and what it brings
 
@@ -97,17 +97,11 @@ total-same : (g h : ℕ → ℕ) (k m : ℕ) → ((c : ℕ) → k ≤ c → g c 
 total-same g h k zero e = refl
 total-same g h k (suc m) e = ap₂ (λ a b. a + b) (e k (omega arith)) (total-same g h (suc k) m (λ c le. e c (omega (arith, le))))
 
-places-counted : (os : List Outcome) → length (job_places os) ≡ jobs_among os
-places-counted [] = refl
-places-counted (job_at q ∷ os) = ap suc (places-counted os)
-places-counted (list_at q n ∷ os) = places-counted os
-places-counted (fault_at q l ∷ os) = places-counted os
-
 jobs-counted : (os : ℕ → List Outcome) (k : ℕ) (ss : List (Name × Step)) → length (flat_map (λ (x : ℕ × (Name × Step)). jobs_of x.1.0 (os x.0)) (numbered k ss)) ≡ total (λ c. jobs_among (os c)) k (length ss)
 jobs-counted os k [] = refl
 jobs-counted os k (s ∷ ss) =
     length-append (jobs_of s.0 (os k)) (flat_map (λ (x : ℕ × (Name × Step)). jobs_of x.1.0 (os x.0)) (numbered (suc k) ss))
-    ∙ ap₂ (λ a b. a + b) (length-map (job_places (os k)) (λ q. (s.0, q)) ∙ places-counted (os k)) (jobs-counted os (suc k) ss)
+    ∙ ap₂ (λ a b. a + b) (length-map (job_places (os k)) (λ q. (s.0, q)) ∙ places-many (os k)) (jobs-counted os (suc k) ss)
 
 -- the number of one of these steps, nothing of any other
 abbrev if_one : (ℕ → ℕ) → List ℕ → ℕ → ℕ

@@ -10,16 +10,16 @@ use Rattle.tv_value.specs.Values.{ErrorDoc, Name, Value, holds_fault}
 use Rattle.tv_flow.specs.Flows.{Flow, Step}
 use Rattle.tv_naming.specs.Naming.{has_name}
 use Rattle.tv_naming.specs.Numbers.{position}
-use Rattle.tv_depths.specs.Steps.{declared_depths}
+use Rattle.tv_instance.specs.Steps.{declared_depths}
 use Rattle.tv_wires.specs.Feeds.{outputs_of}
 use Rattle.tv_parts.specs.Changes.{arrive}
-use Rattle.tv_parts.specs.Partials.{Partial}
+use Rattle.tv_parts.specs.Partials.{HoldsFaults, Partial}
 use Rattle.tv_cell.specs.declared.piece.Piece.{Piece}
 use Rattle.tv_cell.specs.declared.piece.Piece.TheViews as pieces
 use Rattle.tv_cell.specs.PieceValues.{piece_value, piece_values}
 use Rattle.tv_cell.proofs.OfPieces.{list-value}
 use Rattle.tv_check.specs.declared.plans.FlowPlan.{FlowPlan}
-use Rattle.tv_outputs.specs.Changes.{Counted, HoldsFaults, no_value}
+use Rattle.tv_outputs.specs.Changes.{Counted, no_value}
 use Rattle.tv_outputs.specs.Known.{Nodes, known, tree_in}
 use Rattle.tv_telling.specs.declared.ways.Event as code
 use Rattle.tv_telling.specs.declared.ways.Happened.{Happened}
@@ -30,14 +30,14 @@ use Rattle.tv_instance.specs.Events.{Event, event_place, event_step, fault_set, 
 use Rattle.tv_model.specs.RightDepths.{HaveTheseDepths}
 use Rattle.tv_framing.specs.Arriving.{part_so_far}
 use Rattle.tv_framing.specs.Views.{View}
-use Rattle.tv_told.specs.Stated.{IsFrom}
-use Rattle.tv_begun.proofs.OfSteps.{stands-at}
-use Rattle.tv_kept.specs.NextEvents.{IsNextEvent}
-use Rattle.tv_drawn.specs.Steps.{IsStepAt}
-use Rattle.tv_fed.specs.Coming.{put_here}
-use Rattle.tv_fed.specs.Fed.{newly}
-use Rattle.tv_fed.specs.Seen.{Happens, IsCodeOf}
-use Rattle.tv_fed.proofs.OfSeen.{events-are_seen}
+use Rattle.tv_framing.specs.ways.Stated.{IsFrom}
+use Rattle.tv_framing.proofs.starts.OfSteps.{stands-at}
+use Rattle.tv_framing.specs.keeping.NextEvents.{IsNextEvent}
+use Rattle.tv_framing.specs.matches.Steps.{IsStepAt}
+use Rattle.tv_framing.specs.feeds.Coming.{put_here}
+use Rattle.tv_framing.specs.feeds.Fed.{newly}
+use Rattle.tv_framing.specs.feeds.Seen.{Happens, IsCodeOf}
+use Rattle.tv_framing.proofs.feeds.OfSeen.{events-are_seen}
 use Rattle.tv_frame.specs.declared.frame.Frame.{Frame}
 use Rattle.tv_frame.specs.Kept.{Keeps, declared_at}
 use Rattle.tv_frame.specs.Prepared.{IsComing}
@@ -45,7 +45,7 @@ use Rattle.tv_frame.specs.Tables.{first_tree, levels_in, trees_of}
 use Rattle.tv_frame.proofs.OfKeeping.{kept-wired}
 use Rattle.tv_frame.proofs.OfPutting.{outputs-few, tree-after}
 use Rattle.tv_frame.proofs.OfTrees.{declared-named}
-use Rattle.tv_joined.proofs.OfTold.{few-there}
+use Rattle.tv_framing.proofs.engine.OfTold.{few-there}
 
 -- ---- any event
 

@@ -5,12 +5,12 @@ use Rattle.std.proofs.Common.{sym, ap, subst, ◌∙◌, arith}
 use Rattle.std.proofs.lemmas.List.{length-map}
 use Rattle.std.proofs.lemmas.List.Sorted.{IsPermutation-refl}
 use Rattle.std.proofs.lemmas.Option.{slice_get_within}
+use Rattle.tv_lemmas.specs.Members.{Each}
 use Rattle.tv_value.specs.Nested.{Place}
 use Rattle.tv_value.specs.Values.{Name, Value}
 use Rattle.tv_flow.specs.Flows.{Flow, Step}
-use Rattle.tv_strategy.specs.Sources.{Each}
-use Rattle.tv_depths.specs.Ranks.{ranked}
-use Rattle.tv_depths.specs.Steps.{declared_depths}
+use Rattle.tv_instance.specs.Ranks.{ranked}
+use Rattle.tv_instance.specs.Steps.{declared_depths}
 use Rattle.tv_pool.specs.Pool.{number_of}
 use Rattle.tv_nodes.specs.Calls.{KeepsRegions}
 use Rattle.tv_check.specs.declared.plans.FlowPlan.{FlowPlan}
@@ -34,11 +34,12 @@ use Rattle.tv_spread.specs.declared.spread.Spread.{Spread}
 use Rattle.tv_idle.specs.Idles.{Idles, of_step}
 use Rattle.tv_instance.specs.Events.{Event, gave}
 use Rattle.tv_framing.specs.Views.{View}
-use Rattle.tv_drawn.specs.Steps.{IsStepAt}
-use Rattle.tv_drawn.specs.Waiting.{IsLeft}
-use Rattle.tv_drawn.proofs.OfRanks.{at-in, ranked-permutes}
-use Rattle.tv_fed.specs.Fed.{event_number}
-use Rattle.tv_fed.proofs.OfWholeSteps.{endings-go_on}
+use Rattle.tv_framing.specs.matches.Steps.{IsStepAt}
+use Rattle.tv_framing.specs.matches.Waiting.{IsLeft}
+use Rattle.tv_framing.proofs.matches.OfRanks.{ranked-permutes}
+use Rattle.tv_lemmas.proofs.OfMembers.{in-slice as at-in}
+use Rattle.tv_framing.specs.feeds.Fed.{event_number}
+use Rattle.tv_framing.proofs.feeds.OfWholeSteps.{endings-go_on}
 use Rattle.tv_frame.specs.declared.frame.Frame.{Frame}
 use Rattle.tv_frame.specs.Calls.{GoesOn}
 use Rattle.tv_frame.specs.Kept.{AreIdle, Keeps, followed_by, things_of}

@@ -4,6 +4,8 @@ use Rattle.std.specs.Prelude.{◌≡◌, refl, ℕ, zero, suc, ◌<◌, true, dr
 use Rattle.std.proofs.Common.{sym, ap, subst, ◌∙◌}
 use Rattle.std.proofs.lemmas.Bool.{not-true}
 use Rattle.std.proofs.lemmas.Option.{none-some, same_Some}
+use Rattle.tv_lemmas.specs.Members.{Each, In}
+use Rattle.tv_lemmas.proofs.OfMembers.{in-slice, of-all, of-filter}
 use Rattle.tv_lemmas.proofs.Lists.{get-map}
 use Rattle.tv_value.specs.Nested.{Place, at}
 use Rattle.tv_value.specs.Orders.{named, same_name}
@@ -11,11 +13,10 @@ use Rattle.tv_value.specs.Values.{ErrorDoc, JobName, Name, Value, fault_value}
 use Rattle.tv_flow.specs.Flows.{Flow, Step, StepInput}
 use Rattle.tv_strategy.specs.Conditions.{EachOnce, number_of}
 use Rattle.tv_strategy.specs.Measures.{DotsAgree, leaf_names}
-use Rattle.tv_strategy.specs.Sources.{Each}
 use Rattle.tv_naming.specs.Naming.{feed_links, is_there}
 use Rattle.tv_naming.proofs.FormedParts.{passes}
-use Rattle.tv_depths.specs.Delivered.{Ported, feed_delivers, ported}
-use Rattle.tv_depths.specs.Steps.{strategy_of}
+use Rattle.tv_instance.specs.Delivered.{Ported, feed_delivers, at_port}
+use Rattle.tv_instance.specs.Steps.{strategy_of}
 use Rattle.tv_matching.specs.Matchers.{Outcome, fault_at}
 use Rattle.tv_matching.specs.Matchers as matchers
 use Rattle.tv_matching.specs.Told.{IsFit, Told}
@@ -24,29 +25,27 @@ use Rattle.tv_match.specs.Seen.{matching}
 use Rattle.tv_wires.specs.declared.ports.Port.{Port}
 use Rattle.tv_wires.specs.Feeds.{feed_numbered}
 use Rattle.tv_wires.specs.Ports.{leaf_number, mismatches, port_among, ports_of}
-use Rattle.tv_bound.specs.Constants.{constant_in}
-use Rattle.tv_bound.specs.Found.{Known, feed_found}
+use Rattle.tv_binding.specs.Constants.{constant_in}
+use Rattle.tv_binding.specs.Found.{Known, feed_found}
 use Rattle.tv_check.specs.declared.plans.FlowPlan.{FlowPlan}
 use Rattle.tv_check.specs.PlanViews.{IsOfDocument}
 use Rattle.tv_outputs.specs.Known.{Nodes}
 use Rattle.tv_intake.specs.Intaken.{IsSoundAt, matcher_at}
 use Rattle.tv_model.specs.Instances.{given_of}
-use Rattle.tv_model.specs.Members.{In}
-use Rattle.tv_model.proofs.OfMembers.{in-slice, of-all, of-filter}
 use Rattle.tv_instance.specs.ByResults.{InstanceStep, Results, step_of}
 use Rattle.tv_instance.specs.Events.{Extends, fault_set, has_level, known_by}
 use Rattle.tv_framing.specs.Answers.{CanSettle}
 use Rattle.tv_framing.specs.Views.{AreOfDepth, View, steps_with}
 use Rattle.tv_framing.proofs.OfPossible.{some-possible}
-use Rattle.tv_joined.specs.WiredFlows.{IsWired}
-use Rattle.tv_joined.proofs.OfWires.{leaf-named}
-use Rattle.tv_begun.proofs.OfInstances.{inputs-rise, ports-are, step-of, step-there}
-use Rattle.tv_begun.proofs.OfLeaves.{named-own}
-use Rattle.tv_drawn.specs.Steps.{IsStepAt, IsStepTold}
-use Rattle.tv_drawn.specs.Waiting.{is_waiting, waiting_of}
-use Rattle.tv_drawn.proofs.OfLaws.{waiting_faults-can_settle}
-use Rattle.tv_drawn.proofs.OfRanks.{at-in}
-use Rattle.tv_drawn.proofs.OfSteps.{IsMadeOf, made-step, rising, steps-paired}
+use Rattle.tv_framing.specs.engine.WiredFlows.{IsWired}
+use Rattle.tv_framing.proofs.engine.OfWires.{leaf-named}
+use Rattle.tv_framing.proofs.starts.OfInstances.{inputs-rise, ports-are, step-of, step-there}
+use Rattle.tv_framing.proofs.starts.OfLeaves.{named-own}
+use Rattle.tv_framing.specs.matches.Steps.{IsStepAt, IsStepTold}
+use Rattle.tv_framing.specs.matches.Waiting.{is_waiting, waiting_of}
+use Rattle.tv_framing.proofs.matches.OfLaws.{waiting_faults-can_settle}
+use Rattle.tv_lemmas.proofs.OfMembers.{in-slice as at-in}
+use Rattle.tv_framing.proofs.matches.OfSteps.{IsMadeOf, made-step, rising, steps-paired}
 use Rattle.tv_frame.specs.declared.frame.Frame.{Frame}
 use Rattle.tv_frame.specs.Kept.{HasMatcher, Keeps, followed_by}
 use Rattle.tv_frame.specs.Tables.{levels_in, step_starts}
@@ -163,10 +162,10 @@ module _ (flows : List (Name × Flow)) (plan : FlowPlan) (pool : Nodes) (f : Fra
         let w = step-of flows levels v keeps.of_depths wired n s stands instance results depth g i e in
         let delivers = feed_delivers step_of (given_of v.flow v.inputs) w.before in
         let name : takes.0 ≡ known.name = sym (leaf-named takes.0 leaves leaf-among) ∙ ap (λ m. get_or leaves m []) (ap (λ (y : Port). y.leaf) from.is ∙ of_leaf) ∙ known.leaf_is in
-        let own : named takes.0 g.step.inputs ≡ Some (ported takes.1.depth (delivers takes.1.from)) =
+        let own : named takes.0 g.step.inputs ≡ Some (at_port takes.1.depth (delivers takes.1.from)) =
         ap (named takes.0) (ports-are v.flow levels instance results v.inputs flows (steps_with v instance results) g s w)
-        ∙ named-own (λ (y : Name × StepInput). ported y.1.depth (delivers y.1.from)) s.1.inputs (inputs-rise flows levels v keeps.of_depths wired n s stands) takes among in
-        let port : known.port ≡ ported takes.1.depth (delivers takes.1.from) = same_Some _ _ (sym known.input ∙ ap (λ m. named m g.step.inputs) (sym name) ∙ own) in
+        ∙ named-own (λ (y : Name × StepInput). at_port y.1.depth (delivers y.1.from)) s.1.inputs (inputs-rise flows levels v keeps.of_depths wired n s stands) takes among in
+        let port : known.port ≡ at_port takes.1.depth (delivers takes.1.from) = same_Some _ _ (sym known.input ∙ ap (λ m. named m g.step.inputs) (sym name) ∙ own) in
         let value : known.port.value ≡ (delivers takes.1.from).value =
         ap (λ (y : Ported). y.value) port ∙ not-wrapped takes.1.depth (delivers takes.1.from) (subst (λ (y : Ported). 0 < y.mismatch) port known.walks) in
         feed-known flows levels v keeps.of_depths keeps.frame k all instance results depth x w.before w.made w.stay takes.1.from links (w.ports takes among).found (drop known.start q) known.fault.origin known.fault.document

@@ -4,40 +4,39 @@ use Rattle.std.specs.Prelude.{◌≡◌, refl, ℕ, zero, suc, ◌-◌, ◌<◌,
 use Rattle.std.proofs.Common.{arith, sym, ap, ap₂, subst, ◌∙◌}
 use Rattle.std.proofs.lemmas.Bool.{and_parts}
 use Rattle.std.proofs.lemmas.Option.{none-some, same_Some}
+use Rattle.tv_lemmas.specs.Members.{Each, In}
+use Rattle.tv_lemmas.proofs.OfMembers.{each_in}
 use Rattle.tv_value.specs.Nested.{Place, at, item_at, leaf, trees_of}
 use Rattle.tv_value.specs.Orders.{named, same_name}
 use Rattle.tv_value.specs.Values.{ErrorDoc, JobName, Name, fault, fault_value}
 use Rattle.tv_flow.specs.Flows.{Feed, Flow, Link, StepInput, constant, input, link, merge, output}
 use Rattle.tv_strategy.specs.Levels.{HasLevels}
 use Rattle.tv_strategy.specs.Origins.{Origin, fixed, plain, traced}
-use Rattle.tv_strategy.specs.Sources.{Each}
 use Rattle.tv_naming.specs.Naming.{feed_links, has_name, is_there}
 use Rattle.tv_naming.specs.Numbers.{position}
-use Rattle.tv_naming.proofs.ByPosition.{same_name-is}
-use Rattle.tv_depths.specs.Delivered.{Delivered, Ported, feed_delivers, link_delivers, ported, wrapped}
-use Rattle.tv_matching.proofs.OfMembers.{each-in}
+use Rattle.tv_value.proofs.OfNames.{same_name-is}
+use Rattle.tv_instance.specs.Delivered.{Delivered, Ported, feed_delivers, link_delivers, at_port, wrapped}
 use Rattle.tv_wires.specs.Feeds.{feed_numbered, link_numbered, outputs_of}
 use Rattle.tv_outputs.specs.FoundIn.{found_in}
-use Rattle.tv_bound.specs.Constants.{constant_in}
-use Rattle.tv_bound.specs.Found.{Known, feed_found, link_found}
+use Rattle.tv_binding.specs.Constants.{constant_in}
+use Rattle.tv_binding.specs.Found.{Known, feed_found, link_found}
 use Rattle.tv_model.specs.Instances.{given_of, value_given}
-use Rattle.tv_model.specs.Members.{In}
 use Rattle.tv_instance.specs.ByResults.{InstanceStep, Results, ports_on, step_of}
 use Rattle.tv_instance.specs.Events.{Extends, known_by}
 use Rattle.tv_instance.specs.Fitting.{FitStep}
-use Rattle.tv_instances.proofs.OfLegal.{legal-fit}
-use Rattle.tv_instances.proofs.OfLevels.{steps-have_their_levels}
-use Rattle.tv_instances.specs.Stated.{HasItsLevels}
+use Rattle.tv_framing.proofs.instances.OfLegal.{legal-fit}
+use Rattle.tv_framing.proofs.instances.OfLevels.{steps-have_their_levels}
+use Rattle.tv_framing.specs.instances.Stated.{HasItsLevels}
 use Rattle.tv_framing.specs.Arriving.{part_so_far}
 use Rattle.tv_framing.specs.Frames.{IsFrame}
 use Rattle.tv_framing.specs.Stated.{IsOfDepths}
 use Rattle.tv_framing.specs.Views.{AreOfDepth, View, steps_with}
 use Rattle.tv_framing.proofs.OfFrames.{in-finds, steps-distinct}
-use Rattle.tv_begun.proofs.OfPlain.{plain-input, plain-traced}
-use Rattle.tv_begun.proofs.OfPorts.{LinkIsFound, LinksAreFound}
-use Rattle.tv_begun.proofs.OfSteps.{IsMade}
-use Rattle.tv_truly.specs.Known.{tree_of}
-use Rattle.tv_truly.proofs.OfPlaces.{mapped-at}
+use Rattle.tv_framing.proofs.starts.OfPlain.{plain-input, plain-traced}
+use Rattle.tv_framing.proofs.starts.OfPorts.{LinkIsFound, LinksAreFound}
+use Rattle.tv_framing.proofs.starts.OfSteps.{IsMade}
+use Rattle.tv_framing.specs.faults.Known.{tree_of}
+use Rattle.tv_framing.proofs.faults.OfPlaces.{mapped-at}
 use Rattle.tv_frame.proofs.OfFaultingTrees.{leaf-found}
 
 -- all that is known of inputs and outputs, by their numbers
@@ -45,7 +44,7 @@ pub record KnowsAll (levels : Name → ℕ) (v : View) (k : Known) : Type 0 wher
   pub inputs : (y : Name) → has_name v.flow.inputs y ≡ true → slice_get k.inputs (position y v.flow.inputs) ≡ Some (value_given v.inputs y)
   pub outputs :
       (t o : Name) → is_there v.flow (output t o) ≡ true
-      → k.outputs (position t v.flow.steps) (position o (outputs_of v.flow t)) ≡ tree_of v.flow levels v.inputs v.events t o
+      → k.outputs (position t v.flow.steps) (position o (outputs_of v.flow t)) ≡ tree_of v.flow levels v.events t o
 
 module _ (flows : List (Name × Flow)) (levels : Name → ℕ) (v : View) (depths : IsOfDepths flows levels v) (frame : IsFrame v) (k : Known) (all : KnowsAll levels v k) (instance : JobName) (results : Results) (depth : AreOfDepth v instance results) (x : Extends results v.events)
     (before : List InstanceStep) (made : Each (IsMade v.flow levels instance results (given_of v.flow v.inputs)) before) (stay : (g : InstanceStep) → In g before → In g (steps_with v instance results)) where
@@ -59,7 +58,7 @@ module _ (flows : List (Name × Flow)) (levels : Name → ℕ) (v : View) (depth
   fits g i = legal-fit instance fs g (in-finds fs (steps-distinct v instance results) g (stay g i)) v.events (frame.legal instance results depth x)
 
   leveled : (g : InstanceStep) → In g before → HasLevels g.step.iteration (levels g.step.step)
-  leveled g i = (each-in (HasItsLevels levels) g fs (steps-have_their_levels flows v.flow depths.flow v.inputs depths.inputs instance results depth levels depths.levels_are) (stay g i)).levels_told
+  leveled g i = (each_in (HasItsLevels levels) fs (steps-have_their_levels flows v.flow depths.flow v.inputs depths.inputs instance results depth levels depths.levels_are) g (stay g i)).levels_told
 
   link-known : (l : Link) → is_there v.flow l ≡ true → LinkIsFound v.flow levels instance results v.inputs before l (link_delivers step_of given before l) → (q : Place) (o : Origin) (e : ErrorDoc) → at (link_delivers step_of given before l).value q ≡ Some (leaf o (fault e)) → known_by instance v.events o ≡ true → link_found k (link_numbered v.flow l) q ≡ Some (fault_value e)
   link-known (input y) there h q o e a c =
@@ -68,7 +67,7 @@ module _ (flows : List (Name × Flow)) (levels : Name → ℕ) (v : View) (depth
       ∙ mapped-at (λ n. tt) (link_delivers step_of given before (input y)).value q (leaf o (fault e)) a
   link-known (output t p) there h q o e a c =
       let outs = outputs_of v.flow t in
-      let same : tree_of v.flow levels v.inputs v.events t p ≡ part_so_far h.step.step.step h.out.0 h.out.2 h.out.1 v.events =
+      let same : tree_of v.flow levels v.events t p ≡ part_so_far h.step.step.step h.out.0 h.out.2 h.out.1 v.events =
       ap (λ s. part_so_far s (position p outs) (levels t) (unwrap_or (named p outs) 0) v.events) (sym h.name)
       ∙ ap (λ m. part_so_far h.step.step.step m (levels t) (unwrap_or (named p outs) 0) v.events) (sym h.number)
       ∙ ap₂ (λ m d. part_so_far h.step.step.step h.out.0 m d v.events) (sym h.leveled) (sym h.declared) in
@@ -99,18 +98,18 @@ pub record IsPortAt (delivers : Feed → Delivered) (is : List (Name × StepInpu
   pub number : ℕ
   pub takes : StepInput
   pub stands : slice_get is number ≡ Some (n, takes)
-  pub port_is : p ≡ ported takes.depth (delivers takes.from)
+  pub port_is : p ≡ at_port takes.depth (delivers takes.from)
 
 pub port-at : (delivers : Feed → Delivered) (is : List (Name × StepInput)) (n : Name) (p : Ported) → named n (ports_on delivers is) ≡ Some p → IsPortAt delivers is n p
 port-at delivers [] n p e = absurd (none-some p e)
 port-at delivers (i ∷ is) n p e = by (same_name n i.0) refl e (λ g. port-at delivers is n p g)
   where
-    by : (b : Bool) → same_name n i.0 ≡ b → (if b then Some (ported i.1.depth (delivers i.1.from)) else named n (ports_on delivers is)) ≡ Some p → (named n (ports_on delivers is) ≡ Some p → IsPortAt delivers is n p) → IsPortAt delivers (i ∷ is) n p
+    by : (b : Bool) → same_name n i.0 ≡ b → (if b then Some (at_port i.1.depth (delivers i.1.from)) else named n (ports_on delivers is)) ≡ Some p → (named n (ports_on delivers is) ≡ Some p → IsPortAt delivers is n p) → IsPortAt delivers (i ∷ is) n p
     by true f g rec = record { number = 0; takes = i.1; stands = ap (λ m. Some (m, i.1)) (sym (same_name-is n i.0 f)); port_is = sym (same_Some _ _ g) }
     by false f g rec = let r = rec g in record { number = suc r.number; takes = r.takes; stands = r.stands; port_is = r.port_is }
 
 -- a port that walks levels is not wrapped
-pub not-wrapped : (declared : ℕ) (d : Delivered) → 0 < (ported declared d).mismatch → (ported declared d).value ≡ d.value
+pub not-wrapped : (declared : ℕ) (d : Delivered) → 0 < (at_port declared d).mismatch → (at_port declared d).value ≡ d.value
 not-wrapped declared d h = ap (λ n. wrapped n d.value) (none d.depth h)
   where
     none : (n : ℕ) → 0 < n - declared → declared - n ≡ 0

@@ -13,15 +13,15 @@ use Rattle.tv_naming.proofs.ByPosition.{there}
 use Rattle.tv_wires.specs.Feeds.{outputs_of}
 use Rattle.tv_outputs.specs.Known.{Nodes, known, tree_in}
 use Rattle.tv_cell.specs.PieceValues.{piece_values}
-use Rattle.tv_bound.specs.declared.sources.Sources.{Sources}
-use Rattle.tv_bound.specs.Sourced.{known_by, tree_from}
+use Rattle.tv_binding.specs.declared.sources.Sources.{Sources}
+use Rattle.tv_binding.specs.Sourced.{known_by, tree_from}
 use Rattle.tv_check.specs.declared.plans.FlowPlan.{FlowPlan}
 use Rattle.tv_model.specs.Instances.{value_given}
 use Rattle.tv_framing.specs.Arriving.{part_so_far}
 use Rattle.tv_framing.specs.Views.{View}
-use Rattle.tv_fed.proofs.OfNames.{is-named}
-use Rattle.tv_truly.specs.Known.{tree_of}
-use Rattle.tv_truly.proofs.OfNumbers.{step-there}
+use Rattle.tv_framing.proofs.feeds.OfNames.{is-named}
+use Rattle.tv_framing.specs.faults.Known.{tree_of}
+use Rattle.tv_framing.proofs.faults.OfNumbers.{step-there}
 use Rattle.tv_frame.specs.declared.frame.Frame.{Frame}
 use Rattle.tv_frame.specs.Kept.{Keeps, declared_at}
 use Rattle.tv_frame.specs.Tables.{first_tree, levels_in}
@@ -42,7 +42,7 @@ module _ (flows : List (Name × Flow)) (plan : FlowPlan) (pool : Nodes) (f : Fra
       ∙ get-map (λ (z : Name × Value). z.1) v.inputs (position y v.inputs) (y, st.thing) st.here
       ∙ ap (λ o. Some (unwrap_or o (list tt no_trees))) (sym st.named_so)
 
-  tree-so : (t o : Name) → is_there v.flow (output t o) ≡ true → tree_from (known a.pool.now a.outputs.now) (slice_get a.firsts.now (position t v.flow.steps)) (position o (outputs_of v.flow t)) ≡ tree_of v.flow levels v.inputs v.events t o
+  tree-so : (t o : Name) → is_there v.flow (output t o) ≡ true → tree_from (known a.pool.now a.outputs.now) (slice_get a.firsts.now (position t v.flow.steps)) (position o (outputs_of v.flow t)) ≡ tree_of v.flow levels v.events t o
   tree-so t o h =
       let b = step-there v.flow t o h in
       let st = is-named t v.flow.steps b.0 in

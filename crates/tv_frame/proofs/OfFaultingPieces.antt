@@ -18,15 +18,16 @@ use Rattle.tv_outputs.specs.Known.{Nodes}
 use Rattle.tv_instance.specs.Events.{fault_set}
 use Rattle.tv_framing.specs.Arriving.{levels_below}
 use Rattle.tv_framing.specs.Views.{View}
-use Rattle.tv_drawn.specs.Steps.{IsStepAt}
+use Rattle.tv_framing.specs.matches.Steps.{IsStepAt}
 use Rattle.tv_frame.specs.declared.frame.Frame.{Frame}
 use Rattle.tv_frame.specs.Calls.{ArePassed}
 use Rattle.tv_frame.specs.Kept.{Keeps, declared_at}
 use Rattle.tv_frame.specs.Prepared.{event_value}
-use Rattle.tv_frame.specs.Tables.{at_least_one, levels_at, levels_in}
+use Rattle.tv_frame.specs.Tables.{at_least_one, levels_in}
+use Rattle.tv_depths.specs.Tables.{step_level}
 use Rattle.tv_frame.proofs.OfFaultingKnown.{index-mapped}
 use Rattle.tv_frame.proofs.OfKeeping.{kept-wired, levels-are, step-there}
-use Rattle.tv_joined.proofs.OfTurning.{left-below as less-below}
+use Rattle.tv_framing.proofs.engine.OfTurning.{left-below as less-below}
 
 -- what a viewed list has at a number
 pub at-view : {A B : Type 0} (g : A → B) (xs : List A) (n : ℕ) (d : A) (s : B) → slice_get (map g xs) n ≡ Some s → g (slice_index_or xs n d) ≡ s
@@ -84,9 +85,9 @@ module _ (v : View) (s : Name × Step) (q : Place) (d : ErrorDoc) (left : ℕ) (
 
 pub left-so :
     (flows : List (Name × Flow)) (plan : FlowPlan) (pool : Nodes) (f : Frame) (v : View) (n : ℕ) (s : Name × Step) → Keeps flows plan pool f v → IsStepAt v n s
-    → (q : Place) (left : ℕ) → left ≡ levels_at (flow_view plan.flow) s.1 - length q → left ≡ levels_in v.flow s.0 - length q
+    → (q : Place) (left : ℕ) → left ≡ step_level (flow_view plan.flow) s.1 - length q → left ≡ levels_in v.flow s.0 - length q
 left-so flows plan pool f v n s keeps at q left e =
-    e ∙ ap (λ (g : Flow). levels_at g s.1 - length q) (sym keeps.flow_is)
+    e ∙ ap (λ (g : Flow). step_level g s.1 - length q) (sym keeps.flow_is)
     ∙ ap (λ m. m - length q) (sym (levels-are v.flow (kept-wired flows plan pool f v keeps) n s at))
 
 pub outputs-so :

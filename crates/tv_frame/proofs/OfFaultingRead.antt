@@ -5,6 +5,7 @@ use Rattle.std.proofs.Common.{Fits, arith, w64, sym, ap, subst, ◌∙◌}
 use Rattle.std.proofs.lemmas.List.{length-map}
 use Rattle.std.proofs.lemmas.Option.{slice_get_within}
 use Rattle.std.proofs.lemmas.Bool.{and_parts}
+use Rattle.tv_lemmas.specs.Members.{In}
 use Rattle.tv_lemmas.proofs.Lists.{get-map, index-map}
 use Rattle.tv_value.specs.Nested.{Place}
 use Rattle.tv_value.specs.Values.{ErrorDoc, Name, Value, fault_value}
@@ -18,24 +19,24 @@ use Rattle.tv_wires.specs.declared.wiring.Wiring.{Wiring}
 use Rattle.tv_wires.specs.Feeds.{feed_numbered}
 use Rattle.tv_wires.specs.Ports.{ports_of}
 use Rattle.tv_outputs.specs.Known.{Nodes}
-use Rattle.tv_bound.specs.declared.sources.Sources.{Sources}
-use Rattle.tv_bound.specs.Constants.{FlowConstants, constant_in, constant_of_port, constants_view, port_constants, there}
-use Rattle.tv_bound.specs.Found.{feed_found}
-use Rattle.tv_bound.specs.Sourced.{IsCounted, known_by}
+use Rattle.tv_binding.specs.declared.sources.Sources.{Sources}
+use Rattle.tv_binding.specs.Constants.{FlowConstants, constant_in, constant_of_port, constants_view, port_constants, there}
+use Rattle.tv_binding.specs.Found.{feed_found}
+use Rattle.tv_binding.specs.Sourced.{IsCounted, known_by}
 use Rattle.tv_check.specs.declared.plans.FlowPlan.{FlowPlan}
 use Rattle.tv_check.specs.declared.plans.StepPlan.{StepPlan}
 use Rattle.tv_check.specs.Plans as plans
 use Rattle.tv_check.specs.PlanViews.{step_plan_view}
 use Rattle.tv_intake.specs.Intaken.{matcher_at}
-use Rattle.tv_model.specs.Members.{In}
 use Rattle.tv_instance.specs.Events.{fault_set}
 use Rattle.tv_framing.specs.Answers.{CanSettle}
 use Rattle.tv_framing.specs.Views.{View}
-use Rattle.tv_drawn.specs.Steps.{IsStepAt}
-use Rattle.tv_drawn.specs.Waiting.{waiting_of}
+use Rattle.tv_framing.specs.matches.Steps.{IsStepAt}
+use Rattle.tv_framing.specs.matches.Waiting.{waiting_of}
 use Rattle.tv_frame.specs.declared.frame.Frame.{Frame}
 use Rattle.tv_frame.specs.Kept.{Keeps, followed_by}
-use Rattle.tv_frame.specs.Tables.{levels_at, step_starts}
+use Rattle.tv_frame.specs.Tables.{step_starts}
+use Rattle.tv_depths.specs.Tables.{step_level}
 use Rattle.tv_frame.proofs.OfFaulting.{begins, fault-found, from, port-there, takes}
 use Rattle.tv_frame.proofs.OfFaultingKnown.{index-mapped, knows-all, read-there}
 use Rattle.tv_frame.proofs.OfGiven.{feed-counted}
@@ -47,10 +48,10 @@ ok-weaken P Q (Ok x) h p = h x p
 ok-weaken P Q (Err e) h p = p
 
 -- the depth of a step's strategy, by the plan
-plan-levels : (f : Flow) (s : Name × Step) → (plans.step_plan f s).depth ≡ levels_at f s.1
+plan-levels : (f : Flow) (s : Name × Step) → (plans.step_plan f s).depth ≡ step_level f s.1
 plan-levels f (n, s) = refl
 
-pub planned : (p : FlowPlan) (n : ℕ) (d : StepPlan) (s : Name × Step) → slice_get (flow_view p.flow).steps n ≡ Some s → (slice_index_or p.steps n d).depth ≡ levels_at (flow_view p.flow) s.1
+pub planned : (p : FlowPlan) (n : ℕ) (d : StepPlan) (s : Name × Step) → slice_get (flow_view p.flow).steps n ≡ Some s → (slice_index_or p.steps n d).depth ≡ step_level (flow_view p.flow) s.1
 planned p n d s e =
     ap (λ (y : plans.StepPlan). y.depth)
     (sym (index-mapped step_plan_view p.steps n d)

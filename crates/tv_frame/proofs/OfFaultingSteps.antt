@@ -6,6 +6,8 @@ use Rattle.std.proofs.Math.Path.{fun_ext}
 use Rattle.std.proofs.lemmas.Bool.{and_parts, true≢false}
 use Rattle.std.proofs.lemmas.List.{map-append}
 use Rattle.std.proofs.lemmas.List.Sorted.{IsPermutation-sym}
+use Rattle.tv_lemmas.specs.Members.{Each, In}
+use Rattle.tv_lemmas.proofs.OfMembers.{each_in, in-map, in_each, of-map}
 use Rattle.tv_value.specs.Nested.{leaf, list, note, Place, at}
 use Rattle.tv_value.specs.Orders.{named, same_name}
 use Rattle.tv_value.specs.Strategies.{Strategy, Strategies, cross, dot, no_strategies, port, strategy}
@@ -16,31 +18,29 @@ use Rattle.tv_strategy.specs.Conditions.{EachOnce, number_of, place_of, times}
 use Rattle.tv_strategy.specs.Iterations.{Iteration, walk}
 use Rattle.tv_strategy.specs.Measures.{DotsAgree, all_leaf_names, leaf_names, strategy_depth}
 use Rattle.tv_strategy.specs.Origins.{Origin, Traced, plain}
-use Rattle.tv_strategy.specs.Sources.{Each}
 use Rattle.tv_strategy.specs.Splits.{split}
-use Rattle.tv_depths.specs.Delivered.{Ported}
-use Rattle.tv_depths.specs.Ranks.{is_among}
-use Rattle.tv_depths.specs.Steps.{port_mismatch, strategy_of}
+use Rattle.tv_instance.specs.Delivered.{Ported}
+use Rattle.tv_instance.specs.Ranks.{is_among}
+use Rattle.tv_instance.specs.Steps.{port_mismatch, strategy_of}
 use Rattle.tv_matching.specs.Items.{Bound, Item, Kind, Stopped, closes, ends, item, kind_of, known_items, passes}
 use Rattle.tv_matching.specs.Matched.{matched}
 use Rattle.tv_matching.specs.Matchers.{Outcome, fault_at, kind_out, leaf_number, out}
-use Rattle.tv_matching.specs.Members.{In}
-use Rattle.tv_matching.specs.Told.{IsFit, Spot, Told, arrival, bound_there, close, faulty, map_kind, matched_after, seen, stop_of, stop_there, telling, told_leaf, told_to}
+use Rattle.tv_matching.specs.Told.{IsFit, Spot, Told, arrival, bound_there, close, faulty, map_kind, matched_after, item_there, stop_of, stop_there, telling, told_leaf, told_to}
 use Rattle.tv_matching.proofs.Heard.{walk-comes}
 use Rattle.tv_matching.proofs.OfMatchers.{PassesHave, matched-have}
-use Rattle.tv_matching.proofs.OfMembers.{each-from, each-in, in-map, in-permutes, of-map}
+use Rattle.tv_matching.proofs.OfMembers.{in-permutes}
 use Rattle.tv_matching.proofs.Permutes.{perm-from}
 use Rattle.tv_wires.specs.Ports.{mismatches}
 use Rattle.tv_instance.specs.ByResults.{InstanceStep}
 use Rattle.tv_instance.specs.Events.{Events, known_by}
 use Rattle.tv_framing.proofs.OfFrames.{known-stands}
-use Rattle.tv_kept.specs.Told.{PortIsTold}
+use Rattle.tv_framing.specs.keeping.Told.{PortIsTold}
 use Rattle.tv_starts.specs.Starts.{cross_starts, dot_starts, starts}
 use Rattle.tv_starts.proofs.OfFaults.{faults-stand}
-use Rattle.tv_drawn.specs.Items.{IsFaultOf, part_at}
-use Rattle.tv_drawn.proofs.OfLeaves.{among-in, at_leaves, in-among, leaf-in, leaves-permute, number-names, of-told, part-is, told-parted, PassesAt, each-once}
-use Rattle.tv_drawn.proofs.OfMatched.{at-plain, leaf-leveled, matched-known, named-in}
-use Rattle.tv_drawn.proofs.OfSteps.{IsMadeOf, value_in}
+use Rattle.tv_framing.specs.matches.Items.{IsFaultOf, part_at}
+use Rattle.tv_framing.proofs.matches.OfLeaves.{among-in, at_leaves, in-among, leaf-in, leaves-permute, number-names, of-told, part-is, told-parted, PassesAt, each-once}
+use Rattle.tv_framing.proofs.matches.OfMatched.{at-plain, leaf-leveled, matched-known, leaf-walks}
+use Rattle.tv_framing.proofs.matches.OfSteps.{IsMadeOf, value_in}
 use Rattle.tv_frame.specs.Tables.{step_starts}
 
 -- ---- values
@@ -156,9 +156,6 @@ module _ (flow : Flow) (s : Name × Step) (f : InstanceStep) (made : IsMadeOf fl
     above : length r.1 < port.mismatch
     fault : IsKnownFault known (at port.value r.1)
 
-  leaf-walks : (p : Name) (a : Ported) → named p f.step.inputs ≡ Some a → IsPermutation (map (seen values) (told_to ts p)) (known_items known (walk p a.mismatch a.value))
-  leaf-walks p a e = each-in (PortIsTold instance es ts) (p, a) f.step.inputs told (named-in p f.step.inputs a e) values (ap value_in e)
-
   told-holds : (p : Name) → In p leaves → (x : Item Spot Spot) → In x (told_to ts p) → PassesHave Holds x.kind
   told-holds p j x i =
       let t = of-told ts p x i in
@@ -170,8 +167,8 @@ module _ (flow : Flow) (s : Name × Step) (f : InstanceStep) (made : IsMadeOf fl
       by (arrival n q false) e k a g = tt
       by (arrival n q true) e k a g =
           let r = walked-fault known p a.mismatch a.value (item q (passes (stop_there values (n, q)))) (stop_there values (n, q)) refl
-          (in-permutes (item q (passes (stop_there values (n, q)))) (known_items known (walk p a.mismatch a.value)) (map (seen values) (told_to ts p)) (IsPermutation-sym _ _ (leaf-walks p a g))
-          (in-map (seen values) (telling (arrival n q true)).item (told_to ts p) k)) in
+          (in-permutes (item q (passes (stop_there values (n, q)))) (known_items known (walk p a.mismatch a.value)) (map (item_there values) (told_to ts p)) (IsPermutation-sym _ _ (leaf-walks flow s f made instance es ts told p a g))
+          (in-map (item_there values) (telling (arrival n q true)).item (told_to ts p) k)) in
           subst (λ m. Holds (m, q)) e (record { port = a; input = g; above = r.1; fault = r.0 })
       by (faulty n q) e k a g = tt
       by (close n q m) e k a g = tt
@@ -180,9 +177,7 @@ module _ (flow : Flow) (s : Name × Step) (f : InstanceStep) (made : IsMadeOf fl
   matched-holds : (x : Item Spot Spot) → In x (matched_after (strategy_of s.1) ts) → PassesHave Holds x.kind
   matched-holds x i =
       let told' : Name → List (Item Spot Spot) = at_leaves (port_mismatch f.step.inputs) ts (strategy_of s.1) (leaf-leveled flow s f made instance es ts told) in
-      each-in (λ (y : Item Spot Spot). PassesHave Holds y.kind) x (matched told' (strategy_of s.1))
-      (matched-have Holds told' (λ p. each-from (λ (y : Item Spot Spot). PassesHave Holds y.kind) (told' p) (λ y j. of-leaf p y (is_among leaves p) refl j)) (strategy_of s.1))
-      (in-permutes x (matched told' (strategy_of s.1)) (matched_after (strategy_of s.1) ts)
+      each_in (λ (y : Item Spot Spot). PassesHave Holds y.kind) (matched told' (strategy_of s.1)) (matched-have Holds told' (λ p. in_each (λ (y : Item Spot Spot). PassesHave Holds y.kind) (told' p) (λ y j. of-leaf p y (is_among leaves p) refl j)) (strategy_of s.1)) x (in-permutes x (matched told' (strategy_of s.1)) (matched_after (strategy_of s.1) ts)
       (leaves-permute told' (told_to ts) (strategy_of s.1) (λ p j. perm-from (told' p) (told_to ts p) (ap (λ b. if b then told_to ts p else []) (in-among p leaves j))))
       i)
     where
@@ -191,12 +186,12 @@ module _ (flow : Flow) (s : Name × Step) (f : InstanceStep) (made : IsMadeOf fl
       of-leaf p y false e j = absurd j
 
   -- and is known of the step's iteration, with its mark
-  seen-among : (x : Item Spot Spot) → In x (matched_after (strategy_of s.1) ts) → In (seen values x) (known_items known f.step.iteration)
+  seen-among : (x : Item Spot Spot) → In x (matched_after (strategy_of s.1) ts) → In (item_there values x) (known_items known f.step.iteration)
   seen-among x i =
-      in-permutes (seen values x) (known_items known f.step.iteration) (map (seen values) (matched_after (strategy_of s.1) ts)) (IsPermutation-sym _ _ (matched-known flow s f made instance es ts told))
-      (in-map (seen values) x (matched_after (strategy_of s.1) ts) i)
+      in-permutes (item_there values x) (known_items known f.step.iteration) (map (item_there values) (matched_after (strategy_of s.1) ts)) (IsPermutation-sym _ _ (matched-known flow s f made instance es ts told))
+      (in-map (item_there values) x (matched_after (strategy_of s.1) ts) i)
 
-  seen-as : (x : Item Spot Spot) (r : Spot) → x.kind ≡ passes r → (h : Holds r) → seen values x ≡ item x.place (passes (h.fault.origin.mark, h.fault.document))
+  seen-as : (x : Item Spot Spot) (r : Spot) → x.kind ≡ passes r → (h : Holds r) → item_there values x ≡ item x.place (passes (h.fault.origin.mark, h.fault.document))
   seen-as x r e h =
       ap (λ k. item x.place (map_kind (bound_there values) (stop_there values) k)) e
       ∙ ap (λ (w : Stopped). item x.place (passes w)) (ap (λ (w : Option Ported). stop_of (at (value_in w) r.1)) h.input ∙ ap stop_of h.fault.is)

@@ -9,25 +9,25 @@ use Rattle.tv_strategy.specs.Iterations.{End, Iteration, Iterations, job, passed
 use Rattle.tv_strategy.specs.Levels.{HasLevels}
 use Rattle.tv_strategy.specs.Origins.{Origin, from_job, plain, traced}
 use Rattle.tv_strategy.specs.Outputs.{output_below, outputs_from}
-use Rattle.tv_depths.specs.Delivered.{Delivered}
-use Rattle.tv_depths.specs.Steps.{spot}
+use Rattle.tv_instance.specs.Delivered.{Delivered}
+use Rattle.tv_instance.specs.Steps.{spot}
 use Rattle.tv_parts.specs.Below.{Below, value_in}
 use Rattle.tv_parts.specs.Partials.{Partial, closed, growing, item, known_at, part_of, wanting, whole}
 use Rattle.tv_parts.proofs.Wholeness.{whole-is}
 use Rattle.tv_outputs.specs.FoundIn.{found_in}
-use Rattle.tv_bound.proofs.Finding.{found-in}
+use Rattle.tv_binding.proofs.Finding.{found-in}
 use Rattle.tv_instance.specs.ByResults.{InstanceStep, Results, result_at}
 use Rattle.tv_instance.specs.Events.{Events, Extends, known_by}
 use Rattle.tv_instance.specs.Fitting.{FitStep}
 use Rattle.tv_instance.specs.Wholeness.{origin_at}
-use Rattle.tv_instances.proofs.OfCounting.{whole-by_events}
+use Rattle.tv_framing.proofs.instances.OfCounting.{whole-by_events}
 use Rattle.tv_framing.specs.Arriving.{levels_below, part_so_far}
 use Rattle.tv_framing.specs.Gaining.{IsOutputOf}
 use Rattle.tv_framing.proofs.OfLaws.{parts-are_below}
-use Rattle.tv_joined.proofs.OfChanges.{known-wanting}
-use Rattle.tv_joined.proofs.OfTurning.{whole-there, levels-at}
-use Rattle.tv_truly.proofs.OfParts.{known-below}
-use Rattle.tv_truly.proofs.OfPlaces.{mapped-at}
+use Rattle.tv_framing.proofs.engine.OfChanges.{known-wanting}
+use Rattle.tv_framing.proofs.engine.OfTurning.{whole-there, levels-at}
+use Rattle.tv_framing.proofs.faults.OfParts.{known-below}
+use Rattle.tv_framing.proofs.faults.OfPlaces.{mapped-at}
 
 -- ---- leaves of outputs
 

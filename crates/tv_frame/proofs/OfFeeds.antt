@@ -3,6 +3,8 @@ use Rattle.std.specs.List.{list_all}
 use Rattle.std.specs.Prelude.{◌≡◌, refl, ℕ, true, ◌&&◌, ◌||◌, List, [], ◌∷◌, map, Some, slice_index_or, unwrap_or}
 use Rattle.std.proofs.Common.{sym, ap, ap₂, subst, ◌∙◌, inl, inr}
 use Rattle.std.proofs.lemmas.Bool.{and_parts, or_right}
+use Rattle.tv_lemmas.specs.Members.{Each, In}
+use Rattle.tv_lemmas.proofs.OfMembers.{each_in}
 use Rattle.tv_lemmas.proofs.Lists.{index-map}
 use Rattle.tv_value.specs.Nested.{map_trees, tree, trees_of}
 use Rattle.tv_value.specs.Orders.{named, same_name}
@@ -11,42 +13,39 @@ use Rattle.tv_value.proofs.OfNames.{same_name-refl}
 use Rattle.tv_flow.specs.Flows.{Feed, Flow, Link, constant, input, link, merge, output}
 use Rattle.tv_strategy.specs.Levels.{HasLevels}
 use Rattle.tv_strategy.specs.Origins.{fixed, plain}
-use Rattle.tv_strategy.specs.Sources.{Each}
 use Rattle.tv_strategy.proofs.OfEach.{each-weaken}
 use Rattle.tv_naming.specs.Naming.{feed_links, has_name, is_there}
 use Rattle.tv_naming.specs.Numbers.{position}
-use Rattle.tv_depths.specs.Delivered.{Delivered, feed_delivers, link_delivers}
-use Rattle.tv_depths.specs.Ranks.{is_among}
-use Rattle.tv_matching.proofs.OfMembers.{each-in}
+use Rattle.tv_instance.specs.Delivered.{Delivered, feed_delivers, link_delivers}
+use Rattle.tv_instance.specs.Ranks.{is_among}
 use Rattle.tv_parts.specs.Below.{Below}
 use Rattle.tv_parts.specs.Partials.{Partial, whole}
 use Rattle.tv_wires.specs.Feeds.{feed_numbered, link_numbered, outputs_of}
-use Rattle.tv_bound.specs.Constants.{constant_in}
-use Rattle.tv_bound.specs.Delivered.{FlowValues, feed_value, link_value, no_items}
+use Rattle.tv_binding.specs.Constants.{constant_in}
+use Rattle.tv_binding.specs.Delivered.{FlowValues, feed_value, link_value, no_items}
 use Rattle.tv_model.specs.Instances.{given_of, value_given}
-use Rattle.tv_model.specs.Members.{In}
 use Rattle.tv_instance.specs.ByResults.{InstanceStep, Results, step_of}
 use Rattle.tv_instance.specs.Counting.{whole_by}
 use Rattle.tv_instance.specs.Events.{Extends}
 use Rattle.tv_instance.specs.Fitting.{FitStep}
 use Rattle.tv_instance.specs.Legality.{AreLegal}
-use Rattle.tv_instances.proofs.OfLegal.{legal-fit}
-use Rattle.tv_instances.proofs.OfLevels.{steps-have_their_levels}
-use Rattle.tv_instances.specs.Stated.{HasItsLevels}
+use Rattle.tv_framing.proofs.instances.OfLegal.{legal-fit}
+use Rattle.tv_framing.proofs.instances.OfLevels.{steps-have_their_levels}
+use Rattle.tv_framing.specs.instances.Stated.{HasItsLevels}
 use Rattle.tv_framing.specs.Arriving.{part_so_far}
 use Rattle.tv_framing.specs.Stated.{IsOfDepths}
 use Rattle.tv_framing.specs.Views.{AreOfDepth, InAll, View, steps_with}
 use Rattle.tv_framing.proofs.OfFrames.{in-finds, steps-distinct}
 use Rattle.tv_framing.proofs.OfLaws.{parts-are_below}
-use Rattle.tv_joined.specs.WiredFlows.{IsWired}
-use Rattle.tv_joined.proofs.OfTrees.{trees-whole}
-use Rattle.tv_fed.proofs.OfNames.{is-named}
-use Rattle.tv_begun.proofs.OfInstances.{step-there}
-use Rattle.tv_begun.proofs.OfPlain.{plain-input, plain-traced}
-use Rattle.tv_begun.proofs.OfPorts.{IsFound, link-found}
-use Rattle.tv_begun.proofs.OfSteps.{IsMade, IsPlaced, all_depths, names_in, steps-placed}
-use Rattle.tv_truly.specs.Known.{tree_of}
-use Rattle.tv_truly.proofs.OfNumbers.{step-there as output-there}
+use Rattle.tv_framing.specs.engine.WiredFlows.{IsWired}
+use Rattle.tv_framing.proofs.engine.OfTrees.{trees-whole}
+use Rattle.tv_framing.proofs.feeds.OfNames.{is-named}
+use Rattle.tv_framing.proofs.starts.OfInstances.{step-there}
+use Rattle.tv_framing.proofs.starts.OfPlain.{plain-input, plain-traced}
+use Rattle.tv_framing.proofs.starts.OfPorts.{IsFound, link-found}
+use Rattle.tv_framing.proofs.starts.OfSteps.{IsMade, IsPlaced, all_depths, names_in, steps-placed}
+use Rattle.tv_framing.specs.faults.Known.{tree_of}
+use Rattle.tv_framing.proofs.faults.OfNumbers.{step-there as output-there}
 use Rattle.tv_frame.proofs.OfHoldTold.{same-names-has, same-names-position}
 
 -- ---- by names and by numbers
@@ -110,7 +109,7 @@ module _ (flows : List (Name × Flow)) (levels : Name → ℕ) (w : View) (depth
   -- its tree is that of the output by its number
   pub output-tree : (t o : Name) (there : is_there w.flow (output t o) ≡ true)
       → let h = output-found t o there in
-      tree_of w.flow levels w.inputs w.events t o ≡ part_so_far h.step.step.step h.out.0 h.out.2 h.out.1 w.events
+      tree_of w.flow levels w.events t o ≡ part_so_far h.step.step.step h.out.0 h.out.2 h.out.1 w.events
   output-tree t o there =
       let h = output-found t o there in
       ap (λ s. part_so_far s (position o (outputs_of w.flow t)) (levels t) (unwrap_or (named o (outputs_of w.flow t)) 0) w.events) (sym h.name)
@@ -118,18 +117,18 @@ module _ (flows : List (Name × Flow)) (levels : Name → ℕ) (w : View) (depth
       ∙ ap₂ (λ l c. part_so_far h.step.step.step h.out.0 l c w.events) (sym h.leveled) (sym h.declared)
 
   -- THE OUTPUTS: what was told of one is below its value
-  pub output-below : (t o : Name) → is_there w.flow (output t o) ≡ true → Below (tree_of w.flow levels w.inputs w.events t o) (plain (link_delivers step_of its_given all_steps (output t o)).value)
+  pub output-below : (t o : Name) → is_there w.flow (output t o) ≡ true → Below (tree_of w.flow levels w.events t o) (plain (link_delivers step_of its_given all_steps (output t o)).value)
   output-below t o there =
       let d = link_delivers step_of its_given all_steps (output t o) in
       let h = output-found t o there in
       subst (λ (r : Partial Value). Below r (plain d.value)) (sym (output-tree t o there)) (parts-are_below instance results h.step d h.out w.events x (fit-step h.step h.among))
 
   -- and it is all there where the step is whole by counting
-  pub output-whole : (t o : Name) → is_there w.flow (output t o) ≡ true → whole (tree_of w.flow levels w.inputs w.events t o) ≡ whole_by w.events t (levels t) []
+  pub output-whole : (t o : Name) → is_there w.flow (output t o) ≡ true → whole (tree_of w.flow levels w.events t o) ≡ whole_by w.events t (levels t) []
   output-whole t o there =
       let h = output-found t o there in
       let g = h.step in
-      let has = (each-in (HasItsLevels levels) g all_steps (steps-have_their_levels flows w.flow depths.flow w.inputs depths.inputs instance results depth levels depths.levels_are) h.among).levels_told in
+      let has = (each_in (HasItsLevels levels) all_steps (steps-have_their_levels flows w.flow depths.flow w.inputs depths.inputs instance results depth levels depths.levels_are) g h.among).levels_told in
       subst (λ (m : Name). whole (part_so_far m (position o (outputs_of w.flow t)) (levels t) (unwrap_or (named o (outputs_of w.flow t)) 0) w.events) ≡ whole_by w.events m (levels t) []) h.name
       (trees-whole g (levels t) (subst (λ (m : Name). HasLevels g.step.iteration (levels m)) h.name has) w.events (fit-step g h.among) (position o (outputs_of w.flow t)) (unwrap_or (named o (outputs_of w.flow t)) 0) [] g.step.iteration refl)
 

@@ -4,6 +4,7 @@ use Rattle.std.proofs.Common.{arith, sym, ap, subst, ◌∙◌, append-nil, eq-e
 use Rattle.std.proofs.lemmas.List.{length-map}
 use Rattle.std.proofs.lemmas.List.Sorted.{IsPermutation-append, IsPermutation-map, IsPermutation-sym}
 use Rattle.std.proofs.lemmas.Bool.{and_parts}
+use Rattle.tv_lemmas.specs.Members.{Each}
 use Rattle.tv_lemmas.proofs.Lists.{get-map}
 use Rattle.tv_value.specs.Strategies.{Strategy}
 use Rattle.tv_value.specs.Values.{Name, Value}
@@ -14,11 +15,10 @@ use Rattle.tv_flow.specs.Forms.{is_name}
 use Rattle.tv_flow.specs.Views.{flow_view}
 use Rattle.tv_strategy.specs.Conditions.{Suits, number_of}
 use Rattle.tv_strategy.specs.Measures.{DotsAgree, leaf_names, strategy_depth}
-use Rattle.tv_strategy.specs.Sources.{Each}
 use Rattle.tv_strategy.proofs.OfEach.{each-weaken}
 use Rattle.tv_naming.proofs.FormedParts.{all-pass, passes, step-at, step-inputs}
 use Rattle.tv_naming.proofs.OfTold.{got-in}
-use Rattle.tv_depths.specs.Steps.{strategy_of}
+use Rattle.tv_instance.specs.Steps.{strategy_of}
 use Rattle.tv_cell.specs.declared.piece.Piece.{Piece}
 use Rattle.tv_cell.specs.PieceValues.{piece_value, piece_values}
 use Rattle.tv_wires.specs.declared.wiring.Wiring.{Wiring}
@@ -40,13 +40,13 @@ use Rattle.tv_intake.specs.Intaken.{CanHold, matcher_at}
 use Rattle.tv_idle.specs.Idles.{Idles, of_step}
 use Rattle.tv_spread.specs.Spreads.{IsLevelled}
 use Rattle.tv_telling.specs.Views.{AreTellings}
-use Rattle.tv_bound.specs.Constants.{FlowConstants, constant_of_port, flow_constants}
+use Rattle.tv_binding.specs.Constants.{FlowConstants, constant_of_port, flow_constants}
 use Rattle.tv_framing.specs.Views.{View}
-use Rattle.tv_opening.specs.Openings.{IsFedFrom}
-use Rattle.tv_begun.specs.Starts.{port_start, step_start}
-use Rattle.tv_begun.specs.Stated.{IsBegun}
-use Rattle.tv_begun.proofs.OfLaws.{start-can_be_told}
-use Rattle.tv_begun.proofs.OfStarts.{feed-to}
+use Rattle.tv_telling.specs.Openings.{IsFedFrom}
+use Rattle.tv_framing.specs.starts.Starts.{port_start, step_start}
+use Rattle.tv_framing.specs.starts.Stated.{IsBegun}
+use Rattle.tv_framing.proofs.starts.OfLaws.{start-can_be_told}
+use Rattle.tv_framing.proofs.starts.OfStarts.{feed-to}
 use Rattle.tv_frame.specs.Calls.{CanStart}
 use Rattle.tv_frame.specs.FirstTellings.{AreFed, ports_start}
 use Rattle.tv_frame.specs.Started.{HasBegun, HaveBegun, but_at, named_values}

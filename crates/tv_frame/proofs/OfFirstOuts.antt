@@ -6,6 +6,7 @@ use Rattle.std.proofs.Common.{arith, sym, ap, ap₂, subst, ◌∙◌, true≢fa
 use Rattle.std.proofs.lemmas.Bool.{and_parts}
 use Rattle.std.proofs.lemmas.List.{length-map}
 use Rattle.std.proofs.lemmas.Option.{same_Some}
+use Rattle.tv_lemmas.specs.Members.{Each}
 use Rattle.tv_lemmas.proofs.Lists.{get-map, get-within}
 use Rattle.tv_value.specs.Orders.{named}
 use Rattle.tv_value.specs.Values.{Name, Value}
@@ -14,12 +15,11 @@ use Rattle.tv_flow.specs.Formed.{is_feed}
 use Rattle.tv_flow.specs.Forms.{is_name}
 use Rattle.tv_flow.specs.Views.{flow_view}
 use Rattle.tv_strategy.specs.Origins.{plain}
-use Rattle.tv_strategy.specs.Sources.{Each}
 use Rattle.tv_naming.specs.Naming.{feed_links, has_name, is_there}
 use Rattle.tv_naming.specs.Numbers.{position}
 use Rattle.tv_naming.proofs.ByPosition.{there}
 use Rattle.tv_naming.proofs.FormedParts.{all-pass, flow-outputs}
-use Rattle.tv_depths.specs.Delivered.{Delivered, feed_delivers}
+use Rattle.tv_instance.specs.Delivered.{Delivered, feed_delivers}
 use Rattle.tv_cell.specs.declared.piece.Piece.{Piece}
 use Rattle.tv_cell.specs.PieceValues.{piece_values}
 use Rattle.tv_cell.specs.Soundness.{AreSound}
@@ -27,17 +27,17 @@ use Rattle.tv_check.specs.declared.plans.FlowPlan.{FlowPlan}
 use Rattle.tv_wires.specs.declared.feeds.NumberedFeed.{NumberedFeed}
 use Rattle.tv_wires.specs.declared.wiring.Wiring.{Wiring}
 use Rattle.tv_wires.specs.Feeds.{feed_numbered}
-use Rattle.tv_bound.specs.Constants.{FlowConstants, constant_in, constant_of_output, flow_constants}
-use Rattle.tv_bound.specs.Delivered.{FlowValues, feed_value, no_items}
-use Rattle.tv_bound.specs.Found.{Known}
-use Rattle.tv_bound.specs.Jobs.{outputs_found}
-use Rattle.tv_bound.specs.Sourced.{IsCounted}
+use Rattle.tv_binding.specs.Constants.{FlowConstants, constant_in, constant_of_output, flow_constants}
+use Rattle.tv_binding.specs.Delivered.{FlowValues, feed_value, no_items}
+use Rattle.tv_binding.specs.Found.{Known}
+use Rattle.tv_binding.specs.Jobs.{outputs_found}
+use Rattle.tv_binding.specs.Sourced.{IsCounted}
 use Rattle.tv_model.specs.Instances.{given_of, value_given}
 use Rattle.tv_instance.specs.ByResults.{InstanceStep, step_of}
 use Rattle.tv_framing.specs.Answers.{AreOutputs}
 use Rattle.tv_framing.specs.Views.{View, steps_with}
-use Rattle.tv_begun.proofs.OfPlain.{plain-input}
-use Rattle.tv_begun.proofs.OfPorts.{link-found}
+use Rattle.tv_framing.proofs.starts.OfPlain.{plain-input}
+use Rattle.tv_framing.proofs.starts.OfPorts.{link-found}
 use Rattle.tv_frame.specs.Calls.{CanStart}
 use Rattle.tv_frame.specs.Started.{AreFirstOuts}
 use Rattle.tv_frame.proofs.OfComing.{as-declared}

@@ -13,18 +13,16 @@ use Rattle.tv_flow.specs.Views.{flow_view}
 use Rattle.tv_lemmas.proofs.Cases.{on_either}
 use Rattle.tv_strategy.specs.Conditions.{number_of}
 use Rattle.tv_strategy.specs.Measures.{strategy_depth}
-use Rattle.tv_strategy.specs.Sources.{Each}
 use Rattle.tv_check.specs.declared.plans.FlowPlan.{FlowPlan}
 use Rattle.tv_check.specs.declared.plans.StepPlan.{StepPlan}
 use Rattle.tv_check.specs.Plans as plan
 use Rattle.tv_check.specs.PlanViews.{step_plan_view}
-use Rattle.tv_depths.specs.Steps.{strategy_of}
+use Rattle.tv_instance.specs.Steps.{strategy_of}
 use Rattle.tv_wires.specs.Ports.{mismatches}
 use Rattle.tv_wires.specs.Wirings.{all_after}
 use Rattle.tv_wires.specs.declared.wiring.Wiring.{Wiring}
 use Rattle.tv_endings.specs.declared.endings.Endings.{Endings}
 use Rattle.tv_endings.specs.Ends.{IsSound as IsSoundEndings}
-use Rattle.tv_matching.specs.Matchers.{Outcome, fault_at, job_at, list_at}
 use Rattle.tv_matching.specs.Told.{Told}
 use Rattle.tv_match.specs.declared.matchers.Matcher.{Matcher}
 use Rattle.tv_match.specs.Seen.{in_order, matching}
@@ -32,14 +30,16 @@ use Rattle.tv_intake.specs.declared.intakes.Intakes.{Intakes}
 use Rattle.tv_intake.specs.Intaken.{AreIntaken, HoldsThese, IsSoundAt, OthersStay, brought_at, brought_in, followed_at, known_jobs, matcher_at, waiting_things, IsToldAt}
 use Rattle.tv_intake.specs.Sorting.{job_places, jobs_among, others_among}
 use Rattle.tv_spread.specs.Spreads.{IsLevelled, new_places}
-use Rattle.tv_spread.proofs.OfShowing.{Shows, new-there, new-at, made-levels, places-at, ordered-at}
+use Rattle.tv_spread.proofs.OfShowing.{Shows, new-there, new-at, made-levels, places-at, ordered-at, places-many}
 use Rattle.tv_match.specs.declared.told.Told as code
 use Rattle.std.proofs.lemmas.List.Sums.{sum_by-cons}
+use Rattle.tv_lemmas.specs.Members.{Each}
 use Rattle.tv_idle.specs.Idles.{Idles, StepIdle, none_idle, of_step, with_rooms_of}
 use Rattle.tv_spread.specs.Spreads.{IsAt}
-use Rattle.tv_fed.proofs.OfWholeSteps.{endings-start}
-use Rattle.tv_joined.specs.EndedSteps.{AreEndingsOf}
-use Rattle.tv_frame.specs.Tables.{levels_at, levels_in}
+use Rattle.tv_framing.proofs.feeds.OfWholeSteps.{endings-start}
+use Rattle.tv_framing.specs.engine.EndedSteps.{AreEndingsOf}
+use Rattle.tv_frame.specs.Tables.{levels_in}
+use Rattle.tv_depths.specs.Tables.{step_level}
 use Rattle.tv_frame.proofs.OfBeginning.{HasSameJobs, IsAdded}
 use Rattle.tv_frame.proofs.OfTables.{wiring-is}
 use Rattle.tv_frame.proofs.OfAdded.{set-many, at-set}
@@ -139,7 +139,7 @@ endings-of p after e is sound whole =
 
 -- ---- a step's plan
 
-pub plan-parts : (f : Flow) (q : StepPlan) (s : Name × Step) → step_plan_view q ≡ plan.step_plan f s → (strategy_view q.tree ≡ strategy_of s.1) × (q.mismatch ≡ mismatches f s.1) × (q.depth ≡ levels_at f s.1)
+pub plan-parts : (f : Flow) (q : StepPlan) (s : Name × Step) → step_plan_view q ≡ plan.step_plan f s → (strategy_view q.tree ≡ strategy_of s.1) × (q.mismatch ≡ mismatches f s.1) × (q.depth ≡ step_level f s.1)
 plan-parts f q (n, s) e = (ap (λ (r : plan.StepPlan). r.tree) e, ap (λ (r : plan.StepPlan). r.mismatch) e, ap (λ (r : plan.StepPlan). r.depth) e)
 
 pub step-room : (old new : List StepIdle) (s : StepIdle) (count : ℕ) → new ≡ old ++ s ∷ [] → length old ≡ count → count < length new
@@ -186,12 +186,6 @@ module _ (c : ℕ) (i r k : Intakes) (ts : List code.Told) (holds : HoldsThese t
   new-places-at s t e l =
       subst (Each (IsAt c t.levels)) (sym there)
       (new-at c t.levels (new_places r c) (made-levels (matcher_at r c) (matcher_at k c) shows.made (shows.intaken.sound c) t (held-levels (matcher_at i c) (matcher_at r c) ts s t holds e l)))
-
-  places-many : (os : List Outcome) → length (job_places os) ≡ jobs_among os
-  places-many [] = refl
-  places-many (job_at q ∷ os) = ap suc (places-many os)
-  places-many (list_at q n ∷ os) = places-many os
-  places-many (fault_at q l ∷ os) = places-many os
 
   pub new-numbers : (steps : List ℕ) (j : Intakes) (room jobs : ℕ) → steps ≡ c ∷ [] → r.matchers.items ≡ j.matchers.items → room ≡ jobs → jobs ≡ sum_by (λ s. jobs_among (brought_at j s)) steps → length (drop known (known_jobs k)) ≤ room
   new-numbers steps j room jobs one same is count =

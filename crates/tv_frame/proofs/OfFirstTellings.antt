@@ -6,17 +6,17 @@ use Rattle.tv_value.specs.Values.{Name, Value}
 use Rattle.tv_flow.specs.Flows.{Feed, Flow, Step, StepInput, constant, link, merge}
 use Rattle.tv_strategy.specs.Measures.{leaf_names}
 use Rattle.tv_naming.specs.Naming.{numbered}
-use Rattle.tv_depths.specs.Steps.{strategy_of}
+use Rattle.tv_instance.specs.Steps.{strategy_of}
 use Rattle.tv_matching.specs.Told.{Told}
 use Rattle.tv_matching.proofs.Permutes.{flat-permutes}
 use Rattle.tv_wires.specs.declared.ports.Port.{Port}
 use Rattle.tv_wires.specs.Ports.{port_among, ports_of}
-use Rattle.tv_joined.specs.WiredFlows.{IsWired}
-use Rattle.tv_bound.specs.Constants.{constant_in}
-use Rattle.tv_opening.specs.Openings.{numbered_port_start}
-use Rattle.tv_begun.specs.Numbers.{AreInputValues, IsFixedValue}
-use Rattle.tv_begun.specs.Starts.{port_start, step_start}
-use Rattle.tv_begun.proofs.OfNumbers.{inputs-are_in_order, numbers-start_alike}
+use Rattle.tv_framing.specs.engine.WiredFlows.{IsWired}
+use Rattle.tv_binding.specs.Constants.{constant_in}
+use Rattle.tv_telling.specs.Openings.{numbered_port_start}
+use Rattle.tv_framing.specs.starts.Numbers.{AreInputValues, IsFixedValue}
+use Rattle.tv_framing.specs.starts.Starts.{port_start, step_start}
+use Rattle.tv_framing.proofs.starts.OfNumbers.{inputs-are_in_order, numbers-start_alike}
 use Rattle.tv_frame.specs.FirstTellings.{fixed_value, ports_start}
 use Rattle.tv_frame.specs.Started.{named_values}
 use Rattle.tv_frame.proofs.OfStarted.{value-names, values-named}

@@ -8,7 +8,7 @@ use Rattle.tv_value.specs.Nested.{Place}
 use Rattle.tv_value.specs.Values.{Name}
 use Rattle.tv_flow.specs.Flows.{Flow, Step}
 use Rattle.tv_strategy.specs.Conditions.{number_of}
-use Rattle.tv_depths.specs.Steps.{strategy_of}
+use Rattle.tv_instance.specs.Steps.{strategy_of}
 use Rattle.tv_matching.specs.Matchers.{CanTellAll, Matching}
 use Rattle.tv_matching.specs.Told.{IsFit, IsNew, Told, faulty_at}
 use Rattle.tv_match.specs.declared.told.Told as code

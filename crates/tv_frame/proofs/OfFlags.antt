@@ -1,15 +1,14 @@
 -- What is said of a known job, whether it binds a value that holds a fault, doesn't change with more tellings.
-use Rattle.std.specs.Prelude.{◌≡◌, refl, ℕ, zero, suc, ◌<◌, List, [], ◌∷◌, length, map, Option, Some, None, get_or, slice_get}
+use Rattle.std.specs.Prelude.{◌≡◌, refl, ℕ, ◌<◌, List, [], length, Option, Some, None, get_or, slice_get}
 use Rattle.std.proofs.Common.{sym, ap, subst, ◌∙◌, arith}
 use Rattle.std.proofs.lemmas.List.{get_or_default}
-use Rattle.std.proofs.lemmas.Option.{none-some, same_Some}
+use Rattle.tv_lemmas.specs.Members.{Each}
+use Rattle.tv_lemmas.proofs.OfMembers.{each_in}
 use Rattle.tv_value.specs.Nested.{Place}
 use Rattle.tv_value.specs.Views.{strategy_view}
 use Rattle.tv_lemmas.proofs.Cases.{on_test}
-use Rattle.tv_strategy.specs.Sources.{Each}
 use Rattle.tv_matching.specs.Matchers.{job_at}
 use Rattle.tv_matching.specs.Told.{faulty_at}
-use Rattle.tv_matching.proofs.OfMembers.{each-in}
 use Rattle.tv_match.specs.declared.matchers.Matcher.{Matcher}
 use Rattle.tv_match.specs.Entries.{entry_at}
 use Rattle.tv_match.specs.Filed.{filed}
@@ -18,22 +17,18 @@ use Rattle.tv_match.proofs.Faults.{in-order_within, item-faulty, item-out}
 use Rattle.tv_match.proofs.FaultsAhead.{ahead-faulty}
 use Rattle.tv_intake.specs.declared.found.Found.{Found}
 use Rattle.tv_intake.specs.declared.intakes.Intakes.{Intakes}
-use Rattle.tv_intake.specs.Intaken.{AreIntaken, CanShow, IsMadeAt, IsSoundAt, followed_in, known_jobs, matcher_at, outcome_place, placed, thing_in}
+use Rattle.tv_intake.specs.Intaken.{AreIntaken, CanShow, IsMadeAt, IsSoundAt, followed_in, known_jobs, matcher_at, placed, thing_in}
+use Rattle.tv_match.specs.Stated.{outcome_place}
 use Rattle.tv_intake.specs.Sorting.{faulty_ahead}
 use Rattle.tv_intake.proofs.OfIntakes.{ahead-longer, jobs-there, place-kept, step-within}
 use Rattle.tv_spread.specs.Spreads.{MakeAll, faulty_now_at}
 use Rattle.tv_spread.proofs.OfShowing.{made-faulty}
-use Rattle.tv_drawn.proofs.OfRanks.{at-in}
+use Rattle.tv_lemmas.proofs.OfMembers.{in-slice as at-in}
+use Rattle.tv_lemmas.proofs.Lists.{of-image}
 use Rattle.tv_frame.specs.Kept.{followed_by}
 use Rattle.tv_frame.specs.Prepared.{is_one_of}
 use Rattle.tv_frame.proofs.OfShown.{made-at, same-at}
 use Rattle.tv_frame.proofs.OfShownLists.{one-each}
-
--- what stands in a mapped list comes from what stood there
-pub of-slice : {A B : Type 0} (f : A → B) (xs : List A) (p : ℕ) (y : B) → slice_get (map f xs) p ≡ Some y → (x : A) × (slice_get xs p ≡ Some x) × (f x ≡ y)
-of-slice f [] p y e = absurd (none-some y e)
-of-slice f (x ∷ xs) zero y e = (x, refl, same_Some (f x) y e)
-of-slice f (x ∷ xs) (suc p) y e = of-slice f xs p y e
 
 -- ---- one step
 
@@ -60,7 +55,7 @@ module _ (cs : List ℕ) (i j : Intakes) (made : MakeAll cs i j) (sound : AreInt
   ms = i.matchers.items
 
   found : (x : Found) × (slice_get i.jobs.items p ≡ Some x) × (placed (thing_in ms x) ≡ (n, q))
-  found = of-slice (λ (x : Found). placed (thing_in ms x)) i.jobs.items p (n, q) there
+  found = of-image (λ (x : Found). placed (thing_in ms x)) i.jobs.items p (n, q) there
 
   same-step : found.0.step ≡ n
   same-step = ap (λ (y : ℕ × Place). y.0) found.2
@@ -68,7 +63,7 @@ module _ (cs : List ℕ) (i j : Intakes) (made : MakeAll cs i j) (sound : AreInt
   item-within : found.0.at < length (followed_in ms n)
   item-within =
       subst (λ d. found.0.at < length (followed_in ms d)) same-step
-      (each-in (λ (x : Found). x.at < length (followed_in ms x.step)) found.0 i.jobs.items (jobs-there ms i.jobs.items i.waiting.items sound) (at-in i.jobs.items p found.0 found.1))
+      (each_in (λ (x : Found). x.at < length (followed_in ms x.step)) i.jobs.items (jobs-there ms i.jobs.items i.waiting.items sound) found.0 (at-in i.jobs.items p found.0 found.1))
 
   pub known-within : n < length ms
   known-within = step-within ms n found.0.at item-within

@@ -2,6 +2,7 @@
 use Rattle.std.specs.Option.{option_map_or}
 use Rattle.std.specs.Prelude.{◌≡◌, refl, ℕ, zero, suc, ◌==◌, ◌&&◌, ◌||◌, Bool, true, false, List, [], ◌∷◌, ◌++◌, IsPermutation, Option, Some, None, filter, length, map}
 use Rattle.std.proofs.Common.{sym, ap, subst, ◌∙◌, append-nil, true≢false}
+use Rattle.tv_lemmas.specs.Members.{Each}
 use Rattle.tv_value.specs.Nested.{Place}
 use Rattle.tv_value.specs.Orders.{same_name}
 use Rattle.tv_value.specs.Values.{JobName, Name, Value}
@@ -9,14 +10,13 @@ use Rattle.tv_value.proofs.OfNames.{same_name-refl}
 use Rattle.tv_flow.specs.Flows.{Flow, Step}
 use Rattle.tv_strategy.specs.Iterations.{walk}
 use Rattle.tv_strategy.specs.Origins.{Known, Origin, Traced, at_start, by_job, by_level}
-use Rattle.tv_strategy.specs.Sources.{Each}
-use Rattle.tv_depths.specs.Delivered.{Ported}
+use Rattle.tv_instance.specs.Delivered.{Ported}
 use Rattle.tv_cell.specs.declared.piece.Piece.{Piece}
 use Rattle.tv_check.specs.declared.plans.FlowPlan.{FlowPlan}
 use Rattle.tv_outputs.specs.Known.{Nodes}
 use Rattle.tv_matching.specs.Items.{known_items}
 use Rattle.tv_matching.specs.Matchers.{Outcome, fault_at, job_at, list_at}
-use Rattle.tv_matching.specs.Told.{Told, seen, told_to}
+use Rattle.tv_matching.specs.Told.{Told, item_there, told_to}
 use Rattle.tv_match.specs.declared.matchers.Matcher.{Matcher}
 use Rattle.tv_match.specs.Seen.{matching}
 use Rattle.tv_intake.specs.Intaken.{matcher_at, waiting_things}
@@ -26,13 +26,13 @@ use Rattle.tv_instance.specs.Legality.{HasSources, node_of}
 use Rattle.tv_framing.specs.Answers.{has_ended_now}
 use Rattle.tv_framing.specs.Frames.{Comes, IsFrame, known_jobs, new_jobs, with_event}
 use Rattle.tv_framing.specs.Views.{View, steps_with}
-use Rattle.tv_joined.specs.EndedSteps.{AreEndingsOf}
-use Rattle.tv_joined.specs.WiredFlows.{IsWired}
-use Rattle.tv_joined.proofs.OfSteps.{all-have_ended}
-use Rattle.tv_kept.specs.Told.{StepIsTold}
-use Rattle.tv_kept.proofs.OfLaws.{taken-known}
-use Rattle.tv_drawn.specs.Waiting.{is_waiting}
-use Rattle.tv_turn.specs.IdleJobs.{AreIdleOf}
+use Rattle.tv_framing.specs.engine.EndedSteps.{AreEndingsOf}
+use Rattle.tv_framing.specs.engine.WiredFlows.{IsWired}
+use Rattle.tv_framing.proofs.engine.OfSteps.{all-have_ended}
+use Rattle.tv_framing.specs.keeping.Told.{StepIsTold}
+use Rattle.tv_framing.proofs.keeping.OfLaws.{taken-known}
+use Rattle.tv_framing.specs.matches.Waiting.{is_waiting}
+use Rattle.tv_framing.specs.turns.IdleJobs.{AreIdleOf}
 use Rattle.tv_frame.specs.declared.frame.Frame.{Frame}
 use Rattle.tv_frame.specs.Calls.{Brings, GoesOn}
 use Rattle.tv_frame.specs.Kept.{AreIdle, AreOuts, HasMatcher, Keeps, followed_by, things_of}
@@ -109,7 +109,7 @@ module _ (flows : List (Name × Flow)) (plan : FlowPlan) (pool : Nodes) (f : Fra
         subst
         (λ (known : Origin → Bool). Each
         (λ (p : Name × Ported). (values : Name → Traced) → values p.0 ≡ p.1.value
-        → IsPermutation (map (seen values) (told_to ts p.0)) (known_items known (walk p.0 p.1.mismatch p.1.value)))
+        → IsPermutation (map (item_there values) (told_to ts p.0)) (known_items known (walk p.0 p.1.mismatch p.1.value)))
         g.step.inputs)
         (λ i o. known-forgot instance s q vs es o i) (was instance results d x g there name)
 

@@ -6,6 +6,8 @@ use Rattle.std.proofs.lemmas.Bool.{and_parts, or_right, true≢false}
 use Rattle.std.proofs.lemmas.Grind.{get_or-set_at}
 use Rattle.std.proofs.lemmas.List.{get_or-set_other, length-map, length-set}
 use Rattle.std.proofs.lemmas.Option.{slice_get_within}
+use Rattle.tv_lemmas.specs.Members.{In}
+use Rattle.tv_lemmas.proofs.OfMembers.{in-slice}
 use Rattle.tv_lemmas.proofs.Lists.{get-within}
 use Rattle.tv_value.specs.Orders.{same_name}
 use Rattle.tv_value.specs.Values.{Name, Value}
@@ -13,7 +15,7 @@ use Rattle.tv_value.proofs.OfNames.{same_name-refl}
 use Rattle.tv_flow.specs.Flows.{Flow, Step}
 use Rattle.tv_naming.specs.Numbers.{position}
 use Rattle.tv_naming.proofs.FormedParts.{steps-ascend}
-use Rattle.tv_depths.specs.Ranks.{is_among, ranked}
+use Rattle.tv_instance.specs.Ranks.{is_among, ranked}
 use Rattle.tv_depths.proofs.OfRanked.{all-ranked}
 use Rattle.tv_parts.specs.Partials.{Partial, whole}
 use Rattle.tv_parts.proofs.Changes.{arrive-not_whole, close-not_whole}
@@ -25,26 +27,24 @@ use Rattle.tv_endings.specs.Ends.{IsSound, is_whole}
 use Rattle.tv_outputs.specs.Known.{Nodes, depths, known}
 use Rattle.tv_outputs.specs.Kept.{Stand}
 use Rattle.tv_intake.specs.Intaken.{AreIntaken, known_jobs, matcher_at, waiting_things}
-use Rattle.tv_feeds.specs.Feeds.{with_step}
-use Rattle.tv_model.specs.Members.{In}
-use Rattle.tv_model.proofs.OfMembers.{in-slice}
+use Rattle.tv_endings.specs.Feeds.{with_step}
 use Rattle.tv_instance.specs.ByResults.{last_first}
 use Rattle.tv_instance.specs.Counting.{have_ended_by, whole_by}
 use Rattle.tv_instance.specs.Events as events
-use Rattle.tv_instance.specs.Events.{Event, Events, event_place, event_step, fault_set, gave, is_telling, took}
+use Rattle.tv_instance.specs.Events.{Event, Events, fault_set, gave, is_telling, took}
 use Rattle.tv_framing.specs.Answers.{has_ended_now}
 use Rattle.tv_framing.specs.Arriving.{part_so_far}
 use Rattle.tv_framing.specs.Frames.{with_event}
 use Rattle.tv_framing.specs.Views.{View}
-use Rattle.tv_joined.specs.EndedSteps.{AreEndingsOf}
-use Rattle.tv_joined.specs.TurningTrees.{CanPut}
-use Rattle.tv_joined.specs.WiredFlows.{IsWired}
-use Rattle.tv_joined.proofs.OfEndings.{all-true, all-whole, true-all, position-of}
-use Rattle.tv_kept.specs.NextEvents.{is_whole_step}
-use Rattle.tv_fed.specs.Fed.{event_number}
-use Rattle.tv_fed.proofs.OfComing.{events-are_in_trees, trees-are_whole_with_steps}
-use Rattle.tv_fed.proofs.OfWholeSteps.{marks-are_whole_steps, whole-steps_go_on}
-use Rattle.tv_drawn.specs.Steps.{IsStepAt}
+use Rattle.tv_framing.specs.engine.EndedSteps.{AreEndingsOf}
+use Rattle.tv_framing.specs.engine.TurningTrees.{CanPut}
+use Rattle.tv_framing.specs.engine.WiredFlows.{IsWired}
+use Rattle.tv_framing.proofs.engine.OfEndings.{all-true, all-whole, true-all, position-of}
+use Rattle.tv_framing.specs.keeping.NextEvents.{is_whole_step}
+use Rattle.tv_framing.specs.feeds.Fed.{event_number}
+use Rattle.tv_framing.proofs.feeds.OfComing.{events-are_in_trees, trees-are_whole_with_steps}
+use Rattle.tv_framing.proofs.feeds.OfWholeSteps.{marks-are_whole_steps, whole-steps_go_on}
+use Rattle.tv_framing.specs.matches.Steps.{IsStepAt}
 use Rattle.tv_frame.specs.declared.frame.Frame.{Frame}
 use Rattle.tv_frame.specs.declared.outs.Over.{Over}
 use Rattle.tv_frame.specs.Kept.{AreIdle, AreInputsOf, AreMatchers, AreOuts, AreTrees, AreWaiting, Keeps, named_job}

@@ -4,6 +4,7 @@ use Rattle.std.specs.Prelude.{◌≡◌, ℕ, ◌<◌, ◌≤◌, true, List, []
 use Rattle.std.proofs.Common.{arith, sym, ap, subst, ◌∙◌}
 use Rattle.std.proofs.lemmas.Bool.{leb-true, and_parts}
 use Rattle.std.proofs.lemmas.List.{length-map}
+use Rattle.tv_lemmas.specs.Members.{Each}
 use Rattle.tv_lemmas.proofs.Lists.{get-map, of-get_map}
 use Rattle.tv_value.specs.Readings.{length_limit}
 use Rattle.tv_value.specs.Values.{Name, Value}
@@ -11,21 +12,20 @@ use Rattle.tv_flow.specs.Flows.{Feed, Flow, Link, Step, StepInput, constant, inp
 use Rattle.tv_flow.specs.Formed.{is_feed, is_step_input}
 use Rattle.tv_flow.specs.Views.{flow_view}
 use Rattle.tv_strategy.specs.Measures.{leaf_names}
-use Rattle.tv_strategy.specs.Sources.{Each}
 use Rattle.tv_naming.specs.Naming.{feed_links, is_there}
 use Rattle.tv_naming.proofs.FormedParts.{all-pass, entries-passes, passes, step-at, step-inputs}
-use Rattle.tv_depths.specs.Steps.{strategy_of}
+use Rattle.tv_instance.specs.Steps.{strategy_of}
 use Rattle.tv_check.specs.declared.plans.FlowPlan.{FlowPlan}
 use Rattle.tv_wires.specs.declared.ports.Port.{Port}
 use Rattle.tv_wires.specs.declared.wiring.Wiring.{Wiring}
 use Rattle.tv_wires.specs.Feeds.{feed_numbered, link_numbered}
 use Rattle.tv_wires.specs.Ports.{port_among, ports_of}
-use Rattle.tv_bound.specs.Constants.{constant_in, constant_of_port, flow_constants, port_constants, there}
-use Rattle.tv_bound.specs.Sourced.{IsCounted}
-use Rattle.tv_bound.proofs.OfSources.{links-many}
-use Rattle.tv_opening.specs.Openings.{IsFedFrom, IsInput}
+use Rattle.tv_binding.specs.Constants.{constant_in, constant_of_port, flow_constants, port_constants, there}
+use Rattle.tv_binding.specs.Sourced.{IsCounted}
+use Rattle.tv_binding.proofs.OfSources.{links-many}
+use Rattle.tv_telling.specs.Openings.{IsFedFrom, IsInput}
 use Rattle.tv_frame.proofs.OfTables.{plan-wired, wiring-is}
-use Rattle.tv_joined.proofs.OfTold.{few-there}
+use Rattle.tv_framing.proofs.engine.OfTold.{few-there}
 
 few-links : (ls : List Link) → is_feed (merge ls) ≡ true → length ls ≤ 16
 few-links ls k = leb-true _ _ (and_parts _ _ (and_parts _ _ k).0).1

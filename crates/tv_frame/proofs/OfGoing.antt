@@ -5,10 +5,10 @@ use Rattle.std.proofs.Common.{sym, ap, subst, ◌∙◌}
 use Rattle.std.proofs.lemmas.List.Sorted.{IsPermutation-refl, length_permutation}
 use Rattle.std.proofs.lemmas.Bool.{true≢false}
 use Rattle.std.proofs.lemmas.List.{map-append}
+use Rattle.tv_lemmas.specs.Members.{Each}
 use Rattle.tv_value.specs.Nested.{Place}
 use Rattle.tv_value.specs.Values.{Name, holds_fault}
 use Rattle.tv_flow.specs.Flows.{Flow, Step}
-use Rattle.tv_strategy.specs.Sources.{Each}
 use Rattle.tv_matching.specs.Matchers.{Outcome}
 use Rattle.tv_matching.specs.Told.{Told}
 use Rattle.tv_pool.specs.Pool.{IsLive, number_of}
@@ -25,22 +25,22 @@ use Rattle.tv_endings.specs.Ends.{IsSound}
 use Rattle.tv_outputs.specs.Known.{Nodes, depths, known}
 use Rattle.tv_outputs.specs.Kept.{Stand}
 use Rattle.tv_intake.specs.Intaken.{AreIntaken, known_jobs, matcher_at, waiting_things}
+use Rattle.tv_intake.specs.Sorting.{others_among}
 use Rattle.tv_spread.specs.Spreads.{MakeAll, binds_fault, new_jobs, new_things, with_all_new}
 use Rattle.tv_instance.specs.Events.{Event}
 use Rattle.tv_framing.specs.Answers.{has_ended_now}
 use Rattle.tv_framing.specs.Frames.{AreNewWith, IsFrame, with_event}
 use Rattle.tv_framing.specs.Views.{View}
-use Rattle.tv_joined.specs.EndedSteps.{AreEndingsOf}
-use Rattle.tv_joined.specs.WiredFlows.{IsWired}
-use Rattle.tv_joined.proofs.OfSteps.{all-have_ended}
-use Rattle.tv_drawn.specs.Stated.{IsBrought}
-use Rattle.tv_drawn.specs.Steps.{IsStepAt, IsStepTold}
-use Rattle.tv_drawn.specs.Waiting.{IsLeft, waiting_of}
-use Rattle.tv_drawn.specs.Sorting as drawn
-use Rattle.tv_drawn.proofs.OfLaws.{new_jobs-are_brought, waiting-goes_on}
-use Rattle.tv_fed.specs.Fed.{event_number}
-use Rattle.tv_fed.proofs.OfComing.{next-makes_frame}
-use Rattle.tv_fed.proofs.OfWholeSteps.{endings-go_on}
+use Rattle.tv_framing.specs.engine.EndedSteps.{AreEndingsOf}
+use Rattle.tv_framing.specs.engine.WiredFlows.{IsWired}
+use Rattle.tv_framing.proofs.engine.OfSteps.{all-have_ended}
+use Rattle.tv_framing.specs.matches.Stated.{IsBrought}
+use Rattle.tv_framing.specs.matches.Steps.{IsStepAt, IsStepTold}
+use Rattle.tv_framing.specs.matches.Waiting.{IsLeft, waiting_of}
+use Rattle.tv_framing.proofs.matches.OfLaws.{new_jobs-are_brought, waiting-goes_on}
+use Rattle.tv_framing.specs.feeds.Fed.{event_number}
+use Rattle.tv_framing.proofs.feeds.OfComing.{next-makes_frame}
+use Rattle.tv_framing.proofs.feeds.OfWholeSteps.{endings-go_on}
 use Rattle.tv_frame.specs.declared.frame.Frame.{Frame}
 use Rattle.tv_frame.specs.Calls.{Brings, GoesOn}
 use Rattle.tv_frame.specs.Kept.{AreIdle, AreInputsOf, AreOuts, AreWaiting, Keeps, followed_by, named_job, things_of}
@@ -204,7 +204,7 @@ module _ (flows : List (Name × Flow)) (plan : FlowPlan) (pool after : Nodes) (f
   waiting-go c t at =
       subst (λ xs. IsPermutation (things_of c xs) (waiting_of (e ∷ v.events) t.0 (followed_by (matcher_at g.intakes c)))) (sym a.waiting)
       (subst (λ us. IsPermutation us (waiting_of (e ∷ v.events) t.0 (followed_by (matcher_at g.intakes c)))) (sym (things-brought touched f.intakes g.intakes a.made r.show.once c left))
-      (subst (λ us. IsPermutation (things_of c left ++ drawn.others_among (brought c)) (waiting_of (e ∷ v.events) t.0 us)) (follows-more touched f.intakes g.intakes a.made c)
+      (subst (λ us. IsPermutation (things_of c left ++ others_among (brought c)) (waiting_of (e ∷ v.events) t.0 us)) (follows-more touched f.intakes g.intakes a.made c)
       (waiting-goes_on flows levels v e told before os brought is-brought c t at (things_of c (waiting_things f.intakes)) (things_of c left) (k.waiting_are c t at) (a.left_is c t at))))
 
   -- ---- all of it

@@ -7,18 +7,18 @@ use Rattle.std.proofs.lemmas.Bool.{and_parts}
 use Rattle.std.proofs.lemmas.List.{length-append, length-map, length-replicate}
 use Rattle.std.proofs.lemmas.List.FromFn.{get_or-map-range_with_len, length-map-range_with_len}
 use Rattle.std.proofs.lemmas.Option.{none-some, same_Some, slice_get_within}
+use Rattle.tv_lemmas.specs.Members.{Each}
 use Rattle.tv_value.specs.Values.{Name, holds_fault}
 use Rattle.tv_flow.specs.Flows.{Feed, Flow, Link, Step, StepInput, constant, input, link, merge, output}
 use Rattle.tv_flow.specs.Views.{flow_view}
 use Rattle.tv_strategy.specs.Conditions.{number_of}
 use Rattle.tv_strategy.specs.Measures.{leaf_names, strategy_depth}
-use Rattle.tv_strategy.specs.Sources.{Each}
 use Rattle.tv_strategy.proofs.OfEach.{each-passes, each-weaken}
 use Rattle.tv_naming.specs.Naming.{feed_links, is_there}
 use Rattle.tv_naming.specs.Numbers.{position}
 use Rattle.tv_naming.proofs.ByPosition.{there}
 use Rattle.tv_naming.proofs.FormedParts.{steps-ascend}
-use Rattle.tv_depths.specs.Steps.{strategy_of}
+use Rattle.tv_instance.specs.Steps.{strategy_of}
 use Rattle.tv_matching.proofs.Lists.{each-map}
 use Rattle.tv_cell.specs.PieceValues.{piece_values}
 use Rattle.tv_check.specs.declared.plans.FlowPlan.{FlowPlan}
@@ -37,23 +37,24 @@ use Rattle.tv_outputs.specs.Kept.{Stand}
 use Rattle.tv_intake.specs.Intaken.{matcher_at}
 use Rattle.tv_idle.specs.Idles.{of_step}
 use Rattle.tv_spread.specs.declared.around.Around.{Around}
-use Rattle.tv_spread.specs.Along.{is_walked}
+use Rattle.tv_telling.specs.Along.{is_walked}
 use Rattle.tv_spread.specs.Arounds.{AreWalked, AreWires, IsAround, IsFed, IsLinked, IsOfOutput, tree_number}
 use Rattle.tv_spread.specs.Spreads.{IsLevelled}
 use Rattle.tv_instance.specs.Events.{Event}
 use Rattle.tv_framing.specs.Views.{View}
-use Rattle.tv_joined.specs.WiredFlows.{IsWired}
-use Rattle.tv_joined.proofs.OfAccepted.{accepted-wired}
-use Rattle.tv_joined.proofs.OfEndings.{position-of}
-use Rattle.tv_fed.proofs.OfNames.{is-named}
-use Rattle.tv_fed.proofs.OfWholeSteps.{named-there}
-use Rattle.tv_drawn.specs.Steps.{IsStepAt}
-use Rattle.tv_drawn.proofs.OfSteps.{number-is}
+use Rattle.tv_framing.specs.engine.WiredFlows.{IsWired}
+use Rattle.tv_framing.proofs.engine.OfAccepted.{accepted-wired}
+use Rattle.tv_framing.proofs.engine.OfEndings.{position-of}
+use Rattle.tv_framing.proofs.feeds.OfNames.{is-named}
+use Rattle.tv_framing.proofs.feeds.OfWholeSteps.{named-there}
+use Rattle.tv_framing.specs.matches.Steps.{IsStepAt}
+use Rattle.tv_framing.proofs.matches.OfSteps.{number-is}
 use Rattle.tv_frame.specs.declared.frame.Frame.{Frame}
 use Rattle.tv_frame.specs.Kept.{HasMatcher, Keeps}
 use Rattle.tv_frame.specs.Prepared.{IsComing}
-use Rattle.tv_frame.specs.Tables.{at_least_one, first_tree, levels_at, tree_depths, trees_of}
-use Rattle.tv_truly.proofs.OfNumbers.{step-there}
+use Rattle.tv_frame.specs.Tables.{at_least_one, first_tree, tree_depths, trees_of}
+use Rattle.tv_depths.specs.Tables.{step_level}
+use Rattle.tv_framing.proofs.faults.OfNumbers.{step-there}
 
 -- ---- lists
 
@@ -68,7 +69,7 @@ none-past (x ∷ xs) (y ∷ ys) (suc k) e h = none-past xs ys k (less (length ys
 
 -- ---- steps by names and numbers
 
-pub levels-measured : (f : Flow) (s : Step) → levels_at f s ≡ strategy_depth (number_of (mismatches f s)) (strategy_of s)
+pub levels-measured : (f : Flow) (s : Step) → step_level f s ≡ strategy_depth (number_of (mismatches f s)) (strategy_of s)
 levels-measured f s = ap (λ (g : Name → ℕ). strategy_depth g (strategy_of s)) (λ i p. sym (number-is f s.inputs p) i)
 
 -- trees stand within
@@ -110,8 +111,8 @@ module _ (flows : List (Name × Flow)) (plan : FlowPlan) (pool : Nodes) (f : Fra
           let st = is-named s.0 v.flow.steps (named-there v.flow.steps c s at) in
           let same = same_Some (s.0, st.thing) s (sym st.here ∙ ap (slice_get v.flow.steps) (position-of v.flow.steps c s (steps-ascend v.flow wired-flow.formed) at) ∙ at) in
           keeps.idle_are.levels c s at
-          ∙ ap (λ o. option_map_or (levels_at v.flow) o 0) st.named_so
-          ∙ ap (λ (t : Name × Step). levels_at v.flow t.1) same
+          ∙ ap (λ o. option_map_or (step_level v.flow) o 0) st.named_so
+          ∙ ap (λ (t : Name × Step). step_level v.flow t.1) same
           ∙ levels-measured v.flow s.1
           ∙ ap (λ ms. strategy_depth (number_of ms) (strategy_of s.1)) (sym h.mismatch_is)
           ∙ ap (strategy_depth (number_of (matching m).mismatch)) (sym h.strategy_is)
@@ -201,7 +202,7 @@ module _ (flows : List (Name × Flow)) (plan : FlowPlan) (pool : Nodes) (f : Fra
           tree =
               subst (λ k. k < length (known a.pool.now a.outputs.now)) (sym (tree-number (position t v.flow.steps) number below))
               (subst (λ k. first_tree v.flow.steps (position t v.flow.steps) + number < k) (sym trees-many)
-              (first-below (λ (u : Name × Step). levels_at v.flow u.1) v.flow.steps (position t v.flow.steps) (t, st.thing) number st.here (fewer-trees (t, st.thing) number few)));
+              (first-below (λ (u : Name × Step). step_level v.flow u.1) v.flow.steps (position t v.flow.steps) (t, st.thing) number st.here (fewer-trees (t, st.thing) number few)));
           own = λ g.
               let same : (t, st.thing) ≡ s = same_Some (t, st.thing) s (sym st.here ∙ ap (slice_get v.flow.steps) g ∙ coming.at) in
               let mine : number < length s.1.outputs = subst (λ (u : Name × Step). number < length u.1.outputs) same few in

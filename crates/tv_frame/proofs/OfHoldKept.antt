@@ -1,6 +1,7 @@
 -- A frame whose steps hold something else keeps of its instance what it kept.
 use Rattle.std.specs.Prelude.{◌≡◌, refl, ℕ, suc, List, [], ◌∷◌, length, map, IsPermutation, Option, Some, None, slice_get}
 use Rattle.std.proofs.Common.{inl, inr, sym, ap, subst, ◌∙◌}
+use Rattle.tv_lemmas.specs.Members.{In}
 use Rattle.tv_value.specs.Nested.{Place}
 use Rattle.tv_value.specs.Values.{Name}
 use Rattle.tv_flow.specs.Flows.{Flow, Step}
@@ -15,14 +16,13 @@ use Rattle.tv_intake.specs.Intaken.{AreIntaken, known_jobs, matcher_at, waiting_
 use Rattle.tv_idle.specs.Idles.{Idles, StepIdle, of_step}
 use Rattle.tv_idle.specs.Kept.{are_in_order}
 use Rattle.tv_spread.specs.Spreads.{HasOtherRooms, StaysAt, faulty_now_at}
-use Rattle.tv_model.specs.Members.{In}
 use Rattle.tv_framing.specs.Answers.{has_ended_now}
 use Rattle.tv_framing.specs.Views.{View}
-use Rattle.tv_joined.specs.EndedSteps.{AreEndingsOf}
-use Rattle.tv_kept.specs.Told.{StepIsTold}
-use Rattle.tv_drawn.specs.Waiting.{waiting_of}
-use Rattle.tv_truly.specs.Telling.{TellsTruly}
-use Rattle.tv_turn.specs.IdleJobs.{AreIdleOf, IsIdle}
+use Rattle.tv_framing.specs.engine.EndedSteps.{AreEndingsOf}
+use Rattle.tv_framing.specs.keeping.Told.{StepIsTold}
+use Rattle.tv_framing.specs.matches.Waiting.{waiting_of}
+use Rattle.tv_framing.specs.faults.Telling.{TellsTruly}
+use Rattle.tv_framing.specs.turns.IdleJobs.{AreIdleOf, IsIdle}
 use Rattle.tv_frame.specs.declared.frame.Frame.{Frame}
 use Rattle.tv_frame.specs.Kept.{AreIdle, AreInputsOf, AreOuts, AreTrees, HasMatcher, Keeps, followed_by, named_job, things_of}
 use Rattle.tv_frame.specs.Prepared.{HasSameParts}

@@ -7,6 +7,8 @@ use Rattle.std.proofs.Common.{arith, inl, inr, sym, ap, subst, ◌∙◌}
 use Rattle.std.proofs.lemmas.Bool.{true≢false, cases_lt}
 use Rattle.std.proofs.lemmas.List.Sorted.{IsPermutation-refl}
 use Rattle.std.proofs.lemmas.Option.{slice_get_within}
+use Rattle.tv_lemmas.specs.Members.{Each, In}
+use Rattle.tv_lemmas.proofs.OfMembers.{in_each, of-all}
 use Rattle.tv_lemmas.proofs.Lists.{get-map, get-within, index-map}
 use Rattle.tv_value.specs.Nested.{list, no_trees}
 use Rattle.tv_value.specs.Orders.{named, same_name}
@@ -14,18 +16,17 @@ use Rattle.tv_value.specs.Strategies.{Strategy}
 use Rattle.tv_value.specs.Values.{Name, Value, holds_fault}
 use Rattle.tv_flow.specs.Flows.{Flow, Step, StepInput}
 use Rattle.tv_strategy.specs.Measures.{leaf_names}
-use Rattle.tv_strategy.specs.Sources.{Each}
 use Rattle.tv_strategy.proofs.OfSources.{each-append}
 use Rattle.tv_strategy.proofs.OfEach.{each-weaken}
 use Rattle.tv_naming.specs.Naming.{has_name}
 use Rattle.tv_naming.specs.Numbers.{position}
-use Rattle.tv_naming.proofs.ByPosition.{same_name-is, there}
+use Rattle.tv_naming.proofs.ByPosition.{there}
+use Rattle.tv_value.proofs.OfNames.{same_name-is}
 use Rattle.tv_naming.proofs.FormedParts.{passes, steps-ascend}
-use Rattle.tv_depths.specs.Steps.{strategy_of}
+use Rattle.tv_instance.specs.Steps.{strategy_of}
 use Rattle.tv_matching.specs.Matchers.{CanTellAll, leaf_name}
 use Rattle.tv_matching.specs.Told.{told_leaf}
 use Rattle.tv_matching.proofs.Lists.{each-map}
-use Rattle.tv_matching.proofs.OfMembers.{each-from}
 use Rattle.tv_matching.proofs.Onces.{each-flat}
 use Rattle.tv_parts.specs.Partials.{holds_some}
 use Rattle.tv_match.specs.declared.matchers.Matcher.{Matcher}
@@ -42,42 +43,40 @@ use Rattle.tv_wires.specs.Feeds.{outputs_of}
 use Rattle.tv_wires.specs.Ports.{leaf_number, port_among, ports_of}
 use Rattle.tv_wires.specs.Wirings.{wiring}
 use Rattle.tv_outputs.specs.Known.{Nodes, known, tree_in}
-use Rattle.tv_feeds.specs.Feeds.{leaves_whole_with, with_step}
+use Rattle.tv_endings.specs.Feeds.{leaves_whole_with, with_step}
 use Rattle.tv_endings.specs.Ends.{is_whole}
 use Rattle.tv_check.specs.declared.plans.FlowPlan.{FlowPlan}
 use Rattle.tv_intake.specs.Intaken.{matcher_at}
 use Rattle.tv_spread.specs.declared.around.Around.{Around}
-use Rattle.tv_spread.specs.Along.{ways_into, wires_from}
+use Rattle.tv_telling.specs.Along.{ways_into, wires_from}
 use Rattle.tv_spread.specs.Arounds.{IsAround, delivers_fault, input_faulty, is_told, output_faulty, ports_at, tellings_by, told_at, tree_number, ways_at, wholes_at, wires_along}
 use Rattle.tv_spread.specs.Spreads.{CanBeTold, CanHoldTold}
 use Rattle.tv_spread.specs.Wholes.{wholes_with}
 use Rattle.tv_spread.proofs.OfLaws.{wholes-leaves}
 use Rattle.tv_spread.proofs.OfTold.{along-within, untold}
 use Rattle.tv_model.specs.Instances.{value_given}
-use Rattle.tv_model.specs.Members.{In}
-use Rattle.tv_model.proofs.OfMembers.{of-all}
 use Rattle.tv_instance.specs.Events.{Event, event_step}
 use Rattle.tv_framing.specs.Arriving.{part_so_far}
 use Rattle.tv_framing.specs.Frames.{with_event}
 use Rattle.tv_framing.specs.Views.{View}
-use Rattle.tv_joined.specs.AlongWires.{AreWholeWith, ports_of_step, told_along}
-use Rattle.tv_joined.specs.EndedSteps.{AreEndingsOf}
-use Rattle.tv_joined.specs.WiredFlows.{IsWired}
-use Rattle.tv_joined.proofs.OfWires.{position-same}
-use Rattle.tv_joined.proofs.OfTold.{bound-to, way-to}
-use Rattle.tv_joined.proofs.OfEndings.{position-of}
-use Rattle.tv_kept.specs.NextEvents.{is_whole_step}
-use Rattle.tv_fed.specs.Fed.{event_number}
-use Rattle.tv_fed.proofs.OfNames.{is-named}
-use Rattle.tv_fed.proofs.OfTold.{told-goes_on}
-use Rattle.tv_fed.proofs.OfWholeSteps.{marks-are_whole_steps, named-there, whole-steps_go_on}
-use Rattle.tv_drawn.specs.Steps.{IsOfRankedFlow, IsStepAt}
-use Rattle.tv_drawn.proofs.OfLaws.{flows-stay, next-can_be_told}
-use Rattle.tv_truly.specs.Known.{IsTrueEvent, IsTrueWhole, tree_of}
-use Rattle.tv_truly.specs.Numbers.{AreFaultsBy, AreWholeBy}
-use Rattle.tv_truly.proofs.OfLaws.{truth-goes_on}
-use Rattle.tv_truly.proofs.OfNumbers.{trees-are_by_events, whole_ports-are_true}
-use Rattle.tv_truly.proofs.OfWires.{way-named}
+use Rattle.tv_framing.specs.engine.AlongWires.{AreWholeWith, ports_of_step, told_along}
+use Rattle.tv_framing.specs.engine.EndedSteps.{AreEndingsOf}
+use Rattle.tv_framing.specs.engine.WiredFlows.{IsWired}
+use Rattle.tv_framing.proofs.engine.OfWires.{position-same}
+use Rattle.tv_framing.proofs.engine.OfTold.{bound-to, way-to}
+use Rattle.tv_framing.proofs.engine.OfEndings.{position-of}
+use Rattle.tv_framing.specs.keeping.NextEvents.{is_whole_step}
+use Rattle.tv_framing.specs.feeds.Fed.{event_number}
+use Rattle.tv_framing.proofs.feeds.OfNames.{is-named}
+use Rattle.tv_framing.proofs.feeds.OfTold.{told-goes_on}
+use Rattle.tv_framing.proofs.feeds.OfWholeSteps.{marks-are_whole_steps, named-there, whole-steps_go_on}
+use Rattle.tv_framing.specs.matches.Steps.{IsOfRankedFlow, IsStepAt}
+use Rattle.tv_framing.proofs.matches.OfLaws.{flows-stay, next-can_be_told}
+use Rattle.tv_framing.specs.faults.Known.{IsTrueEvent, IsTrueWhole, tree_of}
+use Rattle.tv_framing.specs.faults.Numbers.{AreFaultsBy, AreWholeBy}
+use Rattle.tv_framing.proofs.faults.OfLaws.{truth-goes_on}
+use Rattle.tv_framing.proofs.faults.OfNumbers.{trees-are_by_events, whole_ports-are_true}
+use Rattle.tv_framing.proofs.faults.OfWires.{way-named}
 use Rattle.tv_frame.specs.declared.frame.Frame.{Frame}
 use Rattle.tv_frame.specs.Kept.{HasMatcher, IsMatcherOf, Keeps, declared_at}
 use Rattle.tv_frame.specs.Prepared.{IsComing, IsToldThat}
@@ -166,7 +165,7 @@ module _ (flows : List (Name × Flow)) (plan : FlowPlan) (pool : Nodes) (f : Fra
       ∙ index-map holds_fault (map (λ (y : Name × Value). y.1) v.inputs) (position x v.inputs) st.thing false (get-map (λ (y : Name × Value). y.1) v.inputs (position x v.inputs) (x, st.thing) st.here)
       ∙ ap (λ o. holds_fault (unwrap_or o (list tt no_trees))) (sym st.named_so)
 
-  tree-so : (t o : Name) → has_name v.flow.steps t ≡ true → has_name (outputs_of v.flow t) o ≡ true → tree_in (known a.pool.now a.outputs.now) (tree_number a (position t v.flow.steps) (position o (outputs_of v.flow t))) ≡ tree_of v.flow levels v.inputs v.events t o
+  tree-so : (t o : Name) → has_name v.flow.steps t ≡ true → has_name (outputs_of v.flow t) o ≡ true → tree_in (known a.pool.now a.outputs.now) (tree_number a (position t v.flow.steps) (position o (outputs_of v.flow t))) ≡ tree_of v.flow levels v.events t o
   tree-so t o h k =
       let st = is-named t v.flow.steps h in
       let its = ap (λ (r : Option Step). option_map_or (λ (u : Step). u.outputs) r []) st.named_so in
@@ -179,17 +178,17 @@ module _ (flows : List (Name × Flow)) (plan : FlowPlan) (pool : Nodes) (f : Fra
       ∙ keeps.trees_are (position t v.flow.steps) (t, st.thing) st.here at (fewer-trees (t, st.thing) at few)
       ∙ ap (λ d. part_so_far t at (levels t) d v.events) (declared ∙ ap (λ r. unwrap_or r 0) (sym out.named_so))
 
-  outputs-so : (t o : Name) → has_name v.flow.steps t ≡ true → has_name (outputs_of v.flow t) o ≡ true → output_faulty a n c (position t v.flow.steps) (position o (outputs_of v.flow t)) ≡ holds_some holds_fault (tree_of v.flow levels v.inputs (e ∷ v.events) t o)
+  outputs-so : (t o : Name) → has_name v.flow.steps t ≡ true → has_name (outputs_of v.flow t) o ≡ true → output_faulty a n c (position t v.flow.steps) (position o (outputs_of v.flow t)) ≡ holds_some holds_fault (tree_of v.flow levels (e ∷ v.events) t o)
   outputs-so t o h k =
       ap (λ b. if b then nat_lt 0 (get_or c.faults.now (position o (outputs_of v.flow t)) 0) else holds_some holds_fault (tree_in (known a.pool.now a.outputs.now) (tree_number a (position t v.flow.steps) (position o (outputs_of v.flow t)))))
       (ap (λ m. position t v.flow.steps == m) number ∙ position-same t (event_step e) v.flow.steps h feeding)
       ∙ by (same_name t (event_step e)) refl
     where
-      own : (u : Name) → u ≡ event_step e → has_name (outputs_of v.flow u) o ≡ true → nat_lt 0 (get_or c.faults.now (position o (outputs_of v.flow u)) 0) ≡ holds_some holds_fault (tree_of v.flow levels v.inputs (e ∷ v.events) u o)
-      own u g = subst (λ w. has_name (outputs_of v.flow w) o ≡ true → nat_lt 0 (get_or c.faults.now (position o (outputs_of v.flow w)) 0) ≡ holds_some holds_fault (tree_of v.flow levels v.inputs (e ∷ v.events) w o)) (sym g)
+      own : (u : Name) → u ≡ event_step e → has_name (outputs_of v.flow u) o ≡ true → nat_lt 0 (get_or c.faults.now (position o (outputs_of v.flow u)) 0) ≡ holds_some holds_fault (tree_of v.flow levels (e ∷ v.events) u o)
+      own u g = subst (λ w. has_name (outputs_of v.flow w) o ≡ true → nat_lt 0 (get_or c.faults.now (position o (outputs_of v.flow w)) 0) ≡ holds_some holds_fault (tree_of v.flow levels (e ∷ v.events) w o)) (sym g)
           (λ there_so. ap (nat_lt 0) (coming.seen.faults_are o there_so) ∙ (trees-are_by_events levels v e).own coming.faults c.whole_from c true-event o there_so)
 
-      by : (b : Bool) → same_name t (event_step e) ≡ b → (if b then nat_lt 0 (get_or c.faults.now (position o (outputs_of v.flow t)) 0) else holds_some holds_fault (tree_in (known a.pool.now a.outputs.now) (tree_number a (position t v.flow.steps) (position o (outputs_of v.flow t))))) ≡ holds_some holds_fault (tree_of v.flow levels v.inputs (e ∷ v.events) t o)
+      by : (b : Bool) → same_name t (event_step e) ≡ b → (if b then nat_lt 0 (get_or c.faults.now (position o (outputs_of v.flow t)) 0) else holds_some holds_fault (tree_in (known a.pool.now a.outputs.now) (tree_number a (position t v.flow.steps) (position o (outputs_of v.flow t))))) ≡ holds_some holds_fault (tree_of v.flow levels (e ∷ v.events) t o)
       by true g = own t (same_name-is t (event_step e) g) k
       by false g = ap (holds_some holds_fault) (tree-so t o h k ∙ sym ((trees-are_by_events levels v e).stays t o g))
 
@@ -261,7 +260,7 @@ module _ (flows : List (Name × Flow)) (plan : FlowPlan) (pool : Nodes) (f : Fra
     ways-below : Each (λ (w : Way). w.leaf < many) (ways_at a n k)
     ways-below =
         subst (λ (w : Wiring). Each (λ (y : Way). y.leaf < many) (ways_into k (wires_from w n))) (sym (wiring-of flows plan pool f v keeps a of))
-        (each-from (λ (y : Way). y.leaf < many) (ways_into k (wires_from (wiring v.flow) n))
+        (in_each (λ (y : Way). y.leaf < many) (ways_into k (wires_from (wiring v.flow) n))
         (λ y i. let p = way-named v.flow k t at n (slice_get_within v.flow.steps n s coming.at) y i in
         subst (λ l. l < many) (sym p.2) (leaf-below p.0.0 (leaf_names (strategy_of t.1)) (leaves-are p.0 p.1))))
 
@@ -288,7 +287,7 @@ module _ (flows : List (Name × Flow)) (plan : FlowPlan) (pool : Nodes) (f : Fra
     ports-below =
         subst (Each (λ (p : Port). p.leaf < many)) (sym (ports-here ∙ index-map (λ (u : Name × Step). ports_of v.flow u.1) v.flow.steps k t [] at))
         (each-map (λ (p : Port). p.leaf < many) (port_among v.flow (leaf_names (strategy_of t.1))) t.1.inputs
-        (each-from (λ (i : Name × StepInput). leaf_number i.0 (leaf_names (strategy_of t.1)) < many) t.1.inputs
+        (in_each (λ (i : Name × StepInput). leaf_number i.0 (leaf_names (strategy_of t.1)) < many) t.1.inputs
         (λ i g. leaf-below i.0 (leaf_names (strategy_of t.1)) (leaves-are i g))))
 
     pub can-be_told : (o : Option Matcher) → HasMatcher v t o → CanBeTold (told_at a n c k) (ports_at a k) o

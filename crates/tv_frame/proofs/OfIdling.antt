@@ -3,19 +3,19 @@ use Rattle.std.specs.Option.{option_map_or}
 use Rattle.std.specs.Prelude.{◌≡◌, refl, ℕ, zero, suc, ◌+◌, ◌<◌, ◌≤◌, ◌⊎◌, ◌==◌, ◌&&◌, ◌||◌, nat_lt, Bool, true, false, if◌then◌else◌, List, [], ◌∷◌, ◌++◌, length, map, Some, slice_get}
 use Rattle.std.specs.Cmp.Lexicographic.{bytes_decides}
 use Rattle.std.proofs.Common.{sym, ap, subst, ◌∙◌, arith, eq-eqb, inl, inr, length-append}
-use Rattle.std.proofs.lemmas.Bool.{and_parts, cases_lt, true≢false, or_from}
+use Rattle.std.proofs.lemmas.Bool.{and_parts, cases_lt, true≢false, or_from, or_parts}
 use Rattle.std.proofs.lemmas.Bool.Decides.{nat_tests}
 use Rattle.std.proofs.lemmas.List.{length-map}
-use Rattle.std.proofs.lemmas.Option.{none-some, slice_get_within}
+use Rattle.std.proofs.lemmas.Option.{slice_get_within}
+use Rattle.tv_lemmas.specs.Members.{Each, In}
+use Rattle.tv_lemmas.proofs.OfMembers.{of-flat, of-map}
 use Rattle.tv_value.specs.Nested.{Place}
 use Rattle.tv_value.specs.Orders.{same_name}
 use Rattle.tv_value.specs.Values.{Name}
 use Rattle.tv_flow.specs.Flows.{Flow, Step}
 use Rattle.tv_flow.specs.Formed.{is_ascending}
 use Rattle.tv_lemmas.proofs.Cases.{on_either, on_test}
-use Rattle.tv_lemmas.proofs.Lists.{get-map, get-within}
-use Rattle.tv_lemmas.proofs.Tests.{or-second}
-use Rattle.tv_strategy.specs.Sources.{Each}
+use Rattle.tv_lemmas.proofs.Lists.{get-map, get-within, in-front, in-behind, of-image}
 use Rattle.tv_strategy.specs.Splits.{same_place}
 use Rattle.tv_strategy.proofs.OfPlaces.{same-equal}
 use Rattle.tv_naming.specs.Naming.{has_name}
@@ -24,7 +24,6 @@ use Rattle.tv_naming.proofs.ByPosition.{names_of}
 use Rattle.tv_naming.proofs.FormedParts.{steps-ascend}
 use Rattle.tv_matching.specs.Matchers.{Outcome, fault_at, job_at, list_at}
 use Rattle.tv_matching.specs.Told.{Told}
-use Rattle.tv_matching.proofs.OfMembers.{of-flat, of-map}
 use Rattle.tv_intake.specs.declared.intakes.Intakes.{Intakes}
 use Rattle.tv_intake.specs.Intaken.{AreIntaken, CanShow, brought_at, known_jobs, matcher_at}
 use Rattle.tv_intake.specs.Sorting as intake
@@ -38,36 +37,24 @@ use Rattle.tv_instance.specs.Events.{Event, fault_set, gave, gives_at, has_resul
 use Rattle.tv_framing.specs.Answers.{numbered}
 use Rattle.tv_framing.specs.Frames.{with_event}
 use Rattle.tv_framing.specs.Views.{View}
-use Rattle.tv_joined.specs.WiredFlows.{IsWired}
-use Rattle.tv_joined.proofs.OfEndings.{position-of}
-use Rattle.tv_fed.proofs.OfWholeSteps.{named-there}
-use Rattle.tv_drawn.specs.Stated.{IsBrought}
-use Rattle.tv_drawn.specs.Steps.{IsStepAt}
-use Rattle.tv_drawn.proofs.OfRanks.{at-in}
-use Rattle.tv_model.specs.Members.{In}
-use Rattle.tv_turn.specs.IdleJobs.{AreIdleOf, AreInOrder, IsIdle}
+use Rattle.tv_framing.specs.engine.WiredFlows.{IsWired}
+use Rattle.tv_framing.proofs.engine.OfEndings.{position-of}
+use Rattle.tv_framing.proofs.feeds.OfWholeSteps.{named-there}
+use Rattle.tv_framing.specs.matches.Stated.{IsBrought}
+use Rattle.tv_framing.specs.matches.Steps.{IsStepAt}
+use Rattle.tv_lemmas.proofs.OfMembers.{in-slice as at-in}
+use Rattle.tv_framing.specs.turns.IdleJobs.{AreIdleOf, AreInOrder, IsIdle}
 use Rattle.tv_frame.specs.Kept.{AreIdle, named_job, step_name}
 use Rattle.tv_frame.specs.Prepared.{is_one_of}
 use Rattle.tv_frame.specs.Shown.{IsRunning}
 use Rattle.tv_frame.specs.Tables.{levels_in}
 use Rattle.tv_frame.proofs.OfAdded.{AreInPlace, IsNew, all-known, all-levels, all-new, all-of, all-placed, all-stay, queue}
-use Rattle.tv_frame.proofs.OfFlags.{flag-kept, known-within, of-slice}
+use Rattle.tv_frame.proofs.OfFlags.{flag-kept, known-within}
 use Rattle.tv_frame.proofs.OfNewJobs.{new-untold}
 use Rattle.tv_frame.proofs.OfShown.{brings, made-at}
 use Rattle.tv_frame.proofs.OfShownLists.{one-each}
 
 -- ---- lists
-
-front-get : {A : Type 0} (xs ys : List A) (m : ℕ) (x : A) → slice_get xs m ≡ Some x → slice_get (xs ++ ys) m ≡ Some x
-front-get [] ys m x e = absurd (none-some x e)
-front-get (y ∷ xs) ys zero x e = e
-front-get (y ∷ xs) ys (suc m) x e = front-get xs ys m x e
-
-behind-get : {A : Type 0} (xs ys : List A) (p : ℕ) → slice_get (xs ++ ys) (length xs + p) ≡ slice_get ys p
-behind-get [] ys p = let e : 0 + p ≡ p = omega arith in ap (slice_get ys) e
-behind-get (x ∷ xs) ys p =
-    let e : suc (length xs) + p ≡ suc (length xs + p) = omega arith in
-    ap (slice_get (x ∷ (xs ++ ys))) e ∙ behind-get xs ys p
 
 -- an element behind, with its place there
 record IsBehind {A : Type 0} (xs ys : List A) (m : ℕ) (x : A) : Type 0 where
@@ -200,12 +187,12 @@ module _ (flows : List (Name × Flow)) (v : View) (e : Event) (cs : List ℕ) (i
   -- ---- numbers
 
   old-number : (m : ℕ) (x : Name × Place) → numbered v m ≡ Some x → numbered view m ≡ Some x
-  old-number m x k = front-get v.jobs news m x k
+  old-number m x k = in-front v.jobs news m x k
 
   new-number : (p : ℕ) (c : ℕ) (q : Place) (s : Name × Step) → IsStepAt v c s → slice_get xs p ≡ Some (c, q) → numbered view (idle.known + p) ≡ Some (s.0, q)
   new-number p c q s a k =
       ap (λ m. slice_get (v.jobs ++ news) (m + p)) (sym known-many)
-      ∙ behind-get v.jobs news p
+      ∙ in-behind v.jobs news p
       ∙ get-map (named_job v.flow) xs p (c, q) k
       ∙ ap (λ n. Some (n, q)) (step-is c s a)
 
@@ -290,7 +277,7 @@ module _ (flows : List (Name × Flow)) (v : View) (e : Event) (cs : List ℕ) (i
   are-steps m x k =
       on_either (split-get v.jobs news m x k) (h.before.all.steps m x)
       (λ b.
-      let y = of-slice (named_job v.flow) xs b.at x b.there in
+      let y = of-image (named_job v.flow) xs b.at x b.there in
       let o = new-of b.at y.0 y.1 in
       subst (λ (z : Name × Place). has_name v.flow.steps z.0 ≡ true) y.2
       (subst (λ n. has_name v.flow.steps n ≡ true) (sym (step-is y.0.0 o.step o.at)) (named-there v.flow.steps y.0.0 o.step o.at)))
@@ -298,9 +285,9 @@ module _ (flows : List (Name × Flow)) (v : View) (e : Event) (cs : List ℕ) (i
   all-idle : (m : ℕ) (x : Name × Place) → numbered view m ≡ Some x → is_taken (e ∷ v.events) x.0 x.1 ≡ false → has_result (e ∷ v.events) x.0 x.1 ≡ false → IsIdle now.steps (position x.0 v.flow.steps) (m, x.1)
   all-idle m x k t r =
       on_either (split-get v.jobs news m x k)
-      (λ o. old-idle (position x.0 v.flow.steps) (m, x.1) (h.before.all.all m x o (or-second (takes_at x.0 x.1 e) (is_taken v.events x.0 x.1) t) (or-second (gives_at x.0 x.1 e) (has_result v.events x.0 x.1) r)))
+      (λ o. old-idle (position x.0 v.flow.steps) (m, x.1) (h.before.all.all m x o (or_parts (takes_at x.0 x.1 e) (is_taken v.events x.0 x.1) t).1 (or_parts (gives_at x.0 x.1 e) (has_result v.events x.0 x.1) r).1))
       (λ b.
-      let y = of-slice (named_job v.flow) xs b.at x b.there in
+      let y = of-image (named_job v.flow) xs b.at x b.there in
       let o = new-of b.at y.0 y.1 in
       let at : position x.0 v.flow.steps ≡ y.0.0 =
       ap (λ n. position n v.flow.steps) (sym (ap (λ (z : Name × Place). z.0) y.2) ∙ step-is y.0.0 o.step o.at)
@@ -342,7 +329,7 @@ module _ (flows : List (Name × Flow)) (v : View) (e : Event) (cs : List ℕ) (i
   said-old b c' c k m said =
       let s = idle-step c b k m in
       let there : slice_get (map (named_job v.flow) (known_jobs i)) k.0 ≡ Some (s.0.0, k.1) = ap (λ l. slice_get l k.0) (sym h.jobs_are) ∙ h.before.all.known c s.0 k s.1 (idle-by c b k m) in
-      let y = of-slice (named_job v.flow) (known_jobs i) k.0 (s.0.0, k.1) there in
+      let y = of-image (named_job v.flow) (known_jobs i) k.0 (s.0.0, k.1) there in
       let within = known-within cs i j made h.sound h.can k.0 y.0.0 y.0.1 y.1 in
       let t = get-within v.flow.steps y.0.0 (subst (λ n. y.0.0 < n) h.as_many within) in
       let same : y.0.0 ≡ c = same-number y.0.0 c t.0 s.0 t.1 s.1 (ap (λ (z : Name × Place). z.0) y.2) in

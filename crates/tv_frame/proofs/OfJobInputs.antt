@@ -8,6 +8,8 @@ use Rattle.std.proofs.lemmas.Bool.{and_parts, true≢false}
 use Rattle.std.proofs.lemmas.List.{length-map}
 use Rattle.std.proofs.lemmas.List.Sorted.{IsPermutation-sym}
 use Rattle.std.proofs.lemmas.Option.{get_or_from_slice_get, none-some, same_Some, slice_get_within}
+use Rattle.tv_lemmas.specs.Members.{Each, In}
+use Rattle.tv_lemmas.proofs.OfMembers.{each_in}
 use Rattle.tv_lemmas.proofs.Lists.{get-map}
 use Rattle.tv_value.specs.Nested.{Place, at, item_at, leaf, list, no_trees, tree}
 use Rattle.tv_value.specs.Orders.{named, same_name}
@@ -24,21 +26,19 @@ use Rattle.tv_strategy.specs.Iterations.{Binding, Iteration, Iterations, job, pa
 use Rattle.tv_strategy.specs.Levels.{AllHaveLevels, HasLevels}
 use Rattle.tv_strategy.specs.Measures.{DotsAgree, leaf_names, strategy_depth}
 use Rattle.tv_strategy.specs.Origins.{Origin, plain}
-use Rattle.tv_strategy.specs.Sources.{Each}
 use Rattle.tv_strategy.specs.Splits.{split}
 use Rattle.tv_strategy.proofs.OfLaws.{split-names_leaves}
 use Rattle.tv_naming.specs.Naming.{feed_links, is_there, numbered}
 use Rattle.tv_naming.proofs.FormedParts.{all-pass, ascending, passes, step-at, step-inputs}
-use Rattle.tv_depths.specs.CheckedDepths.{feed_depth, flow_depths}
-use Rattle.tv_depths.specs.Delivered.{Delivered, Ported, feed_delivers, ported}
-use Rattle.tv_depths.specs.Steps.{strategy_of}
+use Rattle.tv_instance.specs.CheckedDepths.{feed_depth, flow_depths}
+use Rattle.tv_instance.specs.Delivered.{Delivered, Ported, feed_delivers, at_port}
+use Rattle.tv_instance.specs.Steps.{strategy_of}
 use Rattle.tv_check.specs.declared.plans.FlowPlan.{FlowPlan}
 use Rattle.tv_check.specs.declared.plans.StepPlan.{StepPlan}
 use Rattle.tv_check.specs.Plans as plans
 use Rattle.tv_check.specs.PlanViews.{IsOfDocument, step_plan_view}
 use Rattle.tv_matching.specs.Items.{Bound, Item, Stopped, known_items, kind_of}
-use Rattle.tv_matching.proofs.OfMembers.{each-in, in-permutes}
-use Rattle.tv_model.specs.Members.{In}
+use Rattle.tv_matching.proofs.OfMembers.{in-permutes}
 use Rattle.tv_wires.specs.declared.ports.Port.{Port}
 use Rattle.tv_wires.specs.declared.wiring.Wiring.{Wiring}
 use Rattle.tv_wires.specs.Ports.{mismatches, port_among, ports_of}
@@ -46,31 +46,31 @@ use Rattle.tv_outputs.specs.Known.{Nodes}
 use Rattle.tv_intake.specs.Intaken.{IsFaultyAt, known_jobs, matcher_at}
 use Rattle.tv_cell.specs.declared.piece.Piece.{Piece}
 use Rattle.tv_cell.specs.PieceValues.{piece_values}
-use Rattle.tv_bound.specs.declared.jobs.StepPorts.{StepPorts}
-use Rattle.tv_bound.specs.declared.sources.Sources.{Sources}
-use Rattle.tv_bound.specs.Constants.{FlowConstants, constant_of_port, constants_view, flow_constants}
-use Rattle.tv_bound.specs.Found.{all_found}
-use Rattle.tv_bound.specs.Jobs.{job_found, port_found}
-use Rattle.tv_bound.specs.Parts.{IsPartOf}
-use Rattle.tv_bound.specs.Sourced.{IsCounted, known_by as sourced_by}
+use Rattle.tv_binding.specs.declared.jobs.StepPorts.{StepPorts}
+use Rattle.tv_binding.specs.declared.sources.Sources.{Sources}
+use Rattle.tv_binding.specs.Constants.{FlowConstants, constant_of_port, constants_view, flow_constants}
+use Rattle.tv_binding.specs.Found.{all_found}
+use Rattle.tv_binding.specs.Jobs.{job_found, port_found}
+use Rattle.tv_binding.specs.Parts.{IsPartOf}
+use Rattle.tv_binding.specs.Sourced.{IsCounted, known_by as sourced_by}
 use Rattle.tv_model.specs.Instances.{given_of}
 use Rattle.tv_instance.specs.ByResults.{InstanceStep, Results, step_of}
 use Rattle.tv_instance.specs.Events.{Extends, gave, known_by}
-use Rattle.tv_instances.specs.Stated.{HasItsLevels}
-use Rattle.tv_instances.proofs.OfLevels.{steps-have_their_levels}
+use Rattle.tv_framing.specs.instances.Stated.{HasItsLevels}
+use Rattle.tv_framing.proofs.instances.OfLevels.{steps-have_their_levels}
 use Rattle.tv_framing.specs.Answers.{AreInputs, numbered as numbered_job}
 use Rattle.tv_framing.specs.Frames as frames
 use Rattle.tv_framing.specs.Frames.{FitsKind}
 use Rattle.tv_framing.specs.Views.{AreOfDepth, View, steps_with}
 use Rattle.tv_framing.proofs.OfFrames.{AreDistinct, in-finds, job-end, known-stands, steps-distinct}
 use Rattle.tv_framing.proofs.OfPossible.{some-possible}
-use Rattle.tv_joined.specs.WiredFlows.{IsWired}
-use Rattle.tv_fed.proofs.OfStanding.{fed-depth, stands}
-use Rattle.tv_drawn.specs.Items.{StandAtParts}
-use Rattle.tv_drawn.specs.Steps.{IsOfRankedFlow}
-use Rattle.tv_drawn.proofs.OfLaws.{parts-are_inputs}
-use Rattle.tv_drawn.proofs.OfRanks.{at-in}
-use Rattle.tv_drawn.proofs.OfSteps.{IsMadeOf, made-step, rising, steps-paired}
+use Rattle.tv_framing.specs.engine.WiredFlows.{IsWired}
+use Rattle.tv_framing.proofs.feeds.OfStanding.{fed-depth, stands}
+use Rattle.tv_framing.specs.matches.Items.{StandAtParts}
+use Rattle.tv_framing.specs.matches.Steps.{IsOfRankedFlow}
+use Rattle.tv_framing.proofs.matches.OfLaws.{parts-are_inputs}
+use Rattle.tv_lemmas.proofs.OfMembers.{in-slice as at-in}
+use Rattle.tv_framing.proofs.matches.OfSteps.{IsMadeOf, made-step, rising, steps-paired}
 use Rattle.tv_frame.specs.declared.frame.Frame.{Frame}
 use Rattle.tv_frame.specs.Kept.{Keeps, named_job}
 use Rattle.tv_frame.specs.StepPorts.{ArePortsOf}
@@ -235,14 +235,14 @@ module _ (flows : List (Name × Flow)) (plan : FlowPlan) (pool : Nodes) (f : Fra
     -- as deep as the levels of its step
     deep-here : length q ≡ strategy_depth (number_of p.mismatch.now) (strategy_view p.tree.now)
     deep-here =
-        let has = (each-in (HasItsLevels levels) g fs (steps-have_their_levels flows v.flow keeps.of_depths.flow v.inputs keeps.of_depths.inputs instance results depth levels keeps.of_depths.levels_are) its-end.1).levels_told in
+        let has = (each_in (HasItsLevels levels) fs (steps-have_their_levels flows v.flow keeps.of_depths.flow v.inputs keeps.of_depths.inputs instance results depth levels keeps.of_depths.levels_are) g its-end.1).levels_told in
         let st = known-stands (known_by instance v.events) g.step.iteration its-end.3 its-end.4 in
         item-deep g.step.iteration (levels g.step.step) q s.0 st.0 has (ap (at g.step.iteration) (sym its-end.5) ∙ st.1) (subst (FitsKind (gave s.0 q [])) st.2 its-end.6)
         ∙ ap levels its-end.2 ∙ levels-are v.flow wired n s its-place ∙ levels-measured v.flow s.1
         ∙ ap (λ m. strategy_depth (number_of m) (strategy_of s.1)) (sym mismatch-is) ∙ ap (strategy_depth (number_of p.mismatch.now)) (sym strategy-is)
 
     -- the inputs of its step
-    inputs-here : g.step.inputs ≡ map (λ (i : Name × StepInput). (i.0, ported i.1.depth (delivers i.1.from))) s.1.inputs
+    inputs-here : g.step.inputs ≡ map (λ (i : Name × StepInput). (i.0, at_port i.1.depth (delivers i.1.from))) s.1.inputs
     inputs-here =
         let h = stands flows levels v keeps.of_depths wired instance results n s its-place in
         ap (λ (k : InstanceStep). k.step.inputs) (same-step fs (steps-distinct v instance results) g h.step its-end.1 h.there (its-end.2 ∙ sym h.stands.name)) ∙ h.stands.inputs
@@ -260,7 +260,7 @@ module _ (flows : List (Name × Flow)) (plan : FlowPlan) (pool : Nodes) (f : Fra
             ∙ sym (fed-depth flows levels v keeps.of_depths wired instance results i.1.from));
         found =
             ap (named i.0) inputs-here
-            ∙ named-mapped (λ (j : StepInput). ported j.depth (delivers j.from)) i.0 s.1.inputs i.1 (named-there s.1.inputs k i (ascending is_step_input 0 16 s.1.inputs formed-inputs) e);
+            ∙ named-mapped (λ (j : StepInput). at_port j.depth (delivers j.from)) i.0 s.1.inputs i.1 (named-there s.1.inputs k i (ascending is_step_input 0 16 s.1.inputs formed-inputs) e);
         leaf = passes (λ (j : Name × StepInput). list_any (same_name j.0) (leaf_names (strategy_of s.1))) s.1.inputs k i (passes (λ (t : Name × Step). list_all (λ j. list_any (same_name j.0) (leaf_names (strategy_of t.1))) t.1.inputs) v.flow.steps n s wired.leaves its-place) e;
       }
 

@@ -5,6 +5,7 @@ use Rattle.std.specs.Prelude.{◌≡◌, refl, ℕ, suc, ◌+◌, ◌-◌, ◌||
 use Rattle.std.proofs.Common.{arith, sym, ap, ap₂, subst, ◌∙◌}
 use Rattle.std.proofs.lemmas.Bool.{true≢false}
 use Rattle.std.proofs.lemmas.Option.{same_Some}
+use Rattle.tv_lemmas.specs.Members.{Each}
 use Rattle.tv_value.specs.Nested.{Place, at}
 use Rattle.tv_value.specs.Orders.{named, same_name}
 use Rattle.tv_value.specs.Values.{JobName, Name, Value}
@@ -12,28 +13,27 @@ use Rattle.tv_flow.specs.Flows.{Flow, Step, StepInput}
 use Rattle.tv_strategy.specs.Conditions.{place_of}
 use Rattle.tv_strategy.specs.Measures.{leaf_names}
 use Rattle.tv_strategy.specs.Origins.{Traced, plain}
-use Rattle.tv_strategy.specs.Sources.{Each}
 use Rattle.tv_naming.specs.Naming.{feed_links, is_there, numbered}
-use Rattle.tv_naming.proofs.ByPosition.{same_name-is}
-use Rattle.tv_depths.specs.Delivered.{Ported, feed_delivers, ported}
-use Rattle.tv_depths.specs.Steps.{port_iteration, port_mismatch, strategy_of}
+use Rattle.tv_value.proofs.OfNames.{same_name-is}
+use Rattle.tv_instance.specs.Delivered.{Ported, feed_delivers, at_port}
+use Rattle.tv_instance.specs.Steps.{port_iteration, port_mismatch, strategy_of}
 use Rattle.tv_matching.specs.Told.{Spot}
 use Rattle.tv_wires.specs.Feeds.{feed_numbered}
 use Rattle.tv_wires.specs.Ports.{leaf_number, port_among}
-use Rattle.tv_bound.specs.declared.jobs.StepPorts.{StepPorts}
-use Rattle.tv_bound.specs.Constants.{FlowConstants, constant_in, constant_of_port}
-use Rattle.tv_bound.specs.Delivered.{wrapped_value}
-use Rattle.tv_bound.specs.Found.{Known, all_found, feed_found}
-use Rattle.tv_bound.specs.Jobs.{port_found, wraps}
+use Rattle.tv_binding.specs.declared.jobs.StepPorts.{StepPorts}
+use Rattle.tv_binding.specs.Constants.{FlowConstants, constant_in, constant_of_port}
+use Rattle.tv_binding.specs.Delivered.{wrapped_value}
+use Rattle.tv_binding.specs.Found.{Known, all_found, feed_found}
+use Rattle.tv_binding.specs.Jobs.{port_found, wraps}
 use Rattle.tv_model.specs.Instances.{given_of}
 use Rattle.tv_instance.specs.ByResults.{InstanceStep, Results, step_of}
 use Rattle.tv_instance.specs.Events.{Extends, known_by}
 use Rattle.tv_instance.specs.Legality.{AreLegal}
 use Rattle.tv_framing.specs.Stated.{IsOfDepths}
 use Rattle.tv_framing.specs.Views.{AreOfDepth, InAll, View, steps_with}
-use Rattle.tv_joined.specs.WiredFlows.{IsWired}
-use Rattle.tv_drawn.proofs.OfMatched.{at-plain}
-use Rattle.tv_drawn.proofs.OfSteps.{value_in}
+use Rattle.tv_framing.specs.engine.WiredFlows.{IsWired}
+use Rattle.tv_framing.proofs.matches.OfMatched.{at-plain}
+use Rattle.tv_framing.proofs.matches.OfSteps.{value_in}
 use Rattle.tv_frame.proofs.OfJobValues.{IsKnownThere}
 use Rattle.tv_frame.proofs.OfKnownFeeds.{IsKnownIn}
 use Rattle.tv_frame.proofs.OfPortValues.{port-is_found}
@@ -70,7 +70,7 @@ leaf-at P n (r ∷ rs) h e = by (same_name n r.0) refl h (λ k. leaf-at P n rs k
 module _ (flows : List (Name × Flow)) (levels : Name → ℕ) (w : View) (depths : IsOfDepths flows levels w) (wired : IsWired w.flow) (legal : InAll w (λ instance results fs. AreLegal instance fs w.events)) (instance : JobName) (results : Results) (depth : AreOfDepth w instance results) (x : Extends results w.events)
     (k : Known) (is : IsKnownIn levels w k) (g : InstanceStep) where
   abbrev takes : StepInput → Ported
-  takes i = ported i.depth (feed_delivers step_of (given_of w.flow w.inputs) (steps_with w instance results) i.from)
+  takes i = at_port i.depth (feed_delivers step_of (given_of w.flow w.inputs) (steps_with w instance results) i.from)
 
   abbrev IsThere : Spot → Type 0
   IsThere r = IsKnownThere (λ o. known_by instance w.events o) (port_iteration g.step.inputs) (λ p. value_in (named p g.step.inputs)) (port_mismatch g.step.inputs) r

@@ -6,6 +6,8 @@ use Rattle.std.proofs.Common.{arith, sym, ap, subst, ◌∙◌}
 use Rattle.std.proofs.Math.Path.{fun_ext}
 use Rattle.std.proofs.lemmas.Bool.{and_parts}
 use Rattle.std.proofs.lemmas.Option.{none-some, same_Some}
+use Rattle.tv_lemmas.specs.Members.{Each, In}
+use Rattle.tv_lemmas.proofs.OfMembers.{in_each}
 use Rattle.tv_value.specs.Nested.{Place, Trees, at, item_at, leaf, list, map_trees, no_trees, note, notes, tree}
 use Rattle.tv_value.specs.Orders.{named}
 use Rattle.tv_value.specs.Strategies.{Strategies, Strategy, cross, dot, no_strategies, port, strategy}
@@ -15,24 +17,21 @@ use Rattle.tv_strategy.specs.Conditions.{number_of}
 use Rattle.tv_strategy.specs.Iterations.{Binding, End, Iteration, Iterations, added, cross_of, crossed, crossed_end, dot_of, each_crossed, each_paired, end_with, iteration, job, paired, paired_end, passed, stopped, walk, walk_each}
 use Rattle.tv_strategy.specs.Levels.{IsJob}
 use Rattle.tv_strategy.specs.Origins.{Origin, Traced}
-use Rattle.tv_strategy.specs.Sources.{Each}
 use Rattle.tv_strategy.specs.Splits.{split}
 use Rattle.tv_strategy.proofs.AtPlace.{JobsAt, split-jobs}
 use Rattle.tv_strategy.proofs.OfEnds.{walk-at}
 use Rattle.tv_strategy.proofs.OfSources.{each-append}
-use Rattle.tv_depths.specs.Delivered.{Ported}
-use Rattle.tv_depths.specs.Steps.{port_iteration, port_mismatch, strategy_of}
+use Rattle.tv_instance.specs.Delivered.{Ported}
+use Rattle.tv_instance.specs.Steps.{port_iteration, port_mismatch, strategy_of}
 use Rattle.tv_wires.specs.Ports.{mismatches}
 use Rattle.tv_matching.specs.Items.{Bound, Item, Stopped, all_known, kind_of, known_items}
 use Rattle.tv_matching.specs.Told.{Spot}
-use Rattle.tv_matching.proofs.OfMembers.{each-from}
-use Rattle.tv_model.specs.Members.{In}
 use Rattle.tv_instance.specs.ByResults.{InstanceStep}
 use Rattle.tv_instance.specs.Events.{gave}
 use Rattle.tv_framing.specs.Frames.{FitsKind}
 use Rattle.tv_framing.proofs.OfFrames.{known-stands}
-use Rattle.tv_drawn.proofs.OfLeaves.{leaf-in}
-use Rattle.tv_drawn.proofs.OfSteps.{IsMadeOf, value_in, walk_in}
+use Rattle.tv_framing.proofs.matches.OfLeaves.{leaf-in}
+use Rattle.tv_framing.proofs.matches.OfSteps.{IsMadeOf, value_in, walk_in}
 use Rattle.tv_frame.proofs.OfKnownFeeds.{all-split}
 
 module _ (known : Origin → Bool) where
@@ -196,7 +195,7 @@ module _ (known : Origin → Bool) where
 
     walks-all : (q : Place) → Each (IsWalk (port_iteration f.step.inputs) port_values (port_mismatch f.step.inputs)) (split (port_mismatch f.step.inputs) (strategy_of s.1) q)
     walks-all q =
-        each-from (IsWalk (port_iteration f.step.inputs) port_values (port_mismatch f.step.inputs)) (split (port_mismatch f.step.inputs) (strategy_of s.1) q)
+        in_each (IsWalk (port_iteration f.step.inputs) port_values (port_mismatch f.step.inputs)) (split (port_mismatch f.step.inputs) (strategy_of s.1) q)
         (λ r i. let a = made.leaves r.0 (leaf-in (port_mismatch f.step.inputs) (strategy_of s.1) q r i) in
         ap (walk_in r.0) a.1 ∙ sym (ap (λ o. walk r.0 (option_map_or (λ (d : Ported). d.mismatch) o 0) (value_in o)) a.1))
 

@@ -4,6 +4,8 @@ use Rattle.std.specs.Prelude.{◌≡◌, refl, ℕ, ◌<◌, ◌++◌, Bool, Lis
 use Rattle.std.proofs.Common.{sym, ap, subst, ◌∙◌, inl}
 use Rattle.std.proofs.lemmas.List.Sorted.{IsPermutation-sym}
 use Rattle.std.proofs.lemmas.Option.{same_Some, slice_get_within}
+use Rattle.tv_lemmas.specs.Members.{In}
+use Rattle.tv_lemmas.proofs.OfMembers.{each_in, in-flat}
 use Rattle.tv_lemmas.proofs.Lists.{get-map, get-within}
 use Rattle.tv_value.specs.Nested.{Place, at, leaf, list, nodes}
 use Rattle.tv_value.specs.Values.{JobName, Name}
@@ -11,31 +13,30 @@ use Rattle.tv_flow.specs.Flows.{Flow, Step}
 use Rattle.tv_strategy.specs.Conditions.{EachOnce}
 use Rattle.tv_strategy.specs.Iterations.{Iteration, job, passed}
 use Rattle.tv_strategy.specs.Measures.{leaf_names}
-use Rattle.tv_depths.specs.Delivered.{Delivered, feed_delivers}
-use Rattle.tv_depths.specs.Steps.{bound_values, endings_of}
+use Rattle.tv_instance.specs.Delivered.{Delivered, feed_delivers}
+use Rattle.tv_instance.specs.Steps.{bound_values, endings_of}
 use Rattle.tv_check.specs.declared.plans.FlowPlan.{FlowPlan}
 use Rattle.tv_outputs.specs.Known.{Nodes}
 use Rattle.tv_matching.specs.Items.{kind_of}
 use Rattle.tv_matching.specs.Told.{faulty_at}
-use Rattle.tv_matching.proofs.OfMembers.{each-in, in-flat, in-permutes}
+use Rattle.tv_matching.proofs.OfMembers.{in-permutes}
 use Rattle.tv_match.specs.declared.matchers.Matcher.{Matcher}
 use Rattle.tv_match.specs.Seen.{matching}
 use Rattle.tv_intake.specs.Intaken.{IsFaultyAt, IsSoundAt, known_jobs, matcher_at}
 use Rattle.tv_spread.specs.Spreads.{faulty_now_at, is_faulty_now}
 use Rattle.tv_instance.specs.ByResults.{InstanceStep, PlacedJob, Results, iteration_on, jobs_at_node, step_of}
 use Rattle.tv_instance.specs.Events.{Extends, gave, known_by}
-use Rattle.tv_instances.proofs.OfSettling.{node-listed}
+use Rattle.tv_framing.proofs.instances.OfSettling.{node-listed}
 use Rattle.tv_model.specs.Instances.{given_of}
-use Rattle.tv_model.specs.Members.{In}
 use Rattle.tv_framing.specs.Answers.{numbered}
 use Rattle.tv_framing.specs.Frames as frames
 use Rattle.tv_framing.specs.Frames.{FitsKind}
 use Rattle.tv_framing.specs.Views.{AreOfDepth, View, steps_with}
 use Rattle.tv_framing.proofs.OfFrames.{job-end, known-stands}
-use Rattle.tv_begun.proofs.OfSteps.{IsMade, IsPlaced, all_depths, steps-placed}
-use Rattle.tv_drawn.specs.Steps.{IsStepAt}
-use Rattle.tv_drawn.proofs.OfRanks.{at-in}
-use Rattle.tv_truly.proofs.OfLaws.{jobs-hold_what_is_said}
+use Rattle.tv_framing.proofs.starts.OfSteps.{IsMade, IsPlaced, all_depths, steps-placed}
+use Rattle.tv_framing.specs.matches.Steps.{IsStepAt}
+use Rattle.tv_lemmas.proofs.OfMembers.{in-slice as at-in}
+use Rattle.tv_framing.proofs.faults.OfLaws.{jobs-hold_what_is_said}
 use Rattle.tv_frame.specs.declared.frame.Frame.{Frame}
 use Rattle.tv_frame.specs.Calls.{HoldsError, IsJob, IsJobAmong}
 use Rattle.tv_frame.specs.Kept.{HasMatcher, Keeps, named_job, step_name}
@@ -72,8 +73,7 @@ module _ (flows : List (Name × Flow)) (plan : FlowPlan) (pool : Nodes) (f : Fra
 
     made : (g : InstanceStep) → In g fs → IsMade v.flow (levels_in v.flow) instance results given g
     made g i =
-        (each-in (IsPlaced v.flow (levels_in v.flow) instance results given flows (all_depths flows (levels_in v.flow) v k.of_depths (kept-wired flows plan pool f v k)) fs) g fs
-        (steps-placed flows (levels_in v.flow) v k.of_depths (kept-wired flows plan pool f v k) instance results depth) i).own
+        (each_in (IsPlaced v.flow (levels_in v.flow) instance results given flows (all_depths flows (levels_in v.flow) v k.of_depths (kept-wired flows plan pool f v k)) fs) fs (steps-placed flows (levels_in v.flow) v k.of_depths (kept-wired flows plan pool f v k) instance results depth) g i).own
 
     at-node : (g : InstanceStep) → In g fs → g.step.step ≡ s → (u : Iteration) → at g.step.iteration q ≡ Some u → FitsKind (gave s q []) (kind_of u) → IsJobAmong (s, q) fs
     at-node g i e (leaf sources (job b)) there h =
@@ -86,7 +86,7 @@ module _ (flows : List (Name × Flow)) (plan : FlowPlan) (pool : Nodes) (f : Fra
           step = g;
           among = i;
           job = j;
-          of_step = subst (λ (d : InstanceStep). In j d.jobs) (sym own.is) (in-flat (jobs_at_node own.name own.step waits) j (q, leaf sources (job b)) (nodes it) listed (inl refl));
+          of_step = subst (λ (d : InstanceStep). In j d.jobs) (sym own.is) (in-flat (jobs_at_node own.name own.step waits) (q, leaf sources (job b)) j (nodes it) listed (inl refl));
           name = ap (λ (d : InstanceStep). d.step.step) (sym own.is) ∙ e;
           place = refl;
         }

@@ -14,14 +14,15 @@ use Rattle.tv_check.specs.declared.plans.FlowPlan.{FlowPlan}
 use Rattle.tv_outputs.specs.Known.{Nodes, known}
 use Rattle.tv_outputs.specs.Kept.{Stand}
 use Rattle.tv_framing.specs.Views.{View}
-use Rattle.tv_joined.specs.WiredFlows.{IsWired}
-use Rattle.tv_joined.proofs.OfAccepted.{accepted-wired}
-use Rattle.tv_begun.proofs.OfSteps.{stands-at}
-use Rattle.tv_drawn.specs.Steps.{IsOfRankedFlow, IsStepAt}
+use Rattle.tv_framing.specs.engine.WiredFlows.{IsWired}
+use Rattle.tv_framing.proofs.engine.OfAccepted.{accepted-wired}
+use Rattle.tv_framing.proofs.starts.OfSteps.{stands-at}
+use Rattle.tv_framing.specs.matches.Steps.{IsOfRankedFlow, IsStepAt}
 use Rattle.tv_frame.specs.declared.frame.Ahead.{Ahead}
 use Rattle.tv_frame.specs.declared.frame.Frame.{Frame}
 use Rattle.tv_frame.specs.Kept.{AreTrees, Keeps}
-use Rattle.tv_frame.specs.Tables.{first_tree, levels_at, levels_in}
+use Rattle.tv_frame.specs.Tables.{first_tree, levels_in}
+use Rattle.tv_depths.specs.Tables.{step_level}
 use Rattle.tv_frame.proofs.OfTrees.{first-read}
 
 -- a frame keeps what it keeps where its pool has the same regions
@@ -80,8 +81,8 @@ kept-ranked flows plan pool f v k =
     record { depths = k.of_depths; formed = w.formed; ranked = w.ranked }
 
 -- the levels of a step, by its name and by itself
-pub levels-are : (f : Flow) → IsWired f → (n : ℕ) (s : Name × Step) → slice_get f.steps n ≡ Some s → levels_in f s.0 ≡ levels_at f s.1
-levels-are f wired n s e = ap (λ o. option_map_or (levels_at f) o 0) (stands-at f wired n s e)
+pub levels-are : (f : Flow) → IsWired f → (n : ℕ) (s : Name × Step) → slice_get f.steps n ≡ Some s → levels_in f s.0 ≡ step_level f s.1
+levels-are f wired n s e = ap (λ o. option_map_or (step_level f) o 0) (stands-at f wired n s e)
 
 -- ---- what a step's number finds
 

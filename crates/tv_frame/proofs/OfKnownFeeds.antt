@@ -13,32 +13,32 @@ use Rattle.tv_strategy.specs.Origins.{Origin, Traced, fixed, from_job, plain, tr
 use Rattle.tv_strategy.specs.Outputs.{output_below, outputs_from}
 use Rattle.tv_naming.specs.Naming.{feed_links, is_there}
 use Rattle.tv_naming.specs.Numbers.{position}
-use Rattle.tv_depths.specs.Delivered.{Delivered, feed_delivers, link_delivers}
-use Rattle.tv_depths.specs.Steps.{spot}
+use Rattle.tv_instance.specs.Delivered.{Delivered, feed_delivers, link_delivers}
+use Rattle.tv_instance.specs.Steps.{spot}
 use Rattle.tv_parts.specs.Partials.{Partial, closed, growing, item, known_at, part_at, shows, wanting}
 use Rattle.tv_matching.specs.Items.{all_known}
 use Rattle.tv_outputs.specs.FoundIn.{found_in}
 use Rattle.tv_wires.specs.Feeds.{feed_numbered, link_numbered, outputs_of}
-use Rattle.tv_bound.specs.Constants.{constant_in}
-use Rattle.tv_bound.specs.Found.{Known, all_found, feed_found, link_found}
-use Rattle.tv_bound.proofs.Finding.{known-found}
+use Rattle.tv_binding.specs.Constants.{constant_in}
+use Rattle.tv_binding.specs.Found.{Known, all_found, feed_found, link_found}
+use Rattle.tv_binding.proofs.Finding.{known-found}
 use Rattle.tv_model.specs.Instances.{given_of}
 use Rattle.tv_instance.specs.ByResults.{InstanceStep, Results, result_at, step_of}
 use Rattle.tv_instance.specs.Events as events
 use Rattle.tv_instance.specs.Events.{Events, Extends, closed_with, fault_set, gave, has_fault, has_level, has_result, is_spot, known_by, took}
 use Rattle.tv_instance.specs.Legality.{AreLegal}
-use Rattle.tv_instances.proofs.OfEvents.{level-known, result-known}
+use Rattle.tv_framing.proofs.instances.OfEvents.{level-known, result-known}
 use Rattle.tv_framing.specs.Arriving.{part_so_far}
 use Rattle.tv_framing.specs.Stated.{IsOfDepths}
 use Rattle.tv_framing.specs.Views.{AreOfDepth, InAll, View, steps_with}
 use Rattle.tv_framing.proofs.OfTellings.{at-append}
-use Rattle.tv_joined.specs.WiredFlows.{IsWired}
-use Rattle.tv_joined.proofs.OfPieces.{ShowsFrom, so_far-shows}
-use Rattle.tv_joined.proofs.OfShowing.{IsItemIf, IsListIf, StandsBy, told}
-use Rattle.tv_begun.proofs.OfPlain.{plain-traced}
-use Rattle.tv_drawn.proofs.OfMatched.{at-plain}
-use Rattle.tv_fed.proofs.OfNames.{is-named}
-use Rattle.tv_truly.specs.Known.{tree_of}
+use Rattle.tv_framing.specs.engine.WiredFlows.{IsWired}
+use Rattle.tv_framing.proofs.engine.OfPieces.{ShowsFrom, so_far-shows}
+use Rattle.tv_framing.proofs.engine.OfShowing.{IsItemIf, IsListIf, StandsBy, told}
+use Rattle.tv_framing.proofs.starts.OfPlain.{plain-traced}
+use Rattle.tv_framing.proofs.matches.OfMatched.{at-plain}
+use Rattle.tv_framing.proofs.feeds.OfNames.{is-named}
+use Rattle.tv_framing.specs.faults.Known.{tree_of}
 use Rattle.tv_frame.proofs.OfFeeds.{fit-step, input-plain, output-below, output-found, output-tree}
 use Rattle.tv_frame.proofs.OfHoldTold.{same-names-has, same-names-position}
 
@@ -70,7 +70,7 @@ module _ (known : Origin → Bool) where
 
 -- a value of one origin
 mutual
-  traced-note : (o : Origin) (v : Value) (y : Place) (u : Traced) → at (traced o v) y ≡ Some u → note u ≡ o
+  pub traced-note : (o : Origin) (v : Value) (y : Place) (u : Traced) → at (traced o v) y ≡ Some u → note u ≡ o
   traced-note o (leaf n a) [] u e = ap note (sym (same_Some (traced o (leaf n a)) u e))
   traced-note o (list n vs) [] u e = ap note (sym (same_Some (traced o (list n vs)) u e))
   traced-note o (leaf n a) (i ∷ y) u e = absurd (none-some u e)
@@ -125,10 +125,10 @@ module _ (instance : JobName) (s : Name) (es : Events) (made : Place → Value) 
   abbrev out : Place → ℕ → Iteration → Traced
   out q l t = output_below (spot instance s) made declared q l t
 
-  top-of : (q : Place) (t : Iteration) (p : Partial Value) → ShowsFrom es s q t p → StandsBy (told es s) q t p
+  pub top-of : (q : Place) (t : Iteration) (p : Partial Value) → ShowsFrom es s q t p → StandsBy (told es s) q t p
   top-of q t p h = subst (λ y. StandsBy (told es s) y t p) (append-nil q) (h [] t refl)
 
-  item-of : (q : Place) (r : List Origin) (ts : Iterations) (p : Partial Value) (j : ℕ) (u : Iteration) → ShowsFrom es s q (list r ts) p → item_at ts j ≡ Some u → ShowsFrom es s (q ++ j ∷ []) u (part_at p j)
+  pub item-of : (q : Place) (r : List Origin) (ts : Iterations) (p : Partial Value) (j : ℕ) (u : Iteration) → ShowsFrom es s q (list r ts) p → item_at ts j ≡ Some u → ShowsFrom es s (q ++ j ∷ []) u (part_at p j)
   item-of q r ts p j u h e x v g = subst (λ y. StandsBy (told es s) y v (known_at x (part_at p j))) (sym (append_assoc q (j ∷ []) x)) (h (j ∷ x) v (ap (option_and_then (λ (y : Iteration). at y x)) e ∙ g))
 
   fault-then : (a b : Bool) → (a || b) ≡ true → b ≡ false → a ≡ true
@@ -188,7 +188,7 @@ module _ (instance : JobName) (s : Name) (es : Events) (made : Place → Value) 
 pub record IsKnownIn (levels : Name → ℕ) (w : View) (k : Known) : Type 0 where
   pub names : map (λ (y : Name × Value). y.0) w.inputs ≡ map (λ (y : Name × ℕ). y.0) w.flow.inputs
   pub inputs : k.inputs ≡ map (λ (y : Name × Value). y.1) w.inputs
-  pub outputs : (t o : Name) → is_there w.flow (output t o) ≡ true → k.outputs (position t w.flow.steps) (position o (outputs_of w.flow t)) ≡ tree_of w.flow levels w.inputs w.events t o
+  pub outputs : (t o : Name) → is_there w.flow (output t o) ≡ true → k.outputs (position t w.flow.steps) (position o (outputs_of w.flow t)) ≡ tree_of w.flow levels w.events t o
 
 there-in : (o : Option Traced) → is_some (option_map plain o) ≡ true → (u : Traced) × (o ≡ Some u)
 there-in None h = absurd (true≢false (sym h))
@@ -220,10 +220,10 @@ module _ (flows : List (Name × Flow)) (levels : Name → ℕ) (w : View) (depth
       let d = link_delivers step_of its all_its (output t o) in
       let f = output-found flows levels w depths wired legal instance results depth x t o h in
       let g = f.step in
-      let tree_so : tree_of w.flow levels w.inputs w.events t o ≡ part_so_far g.step.step f.out.0 f.out.2 f.out.1 w.events = output-tree flows levels w depths wired legal instance results depth x t o h in
+      let tree_so : tree_of w.flow levels w.events t o ≡ part_so_far g.step.step f.out.0 f.out.2 f.out.1 w.events = output-tree flows levels w depths wired legal instance results depth x t o h in
       let shows_all = so_far-shows g f.out.0 f.out.2 f.out.1 w.events (fit-step flows levels w depths wired legal instance results depth x g f.among) in
       ap (found_in q) (is.outputs t o h)
-      ∙ known-found q (tree_of w.flow levels w.inputs w.events t o) (plain d.value) (plain u) (output-below flows levels w depths wired legal instance results depth x t o h) (plain-there d.value q u a)
+      ∙ known-found q (tree_of w.flow levels w.events t o) (plain d.value) (plain u) (output-below flows levels w depths wired legal instance results depth x t o h) (plain-there d.value q u a)
       (λ r e.
       let v = there-in (at u r) (ap is_some (sym (at-plain r u)) ∙ e) in
       ap (λ p. shows p (q ++ r)) tree_so

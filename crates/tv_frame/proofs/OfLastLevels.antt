@@ -3,14 +3,15 @@ use Rattle.std.specs.Prelude.{◌≡◌, true, drop, ℕ, zero, suc, ◌-◌, �
 use Rattle.std.proofs.Common.{arith, sym, ap, ap₂, subst, ◌∙◌}
 use Rattle.std.proofs.Math.Path.{fun_ext}
 use Rattle.std.proofs.lemmas.Option.{none-some, same_Some, slice_get_within}
+use Rattle.tv_lemmas.specs.Members.{In}
 use Rattle.tv_value.specs.Nested.{Place, at, leaf, list}
 use Rattle.tv_value.specs.Orders.{named, same_name}
 use Rattle.tv_value.specs.Values.{ErrorDoc, JobName, Name, Scalar, fault}
 use Rattle.tv_flow.specs.Flows.{Flow, Step}
 use Rattle.tv_strategy.specs.Iterations.{Iteration, job, passed}
 use Rattle.tv_strategy.specs.Origins.{Mark, Origin, Traced}
-use Rattle.tv_depths.specs.Delivered.{Ported}
-use Rattle.tv_depths.specs.Steps.{port_mismatch, strategy_of}
+use Rattle.tv_instance.specs.Delivered.{Ported}
+use Rattle.tv_instance.specs.Steps.{port_mismatch, strategy_of}
 use Rattle.tv_check.specs.declared.plans.FlowPlan.{FlowPlan}
 use Rattle.tv_starts.specs.Starts.{starts}
 use Rattle.tv_match.specs.declared.kinds.Kind as kinds
@@ -19,7 +20,6 @@ use Rattle.tv_matching.specs.Items.{Bound, Kind, Stopped, item, kind_of, passes}
 use Rattle.tv_matching.specs.Matchers.{Outcome, fault_at}
 use Rattle.tv_outputs.specs.Known.{Nodes}
 use Rattle.tv_intake.specs.Intaken.{matcher_at, waiting_things}
-use Rattle.tv_model.specs.Members.{In}
 use Rattle.tv_instance.specs.ByResults.{InstanceStep, Results}
 use Rattle.tv_instance.specs.Events as events
 use Rattle.tv_instance.specs.Events.{Event, event_place, known_by}
@@ -27,9 +27,9 @@ use Rattle.tv_instance.specs.Fitting.{FitsNode}
 use Rattle.tv_instance.specs.Legality.{IsLegalNext, node_of}
 use Rattle.tv_framing.proofs.OfFrames.{in-finds, known-stands, steps-distinct}
 use Rattle.tv_framing.specs.Views.{InAll, View, steps_with}
-use Rattle.tv_drawn.specs.Stated.{OfStep}
-use Rattle.tv_drawn.specs.Waiting.{waiting_of}
-use Rattle.tv_drawn.proofs.OfSteps.{IsMadeOf}
+use Rattle.tv_framing.specs.matches.Stated.{OfStep}
+use Rattle.tv_framing.specs.matches.Waiting.{waiting_of}
+use Rattle.tv_framing.proofs.matches.OfSteps.{IsMadeOf}
 use Rattle.tv_levels.specs.Levels.{CameFrom, FitsThere, Level, What, came, closed}
 use Rattle.tv_frame.specs.declared.frame.Frame.{Frame}
 use Rattle.tv_frame.specs.Calls.{IsReadyToSettle, Settles}

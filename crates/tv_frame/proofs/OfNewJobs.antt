@@ -5,6 +5,8 @@ use Rattle.std.specs.Cmp.Lexicographic.{bytes_decides}
 use Rattle.std.proofs.Common.{sym, ap, subst, ◌∙◌, arith, inl, inr}
 use Rattle.std.proofs.lemmas.Bool.{and_parts, true≢false, or_parts}
 use Rattle.std.proofs.lemmas.List.Sums.{sum_by-append, sum_by-cons}
+use Rattle.tv_lemmas.specs.Members.{In}
+use Rattle.tv_lemmas.proofs.OfMembers.{in-left, in-map, of-map}
 use Rattle.tv_value.specs.Nested.{Place}
 use Rattle.tv_value.specs.Orders.{same_name}
 use Rattle.tv_value.specs.Values.{JobName, Name}
@@ -14,15 +16,14 @@ use Rattle.tv_strategy.specs.Splits.{same_place}
 use Rattle.tv_strategy.proofs.OfPlaces.{same-equal, same-itself}
 use Rattle.tv_matching.specs.Items.{Bound, Item, Kind, Stopped, closes, ends, known_items, passes}
 use Rattle.tv_matching.specs.Matchers.{Outcome, fault_at, job_at, list_at}
-use Rattle.tv_matching.specs.Members.{In}
 use Rattle.tv_matching.specs.Told.{Told}
-use Rattle.tv_matching.proofs.OfMembers.{in-left, in-map, in-permutes, of-map}
+use Rattle.tv_matching.proofs.OfMembers.{in-permutes}
 use Rattle.tv_matching.proofs.Onces.{known-once}
 use Rattle.tv_instance.specs.ByResults.{InstanceStep, Results}
 use Rattle.tv_instance.specs.Events as events
 use Rattle.tv_instance.specs.Events.{Event, Events, event_place, event_step, fault_set, gave, gives_at, has_result, is_spot, is_taken, known_by, takes_at, took}
 use Rattle.tv_instance.specs.Legality.{AreLegal, IsLegalNext}
-use Rattle.tv_instances.specs.InHistory.{Finds}
+use Rattle.tv_framing.specs.instances.InHistory.{Finds}
 use Rattle.tv_framing.proofs.OfArriving.{extends-parts}
 use Rattle.tv_framing.proofs.OfFrames.{in-finds, legal-known, steps-distinct, after-more}
 use Rattle.tv_framing.proofs.OfPorts.{known-or_gained}
@@ -30,13 +31,13 @@ use Rattle.tv_framing.proofs.OfPossible.{some-possible}
 use Rattle.tv_framing.specs.Frames.{with_event}
 use Rattle.tv_framing.specs.Gaining.{gained_items}
 use Rattle.tv_framing.specs.Views.{View, steps_with}
-use Rattle.tv_drawn.specs.Items.{standing, standing_kind, unnamed}
-use Rattle.tv_drawn.specs.Stated.{IsBrought}
-use Rattle.tv_drawn.specs.Steps.{IsStepAt}
-use Rattle.tv_drawn.specs.Waiting.{outcome_place}
-use Rattle.tv_drawn.proofs.OfLaws.{flows-stay, outcomes-are_known}
-use Rattle.tv_drawn.proofs.OfSettling.{event-step}
-use Rattle.tv_drawn.proofs.OfWaiting.{outcomes-once}
+use Rattle.tv_framing.specs.matches.Items.{standing, standing_kind, unnamed}
+use Rattle.tv_framing.specs.matches.Stated.{IsBrought}
+use Rattle.tv_framing.specs.matches.Steps.{IsStepAt}
+use Rattle.tv_match.specs.Stated.{outcome_place}
+use Rattle.tv_framing.proofs.matches.OfLaws.{flows-stay, outcomes-are_known}
+use Rattle.tv_framing.proofs.matches.OfSettling.{event-step}
+use Rattle.tv_framing.proofs.matches.OfWaiting.{outcomes-once}
 
 -- the event is of the job that stands there: it runs, or gave
 abbrev is_of_job : Name → Place → Event → Bool

@@ -1,6 +1,6 @@
 -- The steps of a flow in falling order of their ranks, by the rank of each.
 use Rattle.std.specs.Prelude.{◌≡◌, refl, ℕ, zero, suc, ◌+◌, ◌-◌, ◌<◌, ◌≤◌, ◌⊎◌, false, List, [], ◌∷◌, if◌then◌else◌, length, Some, slice_get}
-use Rattle.std.proofs.Common.{arith, sym, ap, subst, ◌∙◌, get_or, inl, inr, set}
+use Rattle.std.proofs.Common.{arith, sym, ap, ◌∙◌, get_or, inl, inr, set}
 use Rattle.std.proofs.lemmas.List.{length-map, length-set}
 use Rattle.std.proofs.lemmas.Option.{get_or_from_slice_get, slice_get_within}
 use Rattle.std.proofs.lemmas.Bool.{cases_eq}
@@ -12,21 +12,21 @@ use Rattle.tv_flow.specs.Flows.{Flow, Step}
 use Rattle.tv_naming.specs.Numbers.{position}
 use Rattle.tv_naming.proofs.ByPosition.{position-at}
 use Rattle.tv_naming.proofs.FormedParts.{few, flow-steps, steps-ascend}
-use Rattle.tv_naming.proofs.OfLists as by_lists
 use Rattle.tv_naming.proofs.OfTold.{got-in}
-use Rattle.tv_depths.specs.Ranks.{ranked}
-use Rattle.tv_depths.proofs.OfRanked.{get-set-other, get-set-same, one-place, ranked-ordered, ranks-apart}
+use Rattle.tv_instance.specs.Ranks.{ranked}
+use Rattle.tv_depths.proofs.OfRanked.{get-set-other, get-set-same, one-place}
+use Rattle.tv_instance.proofs.OfRanks.{ranked-ordered, ranks-apart}
 use Rattle.tv_check.proofs.OfRanks.{each-ranked}
 use Rattle.tv_instance.specs.ByResults.{last_first}
-use Rattle.tv_joined.specs.WiredFlows.{IsWired}
-use Rattle.tv_turn.specs.FirstReady.{by_falling_rank}
+use Rattle.tv_framing.specs.engine.WiredFlows.{IsWired}
+use Rattle.tv_framing.specs.turns.FirstReady.{by_falling_rank}
 use Rattle.tv_check.specs.declared.plans.FlowPlan.{FlowPlan}
 use Rattle.tv_check.specs.declared.plans.StepPlan.{StepPlan}
 use Rattle.tv_check.specs.Plans as plan
 use Rattle.tv_check.specs.PlanViews.{step_plan_view}
 use Rattle.tv_flow.specs.Formed.{is_step}
 use Rattle.tv_flow.specs.Views.{flow_view}
-use Rattle.tv_frame.proofs.OfPlans.{rank-of}
+use Rattle.tv_frame.proofs.OfPlans.{each-placed, each-there, rank-of}
 use Rattle.tv_frame.proofs.OfTables.{as-many-steps, plan-wired, step-of}
 
 module _ {A : Type 0} where
@@ -56,15 +56,6 @@ last-front (y ∷ xs) ts (suc j) x e k h = last-front xs (y ∷ ts) j x e k (ome
 last-long : (xs ts : List (Name × Step)) → length (last_first xs ts) ≡ length xs + length ts
 last-long [] ts = omega arith
 last-long (x ∷ xs) ts = let l = last-long xs (x ∷ ts) in omega (arith, l)
-
-naming-there : {A : Type 0} (P : A → Type 0) (xs : List A) (j : ℕ) (x : A) → by_lists.Each P xs → slice_get xs j ≡ Some x → P x
-naming-there P [] j x h e = cc
-naming-there P (y ∷ xs) zero x h e = let f : y ≡ x = cc in subst P f h.0
-naming-there P (y ∷ xs) (suc j) x h e = naming-there P xs j x h.1 e
-
-naming-each : {A : Type 0} (P : A → Type 0) (xs : List A) → ((j : ℕ) (x : A) → slice_get xs j ≡ Some x → P x) → by_lists.Each P xs
-naming-each P [] h = tt
-naming-each P (x ∷ xs) h = (h 0 x refl, naming-each P xs (λ j y e. h (suc j) y e))
 
 -- ---- ranks
 
@@ -139,8 +130,8 @@ module _ (f : Flow) (wired : IsWired f) where
 
       member : (j : ℕ) (t : Name × Step) → slice_get (ranked f.steps) j ≡ Some t → (k : ℕ) × (slice_get f.steps k ≡ Some t)
       member j t e =
-          naming-there (λ u. (k : ℕ) × (slice_get f.steps k ≡ Some u)) (ranked f.steps) j t
-          (each-ranked (λ u. (k : ℕ) × (slice_get f.steps k ≡ Some u)) f.steps (naming-each (λ u. (k : ℕ) × (slice_get f.steps k ≡ Some u)) f.steps (λ k u e. (k, e)))) e
+          each-there (λ u. (k : ℕ) × (slice_get f.steps k ≡ Some u)) (ranked f.steps) j t
+          (each-ranked (λ u. (k : ℕ) × (slice_get f.steps k ≡ Some u)) f.steps (each-placed (λ u. (k : ℕ) × (slice_get f.steps k ≡ Some u)) f.steps (λ k u e. (k, e)))) e
 
       own-place : (k : ℕ) (t : Name × Step) → slice_get f.steps k ≡ Some t → position t.0 f.steps ≡ k
       own-place k t e = ap (λ (y : Name × Step). position y.0 f.steps) (sym (get_or_from_slice_get f.steps k t t e)) ∙ position-at f.steps k t (steps-ascend f wired.formed) (slice_get_within f.steps k t e)

@@ -3,6 +3,7 @@ use Rattle.std.specs.Coded.{Coded-set, coded_bool}
 use Rattle.std.specs.List.{list_all}
 use Rattle.std.specs.Prelude.{◌≡◌, Bool, true, [], not}
 use Rattle.std.proofs.Math.Logic.{∥∥₁_elim}
+use Rattle.tv_lemmas.specs.Members.{Each}
 use Rattle.tv_lemmas.proofs.Options.{is_none-none}
 use Rattle.tv_lemmas.proofs.Lists.{append-none}
 use Rattle.tv_value.specs.Values.{Name}
@@ -10,7 +11,6 @@ use Rattle.tv_flow.specs.Flows.{Document, Feed, Flow, Link}
 use Rattle.tv_naming.specs.Faulty.{Where, at_flow_output, at_main, no_such_flow, no_such_port, plainly}
 use Rattle.tv_naming.specs.Inputs.{given_complaints}
 use Rattle.tv_naming.specs.Naming.{complain_if, feed_links, flow_naming, has_name, is_there, link_complaints, naming_complaints, output_complaints}
-use Rattle.tv_naming.proofs.OfLists.{Each}
 use Rattle.tv_depths.specs.Cycles.{cycle_complaints, link_cycle_complaints, nesting_complaints}
 use Rattle.tv_depths.specs.Depthwise.{depth_complaints}
 use Rattle.tv_check.specs.Passes.{checked, complaints}
@@ -18,7 +18,7 @@ use Rattle.tv_check.specs.Plans.{IsAccepted}
 use Rattle.tv_check.specs.PlanViews.{IsOfDocument}
 use Rattle.tv_check.proofs.Accepting.{first-none}
 use Rattle.tv_check.proofs.Inside.{each-all, each-by, nil-each, silent}
-use Rattle.tv_joined.proofs.OfAccepted.{named-each}
+use Rattle.tv_framing.proofs.engine.OfAccepted.{named-each}
 
 abbrev pub has_output_links : Flow → Bool
 has_output_links f = list_all (λ (o : Name × Feed). list_all (is_there f) (feed_links o.1)) f.outputs

@@ -6,6 +6,7 @@ use Rattle.std.proofs.Common.{arith, sym, ap, ap₂, subst, ◌∙◌, eqb-true,
 use Rattle.std.proofs.lemmas.Bool.{and_parts}
 use Rattle.std.proofs.lemmas.List.{length-map, length-take-le}
 use Rattle.std.proofs.lemmas.Option.{get_or_from_slice_get, none-some, same_Some, slice_get_within}
+use Rattle.tv_lemmas.proofs.OfMembers.{in-slice}
 use Rattle.tv_lemmas.proofs.Lists.{get-map, get-within, get-map_range, index-map}
 use Rattle.tv_value.specs.Nested.{list, no_trees}
 use Rattle.tv_value.specs.Orders.{named}
@@ -19,9 +20,9 @@ use Rattle.tv_naming.specs.Naming.{has_name, is_there}
 use Rattle.tv_naming.specs.Numbers.{position}
 use Rattle.tv_naming.proofs.ByPosition.{there}
 use Rattle.tv_naming.proofs.FormedParts.{few, step-at, step-outputs, steps-ascend}
-use Rattle.tv_depths.specs.Delivered.{link_delivers}
-use Rattle.tv_depths.specs.Ranks.{ranked}
-use Rattle.tv_depths.specs.Steps.{declared_depths}
+use Rattle.tv_instance.specs.Delivered.{link_delivers}
+use Rattle.tv_instance.specs.Ranks.{ranked}
+use Rattle.tv_instance.specs.Steps.{declared_depths}
 use Rattle.tv_depths.proofs.OfRanked.{all-ranked}
 use Rattle.tv_parts.specs.Below.{value_in}
 use Rattle.tv_parts.specs.Changes.{CanClose, arrive, close_at}
@@ -37,18 +38,17 @@ use Rattle.tv_wires.specs.Feeds.{feed_numbered, outputs_of}
 use Rattle.tv_outputs.specs.Changes.{no_value}
 use Rattle.tv_outputs.specs.Kept as outputs
 use Rattle.tv_outputs.specs.Known.{Nodes, known, tree_in}
-use Rattle.tv_bound.specs.declared.over.Brought.{Brought}
-use Rattle.tv_bound.specs.declared.over.Brought.TheVariants.{Arrived, Closed}
-use Rattle.tv_bound.specs.declared.over.Over.{Over as Coming}
-use Rattle.tv_bound.specs.declared.sources.Sources.{Sources}
-use Rattle.tv_bound.specs.Constants.{FlowConstants, constant_in, constant_of_output, constants_view, flow_constants}
-use Rattle.tv_bound.specs.Delivered.{feed_value, no_items}
-use Rattle.tv_bound.specs.Found.{Known}
-use Rattle.tv_bound.specs.Jobs.{outputs_found}
-use Rattle.tv_bound.specs.Over.{AreBrought, CanBring, CanCome, known_over, tree_with}
-use Rattle.tv_bound.specs.Sourced.{Stand, known_by, tree_from}
+use Rattle.tv_binding.specs.declared.over.Brought.{Brought}
+use Rattle.tv_binding.specs.declared.over.Brought.TheVariants.{Arrived, Closed}
+use Rattle.tv_binding.specs.declared.over.Over.{Over as Coming}
+use Rattle.tv_binding.specs.declared.sources.Sources.{Sources}
+use Rattle.tv_binding.specs.Constants.{FlowConstants, constant_in, constant_of_output, constants_view, flow_constants}
+use Rattle.tv_binding.specs.Delivered.{feed_value, no_items}
+use Rattle.tv_binding.specs.Found.{Known}
+use Rattle.tv_binding.specs.Jobs.{outputs_found}
+use Rattle.tv_binding.specs.Over.{AreBrought, CanBring, CanCome, known_over, tree_with}
+use Rattle.tv_binding.specs.Sourced.{Stand, known_by, tree_from}
 use Rattle.tv_model.specs.Instances.{given_of}
-use Rattle.tv_model.proofs.OfMembers.{in-slice}
 use Rattle.tv_instance.specs.ByResults.{InstanceStep, step_of}
 use Rattle.tv_instance.specs.Events as events
 use Rattle.tv_instance.specs.Events.{Event, event_place, event_step, fault_set, gave, took}
@@ -60,16 +60,16 @@ use Rattle.tv_framing.specs.Stated.{IsOfDepths}
 use Rattle.tv_framing.specs.Views.{AreGiven, InAll, View, steps_with}
 use Rattle.tv_framing.proofs.OfArriving.{extends-parts}
 use Rattle.tv_framing.proofs.OfPossible.{some-possible}
-use Rattle.tv_joined.specs.TurningTrees.{CanPut}
-use Rattle.tv_joined.specs.WiredFlows.{IsWired}
-use Rattle.tv_joined.proofs.OfEndings.{position-of}
-use Rattle.tv_fed.specs.Coming.{put_here}
-use Rattle.tv_fed.specs.Fed.{event_number}
-use Rattle.tv_fed.proofs.OfComing.{events-are_in_trees, trees-go_on}
-use Rattle.tv_fed.proofs.OfNames.{is-named}
-use Rattle.tv_drawn.specs.Steps.{IsStepAt}
-use Rattle.tv_truly.specs.Known.{tree_of}
-use Rattle.tv_truly.proofs.OfNumbers.{step-there}
+use Rattle.tv_framing.specs.engine.TurningTrees.{CanPut}
+use Rattle.tv_framing.specs.engine.WiredFlows.{IsWired}
+use Rattle.tv_framing.proofs.engine.OfEndings.{position-of}
+use Rattle.tv_framing.specs.feeds.Coming.{put_here}
+use Rattle.tv_framing.specs.feeds.Fed.{event_number}
+use Rattle.tv_framing.proofs.feeds.OfComing.{events-are_in_trees, trees-go_on}
+use Rattle.tv_framing.proofs.feeds.OfNames.{is-named}
+use Rattle.tv_framing.specs.matches.Steps.{IsStepAt}
+use Rattle.tv_framing.specs.faults.Known.{tree_of}
+use Rattle.tv_framing.proofs.faults.OfNumbers.{step-there}
 use Rattle.tv_frame.specs.declared.frame.Frame.{Frame}
 use Rattle.tv_frame.specs.declared.outs.Change.{Change}
 use Rattle.tv_frame.specs.declared.outs.Change.TheVariants.{Arrive, Close}
@@ -77,7 +77,8 @@ use Rattle.tv_frame.specs.declared.outs.Over.{Over}
 use Rattle.tv_frame.specs.Kept.{Keeps, declared_at}
 use Rattle.tv_frame.specs.Outs.{AllAreWhole, HasAsMany, IsBrought}
 use Rattle.tv_frame.specs.Prepared.{IsChangeOf, IsLaidOver, event_value}
-use Rattle.tv_frame.specs.Tables.{at_least_one, first_tree, levels_at, levels_in, tree_depths, trees_of}
+use Rattle.tv_frame.specs.Tables.{at_least_one, first_tree, levels_in, tree_depths, trees_of}
+use Rattle.tv_depths.specs.Tables.{step_level}
 use Rattle.tv_frame.proofs.OfFeeds.{AreLinkValues, input-numbered, input-plain, output-below, output-whole}
 use Rattle.tv_frame.proofs.OfFirstOuts.{feeds-numbered}
 use Rattle.tv_frame.proofs.OfHoldAround.{fewer-trees, first-below, wired-flow, wiring-kept}
@@ -171,18 +172,18 @@ module _ (v : View) (s : Name × Step) where
   tree-brought (took t q) (Arrive ps) b g h j k l r = absurd h
   tree-brought (took t q) (Close n) b g h j k l r = absurd h
 
-  can-bring : (e : Event) (c : Change) (b : Brought) → IsChangeOf v s e c → IsBrought c (length s.1.outputs) b → (k : ℕ) (r : Partial Value) → CanPut e r → CanBring b (event_place e) k r
-  can-bring (gave t q vs) (Arrive ps) (Arrived qs) h j k r p = p
-  can-bring (gave t q vs) (Arrive ps) (Closed m) h j k r p = absurd j
-  can-bring (gave t q vs) (Close n) b h j k r p = absurd h
-  can-bring (events.closed t q m) (Arrive ps) b h j k r p = absurd h
-  can-bring (events.closed t q m) (Close n) (Arrived qs) h j k r p = absurd j
-  can-bring (events.closed t q m) (Close n) (Closed i) h j k r p = subst (λ x. CanClose q x r) (h ∙ sym j) p
-  can-bring (fault_set t q d) (Arrive ps) (Arrived qs) h j k r p = p
-  can-bring (fault_set t q d) (Arrive ps) (Closed m) h j k r p = absurd j
-  can-bring (fault_set t q d) (Close n) b h j k r p = absurd h
-  can-bring (took t q) (Arrive ps) b h j k r p = absurd h
-  can-bring (took t q) (Close n) b h j k r p = absurd h
+  can-bring : (e : Event) (c : Change) (b : Brought) → IsChangeOf v s e c → IsBrought c (length s.1.outputs) b → (r : Partial Value) → CanPut e r → CanBring b (event_place e) r
+  can-bring (gave t q vs) (Arrive ps) (Arrived qs) h j r p = p
+  can-bring (gave t q vs) (Arrive ps) (Closed m) h j r p = absurd j
+  can-bring (gave t q vs) (Close n) b h j r p = absurd h
+  can-bring (events.closed t q m) (Arrive ps) b h j r p = absurd h
+  can-bring (events.closed t q m) (Close n) (Arrived qs) h j r p = absurd j
+  can-bring (events.closed t q m) (Close n) (Closed i) h j r p = subst (λ x. CanClose q x r) (h ∙ sym j) p
+  can-bring (fault_set t q d) (Arrive ps) (Arrived qs) h j r p = p
+  can-bring (fault_set t q d) (Arrive ps) (Closed m) h j r p = absurd j
+  can-bring (fault_set t q d) (Close n) b h j r p = absurd h
+  can-bring (took t q) (Arrive ps) b h j r p = absurd h
+  can-bring (took t q) (Close n) b h j r p = absurd h
 
 -- a result that comes has a value for each output of its step
 module _ (flows : List (Name × Flow)) (plan : FlowPlan) (pool : Nodes) (f : Frame) (v : View) (keeps : Keeps flows plan pool f v) (s : Name × Step) (e : Event) (over : Over) (from : ℕ) (laid : IsLaidOver flows v s e over from) where
@@ -212,7 +213,7 @@ pub record IsSourcesOf (pool : Nodes) (f : Frame) (a : Sources) : Type 0 where
   pub nodes : a.pool.now ≡ pool
   pub firsts : a.firsts.now ≡ f.tables.firsts.items
 
--- the event as `tv_bound` has it
+-- the event as `tv_binding` has it
 pub record IsComingOf (s : Name × Step) (over : Over) (b : Coming) : Type 0 where
   pub step : b.step ≡ over.step
   pub outputs : b.outputs ≡ length s.1.outputs
@@ -261,7 +262,7 @@ module _ (flows : List (Name × Flow)) (plan : FlowPlan) (pool : Nodes) (f : Fra
   -- by names
   pub tree-named : (es : events.Events) (t o : Name) → is_there v.flow (output t o) ≡ true → (r : ℕ → ℕ → Partial Value)
       → ((n : ℕ) (u : Name × Step) → IsStepAt v n u → (k : ℕ) → k < length u.1.outputs → r n k ≡ part_so_far u.0 k (levels u.0) (declared_at u k) es)
-      → r (position t v.flow.steps) (position o (outputs_of v.flow t)) ≡ tree_of v.flow levels v.inputs es t o
+      → r (position t v.flow.steps) (position o (outputs_of v.flow t)) ≡ tree_of v.flow levels es t o
   tree-named es t o h r are =
       let p = step-there v.flow t o h in
       let st = is-named t v.flow.steps p.0 in
@@ -303,20 +304,20 @@ module _ (flows : List (Name × Flow)) (plan : FlowPlan) (pool : Nodes) (f : Fra
         brought = subst (AreBrought b.brought) (sym is.outputs) (are-brought v s e over.change b.brought given-so laid.change is.brought);
         can = λ o l.
             let few : o < length s.1.outputs = subst (λ n. o < n) is.outputs l in
-            subst (λ q. CanBring b.brought q o ((known_by a).outputs b.step o)) (sym same-place)
-            (subst (λ n. CanBring b.brought (event_place e) o ((known_by a).outputs n o)) (sym is.step)
-            (subst (CanBring b.brought (event_place e) o) (sym (tree-known over.step s laid.at o (fewer-trees s o few)))
-            (can-bring v s e over.change b.brought laid.change is.brought o (part_so_far s.0 o (levels s.0) (declared_at s o) v.events)
+            subst (λ q. CanBring b.brought q ((known_by a).outputs b.step o)) (sym same-place)
+            (subst (λ n. CanBring b.brought (event_place e) ((known_by a).outputs n o)) (sym is.step)
+            (subst (CanBring b.brought (event_place e)) (sym (tree-known over.step s laid.at o (fewer-trees s o few)))
+            (can-bring v s e over.change b.brought laid.change is.brought (part_so_far s.0 o (levels s.0) (declared_at s o) v.events)
             (subst (λ m. CanPut e (part_so_far m o (levels m) (declared_at s o) v.events)) laid.named (events-are_in_trees flows levels v e laid.next wired o (declared_at s o)).put))));
       }
         where
           last : (m : ℕ) → m ≡ length s.1.outputs → first_tree v.flow.steps over.step + m ≤ length (tree_depths v.flow)
-          last zero g = let l = first-below (λ (u : Name × Step). levels_at v.flow u.1) v.flow.steps over.step s 0 laid.at (some (length s.1.outputs)) in omega (arith, l)
+          last zero g = let l = first-below (λ (u : Name × Step). step_level v.flow u.1) v.flow.steps over.step s 0 laid.at (some (length s.1.outputs)) in omega (arith, l)
             where
               some : (n : ℕ) → 0 < at_least_one n
               some zero = omega arith
               some (suc n) = omega arith
-          last (suc m) g = let l = first-below (λ (u : Name × Step). levels_at v.flow u.1) v.flow.steps over.step s m laid.at (fewer-trees s m (subst (λ n. m < n) g (omega arith))) in omega (arith, l)
+          last (suc m) g = let l = first-below (λ (u : Name × Step). step_level v.flow u.1) v.flow.steps over.step s m laid.at (fewer-trees s m (subst (λ n. m < n) g (omega arith))) in omega (arith, l)
 
           fits : first_tree v.flow.steps over.step + length s.1.outputs ≤ length (tree_depths v.flow)
           fits = last (length s.1.outputs) refl
@@ -341,7 +342,7 @@ module _ (flows : List (Name × Flow)) (plan : FlowPlan) (pool : Nodes) (f : Fra
               tree-known n t at k (fewer-trees t k l)
               ∙ sym ((trees-go_on flows levels v e laid.next wired n t at k (declared_at t k)).other (goes false g))
 
-      by_name : (t o : Name) → is_there v.flow (output t o) ≡ true → k_over.outputs (position t v.flow.steps) (position o (outputs_of v.flow t)) ≡ tree_of v.flow levels v.inputs (e ∷ v.events) t o
+      by_name : (t o : Name) → is_there v.flow (output t o) ≡ true → k_over.outputs (position t v.flow.steps) (position o (outputs_of v.flow t)) ≡ tree_of v.flow levels (e ∷ v.events) t o
       by_name t o h = tree-named (e ∷ v.events) t o h k_over.outputs tree-after
 
       depths-after : IsOfDepths flows levels w
@@ -354,7 +355,7 @@ module _ (flows : List (Name × Flow)) (plan : FlowPlan) (pool : Nodes) (f : Fra
       inputs-are = ap piece_values of.inputs ∙ sym keeps.inputs_are.values
 
       module _ (all : AllAreWhole w) where
-        whole-so : (t o : Name) → is_there v.flow (output t o) ≡ true → whole (tree_of v.flow levels v.inputs (e ∷ v.events) t o) ≡ true
+        whole-so : (t o : Name) → is_there v.flow (output t o) ≡ true → whole (tree_of v.flow levels (e ∷ v.events) t o) ≡ true
         whole-so t o h =
             let r = some-possible w [] laid.next.given in
             let st = is-named t v.flow.steps (step-there v.flow t o h).0 in
@@ -399,7 +400,7 @@ module _ (flows : List (Name × Flow)) (plan : FlowPlan) (pool : Nodes) (f : Fra
                 ∙ sym (input-plain flows levels w depths-after wired legal-after instance results depth x y h)
             are (output t o) h =
                 ap value_in (by_name t o h)
-                ∙ whole-is (tree_of v.flow levels v.inputs (e ∷ v.events) t o) (plain (link_delivers step_of (given_of v.flow v.inputs) fs (output t o)).value)
+                ∙ whole-is (tree_of v.flow levels (e ∷ v.events) t o) (plain (link_delivers step_of (given_of v.flow v.inputs) fs (output t o)).value)
                 (output-below flows levels w depths-after wired legal-after instance results depth x t o h) (whole-so t o h)
 
 -- ---- in the words of the call

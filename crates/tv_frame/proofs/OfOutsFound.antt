@@ -12,10 +12,10 @@ use Rattle.tv_naming.specs.Numbers.{position}
 use Rattle.tv_parts.specs.Below.{value_in}
 use Rattle.tv_parts.specs.Partials.{whole}
 use Rattle.tv_wires.specs.Feeds.{feed_numbered, link_numbered, outputs_of}
-use Rattle.tv_bound.specs.Constants.{FlowConstants, constant_in, constant_of_output}
-use Rattle.tv_bound.specs.Delivered.{FlowValues, feed_value, link_value, no_items}
-use Rattle.tv_bound.specs.Found.{Known, all_found, feed_found, link_found}
-use Rattle.tv_bound.specs.Jobs.{output_found}
+use Rattle.tv_binding.specs.Constants.{FlowConstants, constant_in, constant_of_output}
+use Rattle.tv_binding.specs.Delivered.{FlowValues, feed_value, link_value, no_items}
+use Rattle.tv_binding.specs.Found.{Known, all_found, feed_found, link_found}
+use Rattle.tv_binding.specs.Jobs.{output_found}
 
 -- the values of whole trees
 abbrev pub whole_values : Known → FlowValues

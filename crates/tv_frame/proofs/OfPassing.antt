@@ -11,7 +11,8 @@ use Rattle.tv_cell.specs.declared.piece.Piece.{Piece}
 use Rattle.tv_cell.specs.PieceValues.{piece_value, piece_values}
 use Rattle.tv_check.specs.declared.plans.FlowPlan.{FlowPlan}
 use Rattle.tv_stream.specs.Trees.{least_whole}
-use Rattle.tv_outputs.specs.Changes.{AllCanArrive, Counted, HoldsFaults, no_value}
+use Rattle.tv_outputs.specs.Changes.{AllCanArrive, Counted, no_value}
+use Rattle.tv_parts.specs.Partials.{HoldsFaults}
 use Rattle.tv_outputs.specs.Known.{Nodes, depth_in, depths, known, tree_in}
 use Rattle.tv_outputs.proofs.Counts.{counts-mark}
 use Rattle.tv_telling.specs.declared.ways.Event as code
@@ -19,12 +20,12 @@ use Rattle.tv_telling.specs.Views.{HasPiece}
 use Rattle.tv_instance.specs.Events.{Event, fault_set}
 use Rattle.tv_framing.specs.Answers.{CanSettle}
 use Rattle.tv_framing.specs.Views.{View}
-use Rattle.tv_told.specs.Stated.{IsFrom}
-use Rattle.tv_kept.specs.NextEvents.{IsNextEvent}
-use Rattle.tv_drawn.specs.Steps.{IsStepAt}
-use Rattle.tv_kept.proofs.OfLaws.{settlements-may_come}
-use Rattle.tv_fed.specs.Fed.{newly}
-use Rattle.tv_fed.specs.Seen.{IsCodeOf}
+use Rattle.tv_framing.specs.ways.Stated.{IsFrom}
+use Rattle.tv_framing.specs.keeping.NextEvents.{IsNextEvent}
+use Rattle.tv_framing.specs.matches.Steps.{IsStepAt}
+use Rattle.tv_framing.proofs.keeping.OfLaws.{settlements-may_come}
+use Rattle.tv_framing.specs.feeds.Fed.{newly}
+use Rattle.tv_framing.specs.feeds.Seen.{IsCodeOf}
 use Rattle.tv_frame.specs.declared.frame.Frame.{Frame}
 use Rattle.tv_frame.specs.Calls.{ArePassed}
 use Rattle.tv_frame.specs.Kept.{Keeps}

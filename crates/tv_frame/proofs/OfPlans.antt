@@ -8,30 +8,30 @@ use Rattle.std.proofs.Common.{arith, sym, ap, subst, ◌∙◌}
 use Rattle.std.proofs.Math.Logic.{∥∥₁_elim}
 use Rattle.std.proofs.lemmas.List.{length-map}
 use Rattle.std.proofs.lemmas.Bool.{and_parts}
+use Rattle.tv_lemmas.specs.Members.{Each}
 use Rattle.tv_lemmas.proofs.Options.{is_none-none}
 use Rattle.tv_lemmas.proofs.Lists.{append-none}
 use Rattle.tv_value.specs.Orders.{named, same_name}
 use Rattle.tv_value.specs.Strategies.{Strategy, cross}
 use Rattle.tv_value.specs.Values.{Name}
-use Rattle.tv_value.proofs.OfNames.{same_name-refl}
+use Rattle.tv_value.proofs.OfNames.{same_name-is, same_name-refl}
 use Rattle.tv_flow.specs.Flows.{Document, Flow, Step, StepInput}
 use Rattle.tv_flow.specs.Formed.{is_ascending, is_formed, is_given_tree, is_step, is_step_input}
 use Rattle.tv_strategy.specs.Conditions.{AllDotsAreFilled, EachOnce, Suits, names_in, number_of, times}
 use Rattle.tv_strategy.specs.Measures.{DotsAgree, all_leaf_names, leaf_names, strategy_depth}
-use Rattle.tv_strategy.specs.Sources.{Each}
 use Rattle.tv_naming.specs.Faulty.{Where, at_input, at_output}
 use Rattle.tv_naming.specs.Naming.{fits_ports, numbered}
-use Rattle.tv_naming.proofs.ByPosition.{names_of, same_name-is}
+use Rattle.tv_naming.proofs.ByPosition.{names_of}
 use Rattle.tv_naming.proofs.FormedParts.{ascending, few, passes, step-at, step-inputs, steps-ascend}
-use Rattle.tv_naming.proofs.OfLists as by_lists
-use Rattle.tv_depths.specs.CheckedDepths.{StepDepths, feed_depth, flow_depths, port_depth, step_depths, steps_depths}
+use Rattle.tv_instance.specs.CheckedDepths.{StepDepths, feed_depth, flow_depths, port_depth, step_depths, steps_depths}
 use Rattle.tv_depths.specs.Depthwise.{depth_complaints, depth_most, fed_complaints, feed_depths, flow_complaints, nested_complaints, past_limit, step_complaints, steps_complaints}
 use Rattle.tv_depths.specs.Cycles.{link_cycle_complaints, nesting_complaints}
-use Rattle.tv_depths.specs.Ranks.{ranked}
-use Rattle.tv_depths.specs.Steps.{ports_of, strategy_of}
-use Rattle.tv_depths.specs.Tables.{has_fitting}
+use Rattle.tv_instance.specs.Ranks.{ranked}
+use Rattle.tv_instance.specs.Steps.{ports_of, strategy_of}
+use Rattle.tv_depths.specs.Tables.{has_fitting, step_level}
 use Rattle.tv_depths.proofs.OfLevels.{mismatch-is, number-small, over-small, suits, within-one}
-use Rattle.tv_depths.proofs.OfRanked.{IsOrdered, all-ranked, one-place, ranked-ordered}
+use Rattle.tv_depths.proofs.OfRanked.{all-ranked, one-place}
+use Rattle.tv_instance.proofs.OfRanks.{IsOrdered, ranked-ordered}
 use Rattle.tv_depths.proofs.OfPorts.{default-ports}
 use Rattle.tv_naming.specs.Inputs.{given_complaints}
 use Rattle.tv_check.specs.Passes.{checked, complaints}
@@ -43,12 +43,12 @@ use Rattle.tv_check.proofs.Wired.{fitting}
 use Rattle.tv_wires.specs.Ports.{levels_of, mismatches}
 use Rattle.tv_instance.specs.OwnDepths.{AreLevels}
 use Rattle.tv_model.specs.Agreeing.{FlowAgrees, StepsAgree}
-use Rattle.tv_agreed.proofs.Lists.{named-each}
-use Rattle.tv_agreed.proofs.Nests.{Silent, all-silent}
-use Rattle.tv_joined.specs.WiredFlows.{IsWired}
-use Rattle.tv_joined.proofs.OfAccepted.{accepted-wired}
-use Rattle.tv_agreed.proofs.Settled.{none-feed, ports-settled, step-settled}
-use Rattle.tv_frame.specs.Tables.{levels_at, levels_in}
+use Rattle.tv_agreement.proofs.Lists.{named-each}
+use Rattle.tv_agreement.proofs.Nests.{Silent, all-silent}
+use Rattle.tv_framing.specs.engine.WiredFlows.{IsWired}
+use Rattle.tv_framing.proofs.engine.OfAccepted.{accepted-wired}
+use Rattle.tv_model.proofs.OfFeeds.{none-feed, ports-settled, step-settled}
+use Rattle.tv_frame.specs.Tables.{levels_in}
 use Rattle.tv_frame.proofs.OfKeeping.{levels-are as levels-at}
 
 -- ---- lists
@@ -236,13 +236,5 @@ dots-agree flows f wired agrees k s at =
 pub levels-are : (f : Flow) → IsWired f → AreLevels (levels_in f) f.inputs [] (ranked f.steps)
 levels-are f wired =
     levels-agree f.inputs (levels_in f) (flow_depths f) [] [] (ranked f.steps) (ranked-ordered f.steps)
-    (as-sources (ranked f.steps) (by_ranks.each-ranked (λ s. levels_in f s.0 ≡ levels_at f s.1) f.steps (to-naming f.steps (each-placed (λ s. levels_in f s.0 ≡ levels_at f s.1) f.steps (λ k s at. levels-at f wired k s at)))))
+    (by_ranks.each-ranked (λ s. levels_in f s.0 ≡ step_level f s.1) f.steps (each-placed (λ s. levels_in f s.0 ≡ step_level f s.1) f.steps (λ k s at. levels-at f wired k s at)))
     refl
-  where
-    to-naming : (ss : List (Name × Step)) → Each (λ s. levels_in f s.0 ≡ levels_at f s.1) ss → by_lists.Each (λ s. levels_in f s.0 ≡ levels_at f s.1) ss
-    to-naming [] h = tt
-    to-naming (s ∷ ss) h = (h.0, to-naming ss h.1)
-
-    as-sources : (ss : List (Name × Step)) → by_lists.Each (λ s. levels_in f s.0 ≡ levels_at f s.1) ss → Each (λ s. levels_in f s.0 ≡ levels_at f s.1) ss
-    as-sources [] h = tt
-    as-sources (s ∷ ss) h = (h.0, as-sources ss h.1)

@@ -9,19 +9,19 @@ use Rattle.tv_value.specs.Values.{JobName, Name}
 use Rattle.tv_flow.specs.Flows.{Feed, Flow}
 use Rattle.tv_strategy.specs.Origins.{Origin, Traced, fixed, plain}
 use Rattle.tv_naming.specs.Naming.{feed_links, is_there}
-use Rattle.tv_depths.specs.Delivered.{feed_delivers, ported, wrapped}
+use Rattle.tv_instance.specs.Delivered.{feed_delivers, at_port, wrapped}
 use Rattle.tv_matching.specs.Items.{all_known}
 use Rattle.tv_wires.specs.Feeds.{feed_numbered}
-use Rattle.tv_bound.specs.Constants.{constant_in}
-use Rattle.tv_bound.specs.Delivered.{wrapped_value}
-use Rattle.tv_bound.specs.Found.{Known, feed_found}
+use Rattle.tv_binding.specs.Constants.{constant_in}
+use Rattle.tv_binding.specs.Delivered.{wrapped_value}
+use Rattle.tv_binding.specs.Found.{Known, feed_found}
 use Rattle.tv_model.specs.Instances.{given_of}
 use Rattle.tv_instance.specs.ByResults.{Results, step_of}
 use Rattle.tv_instance.specs.Events.{Extends, known_by}
 use Rattle.tv_instance.specs.Legality.{AreLegal}
 use Rattle.tv_framing.specs.Stated.{IsOfDepths}
 use Rattle.tv_framing.specs.Views.{AreOfDepth, InAll, View, steps_with}
-use Rattle.tv_joined.specs.WiredFlows.{IsWired}
+use Rattle.tv_framing.specs.engine.WiredFlows.{IsWired}
 use Rattle.tv_frame.proofs.OfKnownFeeds.{IsKnownIn, all-split, feed-is_found}
 
 unwrapped-known : (known : Origin → Bool) (k : ℕ) (v : Traced) → all_known known (notes (wrapped k v)) ≡ true → all_known known (notes v) ≡ true
@@ -39,7 +39,7 @@ module _ (flows : List (Name × Flow)) (levels : Name → ℕ) (w : View) (depth
 
   -- THE PORT: c is the depth that it takes
   pub port-is_found : (c : ℕ) (d : Feed) → list_all (is_there w.flow) (feed_links d) ≡ true → (q : Place) (u : Traced)
-      → at (ported c (feed_delivers step_of (given_of w.flow w.inputs) (steps_with w instance results) d)).value q ≡ Some u → all_known (λ o. known_by instance w.events o) (notes u) ≡ true
+      → at (at_port c (feed_delivers step_of (given_of w.flow w.inputs) (steps_with w instance results) d)).value q ≡ Some u → all_known (λ o. known_by instance w.events o) (notes u) ≡ true
       → ((m : ℕ) → c - (feed_delivers step_of (given_of w.flow w.inputs) (steps_with w instance results) d).depth ≡ suc m → q ≡ [])
       → option_map (wrapped_value (c - (feed_delivers step_of (given_of w.flow w.inputs) (steps_with w instance results) d).depth)) (feed_found k (feed_numbered w.flow d) (constant_in d) q) ≡ Some (plain u)
   port-is_found c d there q u a all top = by (c - (feed_delivers step_of (given_of w.flow w.inputs) (steps_with w instance results) d).depth) a top

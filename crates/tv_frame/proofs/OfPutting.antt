@@ -16,17 +16,18 @@ use Rattle.tv_outputs.specs.Known.{Nodes, depth_in, depths, known, known_of, tre
 use Rattle.tv_instance.specs.Events.{Event, event_place, event_step}
 use Rattle.tv_framing.specs.Arriving.{part_so_far}
 use Rattle.tv_framing.specs.Views.{View}
-use Rattle.tv_told.specs.Stated.{IsFrom}
-use Rattle.tv_joined.specs.TurningTrees.{CanPut, HasRightLength, whole_from}
-use Rattle.tv_joined.proofs.OfEndings.{position-of}
-use Rattle.tv_kept.specs.NextEvents.{IsNextEvent}
-use Rattle.tv_drawn.specs.Steps.{IsStepAt}
-use Rattle.tv_fed.specs.Coming.{IsPutInto, put_here}
-use Rattle.tv_fed.specs.Fed.{event_number, newly}
-use Rattle.tv_fed.proofs.OfComing.{events-are_in_trees, trees-go_on}
+use Rattle.tv_framing.specs.ways.Stated.{IsFrom}
+use Rattle.tv_framing.specs.engine.TurningTrees.{CanPut, HasRightLength, whole_from}
+use Rattle.tv_framing.proofs.engine.OfEndings.{position-of}
+use Rattle.tv_framing.specs.keeping.NextEvents.{IsNextEvent}
+use Rattle.tv_framing.specs.matches.Steps.{IsStepAt}
+use Rattle.tv_framing.specs.feeds.Coming.{IsPutInto, put_here}
+use Rattle.tv_framing.specs.feeds.Fed.{event_number, newly}
+use Rattle.tv_framing.proofs.feeds.OfComing.{events-are_in_trees, trees-go_on}
 use Rattle.tv_frame.specs.declared.frame.Frame.{Frame}
 use Rattle.tv_frame.specs.Kept.{Keeps, declared_at}
-use Rattle.tv_frame.specs.Tables.{at_least_one, first_tree, levels_at, levels_in, trees_of}
+use Rattle.tv_frame.specs.Tables.{at_least_one, first_tree, levels_in, trees_of}
+use Rattle.tv_depths.specs.Tables.{step_level}
 use Rattle.tv_frame.proofs.OfKeeping.{kept-wired, levels-are}
 use Rattle.tv_frame.proofs.OfTrees.{tree-depth, trees-within}
 
@@ -54,7 +55,7 @@ module _ (flows : List (Name × Flow)) (plan : FlowPlan) (pool : Nodes) (f : Fra
   as-many = length-map f.outputs.trees.items (known_of pool) ∙ sym (length-map f.outputs.trees.items (λ t. t.depth))
 
   pub depths-there : first + trees_of s ≤ length (depths f.outputs)
-  depths-there = subst (λ ds. first + trees_of s ≤ length ds) (sym k.deep) (trees-within (λ t. levels_at v.flow t.1) v.flow.steps n s at)
+  depths-there = subst (λ ds. first + trees_of s ≤ length ds) (sym k.deep) (trees-within (λ t. step_level v.flow t.1) v.flow.steps n s at)
 
   pub trees-there : first + trees_of s ≤ length trees
   trees-there = subst (λ l. first + trees_of s ≤ l) (sym as-many) depths-there
@@ -62,7 +63,7 @@ module _ (flows : List (Name × Flow)) (plan : FlowPlan) (pool : Nodes) (f : Fra
   pub depth-here : (i : ℕ) → i < trees_of s → depth_in (depths f.outputs) (first + i) ≡ levels s.0
   depth-here i h =
       ap (λ ds. slice_index_or ds (first + i) 0) k.deep
-      ∙ tree-depth (λ t. levels_at v.flow t.1) v.flow.steps n s at i h
+      ∙ tree-depth (λ t. step_level v.flow t.1) v.flow.steps n s at i h
       ∙ sym (levels-are v.flow (kept-wired flows plan pool f v k) n s at)
 
   -- an event of the step

@@ -20,17 +20,17 @@ use Rattle.tv_match.specs.declared.matchers.Matcher.{Matcher}
 use Rattle.tv_intake.specs.Intaken.{IsFaultyAt, known_jobs, matcher_at}
 use Rattle.tv_framing.specs.Answers.{numbered}
 use Rattle.tv_framing.specs.Views.{View}
-use Rattle.tv_joined.specs.WiredFlows.{IsWired}
-use Rattle.tv_joined.proofs.OfEndings.{position-of}
-use Rattle.tv_turn.specs.FirstReady.{IsFirstReady, by_falling_rank, spot_given}
-use Rattle.tv_turn.specs.Turns.{first_in_turn, may_settle}
+use Rattle.tv_framing.specs.engine.WiredFlows.{IsWired}
+use Rattle.tv_framing.proofs.engine.OfEndings.{position-of}
+use Rattle.tv_framing.specs.turns.FirstReady.{IsFirstReady, by_falling_rank, spot_given}
+use Rattle.tv_endings.specs.Turns.{first_in_turn, may_settle}
 use Rattle.tv_frame.specs.declared.frame.Frame.{Frame}
 use Rattle.tv_frame.specs.Kept.{Keeps, named_job}
 use Rattle.tv_frame.specs.Tables.{levels_in}
 use Rattle.tv_frame.proofs.OfGoing.{plan-wiring}
 use Rattle.tv_frame.proofs.OfKeeping.{kept-wired}
-use Rattle.tv_turn.proofs.OfFrames.{first-is-ready}
-use Rattle.tv_turn.proofs.OfOrders.{order-of-steps}
+use Rattle.tv_framing.proofs.turns.OfFrames.{first-is-ready}
+use Rattle.tv_framing.proofs.turns.OfOrders.{order-of-steps}
 
 module _ (flows : List (Name × Flow)) (plan : FlowPlan) (pool : Nodes) (f : Frame) (v : View) (k : Keeps flows plan pool f v) where
   wired : IsWired v.flow

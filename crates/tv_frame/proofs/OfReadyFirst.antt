@@ -5,10 +5,11 @@ use Rattle.std.specs.List.{list_all}
 use Rattle.std.specs.Ordering.{is_lt, nat_cmp}
 use Rattle.std.proofs.Common.{sym, ap, subst, ◌∙◌, inl, inr}
 use Rattle.std.proofs.lemmas.Bool.{and_parts, true≢false, not-true}
+use Rattle.tv_lemmas.specs.Members.{In}
 use Rattle.tv_value.specs.Nested.{Place}
 use Rattle.tv_value.specs.Values.{Name}
 use Rattle.tv_flow.specs.Flows.{Flow, Step}
-use Rattle.tv_depths.specs.Ranks.{ranked}
+use Rattle.tv_instance.specs.Ranks.{ranked}
 use Rattle.tv_check.specs.declared.plans.FlowPlan.{FlowPlan}
 use Rattle.tv_outputs.specs.Known.{Nodes}
 use Rattle.tv_ready.specs.Sought.{stands_after}
@@ -17,18 +18,17 @@ use Rattle.tv_idle.specs.Kept.{are_in_order}
 use Rattle.tv_spread.specs.Spreads.{is_faulty_now}
 use Rattle.tv_instance.specs.ByResults.{last_first}
 use Rattle.tv_instance.specs.Counting.{have_ended_by}
-use Rattle.tv_model.specs.Members.{In}
 use Rattle.tv_framing.specs.Answers.{after_of}
 use Rattle.tv_framing.specs.Views.{View}
-use Rattle.tv_drawn.specs.Steps.{IsStepAt}
-use Rattle.tv_turn.specs.IdleJobs.{IsIdle}
+use Rattle.tv_framing.specs.matches.Steps.{IsStepAt}
+use Rattle.tv_framing.specs.turns.IdleJobs.{IsIdle}
 use Rattle.tv_frame.specs.declared.frame.Frame.{Frame}
 use Rattle.tv_frame.specs.Kept.{Keeps}
 use Rattle.tv_frame.specs.Ready.{IsFirstOfStep, IsReadyWith}
 use Rattle.tv_frame.specs.Tables.{levels_in}
 use Rattle.tv_frame.proofs.OfAdded.{queue}
-use Rattle.tv_turn.proofs.OfRanks.{place-is}
-use Rattle.tv_turn.proofs.OfTurns.{itself}
+use Rattle.tv_framing.proofs.turns.OfRanks.{place-is}
+use Rattle.tv_framing.proofs.turns.OfTurns.{itself}
 use Rattle.tv_frame.proofs.OfReadySteps.{its-number}
 
 abbrev before : ℕ × List ℕ → ℕ × List ℕ → Bool

@@ -9,12 +9,12 @@ use Rattle.tv_flow.specs.Flows.{Flow, Step}
 use Rattle.tv_strategy.specs.Iterations.{walk}
 use Rattle.tv_strategy.specs.Origins.{Known, Origin, at_start, by_job, by_level}
 use Rattle.tv_strategy.proofs.OfEach.{each-weaken}
-use Rattle.tv_depths.specs.Ranks.{is_among, ranked}
+use Rattle.tv_instance.specs.Ranks.{is_among, ranked}
 use Rattle.tv_cell.specs.declared.piece.Piece.{Piece}
 use Rattle.tv_check.specs.declared.plans.FlowPlan.{FlowPlan}
 use Rattle.tv_outputs.specs.Known.{Nodes}
 use Rattle.tv_matching.specs.Items.{known_items}
-use Rattle.tv_matching.specs.Told.{Told, seen, told_to}
+use Rattle.tv_matching.specs.Told.{Told, item_there, told_to}
 use Rattle.tv_match.specs.declared.matchers.Matcher.{Matcher}
 use Rattle.tv_intake.specs.Intaken.{IsFaultyAt, known_jobs, matcher_at}
 use Rattle.tv_idle.specs.Idles.{Idles, of_step, without}
@@ -29,11 +29,11 @@ use Rattle.tv_framing.specs.Answers.{IsReadyJob, has_ended_now, numbered}
 use Rattle.tv_framing.specs.Arriving.{levels_below}
 use Rattle.tv_framing.specs.Frames.{with_event}
 use Rattle.tv_framing.specs.Views.{AreGiven, View, steps_with}
-use Rattle.tv_kept.specs.NextEvents.{IsNextEvent}
-use Rattle.tv_kept.specs.Told.{PortIsTold, StepIsTold}
-use Rattle.tv_kept.proofs.OfLaws.{taken-known}
-use Rattle.tv_fed.specs.Fed.{newly}
-use Rattle.tv_truly.specs.Telling.{TellsTruly}
+use Rattle.tv_framing.specs.keeping.NextEvents.{IsNextEvent}
+use Rattle.tv_framing.specs.keeping.Told.{PortIsTold, StepIsTold}
+use Rattle.tv_framing.proofs.keeping.OfLaws.{taken-known}
+use Rattle.tv_framing.specs.feeds.Fed.{newly}
+use Rattle.tv_framing.specs.faults.Telling.{TellsTruly}
 use Rattle.tv_frame.specs.declared.frame.Frame.{Frame}
 use Rattle.tv_frame.specs.Kept.{AreOuts, Keeps}
 use Rattle.tv_frame.specs.Prepared.{IsReadyFor, IsToldWith, is_one_of}
@@ -129,7 +129,7 @@ module _ (flows : List (Name × Flow)) (plan : FlowPlan) (pool : Nodes) (f : Fra
   told-so : (t : Name) (ts : List Told) → StepIsTold (with_event v e []) t ts → StepIsTold (with_event w e []) t ts
   told-so t ts was instance results depth x g i name =
       each-weaken (PortIsTold instance (e ∷ v.events) ts) (PortIsTold instance (e ∷ took j.0 j.1 ∷ v.events) ts)
-      (λ d a values same. subst (λ (o : Origin → Bool). IsPermutation (map (seen values) (told_to ts d.0)) (known_items o (walk d.0 d.1.mismatch d.1.value))) (λ i o. known-so j.0 j.1 v.events instance e o i) (a values same))
+      (λ d a values same. subst (λ (o : Origin → Bool). IsPermutation (map (item_there values) (told_to ts d.0)) (known_items o (walk d.0 d.1.mismatch d.1.value))) (λ i o. known-so j.0 j.1 v.events instance e o i) (a values same))
       g.step.inputs (was instance results depth (extends-so j.0 j.1 v.events results e x) g i name)
 
   truly-so : (t : Name) (ts : List Told) → TellsTruly (with_event v e []) t ts → TellsTruly (with_event w e []) t ts

@@ -2,31 +2,31 @@
 use Rattle.std.specs.Prelude.{◌≡◌, refl, ◌⊎◌, ℕ, suc, ◌==◌, ◌||◌, not, Bool, true, false, List, [], ◌∷◌, length}
 use Rattle.std.proofs.Common.{sym, ap, subst, ◌∙◌, arith, inl, inr}
 use Rattle.std.proofs.lemmas.Bool.{ne_eqb, true≢false}
+use Rattle.tv_lemmas.specs.Members.{In}
 use Rattle.tv_value.specs.Values.{Name}
 use Rattle.tv_flow.specs.Flows.{Flow, Step}
 use Rattle.tv_naming.specs.Numbers.{position}
 use Rattle.tv_naming.proofs.FormedParts.{steps-ascend}
-use Rattle.tv_depths.specs.Ranks.{ranked}
+use Rattle.tv_instance.specs.Ranks.{ranked}
 use Rattle.tv_check.specs.declared.plans.FlowPlan.{FlowPlan}
 use Rattle.tv_wires.specs.declared.wiring.Wiring.{Wiring}
 use Rattle.tv_outputs.specs.Known.{Nodes}
 use Rattle.tv_idle.specs.Idles.{has_some, of_step}
 use Rattle.tv_instance.specs.ByResults.{last_first}
 use Rattle.tv_instance.specs.Counting.{have_ended_by}
-use Rattle.tv_model.specs.Members.{In}
 use Rattle.tv_framing.specs.Answers.{after_of}
 use Rattle.tv_framing.specs.Views.{View}
-use Rattle.tv_drawn.specs.Steps.{IsStepAt}
-use Rattle.tv_turn.specs.IdleJobs.{IsIdle}
-use Rattle.tv_turn.specs.Turns.{may_settle}
+use Rattle.tv_framing.specs.matches.Steps.{IsStepAt}
+use Rattle.tv_framing.specs.turns.IdleJobs.{IsIdle}
+use Rattle.tv_endings.specs.Turns.{may_settle}
 use Rattle.tv_frame.specs.declared.frame.Frame.{Frame}
 use Rattle.tv_frame.specs.Kept.{Keeps}
 use Rattle.tv_frame.specs.Ready.{HasIdle}
 use Rattle.tv_frame.specs.Tables.{levels_in}
 use Rattle.tv_frame.proofs.OfGoing.{plan-wiring}
 use Rattle.tv_frame.proofs.OfKeeping.{kept-wired}
-use Rattle.tv_turn.proofs.OfSettling.{may-is}
-use Rattle.tv_joined.proofs.OfEndings.{position-of}
+use Rattle.tv_framing.proofs.turns.OfSettling.{may-is}
+use Rattle.tv_framing.proofs.engine.OfEndings.{position-of}
 
 some-of : (gs fs : List (ℕ × List ℕ)) → (not (length gs == 0) || not (length fs == 0)) ≡ true → (j : ℕ × List ℕ) × (In j gs ⊎ In j fs)
 some-of (g ∷ gs) fs h = (g, inl (inl refl))

@@ -3,19 +3,19 @@ use Rattle.std.specs.Prelude.{◌≡◌, ◌⊎◌, IsSomeAnd, refl, ℕ, zero, 
 use Rattle.std.proofs.Common.{sym, ap, subst, ◌∙◌, inl, inr}
 use Rattle.std.proofs.lemmas.Bool.{cases_eq}
 use Rattle.tv_pool.specs.declared.handles.Region.{Region}
-use Rattle.tv_pool.specs.Pool.{Begins, Contents, IsLive, number_of, region_at, regions_with}
+use Rattle.tv_pool.specs.Pool.{Begins, IsLive, number_of, region_at, regions_with}
 use Rattle.tv_pool.specs.Pool as pool
 use Rattle.tv_nodes.specs.Calls.{KeepsRegions}
 use Rattle.tv_outputs.specs.Known.{Nodes}
 use Rattle.tv_frame.specs.Calls.{SameRegions}
 
 module _ {A : Type 0} where
-  set-none : (xs : List (Option A)) (n : ℕ) → slice_index_or (slice_set xs n None) n None ≡ None
+  pub set-none : (xs : List (Option A)) (n : ℕ) → slice_index_or (slice_set xs n None) n None ≡ None
   set-none [] n = refl
   set-none (x ∷ xs) zero = refl
   set-none (x ∷ xs) (suc n) = set-none xs n
 
-  set-other : (xs : List (Option A)) (n k : ℕ) (y : Option A) → (k ≡ n → ⊥) → slice_index_or (slice_set xs n y) k None ≡ slice_index_or xs k None
+  pub set-other : (xs : List (Option A)) (n k : ℕ) (y : Option A) → (k ≡ n → ⊥) → slice_index_or (slice_set xs n y) k None ≡ slice_index_or xs k None
   set-other [] n k y h = refl
   set-other (x ∷ xs) zero zero y h = absurd (h refl)
   set-other (x ∷ xs) zero (suc k) y h = refl
@@ -32,7 +32,7 @@ module _ {A : Type 0} where
   push-last [] y = refl
   push-last (x ∷ xs) y = push-last xs y
 
-  past-end : (xs : List (Option A)) → slice_index_or xs (length xs) None ≡ None
+  pub past-end : (xs : List (Option A)) → slice_index_or xs (length xs) None ≡ None
   past-end [] = refl
   past-end (x ∷ xs) = past-end xs
 

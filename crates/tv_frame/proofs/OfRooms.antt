@@ -7,12 +7,12 @@ use Rattle.tv_value.specs.Nested.{Place, list, no_trees}
 use Rattle.tv_value.specs.Values.{Name, Value, holds_fault}
 use Rattle.tv_flow.specs.Flows.{Flow, Step}
 use Rattle.tv_parts.specs.Changes.{CanArrive, CanClose, arrive, close_at}
-use Rattle.tv_parts.specs.Partials.{Partial}
+use Rattle.tv_parts.specs.Partials.{HoldsFaults, Partial}
 use Rattle.tv_cell.specs.declared.piece.Piece.{Piece}
 use Rattle.tv_cell.specs.PieceValues.{piece_value, piece_values}
 use Rattle.tv_check.specs.declared.plans.FlowPlan.{FlowPlan}
 use Rattle.tv_stream.specs.Trees.{least_whole}
-use Rattle.tv_outputs.specs.Changes.{AllCanArrive, AllCanClose, AreMarked, Counted, HoldsFaults, least_or_past, no_value}
+use Rattle.tv_outputs.specs.Changes.{AllCanArrive, AllCanClose, AreMarked, Counted, least_or_past, no_value}
 use Rattle.tv_outputs.specs.Known.{Nodes, depth_in, depths, known, needed, tree_in}
 use Rattle.tv_outputs.proofs.Counts.{counts-mark}
 use Rattle.tv_intake.specs.Intaken.{matcher_at}
@@ -24,13 +24,13 @@ use Rattle.tv_instance.specs.Events.{Event, event_place, event_step, gave}
 use Rattle.tv_framing.specs.Answers.{CanSettle, has_ended_now}
 use Rattle.tv_framing.specs.Frames.{with_event}
 use Rattle.tv_framing.specs.Views.{View}
-use Rattle.tv_told.specs.Stated.{IsFrom}
-use Rattle.tv_kept.specs.NextEvents.{IsNextEvent}
-use Rattle.tv_kept.proofs.OfLaws.{results-may_come, settlements-may_come}
-use Rattle.tv_drawn.specs.Steps.{IsStepAt}
-use Rattle.tv_drawn.proofs.OfLaws.{given-goes_on}
-use Rattle.tv_fed.specs.Fed.{newly}
-use Rattle.tv_fed.specs.Seen.{IsCodeOf}
+use Rattle.tv_framing.specs.ways.Stated.{IsFrom}
+use Rattle.tv_framing.specs.keeping.NextEvents.{IsNextEvent}
+use Rattle.tv_framing.proofs.keeping.OfLaws.{results-may_come, settlements-may_come}
+use Rattle.tv_framing.specs.matches.Steps.{IsStepAt}
+use Rattle.tv_framing.proofs.matches.OfLaws.{given-goes_on}
+use Rattle.tv_framing.specs.feeds.Fed.{newly}
+use Rattle.tv_framing.specs.feeds.Seen.{IsCodeOf}
 use Rattle.tv_frame.specs.declared.frame.Ahead.{Ahead}
 use Rattle.tv_frame.specs.declared.frame.Frame.{Frame}
 use Rattle.tv_frame.specs.Calls.{Brings}

@@ -13,10 +13,11 @@ use Rattle.tv_lemmas.proofs.Cases.{on_test}
 use Rattle.tv_naming.proofs.FormedParts.{steps-ascend}
 use Rattle.tv_matching.specs.Matchers.{Outcome}
 use Rattle.tv_framing.specs.Views.{View}
-use Rattle.tv_joined.specs.WiredFlows.{IsWired}
-use Rattle.tv_joined.proofs.OfEndings.{position-of}
-use Rattle.tv_drawn.specs.Steps.{IsStepAt}
-use Rattle.tv_drawn.specs.Waiting.{IsLeftBy, outcome_place}
+use Rattle.tv_framing.specs.engine.WiredFlows.{IsWired}
+use Rattle.tv_framing.proofs.engine.OfEndings.{position-of}
+use Rattle.tv_framing.specs.matches.Steps.{IsStepAt}
+use Rattle.tv_framing.specs.matches.Waiting.{IsLeftBy}
+use Rattle.tv_match.specs.Stated.{outcome_place}
 use Rattle.tv_naming.specs.Numbers.{position}
 use Rattle.tv_frame.specs.Kept.{things_of}
 use Rattle.tv_frame.proofs.OfShownLists.{things-append}

@@ -25,7 +25,7 @@ use Rattle.tv_intake.specs.Intaken.{waiting_things}
 use Rattle.tv_instance.specs.Events as events
 use Rattle.tv_instance.specs.Events.{Event, event_place, fault_set}
 use Rattle.tv_framing.specs.Views.{View}
-use Rattle.tv_drawn.specs.Waiting.{outcome_place}
+use Rattle.tv_match.specs.Stated.{outcome_place}
 use Rattle.tv_frame.specs.declared.frame.Frame.{Frame}
 use Rattle.tv_frame.specs.declared.events.Settled as settled
 use Rattle.tv_frame.specs.Calls.{ArePassed, GoesOn, HasPieces, IsReadyToSettle, Settles, Tells}

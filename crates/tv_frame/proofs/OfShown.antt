@@ -1,16 +1,16 @@
 -- What the matchers of a frame were told, and what they bring, once the touched steps have shown what they held.
 use Rattle.std.specs.Option.{option_map_or}
-use Rattle.std.specs.Prelude.{◌≡◌, refl, ℕ, ◌+◌, ◌<◌, ◌≤◌, Bool, true, false, if◌then◌else◌, List, [], ◌∷◌, ◌++◌, length, map, Option, Some, None, slice_get}
+use Rattle.std.specs.Prelude.{◌≡◌, refl, ℕ, ◌+◌, ◌<◌, ◌≤◌, Bool, true, false, if◌then◌else◌, List, [], ◌++◌, length, map, Option, Some, None, slice_get}
 use Rattle.std.proofs.Common.{sym, ap, subst, ◌∙◌, arith, append-nil}
 use Rattle.std.proofs.lemmas.Option.{none-some}
 use Rattle.std.proofs.lemmas.Simd.{map-map}
+use Rattle.tv_lemmas.specs.Members.{Each}
 use Rattle.tv_value.specs.Nested.{Place}
 use Rattle.tv_value.specs.Values.{Name}
 use Rattle.tv_flow.specs.Flows.{Flow, Step}
-use Rattle.tv_strategy.specs.Sources.{Each}
 use Rattle.tv_lemmas.proofs.Cases.{on_test}
 use Rattle.tv_lemmas.proofs.Lists.{within-not_none}
-use Rattle.tv_matching.specs.Matchers.{Outcome, fault_at, job_at, list_at}
+use Rattle.tv_matching.specs.Matchers.{Outcome}
 use Rattle.tv_matching.proofs.Lists.{flat-each, map-flat}
 use Rattle.tv_match.specs.declared.matchers.Matcher.{Matcher}
 use Rattle.tv_intake.specs.declared.intakes.Intakes.{Intakes}
@@ -21,28 +21,13 @@ use Rattle.tv_intake.proofs.OfIntakes.{ahead-parts}
 use Rattle.tv_instance.specs.Events.{Event}
 use Rattle.tv_framing.specs.Frames.{with_event}
 use Rattle.tv_framing.specs.Views.{View}
-use Rattle.tv_kept.specs.Told.{StepIsTold}
-use Rattle.tv_truly.specs.Telling.{TellsTruly}
-use Rattle.tv_drawn.specs.Jobs.{all_jobs, jobs_of}
-use Rattle.tv_drawn.specs.Sorting as drawn
+use Rattle.tv_framing.specs.keeping.Told.{StepIsTold}
+use Rattle.tv_framing.specs.faults.Telling.{TellsTruly}
+use Rattle.tv_framing.specs.matches.Jobs.{all_jobs, jobs_of}
 use Rattle.tv_spread.specs.Spreads.{IsAscending, MakeAll, new_jobs, new_places, new_things}
 use Rattle.tv_frame.specs.Kept.{HasMatcher, followed_by, named_job, things_of}
 use Rattle.tv_frame.specs.Prepared.{IsToldWith, is_one_of}
 use Rattle.tv_frame.proofs.OfShownLists.{flat-in, not-one, one-each, each-one, same-length, things-here, things-more, things-none}
-
--- ---- two words for one thing
-
-pub places-same : (os : List Outcome) → intake.job_places os ≡ drawn.job_places os
-places-same [] = refl
-places-same (job_at q ∷ os) = ap (λ l. q ∷ l) (places-same os)
-places-same (list_at q n ∷ os) = places-same os
-places-same (fault_at q l ∷ os) = places-same os
-
-pub others-same : (os : List Outcome) → intake.others_among os ≡ drawn.others_among os
-others-same [] = refl
-others-same (job_at q ∷ os) = others-same os
-others-same (list_at q n ∷ os) = ap (λ l. list_at q n ∷ l) (others-same os)
-others-same (fault_at q l ∷ os) = ap (λ us. fault_at q l ∷ us) (others-same os)
 
 -- ---- one step
 
@@ -130,7 +115,6 @@ module _ (cs : List ℕ) (i j : Intakes) (m : MakeAll cs i j) where
         by None e = absurd (within-not_none f.steps c l e)
         by (Some s) e =
             ap (λ o. map (λ (q : Place). (option_map_or (λ (s : Name × Step). s.0) o [], q)) (new_places i c)) e
-            ∙ ap (λ qs. map (λ (q : Place). (s.0, q)) qs) (places-same (brought_at i c))
             ∙ ap (λ b. jobs_of s.0 (if b then brought_at i c else [])) (sym h)
 
     -- the jobs that become known are those among what is brought
@@ -147,10 +131,10 @@ module _ (cs : List ℕ) (i j : Intakes) (m : MakeAll cs i j) where
 
   -- ---- what waits
 
-  pub things-brought : IsAscending cs → (n : ℕ) (left : List (ℕ × Outcome)) → things_of n (left ++ new_things i cs) ≡ things_of n left ++ drawn.others_among (brings n)
+  pub things-brought : IsAscending cs → (n : ℕ) (left : List (ℕ × Outcome)) → things_of n (left ++ new_things i cs) ≡ things_of n left ++ intake.others_among (brings n)
   things-brought up n left =
       things-more (λ c. intake.others_among (brought_at i c)) n cs left ∙ ap (λ l. things_of n left ++ l) (by (is_one_of cs n) refl)
     where
-      by : (b : Bool) → is_one_of cs n ≡ b → things_of n (new_things i cs) ≡ drawn.others_among (if b then brought_at i n else [])
-      by true h = things-here (λ c. intake.others_among (brought_at i c)) n cs up h ∙ others-same (brought_at i n)
+      by : (b : Bool) → is_one_of cs n ≡ b → things_of n (new_things i cs) ≡ intake.others_among (if b then brought_at i n else [])
+      by true h = things-here (λ c. intake.others_among (brought_at i c)) n cs up h
       by false h = things-none (λ c. intake.others_among (brought_at i c)) n cs (not-one cs n h)

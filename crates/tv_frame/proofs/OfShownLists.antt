@@ -5,7 +5,7 @@ use Rattle.std.proofs.Common.{sym, ap, subst, ◌∙◌, arith, eq-eqb, append-n
 use Rattle.std.proofs.lemmas.Bool.{eqb-true, true≢false, ne_eqb}
 use Rattle.std.proofs.lemmas.List.Elements.{filter-append}
 use Rattle.std.proofs.lemmas.List.{map-append}
-use Rattle.tv_strategy.specs.Sources.{Each}
+use Rattle.tv_lemmas.specs.Members.{Each}
 use Rattle.tv_strategy.proofs.OfEach.{each-weaken}
 use Rattle.tv_lemmas.proofs.Cases.{on_test}
 use Rattle.tv_matching.specs.Matchers.{Outcome}

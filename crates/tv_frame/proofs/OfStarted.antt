@@ -42,18 +42,18 @@ use Rattle.tv_framing.specs.Answers.{has_ended_now, numbered as by_number}
 use Rattle.tv_framing.specs.Frames.{IsFrame}
 use Rattle.tv_framing.specs.Stated.{IsOfDepths}
 use Rattle.tv_framing.specs.Views.{View}
-use Rattle.tv_joined.specs.EndedSteps.{AreEndingsOf}
-use Rattle.tv_joined.specs.WiredFlows.{IsWired}
-use Rattle.tv_joined.proofs.OfSteps.{all-have_ended}
-use Rattle.tv_drawn.specs.Jobs.{all_jobs, jobs_of}
-use Rattle.tv_drawn.specs.Steps.{IsOfRankedFlow, IsStepAt, IsStepTold}
-use Rattle.tv_drawn.specs.Waiting.{waiting_of}
-use Rattle.tv_drawn.proofs.OfLaws.{all-wait_at_first, frames-start}
-use Rattle.tv_truly.proofs.OfLaws.{start-is_true}
-use Rattle.tv_begun.specs.Starts.{step_start}
-use Rattle.tv_begun.specs.Stated.{IsBegun}
-use Rattle.tv_begun.proofs.OfLaws.{start-is_told}
-use Rattle.tv_turn.specs.IdleJobs.{AreIdleOf, IsIdle}
+use Rattle.tv_framing.specs.engine.EndedSteps.{AreEndingsOf}
+use Rattle.tv_framing.specs.engine.WiredFlows.{IsWired}
+use Rattle.tv_framing.proofs.engine.OfSteps.{all-have_ended}
+use Rattle.tv_framing.specs.matches.Jobs.{all_jobs, jobs_of}
+use Rattle.tv_framing.specs.matches.Steps.{IsOfRankedFlow, IsStepAt, IsStepTold}
+use Rattle.tv_framing.specs.matches.Waiting.{waiting_of}
+use Rattle.tv_framing.proofs.matches.OfLaws.{all-wait_at_first, frames-start}
+use Rattle.tv_framing.proofs.faults.OfLaws.{start-is_true}
+use Rattle.tv_framing.specs.starts.Starts.{step_start}
+use Rattle.tv_framing.specs.starts.Stated.{IsBegun}
+use Rattle.tv_framing.proofs.starts.OfLaws.{start-is_told}
+use Rattle.tv_framing.specs.turns.IdleJobs.{AreIdleOf, IsIdle}
 use Rattle.tv_frame.specs.declared.frame.Frame.{Frame}
 use Rattle.tv_frame.specs.Calls.{CanStart, Starts}
 use Rattle.tv_frame.specs.Kept.{AreIdle, AreOuts, AreWaiting, HasMatcher, named_job, step_name, things_of}
@@ -64,7 +64,6 @@ use Rattle.tv_frame.proofs.OfTables.{plan-wired}
 use Rattle.tv_frame.proofs.OfComing.{as-declared}
 use Rattle.tv_frame.proofs.OfBeginning.{idle-within}
 use Rattle.tv_frame.proofs.OfKeeping.{levels-are as levels-at}
-use Rattle.tv_frame.proofs.OfShown.{places-same, others-same}
 use Rattle.tv_frame.proofs.OfShownLists.{things-append}
 
 -- ---- lists
@@ -171,7 +170,7 @@ module _ (f : Flow) (os : ℕ → List Outcome) where
       let k_is : k + 0 ≡ k = omega arith in
       let name : step_name f k ≡ s.0 = ap (step_name f) (sym k_is) ∙ h 0 s refl in
       let first : map (named_job f) (jobs_at k) ≡ jobs_of s.0 (os k) =
-      map-map (named_job f) (λ q. (k, q)) (intake.job_places (os k)) ∙ ap (λ m. map (λ q. (m, q)) (intake.job_places (os k))) name ∙ ap (map (λ q. (s.0, q))) (places-same (os k))
+      map-map (named_job f) (λ q. (k, q)) (intake.job_places (os k)) ∙ ap (λ m. map (λ q. (m, q)) (intake.job_places (os k))) name
       in
       map-append (named_job f) (jobs_at k) (flat_map jobs_at (range_with_len (k + 1) (length ss)))
       ∙ ap (λ l. l ++ map (named_job f) (flat_map jobs_at (range_with_len (k + 1) (length ss)))) first
@@ -277,7 +276,7 @@ module _ (flows : List (Name × Flow)) (p : FlowPlan) (vs : List Value) (can : C
         let lt : n < 0 + length (flow_view p.flow).steps = let k = slice_get_within (flow_view p.flow).steps n s at in omega (arith, k) in
         let le : 0 ≤ n = omega arith in
         let same : things_of n (waiting_things i) ≡ waiting_of [] s.0 (followed_at i n) =
-        ap (things_of n) h.waiting_are ∙ things-at (λ k. intake.others_among (followed_at i k)) n 0 (length (flow_view p.flow).steps) le lt ∙ others-same (followed_at i n) ∙ sym (all-wait_at_first s.0 (followed_at i n))
+        ap (things_of n) h.waiting_are ∙ things-at (λ k. intake.others_among (followed_at i k)) n 0 (length (flow_view p.flow).steps) le lt ∙ sym (all-wait_at_first s.0 (followed_at i n))
         in
         subst (IsPermutation (things_of n (waiting_things i))) same (IsPermutation-refl (things_of n (waiting_things i)))
 

@@ -16,7 +16,7 @@ use Rattle.tv_match.specs.declared.told.Told as code
 use Rattle.tv_telling.specs.Views.{AddsTellings, AreTellings}
 use Rattle.tv_wires.specs.declared.feeds.NumberedFeed.{NumberedFeed}
 use Rattle.tv_wires.specs.declared.ports.Port.{Port}
-use Rattle.tv_opening.specs.Openings.{IsFedFrom, fixed_in, numbered_port_start}
+use Rattle.tv_telling.specs.Openings.{IsFedFrom, fixed_in, numbered_port_start}
 use Rattle.tv_frame.specs.FirstTellings.{fixed_value, ports_start}
 use Rattle.tv_frame.proofs.OfTables.{flat-next}
 

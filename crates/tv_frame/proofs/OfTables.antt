@@ -21,9 +21,10 @@ use Rattle.tv_check.specs.Plans as plan
 use Rattle.tv_check.specs.PlanViews.{IsOfDocument, step_plan_view}
 use Rattle.tv_wires.specs.Wirings.{wiring}
 use Rattle.tv_starts.specs.Starts.{starts}
-use Rattle.tv_joined.specs.WiredFlows.{IsWired}
-use Rattle.tv_joined.proofs.OfAccepted.{accepted-wired}
-use Rattle.tv_frame.specs.Tables.{first_tree, levels_at, step_starts, trees_of}
+use Rattle.tv_framing.specs.engine.WiredFlows.{IsWired}
+use Rattle.tv_framing.proofs.engine.OfAccepted.{accepted-wired}
+use Rattle.tv_frame.specs.Tables.{first_tree, step_starts, trees_of}
+use Rattle.tv_depths.specs.Tables.{step_level}
 use Rattle.tv_frame.proofs.OfPlans.{step-suits}
 
 -- ---- lists
@@ -64,7 +65,7 @@ module _ (p : FlowPlan) where
       of-get_map (plan.step_plan (flow_view p.flow)) (flow_view p.flow).steps k (step_plan_view q) (ap (λ l. slice_get l k) (sym steps-are) ∙ get-map step_plan_view p.steps k q e)
 
 -- the depth of a step's plan
-pub planned-depth : (f : Flow) (q : StepPlan) (s : Name × Step) → step_plan_view q ≡ plan.step_plan f s → q.depth ≡ levels_at f s.1
+pub planned-depth : (f : Flow) (q : StepPlan) (s : Name × Step) → step_plan_view q ≡ plan.step_plan f s → q.depth ≡ step_level f s.1
 planned-depth f q (n, s) e = ap (λ (r : plan.StepPlan). r.depth) e
 
 -- ---- trees
@@ -122,12 +123,12 @@ within-flow f xs k e lt =
     let n = ap length e in
     omega (arith, lt, m, n)
 
-pub depths-next : (p : FlowPlan) (xs : List StepPlan) (k : ℕ) (q : StepPlan) (n : ℕ) (before after : List ℕ) → xs ≡ p.steps → k < length xs → q ≡ get_or xs k q → ((s : Name × Step) → slice_get (flow_view p.flow).steps k ≡ Some s → n ≡ trees_of s) → before ≡ flat_map (λ s. replicate (trees_of s) (levels_at (flow_view p.flow) s.1)) (take k (flow_view p.flow).steps) → after ≡ before ++ replicate n q.depth → after ≡ flat_map (λ s. replicate (trees_of s) (levels_at (flow_view p.flow) s.1)) (take (k + 1) (flow_view p.flow).steps)
+pub depths-next : (p : FlowPlan) (xs : List StepPlan) (k : ℕ) (q : StepPlan) (n : ℕ) (before after : List ℕ) → xs ≡ p.steps → k < length xs → q ≡ get_or xs k q → ((s : Name × Step) → slice_get (flow_view p.flow).steps k ≡ Some s → n ≡ trees_of s) → before ≡ flat_map (λ s. replicate (trees_of s) (step_level (flow_view p.flow) s.1)) (take k (flow_view p.flow).steps) → after ≡ before ++ replicate n q.depth → after ≡ flat_map (λ s. replicate (trees_of s) (step_level (flow_view p.flow) s.1)) (take (k + 1) (flow_view p.flow).steps)
 depths-next p xs k q n before after same lt is told h e =
     let s = step-of p k q (got-in xs p.steps k q same lt is) in
-    let here : replicate n q.depth ≡ replicate (trees_of s.0) (levels_at (flow_view p.flow) s.0.1) = ap (λ m. replicate m q.depth) (told s.0 s.1.0) ∙ ap (replicate (trees_of s.0)) (planned-depth (flow_view p.flow) q s.0 s.1.1) in
-    e ∙ ap (λ l. l ++ replicate n q.depth) h ∙ ap (λ l. flat_map (λ s. replicate (trees_of s) (levels_at (flow_view p.flow) s.1)) (take k (flow_view p.flow).steps) ++ l) here
-    ∙ sym (flat-next (λ s. replicate (trees_of s) (levels_at (flow_view p.flow) s.1)) (flow_view p.flow).steps k s.0 s.1.0)
+    let here : replicate n q.depth ≡ replicate (trees_of s.0) (step_level (flow_view p.flow) s.0.1) = ap (λ m. replicate m q.depth) (told s.0 s.1.0) ∙ ap (replicate (trees_of s.0)) (planned-depth (flow_view p.flow) q s.0 s.1.1) in
+    e ∙ ap (λ l. l ++ replicate n q.depth) h ∙ ap (λ l. flat_map (λ s. replicate (trees_of s) (step_level (flow_view p.flow) s.1)) (take k (flow_view p.flow).steps) ++ l) here
+    ∙ sym (flat-next (λ s. replicate (trees_of s) (step_level (flow_view p.flow) s.1)) (flow_view p.flow).steps k s.0 s.1.0)
 
 pub take-same : {A : Type 0} (xs ys : List A) (k : ℕ) → xs ≡ ys → length xs ≤ k → take k ys ≡ ys
 take-same xs ys k e le = ap (take k) (sym e) ∙ take_all k xs le ∙ e

@@ -4,6 +4,7 @@ use Rattle.std.specs.Prelude.{◌≡◌, refl, ℕ, ◌<◌, ◌==◌, ◌||◌,
 use Rattle.std.proofs.Common.{sym, ap, subst, ◌∙◌, append-nil, eq-eqb, inl, inr}
 use Rattle.std.proofs.lemmas.List.{length-map}
 use Rattle.std.proofs.lemmas.Option.{same_Some, slice_get_within}
+use Rattle.tv_lemmas.specs.Members.{In}
 use Rattle.tv_lemmas.proofs.Lists.{get-map, get-within}
 use Rattle.tv_value.specs.Nested.{Place}
 use Rattle.tv_value.specs.Values.{Name}
@@ -18,22 +19,21 @@ use Rattle.tv_match.specs.Seen.{matching}
 use Rattle.tv_intake.specs.Intaken.{IsFaultyAt, known_jobs, matcher_at, waiting_things}
 use Rattle.tv_idle.specs.Idles.{Idles, has_job, is_idle_at, of_step, without}
 use Rattle.tv_instance.specs.Events.{took}
-use Rattle.tv_model.specs.Members.{In}
 use Rattle.tv_framing.specs.Answers.{IsReadyJob, has_ended_now, numbered}
 use Rattle.tv_framing.specs.Frames.{with_event}
 use Rattle.tv_framing.specs.Views.{View}
-use Rattle.tv_joined.specs.EndedSteps.{AreEndingsOf}
-use Rattle.tv_joined.specs.WiredFlows.{IsWired}
-use Rattle.tv_joined.proofs.OfSteps.{all-have_ended}
-use Rattle.tv_joined.proofs.OfEndings.{position-of}
-use Rattle.tv_fed.specs.Coming.{IsFrameOf}
-use Rattle.tv_fed.proofs.OfComing.{taking-makes_frame}
-use Rattle.tv_kept.proofs.OfLaws.{taking-tells_nothing}
-use Rattle.tv_fed.proofs.OfWholeSteps.{taking-ends_nothing}
-use Rattle.tv_drawn.proofs.OfLaws.{taking-leaves_waiting}
-use Rattle.tv_drawn.proofs.OfRanks.{at-in}
-use Rattle.tv_truly.proofs.OfLaws.{truth-stays}
-use Rattle.tv_turn.specs.IdleJobs.{IsIdle}
+use Rattle.tv_framing.specs.engine.EndedSteps.{AreEndingsOf}
+use Rattle.tv_framing.specs.engine.WiredFlows.{IsWired}
+use Rattle.tv_framing.proofs.engine.OfSteps.{all-have_ended}
+use Rattle.tv_framing.proofs.engine.OfEndings.{position-of}
+use Rattle.tv_framing.specs.feeds.Coming.{IsFrameOf}
+use Rattle.tv_framing.proofs.feeds.OfComing.{taking-makes_frame}
+use Rattle.tv_framing.proofs.keeping.OfLaws.{taking-tells_nothing}
+use Rattle.tv_framing.proofs.feeds.OfWholeSteps.{taking-ends_nothing}
+use Rattle.tv_framing.proofs.matches.OfLaws.{taking-leaves_waiting}
+use Rattle.tv_lemmas.proofs.OfMembers.{in-slice as at-in}
+use Rattle.tv_framing.proofs.faults.OfLaws.{truth-stays}
+use Rattle.tv_framing.specs.turns.IdleJobs.{IsIdle}
 use Rattle.tv_frame.specs.declared.frame.Frame.{Frame}
 use Rattle.tv_frame.specs.Kept.{AreIdle, AreOuts, HasMatcher, Keeps, followed_by, named_job, step_name, things_of}
 use Rattle.tv_frame.specs.Tables.{levels_in}

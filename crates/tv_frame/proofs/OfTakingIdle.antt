@@ -7,6 +7,7 @@ use Rattle.std.proofs.Common.{sym, ap, ap₂, subst, ◌∙◌, inl, inr}
 use Rattle.std.proofs.lemmas.Bool.{and_parts, cases_eq, eq-eqb, ne_eqb, true≢false, not-true, or_parts, or_from, not_from_false}
 use Rattle.std.proofs.lemmas.List.{get_or-set_other, get_or-set_same}
 use Rattle.std.proofs.lemmas.Option.{same_Some}
+use Rattle.tv_lemmas.specs.Members.{In}
 use Rattle.tv_value.specs.Nested.{Place}
 use Rattle.tv_value.specs.Orders.{same_name}
 use Rattle.tv_value.specs.Values.{Name}
@@ -22,12 +23,11 @@ use Rattle.tv_idle.specs.Kept.{are_in_order}
 use Rattle.tv_instance.specs.Events.{Event, gives_at, has_result, is_taken, takes_at, took}
 use Rattle.tv_framing.specs.Answers.{numbered}
 use Rattle.tv_framing.specs.Views.{View}
-use Rattle.tv_joined.specs.WiredFlows.{IsWired}
-use Rattle.tv_joined.proofs.OfEndings.{position-of}
-use Rattle.tv_drawn.proofs.OfWaiting.{in-filter}
-use Rattle.tv_model.specs.Members.{In}
-use Rattle.tv_turn.specs.IdleJobs.{AreIdleOf, AreInOrder, IsIdle}
-use Rattle.tv_turn.proofs.OfTurns.{in-passed}
+use Rattle.tv_framing.specs.engine.WiredFlows.{IsWired}
+use Rattle.tv_framing.proofs.engine.OfEndings.{position-of}
+use Rattle.tv_lemmas.proofs.OfMembers.{in-filter}
+use Rattle.tv_framing.specs.turns.IdleJobs.{AreIdleOf, AreInOrder, IsIdle}
+use Rattle.tv_framing.proofs.turns.OfTurns.{in-passed}
 use Rattle.tv_frame.specs.Kept.{AreIdle}
 use Rattle.tv_frame.proofs.OfAdded.{queue, set-many}
 

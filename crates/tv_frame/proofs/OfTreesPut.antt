@@ -18,11 +18,11 @@ use Rattle.tv_instance.specs.Events.{Event, event_step, fault_set, gave}
 use Rattle.tv_framing.specs.Arriving.{levels_below, part_so_far}
 use Rattle.tv_framing.specs.Frames.{with_event}
 use Rattle.tv_framing.specs.Views.{View}
-use Rattle.tv_kept.specs.NextEvents.{IsNextEvent}
-use Rattle.tv_drawn.specs.Steps.{IsStepAt}
-use Rattle.tv_fed.specs.Coming.{put_here}
-use Rattle.tv_fed.specs.Fed.{event_number}
-use Rattle.tv_fed.proofs.OfComing.{trees-go_on}
+use Rattle.tv_framing.specs.keeping.NextEvents.{IsNextEvent}
+use Rattle.tv_framing.specs.matches.Steps.{IsStepAt}
+use Rattle.tv_framing.specs.feeds.Coming.{put_here}
+use Rattle.tv_framing.specs.feeds.Fed.{event_number}
+use Rattle.tv_framing.proofs.feeds.OfComing.{trees-go_on}
 use Rattle.tv_frame.specs.declared.frame.Frame.{Frame}
 use Rattle.tv_frame.specs.Kept.{AreTrees, Keeps, declared_at}
 use Rattle.tv_frame.specs.Prepared.{event_value}
@@ -30,7 +30,7 @@ use Rattle.tv_frame.specs.Shown.{values_put}
 use Rattle.tv_frame.specs.Tables.{at_least_one, first_tree, levels_in, trees_of}
 use Rattle.tv_frame.proofs.OfKeeping.{kept-wired}
 use Rattle.tv_frame.proofs.OfPutting.{tree-after}
-use Rattle.tv_joined.proofs.OfEndings.{position-of}
+use Rattle.tv_framing.proofs.engine.OfEndings.{position-of}
 
 -- the trees of a step stand before those of the steps that follow
 trees-before : (ss : List (Name × Step)) (m n : ℕ) (t : Name × Step) → m < n → slice_get ss m ≡ Some t → first_tree ss m + trees_of t ≤ first_tree ss n

@@ -6,6 +6,8 @@ use Rattle.std.proofs.lemmas.List.Sorted.{IsPermutation-sym, length_permutation}
 use Rattle.std.proofs.lemmas.Option.{none-some, same_Some, slice_get-map}
 use Rattle.std.proofs.lemmas.Bool.{not-true}
 use Rattle.std.proofs.lemmas.List.{nil_from_length}
+use Rattle.tv_lemmas.specs.Members.{In}
+use Rattle.tv_lemmas.proofs.OfMembers.{each_in, in-map, of-filter}
 use Rattle.tv_lemmas.proofs.Lists.{get-within}
 use Rattle.tv_value.specs.Nested.{Place}
 use Rattle.tv_value.specs.Values.{Name}
@@ -14,21 +16,19 @@ use Rattle.tv_check.specs.declared.plans.FlowPlan.{FlowPlan}
 use Rattle.tv_match.specs.declared.kinds.Kind as kinds
 use Rattle.tv_match.specs.Seen.{outcome_kind}
 use Rattle.tv_matching.specs.Matchers.{Outcome, fault_at, job_at, list_at}
-use Rattle.tv_matching.proofs.OfMembers.{each-in, in-map, in-permutes}
+use Rattle.tv_matching.proofs.OfMembers.{in-permutes}
 use Rattle.tv_intake.specs.declared.found.Found.{Found}
 use Rattle.tv_intake.specs.Intaken.{followed_in, matcher_at, thing_in, waiting_things}
 use Rattle.tv_intake.proofs.OfIntakes.{step-within, waiting-there}
 use Rattle.tv_outputs.specs.Known.{Nodes}
 use Rattle.tv_instance.specs.Events.{Event, Events, closed, has_level}
-use Rattle.tv_model.specs.Members.{In}
-use Rattle.tv_model.proofs.OfMembers.{of-filter}
 use Rattle.tv_framing.specs.Answers.{CanSettle, NothingSettles}
 use Rattle.tv_framing.specs.Views.{View}
-use Rattle.tv_drawn.specs.Steps.{IsStepAt}
-use Rattle.tv_drawn.specs.Waiting.{is_waiting, waiting_of}
-use Rattle.tv_drawn.proofs.OfLaws.{nothing-settles, waiting_lists-can_settle}
-use Rattle.tv_drawn.proofs.OfRanks.{at-in}
-use Rattle.tv_drawn.proofs.OfWaiting.{in-filter}
+use Rattle.tv_framing.specs.matches.Steps.{IsStepAt}
+use Rattle.tv_framing.specs.matches.Waiting.{is_waiting, waiting_of}
+use Rattle.tv_framing.proofs.matches.OfLaws.{nothing-settles, waiting_lists-can_settle}
+use Rattle.tv_lemmas.proofs.OfMembers.{in-slice as at-in}
+use Rattle.tv_lemmas.proofs.OfMembers.{in-filter}
 use Rattle.tv_frame.specs.declared.frame.Frame.{Frame}
 use Rattle.tv_frame.specs.Calls.{Brings, IsReadyToSettle}
 use Rattle.tv_frame.specs.Kept.{Keeps, followed_by, things_of}
@@ -55,7 +55,7 @@ module _ (flows : List (Name × Flow)) (plan : FlowPlan) (pool : Nodes) (f : Fra
       by None g h = absurd (none-some x h)
       by (Some d) g h =
           let ms = f.intakes.matchers.items in
-          let here = each-in (λ (y : Found). y.at < length (followed_in ms y.step)) d f.intakes.waiting.items (waiting-there ms f.intakes.jobs.items f.intakes.waiting.items k.intaken) (at-in f.intakes.waiting.items at d g) in
+          let here = each_in (λ (y : Found). y.at < length (followed_in ms y.step)) f.intakes.waiting.items (waiting-there ms f.intakes.jobs.items f.intakes.waiting.items k.intaken) d (at-in f.intakes.waiting.items at d g) in
           let within : d.step < length ms = step-within ms d.step d.at here in
           let same : d.step ≡ x.0 = ap (λ (y : ℕ × Outcome). y.0) (same_Some (thing_in ms d) x h) in
           let many = k.as_many in

@@ -9,7 +9,7 @@ use Rattle.tv_wires.specs.declared.wires.Wire.{Wire}
 use Rattle.tv_wires.specs.declared.wiring.Wiring.{Wiring}
 use Rattle.tv_wires.specs.Turned.{all_wires, from_number}
 use Rattle.tv_wires.specs.Wirings.{all_ports, wires_by_step}
-use Rattle.tv_spread.specs.Along.{is_walked}
+use Rattle.tv_telling.specs.Along.{is_walked}
 use Rattle.tv_frame.proofs.OfOrder.{few-steps}
 use Rattle.tv_frame.proofs.OfTables.{as-many-steps, wiring-is}
 

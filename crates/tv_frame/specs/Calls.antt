@@ -1,11 +1,11 @@
 -- What the calls of a frame promise.
 use Rattle.std.specs.Prelude.{◌≡◌, ℕ, ◌-◌, ◌<◌, Bool, List, [], ◌∷◌, length, map, Option, Some, None, slice_get}
 use Rattle.std.specs.List.{list_any}
+use Rattle.tv_lemmas.specs.Members.{Each, In}
 use Rattle.tv_value.specs.Nested.{Place}
 use Rattle.tv_value.specs.Values.{ErrorDoc, Name, Value, holds_fault}
 use Rattle.tv_flow.specs.Flows.{Flow, Step}
 use Rattle.tv_flow.specs.Views.{flow_view}
-use Rattle.tv_strategy.specs.Sources.{Each}
 use Rattle.tv_pool.specs.Pool.{region_at}
 use Rattle.tv_cell.specs.declared.piece.Piece.{Piece}
 use Rattle.tv_cell.specs.PieceValues.{piece_values}
@@ -18,7 +18,6 @@ use Rattle.tv_instance.specs.ByResults.{InstanceStep, PlacedJob}
 use Rattle.tv_instance.specs.Events as events
 use Rattle.tv_instance.specs.Events.{Event, fault_set, gave, known_by, took}
 use Rattle.tv_model.specs.Agreeing.{FlowAgrees}
-use Rattle.tv_model.specs.Members.{In}
 use Rattle.tv_model.specs.RightDepths.{HaveTheseDepths}
 use Rattle.tv_framing.specs.Answers.{IsReadyJob, numbered}
 use Rattle.tv_framing.specs.Frames.{Comes, new_jobs, with_event}

@@ -6,7 +6,7 @@ use Rattle.tv_value.specs.Values.{Value}
 use Rattle.tv_naming.specs.Naming.{numbered}
 use Rattle.tv_matching.specs.Told.{Told}
 use Rattle.tv_wires.specs.declared.ports.Port.{Port}
-use Rattle.tv_opening.specs.Openings.{IsFedFrom, numbered_port_start}
+use Rattle.tv_telling.specs.Openings.{IsFedFrom, numbered_port_start}
 
 -- each port is fed from them
 abbrev pub AreFed : ℕ → (ℕ → Option Value) → List Port → Type 0

@@ -1,11 +1,12 @@
 -- What a frame keeps: of its instance it knows what it was told, the view, and all that it keeps is a function of that.
 use Rattle.std.specs.Prelude.{◌≡◌, ℕ, ◌+◌, ◌==◌, ◌<◌, Bool, true, false, List, [], filter, map, IsPermutation, Option, Some, None, slice_get, slice_index_or, length}
 use Rattle.std.specs.Option.{option_map_or}
+use Rattle.tv_lemmas.specs.Members.{In}
 use Rattle.tv_value.specs.Nested.{Place}
 use Rattle.tv_value.specs.Values.{Name, Value, holds_fault}
 use Rattle.tv_flow.specs.Flows.{Flow, Step}
 use Rattle.tv_flow.specs.Views.{flow_view}
-use Rattle.tv_depths.specs.Steps.{strategy_of}
+use Rattle.tv_instance.specs.Steps.{strategy_of}
 use Rattle.tv_parts.specs.Partials.{Partial}
 use Rattle.tv_pool.specs.Pool.{IsLive}
 use Rattle.tv_cell.specs.declared.piece.Piece.{Piece}
@@ -22,18 +23,17 @@ use Rattle.tv_intake.specs.declared.intakes.Intakes.{Intakes}
 use Rattle.tv_intake.specs.Intaken.{AreIntaken, known_jobs, matcher_at, waiting_things}
 use Rattle.tv_idle.specs.Idles.{Idles, of_step}
 use Rattle.tv_spread.specs.Spreads.{is_faulty_now}
-use Rattle.tv_model.specs.Members.{In}
 use Rattle.tv_framing.specs.Answers.{AreOutputs, has_ended_now}
 use Rattle.tv_framing.specs.Arriving.{part_so_far}
 use Rattle.tv_framing.specs.Frames.{IsFrame}
 use Rattle.tv_framing.specs.Stated.{IsOfDepths}
 use Rattle.tv_framing.specs.Views.{View}
-use Rattle.tv_joined.specs.EndedSteps.{AreEndingsOf}
-use Rattle.tv_kept.specs.Told.{StepIsTold}
-use Rattle.tv_drawn.specs.Steps.{IsStepAt}
-use Rattle.tv_drawn.specs.Waiting.{waiting_of}
-use Rattle.tv_truly.specs.Telling.{TellsTruly}
-use Rattle.tv_turn.specs.IdleJobs.{AreIdleOf}
+use Rattle.tv_framing.specs.engine.EndedSteps.{AreEndingsOf}
+use Rattle.tv_framing.specs.keeping.Told.{StepIsTold}
+use Rattle.tv_framing.specs.matches.Steps.{IsStepAt}
+use Rattle.tv_framing.specs.matches.Waiting.{waiting_of}
+use Rattle.tv_framing.specs.faults.Telling.{TellsTruly}
+use Rattle.tv_framing.specs.turns.IdleJobs.{AreIdleOf}
 use Rattle.tv_frame.specs.declared.frame.Frame.{Frame}
 use Rattle.tv_frame.specs.Tables.{AreTables, first_tree, levels_in, tree_depths, trees_of}
 

@@ -6,7 +6,7 @@ use Rattle.tv_flow.specs.Flows.{Step}
 use Rattle.tv_match.specs.declared.kinds.Kind as kinds
 use Rattle.tv_instance.specs.Events.{Event, event_place, known_by}
 use Rattle.tv_framing.specs.Views.{InAll, View}
-use Rattle.tv_drawn.specs.Stated.{OfStep}
+use Rattle.tv_framing.specs.matches.Stated.{OfStep}
 use Rattle.tv_levels.specs.Levels.{FitsThere, IsFromKnown, Level, What, came, closed}
 
 -- what a matcher says of it

@@ -1,12 +1,13 @@
 -- A frame that is ready to show an event: the event is worked ahead, and all room is taken.
 use Rattle.std.specs.List.{list_any}
 use Rattle.std.specs.Prelude.{◌≡◌, ℕ, ◌+◌, ◌≤◌, ◌<◌, ◌==◌, Bool, true, false, List, [], ◌∷◌, ◌++◌, get_or, length, nat_lt, Option, Some, None, slice_get, slice_index_or, unwrap_or}
+use Rattle.tv_lemmas.specs.Members.{In}
 use Rattle.tv_value.specs.Nested.{Place}
 use Rattle.tv_value.specs.Nested.{list, no_trees}
 use Rattle.tv_value.specs.Values.{Name, Value, fault_value}
 use Rattle.tv_flow.specs.Flows.{Flow, Step}
 use Rattle.tv_naming.specs.Naming.{has_name}
-use Rattle.tv_depths.specs.Steps.{declared_depths}
+use Rattle.tv_instance.specs.Steps.{declared_depths}
 use Rattle.tv_wires.specs.Feeds.{outputs_of}
 use Rattle.tv_cell.specs.PieceValues.{piece_values}
 use Rattle.tv_cell.specs.Soundness.{AreSound}
@@ -22,20 +23,20 @@ use Rattle.tv_intake.specs.Intaken.{matcher_at}
 use Rattle.tv_spread.specs.Spreads.{CanShowAll}
 use Rattle.tv_instance.specs.Events as events
 use Rattle.tv_instance.specs.Events.{Event, event_place, event_step, fault_set, gave, has_result, took}
-use Rattle.tv_model.specs.Members.{In}
 use Rattle.tv_model.specs.RightDepths.{HaveTheseDepths}
 use Rattle.tv_framing.specs.Answers.{has_ended_now}
 use Rattle.tv_framing.specs.Arriving.{levels_below}
 use Rattle.tv_framing.specs.Frames.{with_event}
 use Rattle.tv_framing.specs.Views.{View}
-use Rattle.tv_told.specs.Stated.{IsFrom}
-use Rattle.tv_kept.specs.NextEvents.{IsNextEvent}
-use Rattle.tv_kept.specs.Told.{StepIsTold}
-use Rattle.tv_drawn.specs.Steps.{IsStepAt}
-use Rattle.tv_joined.specs.AlongWires.{IsSeenAs}
-use Rattle.tv_fed.specs.Fed.{given_at, newly}
-use Rattle.tv_truly.specs.Known.{HoldsFaults, tree_of}
-use Rattle.tv_truly.specs.Telling.{TellsTruly}
+use Rattle.tv_framing.specs.ways.Stated.{IsFrom}
+use Rattle.tv_framing.specs.keeping.NextEvents.{IsNextEvent}
+use Rattle.tv_framing.specs.keeping.Told.{StepIsTold}
+use Rattle.tv_framing.specs.matches.Steps.{IsStepAt}
+use Rattle.tv_framing.specs.engine.AlongWires.{IsSeenAs}
+use Rattle.tv_framing.specs.feeds.Fed.{given_at, newly}
+use Rattle.tv_framing.specs.faults.Known.{tree_of}
+use Rattle.tv_parts.specs.Partials.{HoldsFaults}
+use Rattle.tv_framing.specs.faults.Telling.{TellsTruly}
 use Rattle.tv_frame.specs.declared.frame.Frame.{Frame}
 use Rattle.tv_frame.specs.declared.outs.Change.{Change}
 use Rattle.tv_frame.specs.declared.outs.Change.TheVariants.{Arrive, Close}
@@ -107,7 +108,7 @@ pub record IsComing (flows : List (Name × Flow)) (v : View) (n : ℕ) (s : Name
   pub hold :
       (o : Name) → has_name (outputs_of v.flow (event_step e)) o ≡ true
       → HoldsFaults (event_place e)
-      (tree_of v.flow (levels_in v.flow) v.inputs (e ∷ v.events) (event_step e) o) (faults o)
+      (tree_of v.flow (levels_in v.flow) (e ∷ v.events) (event_step e) o) (faults o)
   pub outputs : length c.faults.now ≡ length s.1.outputs
   pub pieces : (k : ℕ) → k < length s.1.outputs → HasPiece c.happened k
   pub faultless :

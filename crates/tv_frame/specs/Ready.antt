@@ -6,8 +6,8 @@ use Rattle.tv_flow.specs.Flows.{Step}
 use Rattle.tv_instance.specs.Events.{has_result, is_taken}
 use Rattle.tv_framing.specs.Answers.{IsReadyJob, numbered}
 use Rattle.tv_framing.specs.Views.{View}
-use Rattle.tv_drawn.specs.Steps.{IsStepAt}
-use Rattle.tv_order.specs.JobOrder.{place_before}
+use Rattle.tv_framing.specs.matches.Steps.{IsStepAt}
+use Rattle.tv_model.specs.JobOrder.{place_before}
 
 -- the job of that number stands at this place of the step, and neither runs nor has a result
 pub record IsIdleThere (v : View) (s : Name) (n : ℕ) (q : Place) : Type 0 where

@@ -1,6 +1,7 @@
 -- What a frame has of its flow and inputs before any event.
 use Rattle.std.specs.List.{range_with_len}
 use Rattle.std.specs.Prelude.{◌≡◌, ◌≢◌, ℕ, ◌<◌, ◌==◌, true, false, List, [], ◌∷◌, IsPermutation, flat_map, if◌then◌else◌, length, map, Option, Some, None, replicate, slice_get}
+use Rattle.tv_lemmas.specs.Members.{In}
 use Rattle.tv_value.specs.Nested.{Place}
 use Rattle.tv_value.specs.Values.{Name, Value, holds_fault}
 use Rattle.tv_flow.specs.Flows.{Flow, Step}
@@ -9,7 +10,7 @@ use Rattle.tv_cell.specs.declared.piece.Piece.{Piece}
 use Rattle.tv_cell.specs.PieceValues.{piece_values}
 use Rattle.tv_cell.specs.Soundness.{AreSound}
 use Rattle.tv_check.specs.declared.plans.FlowPlan.{FlowPlan}
-use Rattle.tv_depths.specs.Steps.{strategy_of}
+use Rattle.tv_instance.specs.Steps.{strategy_of}
 use Rattle.tv_wires.specs.Ports.{mismatches}
 use Rattle.tv_matching.specs.Matchers.{Matching}
 use Rattle.tv_matching.specs.Told.{Told}
@@ -21,14 +22,14 @@ use Rattle.tv_intake.specs.Sorting.{job_places, others_among}
 use Rattle.tv_idle.specs.Idles.{Idles, of_step}
 use Rattle.tv_idle.specs.Kept.{IsKept}
 use Rattle.tv_spread.specs.Spreads.{is_faulty_now}
-use Rattle.tv_model.specs.Members.{In}
 use Rattle.tv_framing.specs.Answers.{AreOutputs}
 use Rattle.tv_framing.specs.Views.{View}
-use Rattle.tv_joined.specs.EndedSteps.{AreEndingsOf}
-use Rattle.tv_turn.specs.IdleJobs.{IsIdle}
-use Rattle.tv_begun.specs.Starts.{step_start}
+use Rattle.tv_framing.specs.engine.EndedSteps.{AreEndingsOf}
+use Rattle.tv_framing.specs.turns.IdleJobs.{IsIdle}
+use Rattle.tv_framing.specs.starts.Starts.{step_start}
 use Rattle.tv_frame.specs.declared.frame.Frame.{Frame}
-use Rattle.tv_frame.specs.Tables.{AreTables, levels_at, levels_in}
+use Rattle.tv_frame.specs.Tables.{AreTables, levels_in}
+use Rattle.tv_depths.specs.Tables.{step_level}
 
 -- the flow's inputs with these values
 abbrev pub named_values : List (Name × ℕ) → List Value → List (Name × Value)
@@ -93,7 +94,7 @@ pub record HaveBegun (f : Flow) (tells : ℕ → Step → List Told) (count : �
   pub steps : length idle.steps ≡ count
   pub levels :
       (n : ℕ) (s : Name × Step) → n < count → slice_get f.steps n ≡ Some s
-      → (of_step idle.steps n).levels ≡ levels_at f s.1
+      → (of_step idle.steps n).levels ≡ step_level f s.1
   pub idle_are : AllAreIdle intakes idle
 
 -- ---- all of it

@@ -4,7 +4,7 @@ use Rattle.tv_value.specs.Values.{Name}
 use Rattle.tv_flow.specs.declared.document.Step.{Step as CodeStep}
 use Rattle.tv_check.specs.declared.plans.FlowPlan.{FlowPlan}
 use Rattle.tv_check.specs.declared.plans.StepPlan.{StepPlan}
-use Rattle.tv_bound.specs.declared.jobs.StepPorts.{StepPorts}
+use Rattle.tv_binding.specs.declared.jobs.StepPorts.{StepPorts}
 
 -- it is of the n-th step
 pub record ArePortsOf (plan : FlowPlan) (n : ℕ) (p : StepPorts) : Type 0 where

@@ -6,23 +6,18 @@ use Rattle.tv_value.specs.Orders.{named}
 use Rattle.tv_value.specs.Values.{Name}
 use Rattle.tv_flow.specs.Flows.{Flow, Step}
 use Rattle.tv_strategy.specs.Conditions.{number_of}
-use Rattle.tv_strategy.specs.Measures.{strategy_depth}
-use Rattle.tv_depths.specs.CheckedDepths.{flow_depths, port_depth}
-use Rattle.tv_depths.specs.Steps.{strategy_of}
+use Rattle.tv_instance.specs.Steps.{strategy_of}
+use Rattle.tv_depths.specs.Tables.{step_level}
 use Rattle.tv_wires.specs.Ports.{mismatches}
 use Rattle.tv_wires.specs.Wirings.{wires_by_step}
-use Rattle.tv_spread.specs.Along.{is_walked}
-use Rattle.tv_bound.specs.Constants.{constants_view, flow_constants}
+use Rattle.tv_telling.specs.Along.{is_walked}
+use Rattle.tv_binding.specs.Constants.{constants_view, flow_constants}
 use Rattle.tv_starts.specs.Starts.{starts}
-use Rattle.tv_turn.specs.FirstReady.{by_falling_rank}
+use Rattle.tv_framing.specs.turns.FirstReady.{by_falling_rank}
 use Rattle.tv_frame.specs.declared.tables.Tables.{Tables}
 
--- the levels of a step's iteration, by the depths of its flow
-abbrev pub levels_at : Flow → Step → ℕ
-levels_at f s = strategy_depth (port_depth f.inputs (flow_depths f) s) (strategy_of s)
-
 abbrev pub levels_in : Flow → Name → ℕ
-levels_in f n = option_map_or (levels_at f) (named n f.steps) 0
+levels_in f n = option_map_or (step_level f) (named n f.steps) 0
 
 -- ---- trees: one for each output of a step, and one for a step without outputs
 
@@ -41,7 +36,7 @@ first_tree (s ∷ ss) (suc n) = trees_of s + first_tree ss n
 
 -- the depth of each tree
 abbrev pub tree_depths : Flow → List ℕ
-tree_depths f = flat_map (λ s. replicate (trees_of s) (levels_at f s.1)) f.steps
+tree_depths f = flat_map (λ s. replicate (trees_of s) (step_level f s.1)) f.steps
 
 -- ---- where the leaves of a step begin in the places of its jobs
 

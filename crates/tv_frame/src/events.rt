@@ -84,11 +84,14 @@ impl Frame {
         outputs: Pieces,
     )
         requires ready { (flows : List (Name × Flow)) × (v : View) × (s : Name × Step)
-            × IsReadyToBounce flows plan.now pool.old self.old v number step s place.now (piece_values outputs) }
+            × IsReadyToBounce flows plan.now pool.old self.old v number step s place.now
+            (piece_values outputs) }
         requires sound { AreSound outputs }
         ensures goes_on { (flows : List (Name × Flow)) (v : View) (s : Name × Step)
-            → IsReadyToBounce flows plan.now pool.old self.old v number step s place.now (piece_values outputs)
-            → GoesOn flows plan.now pool.new self.new v (gave s.0 place.now (piece_values outputs)) }
+            → IsReadyToBounce flows plan.now pool.old self.old v number step s place.now
+            (piece_values outputs)
+            → GoesOn flows plan.now pool.new self.new v
+            (gave s.0 place.now (piece_values outputs)) }
         ensures regions { KeepsRegions pool.old pool.new (number_of self.old.region) }
         ensures region { self.new.region ≡ self.old.region }
     {

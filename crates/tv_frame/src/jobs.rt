@@ -3,7 +3,7 @@ ghost use Rattle.std.specs.Prelude.{◌≡◌, false, true, ◌<◌, ◌≤◌, 
 ghost use Rattle.tv_value.specs.Values.{Name, Value as AValue};
 ghost use Rattle.tv_value.specs.Views.{values_view, view};
 ghost use Rattle.tv_flow.specs.Flows.{Flow, Step};
-ghost use Rattle.tv_depths.specs.Ranks.{ranked};
+ghost use Rattle.tv_instance.specs.Ranks.{ranked};
 ghost use Rattle.tv_cell.specs.PieceValues.{piece_values};
 ghost use Rattle.tv_cell.specs.Soundness.{AreSound};
 ghost use Rattle.tv_value.specs.Nested.{Place};
@@ -17,9 +17,9 @@ ghost use Rattle.tv_instance.specs.Events.{Event as TheEvent, took};
 ghost use Rattle.tv_framing.specs.Answers.{AreInputs, IsReadyJob, after_of, numbered};
 ghost use Rattle.tv_framing.specs.Frames.{with_event};
 ghost use Rattle.tv_framing.specs.Views.{View};
-ghost use Rattle.tv_drawn.specs.Steps.{IsStepAt};
-ghost use Rattle.tv_turn.specs.FirstReady.{IsFirstReady};
-ghost use Rattle.tv_turn.specs.Turns.{first_in_turn, may_settle};
+ghost use Rattle.tv_framing.specs.matches.Steps.{IsStepAt};
+ghost use Rattle.tv_framing.specs.turns.FirstReady.{IsFirstReady};
+ghost use Rattle.tv_endings.specs.Turns.{first_in_turn, may_settle};
 ghost use Rattle.tv_frame.specs.Calls.{HoldsError, IsJob};
 ghost use Rattle.tv_frame.specs.Kept.{Keeps, named_job};
 ghost use Rattle.tv_frame.specs.Prepared.{IsReadyFor};
@@ -29,11 +29,11 @@ ghost use Rattle.tv_frame.specs.Tables.{levels_in};
 
 use crate::frame::Frame;
 use std::alloc::Global;
-use tv_bound::{StepPorts, job_binds, job_inputs, job_values};
+use tv_binding::{StepPorts, job_binds, job_inputs, job_values};
 use tv_cell::Pieces;
 use tv_check::FlowPlan;
+use tv_endings::first_ready;
 use tv_outputs::Nodes;
-use tv_turn::first_ready;
 use tv_value::{Items, NoMemory, Value};
 
 /// A known job of an instance.
@@ -171,7 +171,8 @@ impl Frame {
 
     /// Whether some step has an idle job that binds a fault: where none has, no step has a ready one. Constant.
     pub fn has_faulty(&self) -> bool
-        ensures none { result ≡ false → (flows : List (Name × Flow)) (plan : FlowPlan) (pool : Nodes)
+        ensures none { result ≡ false
+            → (flows : List (Name × Flow)) (plan : FlowPlan) (pool : Nodes)
             (v : View) (n : ℕ) (s : Name × Step)
             → Keeps flows plan pool self.now v → IsStepAt v n s
             → IsFirstOfStep (levels_in v.flow) v (λ q. is_faulty_now self.now.intakes (n, q)) s.0

@@ -13,7 +13,7 @@ ghost use Rattle.tv_frame.specs.Outs.{AllAreWhole, HasAsMany, IsBrought};
 ghost use Rattle.tv_frame.specs.Prepared.{IsLaidOver};
 
 use crate::frame::Frame;
-use tv_bound::{Brought, Over as Coming, flow_outputs_over};
+use tv_binding::{Brought, Over as Coming, flow_outputs_over};
 use tv_cell::{Piece, Pieces};
 use tv_check::FlowPlan;
 use tv_outputs::Nodes;
@@ -47,7 +47,8 @@ impl Frame {
         room: Vec<Piece>,
     ) -> Result<Pieces, NoMemory>
         requires room { room.items ≡ [] }
-        requires over { (flows : List (Name × Flow)) × (v : View) × (s : Name × Step) × (e : TheEvent)
+        requires over { (flows : List (Name × Flow)) × (v : View) × (s : Name × Step)
+            × (e : TheEvent)
             × (from : ℕ) × Keeps flows plan.now pool.now self.now v
             × IsLaidOver flows v s e over.now from × AllAreWhole (with_event v e []) }
         ensures sound { IfOk result AreSound }

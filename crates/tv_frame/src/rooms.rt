@@ -5,23 +5,23 @@ ghost use Rattle.tv_flow.specs.Flows.{Flow, Step};
 ghost use Rattle.tv_cell.specs.PieceValues.{piece_values};
 ghost use Rattle.tv_cell.specs.Soundness.{AreSound};
 ghost use Rattle.std.specs.Prelude.{◌+◌, ◌-◌, ◌<◌, Some, drop, length, map, slice_get, take};
+ghost use Rattle.tv_lemmas.specs.Members.{In};
 ghost use Rattle.tv_value.specs.Values.{ErrorDoc, fault_value};
 ghost use Rattle.tv_flow.specs.Views.{flow_view};
 ghost use Rattle.tv_cell.specs.Found.{document_of, is_document, with_depth as of_depth};
 ghost use Rattle.tv_cell.specs.PieceValues.{piece_value};
 ghost use Rattle.tv_cell.specs.Soundness.{IsSound};
 ghost use Rattle.tv_wires.specs.declared.ports.Port.{Port as CodePort};
-ghost use Rattle.tv_frame.specs.Tables.{levels_at};
+ghost use Rattle.tv_depths.specs.Tables.{step_level};
 ghost use Rattle.tv_matching.specs.Matchers.{fault_at};
 ghost use Rattle.tv_intake.specs.Intaken.{matcher_at, waiting_things};
 ghost use Rattle.tv_spread.specs.Spreads.{new_count};
 ghost use Rattle.tv_instance.specs.Events.{Event as TheEvent, closed, fault_set, gave};
-ghost use Rattle.tv_model.specs.Members.{In};
 ghost use Rattle.tv_framing.specs.Answers.{CanSettle, NothingSettles, has_ended_now};
 ghost use Rattle.tv_framing.specs.Frames.{with_event};
 ghost use Rattle.tv_framing.specs.Views.{View};
-ghost use Rattle.tv_drawn.specs.Steps.{IsStepAt};
-ghost use Rattle.tv_drawn.specs.Waiting.{waiting_of};
+ghost use Rattle.tv_framing.specs.matches.Steps.{IsStepAt};
+ghost use Rattle.tv_framing.specs.matches.Waiting.{waiting_of};
 ghost use Rattle.tv_frame.specs.Kept.{AreOuts, Keeps, followed_by};
 ghost use Rattle.tv_frame.specs.Prepared.{HasSameHeld, HasSameParts, IsComing, IsHeld, IsLaidOver, IsReadyFor, MayGive};
 ghost use Rattle.tv_frame.specs.Tables.{first_tree, levels_in, trees_of as trees_in};
@@ -34,7 +34,7 @@ use crate::outs::{Change, Over};
 use crate::tables::{outputs_of, trees_of};
 use std::alloc::Global;
 use std::mem;
-use tv_bound::{Sources, feed_piece};
+use tv_binding::{Sources, feed_piece};
 use tv_cell::{Piece, Pieces, Row};
 use tv_check::FlowPlan;
 use tv_match::Kind;
@@ -513,7 +513,7 @@ fn levels_left(plan: &FlowPlan, step: usize, place: &Place) -> Result<u32, NoMem
     requires { step < length plan.now.flow.steps }
     ensures { IfOk result (λ n. (s : Name × Step)
         → slice_get (flow_view plan.now.flow).steps step ≡ Some s
-        → n ≡ levels_at (flow_view plan.now.flow) s.1 - length place.now) }
+        → n ≡ step_level (flow_view plan.now.flow) s.1 - length place.now) }
 {
     let levels = plan.steps.as_slice()[step].depth;
     match u32::try_from(place.as_slice().len()) {

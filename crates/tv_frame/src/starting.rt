@@ -7,7 +7,7 @@ ghost use Rattle.tv_flow.specs.Flows.{Flow, Step};
 ghost use Rattle.tv_flow.specs.Views.{flow_view};
 ghost use Rattle.tv_strategy.specs.Conditions.{Suits, number_of};
 ghost use Rattle.tv_strategy.specs.Measures.{DotsAgree, leaf_names, strategy_depth};
-ghost use Rattle.tv_depths.specs.Steps.{strategy_of};
+ghost use Rattle.tv_instance.specs.Steps.{strategy_of};
 ghost use Rattle.tv_check.specs.Plans.{step_plan};
 ghost use Rattle.tv_check.specs.PlanViews.{step_plan_view};
 ghost use Rattle.tv_cell.specs.PieceValues.{piece_values};
@@ -15,7 +15,7 @@ ghost use Rattle.tv_matching.specs.Matchers.{CanTell, Matching, Starts};
 ghost use Rattle.tv_matching.specs.Told.{Told as TheTold};
 ghost use Rattle.tv_match.specs.Seen.{bound_telling, told_view};
 ghost use Rattle.tv_telling.specs.Views.{AreTellings};
-ghost use Rattle.tv_bound.specs.Constants.{constant_of_port, constants_view, flow_constants};
+ghost use Rattle.tv_binding.specs.Constants.{constant_of_port, constants_view, flow_constants};
 ghost use Rattle.tv_intake.specs.Intaken.{CanHold, matcher_at};
 ghost use Rattle.tv_idle.specs.Idles.{of_step};
 ghost use Rattle.tv_spread.specs.Spreads.{IsLevelled};
@@ -25,14 +25,14 @@ ghost use Rattle.tv_frame.specs.Started.{HaveBegun, at_start, but_at, given_valu
 
 use crate::tables::Tables;
 use std::alloc::Global;
-use tv_bound::Constants;
+use tv_binding::Constants;
 use tv_cell::Piece;
 use tv_check::{FlowPlan, StepPlan};
 use tv_idle::Idle;
 use tv_intake::Intakes;
 use tv_match::Tolds;
-use tv_opening::port_start;
 use tv_spread::add_known;
+use tv_telling::port_start;
 use tv_value::NoMemory;
 use tv_wires::{NumberedFeed, NumberedLink, Port};
 
@@ -115,7 +115,8 @@ fn start_step(
 /// The leaf of the only port, where it takes an input whole, and whether that holds a fault.
 fn only_whole(ports: &[Port], faulty: &[bool]) -> Option<(u32, bool)>
     requires { (constants : ℕ → Option Value) × AreFed (length faulty.now) constants ports.now }
-    ensures { IfSome result (λ x. (values : List Value) (constants : ℕ → Option Value) (s : Strategy)
+    ensures { IfSome result
+        (λ x. (values : List Value) (constants : ℕ → Option Value) (s : Strategy)
         → faulty.now ≡ map holds_fault values
         → ports_start values constants s ports.now ≡ bound_telling s x.0 x.1 ∷ []) }
 {

@@ -5,14 +5,14 @@ ghost use Rattle.tv_value.specs.Values.{Name};
 ghost use Rattle.tv_flow.specs.Flows.{Step};
 ghost use Rattle.tv_flow.specs.Views.{flow_view};
 ghost use Rattle.tv_wires.specs.Wirings.{wires_by_step};
-ghost use Rattle.tv_spread.specs.Along.{is_walked};
-ghost use Rattle.tv_turn.specs.FirstReady.{by_falling_rank};
+ghost use Rattle.tv_telling.specs.Along.{is_walked};
+ghost use Rattle.tv_framing.specs.turns.FirstReady.{by_falling_rank};
 ghost use Rattle.tv_frame.specs.Tables.{AreTables, first_tree, levels_in, step_starts, tree_depths, trees_of};
 
 use std::alloc::Global;
 use std::marker::Model;
 use std::sync::Arc;
-use tv_bound::Constants;
+use tv_binding::Constants;
 use tv_check::FlowPlan;
 use tv_spread::walked_wires;
 use tv_starts::leaf_starts;

@@ -11,3 +11,12 @@ pub mod OfLaws
 pub mod Computed
 pub mod OfNumbers
 pub mod OfPlaced
+pub mod instances
+pub mod keeping
+pub mod ways
+pub mod engine
+pub mod starts
+pub mod feeds
+pub mod matches
+pub mod faults
+pub mod turns

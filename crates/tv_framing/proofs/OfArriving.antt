@@ -10,14 +10,15 @@ use Rattle.tv_value.specs.Values.{ErrorDoc, JobName, Scalar, fault_value, Value}
 use Rattle.tv_strategy.specs.Origins.{Origin, Traced, from_job, plain, traced}
 use Rattle.tv_strategy.specs.Iterations.{job, passed, Iteration, Iterations}
 use Rattle.tv_strategy.specs.Outputs.{output_below, outputs_from}
-use Rattle.tv_depths.specs.Delivered.{Delivered}
-use Rattle.tv_depths.specs.Steps.{spot}
+use Rattle.tv_instance.specs.Delivered.{Delivered}
+use Rattle.tv_instance.specs.Steps.{spot}
 use Rattle.tv_parts.specs.Below.{Below}
 use Rattle.tv_parts.specs.Partials.{Partial}
 use Rattle.tv_parts.proofs.Changes.{arrive-below, close-below}
 use Rattle.tv_instance.specs.Events as events
 use Rattle.tv_framing.specs.Arriving.{levels_below, part_so_far, put_event}
 use Rattle.tv_framing.specs.Gaining.{IsOutputOf}
+use Rattle.tv_framing.proofs.starts.OfPlain.{plain-traced}
 use Rattle.tv_instance.specs.ByResults.{InstanceStep, Results, result_at}
 use Rattle.tv_instance.specs.Events.{Event, Events, Extends, event_place, event_step, fault_set, gave, took}
 use Rattle.tv_instance.specs.Fitting.{FitStep, FitsNode}
@@ -56,15 +57,6 @@ mutual
   plains-at no_trees r i w h = absurd (none-some w h)
   plains-at (tree t ts) r zero w h = plain-at t r w h
   plains-at (tree t ts) r (suc i) w h = plains-at ts r i w h
-
-mutual
-  plain-traced : (o : Origin) (v : Value) → plain (traced o v) ≡ v
-  plain-traced o (leaf n a) = refl
-  plain-traced o (list n vs) = ap (λ x. list tt x) (plains-traced o vs)
-
-  plains-traced : (o : Origin) (vs : Trees (Unit {0}) Scalar) → map_trees (λ o. tt) (λ a. a) (map_trees (λ _. o) (λ a. a) vs) ≡ vs
-  plains-traced o no_trees = refl
-  plains-traced o (tree v vs) = ap₂ (λ a b. tree a b) (plain-traced o v) (plains-traced o vs)
 
 -- what is so of all events is so of the first and of the rest
 pub extends-parts : (results : Results) (e : Event) (es : Events) → Extends results (e ∷ es) → Extends results (e ∷ []) × Extends results es

@@ -5,19 +5,19 @@ use Rattle.std.specs.Cmp.Lexicographic.{bytes_decides}
 use Rattle.std.proofs.Common.{sym, ap, ap₂, subst, ◌∙◌}
 use Rattle.std.proofs.lemmas.Bool.{or_right}
 use Rattle.std.proofs.lemmas.Bool.{cond-true}
+use Rattle.tv_lemmas.specs.Members.{Each}
+use Rattle.tv_lemmas.proofs.OfMembers.{each_in, in_each}
 use Rattle.tv_value.specs.Orders.{same_name}
 use Rattle.tv_strategy.specs.Origins.{Origin}
 use Rattle.tv_value.specs.Values.{JobName, Name}
 use Rattle.tv_flow.specs.Flows.{Flow, Step}
 use Rattle.tv_strategy.specs.Levels.{HasLevels}
-use Rattle.tv_strategy.specs.Sources.{Each}
 use Rattle.tv_strategy.proofs.OfEach.{each-weaken}
-use Rattle.tv_depths.specs.Delivered.{Delivered}
-use Rattle.tv_depths.specs.Ranks.{is_among, ranked}
-use Rattle.tv_depths.specs.Steps.{spot}
+use Rattle.tv_instance.specs.Delivered.{Delivered}
+use Rattle.tv_instance.specs.Ranks.{is_among, ranked}
+use Rattle.tv_instance.specs.Steps.{spot}
 use Rattle.tv_model.specs.Agreeing.{FlowAgrees, InputsHave}
 use Rattle.tv_model.specs.Instances.{given_of}
-use Rattle.tv_matching.proofs.OfMembers.{each-from, each-in}
 use Rattle.tv_framing.proofs.OfFrames.{in-finds, steps-distinct}
 use Rattle.tv_framing.specs.Answers.{has_ended_now}
 use Rattle.tv_framing.specs.Frames.{IsFrame}
@@ -28,11 +28,11 @@ use Rattle.tv_instance.specs.Endings.{has_ended, have_ended}
 use Rattle.tv_instance.specs.Events.{known_by}
 use Rattle.tv_instance.specs.OwnDepths.{AreLevels}
 use Rattle.tv_instance.specs.Wholeness.{is_whole}
-use Rattle.tv_instances.proofs.OfCounted.{ended-by_events, steps-from_last}
-use Rattle.tv_instances.proofs.OfCounting.{step-whole_by}
-use Rattle.tv_instances.proofs.OfLegal.{legal-fit}
-use Rattle.tv_instances.specs.Stated.{HasItsLevels, IsCounted}
-use Rattle.tv_instances.proofs.OfLevels.{steps-have_their_levels}
+use Rattle.tv_framing.proofs.instances.OfCounted.{ended-by_events, steps-from_last}
+use Rattle.tv_framing.proofs.instances.OfCounting.{step-whole_by}
+use Rattle.tv_framing.proofs.instances.OfLegal.{legal-fit}
+use Rattle.tv_framing.specs.instances.Stated.{HasItsLevels, IsCounted}
+use Rattle.tv_framing.proofs.instances.OfLevels.{steps-have_their_levels}
 
 module _ (flows : List (Name × Flow)) (v : View) (w : IsFrame v) (agree : FlowAgrees flows v.flow) (have : InputsHave v.flow.inputs v.inputs) (levels : Name → ℕ) (are : AreLevels levels v.flow.inputs [] (ranked v.flow.steps)) where
   abbrev given : List (Name × Delivered)
@@ -46,18 +46,18 @@ module _ (flows : List (Name × Flow)) (v : View) (w : IsFrame v) (agree : FlowA
   counted : InAll v (λ instance results fs. Each (IsCounted v.events levels) fs)
   counted instance results depth x =
       let fs = steps_with v instance results in
-      each-from (IsCounted v.events levels) fs
+      in_each (IsCounted v.events levels) fs
       (λ f i. record {
         fit = legal-fit instance fs f (in-finds fs (steps-distinct v instance results) f i) v.events (w.legal instance results depth x);
-        counted = each-in (λ (f : InstanceStep). HasLevels f.step.iteration (levels f.step.step)) f fs (leveled-in_all instance results depth x) i;
+        counted = each_in (λ (f : InstanceStep). HasLevels f.step.iteration (levels f.step.step)) fs (leveled-in_all instance results depth x) f i;
       })
 
   -- WHOLE, whatever isn't told
   pub whole-in_all : InAll v (λ instance results fs. Each (λ (f : InstanceStep). is_whole (spot instance f.step.step) (known_by instance v.events) [] f.step.iteration ≡ whole_by v.events f.step.step (levels f.step.step) []) fs)
   whole-in_all instance results depth x =
       let fs = steps_with v instance results in
-      each-from (λ (f : InstanceStep). is_whole (spot instance f.step.step) (known_by instance v.events) [] f.step.iteration ≡ whole_by v.events f.step.step (levels f.step.step) []) fs
-      (λ f i. let c = each-in (IsCounted v.events levels) f fs (counted instance results depth x) i in step-whole_by f instance v.events c.fit (levels f.step.step) c.counted)
+      in_each (λ (f : InstanceStep). is_whole (spot instance f.step.step) (known_by instance v.events) [] f.step.iteration ≡ whole_by v.events f.step.step (levels f.step.step) []) fs
+      (λ f i. let c = each_in (IsCounted v.events levels) fs (counted instance results depth x) f i in step-whole_by f instance v.events c.fit (levels f.step.step) c.counted)
 
   -- ENDED, whatever isn't told
   pub ended-in_all : (ns : List Name) → InAll v (λ instance results fs. have_ended (known_by instance v.events) fs ns ≡ have_ended_by v.events levels (last_first (ranked v.flow.steps) []) ns)

@@ -7,23 +7,23 @@ use Rattle.std.proofs.lemmas.Grind.{flat_map-append}
 use Rattle.std.proofs.lemmas.List.Sorted.{IsPermutation-refl, IsPermutation-sym, IsPermutation-trans, IsPermutation-append}
 use Rattle.std.proofs.lemmas.Bool.{true≢false}
 use Rattle.std.proofs.lemmas.Bool.{or_right}
+use Rattle.tv_lemmas.specs.Members.{Each, In}
+use Rattle.tv_lemmas.proofs.OfMembers.{of-flat}
 use Rattle.tv_value.specs.Nested.{Place, at, leaf, list, no_trees, tree, note}
 use Rattle.tv_value.specs.Orders.{same_name}
 use Rattle.tv_value.specs.Values.{JobName, Name, Value}
 use Rattle.tv_flow.specs.Flows.{Step}
 use Rattle.tv_strategy.specs.Iterations.{Iteration, Iterations, job, passed}
 use Rattle.tv_strategy.specs.Origins.{Known, Origin, at_start, by_job, by_level}
-use Rattle.tv_strategy.specs.Sources.{Each}
-use Rattle.tv_depths.specs.Delivered.{Delivered}
-use Rattle.tv_depths.specs.Ranks.{is_among, ranked}
+use Rattle.tv_instance.specs.Delivered.{Delivered}
+use Rattle.tv_instance.specs.Ranks.{is_among, ranked}
 use Rattle.tv_model.proofs.Instances.{ranked-fresh}
 use Rattle.tv_model.proofs.Sound.{FreshNames}
 use Rattle.tv_model.specs.Instances.{given_of}
 use Rattle.tv_matching.specs.Items.{Bound, Item, Kind, Node, Stopped, all_known, closes, ends, item, within, kind_of, known_items, node_at, passes}
-use Rattle.tv_matching.specs.Members.{In}
 use Rattle.tv_matching.proofs.Nodes.{in-known, node-in, of-known}
 use Rattle.tv_matching.proofs.OfLaws.{nodes-stand}
-use Rattle.tv_matching.proofs.OfMembers.{in-permutes, of-flat}
+use Rattle.tv_matching.proofs.OfMembers.{in-permutes}
 use Rattle.tv_matching.proofs.Permutes.{crosswise, flat-permutes}
 use Rattle.tv_instance.specs.Events as events
 use Rattle.tv_framing.proofs.OfArriving.{extends-parts}
@@ -37,9 +37,9 @@ use Rattle.tv_instance.specs.Events.{Event, Events, Extends, event_place, event_
 use Rattle.tv_instance.specs.Fitting.{FitsNode}
 use Rattle.tv_instance.specs.Legality.{HasSources, IsFresh, IsLegalNext, node_of}
 use Rattle.tv_instance.specs.Wholeness.{is_new}
-use Rattle.tv_instances.proofs.OfEvents.{hits, one-more}
-use Rattle.tv_instances.proofs.OfLegal.{node-here}
-use Rattle.tv_instances.specs.InHistory.{Finds}
+use Rattle.tv_framing.proofs.instances.OfEvents.{hits, one-more}
+use Rattle.tv_framing.proofs.instances.OfLegal.{node-here}
+use Rattle.tv_framing.specs.instances.InHistory.{Finds}
 
 -- ---- known items and what stands
 

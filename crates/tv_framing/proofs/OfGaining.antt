@@ -6,12 +6,13 @@ use Rattle.std.proofs.lemmas.Bool.{true≢false}
 use Rattle.std.proofs.lemmas.Option.{none-some, same_Some}
 use Rattle.std.proofs.Math.Bool.{and-true}
 use Rattle.std.proofs.lemmas.List.{append_cancel_left}
+use Rattle.tv_lemmas.specs.Members.{Each}
 use Rattle.tv_value.specs.Nested.{leaf, list, Trees, no_trees, tree, Place, at, count, item_at, notes, map_trees}
 use Rattle.tv_value.specs.Values.{JobName, Name, Scalar, Value}
 use Rattle.tv_strategy.specs.Origins.{Origin, Traced, from_job, traced}
 use Rattle.tv_strategy.specs.Iterations.{job, passed, Iteration, Iterations, walk, walk_each}
 use Rattle.tv_strategy.specs.Outputs.{output_below, outputs_from}
-use Rattle.tv_strategy.specs.Sources.{Each, AtNodes, AtAllNodes}
+use Rattle.tv_strategy.specs.Sources.{AtNodes, AtAllNodes}
 use Rattle.tv_strategy.proofs.OfSources.{notes-have}
 use Rattle.tv_model.proofs.Sound.{AllStand, AllStandFrom, output-gives}
 use Rattle.tv_matching.specs.Items.{all_known, closes, ends, here, if_so, known_from, within}

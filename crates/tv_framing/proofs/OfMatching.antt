@@ -2,6 +2,7 @@
 use Rattle.std.specs.Prelude.{◌≡◌, refl, ℕ, zero, suc, List, [], ◌∷◌, ◌++◌, Bool, true, false, ◌&&◌, map, IsPermutation}
 use Rattle.std.proofs.Common.{ap, ap₂}
 use Rattle.std.proofs.lemmas.Bool.{and_left}
+use Rattle.tv_lemmas.specs.Members.{Each}
 use Rattle.tv_value.specs.Nested.{leaf, list, Trees, no_trees, tree, all_notes, notes}
 use Rattle.tv_value.specs.Values.{JobName, Name, Scalar}
 use Rattle.tv_flow.specs.Flows.{Step}
@@ -9,10 +10,10 @@ use Rattle.tv_strategy.specs.Iterations.{walk, walk_each}
 use Rattle.tv_strategy.specs.Levels.{HasLevels}
 use Rattle.tv_strategy.specs.Measures.{DotsAgree}
 use Rattle.tv_strategy.specs.Origins.{Origin, Traced}
-use Rattle.tv_strategy.specs.Sources.{AtAllNodes, AtNodes, Each}
+use Rattle.tv_strategy.specs.Sources.{AtAllNodes, AtNodes}
 use Rattle.tv_strategy.proofs.OfSources.{notes-have}
-use Rattle.tv_depths.specs.Delivered.{Delivered}
-use Rattle.tv_depths.specs.Steps.{port_iteration, port_mismatch, strategy_of}
+use Rattle.tv_instance.specs.Delivered.{Delivered}
+use Rattle.tv_instance.specs.Steps.{port_iteration, port_mismatch, strategy_of}
 use Rattle.tv_matching.specs.Items.{Bound, Item, Stopped, all_known, if_so, known_from, known_items, within}
 use Rattle.tv_matching.specs.Matched.{matched}
 use Rattle.tv_matching.proofs.Matches.{matched-known}

@@ -5,12 +5,12 @@ use Rattle.std.proofs.Common.{sym, ap, ap₂, subst, ◌∙◌, arith, length-ap
 use Rattle.std.proofs.lemmas.List.Sorted.{sum_by-IsPermutation}
 use Rattle.std.proofs.lemmas.List.Sums.{sum_by-append, sum_by-cons}
 use Rattle.std.proofs.lemmas.Option.{none-some, same_Some}
+use Rattle.tv_lemmas.specs.Members.{Each}
 use Rattle.tv_value.specs.Nested.{Place}
 use Rattle.tv_value.specs.Orders.{same_name}
 use Rattle.tv_value.specs.Values.{Name}
 use Rattle.tv_lemmas.proofs.Cases.{on_test}
 use Rattle.tv_strategy.specs.Origins.{Origin}
-use Rattle.tv_strategy.specs.Sources.{Each}
 use Rattle.tv_strategy.specs.Splits.{same_place}
 use Rattle.tv_strategy.proofs.OfPlaces.{same-itself}
 use Rattle.tv_strategy.proofs.OfEach.{each-weaken}

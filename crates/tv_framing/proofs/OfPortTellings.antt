@@ -12,8 +12,8 @@ use Rattle.tv_strategy.specs.Iterations.{Iteration, Iterations, walk, walk_each}
 use Rattle.tv_strategy.specs.Levels.{AllHaveLevels, HasLevels}
 use Rattle.tv_strategy.specs.Origins.{Origin, Traced}
 use Rattle.tv_strategy.specs.Sources.{AtNodes}
-use Rattle.tv_depths.specs.Delivered.{Delivered, merged}
-use Rattle.tv_depths.specs.Steps.{spot}
+use Rattle.tv_instance.specs.Delivered.{Delivered, merged}
+use Rattle.tv_instance.specs.Steps.{spot}
 use Rattle.tv_model.proofs.Sound.{AllStand, AllStandFrom, StandsAt, all-stand}
 use Rattle.tv_matching.specs.Items.{Bound, Item, Stopped, all_known, ends, here, if_so, within}
 use Rattle.tv_matching.specs.Told.{Told, arrival}
@@ -30,10 +30,10 @@ use Rattle.tv_instance.specs.Events.{Event, Events, event_place, event_step, is_
 use Rattle.tv_instance.specs.Fitting.{FitStep, FitsNode}
 use Rattle.tv_instance.specs.Legality.{IsLegalNext}
 use Rattle.tv_instance.specs.Wholeness.{is_new, is_whole, origin_at}
-use Rattle.tv_instances.proofs.OfCounting.{whole-by_events}
-use Rattle.tv_instances.proofs.OfEvents.{hits}
-use Rattle.tv_instances.proofs.OfLegal.{fresh-unknown, node-here, telling-hits}
-use Rattle.tv_instances.specs.InHistory.{Finds}
+use Rattle.tv_framing.proofs.instances.OfCounting.{whole-by_events}
+use Rattle.tv_framing.proofs.instances.OfEvents.{hits}
+use Rattle.tv_framing.proofs.instances.OfLegal.{fresh-unknown, node-here, telling-hits}
+use Rattle.tv_framing.specs.instances.InHistory.{Finds}
 
 -- ---- what becomes whole, by events alone
 

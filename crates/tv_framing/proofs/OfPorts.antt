@@ -8,16 +8,17 @@ use Rattle.std.proofs.lemmas.List.Folds.{list_all-append}
 use Rattle.std.proofs.lemmas.Bool.{true≢false}
 use Rattle.std.proofs.lemmas.List.{map-append}
 use Rattle.std.proofs.Math.Bool.{and-true}
+use Rattle.tv_lemmas.specs.Members.{Each}
 use Rattle.tv_value.specs.Nested.{leaf, list, no_trees, tree, Place, at, count, notes, all_notes, trees_of}
 use Rattle.tv_value.specs.Orders.{named, same_name}
 use Rattle.tv_value.specs.Values.{JobName, Name}
 use Rattle.tv_flow.specs.Flows.{Feed, Link, input, output, link, merge, constant, Step}
 use Rattle.tv_strategy.specs.Origins.{Origin, Traced, fixed, traced}
 use Rattle.tv_strategy.specs.Iterations.{Iteration, Iterations, walk}
-use Rattle.tv_strategy.specs.Sources.{Each, AtNodes}
+use Rattle.tv_strategy.specs.Sources.{AtNodes}
 use Rattle.tv_strategy.proofs.OfSources.{notes-have, traced-have}
-use Rattle.tv_depths.specs.Delivered.{Delivered, feed_delivers, link_delivers, nothing_delivered, wrapped}
-use Rattle.tv_depths.specs.Steps.{spot}
+use Rattle.tv_instance.specs.Delivered.{Delivered, feed_delivers, link_delivers, nothing_delivered, wrapped}
+use Rattle.tv_instance.specs.Steps.{spot}
 use Rattle.tv_model.proofs.Sound.{AllStand, AllStandFrom, output-gives}
 use Rattle.tv_matching.specs.Items.{all_known, closes, end_kind, here, if_so, known_items, known_from, within}
 use Rattle.tv_matching.proofs.Permutes.{perm-from, crosswise, flat-permutes}
@@ -27,7 +28,7 @@ use Rattle.tv_instance.proofs.OfWholeness.{output-whole}
 use Rattle.tv_instance.specs.ByResults.{InstanceStep, Results, outputs_by, result_at, step_by, step_of, steps_by}
 use Rattle.tv_instance.specs.Events.{Event, Events, event_place, event_step, known_by}
 use Rattle.tv_instance.specs.Wholeness.{is_new, origin_at}
-use Rattle.tv_instances.proofs.OfEvents.{hits, one-more, own-spot}
+use Rattle.tv_framing.proofs.instances.OfEvents.{hits, one-more, own-spot}
 
 -- ---- known after is known before and gained
 
@@ -104,19 +105,19 @@ module _ (instance : JobName) (results : Results) where
         by true k = all-true (notes d.1.value) (notes-have (λ o. known o ≡ true) d.1.value h.0)
         by false k = k
 
-    output-known : (f : InstanceStep) (p : Name) (ds : List (Name × Delivered)) → Each (λ d. IsOutputOf instance results f d.1) ds → list_all known (notes (unwrap_or (named p ds) nothing_delivered).value) ≡ option_map_or (λ d. step_whole instance known fs f) (named p ds) true
+    output-known : (f : InstanceStep) (p : Name) (ds : List (Name × Delivered)) → Each (λ d. IsOutputOf instance results f d.1) ds → list_all known (notes (unwrap_or (named p ds) nothing_delivered).value) ≡ option_map_or (λ d. step_whole instance known f) (named p ds) true
     output-known f p [] h = nothing-known
     output-known f p (d ∷ ds) h = by (same_name p d.0) (output-known f p ds h.1)
       where
-        by : (b : Bool) → list_all known (notes (unwrap_or (named p ds) nothing_delivered).value) ≡ option_map_or (λ d. step_whole instance known fs f) (named p ds) true → list_all known (notes (unwrap_or (cond b (Some d.1) (named p ds)) nothing_delivered).value) ≡ option_map_or (λ d. step_whole instance known fs f) (cond b (Some d.1) (named p ds)) true
+        by : (b : Bool) → list_all known (notes (unwrap_or (named p ds) nothing_delivered).value) ≡ option_map_or (λ d. step_whole instance known f) (named p ds) true → list_all known (notes (unwrap_or (cond b (Some d.1) (named p ds)) nothing_delivered).value) ≡ option_map_or (λ d. step_whole instance known f) (cond b (Some d.1) (named p ds)) true
         by true k = let o = h.0 in ap (λ v. list_all known (notes v)) o.3 ∙ output-whole (spot instance f.step.step) known (result_at results f.step.step o.0) o.1 f.step.iteration [] o.2
         by false k = k
 
-    step-known : (s p : Name) (gs : List InstanceStep) → Each HasOutputs gs → list_all known (notes (option_map_or (λ f. unwrap_or (named p (step_of f).outputs) nothing_delivered) (find (λ f. same_name s (step_of f).step) gs) nothing_delivered).value) ≡ option_map_or (λ (f : InstanceStep). option_map_or (λ d. step_whole instance known fs f) (named p f.step.outputs) true) (find (λ (f : InstanceStep). same_name s f.step.step) gs) true
+    step-known : (s p : Name) (gs : List InstanceStep) → Each HasOutputs gs → list_all known (notes (option_map_or (λ f. unwrap_or (named p (step_of f).outputs) nothing_delivered) (find (λ f. same_name s (step_of f).step) gs) nothing_delivered).value) ≡ option_map_or (λ (f : InstanceStep). option_map_or (λ d. step_whole instance known f) (named p f.step.outputs) true) (find (λ (f : InstanceStep). same_name s f.step.step) gs) true
     step-known s p [] h = nothing-known
     step-known s p (g ∷ gs) h = by (same_name s g.step.step) (step-known s p gs h.1)
       where
-        by : (b : Bool) → list_all known (notes (option_map_or (λ f. unwrap_or (named p (step_of f).outputs) nothing_delivered) (find (λ f. same_name s (step_of f).step) gs) nothing_delivered).value) ≡ option_map_or (λ (f : InstanceStep). option_map_or (λ d. step_whole instance known fs f) (named p f.step.outputs) true) (find (λ (f : InstanceStep). same_name s f.step.step) gs) true → list_all known (notes (option_map_or (λ f. unwrap_or (named p (step_of f).outputs) nothing_delivered) (cond b (Some g) (find (λ f. same_name s (step_of f).step) gs)) nothing_delivered).value) ≡ option_map_or (λ (f : InstanceStep). option_map_or (λ d. step_whole instance known fs f) (named p f.step.outputs) true) (cond b (Some g) (find (λ (f : InstanceStep). same_name s f.step.step) gs)) true
+        by : (b : Bool) → list_all known (notes (option_map_or (λ f. unwrap_or (named p (step_of f).outputs) nothing_delivered) (find (λ f. same_name s (step_of f).step) gs) nothing_delivered).value) ≡ option_map_or (λ (f : InstanceStep). option_map_or (λ d. step_whole instance known f) (named p f.step.outputs) true) (find (λ (f : InstanceStep). same_name s f.step.step) gs) true → list_all known (notes (option_map_or (λ f. unwrap_or (named p (step_of f).outputs) nothing_delivered) (cond b (Some g) (find (λ f. same_name s (step_of f).step) gs)) nothing_delivered).value) ≡ option_map_or (λ (f : InstanceStep). option_map_or (λ d. step_whole instance known f) (named p f.step.outputs) true) (cond b (Some g) (find (λ (f : InstanceStep). same_name s f.step.step) gs)) true
         by true k = output-known g p g.step.outputs h.0
         by false k = k
 

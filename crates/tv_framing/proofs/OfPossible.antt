@@ -4,16 +4,16 @@ use Rattle.std.specs.Option.{option_map_or}
 use Rattle.std.specs.Cmp.Lexicographic.{bytes_decides}
 use Rattle.std.proofs.Common.{sym, ap, subst, ◌∙◌, inl, inr}
 use Rattle.std.proofs.lemmas.Bool.{and_parts, true≢false}
+use Rattle.tv_lemmas.specs.Members.{In}
 use Rattle.tv_value.specs.Nested.{leaf, list, no_trees, tree, Place}
 use Rattle.tv_value.specs.Orders.{same_name}
 use Rattle.tv_value.specs.Values.{HasDepth, JobName, Name, Value, list_value, text_value}
 use Rattle.tv_flow.specs.Flows.{Step}
 use Rattle.tv_strategy.specs.Iterations.{Iteration, Iterations, job, passed}
 use Rattle.tv_strategy.specs.Sources.{JobsStand, JobsStandFrom}
-use Rattle.tv_depths.specs.Delivered.{Delivered}
-use Rattle.tv_depths.specs.Ranks.{is_among, ranked}
+use Rattle.tv_instance.specs.Delivered.{Delivered}
+use Rattle.tv_instance.specs.Ranks.{is_among, ranked}
 use Rattle.tv_model.specs.RightDepths.{HaveTheseDepths}
-use Rattle.tv_model.specs.Members.{In}
 use Rattle.tv_model.specs.Instances.{given_of}
 use Rattle.tv_model.proofs.Instances.{ranked-fresh}
 use Rattle.tv_model.proofs.Sound.{FreshNames}
@@ -22,8 +22,8 @@ use Rattle.tv_framing.specs.Views.{AreGiven, AreOfDepth, View}
 use Rattle.tv_instance.specs.ByResults.{InstanceStep, Results, result_at, step_by}
 use Rattle.tv_instance.specs.Events.{Events, Extends, fault_set, gave, is_spot, took}
 use Rattle.tv_instance.specs.OwnDepths.{AllJobsGive, JobsGive}
-use Rattle.tv_instances.proofs.OfMeant.{first-fits, rest-fit, skip}
-use Rattle.tv_instances.proofs.OfLegal.{GaveOnce, told-extends, told_results}
+use Rattle.tv_framing.proofs.instances.OfMeant.{first-fits, rest-fit, skip}
+use Rattle.tv_framing.proofs.instances.OfLegal.{GaveOnce, told-extends, told_results}
 
 -- ---- values of every depth
 

@@ -9,6 +9,7 @@ use Rattle.tv_value.specs.Values.{AllHaveDepth, ErrorDoc, HasDepth, JobName, Nam
 use Rattle.tv_strategy.specs.Origins.{Origin, Traced, from_job, from_level, traced}
 use Rattle.tv_strategy.specs.Iterations.{job, passed, Iteration, Iterations, walk, walk_each}
 use Rattle.tv_strategy.specs.Outputs.{output_below, outputs_from}
+use Rattle.tv_strategy.proofs.AtDepth.{traced-depth}
 use Rattle.tv_model.proofs.Sound.{AllStand, AllStandFrom}
 use Rattle.tv_matching.specs.Items.{Bound, Item, Stopped, all_known, closes, ends, here, if_so, item, known_from, passes, within}
 use Rattle.tv_matching.specs.Told.{Told, arrival, close, stop_of, value_there}
@@ -42,19 +43,10 @@ itself (Some u) = refl
 item-stands : {N A : Type 0} (v : Tree N A) (q : Place) (o : N) (ts : Trees N A) → at v q ≡ Some (list o ts) → (j : ℕ) (u : Tree N A) → item_at ts j ≡ Some u → at v (q ++ j ∷ []) ≡ Some u
 item-stands v q o ts h j u g = at-append v q (j ∷ []) (list o ts) h ∙ itself (item_at ts j) ∙ g
 
-items-stand : {N A : Type 0} (v : Tree N A) (q : Place) (o : N) (ts : Trees N A) → at v q ≡ Some (list o ts) → (j : ℕ) (u : Tree N A) → item_at ts j ≡ Some u → at v (q ++ (0 + j) ∷ []) ≡ Some u
+pub items-stand : {N A : Type 0} (v : Tree N A) (q : Place) (o : N) (ts : Trees N A) → at v q ≡ Some (list o ts) → (j : ℕ) (u : Tree N A) → item_at ts j ≡ Some u → at v (q ++ (0 + j) ∷ []) ≡ Some u
 items-stand v q o ts h j u g = subst (λ i. at v (q ++ i ∷ []) ≡ Some u) (is-zero_plus j) (item-stands v q o ts h j u g)
 
--- notes don't matter to depths and tellings
-mutual
-  traced-depth : (o : Origin) (v : Value) (d : ℕ) → HasDepth v d → HasDepth (traced o v) d
-  traced-depth o (leaf n a) d h = h
-  traced-depth o (list n vs) zero h = h
-  traced-depth o (list n vs) (suc d) h = all_traced-depth o vs d h
-
-  all_traced-depth : (o : Origin) (vs : Trees (Unit {0}) Scalar) (d : ℕ) → AllHaveDepth vs d → AllHaveDepth (map_trees (λ _. o) (λ a. a) vs) d
-  all_traced-depth o no_trees d h = h
-  all_traced-depth o (tree v vs) d h = (traced-depth o v d h.0, all_traced-depth o vs d h.1)
+-- notes don't matter to tellings
 
 pub map_count : {N M : Type 0} (f : N → M) (vs : Trees N Scalar) → count (map_trees f (λ a. a) vs) ≡ count vs
 map_count f no_trees = refl

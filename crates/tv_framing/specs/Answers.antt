@@ -1,13 +1,13 @@
 -- What the calls of a frame tell, each by a word of its own: legal settlements, inputs, outputs, ready jobs, endings.
 use Rattle.std.specs.Prelude.{◌≡◌, ℕ, Bool, true, false, List, [], find, map, Option, Some, None, slice_get}
+use Rattle.tv_lemmas.specs.Members.{Each}
 use Rattle.tv_value.specs.Nested.{Place}
 use Rattle.tv_value.specs.Orders.{same_name}
 use Rattle.tv_value.specs.Values.{Name, Value}
 use Rattle.tv_flow.specs.Flows.{Step}
 use Rattle.tv_strategy.specs.Origins.{plain}
-use Rattle.tv_strategy.specs.Sources.{Each}
-use Rattle.tv_depths.specs.Delivered.{feed_delivers}
-use Rattle.tv_depths.specs.Ranks.{ranked}
+use Rattle.tv_instance.specs.Delivered.{feed_delivers}
+use Rattle.tv_instance.specs.Ranks.{ranked}
 use Rattle.tv_instance.specs.ByResults.{InstanceStep, PlacedJob, last_first, step_of}
 use Rattle.tv_instance.specs.Counting.{have_ended_by}
 use Rattle.tv_instance.specs.Events as events

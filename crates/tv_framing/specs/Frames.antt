@@ -3,7 +3,7 @@ use Rattle.std.specs.Prelude.{◌≡◌, ℕ, Bool, List, [], ◌∷◌, ◌++�
 use Rattle.tv_value.specs.Nested.{Place}
 use Rattle.tv_value.specs.Values.{Name}
 use Rattle.tv_strategy.specs.Origins.{Origin}
-use Rattle.tv_depths.specs.Ranks.{ranked}
+use Rattle.tv_instance.specs.Ranks.{ranked}
 use Rattle.tv_matching.specs.Items.{Bound, Item, Kind, Stopped, closes, ends, known_items, passes}
 use Rattle.tv_instance.specs.ByResults.{InstanceStep}
 use Rattle.tv_instance.specs.Events as events

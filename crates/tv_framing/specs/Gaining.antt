@@ -9,8 +9,8 @@ use Rattle.tv_flow.specs.Flows.{Feed, Link, constant, input, link, merge, output
 use Rattle.tv_strategy.specs.Iterations.{Iteration, Iterations, job, passed, walk}
 use Rattle.tv_strategy.specs.Origins.{Origin, from_job, traced}
 use Rattle.tv_strategy.specs.Outputs.{output_below}
-use Rattle.tv_depths.specs.Delivered.{Delivered}
-use Rattle.tv_depths.specs.Steps.{spot}
+use Rattle.tv_instance.specs.Delivered.{Delivered}
+use Rattle.tv_instance.specs.Steps.{spot}
 use Rattle.tv_matching.specs.Items.{Bound, Item, Stopped, all_known, closes, end_kind, ends, here, if_so, known_items, passes, within}
 use Rattle.tv_instance.specs.ByResults.{InstanceStep, Results, result_at}
 use Rattle.tv_instance.specs.Wholeness.{is_new, is_whole}
@@ -55,16 +55,17 @@ module _ (known after : Origin → Bool) where
       on_way_from q k d i (tree t ts) zero r = map (within i) (on_way (q ++ i ∷ []) k d t r)
       on_way_from q k d i (tree t ts) (suc m) r = on_way_from q k d (suc i) ts m r
 
+abbrev pub step_whole : JobName → (Origin → Bool) → InstanceStep → Bool
+step_whole instance known f = is_whole (spot instance f.step.step) known [] f.step.iteration
+
 -- whether all of what a link or a feed delivers is known: its steps are whole
 module _ (instance : JobName) (known : Origin → Bool) (fs : List InstanceStep) where
-  abbrev pub step_whole : InstanceStep → Bool
-  step_whole f = is_whole (spot instance f.step.step) known [] f.step.iteration
-
   abbrev pub link_whole : Link → Bool
   link_whole (input x) = true
   link_whole (output s p) =
       option_map_or
-      (λ (f : InstanceStep). option_map_or (λ d. step_whole f) (named p f.step.outputs) true)
+      (λ (f : InstanceStep).
+      option_map_or (λ d. step_whole instance known f) (named p f.step.outputs) true)
       (find (λ (f : InstanceStep). same_name s f.step.step) fs) true
 
   abbrev pub feed_whole : Feed → Bool

@@ -1,8 +1,8 @@
 -- The values that a step's ports are delivered.
 use Rattle.std.specs.Prelude.{◌≡◌}
+use Rattle.tv_lemmas.specs.Members.{Each}
 use Rattle.tv_value.specs.Values.{Name}
 use Rattle.tv_strategy.specs.Origins.{Traced}
-use Rattle.tv_strategy.specs.Sources.{Each}
 use Rattle.tv_instance.specs.ByResults.{InstanceStep}
 
 -- values that a port is delivered, by the step's ports

@@ -8,3 +8,12 @@ pub mod Answers
 pub mod Insides
 pub mod Stated
 pub mod Worked
+pub mod instances
+pub mod keeping
+pub mod ways
+pub mod engine
+pub mod starts
+pub mod feeds
+pub mod matches
+pub mod faults
+pub mod turns

@@ -6,7 +6,7 @@ use Rattle.tv_value.specs.Values.{Name, Scalar, Value, fault, text}
 use Rattle.tv_flow.specs.Flows.{Feed, Link, constant, input, link, merge, output}
 use Rattle.tv_strategy.specs.Origins.{Traced}
 use Rattle.tv_matching.specs.Items.{Bound, Item, Stopped, if_so, item}
-use Rattle.tv_matching.specs.Told.{Told, arrival, close, seen, told_kind, told_place}
+use Rattle.tv_matching.specs.Told.{Told, arrival, close, item_there, told_kind, told_place}
 use Rattle.tv_instance.specs.Events as events
 use Rattle.tv_framing.specs.Arriving.{levels_below}
 use Rattle.tv_instance.specs.Counting.{whole_by}
@@ -41,7 +41,7 @@ placed q y = item (q ++ y.place) y.kind
 
 -- what was told, with the values that stand there
 abbrev pub seen_told : (Name → Traced) → Told → Item Bound Stopped
-seen_told values t = seen values (item (told_place t) (told_kind t))
+seen_told values t = item_there values (item (told_place t) (told_kind t))
 
 -- whether the node at x of a step's iteration of so many levels becomes whole with an event, by events alone
 abbrev pub newly_by : Events → Event → Name → ℕ → Place → Bool

@@ -1,6 +1,7 @@
 -- Laws of what the ports of a step gain and are told with an event, of the partial trees of its outputs, and of frames.
 use Rattle.std.specs.List.{list_all}
 use Rattle.std.specs.Prelude.{◌≡◌, ℕ, ◌+◌, ◌++◌, Bool, true, false, List, [], ◌∷◌, Some, map, IsPermutation}
+use Rattle.tv_lemmas.specs.Members.{Each, In}
 use Rattle.tv_value.specs.Nested.{Place, at, notes}
 use Rattle.tv_value.specs.Orders.{same_name}
 use Rattle.tv_value.specs.Values.{HasDepth, JobName, Name, Value}
@@ -10,10 +11,10 @@ use Rattle.tv_strategy.specs.Levels.{HasLevels}
 use Rattle.tv_strategy.specs.Measures.{DotsAgree}
 use Rattle.tv_strategy.specs.Origins.{Origin, Traced, fixed, plain}
 use Rattle.tv_strategy.specs.Outputs.{output_below}
-use Rattle.tv_strategy.specs.Sources.{AtNodes, Each}
-use Rattle.tv_depths.specs.Delivered.{Delivered, feed_delivers, wrapped}
-use Rattle.tv_depths.specs.Ranks.{ranked}
-use Rattle.tv_depths.specs.Steps.{port_iteration, port_mismatch, spot, strategy_of}
+use Rattle.tv_strategy.specs.Sources.{AtNodes}
+use Rattle.tv_instance.specs.Delivered.{Delivered, feed_delivers, wrapped}
+use Rattle.tv_instance.specs.Ranks.{ranked}
+use Rattle.tv_instance.specs.Steps.{port_iteration, port_mismatch, spot, strategy_of}
 use Rattle.tv_parts.specs.Below.{Below}
 use Rattle.tv_matching.specs.Items.{Bound, Item, Stopped, known_items}
 use Rattle.tv_matching.specs.Matched.{matched}
@@ -26,9 +27,8 @@ use Rattle.tv_instance.specs.Legality.{IsFresh, IsLegalNext}
 use Rattle.tv_instance.specs.OneEvent.{Rises}
 use Rattle.tv_instance.specs.OwnDepths.{AreLevels}
 use Rattle.tv_instance.specs.Wholeness.{is_whole, origin_at}
-use Rattle.tv_instances.specs.InHistory.{Finds}
+use Rattle.tv_framing.specs.instances.InHistory.{Finds}
 use Rattle.tv_model.specs.Agreeing.{FlowAgrees, InputsHave}
-use Rattle.tv_model.specs.Members.{In}
 use Rattle.tv_framing.specs.Answers.{has_ended_now}
 use Rattle.tv_framing.specs.Arriving.{part_so_far}
 use Rattle.tv_framing.specs.Feeding.{IsPortFed}

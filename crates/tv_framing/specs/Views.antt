@@ -1,18 +1,18 @@
 -- A frame of an open instance as contracts see it: its flow and inputs, what it was told, and its known jobs by number. What isn't
 -- told is unknown to it, so what it says is so for all results that have what was told.
 use Rattle.std.specs.Prelude.{◌≡◌, false, List, [], ◌∷◌}
+use Rattle.tv_lemmas.specs.Members.{In}
 use Rattle.tv_value.specs.Nested.{Place}
 use Rattle.tv_value.specs.Values.{JobName, Name, Value}
 use Rattle.tv_flow.specs.Flows.{Flow, Step}
-use Rattle.tv_depths.specs.Ranks.{ranked}
-use Rattle.tv_depths.specs.Steps.{declared_depths}
+use Rattle.tv_instance.specs.Ranks.{ranked}
+use Rattle.tv_instance.specs.Steps.{declared_depths}
 use Rattle.tv_instance.specs.ByResults.{InstanceStep, Results, steps_by}
 use Rattle.tv_instance.specs.Events as events
 use Rattle.tv_instance.specs.Events.{Events, Extends, fault_set, gave, has_result, took}
 use Rattle.tv_instance.specs.OwnDepths.{AllJobsGive}
 use Rattle.tv_model.specs.Instances.{given_of}
 use Rattle.tv_model.specs.RightDepths.{HaveTheseDepths}
-use Rattle.tv_model.specs.Members.{In}
 
 pub record View : Type 0 where
   pub flow : Flow

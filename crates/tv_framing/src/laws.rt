@@ -1,6 +1,16 @@
 //! What holds of the definitions alone: each law is the clause of a function that does nothing.
 ghost use Rattle.tv_framing.specs.Stated.{EndedIsTold, EndingIsTold, FeedsAreKnownWhole, FramesArePossible, FramesGoOn, KnownIsBeforeAndGained, KnownItemsAreLegal, KnownValuesAreToldWhole, LegalIsKnownItem, MatchedIsKnown, PartsAreBelow, PortsAreToldWhatTheyGain, PortsGainOnWay, ResultsAreLegal, TakingMakesNoneKnown, UnknownValuesAreNotTold, WholeIsTold, WrappingIsKnown};
 
+pub mod engine;
+pub mod faults;
+pub mod feeds;
+pub mod instances;
+pub mod keeping;
+pub mod matches;
+pub mod starts;
+pub mod turns;
+pub mod ways;
+
 /// What a port gains with an event: what is known of its walk after it is what was known and what is gained, and of an
 /// output of the event's step that stands on the way to the event's node.
 pub fn gaining()

@@ -11,7 +11,17 @@
 //! - which steps are whole or have ended is told by the events alone.
 //!
 //! `specs/Answers.antt` has a word for each thing that the calls of a frame tell, and `specs/Insides.antt` says what a
-//! port's values are. The laws are stated in `specs/Stated.antt`.
+//! port's values are. The laws are stated in `specs/Stated.antt`. What carries a frame by these definitions stands in folders
+//! of `specs/` and `proofs/`, each with a module of `laws` that says what it is about:
+//! - `instances`: every instance of a meaning, and of a history, is one by the results of its jobs
+//! - `keeping`: what a frame keeps of what it was told, and which event may come next
+//! - `ways`: what the code tells ports along ways is what the theory says they are told
+//! - `engine`: trees, wires and counters say what the theory says
+//! - `starts`: what is told when an instance opens is what is known then
+//! - `feeds`: what is told of ports, steps and trees goes on with each event
+//! - `matches`: what may be said of what matchers bring: jobs, lists and passed faults
+//! - `faults`: matchers are told truly which bound values hold faults
+//! - `turns`: the first idle job in turn is the first ready one in job order
 //!
 //! - `laws`: what holds of these definitions
 //! - `rows`: worked examples

@@ -33,7 +33,9 @@ pub trait Gate: Sync {
         inputs: &Items,
         attempt: u32,
     ) -> Result<Outcome, NoMemory>
-        ensures { IfOk result (λ o. outcome_view o ≡ Self.Services.gives service.now (values_view inputs.now) attempt) };
+        ensures { IfOk result
+            (λ o. outcome_view o
+            ≡ Self.Services.gives service.now (values_view inputs.now) attempt) };
 }
 
 /// What asks services, one call after another.

@@ -4,8 +4,8 @@ use Rattle.tv_graph.specs.Graphs.{Graph, before, is_one_of, comes_before, is_on_
 use Rattle.tv_graph.specs.Leaving.{alike}
 
 -- the search goes from one vertex to those of its list, and again from each of those that weren't visited
-pub record IsGathered (after : ℕ → List ℕ) (from : ℕ) (was is : ℕ → Bool) (had has : List ℕ) : Type
-    0 where
+pub record IsGathered (after : ℕ → List ℕ) (from : ℕ) (was is : ℕ → Bool)
+    (had has : List ℕ) : Type 0 where
   pub kept : (u : ℕ) → was u ≡ true → is u ≡ true
   pub first : (u : ℕ) → is_one_of (after from) u ≡ true → is u ≡ true
   pub next : (w u : ℕ) → is w ≡ true → was w ≡ false → is_one_of (after w) u ≡ true → is u ≡ true

@@ -1,10 +1,12 @@
 -- A legal history without recalls has at most so many entries.
-use Rattle.std.specs.Prelude.{◌≡◌, refl, ℕ, zero, suc, ◌+◌, ◌*◌, ◌≤◌, ◌⊎◌, List, [], ◌∷◌, map, length, Bool, true, false, not, ◌&&◌, ◌||◌, ◌==◌, if◌then◌else◌, Option, Some, None, is_some, is_none, count_by}
+use Rattle.std.specs.Prelude.{◌≡◌, refl, ℕ, zero, suc, ◌+◌, ◌*◌, ◌≤◌, ◌⊎◌, List, [], ◌∷◌, map, length, Bool, true, false, not, ◌&&◌, ◌||◌, if◌then◌else◌, Option, Some, None, is_some, is_none, count_by}
 use Rattle.std.specs.List.{list_any}
 use Rattle.std.proofs.Common.{arith, sym, ap, subst, ◌∙◌, inl, inr, length-append}
 use Rattle.std.proofs.lemmas.List.{length-map}
 use Rattle.std.proofs.lemmas.Bool.{not-true}
 use Rattle.std.specs.Cmp.{first_so, second_so}
+use Rattle.tv_lemmas.specs.Members.{In}
+use Rattle.tv_lemmas.proofs.OfMembers.{some_in}
 use Rattle.tv_history.proofs.Legal.{last-legal, legal-of, Legal, hands, accepts, bounces, closes, passes, opens, ends}
 use Rattle.tv_lemmas.proofs.Cases.{on_either, on_or}
 use Rattle.tv_value.specs.Values.{Name, JobName}
@@ -20,8 +22,6 @@ use Rattle.tv_history.specs.Entries.{Entry, handed_out, accepted, closed, fault_
 use Rattle.tv_model.specs.Levels.{Level, levels}
 use Rattle.tv_history.specs.Histories.{asks_left, next_ask, is_settled, is_open, has_open_instance, is_running, is_idle, is_ready, has_place, may_go_on, can_open, all_known, has_entry, can_settle, is_legal, is_legal_after}
 use Rattle.tv_model.proofs.Tests.{true≠false}
-use Rattle.tv_model.proofs.Turns.{In}
-use Rattle.tv_model.proofs.Order.{some_in}
 use Rattle.tv_history.proofs.Running.{opened_begins, out-begun, begins, idle_begun}
 use Rattle.tv_model.proofs.Whole.{IsWhole}
 use Rattle.tv_history.proofs.Ready.{all-sound, are-jobs, AnyNumber, document-whole}

@@ -3,14 +3,14 @@ use Rattle.std.specs.Prelude.{◌≡◌, refl, ℕ, ◌+◌, ◌≤◌, List, []
 use Rattle.std.specs.Option.{option_map_or}
 use Rattle.std.proofs.Common.{arith, sym, ap, ◌∙◌, inl, inr, length-append}
 use Rattle.std.proofs.lemmas.List.Sums.{sum_by-cons}
+use Rattle.tv_lemmas.specs.Members.{In}
 use Rattle.tv_lemmas.proofs.Counts.{count-cons}
 use Rattle.tv_value.specs.Values.{JobName}
 use Rattle.tv_value.specs.Orders.{same_job}
 use Rattle.tv_value.proofs.OfJobNames.{same_job_decides}
 use Rattle.tv_history.specs.Entries.{Entry, History}
 use Rattle.tv_model.proofs.Tests.{true≠false}
-use Rattle.tv_model.proofs.Turns.{In}
-use Rattle.tv_model.proofs.Members.{Apart}
+use Rattle.tv_model.specs.JobOrder.{Apart}
 
 -- counts and sums as proofs go through them
 

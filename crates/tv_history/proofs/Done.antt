@@ -1,8 +1,9 @@
 -- Where the main instance has ended, every job is settled, and what the history says is what the meaning says.
-use Rattle.std.specs.Prelude.{◌≡◌, refl, ℕ, zero, suc, ◌+◌, ◌<◌, ◌⊎◌, List, [], ◌∷◌, ◌++◌, map, length, Bool, true, false, not, ◌&&◌, ◌||◌, ◌==◌, if◌then◌else◌, Option, Some, None, is_some, is_none}
+use Rattle.std.specs.Prelude.{◌≡◌, refl, ℕ, zero, suc, ◌+◌, ◌<◌, List, [], ◌∷◌, ◌++◌, map, length, Bool, true, false, not, ◌&&◌, if◌then◌else◌, Option, Some, None, is_some, is_none}
 use Rattle.std.specs.List.{list_any}
 use Rattle.std.proofs.Common.{arith, sym, ap, subst, ◌∙◌, append_assoc, append-nil, length-append}
 use Rattle.std.specs.Cmp.{first_so, second_so}
+use Rattle.tv_lemmas.specs.Members.{In}
 use Rattle.tv_history.proofs.Legal.{last-legal, Legal, accepts, opens, ends}
 use Rattle.tv_lemmas.proofs.Cases.{on_either, on_or}
 use Rattle.tv_value.specs.Values.{Name, JobName}
@@ -17,7 +18,6 @@ use Rattle.tv_model.specs.Lists.{rest_of, first_of_list}
 use Rattle.tv_history.specs.Histories.{asks_left, next_ask, is_settled, is_open, can_open, is_legal, is_legal_after, is_done, may_go_on}
 use Rattle.tv_model.proofs.Tests.{true≠false, or_right}
 use Rattle.tv_history.proofs.Needs.{stays_settled}
-use Rattle.tv_model.proofs.Turns.{In}
 use Rattle.tv_history.proofs.Running.{ended-settled, same-job}
 use Rattle.tv_model.proofs.Whole.{IsWhole}
 use Rattle.tv_history.proofs.Ready.{asks_left-none, all-sound, are-jobs}

@@ -6,6 +6,8 @@ use Rattle.std.specs.Option.{option_map_or}
 use Rattle.std.proofs.Common.{sym, ap, subst, ◌∙◌, inl, inr, append_assoc, arith, append-nil, length-append}
 use Rattle.std.proofs.lemmas.Bool.{false_from_ne_true, true_from_ne_false, not-true, or_cases}
 use Rattle.std.specs.Cmp.{first_so, second_so}
+use Rattle.tv_lemmas.specs.Members.{Each, In}
+use Rattle.tv_lemmas.proofs.OfMembers.{any-in, each_in, in-append, in-flat, in-left, in-map, in-right, of-all, of-flat, of-map, some_in}
 use Rattle.tv_history.proofs.Legal.{legal-of}
 use Rattle.tv_lemmas.proofs.Cases.{on_test, on_either}
 use Rattle.tv_lemmas.proofs.Lists.{all-weaken}
@@ -21,14 +23,15 @@ use Rattle.tv_model.specs.Meanings.{jobs_with_inside}
 use Rattle.tv_history.specs.Entries.{Entry, handed_out, accepted, bounced, opened, History, is_accepted, is_bounced_entry, is_ended_entry, is_begun_entry}
 use Rattle.tv_model.specs.Lists.{first_of_list}
 use Rattle.tv_history.specs.Histories.{is_settled, is_settled_name, all_known, is_open, is_running, is_ready, is_legal, is_legal_after}
-use Rattle.tv_model.proofs.Tests.{true≠false, both_true, or_right, Each}
+use Rattle.tv_model.proofs.Tests.{true≠false, both_true, or_right}
 use Rattle.tv_history.proofs.Needs.{stays_settled_name}
-use Rattle.tv_model.proofs.Turns.{In, or_left, AllRated, Found, first_turn-found, HasRate}
-use Rattle.tv_model.proofs.Order.{opened_order, turn_of, in-right, some_in, waiting, in-left, in-append, in-map, of-map, in-waiting, of-waiting, parted-length, in-parted, of-filter}
+use Rattle.tv_model.proofs.Turns.{or_left, AllRated, Found, first_turn-found, HasRate}
+use Rattle.tv_model.proofs.Order.{opened_order, turn_of, waiting, in-waiting, of-waiting, parted-length, in-parted, of-filter}
 use Rattle.tv_history.proofs.Running.{settled_of_name, idle_begun, going_on, ready-needs}
-use Rattle.tv_model.proofs.Members.{in-flat, of-flat, Apart, once-of_apart, each_in, any-in}
+use Rattle.tv_model.proofs.Members.{once-of_apart}
+use Rattle.tv_model.specs.JobOrder.{Apart}
 use Rattle.tv_model.proofs.Whole.{IsWhole}
-use Rattle.tv_model.proofs.OfMembers.{of-all, of-filter as passing-in}
+use Rattle.tv_lemmas.proofs.OfMembers.{of-filter as passing-in}
 use Rattle.tv_history.proofs.Ready.{all-sound, are-jobs, no-bounce, waits-known}
 use Rattle.tv_history.proofs.Stuck.{AtLeastOne, begun-tried, settled-name}
 use Rattle.tv_history.proofs.Done.{nothing_first, of-next, settled-none}

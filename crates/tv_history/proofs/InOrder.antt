@@ -2,6 +2,8 @@
 use Rattle.std.specs.Prelude.{◌≡◌, refl, ℕ, List, [], ◌∷◌, ◌++◌, map, true, if◌then◌else◌}
 use Rattle.std.proofs.Common.{sym, ap, subst, ◌∙◌, inl}
 use Rattle.std.specs.Cmp.{first_so}
+use Rattle.tv_lemmas.specs.Members.{Each}
+use Rattle.tv_lemmas.proofs.OfMembers.{any-in}
 use Rattle.tv_value.specs.Orders.{same_job}
 use Rattle.tv_value.specs.Values.{Name, Value}
 use Rattle.tv_value.proofs.OfJobNames.{same_job_decides}
@@ -12,10 +14,8 @@ use Rattle.tv_model.specs.Made.{Meaning}
 use Rattle.tv_model.specs.Meanings.{flow_meaning}
 use Rattle.tv_history.specs.Entries.{Entry, accepted, bounced, ended, History}
 use Rattle.tv_history.specs.Histories.{is_legal, is_legal_after, is_done}
-use Rattle.tv_model.proofs.Tests.{Each}
 use Rattle.tv_model.proofs.Whole.{IsWhole, StepsHave}
 use Rattle.tv_model.specs.Turns.{ask_order}
-use Rattle.tv_model.proofs.Members.{any-in}
 use Rattle.tv_history.proofs.Stuck.{AtLeastOne}
 use Rattle.tv_history.proofs.Done.{all-settled}
 use Rattle.tv_history.proofs.Sums.{accepted-owned}

@@ -1,8 +1,9 @@
 -- A job inside a job runs only once that one has opened its flow, and is settled once that one is.
-use Rattle.std.specs.Prelude.{◌≡◌, ◌⊎◌, [], ◌∷◌, true, false, not, ◌&&◌, is_some}
+use Rattle.std.specs.Prelude.{◌≡◌, [], ◌∷◌, true, false, not, ◌&&◌, is_some}
 use Rattle.std.specs.List.{list_any}
 use Rattle.std.proofs.Common.{sym, subst, ◌∙◌}
 use Rattle.std.specs.Cmp.{first_so}
+use Rattle.tv_lemmas.specs.Members.{In}
 use Rattle.tv_history.proofs.Legal.{last-legal}
 use Rattle.tv_lemmas.proofs.Cases.{on_either, on_or}
 use Rattle.tv_gate.specs.Outcomes.{Giving}
@@ -12,7 +13,6 @@ use Rattle.tv_model.specs.Turns.{is_bounced}
 use Rattle.tv_history.specs.Entries.{History, is_begun_entry, is_opened_entry, is_ended_entry}
 use Rattle.tv_history.specs.Histories.{is_settled, all_known, is_open, is_running, is_legal, is_legal_after}
 use Rattle.tv_model.proofs.Tests.{true≠false, or_right}
-use Rattle.tv_model.proofs.Turns.{In}
 use Rattle.tv_history.proofs.Running.{opened_begins, begins, going_on, idle_begun}
 use Rattle.tv_model.proofs.Whole.{IsWhole}
 use Rattle.tv_history.proofs.Ready.{all-sound, are-jobs}

@@ -2,6 +2,8 @@
 use Rattle.std.specs.Prelude.{◌≡◌, refl, ℕ, zero, suc, ◌⊎◌, List, [], ◌∷◌, ◌++◌, length, Option, Some, None, flat_map}
 use Rattle.std.specs.Option.{option_map_or}
 use Rattle.std.proofs.Common.{sym, ap, subst, ◌∙◌, inl, inr, append_assoc, append-nil}
+use Rattle.tv_lemmas.specs.Members.{Each, In}
+use Rattle.tv_lemmas.proofs.OfMembers.{in-append, in-left, in-right, of-flat}
 use Rattle.tv_lemmas.proofs.Cases.{on_either}
 use Rattle.tv_value.specs.Values.{Name, JobName, Value}
 use Rattle.tv_flow.specs.Flows.{Flow}
@@ -9,14 +11,11 @@ use Rattle.tv_gate.specs.Outcomes.{Giving}
 use Rattle.tv_model.specs.Jobs.{Job}
 use Rattle.tv_model.specs.Made.{Meaning, Opened}
 use Rattle.tv_model.specs.Meanings.{jobs_with_inside, instance_meaning, no_meaning, flow_meaning, meaning}
-use Rattle.tv_depths.specs.Ranks.{ranked}
-use Rattle.tv_model.proofs.Tests.{Each}
-use Rattle.tv_model.proofs.Turns.{In}
-use Rattle.tv_model.proofs.Order.{in-append, in-left, in-right}
+use Rattle.tv_instance.specs.Ranks.{ranked}
 use Rattle.tv_model.proofs.Fed.{named_map_or}
 use Rattle.tv_model.proofs.Earlier.{job_list}
 use Rattle.tv_model.proofs.Kept.{InsideIs}
-use Rattle.tv_model.proofs.Members.{of-flat, Apart}
+use Rattle.tv_model.specs.JobOrder.{Apart}
 use Rattle.tv_model.proofs.Formed.{own-apart, steps-formed, none-formed}
 use Rattle.tv_model.proofs.Instances.{given_of, given-free, steps_of, ranked-fresh}
 use Rattle.tv_model.proofs.Whole.{IsWhole, StepsHave, not-longer, same-head, one-whole, rank-each, nothing-whole}

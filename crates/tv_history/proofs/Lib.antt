@@ -18,3 +18,4 @@ pub mod Follows
 pub mod Sequence
 pub mod InOrder
 pub mod Computed
+pub mod activities

@@ -5,11 +5,11 @@ use Rattle.std.specs.Option.{option_map_or}
 use Rattle.std.proofs.Common.{sym, subst, ◌∙◌}
 use Rattle.std.proofs.lemmas.List.Folds.{list_all-append}
 use Rattle.std.specs.Cmp.{first_so, second_so}
+use Rattle.tv_lemmas.specs.Members.{Each, In}
+use Rattle.tv_lemmas.proofs.OfMembers.{each_in}
 use Rattle.tv_lemmas.proofs.Lists.{all-weaken}
-use Rattle.tv_model.proofs.Turns.{In}
-use Rattle.tv_model.proofs.Members.{each_in}
 use Rattle.tv_history.proofs.Legal.{last-legal, Legal, closes, passes}
-use Rattle.tv_model.proofs.Tests.{true≠false, both_true, or_right, Each}
+use Rattle.tv_model.proofs.Tests.{true≠false, both_true, or_right}
 use Rattle.tv_value.specs.Values.{JobName}
 use Rattle.tv_value.specs.Orders.{same_job}
 use Rattle.tv_strategy.specs.Origins.{Origin, Known, at_start, by_job, by_level, needs_of}

@@ -6,6 +6,8 @@ use Rattle.std.proofs.Common.{arith, sym, ap, subst, ◌∙◌, inl, inr, append
 use Rattle.std.proofs.lemmas.Bool.{false_from_ne_true, not-true, or_parts}
 use Rattle.std.proofs.lemmas.List.{nil_from_length}
 use Rattle.std.specs.Cmp.{first_so, second_so}
+use Rattle.tv_lemmas.specs.Members.{Each, In}
+use Rattle.tv_lemmas.proofs.OfMembers.{each_in, of-all}
 use Rattle.tv_history.proofs.Legal.{legal-of, Legal, accepts}
 use Rattle.tv_lemmas.proofs.Cases.{on_either, on_or}
 use Rattle.tv_value.specs.Values.{JobName}
@@ -20,15 +22,13 @@ use Rattle.tv_history.specs.Entries.{Entry, handed_out, accepted, bounced, close
 use Rattle.tv_model.specs.Levels.{levels}
 use Rattle.tv_model.specs.Lists.{first_of_list, rest_of}
 use Rattle.tv_history.specs.Histories.{asks_left, next_ask, is_settled, is_settled_name, all_known, is_open, is_running, is_idle, is_ready, has_place, may_go_on, is_offered, can_open, can_settle_more, is_at, is_legal, is_legal_after}
-use Rattle.tv_model.proofs.Tests.{Each, true≠false, both_true, or_right}
+use Rattle.tv_model.proofs.Tests.{true≠false, both_true, or_right}
 use Rattle.tv_history.proofs.Needs.{stays_settled}
-use Rattle.tv_model.proofs.Turns.{In}
 use Rattle.tv_model.proofs.Fed.{each-flat_map}
 use Rattle.tv_history.proofs.Running.{opened_begins, out-begun, settled_of_name, idle_begun, going_on, ready-needs, begins}
-use Rattle.tv_model.proofs.Members.{each_in, Apart}
+use Rattle.tv_model.specs.JobOrder.{Apart}
 use Rattle.tv_model.proofs.Grounds.{GroundedBy}
 use Rattle.tv_model.proofs.Whole.{GroundedIn, IsWhole}
-use Rattle.tv_model.proofs.OfMembers.{of-all}
 use Rattle.tv_history.proofs.Ready.{all-sound, are-jobs, no-bounce, waits-known}
 use Rattle.tv_history.proofs.Stuck.{AtLeastOne, settled-name, goes, running-within}
 use Rattle.tv_history.proofs.Done.{ends-it}

@@ -1,12 +1,13 @@
 -- A legal history in which the main instance hasn't ended can go on by an entry that is no recall.
-use Rattle.std.specs.Prelude.{◌≡◌, refl, ℕ, ◌⊎◌, List, [], ◌∷◌, Bool, true, false, not, ◌&&◌, ◌||◌, ◌==◌, if◌then◌else◌, cond, Option, Some, None, is_some, is_none, find}
+use Rattle.std.specs.Prelude.{◌≡◌, refl, ℕ, List, [], ◌∷◌, Bool, true, false, not, ◌&&◌, ◌||◌, ◌==◌, if◌then◌else◌, cond, Option, Some, None, is_some, is_none, find}
 use Rattle.std.specs.List.{list_any}
 use Rattle.std.specs.Option.{option_map_or}
 use Rattle.std.proofs.Common.{sym, ap, subst, ◌∙◌, inl, inr}
 use Rattle.std.proofs.lemmas.Bool.{eq-eqb}
 use Rattle.std.specs.Cmp.{first_so, second_so}
+use Rattle.tv_lemmas.specs.Members.{In}
+use Rattle.tv_lemmas.proofs.OfMembers.{any-in, each_in, some_in}
 use Rattle.tv_lemmas.proofs.Cases.{on_or}
-use Rattle.tv_value.specs.Values.{JobName}
 use Rattle.tv_value.specs.Orders.{same_job}
 use Rattle.tv_value.proofs.OfJobNames.{same_job_decides}
 use Rattle.tv_flow.specs.Flows.{Document}
@@ -17,16 +18,14 @@ use Rattle.tv_model.specs.Made.{Meaning}
 use Rattle.tv_model.specs.Meanings.{meaning}
 use Rattle.tv_history.specs.Entries.{Entry, handed_out, accepted, bounced, closed, fault_passed, opened, ended, recalled, History, is_out}
 use Rattle.tv_model.specs.Levels.{Level, levels}
-use Rattle.tv_history.specs.Histories.{asks_left, next_ask, may_go_on, is_offered, can_open, can_bounce, can_settle, can_end, instances, can_settle_more, is_at, is_ask, is_right, same_bool, is_legal, is_legal_after, is_done}
+use Rattle.tv_history.specs.Histories.{asks_left, next_ask, may_go_on, is_offered, can_open, can_bounce, can_settle, can_end, instances, can_settle_more, is_at, is_ask, same_bool, is_legal, is_legal_after, is_done}
+use Rattle.tv_dispatch.specs.Plans.{came_right}
 use Rattle.tv_model.specs.Lists.{first_of_list, rest_of}
 use Rattle.tv_model.proofs.Tests.{true≠false, both_true}
-use Rattle.tv_model.proofs.Turns.{In}
-use Rattle.tv_model.proofs.Order.{some_in}
-use Rattle.tv_model.proofs.Members.{each_in, any-in}
 use Rattle.tv_model.proofs.Whole.{IsWhole}
 use Rattle.tv_history.proofs.Ready.{are-jobs, meaning-whole}
 use Rattle.tv_history.proofs.Stuck.{AtLeastOne, IsWellFormed, open-goes}
-use Rattle.tv_history.proofs.Tests.{found_in, none_pass}
+use Rattle.tv_history.proofs.Tests.{found_in, none_pass, same-itself}
 pub use Rattle.tv_history.specs.Going.{Next}
 
 find-some : {A : Type 0} (p : A → Bool) (x : A) (xs : List A) → In x xs → p x ≡ true → (y : A) × (find p xs ≡ Some y) × (p y ≡ true)
@@ -51,9 +50,6 @@ found-member {A = A} p k (y ∷ ys) e = by (p y) e (λ f. found-member p k ys f)
     by false f rec = inr (rec f)
 
 module _ (gives : Giving) (m : Meaning) (w : IsWhole gives AtLeastOne m []) where
-  own_name : (n : JobName) → same_job n n ≡ true
-  own_name n = (same_job_decides n n).1 refl
-
   -- a job with a try out has a next ask
   pub out-next : (past : History) → is_legal gives m past ≡ true → (j : Job) → In j m.jobs → is_out past j.name ≡ true → is_some (next_ask past j) ≡ true
   out-next [] l j i h = absurd (true≠false (sym h))
@@ -82,10 +78,10 @@ module _ (gives : Giving) (m : Meaning) (w : IsWhole gives AtLeastOne m []) wher
       by : (o : Option Ask) → next_ask past j ≡ o → is_some o ≡ true → Next gives m past
       by None e q = absurd (true≠false (sym q))
       by (Some k) e q = (
-        accepted j.name k.activity k.attempt (is_right gives k),
+        accepted j.name k.activity k.attempt (came_right gives k),
         both_true (is_out past j.name) _ h
-            (any-in (λ x. is_at x j.name && option_map_or (λ y. is_ask k.activity k.attempt y && same_bool (is_right gives k) (is_right gives y)) (next_ask past x) false) j m.jobs i
-            (both_true (is_at j j.name) _ (own_name j.name) (subst (λ o. option_map_or (λ y. is_ask k.activity k.attempt y && same_bool (is_right gives k) (is_right gives y)) o false ≡ true) (sym e) (both_true (is_ask k.activity k.attempt k) (same_bool (is_right gives k) (is_right gives k)) (both_true (k.activity == k.activity) (k.attempt == k.attempt) (eq-eqb k.activity k.activity refl) (eq-eqb k.attempt k.attempt refl)) (same (is_right gives k)))))),
+            (any-in (λ x. is_at x j.name && option_map_or (λ y. is_ask k.activity k.attempt y && same_bool (came_right gives k) (came_right gives y)) (next_ask past x) false) j m.jobs i
+            (both_true (is_at j j.name) _ (same-itself j.name) (subst (λ o. option_map_or (λ y. is_ask k.activity k.attempt y && same_bool (came_right gives k) (came_right gives y)) o false ≡ true) (sym e) (both_true (is_ask k.activity k.attempt k) (same_bool (came_right gives k) (came_right gives k)) (both_true (k.activity == k.activity) (k.attempt == k.attempt) (eq-eqb k.activity k.activity refl) (eq-eqb k.attempt k.attempt refl)) (same (came_right gives k)))))),
         refl,
       )
         where
@@ -97,14 +93,14 @@ module _ (gives : Giving) (m : Meaning) (w : IsWhole gives AtLeastOne m []) wher
   settle-level past l i h = by l.length refl
     where
       named_it : (same_job l.name l.name && can_settle m past l) ≡ true
-      named_it = both_true (same_job l.name l.name) (can_settle m past l) (own_name l.name) h
+      named_it = both_true (same_job l.name l.name) (can_settle m past l) (same-itself l.name) h
 
       by : (o : Option ℕ) → l.length ≡ o → Next gives m past
       by None e = (fault_passed l.name, any-in (λ (x : Level). same_job l.name x.name && can_settle m past x && is_none x.length) l (levels m.steps) i (both_true (same_job l.name l.name && can_settle m past l) (is_none l.length) named_it (ap is_none e)), refl)
       by (Some k) e = (closed l.name k, any-in (λ (x : Level). same_job l.name x.name && can_settle m past x && option_map_or (λ c. c == k) x.length false) l (levels m.steps) i (both_true (same_job l.name l.name && can_settle m past l) (option_map_or (λ c. c == k) l.length false) named_it (subst (λ o. option_map_or (λ c. c == k) o false ≡ true) (sym e) (eq-eqb k k refl))), refl)
 
   settle-next : (past : History) → can_settle_more m past ≡ true → Next gives m past
-  settle-next past h = on_or (list_any (can_bounce m past) m.jobs || list_any (can_settle m past) (levels m.steps)) (list_any (can_end m past) (instances m)) h (λ x. on_or (list_any (can_bounce m past) m.jobs) (list_any (can_settle m past) (levels m.steps)) x (λ x. let r = some_in (can_bounce m past) m.jobs x in (bounced r.0.name, any-in (λ k. is_at k r.0.name && can_bounce m past k) r.0 m.jobs r.1 (both_true (is_at r.0 r.0.name) (can_bounce m past r.0) (own_name r.0.name) r.2), refl)) (λ x. let r = some_in (can_settle m past) (levels m.steps) x in settle-level past r.0 r.1 r.2)) (λ x. let r = some_in (can_end m past) (instances m) x in (ended r.0, r.2, refl))
+  settle-next past h = on_or (list_any (can_bounce m past) m.jobs || list_any (can_settle m past) (levels m.steps)) (list_any (can_end m past) (instances m)) h (λ x. on_or (list_any (can_bounce m past) m.jobs) (list_any (can_settle m past) (levels m.steps)) x (λ x. let r = some_in (can_bounce m past) m.jobs x in (bounced r.0.name, any-in (λ k. is_at k r.0.name && can_bounce m past k) r.0 m.jobs r.1 (both_true (is_at r.0 r.0.name) (can_bounce m past r.0) (same-itself r.0.name) r.2), refl)) (λ x. let r = some_in (can_settle m past) (levels m.steps) x in settle-level past r.0 r.1 r.2)) (λ x. let r = some_in (can_end m past) (instances m) x in (ended r.0, r.2, refl))
 
   offer-next : (past : History) (j : Job) → In j m.jobs → is_offered m past j ≡ true → Next gives m past
   offer-next past j i h =
@@ -115,7 +111,7 @@ module _ (gives : Giving) (m : Meaning) (w : IsWhole gives AtLeastOne m []) wher
       by k f s (Some a) e = (
         handed_out k.name a.activity a.attempt,
         subst (λ o. option_map_or (λ x. is_at x k.name && option_map_or (is_ask a.activity a.attempt) (next_ask past x) false) o false ≡ true) (sym f)
-            (both_true (is_at k k.name) _ (own_name k.name) (subst (λ o. option_map_or (is_ask a.activity a.attempt) o false ≡ true) (sym e) (both_true (a.activity == a.activity) (a.attempt == a.attempt) (eq-eqb a.activity a.activity refl) (eq-eqb a.attempt a.attempt refl)))),
+            (both_true (is_at k k.name) _ (same-itself k.name) (subst (λ o. option_map_or (is_ask a.activity a.attempt) o false ≡ true) (sym e) (both_true (a.activity == a.activity) (a.attempt == a.attempt) (eq-eqb a.activity a.activity refl) (eq-eqb a.attempt a.attempt refl)))),
         refl,
       )
 
@@ -135,7 +131,7 @@ module _ (gives : Giving) (m : Meaning) (w : IsWhole gives AtLeastOne m []) wher
       by : (k : Job) → find (λ k. is_offered m past k || can_open m past k) m.jobs ≡ Some k → (b : Bool) → can_open m past k ≡ b → (is_offered m past k || can_open m past k) ≡ true → Next gives m past
       by k f true c p = (
         opened k.name,
-        both_true (not (can_settle_more m past)) _ (ap not quiet) (subst (λ o. option_map_or (λ x. is_at x k.name && can_open m past x) o false ≡ true) (sym f) (both_true (is_at k k.name) (can_open m past k) (own_name k.name) c)),
+        both_true (not (can_settle_more m past)) _ (ap not quiet) (subst (λ o. option_map_or (λ x. is_at x k.name && can_open m past x) o false ≡ true) (sym f) (both_true (is_at k k.name) (can_open m past k) (same-itself k.name) c)),
         refl,
       )
       by k f false c p = offer-next past k (found_job k f) (not_opened (is_offered m past k) (can_open m past k) c p)

@@ -3,11 +3,12 @@ use Rattle.std.specs.Prelude.{◌≡◌, refl, ℕ, zero, suc, List, [], ◌∷�
 use Rattle.std.specs.List.{list_any, list_all}
 use Rattle.std.proofs.Common.{sym, ap, subst, ◌∙◌}
 use Rattle.std.proofs.lemmas.List.Folds.{list_all-append}
-use Rattle.std.proofs.lemmas.Bool.{true_from_ne_false}
+use Rattle.std.proofs.lemmas.Bool.{true_from_ne_false, or_parts}
 use Rattle.std.proofs.lemmas.Option.{same_Some}
 use Rattle.std.specs.Cmp.{first_so, second_so}
 use Rattle.std.specs.Cmp.Derive.{one_truth}
-use Rattle.tv_lemmas.proofs.Tests.{or-second}
+use Rattle.tv_lemmas.specs.Members.{Each, In}
+use Rattle.tv_lemmas.proofs.OfMembers.{each_in, in_each, of-all, of-flat, of-options}
 use Rattle.tv_value.specs.Nested.{Place, nodes}
 use Rattle.tv_value.specs.Values.{Name, JobName}
 use Rattle.tv_value.proofs.OfJobNames.{same_job_decides}
@@ -17,24 +18,22 @@ use Rattle.tv_strategy.proofs.OfEach.{each-all, each-weaken}
 use Rattle.tv_gate.specs.Outcomes.{Giving}
 use Rattle.tv_dispatch.specs.Jobs.{Ask}
 use Rattle.tv_model.specs.Jobs.{Job, job_needs}
-use Rattle.tv_depths.specs.Delivered.{StepMeaning}
+use Rattle.tv_instance.specs.Delivered.{StepMeaning}
 use Rattle.tv_model.specs.Made.{Meaning}
 use Rattle.tv_model.specs.Meanings.{meaning}
 use Rattle.tv_history.specs.Entries.{History, is_accepted}
 use Rattle.tv_model.specs.Levels.{Level, level_at, levels}
 use Rattle.tv_model.specs.Lists.{rest_of, first_of_list}
 use Rattle.tv_history.specs.Histories.{asks_left, is_settled_name, has_entry, is_known, all_known, can_bounce, can_settle, can_end, instances, can_settle_more, is_open, is_legal, is_offered, is_offered_by_meaning}
-use Rattle.tv_model.proofs.Tests.{Each, true≠false, both_true}
+use Rattle.tv_model.proofs.Tests.{true≠false, both_true}
 use Rattle.tv_history.proofs.Needs.{IsSourced, IsSoundAt, IsSound, AllSound, known-needs, needs_of-settled}
-use Rattle.tv_model.proofs.Turns.{In}
 use Rattle.tv_model.proofs.Sound.{level-node}
 use Rattle.tv_history.proofs.Running.{AreJobs, offered-by_meaning}
-use Rattle.tv_history.proofs.Tests.{false_left, none_pass, rest-in}
-use Rattle.tv_model.proofs.Members.{each_in, in_each, of-flat, of-options, once-of_apart, nodes-apart, snoc-parts}
+use Rattle.tv_history.proofs.Tests.{none_pass, rest-in}
+use Rattle.tv_model.proofs.Members.{once-of_apart, nodes-apart, snoc-parts}
 use Rattle.tv_model.proofs.Grounds.{GroundedBy}
 use Rattle.tv_model.proofs.Whole.{step_key, GroundedIn, IsWhole, StepsHave}
 pub use Rattle.tv_model.proofs.Whole.{AnyNumber, meaning-whole}
-use Rattle.tv_model.proofs.OfMembers.{of-all}
 
 pub asks_left-none : (past : History) (n : JobName) → asks_left past n [] ≡ []
 asks_left-none [] n = refl
@@ -106,13 +105,13 @@ module _ (gives : Giving) (D : ℕ → Type 0) (m : Meaning) (I : JobName) (w : 
 
   module _ (past : History) (quiet : can_settle_more m past ≡ false) where
     pub no-bounce : (j : Job) → In j m.jobs → can_bounce m past j ≡ false
-    no-bounce = each_in (λ j. can_bounce m past j ≡ false) m.jobs (none_pass (can_bounce m past) m.jobs (false_left (list_any (can_bounce m past) m.jobs) (list_any (can_settle m past) (levels m.steps)) (false_left (list_any (can_bounce m past) m.jobs || list_any (can_settle m past) (levels m.steps)) (list_any (can_end m past) (instances m)) quiet)))
+    no-bounce = each_in (λ j. can_bounce m past j ≡ false) m.jobs (none_pass (can_bounce m past) m.jobs (or_parts (list_any (can_bounce m past) m.jobs) (list_any (can_settle m past) (levels m.steps)) (or_parts (list_any (can_bounce m past) m.jobs || list_any (can_settle m past) (levels m.steps)) (list_any (can_end m past) (instances m)) quiet).0).0)
 
     pub no-settling : (l : Level) → In l (levels m.steps) → can_settle m past l ≡ false
-    no-settling = each_in (λ l. can_settle m past l ≡ false) (levels m.steps) (none_pass (can_settle m past) (levels m.steps) (or-second (list_any (can_bounce m past) m.jobs) (list_any (can_settle m past) (levels m.steps)) (false_left (list_any (can_bounce m past) m.jobs || list_any (can_settle m past) (levels m.steps)) (list_any (can_end m past) (instances m)) quiet)))
+    no-settling = each_in (λ l. can_settle m past l ≡ false) (levels m.steps) (none_pass (can_settle m past) (levels m.steps) (or_parts (list_any (can_bounce m past) m.jobs) (list_any (can_settle m past) (levels m.steps)) (or_parts (list_any (can_bounce m past) m.jobs || list_any (can_settle m past) (levels m.steps)) (list_any (can_end m past) (instances m)) quiet).0).1)
 
     pub no-ending : (n : JobName) → In n (instances m) → can_end m past n ≡ false
-    no-ending = each_in (λ n. can_end m past n ≡ false) (instances m) (none_pass (can_end m past) (instances m) (or-second (list_any (can_bounce m past) m.jobs || list_any (can_settle m past) (levels m.steps)) (list_any (can_end m past) (instances m)) quiet))
+    no-ending = each_in (λ n. can_end m past n ≡ false) (instances m) (none_pass (can_end m past) (instances m) (or_parts (list_any (can_bounce m past) m.jobs || list_any (can_settle m past) (levels m.steps)) (list_any (can_end m past) (instances m)) quiet).1)
 
     -- a list whose sources are known is closed
     pub closed-if_known : (l : Level) → In l (levels m.steps) → is_open past l.instance ≡ true → all_known m past l.sources ≡ true → has_entry past l.name ≡ true

@@ -4,6 +4,8 @@ use Rattle.std.specs.List.{list_any, list_all}
 use Rattle.std.proofs.Common.{sym, subst, ◌∙◌, inl, inr}
 use Rattle.std.proofs.lemmas.Bool.{not-true}
 use Rattle.std.specs.Cmp.{first_so, second_so}
+use Rattle.tv_lemmas.specs.Members.{Each, In}
+use Rattle.tv_lemmas.proofs.OfMembers.{of-all}
 use Rattle.tv_history.proofs.Legal.{last-legal, legal-of, Legal, hands, bounces, opens, ends}
 use Rattle.tv_history.proofs.Tests.{found_in, any_weaken}
 use Rattle.tv_lemmas.proofs.Cases.{on_test, on_either, on_or}
@@ -13,15 +15,13 @@ use Rattle.tv_value.specs.Orders.{same_job}
 use Rattle.tv_value.proofs.OfJobNames.{same_job_decides}
 use Rattle.tv_gate.specs.Outcomes.{Giving}
 use Rattle.tv_model.specs.Jobs.{Job, job_needs}
-use Rattle.tv_depths.specs.Delivered.{StepMeaning}
+use Rattle.tv_instance.specs.Delivered.{StepMeaning}
 use Rattle.tv_model.specs.Made.{Meaning}
 use Rattle.tv_model.specs.Turns.{is_bounced}
 use Rattle.tv_history.specs.Entries.{Entry, handed_out, accepted, opened, ended, recalled, History, is_begun_entry, is_opened_entry, is_ended_entry, is_out}
 use Rattle.tv_history.specs.Histories.{next_ask, is_settled, is_settled_name, all_known, is_open, has_open_instance, is_running, is_idle, is_ready, has_place, may_go_on, is_offered, is_legal, is_legal_after, is_offered_by_meaning}
-use Rattle.tv_model.proofs.Tests.{Each, true≠false, both_true, or_right}
+use Rattle.tv_model.proofs.Tests.{true≠false, both_true, or_right}
 use Rattle.tv_history.proofs.Needs.{AllSound, IsSound, stays_settled, stays_settled_name, known-needs, needs_of-settled}
-use Rattle.tv_model.proofs.Turns.{In}
-use Rattle.tv_model.proofs.OfMembers.{of-all}
 
 pub handed_case : (b x y : Bool) → (x ≡ true → y ≡ true) → (if b then true else x) ≡ true → (b || y) ≡ true
 handed_case true x y f h = refl

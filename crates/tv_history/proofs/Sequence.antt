@@ -1,10 +1,12 @@
 -- The order of one worker: at any number of levels, the accepted tries of a one-worker history follow the stated order.
-use Rattle.std.specs.Prelude.{◌≡◌, refl, ℕ, zero, suc, ◌+◌, ◌<◌, ◌⊎◌, List, [], ◌∷◌, ◌++◌, map, length, Bool, true, false, ◌||◌, if◌then◌else◌, Option, Some, None, is_some, flat_map}
+use Rattle.std.specs.Prelude.{◌≡◌, refl, ℕ, zero, suc, ◌+◌, ◌<◌, List, [], ◌∷◌, ◌++◌, map, length, Bool, true, false, ◌||◌, if◌then◌else◌, Option, Some, None, is_some, flat_map}
 use Rattle.std.specs.List.{list_any}
 use Rattle.std.specs.Option.{option_map_or}
 use Rattle.std.proofs.Common.{arith, sym, ap, subst, ◌∙◌, inl, inr, append_assoc, append-nil, length-append}
 use Rattle.std.proofs.lemmas.List.{map-append}
 use Rattle.std.specs.Cmp.{first_so, second_so}
+use Rattle.tv_lemmas.specs.Members.{Each, In}
+use Rattle.tv_lemmas.proofs.OfMembers.{in-flat, some_in}
 use Rattle.tv_history.proofs.Legal.{legal-of}
 use Rattle.tv_lemmas.proofs.Cases.{on_test, on_either}
 use Rattle.tv_value.specs.Values.{Name, JobName, Value}
@@ -17,18 +19,16 @@ use Rattle.tv_model.specs.Jobs.{Job}
 use Rattle.tv_model.specs.Made.{Meaning, Opened, Made}
 use Rattle.tv_model.specs.Meanings.{jobs_with_inside, instance_meaning, no_meaning, flow_meaning}
 use Rattle.tv_model.specs.Turns.{is_bounced, ask_order}
-use Rattle.tv_depths.specs.Ranks.{ranked}
+use Rattle.tv_instance.specs.Ranks.{ranked}
 use Rattle.tv_history.specs.Entries.{Entry, accepted, opened, History, is_opened_entry, is_begun_entry}
 use Rattle.tv_model.specs.Lists.{first_of_list}
 use Rattle.tv_history.specs.Histories.{asks_left, is_settled, is_legal, is_legal_after}
-use Rattle.tv_model.proofs.Tests.{Each, true≠false}
-use Rattle.tv_model.proofs.Turns.{In}
-use Rattle.tv_model.proofs.Order.{some_in, all_rated}
+use Rattle.tv_model.proofs.Tests.{true≠false}
+use Rattle.tv_model.proofs.Order.{all_rated}
 use Rattle.tv_model.proofs.ReadOff.{IsReadOff, flow-read, instance-order}
 use Rattle.tv_model.proofs.Fed.{named_map_or}
 use Rattle.tv_model.proofs.Earlier.{job_list}
 use Rattle.tv_history.proofs.Running.{opened_begins}
-use Rattle.tv_model.proofs.Members.{in-flat}
 use Rattle.tv_model.proofs.Kept.{InsideIs}
 use Rattle.tv_model.proofs.Formed.{AreFormed, own-apart, steps-formed, none-formed}
 use Rattle.tv_model.proofs.Instances.{given_of, given-free, steps_of, ranked-fresh, needs-earlier}

@@ -1,10 +1,12 @@
 -- A run is never stuck: where no try is out, nothing can be settled and no flow opened, some job is offered.
-use Rattle.std.specs.Prelude.{◌≡◌, refl, ℕ, zero, suc, ◌+◌, ◌<◌, ◌≤◌, ◌⊎◌, List, [], ◌∷◌, ◌++◌, length, Bool, true, false, not, ◌&&◌, ◌||◌, if◌then◌else◌, cond, Option, Some, None, is_some, is_none, find}
+use Rattle.std.specs.Prelude.{◌≡◌, refl, ℕ, zero, suc, ◌+◌, ◌<◌, ◌≤◌, List, [], ◌∷◌, ◌++◌, length, Bool, true, false, not, ◌&&◌, ◌||◌, if◌then◌else◌, cond, Option, Some, None, is_some, is_none, find}
 use Rattle.std.specs.List.{list_any, list_all}
 use Rattle.std.specs.Option.{option_map_or}
 use Rattle.std.proofs.Common.{arith, sym, ap, subst, ◌∙◌, inl, inr, append_assoc, append-nil, length-append}
 use Rattle.std.proofs.lemmas.Bool.{not-true}
 use Rattle.std.specs.Cmp.{first_so, second_so}
+use Rattle.tv_lemmas.specs.Members.{Each, In}
+use Rattle.tv_lemmas.proofs.OfMembers.{any-in, each_in, in-options}
 use Rattle.tv_history.proofs.Legal.{last-legal}
 use Rattle.tv_lemmas.proofs.Cases.{on_test, on_or}
 use Rattle.tv_value.specs.Nested.{Place}
@@ -22,10 +24,9 @@ use Rattle.tv_model.specs.Meanings.{meaning}
 use Rattle.tv_history.specs.Entries.{History, is_out, is_begun_entry, is_bounced_entry, is_ended_entry}
 use Rattle.tv_model.specs.Levels.{levels}
 use Rattle.tv_history.specs.Histories.{next_ask, is_settled, is_settled_name, has_entry, is_known, all_known, is_open, has_open_instance, is_running, is_idle, is_ready, has_place, may_go_on, is_offered, can_open, can_end, instances, can_settle_more, is_legal, is_legal_after, is_done}
-use Rattle.tv_model.proofs.Tests.{Each, true≠false, both_true, or_right}
-use Rattle.tv_model.proofs.Turns.{In, or_left}
+use Rattle.tv_model.proofs.Tests.{true≠false, both_true, or_right}
+use Rattle.tv_model.proofs.Turns.{or_left}
 use Rattle.tv_history.proofs.Running.{begins, idle_begun}
-use Rattle.tv_model.proofs.Members.{each_in, in-options, any-in}
 use Rattle.tv_model.proofs.Grounds.{GroundedBy}
 use Rattle.tv_model.proofs.Whole.{GroundedIn, IsWhole}
 use Rattle.tv_history.proofs.Ready.{all-sound, are-jobs, no-bounce, no-ending, closed-if_known, meaning-whole}

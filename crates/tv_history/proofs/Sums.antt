@@ -1,5 +1,5 @@
 -- The numbers that are read off a finished history are the totals of the meaning.
-use Rattle.std.specs.Prelude.{◌≡◌, refl, ℕ, ◌+◌, ◌⊎◌, List, [], ◌∷◌, map, length, filter, flat_map, Bool, true, false, not, ◌&&◌, ◌||◌, if◌then◌else◌, Option, Some, None, is_some, is_none, count_by}
+use Rattle.std.specs.Prelude.{◌≡◌, refl, ℕ, ◌+◌, List, [], ◌∷◌, map, length, filter, flat_map, Bool, true, false, not, ◌&&◌, ◌||◌, if◌then◌else◌, Option, Some, None, is_some, is_none, count_by}
 use Rattle.std.specs.List.{list_any}
 use Rattle.std.specs.Option.{option_map_or}
 use Rattle.std.proofs.Common.{arith, sym, ap, subst, ◌∙◌, inl, inr, length-append}
@@ -8,6 +8,7 @@ use Rattle.std.proofs.lemmas.Bool.{not-true}
 use Rattle.std.proofs.lemmas.Option.{same_Some, none-some}
 use Rattle.std.specs.Cmp.{first_so, second_so}
 use Rattle.std.specs.Cmp.Derive.{one_truth}
+use Rattle.tv_lemmas.specs.Members.{In}
 use Rattle.tv_history.proofs.Running.{same-job}
 use Rattle.tv_history.proofs.Legal.{last-legal, Legal, accepts, bounces}
 use Rattle.tv_lemmas.proofs.Cases.{on_test, on_or}
@@ -24,7 +25,6 @@ use Rattle.tv_model.specs.Totals.{totals}
 use Rattle.tv_history.specs.Entries.{Entry, accepted, bounced, History, is_accepted, is_bounced_entry, is_opened_entry, is_ended_entry}
 use Rattle.tv_history.specs.Histories.{next_ask, is_settled, is_open, is_running, is_ready, all_known, can_bounce, is_legal, is_legal_after, is_done}
 use Rattle.tv_model.proofs.Tests.{true≠false}
-use Rattle.tv_model.proofs.Turns.{In}
 use Rattle.tv_model.proofs.Kept.{any_right}
 use Rattle.tv_model.proofs.Whole.{IsWhole}
 use Rattle.tv_history.proofs.Ready.{are-jobs, AnyNumber, document-whole}

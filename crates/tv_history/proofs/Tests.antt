@@ -1,24 +1,20 @@
 -- Tests of a list by its members, and of two tests at once.
-use Rattle.std.specs.Prelude.{◌≡◌, refl, ℕ, ◌+◌, ◌≤◌, ◌⊎◌, List, [], ◌∷◌, Bool, true, false, ◌&&◌, ◌||◌, if◌then◌else◌, cond, Some, nat_lt, count_by, find}
+use Rattle.std.specs.Prelude.{◌≡◌, refl, ℕ, ◌+◌, ◌≤◌, ◌⊎◌, List, [], ◌∷◌, Bool, true, false, ◌&&◌, if◌then◌else◌, cond, Some, nat_lt, count_by, find}
 use Rattle.std.specs.List.{list_any, list_all}
 use Rattle.std.specs.Option.{option_map_or}
 use Rattle.std.proofs.Common.{arith, sym, ap, subst, ◌∙◌, inl, inr}
-use Rattle.std.proofs.lemmas.Bool.{false_from_ne_true, lt-ltb}
+use Rattle.std.proofs.lemmas.Bool.{false_from_ne_true, lt-ltb, or_parts}
 use Rattle.std.proofs.lemmas.List.Sums.{sum_by-cons}
 use Rattle.std.proofs.lemmas.Option.{same_Some, none-some}
+use Rattle.tv_lemmas.specs.Members.{Each, In}
+use Rattle.tv_lemmas.proofs.OfMembers.{of-all}
 use Rattle.tv_value.specs.Orders.{same_job}
 use Rattle.tv_value.specs.Values.{JobName}
 use Rattle.tv_value.proofs.OfJobNames.{same_job_decides}
 use Rattle.tv_model.specs.Lists.{first_of_list, rest_of}
 use Rattle.tv_lemmas.proofs.Cases.{on_either, on_or}
-use Rattle.tv_lemmas.proofs.Tests.{or-second}
-use Rattle.tv_model.proofs.Tests.{Each, true≠false, or_right}
-use Rattle.tv_model.proofs.Turns.{In, or_left}
-use Rattle.tv_model.proofs.OfMembers.{of-all}
-
-pub false_left : (a b : Bool) → (a || b) ≡ false → a ≡ false
-false_left true b h = h
-false_left false b h = refl
+use Rattle.tv_model.proofs.Tests.{true≠false, or_right}
+use Rattle.tv_model.proofs.Turns.{or_left}
 
 pub if-fails : (b c : Bool) → (if b then c else true) ≡ false → (b ≡ true) × (c ≡ false)
 if-fails true c h = (refl, h)
@@ -31,7 +27,7 @@ same-itself n = (same_job_decides n n).1 refl
 -- no member passes
 pub none_pass : {A : Type 0} (p : A → Bool) (xs : List A) → list_any p xs ≡ false → Each (λ x. p x ≡ false) xs
 none_pass p [] h = tt
-none_pass p (x ∷ xs) h = (false_left (p x) (list_any p xs) h, none_pass p xs (or-second (p x) (list_any p xs) h))
+none_pass p (x ∷ xs) h = ((or_parts (p x) (list_any p xs) h).0, none_pass p xs (or_parts (p x) (list_any p xs) h).1)
 
 pub any_weaken : {A : Type 0} (p q : A → Bool) → ((x : A) → p x ≡ true → q x ≡ true) → (xs : List A) → list_any p xs ≡ true → list_any q xs ≡ true
 any_weaken p q f [] h = h

@@ -1,8 +1,8 @@
 -- How long a history can be, and that it can go on.
 use Rattle.std.specs.Prelude.{Bool, false, length, sum_by, true, ℕ, ◌*◌, ◌+◌, ◌≡◌, ◌≤◌}
+use Rattle.tv_lemmas.specs.Members.{Each}
 use Rattle.tv_gate.specs.Outcomes.{Giving}
 use Rattle.tv_flow.specs.Flows.{Document}
-use Rattle.tv_strategy.specs.Sources.{Each}
 use Rattle.tv_model.specs.Made.{Meaning}
 use Rattle.tv_model.specs.Levels.{levels}
 use Rattle.tv_history.specs.Entries.{Entry, History, handed_out, recalled}

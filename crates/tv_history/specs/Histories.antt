@@ -2,20 +2,21 @@
 -- and its jobs by their names.
 use Rattle.std.specs.List.{list_all, list_any}
 use Rattle.std.specs.Option.{option_map_or}
-use Rattle.std.specs.Prelude.{Bool, List, None, Option, Some, [], count_by, false, filter_map, find, if◌then◌else◌, is_none, is_ok, is_some, length, nat_lt, not, sum_by, true, ℕ, ◌&&◌, ◌+◌, ◌==◌, ◌||◌, ◌∷◌}
+use Rattle.std.specs.Prelude.{Bool, List, None, Option, Some, [], count_by, false, filter_map, find, if◌then◌else◌, is_none, is_some, length, nat_lt, not, sum_by, true, ℕ, ◌&&◌, ◌+◌, ◌==◌, ◌||◌, ◌∷◌}
 use Rattle.tv_value.specs.Nested.{Tree, notes}
 use Rattle.tv_value.specs.Orders.{same_job, same_name}
 use Rattle.tv_value.specs.Values.{JobName}
 use Rattle.tv_gate.specs.Outcomes.{Giving}
 use Rattle.tv_strategy.specs.Origins.{Known, Origin, at_start, by_job, by_level}
-use Rattle.tv_dispatch.specs.Jobs.{Ask, outcome_of}
-use Rattle.tv_depths.specs.Delivered.{StepMeaning}
+use Rattle.tv_dispatch.specs.Jobs.{Ask}
+use Rattle.tv_instance.specs.Delivered.{StepMeaning}
 use Rattle.tv_model.specs.Jobs.{Job, job_needs}
 use Rattle.tv_model.specs.Levels.{Level, levels}
 use Rattle.tv_model.specs.Lists.{first_of_list, rest_of}
 use Rattle.tv_model.specs.Made.{Meaning}
 use Rattle.tv_model.specs.Turns.{is_bounced}
 use Rattle.tv_history.specs.Entries.{Entry, History, accepted, bounced, closed, ended, fault_passed, handed_out, is_accepted, is_begun_entry, is_bounced_entry, is_ended_entry, is_level_entry, is_opened_entry, is_out, opened, recalled}
+use Rattle.tv_dispatch.specs.Plans.{came_right}
 
 -- the asks that are still to come: each outcome that is accepted takes one
 abbrev pub asks_left : History → JobName → List Ask → List Ask
@@ -136,10 +137,6 @@ is_at j n = same_job n j.name
 abbrev pub is_ask : ℕ → ℕ → Ask → Bool
 is_ask a t k = a == k.activity && t == k.attempt
 
--- whether what the services give is right
-abbrev pub is_right : Giving → Ask → Bool
-is_right gives a = is_ok (outcome_of gives a)
-
 abbrev pub same_bool : Bool → Bool → Bool
 same_bool true b = b
 same_bool false b = not b
@@ -153,7 +150,7 @@ module _ (gives : Giving) (m : Meaning) where
   is_legal_after past (accepted n a t r) =
       is_out past n
       && list_any (λ j. is_at j n
-      && option_map_or (λ k. is_ask a t k && same_bool r (is_right gives k))
+      && option_map_or (λ k. is_ask a t k && same_bool r (came_right gives k))
       (next_ask past j) false) m.jobs
   is_legal_after past (bounced n) = list_any (λ j. is_at j n && can_bounce m past j) m.jobs
   is_legal_after past (closed n k) =
@@ -184,13 +181,13 @@ step_room s =
 
 module _ (m : Meaning) where
   -- the results kept: each output of each settled job in an open instance
-  abbrev pub kept : History → ℕ
-  kept past = sum_by (λ j. if is_open past j.instance && is_settled past j then length j.result
-      else 0) m.jobs
+  abbrev pub kept_results : History → ℕ
+  kept_results past = sum_by (λ j. if is_open past j.instance && is_settled past j then length
+      j.result else 0) m.jobs
 
   -- all nodes of the values and iterations of open instances
-  abbrev pub room : History → ℕ
-  room past =
+  abbrev pub node_room : History → ℕ
+  node_room past =
       sum_by (λ s. if is_open past s.instance then step_room s else 0) m.steps
       + sum_by (λ j. if has_open_instance past j then sum_by (λ v. size_of v) j.result
       else 0) m.jobs

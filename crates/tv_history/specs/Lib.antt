@@ -8,3 +8,4 @@ pub mod Stated
 pub mod Worker
 pub mod RowsOfHistories
 pub mod RowsOfRuns
+pub mod activities

@@ -1,11 +1,11 @@
 -- The numbers that are read off a finished history.
 use Rattle.std.specs.List.{list_any}
 use Rattle.std.specs.Prelude.{Bool, List, None, Option, Some, count_by, is_some, length, map, not, true, ◌&&◌, ◌≡◌}
+use Rattle.tv_lemmas.specs.Members.{In}
 use Rattle.tv_value.specs.Values.{JobName}
 use Rattle.tv_gate.specs.Outcomes.{Giving}
 use Rattle.tv_model.specs.Jobs.{Job}
 use Rattle.tv_model.specs.Made.{Meaning}
-use Rattle.tv_model.specs.Members.{In}
 use Rattle.tv_model.specs.Totals.{Totals, totals}
 use Rattle.tv_history.specs.Entries.{Entry, History, accepted, bounced, is_bounced_entry, is_opened_entry}
 use Rattle.tv_history.specs.Histories.{is_settled}

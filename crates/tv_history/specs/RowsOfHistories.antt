@@ -2,11 +2,11 @@
 use Rattle.std.specs.Prelude.{Bool, List, [], codes, false, reverse, true, ◌∷◌, ◌≡◌}
 use Rattle.tv_value.specs.Nested.{Place}
 use Rattle.tv_value.specs.Values.{JobName, Name}
+use Rattle.tv_local.specs.LocalGives.{local_gives}
 use Rattle.tv_flow.specs.Flows.{Document}
 use Rattle.tv_model.specs.RowsOfFaults.{failing_over, list_fails, one_fails}
 use Rattle.tv_model.specs.RowsOfFlows.{opening, two_steps, two_steps_with}
 use Rattle.tv_model.specs.RowsOfIteration.{nested_lists, one_text}
-use Rattle.tv_model.specs.TextServices.{text_services}
 use Rattle.tv_model.specs.Writing.{meant}
 use Rattle.tv_history.specs.Entries.{Entry, accepted, bounced, closed, ended, fault_passed, handed_out, opened, recalled}
 use Rattle.tv_history.specs.Histories.{is_legal}
@@ -14,7 +14,7 @@ use Rattle.tv_history.specs.ReadOff.{read_totals}
 
 -- the entries as they come, the oldest first
 abbrev pub is_legal_run : Document → List Entry → Bool
-is_legal_run d entries = is_legal text_services (meant d) (reverse entries)
+is_legal_run d entries = is_legal local_gives (meant d) (reverse entries)
 
 -- a job of the main flow, or a list or fault of its iteration
 abbrev pub spot_of : Name → Place → JobName
@@ -155,7 +155,10 @@ ClosesOnce = is_legal_run two_steps (closed list_p 2 ∷ closed list_p 2 ∷ [])
 -- the lists of a list of lists, each with its own length
 abbrev pub ClosesInnerLists : Type 0
 ClosesInnerLists =
-    (is_legal_run nested_lists (closed u 3 ∷ closed (spot_of (codes "u") (1 ∷ [])) 0 ∷ closed (spot_of (codes "u") (0 ∷ [])) 1 ∷ closed (spot_of (codes "u") (2 ∷ [])) 2 ∷ []) ≡ true)
+    (is_legal_run nested_lists
+    (closed u 3 ∷ closed (spot_of (codes "u") (1 ∷ [])) 0
+    ∷ closed (spot_of (codes "u") (0 ∷ [])) 1 ∷ closed (spot_of (codes "u") (2 ∷ [])) 2 ∷ [])
+    ≡ true)
     × (is_legal_run nested_lists (closed (spot_of (codes "u") (1 ∷ [])) 0 ∷ closed u 3 ∷ []) ≡ true)
     × (is_legal_run nested_lists (closed (spot_of (codes "u") (1 ∷ [])) 1 ∷ []) ≡ false)
     × (is_legal_run nested_lists (closed (spot_of (codes "u") (3 ∷ [])) 0 ∷ []) ≡ false)
@@ -163,9 +166,12 @@ ClosesInnerLists =
 -- a fault in the place of a list is passed once it is made, and not closed
 abbrev pub PassesMadeFault : Type 0
 PassesMadeFault =
-    (is_legal_run list_fails (out_first (spot_of (codes "r") []) ∷ in_wrong (spot_of (codes "r") []) ∷ fault_passed u ∷ ended [] ∷ []) ≡ true)
+    (is_legal_run list_fails (out_first (spot_of (codes "r") []) ∷ in_wrong (spot_of (codes "r") [])
+    ∷ fault_passed u ∷ ended [] ∷ []) ≡ true)
     × (is_legal_run list_fails (fault_passed u ∷ []) ≡ false)
-    × (is_legal_run list_fails (out_first (spot_of (codes "r") []) ∷ in_wrong (spot_of (codes "r") []) ∷ closed u 0 ∷ []) ≡ false)
+    × (is_legal_run list_fails
+    (out_first (spot_of (codes "r") []) ∷ in_wrong (spot_of (codes "r") []) ∷ closed u 0 ∷ [])
+    ≡ false)
 
 abbrev pub f0 : JobName
 f0 = spot_of (codes "f") (0 ∷ [])
@@ -210,9 +216,12 @@ OpensInJobOrder =
 -- an instance ends after the jobs inside it, and once
 abbrev pub EndsInstanceAfterItsJobs : Type 0
 EndsInstanceAfterItsJobs =
-    (is_legal_run opening (closed (spot_of (codes "n") []) 3 ∷ opened n0 ∷ out_first inner ∷ in_right inner ∷ ended n0 ∷ []) ≡ true)
-    × (is_legal_run opening (closed (spot_of (codes "n") []) 3 ∷ opened n0 ∷ out_first inner ∷ ended n0 ∷ []) ≡ false)
-    × (is_legal_run opening (closed (spot_of (codes "n") []) 3 ∷ opened n0 ∷ out_first inner ∷ in_right inner ∷ ended n0 ∷ ended n0 ∷ []) ≡ false)
+    (is_legal_run opening (closed (spot_of (codes "n") []) 3 ∷ opened n0 ∷ out_first inner
+    ∷ in_right inner ∷ ended n0 ∷ []) ≡ true)
+    × (is_legal_run opening (closed (spot_of (codes "n") []) 3 ∷ opened n0 ∷ out_first inner
+    ∷ ended n0 ∷ []) ≡ false)
+    × (is_legal_run opening (closed (spot_of (codes "n") []) 3 ∷ opened n0 ∷ out_first inner
+    ∷ in_right inner ∷ ended n0 ∷ ended n0 ∷ []) ≡ false)
 
 abbrev pub EndsAfterItsSteps : Type 0
 EndsAfterItsSteps = is_legal_run two_steps (ended [] ∷ []) ≡ false

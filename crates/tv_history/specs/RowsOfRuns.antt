@@ -1,21 +1,21 @@
 -- Worked runs of a plain worker, each to its end.
 use Rattle.std.specs.Prelude.{Bool, [], codes, false, true, ◌∷◌, ◌≡◌, count_by}
+use Rattle.tv_local.specs.LocalGives.{local_gives}
 use Rattle.tv_flow.specs.Flows.{Document}
 use Rattle.tv_model.specs.RowsOfFaults.{failing_over, list_fails, one_fails, pairing_fault}
 use Rattle.tv_model.specs.RowsOfFlows.{opening, side_by_side, two_steps}
 use Rattle.tv_model.specs.RowsOfIteration.{nested_lists, one_text, pairs}
 use Rattle.tv_model.specs.RowsOfSize.{generated}
-use Rattle.tv_model.specs.TextServices.{text_services}
 use Rattle.tv_model.specs.Writing.{a, asks, document, from_input, from_step, meant, out, takes, takes_list, words, x}
 use Rattle.tv_history.specs.Entries.{Entry, History, ended, opened}
-use Rattle.tv_history.specs.Histories.{kept, room}
-use Rattle.tv_history.specs.Worker.{Told, all_true, run, told}
+use Rattle.tv_history.specs.Histories.{kept_results, node_room}
+use Rattle.tv_history.specs.Worker.{Told, all_true, run, report}
 
 abbrev pub run_of : Document → History
-run_of d = run text_services (meant d)
+run_of d = run local_gives (meant d)
 
 abbrev pub told_of : Document → Told
-told_of d = told text_services (meant d) (run_of d)
+told_of d = report local_gives (meant d) (run_of d)
 
 abbrev pub RunsOneText : Type 0
 RunsOneText = told_of one_text ≡ all_true
@@ -64,8 +64,8 @@ abbrev pub KeepsNothingAtEnd : Type 0
 KeepsNothingAtEnd =
     (count_by is_opening (run_of opening) ≡ 3)
     × (count_by is_end (run_of opening) ≡ 4)
-    × (kept (meant opening) (run_of opening) ≡ 0)
-    × (room (meant opening) (run_of opening) ≡ 0)
+    × (kept_results (meant opening) (run_of opening) ≡ 0)
+    × (node_room (meant opening) (run_of opening) ≡ 0)
 
 -- a step without an activity, which the check of a document refuses: its job counts as settled from the start, so the
 -- last step doesn't wait for the first
@@ -75,8 +75,18 @@ idle_step =
     ((x, 1) ∷ [])
     (
     (codes "p", asks (codes "upper") (takes a (from_input x) ∷ []))
-    ∷ (codes "q", record (asks (codes "lower") (takes_list a (from_step (codes "p")) ∷ [])) { activities = [] })
-    ∷ (codes "r", record (asks (codes "lower") (takes a (from_input x) ∷ [])) { after = codes "q" ∷ [] })
+    ∷ (
+      codes "q",
+      record (asks (codes "lower") (takes_list a (from_step (codes "p")) ∷ [])) {
+        activities = [];
+      },
+    )
+    ∷ (
+      codes "r",
+      record (asks (codes "lower") (takes a (from_input x) ∷ [])) {
+        after = codes "q" ∷ [];
+      },
+    )
     ∷ []
     )
     (out (codes "r"))

@@ -1,14 +1,13 @@
 -- The laws of legal histories, for every document and all services.
 use Rattle.std.specs.List.{list_any}
 use Rattle.std.specs.Prelude.{IsPermutation, List, [], count_by, false, length, map, true, ℕ, ◌≡◌, ◌≤◌}
+use Rattle.tv_lemmas.specs.Members.{Each, In}
 use Rattle.tv_value.specs.Values.{Name, Value}
 use Rattle.tv_gate.specs.Outcomes.{Giving}
 use Rattle.tv_flow.specs.Flows.{Document, Flow}
-use Rattle.tv_strategy.specs.Sources.{Each}
 use Rattle.tv_model.specs.Jobs.{Job}
 use Rattle.tv_model.specs.Made.{Meaning}
 use Rattle.tv_model.specs.Meanings.{flow_meaning, meaning}
-use Rattle.tv_model.specs.Members.{In}
 use Rattle.tv_model.specs.Turns.{ask_order}
 use Rattle.tv_history.specs.Alone.{HaveTries, IsFirstPart, is_by_one}
 use Rattle.tv_history.specs.Entries.{History, is_out}

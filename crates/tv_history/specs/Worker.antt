@@ -15,7 +15,8 @@ use Rattle.tv_model.specs.Turns.{ask_order}
 use Rattle.tv_history.specs.Alone.{is_by_one}
 use Rattle.tv_history.specs.Entries.{Entry, History, accepted, bounced, ended, handed_out, level_entry, opened}
 use Rattle.tv_history.specs.Going.{most_entries}
-use Rattle.tv_history.specs.Histories.{can_bounce, can_end, can_open, can_settle, can_settle_more, instances, is_done, is_legal, is_offered, is_offered_by_meaning, is_right, next_ask, same_bool}
+use Rattle.tv_history.specs.Histories.{can_bounce, can_end, can_open, can_settle, can_settle_more, instances, is_done, is_legal, is_offered, is_offered_by_meaning, next_ask, same_bool}
+use Rattle.tv_dispatch.specs.Plans.{came_right}
 use Rattle.tv_history.specs.Tries.{all_tries}
 
 -- the asks that were accepted, the oldest first
@@ -39,7 +40,8 @@ module _ (m : Meaning) where
   abbrev pub settling : History → Option Entry
   settling past =
       let bounce = option_map (λ j. bounced j.name) (find (can_bounce m past) m.jobs) in
-      let level = option_map (λ l. level_entry l.name l.length) (find (can_settle m past) (levels m.steps)) in
+      let level = option_map (λ l. level_entry l.name l.length)
+      (find (can_settle m past) (levels m.steps)) in
       let end = option_map (λ n. ended n) (find (can_end m past) (instances m)) in
       option_or bounce (option_or level end)
 
@@ -56,7 +58,7 @@ module _ (m : Meaning) where
 module _ (gives : Giving) where
   -- the newest first
   abbrev pub try_entries : JobName → Ask → List Entry
-  try_entries n k = accepted n k.activity k.attempt (is_right gives k)
+  try_entries n k = accepted n k.activity k.attempt (came_right gives k)
       ∷ handed_out n k.activity k.attempt ∷ []
 
   abbrev pub job_entries : History → Job → List Entry
@@ -72,16 +74,16 @@ module _ (gives : Giving) where
     abbrev pub next_entries : History → Option (List Entry)
     next_entries past = option_or (option_map (λ e. e ∷ []) (settling m past)) (going_on past)
 
-    abbrev pub worked : ℕ → History → History
-    worked zero past = past
-    worked (suc n) past = option_map_or (λ es. worked n (es ++ past)) (next_entries past) past
+    abbrev pub run_for : ℕ → History → History
+    run_for zero past = past
+    run_for (suc n) past = option_map_or (λ es. run_for n (es ++ past)) (next_entries past) past
 
     -- as long as a history can be
     abbrev pub run : History
-    run = worked (most_entries m) []
+    run = run_for (most_entries m) []
 
-    abbrev pub told : History → Told
-    told past = record {
+    abbrev pub report : History → Told
+    report past = record {
       legal = is_legal gives m past;
       by_one = is_by_one m past;
       done = is_done past;

@@ -1,6 +1,8 @@
 //! What holds of every legal history: each law is the clause of a function that does nothing.
 ghost use Rattle.tv_history.specs.Stated.{OffersAreTheMeanings, IsNeverStuck, DoneIsAsMeant, HistoriesAreBounded, HistoriesGoOn, TriesAreOfTheOrder, OneWorkerIsInOrder};
 
+pub mod activities;
+
 /// Where nothing can be settled, an ask is offered exactly where the meaning alone offers it, which knows no list, closing
 /// or arrival: a processor's element is on offer as soon as its matched inputs are in.
 pub fn offers_are_the_meanings()

@@ -6,6 +6,9 @@
 //! services: what is offered is what the meaning offers, a run is never stuck and comes to an end, and where it has ended
 //! it is as the meaning says, for one worker in the stated order.
 //!
+//! Of the activities of steps, and so of the tries of jobs, the form of a document says more: there are some, and eight at the most
+//! (`specs/activities/`, `laws::activities`).
+//!
 //! - `laws`: the laws
 //! - `rows`: worked histories and runs
 #![tactic(auto)]

@@ -7,7 +7,7 @@ use Rattle.std.proofs.lemmas.List.{get_or-set_other, get_or-set_same, length-app
 use Rattle.tv_ready.specs.Listed.{Listed, with_job}
 use Rattle.tv_idle.specs.declared.queues.Queues.{Queues}
 use Rattle.tv_idle.specs.Idles.{StepIdle, has_job, is_idle, is_idle_at, none_idle, of_step, with_idle, with_rooms_of, without}
-use Rattle.tv_idle.specs.Kept.{AreAllKept, AreKept, IsEmpty, IsGrown, IsKept, IsSame, IsTrimmed, is_gone, live, no_queues, queue_for, queues_of, shown, stands_at}
+use Rattle.tv_idle.specs.Kept.{AreAllKept, AreKept, IsEmpty, IsGrown, IsKept, IsSame, IsTrimmed, is_gone, live, no_queues, queue_for, queues_of, queues_view, stands_at}
 use Rattle.tv_idle.proofs.Listing.{Job, gone-live, grown-has, grown-kept, has-below, kept-more, live-grown, live-has, other-kept, other-live, trimmed-has, trimmed-kept, trimmed-live, without-has}
 
 -- ---- lists
@@ -44,7 +44,7 @@ map-one-more f [] q = refl
 map-one-more f (r ∷ qs) q = ap (λ l. f r ∷ l) (map-one-more f qs q)
 
 -- what is seen of one step
-pub of-shown : (g : ℕ → Bool) (qs : List Queues) (k : ℕ) → of_step (map (shown g) qs) k ≡ shown g (queues_of qs k)
+pub of-shown : (g : ℕ → Bool) (qs : List Queues) (k : ℕ) → of_step (map (queues_view g) qs) k ≡ queues_view g (queues_of qs k)
 of-shown g [] k = refl
 of-shown g (q ∷ qs) zero = refl
 of-shown g (q ∷ qs) (suc k) = of-shown g qs k
@@ -61,10 +61,10 @@ set-agree f g (q ∷ qs) (suc s) y h = (λ i. h 0 (λ e. absurd (omega arith)) i
 -- ---- which are idle
 
 -- one that has gone isn't
-pub idle-not-gone : (g : ℕ → Bool) (qs : List Queues) (n : ℕ) → is_idle (map (shown g) qs) n ≡ true → g n ≡ false
+pub idle-not-gone : (g : ℕ → Bool) (qs : List Queues) (n : ℕ) → is_idle (map (queues_view g) qs) n ≡ true → g n ≡ false
 idle-not-gone g [] n e = cc
 idle-not-gone g (q ∷ qs) n e =
-    elim (or_cases (is_idle_at n (shown g q)) (is_idle (map (shown g) qs) n) e) [
+    elim (or_cases (is_idle_at n (queues_view g q)) (is_idle (map (queues_view g) qs) n) e) [
       | inr a ↦ idle-not-gone g qs n a
       | inl a ↦
           elim (or_cases (has_job n (live g q.good.jobs)) (has_job n (live g q.faulty.jobs)) a) [
@@ -73,15 +73,15 @@ idle-not-gone g (q ∷ qs) n e =
           ]
     ]
 
-pub idle-is : (g : ℕ → Bool) (known : ℕ) (qs : List Queues) (n : ℕ) → AreAllKept g known qs → n < known → not (g n) ≡ is_idle (map (shown g) qs) n
+pub idle-is : (g : ℕ → Bool) (known : ℕ) (qs : List Queues) (n : ℕ) → AreAllKept g known qs → n < known → not (g n) ≡ is_idle (map (queues_view g) qs) n
 idle-is g known qs n a l = by (g n) refl
   where
-    by : (b : Bool) → g n ≡ b → not b ≡ is_idle (map (shown g) qs) n
-    by true e = sym (false_from_ne_true (is_idle (map (shown g) qs) n) (λ h. let f : false ≡ true = sym (idle-not-gone g qs n h) ∙ e in cc))
+    by : (b : Bool) → g n ≡ b → not b ≡ is_idle (map (queues_view g) qs) n
+    by true e = sym (false_from_ne_true (is_idle (map (queues_view g) qs) n) (λ h. let f : false ≡ true = sym (idle-not-gone g qs n h) ∙ e in cc))
     by false e = sym (a.idle n l e)
 
 -- one that is idle at a step stands there
-pub stands-here : (g : ℕ → Bool) (q : Queues) (n : ℕ) → is_idle_at n (shown g q) ≡ true → stands_at n q ≡ true
+pub stands-here : (g : ℕ → Bool) (q : Queues) (n : ℕ) → is_idle_at n (queues_view g q) ≡ true → stands_at n q ≡ true
 stands-here g q n e =
     elim (or_cases (has_job n (live g q.good.jobs)) (has_job n (live g q.faulty.jobs)) e) [
       | inl a ↦ ap (λ b. b || has_job n q.faulty.jobs) (live-has g n q.good.jobs a).0
@@ -167,20 +167,20 @@ module _ (was gone : ℕ → Bool) (n known : ℕ) (qs : List Queues) (s : ℕ) 
           levels = (all.each k).levels;
         })
 
-    pub removed-steps : map (shown gone) (slice_set qs s q) ≡ slice_set (map (shown was) qs) s (without n (of_step (map (shown was) qs) s))
+    pub removed-steps : map (queues_view gone) (slice_set qs s q) ≡ slice_set (map (queues_view was) qs) s (without n (of_step (map (queues_view was) qs) s))
     removed-steps =
-        let goods : live gone q.good.jobs ≡ (without n (shown was before)).good = ap (live gone) good.jobs ∙ trimmed-live gone before.good.jobs ∙ gone-live was gone n is before.good.jobs in
-        let faults : live gone q.faulty.jobs ≡ (without n (shown was before)).faulty = ap (live gone) faulty.jobs ∙ trimmed-live gone before.faulty.jobs ∙ gone-live was gone n is before.faulty.jobs in
-        let here : shown gone q ≡ without n (shown was before) = (λ i. record {
+        let goods : live gone q.good.jobs ≡ (without n (queues_view was before)).good = ap (live gone) good.jobs ∙ trimmed-live gone before.good.jobs ∙ gone-live was gone n is before.good.jobs in
+        let faults : live gone q.faulty.jobs ≡ (without n (queues_view was before)).faulty = ap (live gone) faulty.jobs ∙ trimmed-live gone before.faulty.jobs ∙ gone-live was gone n is before.faulty.jobs in
+        let here : queues_view gone q ≡ without n (queues_view was before) = (λ i. record {
           good = goods i;
           faulty = faults i;
           levels = good.levels i;
           good_room = good.room i;
           faulty_room = faulty.room i;
         }) in
-        map-set (shown gone) qs s q
-        ∙ ap (slice_set (map (shown gone) qs) s) (here ∙ ap (without n) (sym (of-shown was qs s)))
-        ∙ set-agree (shown gone) (shown was) qs s (without n (of_step (map (shown was) qs) s)) (λ k ne i. record {
+        map-set (queues_view gone) qs s q
+        ∙ ap (slice_set (map (queues_view gone) qs) s) (here ∙ ap (without n) (sym (of-shown was qs s)))
+        ∙ set-agree (queues_view gone) (queues_view was) qs s (without n (of_step (map (queues_view was) qs) s)) (λ k ne i. record {
           good = other-live was gone n is (queues_of qs k).good.jobs (good-apart k ne) i;
           faulty = other-live was gone n is (queues_of qs k).faulty.jobs (faulty-apart k ne) i;
           levels = (queues_of qs k).good.levels;
@@ -201,12 +201,12 @@ module _ (was gone : ℕ → Bool) (n known : ℕ) (qs : List Queues) (s : ℕ) 
               ]
         ]
 
-    removed-idle : (m : ℕ) → m < known → gone m ≡ false → is_idle (map (shown gone) (slice_set qs s q)) m ≡ true
+    removed-idle : (m : ℕ) → m < known → gone m ≡ false → is_idle (map (queues_view gone) (slice_set qs s q)) m ≡ true
     removed-idle m l e =
-        let st = of_step (map (shown was) qs) s in
+        let st = of_step (map (queues_view was) qs) s in
         let parts : (was m ≡ false) × (m ≡ n → ⊥) = by (was m) (m == n) refl (sym (is m) ∙ e) in
         ap (λ ss. is_idle ss m) removed-steps
-        ∙ any-set (is_idle_at m) (map (shown was) qs) s (without n st) (none_idle 0)
+        ∙ any-set (is_idle_at m) (map (queues_view was) qs) s (without n st) (none_idle 0)
         (λ h. (λ i. without-has m n st.good parts.1 i || without-has m n st.faulty parts.1 i) ∙ h)
         (all.idle m l parts.0)
       where
@@ -275,7 +275,7 @@ module _ (g : ℕ → Bool) (known : ℕ) (place : List ℕ) (qs : List Queues) 
         levels = ap (λ l. l.levels) other ∙ k.levels ∙ sym grown.levels;
       }
 
-  grown-shown : (b : Bool) (q : Queues) → IsGrown next (queue_for b here) (queue_for b q) → queue_for (not b) q ≡ queue_for (not b) here → shown g q ≡ with_idle b next (shown g here)
+  grown-shown : (b : Bool) (q : Queues) → IsGrown next (queue_for b here) (queue_for b q) → queue_for (not b) q ≡ queue_for (not b) here → queues_view g q ≡ with_idle b next (queues_view g here)
   grown-shown true q grown other =
       let f : live g q.faulty.jobs ≡ with_job next (live g here.faulty.jobs) = ap (live g) grown.jobs ∙ live-grown g next here.faulty.jobs fresh (all.each s).faulty.order in
       (λ i. record {
@@ -318,10 +318,10 @@ module _ (g : ℕ → Bool) (known : ℕ) (place : List ℕ) (qs : List Queues) 
       grouped false b c = refl
 
   module _ (b : Bool) (q : Queues) (grown : IsGrown next (queue_for b here) (queue_for b q)) (other : queue_for (not b) q ≡ queue_for (not b) here) where
-    pub grown-steps : map (shown g) (slice_set qs s q) ≡ slice_set (map (shown g) qs) s (with_idle b next (of_step (map (shown g) qs) s))
+    pub grown-steps : map (queues_view g) (slice_set qs s q) ≡ slice_set (map (queues_view g) qs) s (with_idle b next (of_step (map (queues_view g) qs) s))
     grown-steps =
-        map-set (shown g) qs s q
-        ∙ ap (slice_set (map (shown g) qs) s) (grown-shown b q grown other ∙ ap (with_idle b next) (sym (of-shown g qs s)))
+        map-set (queues_view g) qs s q
+        ∙ ap (slice_set (map (queues_view g) qs) s) (grown-shown b q grown other ∙ ap (with_idle b next) (sym (of-shown g qs s)))
 
     -- it stands where it stood, or it is the next, at this step
     stood : (m k : ℕ) → stands_at m (queues_of (slice_set qs s q) k) ≡ true → (stands_at m (queues_of qs k) ≡ true) ⊎ ((m ≡ known) × (k ≡ s))
@@ -350,15 +350,15 @@ module _ (g : ℕ → Bool) (known : ℕ) (place : List ℕ) (qs : List Queues) 
         by (inr x) (inl y) = late l x.0 y
         by (inr x) (inr y) = x.1 ∙ sym y.1
 
-    grown-idle : (m : ℕ) → m < known + 1 → g m ≡ false → is_idle (map (shown g) (slice_set qs s q)) m ≡ true
+    grown-idle : (m : ℕ) → m < known + 1 → g m ≡ false → is_idle (map (queues_view g) (slice_set qs s q)) m ≡ true
     grown-idle m l e =
-        let st = of_step (map (shown g) qs) s in
+        let st = of_step (map (queues_view g) qs) s in
         ap (λ ss. is_idle ss m) grown-steps
         ∙ elim (cases_eq m known) [
           | inl same ↦
-              any-here (is_idle_at m) (map (shown g) qs) s (with_idle b next st) (let n = map-longer (shown g) qs in omega (arith, n, inside)) (newest b next m st same)
+              any-here (is_idle_at m) (map (queues_view g) qs) s (with_idle b next st) (let n = map-longer (queues_view g) qs in omega (arith, n, inside)) (newest b next m st same)
           | inr ne ↦
-              any-set (is_idle_at m) (map (shown g) qs) s (with_idle b next st) (none_idle 0) (still b next m st) (all.idle m (omega (arith, ne, l)) e)
+              any-set (is_idle_at m) (map (queues_view g) qs) s (with_idle b next st) (none_idle 0) (still b next m st) (all.idle m (omega (arith, ne, l)) e)
         ]
 
     pub grown-all-kept : AreAllKept g (known + 1) (slice_set qs s q)
@@ -379,7 +379,7 @@ module _ (g : ℕ → Bool) (known : ℕ) (qs : List Queues) (s : ℕ) (q : Queu
     abbrev there : Queues
     there = queues_of qs s
 
-    same-jobs : shown g q ≡ with_rooms_of (shown g q) (shown g there)
+    same-jobs : queues_view g q ≡ with_rooms_of (queues_view g q) (queues_view g there)
     same-jobs = (λ i. record {
       good = live g (good.jobs i);
       faulty = live g (faulty.jobs i);
@@ -388,17 +388,17 @@ module _ (g : ℕ → Bool) (known : ℕ) (qs : List Queues) (s : ℕ) (q : Queu
       faulty_room = q.faulty.room;
     })
 
-    pub same-step : of_step (map (shown g) (slice_set qs s q)) s ≡ shown g q
-    same-step = of-shown g (slice_set qs s q) s ∙ ap (shown g) (at-step qs s q inside)
+    pub same-step : of_step (map (queues_view g) (slice_set qs s q)) s ≡ queues_view g q
+    same-step = of-shown g (slice_set qs s q) s ∙ ap (queues_view g) (at-step qs s q inside)
 
-    pub same-steps : map (shown g) (slice_set qs s q)
-        ≡ slice_set (map (shown g) qs) s (with_rooms_of (of_step (map (shown g) (slice_set qs s q)) s) (of_step (map (shown g) qs) s))
+    pub same-steps : map (queues_view g) (slice_set qs s q)
+        ≡ slice_set (map (queues_view g) qs) s (with_rooms_of (of_step (map (queues_view g) (slice_set qs s q)) s) (of_step (map (queues_view g) qs) s))
     same-steps =
-        map-set (shown g) qs s q
-        ∙ ap (slice_set (map (shown g) qs) s)
+        map-set (queues_view g) qs s q
+        ∙ ap (slice_set (map (queues_view g) qs) s)
         (same-jobs
-        ∙ ap (λ r. with_rooms_of r (shown g there)) (sym same-step)
-        ∙ ap (with_rooms_of (of_step (map (shown g) (slice_set qs s q)) s)) (sym (of-shown g qs s)))
+        ∙ ap (λ r. with_rooms_of r (queues_view g there)) (sym same-step)
+        ∙ ap (with_rooms_of (of_step (map (queues_view g) (slice_set qs s q)) s)) (sym (of-shown g qs s)))
 
     same-stands : (m k : ℕ) → stands_at m (queues_of (slice_set qs s q) k) ≡ stands_at m (queues_of qs k)
     same-stands m k =
@@ -423,7 +423,7 @@ module _ (g : ℕ → Bool) (known : ℕ) (qs : List Queues) (s : ℕ) (q : Queu
       apart = λ m k l a b. all.apart m k l (sym (same-stands m k) ∙ a) (sym (same-stands m l) ∙ b);
       idle = λ m l e.
           ap (λ ss. is_idle ss m) same-steps
-          ∙ any-set (is_idle_at m) (map (shown g) qs) s (with_rooms_of (of_step (map (shown g) (slice_set qs s q)) s) (of_step (map (shown g) qs) s)) (none_idle 0) (λ h. h) (all.idle m l e);
+          ∙ any-set (is_idle_at m) (map (queues_view g) qs) s (with_rooms_of (of_step (map (queues_view g) (slice_set qs s q)) s) (of_step (map (queues_view g) qs) s)) (none_idle 0) (λ h. h) (all.idle m l e);
     }
 
 -- ---- one more step
@@ -456,8 +456,8 @@ module _ (g : ℕ → Bool) (levels : ℕ) (q : Queues) (good : IsEmpty levels q
     each = added-each (AreKept g known) qs all.each (none-kept known);
     apart = λ m k l a b. all.apart m k l (sym (added-stands m qs k) ∙ a) (sym (added-stands m qs l) ∙ b);
     idle = λ m l e.
-        ap (λ ss. is_idle ss m) (map-one-more (shown g) qs q)
-        ∙ any-front (is_idle_at m) (map (shown g) qs) (shown g q ∷ []) (all.idle m l e);
+        ap (λ ss. is_idle ss m) (map-one-more (queues_view g) qs q)
+        ∙ any-front (is_idle_at m) (map (queues_view g) qs) (queues_view g q ∷ []) (all.idle m l e);
   }
 
 -- ---- marks
@@ -525,13 +525,13 @@ module _ (gone after : List Bool) (n : ℕ) (place : List ℕ) (qs : List Queues
         (subst (λ gs. AreAllKept gs (length gone + 1) (slice_set qs s to)) (sym (ap is_gone marks ∙ same-marks gone))
         (grown-all-kept (is_gone gone) (length gone) place qs s all (fresh-mark gone) inside b to grown-one other-one))
 
-    pub put-seen : map (shown (is_gone after)) (slice_set qs s to)
-        ≡ slice_set (map (shown (is_gone gone)) qs) s (with_idle b (length gone, place) (of_step (map (shown (is_gone gone)) qs) s))
+    pub put-seen : map (queues_view (is_gone after)) (slice_set qs s to)
+        ≡ slice_set (map (queues_view (is_gone gone)) qs) s (with_idle b (length gone, place) (of_step (map (queues_view (is_gone gone)) qs) s))
     put-seen =
-        ap (λ gs. map (shown gs) (slice_set qs s to)) (ap is_gone marks ∙ same-marks gone)
+        ap (λ gs. map (queues_view gs) (slice_set qs s to)) (ap is_gone marks ∙ same-marks gone)
         ∙ grown-steps (is_gone gone) (length gone) place qs s all (fresh-mark gone) inside b to grown-one other-one
 
-pub idle-stands : (g : ℕ → Bool) (qs : List Queues) (s n : ℕ) → is_idle_at n (of_step (map (shown g) qs) s) ≡ true → stands_at n (queues_of qs s) ≡ true
+pub idle-stands : (g : ℕ → Bool) (qs : List Queues) (s n : ℕ) → is_idle_at n (of_step (map (queues_view g) qs) s) ≡ true → stands_at n (queues_of qs s) ≡ true
 idle-stands g qs s n e = stands-here g (queues_of qs s) n (ap (is_idle_at n) (sym (of-shown g qs s)) ∙ e)
 
 pub there-same : (p : Queues → Listed) (qs : List Queues) (s : ℕ) (from to : Queues) → s < length qs → from ≡ slice_index_or qs s from → IsSame (p from) (p to) → IsSame (p (queues_of qs s)) (p to)

@@ -17,8 +17,8 @@ is_gone gone n = slice_index_or gone n false
 abbrev pub live : (ℕ → Bool) → List (ℕ × List ℕ) → List (ℕ × List ℕ)
 live gone js = filter (λ j. not (gone j.0)) js
 
-abbrev pub shown : (ℕ → Bool) → Queues → StepIdle
-shown gone q = record {
+abbrev pub queues_view : (ℕ → Bool) → Queues → StepIdle
+queues_view gone q = record {
   good = live gone q.good.jobs;
   faulty = live gone q.faulty.jobs;
   levels = q.good.levels;
@@ -105,7 +105,7 @@ pub record AreAllKept (gone : ℕ → Bool) (known : ℕ) (qs : List Queues) : T
   pub each : (k : ℕ) → AreKept gone known (queues_of qs k)
   pub apart : (n k l : ℕ) → stands_at n (queues_of qs k) ≡ true → stands_at n (queues_of qs l)
       ≡ true → k ≡ l
-  pub idle : (n : ℕ) → n < known → gone n ≡ false → is_idle (map (shown gone) qs) n ≡ true
+  pub idle : (n : ℕ) → n < known → gone n ≡ false → is_idle (map (queues_view gone) qs) n ≡ true
 
 -- how many stand in the queue of those that bind a fault, of one step and of all
 abbrev pub faulty_of : Queues → ℕ

@@ -33,11 +33,17 @@ impl Model for Idle {
     ghost Value = { Idles };
 
     ghost use Rattle.std.specs.Prelude.{map, length, vec_capacity};
-    ghost use Rattle.tv_idle.specs.Kept.{is_gone, shown, IsLaid};
+    ghost use Rattle.tv_idle.specs.Kept.{is_gone, queues_view, IsLaid};
 
-    ghost view = { λ i. record { steps = map (shown (is_gone i.gone.items)) i.queues.items; known = length i.gone.items; room = i.room } };
+    ghost view = { λ i. record {
+      steps = map (queues_view (is_gone i.gone.items)) i.queues.items;
+      known =
+          length i.gone.items;
+      room = i.room;
+    } };
 
-    ghost invariant = { λ i. IsLaid i.queues.items i.gone.items (vec_capacity i.gone) i.room i.faulty };
+    ghost invariant = { λ i. IsLaid i.queues.items i.gone.items (vec_capacity i.gone)
+        i.room i.faulty };
 }
 
 /// Queues with no jobs, in the memory of others where there are some.
@@ -113,7 +119,8 @@ impl Idle {
         ensures good { OnOk result ((of_step self.new.steps step).good_room ≡ good) }
         ensures faulty { OnOk result ((of_step self.new.steps step).faulty_room ≡ faulty) }
         ensures steps { self.new.steps
-            ≡ slice_set self.old.steps step (with_rooms_of (of_step self.new.steps step) (of_step self.old.steps step)) }
+            ≡ slice_set self.old.steps step
+            (with_rooms_of (of_step self.new.steps step) (of_step self.old.steps step)) }
         ensures known { self.new.known ≡ self.old.known }
         ensures room { self.new.room ≡ self.old.room }
     {
@@ -148,7 +155,8 @@ impl Idle {
         requires room { 0 < self.old.room }
         ensures number { result ≡ self.old.known }
         ensures steps { self.new.steps
-            ≡ slice_set self.old.steps step (with_idle faulty (self.old.known, place.now) (of_step self.old.steps step)) }
+            ≡ slice_set self.old.steps step
+            (with_idle faulty (self.old.known, place.now) (of_step self.old.steps step)) }
         ensures known { self.new.known ≡ self.old.known + 1 }
         ensures room { self.new.room ≡ self.old.room - 1 }
     {

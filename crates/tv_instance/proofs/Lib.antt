@@ -3,3 +3,4 @@ pub mod OfRising
 pub mod OfEndings
 pub mod OfLaws
 pub mod Computed
+pub mod OfRanks

@@ -8,9 +8,9 @@ use Rattle.tv_value.specs.Values.{JobName, Name}
 use Rattle.tv_flow.specs.Flows.{Step}
 use Rattle.tv_strategy.specs.Iterations.{Iteration, job, passed}
 use Rattle.tv_strategy.specs.Origins.{Origin}
-use Rattle.tv_depths.specs.Delivered.{Delivered}
-use Rattle.tv_depths.specs.Ranks.{is_among}
-use Rattle.tv_depths.specs.Steps.{spot, node_origin, endings_of}
+use Rattle.tv_instance.specs.Delivered.{Delivered}
+use Rattle.tv_instance.specs.Ranks.{is_among}
+use Rattle.tv_instance.specs.Steps.{spot, node_origin, endings_of}
 use Rattle.tv_instance.specs.ByResults.{InstanceStep, Results, step_by, step_of}
 use Rattle.tv_instance.specs.Endings.{has_ended, have_ended}
 use Rattle.tv_instance.specs.Wholeness.{is_whole, origin_at}

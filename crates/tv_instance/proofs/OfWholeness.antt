@@ -15,6 +15,7 @@ use Rattle.tv_strategy.specs.Origins.{Origin, Traced, traced, from_job, from_lev
 use Rattle.tv_strategy.specs.Iterations.{job, passed, Iteration, Iterations}
 use Rattle.tv_strategy.specs.Outputs.{output_below, outputs_from}
 use Rattle.tv_instance.specs.Wholeness.{all_whole, is_new, is_whole, is_whole_at, item_whole_at, one_if, origin_at, whole_items}
+use Rattle.tv_lemmas.proofs.Tests.{and-left_false, and-right_false}
 
 -- ---- tests
 
@@ -237,31 +238,23 @@ module _ (named : Place → JobName) (known after hits : Origin → Bool) (with 
 -- ---- a node above one that isn't known isn't whole
 
 module _ (named : Place → JobName) (known : Origin → Bool) where
-  false-left : (a b : Bool) → a ≡ false → (a && b) ≡ false
-  false-left true b e = absurd (true≢false e)
-  false-left false b e = refl
-
-  false-right : (a b : Bool) → b ≡ false → (a && b) ≡ false
-  false-right true b e = e
-  false-right false b e = refl
-
   mutual
     pub node-holds : (t : Iteration) (q r : Place) (u : Iteration) → at t r ≡ Some u → known (origin_at named (q ++ r) u) ≡ false → is_whole named known q t ≡ false
     node-holds (leaf s e) q [] u h w = ap₂ (λ j x. known (origin_at named j x)) (sym (append-nil q)) (same_Some (leaf s e) u h) ∙ w
-    node-holds (list s ts) q [] u h w = false-left _ _ (ap₂ (λ j x. known (origin_at named j x)) (sym (append-nil q)) (same_Some (list s ts) u h) ∙ w)
+    node-holds (list s ts) q [] u h w = and-left_false _ _ (ap₂ (λ j x. known (origin_at named j x)) (sym (append-nil q)) (same_Some (list s ts) u h) ∙ w)
     node-holds (leaf s e) q (i ∷ r) u h w = absurd (none-some u h)
-    node-holds (list s ts) q (i ∷ r) u h w = false-right _ _ (nodes-hold ts q 0 i i r u (zero_left i) h w)
+    node-holds (list s ts) q (i ∷ r) u h w = and-right_false _ _ (nodes-hold ts q 0 i i r u (zero_left i) h w)
       where
         zero_left : (n : ℕ) → n ≡ 0 + n
         zero_left n = omega arith
 
     nodes-hold : (ts : Iterations) (q : Place) (i k m : ℕ) (r : Place) (u : Iteration) → m ≡ i + k → option_and_then (λ x. at x r) (item_at ts k) ≡ Some u → known (origin_at named (q ++ m ∷ r) u) ≡ false → all_whole named known q i ts ≡ false
     nodes-hold no_trees q i k m r u l h w = absurd (none-some u h)
-    nodes-hold (tree t ts) q i zero m r u l h w = false-left _ _ (node-holds t (q ++ i ∷ []) r u h (ap (λ j. known (origin_at named j u)) (append_assoc q (i ∷ []) r ∙ ap (λ j. q ++ j ∷ r) (same m i l)) ∙ w))
+    nodes-hold (tree t ts) q i zero m r u l h w = and-left_false _ _ (node-holds t (q ++ i ∷ []) r u h (ap (λ j. known (origin_at named j u)) (append_assoc q (i ∷ []) r ∙ ap (λ j. q ++ j ∷ r) (same m i l)) ∙ w))
       where
         same : (a b : ℕ) → a ≡ b + 0 → b ≡ a
         same a b e = omega arith
-    nodes-hold (tree t ts) q i (suc k) m r u l h w = false-right _ _ (nodes-hold ts q (suc i) k m r u (next m i k l) h w)
+    nodes-hold (tree t ts) q i (suc k) m r u l h w = and-right_false _ _ (nodes-hold ts q (suc i) k m r u (next m i k l) h w)
       where
         next : (a b c : ℕ) → a ≡ b + suc c → a ≡ suc b + c
         next a b c f = omega arith

@@ -8,8 +8,8 @@ use Rattle.tv_strategy.specs.Iterations.{Iteration, iteration, job, passed}
 use Rattle.tv_strategy.specs.Measures.{strategy_depth}
 use Rattle.tv_strategy.specs.Origins.{Origin, Traced}
 use Rattle.tv_strategy.specs.Outputs.{output_below}
-use Rattle.tv_depths.specs.Delivered.{Delivered, Ported, StepMeaning, feed_delivers, ported}
-use Rattle.tv_depths.specs.Steps.{bound_values, endings_of, node_origin, port_iteration, port_mismatch, spot, strategy_of}
+use Rattle.tv_instance.specs.Delivered.{Delivered, Ported, StepMeaning, feed_delivers, at_port}
+use Rattle.tv_instance.specs.Steps.{bound_values, endings_of, node_origin, port_iteration, port_mismatch, spot, strategy_of}
 
 -- what each job of an instance gives: one value for each output of its step
 abbrev pub Results : Type 0
@@ -45,7 +45,7 @@ jobs_at_node n s before (q, list sources ts) = []
 
 -- each input port as it takes what its feed delivers
 abbrev pub ports_on : (Feed → Delivered) → List (Name × StepInput) → List (Name × Ported)
-ports_on delivers is = map (λ i. (i.0, ported i.1.depth (delivers i.1.from))) is
+ports_on delivers is = map (λ i. (i.0, at_port i.1.depth (delivers i.1.from))) is
 
 abbrev pub iteration_on : (Feed → Delivered) → Step → Iteration
 iteration_on delivers s = iteration (port_iteration (ports_on delivers s.inputs)) (strategy_of s)

@@ -4,7 +4,7 @@ use Rattle.std.specs.Option.{option_map_or}
 use Rattle.tv_value.specs.Nested.{Place}
 use Rattle.tv_value.specs.Values.{Name}
 use Rattle.tv_flow.specs.Flows.{Step}
-use Rattle.tv_depths.specs.Ranks.{is_among}
+use Rattle.tv_instance.specs.Ranks.{is_among}
 use Rattle.tv_instance.specs.Events.{Events, closed_with, has_fault, has_result}
 use Rattle.tv_instance.specs.Wholeness.{one_if}
 

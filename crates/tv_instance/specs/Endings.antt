@@ -4,8 +4,8 @@ use Rattle.std.specs.Prelude.{◌≡◌, Bool, true, List, if◌then◌else◌}
 use Rattle.tv_value.specs.Nested.{Place}
 use Rattle.tv_value.specs.Values.{JobName, Name}
 use Rattle.tv_strategy.specs.Origins.{Known, Origin, at_start, by_job, by_level}
-use Rattle.tv_depths.specs.Ranks.{is_among}
-use Rattle.tv_depths.specs.Steps.{spot}
+use Rattle.tv_instance.specs.Ranks.{is_among}
+use Rattle.tv_instance.specs.Steps.{spot}
 use Rattle.tv_instance.specs.ByResults.{InstanceStep}
 
 module _ (known : Origin → Bool) where

@@ -5,7 +5,7 @@ use Rattle.tv_value.specs.Nested.{Place}
 use Rattle.tv_value.specs.Orders.{same_job, same_name}
 use Rattle.tv_value.specs.Values.{ErrorDoc, JobName, Name, Value}
 use Rattle.tv_strategy.specs.Origins.{Known, Origin, at_start, by_job, by_level}
-use Rattle.tv_depths.specs.Steps.{spot}
+use Rattle.tv_instance.specs.Steps.{spot}
 use Rattle.tv_instance.specs.ByResults.{Results}
 
 -- of what stands at a place of a step's iteration

@@ -10,3 +10,8 @@ pub mod Readiness
 pub mod OneEvent
 pub mod Stated
 pub mod Worked
+pub mod Ranks
+pub mod Delivered
+pub mod Steps
+pub mod CheckedDepths
+pub mod Nesting

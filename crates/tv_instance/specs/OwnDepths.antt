@@ -4,9 +4,9 @@ use Rattle.tv_value.specs.Values.{HasDepth, Name, JobName}
 use Rattle.tv_flow.specs.Flows.{Step}
 use Rattle.tv_strategy.specs.Measures.{strategy_depth}
 use Rattle.tv_strategy.specs.Sources.{JobsStand}
-use Rattle.tv_depths.specs.CheckedDepths.{StepDepths, port_depth, step_depths}
-use Rattle.tv_depths.specs.Delivered.{Delivered}
-use Rattle.tv_depths.specs.Steps.{strategy_of}
+use Rattle.tv_instance.specs.CheckedDepths.{StepDepths, port_depth, step_depths}
+use Rattle.tv_instance.specs.Delivered.{Delivered}
+use Rattle.tv_instance.specs.Steps.{strategy_of}
 use Rattle.tv_instance.specs.ByResults.{InstanceStep, Results, result_at, step_by}
 
 -- each job of a step gives values of the depths that are declared, output by output from the k-th on

@@ -8,8 +8,8 @@ use Rattle.tv_flow.specs.Flows.{Step}
 use Rattle.tv_strategy.specs.Iterations.{Iteration, Iterations}
 use Rattle.tv_strategy.specs.Origins.{Origin, Traced}
 use Rattle.tv_strategy.specs.Outputs.{output_below}
-use Rattle.tv_depths.specs.Delivered.{Delivered}
-use Rattle.tv_depths.specs.Steps.{endings_of, spot}
+use Rattle.tv_instance.specs.Delivered.{Delivered}
+use Rattle.tv_instance.specs.Steps.{endings_of, spot}
 use Rattle.tv_instance.specs.ByResults.{InstanceStep, Results, step_by, step_of}
 use Rattle.tv_instance.specs.Endings.{has_ended, have_ended}
 use Rattle.tv_instance.specs.OneEvent.{Rises, turns_whole}

@@ -38,7 +38,11 @@ one_port depth from =
     }
 
 abbrev pub u_step : Name × Step
-u_step = (u, one_port 0 (constant (list_value (trees_of (text_value (codes "a") ∷ text_value (codes "b") ∷ [])))))
+u_step = (
+  u,
+  one_port 0
+      (constant (list_value (trees_of (text_value (codes "a") ∷ text_value (codes "b") ∷ [])))),
+)
 
 abbrev pub v_step : Name × Step
 v_step = (v, one_port 1 (link (output u o)))

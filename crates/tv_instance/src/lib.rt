@@ -1,5 +1,10 @@
 //! One instance of a flow by the results of its jobs: definitions and laws, of which the program runs nothing.
 //!
+//! At the bottom stand the order of steps by rank (`specs/Ranks.antt`), delivered values, wrapped or to be iterated
+//! (`specs/Delivered.antt`), a step's strategy, nodes, outputs and ending (`specs/Steps.antt`), and the depths that feeds
+//! deliver by what is declared (`specs/CheckedDepths.antt`). They take the results of an instance's jobs as a function of
+//! their names, and the steps so far in whatever form the crate above keeps them.
+//!
 //! The definitions take what each job of an instance gives as a function of its step and place, and no services: from
 //! that come the delivered values, iterations, outputs, jobs and endings of the instance's steps
 //! (`specs/ByResults.antt`). What an open instance was told is a list of events (`specs/Events.antt`): a job gave, a list

@@ -7,10 +7,10 @@ use Rattle.std.proofs.lemmas.List.{length-map, take-append-drop, map-append}
 use Rattle.std.proofs.lemmas.List.Sorted.{IsPermutation-append, IsPermutation-append_comm, IsPermutation-refl, IsPermutation-sym, IsPermutation-trans}
 use Rattle.std.proofs.lemmas.Option.{get_or_from_slice_get, slice_get_read, slice_get_within}
 use Rattle.std.proofs.lemmas.Simd.{map-map}
+use Rattle.tv_lemmas.specs.Members.{Each}
 use Rattle.tv_lemmas.proofs.Numbers.{none-below, suc-plus, is-plus_zero}
 use Rattle.tv_lemmas.proofs.Lists.{map-take, get-end}
 use Rattle.tv_value.specs.Nested.{Place}
-use Rattle.tv_strategy.specs.Sources.{Each}
 use Rattle.tv_matching.specs.Told.{faulty_at}
 use Rattle.tv_strategy.specs.Measures.{leaf_names}
 use Rattle.tv_value.specs.Strategies.{Strategy}
@@ -28,7 +28,8 @@ use Rattle.tv_match.specs.Seen.{in_order}
 use Rattle.tv_match.proofs.Fronts.{front-first}
 use Rattle.tv_intake.specs.declared.found.Found.{Found}
 use Rattle.tv_intake.specs.Sorting.{brought, found_at, found_jobs, found_others, job_places, job_positions, other_positions, others_among}
-use Rattle.tv_intake.specs.Intaken.{AreSorted, CanHold, CanShow, IsFaultyAt, IsSoundAt, IsToldAll, brought_in, followed_in, outcome_place, placed, positions_of, thing_in}
+use Rattle.tv_intake.specs.Intaken.{AreSorted, CanHold, CanShow, IsFaultyAt, IsSoundAt, IsToldAll, brought_in, followed_in, placed, positions_of, thing_in}
+use Rattle.tv_match.specs.Stated.{outcome_place}
 
 abbrev no_job : Outcome
 no_job = job_at []

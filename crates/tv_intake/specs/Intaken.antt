@@ -5,12 +5,13 @@ use Rattle.tv_value.specs.Nested.{Place}
 use Rattle.tv_value.specs.Strategies.{Strategy}
 use Rattle.tv_value.specs.Values.{Name}
 use Rattle.tv_matching.specs.Told.{Told, faulty_at}
-use Rattle.tv_matching.specs.Matchers.{CanTellAll, IsFreed, Holds, Matching, Outcome, Starts, fault_at, job_at, list_at}
+use Rattle.tv_matching.specs.Matchers.{CanTellAll, IsFreed, Holds, Matching, Outcome, Starts, job_at}
 use Rattle.tv_match.specs.declared.matchers.Matcher.{Matcher}
 use Rattle.tv_match.specs.declared.told.Told as code
 use Rattle.tv_match.specs.Seen.{IsSound, NameLeaves, matching, told_view}
 use Rattle.tv_match.specs.Ahead.{in_order_ahead}
 use Rattle.tv_match.specs.Seen.{in_order}
+use Rattle.tv_match.specs.Stated.{outcome_place}
 use Rattle.tv_intake.specs.declared.found.Found.{Found}
 use Rattle.tv_intake.specs.declared.intakes.Intakes.{Intakes}
 use Rattle.tv_intake.specs.Sorting.{brought, faulty_ahead, job_positions, other_positions}
@@ -23,11 +24,6 @@ followed_in ms k = option_map_or in_order (slice_get ms k) []
 
 abbrev pub brought_in : List Matcher → ℕ → List Outcome
 brought_in ms k = option_map_or brought (slice_get ms k) []
-
-abbrev pub outcome_place : Outcome → Place
-outcome_place (job_at q) = q
-outcome_place (list_at q n) = q
-outcome_place (fault_at q l) = q
 
 -- what stands where a thing was found, with its step
 abbrev pub thing_in : List Matcher → Found → ℕ × Outcome

@@ -1,7 +1,7 @@
 //! The input side of an instance's steps: one matcher for each step, and what they have matched so far, sorted into known jobs,
 //! which are numbered in the order in which they become known, and lists and passed faults that wait to be settled.
 //!
-//! A step is told in two halves. `hold` has its matcher work the tellings ahead, and `make_room` takes all the room that
+//! A step is told in two halves, but for what `add_bound` tells it at once. `hold` has its matcher work the tellings ahead, and `make_room` takes all the room that
 //! showing what several steps hold will need, and tells how many jobs that makes known; either may be refused, and what
 //! follows of the tellings that were made stays as it is. `show` then makes the held tellings of a step and takes no memory.
 //!

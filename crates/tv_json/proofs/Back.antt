@@ -21,7 +21,7 @@ use Rattle.tv_value.specs.Printed.{json, all_json, scalar_json, members}
 use Rattle.tv_value.specs.Strategies.{Strategy, port, cross, dot, Strategies, no_strategies, strategy}
 use Rattle.tv_value.specs.Activities.{Activity, service, nested}
 use Rattle.tv_flow.specs.declared.faults.FormKind.TheVariants.{OutOfRange, BadName}
-use Rattle.tv_flow.specs.Complaints.{Path, Complaint, complaint, key, index, given}
+use Rattle.tv_flow.specs.Complaints.{Path, Complaint, complaint, key, index, and_then}
 use Rattle.tv_flow.specs.Flows.{Link, input, output, Feed, link, merge, constant, StepInput, Step, Flow, Document}
 use Rattle.tv_flow.specs.Forms.{is_name, name_or_not, name_form, number_form, depth_form, counted, member_count, entries_form, named_form, items_form, array_form, value_form, of_reading, link_form, feed_form, tree_form, trees_form, each_tree, activity_form, step_input_form, names_form, step_form, flow_form, form_of}
 use Rattle.tv_flow.specs.Formed.{is_ascending, is_between, is_depth, are_entries, are_named, are_listed, is_value, are_values, is_link, is_feed, strategy_count, is_tree, are_trees, is_activity, is_step_input, are_names, is_step, is_flow, is_formed}
@@ -77,8 +77,8 @@ module _ {A : Type 0} (form : Path → Data → Result A Complaint) (test : A �
   items-back : (here : Path) (i : ℕ) (xs : List A) → list_all test xs ≡ true → items_form form here i (items_of (map f xs)) ≡ Ok xs
   items-back here i [] h = refl
   items-back here i (x ∷ xs) h =
-      ap (λ r. given r (λ a. given (items_form form here (suc i) (items_of (map f xs))) (λ as'. Ok (a ∷ as')))) (back (index here i) x (first_so (test x) (list_all test xs) h))
-      ∙ ap (λ r. given r (λ as'. Ok (x ∷ as'))) (items-back here (suc i) xs (second_so (test x) (list_all test xs) h))
+      ap (λ r. and_then r (λ a. and_then (items_form form here (suc i) (items_of (map f xs))) (λ as'. Ok (a ∷ as')))) (back (index here i) x (first_so (test x) (list_all test xs) h))
+      ∙ ap (λ r. and_then r (λ as'. Ok (x ∷ as'))) (items-back here (suc i) xs (second_so (test x) (list_all test xs) h))
 
   count-items : (xs : List A) → item_count (items_of (map f xs)) ≡ length xs
   count-items [] = refl
@@ -86,7 +86,7 @@ module _ {A : Type 0} (form : Path → Data → Result A Complaint) (test : A �
 
   array-back : (least most : ℕ) (here : Path) (xs : List A) → are_listed test least most xs ≡ true → array_form form least most here (array_json f xs) ≡ Ok xs
   array-back least most here xs h =
-      ap (λ r. given r (λ u. items_form form here 0 (items_of (map f xs))))
+      ap (λ r. and_then r (λ u. items_form form here 0 (items_of (map f xs))))
       (ap (counted least most here) (count-items xs) ∙ counted-back least most here (length xs) (first_so (is_between least most (length xs)) (list_all test xs) h))
       ∙ items-back here 0 xs (second_so (is_between least most (length xs)) (list_all test xs) h)
 
@@ -111,17 +111,17 @@ module _ {A : Type 0} (form : Path → Data → Result A Complaint) (test : A �
   entries-back here (e ∷ es) h =
       let both = first_so (is_name e.0 && test e.1) (list_all (λ y. is_name y.0 && test y.1) es) h in
       let rest = entries-back here es (second_so (is_name e.0 && test e.1) (list_all (λ y. is_name y.0 && test y.1) es) h) in
-      ap (λ r. given r (λ n. given (form (key here e.0) (f e.1)) (λ a. given (entries_form form here (members (pairs es))) (λ as'. Ok ((n, a) ∷ as'))))) (name-back (key here e.0) e.0 (first_so (is_name e.0) (test e.1) both))
-      ∙ ap (λ r. given r (λ a. given (entries_form form here (members (pairs es))) (λ as'. Ok ((e.0, a) ∷ as')))) (back (key here e.0) e.1 (second_so (is_name e.0) (test e.1) both))
-      ∙ ap (λ r. given r (λ as'. Ok ((e.0, e.1) ∷ as'))) rest
+      ap (λ r. and_then r (λ n. and_then (form (key here e.0) (f e.1)) (λ a. and_then (entries_form form here (members (pairs es))) (λ as'. Ok ((n, a) ∷ as'))))) (name-back (key here e.0) e.0 (first_so (is_name e.0) (test e.1) both))
+      ∙ ap (λ r. and_then r (λ a. and_then (entries_form form here (members (pairs es))) (λ as'. Ok ((e.0, a) ∷ as')))) (back (key here e.0) e.1 (second_so (is_name e.0) (test e.1) both))
+      ∙ ap (λ r. and_then r (λ as'. Ok ((e.0, e.1) ∷ as'))) rest
 
   named-back : (least most : ℕ) (here : Path) (es : List (Name × A)) → are_named test least most es ≡ true → named_form form least most here (named_json f es) ≡ Ok es
   named-back least most here es h =
       let names = is_ascending (map (λ (e : Name × A). e.0) es) in
       let all = list_all (λ e. is_name e.0 && test e.1) es in
       let entries = second_so (is_between least most (length es)) (names && all) h in
-      ap (λ ms. given (counted least most here (member_count ms)) (λ u. entries_form form here ms)) (put_each-members [] es (under-none es) (first_so names all entries))
-      ∙ ap (λ r. given r (λ u. entries_form form here (members (pairs es)))) (ap (counted least most here) (count-pairs es) ∙ counted-back least most here (length es) (first_so (is_between least most (length es)) (names && all) h))
+      ap (λ ms. and_then (counted least most here (member_count ms)) (λ u. entries_form form here ms)) (put_each-members [] es (under-none es) (first_so names all entries))
+      ∙ ap (λ r. and_then r (λ u. entries_form form here (members (pairs es)))) (ap (counted least most here) (count-pairs es) ∙ counted-back least most here (length es) (first_so (is_between least most (length es)) (names && all) h))
       ∙ entries-back here es (second_so names all entries)
 
 -- ---- values
@@ -160,25 +160,25 @@ value_form-back here v h = ap (of_reading here) (value-back v h)
 -- ---- feeds
 
 link-back : (here : Path) (l : Link) → is_link l ≡ true → link_form here (link_json l) ≡ Ok l
-link-back here (input n) h = ap (λ r. given r (λ m. Ok (input m))) (name-back (key here (codes "input")) n h)
+link-back here (input n) h = ap (λ r. and_then r (λ m. Ok (input m))) (name-back (key here (codes "input")) n h)
 link-back here (output s p) h =
-    ap (λ r. given r (λ t. given (name_or_not (key here (codes "port")) p) (λ q. Ok (output t q)))) (name-back (key here (codes "step")) s (first_so (is_name s) (is_name p) h))
-    ∙ ap (λ r. given r (λ q. Ok (output s q))) (name-back (key here (codes "port")) p (second_so (is_name s) (is_name p) h))
+    ap (λ r. and_then r (λ t. and_then (name_or_not (key here (codes "port")) p) (λ q. Ok (output t q)))) (name-back (key here (codes "step")) s (first_so (is_name s) (is_name p) h))
+    ∙ ap (λ r. and_then r (λ q. Ok (output s q))) (name-back (key here (codes "port")) p (second_so (is_name s) (is_name p) h))
 
 feed-back : (here : Path) (a : Feed) → is_feed a ≡ true → feed_form here (feed_json a) ≡ Ok a
-feed-back here (link (input n)) h = ap (λ r. given r (λ l. Ok (link l))) (link-back here (input n) h)
-feed-back here (link (output s p)) h = ap (λ r. given r (λ l. Ok (link l))) (link-back here (output s p) h)
-feed-back here (merge ls) h = ap (λ r. given r (λ ms. Ok (merge ms))) (array-back link_form is_link link_json link-back 1 16 (key here (codes "merge")) ls h)
-feed-back here (constant v) h = ap (λ r. given r (λ w. Ok (constant w))) (value_form-back (key here (codes "constant")) v h)
+feed-back here (link (input n)) h = ap (λ r. and_then r (λ l. Ok (link l))) (link-back here (input n) h)
+feed-back here (link (output s p)) h = ap (λ r. and_then r (λ l. Ok (link l))) (link-back here (output s p) h)
+feed-back here (merge ls) h = ap (λ r. and_then r (λ ms. Ok (merge ms))) (array-back link_form is_link link_json link-back 1 16 (key here (codes "merge")) ls h)
+feed-back here (constant v) h = ap (λ r. and_then r (λ w. Ok (constant w))) (value_form-back (key here (codes "constant")) v h)
 
 step_input-back : (here : Path) (i : StepInput) → is_step_input i ≡ true → step_input_form here (step_input_json i) ≡ Ok i
 step_input-back here i h =
-    ap (λ r. given r (λ depth. given (feed_form (key here (codes "from")) (feed_json i.from)) (λ from. Ok (record { depth = depth; from = from })))) (number-back 0 32 (key here (codes "depth")) i.depth (first_so (is_depth i.depth) (is_feed i.from) h))
-    ∙ ap (λ r. given r (λ from. Ok (record { depth = i.depth; from = from }))) (feed-back (key here (codes "from")) i.from (second_so (is_depth i.depth) (is_feed i.from) h))
+    ap (λ r. and_then r (λ depth. and_then (feed_form (key here (codes "from")) (feed_json i.from)) (λ from. Ok (record { depth = depth; from = from })))) (number-back 0 32 (key here (codes "depth")) i.depth (first_so (is_depth i.depth) (is_feed i.from) h))
+    ∙ ap (λ r. and_then r (λ from. Ok (record { depth = i.depth; from = from }))) (feed-back (key here (codes "from")) i.from (second_so (is_depth i.depth) (is_feed i.from) h))
 
 activity-back : (here : Path) (a : Activity) → is_activity a ≡ true → activity_form here (activity_json a) ≡ Ok a
-activity-back here (service n) h = ap (λ r. given r (λ m. Ok (service m))) (name-back (key here (codes "service")) n h)
-activity-back here (nested n) h = ap (λ r. given r (λ m. Ok (nested m))) (name-back (key here (codes "flow")) n h)
+activity-back here (service n) h = ap (λ r. and_then r (λ m. Ok (service m))) (name-back (key here (codes "service")) n h)
+activity-back here (nested n) h = ap (λ r. and_then r (λ m. Ok (nested m))) (name-back (key here (codes "flow")) n h)
 
 -- ---- strategies
 
@@ -188,20 +188,20 @@ count-trees (strategy t ts) = ap suc (count-trees ts)
 
 children-back : (there : Path) (ts : Strategies) → (is_between 1 16 (strategy_count ts) && are_trees ts) ≡ true → each_tree there 0 (all_trees ts) ≡ Ok ts → trees_form there (array (all_trees ts)) ≡ Ok ts
 children-back there ts h e =
-    ap (λ r. given r (λ u. each_tree there 0 (all_trees ts))) (ap (counted 1 16 there) (count-trees ts) ∙ counted-back 1 16 there (strategy_count ts) (first_so (is_between 1 16 (strategy_count ts)) (are_trees ts) h))
+    ap (λ r. and_then r (λ u. each_tree there 0 (all_trees ts))) (ap (counted 1 16 there) (count-trees ts) ∙ counted-back 1 16 there (strategy_count ts) (first_so (is_between 1 16 (strategy_count ts)) (are_trees ts) h))
     ∙ e
 
 mutual
   tree-back : (here : Path) (t : Strategy) → is_tree t ≡ true → tree_form here (tree_json t) ≡ Ok t
-  tree-back here (port n) h = ap (λ r. given r (λ m. Ok (port m))) (name-back here n h)
-  tree-back here (cross ts) h = ap (λ r. given r (λ us. Ok (cross us))) (children-back (key here (codes "cross")) ts h (trees-back (key here (codes "cross")) 0 ts (second_so (is_between 1 16 (strategy_count ts)) (are_trees ts) h)))
-  tree-back here (dot ts) h = ap (λ r. given r (λ us. Ok (dot us))) (children-back (key here (codes "dot")) ts h (trees-back (key here (codes "dot")) 0 ts (second_so (is_between 1 16 (strategy_count ts)) (are_trees ts) h)))
+  tree-back here (port n) h = ap (λ r. and_then r (λ m. Ok (port m))) (name-back here n h)
+  tree-back here (cross ts) h = ap (λ r. and_then r (λ us. Ok (cross us))) (children-back (key here (codes "cross")) ts h (trees-back (key here (codes "cross")) 0 ts (second_so (is_between 1 16 (strategy_count ts)) (are_trees ts) h)))
+  tree-back here (dot ts) h = ap (λ r. and_then r (λ us. Ok (dot us))) (children-back (key here (codes "dot")) ts h (trees-back (key here (codes "dot")) 0 ts (second_so (is_between 1 16 (strategy_count ts)) (are_trees ts) h)))
 
   trees-back : (there : Path) (i : ℕ) (ts : Strategies) → are_trees ts ≡ true → each_tree there i (all_trees ts) ≡ Ok ts
   trees-back there i no_strategies h = refl
   trees-back there i (strategy t ts) h =
-      ap (λ r. given r (λ u. given (each_tree there (suc i) (all_trees ts)) (λ us. Ok (strategy u us)))) (tree-back (index there i) t (first_so (is_tree t) (are_trees ts) h))
-      ∙ ap (λ r. given r (λ us. Ok (strategy t us))) (trees-back there (suc i) ts (second_so (is_tree t) (are_trees ts) h))
+      ap (λ r. and_then r (λ u. and_then (each_tree there (suc i) (all_trees ts)) (λ us. Ok (strategy u us)))) (tree-back (index there i) t (first_so (is_tree t) (are_trees ts) h))
+      ∙ ap (λ r. and_then r (λ us. Ok (strategy t us))) (trees-back there (suc i) ts (second_so (is_tree t) (are_trees ts) h))
 
 -- ---- names in order
 
@@ -221,7 +221,7 @@ names-back here ns h =
     let few = nat_le (length ns) 16 in
     let all = list_all is_name ns in
     let first = first_so (few && is_ascending ns) all h in
-    ap (λ r. given r (λ ms. Ok (in_order name_cmp ms)))
+    ap (λ r. and_then r (λ ms. Ok (in_order name_cmp ms)))
     (array-back name_form is_name string (λ p n e. name-back p n e) 0 16 here ns (ap (λ b. b && all) (at-most (length ns) (first_so few (is_ascending ns) first)) ∙ second_so (few && is_ascending ns) all h))
     ∙ ap Ok (sorted ns (second_so few (is_ascending ns) first))
 
@@ -238,27 +238,27 @@ module _ (here : Path) (inputs : List (Name × StepInput)) (outputs : List (Name
   step_of o = record { inputs = inputs; outputs = outputs; strategy = o; activities = activities; retries = retries; jobs = jobs; after = after }
 
   abbrev rest-of : List (Name × StepInput) → List (Name × ℕ) → Option Strategy → Result Step Complaint
-  rest-of is os o = given (array_form activity_form 1 8 (key here (codes "activities")) (array_json activity_json activities)) (λ as'. given (number_form 0 100 (key here (codes "retries")) (number_json retries)) (λ rs. given (number_form 1 64 (key here (codes "jobs")) (number_json jobs)) (λ js. given (names_form (key here (codes "after")) (array_json string after)) (λ ns. Ok (record { inputs = is; outputs = os; strategy = o; activities = as'; retries = rs; jobs = js; after = ns })))))
+  rest-of is os o = and_then (array_form activity_form 1 8 (key here (codes "activities")) (array_json activity_json activities)) (λ as'. and_then (number_form 0 100 (key here (codes "retries")) (number_json retries)) (λ rs. and_then (number_form 1 64 (key here (codes "jobs")) (number_json jobs)) (λ js. and_then (names_form (key here (codes "after")) (array_json string after)) (λ ns. Ok (record { inputs = is; outputs = os; strategy = o; activities = as'; retries = rs; jobs = js; after = ns })))))
 
   tail : (o : Option Strategy) → rest-of inputs outputs o ≡ Ok (step_of o)
   tail o =
-      ap (λ r. given r (λ as'. given (number_form 0 100 (key here (codes "retries")) (number_json retries)) (λ rs. given (number_form 1 64 (key here (codes "jobs")) (number_json jobs)) (λ js. given (names_form (key here (codes "after")) (array_json string after)) (λ ns. Ok (record { inputs = inputs; outputs = outputs; strategy = o; activities = as'; retries = rs; jobs = js; after = ns })))))) is-activities
-      ∙ ap (λ r. given r (λ rs. given (number_form 1 64 (key here (codes "jobs")) (number_json jobs)) (λ js. given (names_form (key here (codes "after")) (array_json string after)) (λ ns. Ok (record { inputs = inputs; outputs = outputs; strategy = o; activities = activities; retries = rs; jobs = js; after = ns }))))) is-retries
-      ∙ ap (λ r. given r (λ js. given (names_form (key here (codes "after")) (array_json string after)) (λ ns. Ok (record { inputs = inputs; outputs = outputs; strategy = o; activities = activities; retries = retries; jobs = js; after = ns })))) is-jobs
-      ∙ ap (λ r. given r (λ ns. Ok (record { inputs = inputs; outputs = outputs; strategy = o; activities = activities; retries = retries; jobs = jobs; after = ns }))) is-after
+      ap (λ r. and_then r (λ as'. and_then (number_form 0 100 (key here (codes "retries")) (number_json retries)) (λ rs. and_then (number_form 1 64 (key here (codes "jobs")) (number_json jobs)) (λ js. and_then (names_form (key here (codes "after")) (array_json string after)) (λ ns. Ok (record { inputs = inputs; outputs = outputs; strategy = o; activities = as'; retries = rs; jobs = js; after = ns })))))) is-activities
+      ∙ ap (λ r. and_then r (λ rs. and_then (number_form 1 64 (key here (codes "jobs")) (number_json jobs)) (λ js. and_then (names_form (key here (codes "after")) (array_json string after)) (λ ns. Ok (record { inputs = inputs; outputs = outputs; strategy = o; activities = activities; retries = rs; jobs = js; after = ns }))))) is-retries
+      ∙ ap (λ r. and_then r (λ js. and_then (names_form (key here (codes "after")) (array_json string after)) (λ ns. Ok (record { inputs = inputs; outputs = outputs; strategy = o; activities = activities; retries = retries; jobs = js; after = ns })))) is-jobs
+      ∙ ap (λ r. and_then r (λ ns. Ok (record { inputs = inputs; outputs = outputs; strategy = o; activities = activities; retries = retries; jobs = jobs; after = ns }))) is-after
 
   plain-back : step_form here (step_json (step_of None)) ≡ Ok (step_of None)
   plain-back =
-      ap (λ r. given r (λ is. given (named_form depth_form 0 16 (key here (codes "outputs")) (named_json number_json outputs)) (λ os. rest-of is os None))) is-inputs
-      ∙ ap (λ r. given r (λ os. rest-of inputs os None)) is-outputs
+      ap (λ r. and_then r (λ is. and_then (named_form depth_form 0 16 (key here (codes "outputs")) (named_json number_json outputs)) (λ os. rest-of is os None))) is-inputs
+      ∙ ap (λ r. and_then r (λ os. rest-of inputs os None)) is-outputs
       ∙ tail None
 
   tree-step-back : (t : Strategy) → tree_form (key here (codes "strategy")) (tree_json t) ≡ Ok t → step_form here (step_json (step_of (Some t))) ≡ Ok (step_of (Some t))
   tree-step-back t e =
-      let tree = given (tree_form (key here (codes "strategy")) (tree_json t)) (λ u. Ok (Some u)) in
-      ap (λ r. given r (λ is. given (named_form depth_form 0 16 (key here (codes "outputs")) (named_json number_json outputs)) (λ os. given tree (λ o. rest-of is os o)))) is-inputs
-      ∙ ap (λ r. given r (λ os. given tree (λ o. rest-of inputs os o))) is-outputs
-      ∙ ap (λ r. given (given r (λ u. Ok (Some u))) (λ o. rest-of inputs outputs o)) e
+      let tree = and_then (tree_form (key here (codes "strategy")) (tree_json t)) (λ u. Ok (Some u)) in
+      ap (λ r. and_then r (λ is. and_then (named_form depth_form 0 16 (key here (codes "outputs")) (named_json number_json outputs)) (λ os. and_then tree (λ o. rest-of is os o)))) is-inputs
+      ∙ ap (λ r. and_then r (λ os. and_then tree (λ o. rest-of inputs os o))) is-outputs
+      ∙ ap (λ r. and_then (and_then r (λ u. Ok (Some u))) (λ o. rest-of inputs outputs o)) e
       ∙ tail (Some t)
 
 depths-back : (here : Path) (ds : List (Name × ℕ)) → are_named is_depth 0 16 ds ≡ true → named_form depth_form 0 16 here (named_json number_json ds) ≡ Ok ds
@@ -308,9 +308,9 @@ flow-back here f h =
     let steps = are_named is_step 0 1000 f.steps in
     let outs = are_named is_feed 0 16 f.outputs in
     let both = first_so (ins && steps) outs h in
-    ap (λ r. given r (λ is. given (named_form step_form 0 1000 (key here (codes "steps")) (named_json step_json f.steps)) (λ ss. given (named_form feed_form 0 16 (key here (codes "outputs")) (named_json feed_json f.outputs)) (λ os. Ok (record { inputs = is; steps = ss; outputs = os }))))) (depths-back (key here (codes "inputs")) f.inputs (first_so ins steps both))
-    ∙ ap (λ r. given r (λ ss. given (named_form feed_form 0 16 (key here (codes "outputs")) (named_json feed_json f.outputs)) (λ os. Ok (record { inputs = f.inputs; steps = ss; outputs = os })))) (named-back step_form is_step step_json step-back 0 1000 (key here (codes "steps")) f.steps (second_so ins steps both))
-    ∙ ap (λ r. given r (λ os. Ok (record { inputs = f.inputs; steps = f.steps; outputs = os }))) (named-back feed_form is_feed feed_json feed-back 0 16 (key here (codes "outputs")) f.outputs (second_so (ins && steps) outs h))
+    ap (λ r. and_then r (λ is. and_then (named_form step_form 0 1000 (key here (codes "steps")) (named_json step_json f.steps)) (λ ss. and_then (named_form feed_form 0 16 (key here (codes "outputs")) (named_json feed_json f.outputs)) (λ os. Ok (record { inputs = is; steps = ss; outputs = os }))))) (depths-back (key here (codes "inputs")) f.inputs (first_so ins steps both))
+    ∙ ap (λ r. and_then r (λ ss. and_then (named_form feed_form 0 16 (key here (codes "outputs")) (named_json feed_json f.outputs)) (λ os. Ok (record { inputs = f.inputs; steps = ss; outputs = os })))) (named-back step_form is_step step_json step-back 0 1000 (key here (codes "steps")) f.steps (second_so ins steps both))
+    ∙ ap (λ r. and_then r (λ os. Ok (record { inputs = f.inputs; steps = f.steps; outputs = os }))) (named-back feed_form is_feed feed_json feed-back 0 16 (key here (codes "outputs")) f.outputs (second_so (ins && steps) outs h))
 
 four : (a b c d : Bool) → (a && b && c && d) ≡ true → (a ≡ true) × ((b ≡ true) × ((c ≡ true) × (d ≡ true)))
 four true true true true h = (refl, (refl, (refl, refl)))
@@ -327,7 +327,7 @@ pub document-back : (d : Document) → is_formed d ≡ true → length d.inputs 
 document-back d h few =
     let here : Path = [] in
     let p = four (is_between 1 1 d.format) (is_name d.main) (are_named is_flow 1 256 d.flows) (are_entries is_value d.inputs) h in
-    ap (λ r. given r (λ format. given (name_or_not (key here (codes "main")) d.main) (λ main. given (named_form flow_form 1 256 (key here (codes "flows")) (named_json flow_json d.flows)) (λ flows. given (named_form value_form 0 16 (key here (codes "inputs")) (named_json json d.inputs)) (λ inputs. Ok (record { format = format; main = main; flows = flows; inputs = inputs })))))) (number-back 1 1 (key here (codes "taverna")) d.format p.0)
-    ∙ ap (λ r. given r (λ main. given (named_form flow_form 1 256 (key here (codes "flows")) (named_json flow_json d.flows)) (λ flows. given (named_form value_form 0 16 (key here (codes "inputs")) (named_json json d.inputs)) (λ inputs. Ok (record { format = d.format; main = main; flows = flows; inputs = inputs }))))) (name-back (key here (codes "main")) d.main p.1.0)
-    ∙ ap (λ r. given r (λ flows. given (named_form value_form 0 16 (key here (codes "inputs")) (named_json json d.inputs)) (λ inputs. Ok (record { format = d.format; main = d.main; flows = flows; inputs = inputs })))) (named-back flow_form is_flow flow_json flow-back 1 256 (key here (codes "flows")) d.flows p.1.1.0)
-    ∙ ap (λ r. given r (λ inputs. Ok (record { format = d.format; main = d.main; flows = d.flows; inputs = inputs }))) (named-back value_form is_value json value_form-back 0 16 (key here (codes "inputs")) d.inputs (ap (λ b. b && are_entries is_value d.inputs) (all-few (length d.inputs) few) ∙ p.1.1.1))
+    ap (λ r. and_then r (λ format. and_then (name_or_not (key here (codes "main")) d.main) (λ main. and_then (named_form flow_form 1 256 (key here (codes "flows")) (named_json flow_json d.flows)) (λ flows. and_then (named_form value_form 0 16 (key here (codes "inputs")) (named_json json d.inputs)) (λ inputs. Ok (record { format = format; main = main; flows = flows; inputs = inputs })))))) (number-back 1 1 (key here (codes "taverna")) d.format p.0)
+    ∙ ap (λ r. and_then r (λ main. and_then (named_form flow_form 1 256 (key here (codes "flows")) (named_json flow_json d.flows)) (λ flows. and_then (named_form value_form 0 16 (key here (codes "inputs")) (named_json json d.inputs)) (λ inputs. Ok (record { format = d.format; main = main; flows = flows; inputs = inputs }))))) (name-back (key here (codes "main")) d.main p.1.0)
+    ∙ ap (λ r. and_then r (λ flows. and_then (named_form value_form 0 16 (key here (codes "inputs")) (named_json json d.inputs)) (λ inputs. Ok (record { format = d.format; main = d.main; flows = flows; inputs = inputs })))) (named-back flow_form is_flow flow_json flow-back 1 256 (key here (codes "flows")) d.flows p.1.1.0)
+    ∙ ap (λ r. and_then r (λ inputs. Ok (record { format = d.format; main = d.main; flows = d.flows; inputs = inputs }))) (named-back value_form is_value json value_form-back 0 16 (key here (codes "inputs")) d.inputs (ap (λ b. b && are_entries is_value d.inputs) (all-few (length d.inputs) few) ∙ p.1.1.1))

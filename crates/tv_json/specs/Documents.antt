@@ -36,7 +36,8 @@ feed_json (merge ls) = only (codes "merge") (array_json link_json ls)
 feed_json (constant v) = only (codes "constant") (json v)
 
 abbrev pub step_input_json : StepInput → Data
-step_input_json i = object (members ((codes "depth", number_json i.depth) ∷ (codes "from", feed_json i.from) ∷ []))
+step_input_json i =
+    object (members ((codes "depth", number_json i.depth) ∷ (codes "from", feed_json i.from) ∷ []))
 
 abbrev pub activity_json : Activity → Data
 activity_json (service n) = only (codes "service") (string n)

@@ -53,9 +53,7 @@ fn error_object(
     why: &str,
 ) -> Result<Json, AllocError>
     ensures { IfOk result (λ j. json_view j
-        ≡ object
-        (members
-        ((
+        ≡ object (members ((
           codes "error",
           object (members ((codes "at", string at.now)
               ∷ (codes "depth", number (unsigned depth)) ∷ (codes "from", json_view from.now)

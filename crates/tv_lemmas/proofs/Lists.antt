@@ -1,7 +1,7 @@
 -- Lists: their elements by number, and maps, filters and tests of all.
-use Rattle.std.specs.Prelude.{◌≡◌, refl, ℕ, zero, suc, ◌+◌, ◌<◌, Bool, true, false, cond, List, [], ◌∷◌, ◌++◌, map, filter, flat_map, length, take, get_or, slice_get, slice_index_or, Some, None, IsPermutation}
+use Rattle.std.specs.Prelude.{◌≡◌, refl, ℕ, zero, suc, ◌+◌, ◌<◌, ◌⊎◌, Bool, true, false, cond, List, [], ◌∷◌, ◌++◌, map, filter, flat_map, length, take, get_or, slice_get, slice_index_or, Some, None, IsPermutation}
 use Rattle.std.specs.List.{list_all, range_with_len}
-use Rattle.std.proofs.Common.{arith, sym, ap, subst, ◌∙◌, append_assoc}
+use Rattle.std.proofs.Common.{arith, sym, ap, subst, ◌∙◌, append_assoc, inl, inr}
 use Rattle.std.proofs.lemmas.Bool.{and_from, and_parts}
 use Rattle.std.proofs.lemmas.Grind.{flat_map-append}
 use Rattle.std.proofs.lemmas.List.FromFn.{length-map-range_with_len, get_or-map-range_with_len}
@@ -27,6 +27,28 @@ get-read xs k x l e = slice_get_read xs (length xs) k x refl l e
 pub get-end : {A : Type 0} (xs : List A) (x : A) → slice_get (xs ++ x ∷ []) (length xs) ≡ Some x
 get-end [] x = refl
 get-end (y ∷ xs) x = get-end xs x
+
+-- one list behind another
+pub in-front : {A : Type 0} (xs ys : List A) (n : ℕ) (x : A) → slice_get xs n ≡ Some x → slice_get (xs ++ ys) n ≡ Some x
+in-front [] ys n x e = absurd (none-some x e)
+in-front (z ∷ xs) ys zero x e = e
+in-front (z ∷ xs) ys (suc n) x e = in-front xs ys n x e
+
+pub in-behind : {A : Type 0} (xs ys : List A) (p : ℕ) → slice_get (xs ++ ys) (length xs + p) ≡ slice_get ys p
+in-behind [] ys p = let e : 0 + p ≡ p = omega arith in ap (slice_get ys) e
+in-behind (z ∷ xs) ys p =
+    let e : suc (length xs) + p ≡ suc (length xs + p) = omega arith in
+    ap (slice_get (z ∷ (xs ++ ys))) e ∙ in-behind xs ys p
+
+pub get-last : {A : Type 0} (xs : List A) (y : A) (n : ℕ) (x : A) → slice_get (xs ++ y ∷ []) n ≡ Some x → (slice_get xs n ≡ Some x) ⊎ ((n ≡ length xs) × (x ≡ y))
+get-last [] y zero x e = inr (refl, sym (same_Some y x e))
+get-last [] y (suc n) x e = absurd (none-some x e)
+get-last (z ∷ xs) y zero x e = inl e
+get-last (z ∷ xs) y (suc n) x e =
+    elim (get-last xs y n x e) [
+      | inl h ↦ inl h
+      | inr h ↦ inr (ap suc h.0, h.1)
+    ]
 
 pub take-next : {A : Type 0} (xs : List A) (k : ℕ) (x : A) → k < length xs → x ≡ get_or xs k x → take (suc k) xs ≡ take k xs ++ x ∷ []
 take-next [] k x l e = none-below k l
@@ -56,6 +78,11 @@ pub of-get_map : {A B : Type 0} (f : A → B) (xs : List A) (k : ℕ) (y : B) �
 of-get_map f [] k y e = cc
 of-get_map f (x ∷ xs) zero y e = let p : f x ≡ y = cc in (x, (refl, sym p))
 of-get_map f (x ∷ xs) (suc k) y e = of-get_map f xs k y e
+
+pub of-image : {A B : Type 0} (f : A → B) (xs : List A) (n : ℕ) (y : B) → slice_get (map f xs) n ≡ Some y → (x : A) × (slice_get xs n ≡ Some x) × (f x ≡ y)
+of-image f [] n y e = absurd (none-some y e)
+of-image f (x ∷ xs) zero y e = (x, refl, same_Some (f x) y e)
+of-image f (x ∷ xs) (suc n) y e = of-image f xs n y e
 
 pub get-map_read : {A B : Type 0} (f : A → B) (xs : List A) (k : ℕ) (x : A) → k < length xs → x ≡ get_or xs k x → slice_get (map f xs) k ≡ Some (f x)
 get-map_read f xs k x l e = get-map f xs k x (get-read xs k x l e)

@@ -1,8 +1,8 @@
 -- Numbers: sums, what is less, and digits.
-use Rattle.std.specs.Prelude.{◌≡◌, refl, ℕ, zero, suc, ◌+◌, ◌-◌, ◌*◌, ◌<◌, ◌≤◌, ◌==◌, min, true, false}
+use Rattle.std.specs.Prelude.{◌≡◌, refl, ℕ, zero, suc, ◌+◌, ◌-◌, ◌*◌, ◌<◌, ◌≤◌, ◌==◌, min, true, false, ◌⊎◌}
 use Rattle.std.specs.Str.{all_ascii_digits}
 use Rattle.std.specs.Str.Parse.{digits_value}
-use Rattle.std.proofs.Common.{arith, sym, ap, ◌∙◌, suc-mul}
+use Rattle.std.proofs.Common.{arith, sym, ap, ◌∙◌, suc-mul, inl, inr}
 use Rattle.std.proofs.lemmas.Bool.{ne_eqb}
 use Rattle.std.proofs.lemmas.Str.Parse.{IsNumeralModel, numerals_by_value, tells_all_ascii_digits}
 
@@ -47,6 +47,16 @@ suc-less m n h = omega arith
 
 pub less-back : (m n : ℕ) → suc m < suc n → m < n
 less-back m n h = omega arith
+
+pub less-or_same : (i n : ℕ) → i < suc n → (i < n) ⊎ (i ≡ n)
+less-or_same zero zero h = inr refl
+less-or_same zero (suc n) h = inl (omega arith)
+less-or_same (suc i) zero h = absurd (omega (arith, h))
+less-or_same (suc i) (suc n) h = by (less-or_same i n (omega (arith, h)))
+  where
+    by : (i < n) ⊎ (i ≡ n) → (suc i < suc n) ⊎ (suc i ≡ suc n)
+    by (inl k) = inl (omega (arith, k))
+    by (inr k) = inr (ap suc k)
 
 pub less-unequal : (m n : ℕ) → suc m ≤ n → (m == n) ≡ false
 less-unequal m n h = ne_eqb m n (unequal m n h)

@@ -1,15 +1,15 @@
 -- The lists and passed faults of an instance's steps: where they stand, how long a list is, and which leaf a fault came from.
 use Rattle.std.specs.Prelude.{◌≡◌, ◌<◌, ℕ, Bool, true, List, Option, Some, None, drop, length, slice_get}
+use Rattle.tv_lemmas.specs.Members.{In}
 use Rattle.tv_value.specs.Nested.{Place, at, count, leaf, list}
 use Rattle.tv_value.specs.Values.{ErrorDoc, Name, fault}
 use Rattle.tv_flow.specs.Flows.{Flow, Step}
 use Rattle.tv_strategy.specs.Iterations.{Iteration, job, passed}
 use Rattle.tv_strategy.specs.Origins.{Mark, Origin}
 use Rattle.tv_starts.specs.Starts.{starts}
-use Rattle.tv_depths.specs.Delivered.{Ported, StepMeaning}
-use Rattle.tv_depths.specs.Steps.{port_mismatch, strategy_of}
+use Rattle.tv_instance.specs.Delivered.{Ported, StepMeaning}
+use Rattle.tv_instance.specs.Steps.{port_mismatch, strategy_of}
 use Rattle.tv_value.specs.Orders.{named}
-use Rattle.tv_model.specs.Members.{In}
 
 -- a list of so many items, or a fault that came from the leaf of that number
 pub data What : Type 0 where

@@ -1,6 +1,6 @@
 -- The steps of the main instance of a meaning.
 use Rattle.std.specs.Prelude.{List, filter}
-use Rattle.tv_depths.specs.Delivered.{StepMeaning}
+use Rattle.tv_instance.specs.Delivered.{StepMeaning}
 use Rattle.tv_model.specs.Lineages.{is_outermost}
 use Rattle.tv_model.specs.Made.{Meaning}
 

@@ -15,6 +15,7 @@ use Rattle.std.proofs.lemmas.List.Elements.{filter_map-append}
 use Rattle.std.proofs.lemmas.List.{map_more}
 use Rattle.std.proofs.Math.Seq.{take-append_seam}
 use Rattle.std.proofs.lemmas.Bool.{true≢false}
+use Rattle.tv_lemmas.specs.Members.{In}
 use Rattle.tv_value.specs.Nested.{Place}
 use Rattle.tv_value.specs.Orders.{job_name_cmp, name_cmp, place_cmp, same_job, same_name}
 use Rattle.tv_value.specs.Values.{JobName, Name}
@@ -22,7 +23,6 @@ use Rattle.tv_value.proofs.OfJobNames.{same_job_decides}
 use Rattle.tv_lineage.specs.Kept as kept
 use Rattle.tv_lineage.specs.Kept.{Kept, is_noted, parts_in, records_of}
 use Rattle.tv_lineage.specs.Lineages.{Record, backward, is_made_from, leaf_label}
-use Rattle.tv_lineage.specs.Members.{In}
 use Rattle.tv_lineage.specs.Reaching.{AreInside, Begins, IsNumber, IsSearch, Numbers, Search, Sees, is_met, number_of}
 use Rattle.tv_lineage.specs.Tables.{IsWhole, in_table}
 use Rattle.tv_lineage.specs.Touching.{Label}

@@ -6,14 +6,15 @@ use Rattle.std.proofs.lemmas.Cmp.{then_total, on_total, nat_list_cmp_total}
 use Rattle.std.proofs.lemmas.Map.Lookups.{exact_bytes, exact_pairs}
 use Rattle.std.proofs.Common.{Equal}
 use Rattle.std.proofs.lemmas.Bool.{true≢false}
+use Rattle.tv_lemmas.specs.Members.{In}
+use Rattle.tv_lemmas.proofs.OfMembers.{filter-shorter, in-filter, in-flat, of-filter, of-flat}
 use Rattle.tv_value.specs.Nested.{Place}
 use Rattle.tv_value.specs.Values.{Name, JobName}
 use Rattle.tv_value.specs.Orders.{same_job, name_cmp, place_cmp, in_order}
 use Rattle.tv_value.proofs.OfJobNames.{same_job_decides}
-use Rattle.tv_lineage.specs.Members.{In, IsWithin, HaveSame, Rises}
+use Rattle.tv_lineage.specs.Members.{IsWithin, HaveSame, Rises}
 use Rattle.tv_lineage.specs.Touching.{Mark, given, made, Label, label_cmp}
 use Rattle.tv_lineage.specs.Lineages.{Record, LeadsIn, Leads, IsReached, used_by, labels_in, backward}
-use Rattle.tv_lineage.proofs.OfMembers.{in-flat, of-flat, in-filter, of-filter, filter-shorter}
 use Rattle.tv_lineage.proofs.Rising.{in-order, of-order, rises-order, same-order}
 
 -- ---- names and labels

@@ -8,12 +8,13 @@ use Rattle.std.proofs.lemmas.List.{length-map, length-reverse, map-append, rever
 use Rattle.std.specs.Cmp.Derive.{one_truth}
 use Rattle.std.proofs.lemmas.Bool.{eqb-true}
 use Rattle.std.proofs.Math.Bool.{or-true}
+use Rattle.tv_lemmas.specs.Members.{Each, In}
+use Rattle.tv_lemmas.proofs.OfMembers.{each_in, in-append}
 use Rattle.tv_value.specs.Orders.{same_job}
 use Rattle.tv_value.specs.Values.{JobName}
 use Rattle.tv_value.proofs.OfJobNames.{same_job_decides}
 use Rattle.tv_lineage.specs.Kept as kept
 use Rattle.tv_lineage.specs.Kept.{Groups, IsBefore, Kept, KeptRecord, all_marks, element, group, is_noted, parts_by, parts_in, record_kept, records_of, result}
-use Rattle.tv_lineage.specs.Members.{Each, In}
 use Rattle.tv_lineage.specs.Reaching.{AreInside, AreNumbers, IsNumber, Numbers, number_of}
 use Rattle.tv_lineage.specs.Touching as touching
 use Rattle.tv_lineage.specs.Views.{IsKept, job_view, kept_of, mark_part, mark_view, part_view, parts_view, with_group, with_job}
@@ -22,7 +23,6 @@ use Rattle.tv_lineage.specs.declared.mark.Mark.{Mark}
 use Rattle.tv_lineage.specs.declared.mark.Part.{Part}
 use Rattle.tv_lineage.specs.declared.records.Entry.{Entry}
 use Rattle.tv_lineage.proofs.Keeping.{before-later, before-same, none-noted, own_number, parts-before}
-use Rattle.tv_lineage.proofs.OfMembers.{each_in, in-append}
 
 -- ---- entries
 

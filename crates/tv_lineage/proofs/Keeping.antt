@@ -3,15 +3,15 @@ use Rattle.std.specs.List.{list_any}
 use Rattle.std.specs.Prelude.{◌++◌, ◌||◌, ◌≡◌, refl, ℕ, zero, suc, ◌≤◌, List, [], ◌∷◌, length, flat_map, Bool, true, false, ◌==◌, if◌then◌else◌}
 use Rattle.std.proofs.Common.{arith, sym, ap, subst, ◌∙◌, inl, inr}
 use Rattle.std.proofs.lemmas.Bool.{eq-eqb, eqb-true, true≢false}
+use Rattle.tv_lemmas.specs.Members.{In}
+use Rattle.tv_lemmas.proofs.OfMembers.{each_in, in-flat, in-map, of-flat, of-map}
 use Rattle.tv_value.specs.Nested.{Place}
 use Rattle.tv_value.specs.Values.{Name, JobName}
 use Rattle.tv_value.specs.Orders.{same_job}
 use Rattle.tv_value.proofs.OfJobNames.{same_job_decides}
-use Rattle.tv_lineage.specs.Members.{In}
 use Rattle.tv_lineage.specs.Touching.{Mark, given, made, Label}
 use Rattle.tv_lineage.specs.Lineages.{Record, LeadsIn, IsReached}
 use Rattle.tv_lineage.specs.Kept.{Part, element, result, group, KeptRecord, Kept, Groups, part_marks, group_marks, marks_of, all_marks, record_kept, records_of, parts_by, parts_in, parts_next, IsBefore, AreBefore}
-use Rattle.tv_lineage.proofs.OfMembers.{in-map, of-map, in-flat, of-flat, each_in}
 
 pub own_number : (i j : ℕ) → i ≡ j → (i == j) ≡ true
 own_number i j e = eq-eqb i j e

@@ -1,4 +1,3 @@
-pub mod OfMembers
 pub mod Rising
 pub mod Closing
 pub mod Keeping

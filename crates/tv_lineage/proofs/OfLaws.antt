@@ -6,16 +6,16 @@ use Rattle.std.proofs.Common.{sym, ap, subst, ◌∙◌}
 use Rattle.std.proofs.lemmas.Cmp.{nat_list_cmp_total}
 use Rattle.std.proofs.lemmas.Map.Lookups.{exact_bytes}
 use Rattle.std.proofs.lemmas.Bool.{true≢false}
+use Rattle.tv_lemmas.specs.Members.{In}
+use Rattle.tv_lemmas.proofs.OfMembers.{in-map, in-options, of-map, of-options}
 use Rattle.tv_value.specs.Nested.{Place}
 use Rattle.tv_value.specs.Values.{Name, JobName}
 use Rattle.tv_value.specs.Orders.{in_order, place_cmp, same_name}
-use Rattle.tv_lineage.specs.Members.{In}
 use Rattle.tv_lineage.specs.Touching.{Label, label_cmp, touches}
 use Rattle.tv_lineage.specs.Lineages.{Record, backward, by_step, place_at, job_at}
 use Rattle.tv_lineage.specs.Kept.{Kept}
 use Rattle.tv_lineage.specs.Stated.{BackwardIsClosure, BackwardIsOnlyOne, OrderIsOfNoAccount, ForwardInAnyOrder, ByStepInAnyOrder, MadeFromIsReached, ByStepHasJobs, ByStepInOrder, GroupIsItsParts, SearchBegins, SearchGoesOn, SearchFindsAll, TableMayGrow, TableIsWhole, TableTells}
 use Rattle.tv_lineage.specs.Reaching.{Numbers}
-use Rattle.tv_lineage.proofs.OfMembers.{in-map, of-map, in-options, of-options}
 use Rattle.tv_lineage.proofs.Rising.{in-order, of-order, rises-order, same-order, only-one}
 use Rattle.tv_lineage.proofs.Closing.{label_total, label_same, in-backward, of-backward, rises-backward, backward-same}
 use Rattle.tv_lineage.proofs.Keeping.{before-same, last-marks}

@@ -6,16 +6,17 @@ use Rattle.std.proofs.Common.{ap, arith, get_or, inl, inr, subst, sym, ◌∙◌
 use Rattle.std.proofs.lemmas.Cmp.{nat_list_cmp_total}
 use Rattle.std.proofs.lemmas.List.{take_all}
 use Rattle.std.proofs.lemmas.Map.Lookups.{exact_bytes}
+use Rattle.tv_lemmas.specs.Members.{In}
+use Rattle.tv_lemmas.proofs.OfMembers.{in-append, in-left, in-right}
 use Rattle.tv_value.specs.Nested.{Place}
 use Rattle.tv_value.specs.Orders.{in_order, place_cmp}
 use Rattle.tv_value.specs.Values.{JobName, Name}
 use Rattle.tv_value.proofs.OfFaults.{put-as-key}
 use Rattle.tv_lineage.specs.Kept.{KeptRecord, Groups, Part, record_kept, records_of}
 use Rattle.tv_lineage.specs.Lineages.{Record, by_step, job_at, place_at}
-use Rattle.tv_lineage.specs.Members.{HaveSame, In, Rises}
+use Rattle.tv_lineage.specs.Members.{HaveSame, Rises}
 use Rattle.tv_lineage.specs.Views.{job_view, kept_of, parts_view, place_in}
 use Rattle.tv_lineage.specs.declared.records.Entry.{Entry}
-use Rattle.tv_lineage.proofs.OfMembers.{in-append, in-left, in-right}
 use Rattle.tv_lineage.proofs.Rising.{in-order, in-put, of-order, of-put, only-one, rises-order, rises-put}
 
 filter_map_more : {A B : Type 0} (f : A → Option B) (xs : List A) (i : ℕ) (x : A) → i < length xs → x ≡ get_or xs i x → filter_map f (take (i + 1) xs) ≡ filter_map f (take i xs) ++ cons_option (f x) []

@@ -1,15 +1,16 @@
 -- Searches find exactly what is reached.
 use Rattle.std.specs.Prelude.{IfSome, List, None, Option, Some, [], length, refl, suc, zero, ℕ, ◌+◌, ◌++◌, ◌≡◌, ◌⊎◌, ◌∷◌}
 use Rattle.std.proofs.Common.{ap, arith, inl, inr, length-append, subst, sym, ◌∙◌}
+use Rattle.tv_lemmas.specs.Members.{In}
+use Rattle.tv_lemmas.proofs.OfMembers.{in-append, of-flat}
 use Rattle.tv_value.specs.Values.{JobName}
 use Rattle.tv_lineage.specs.Kept.{AreBefore, Kept, Part, all_marks, element, group, group_marks, marks_of, parts_by, parts_in, parts_next, records_of, result}
 use Rattle.tv_lineage.specs.Lineages.{IsReached, Record, backward}
-use Rattle.tv_lineage.specs.Members.{In, Rises}
+use Rattle.tv_lineage.specs.Members.{Rises}
 use Rattle.tv_lineage.specs.Reaching.{AreNumbers, Begins, IsMet, IsNumber, IsSearch, IsSeen, Numbers, Search, Sees, looks_left, number_of}
 use Rattle.tv_lineage.specs.Touching.{Label, given, label_cmp}
 use Rattle.tv_lineage.proofs.Closing.{in-backward, label_same, label_total, of-backward, rises-backward}
 use Rattle.tv_lineage.proofs.Keeping.{all-reached, next-reached, none-noted, of-group, reached-so}
-use Rattle.tv_lineage.proofs.OfMembers.{in-append, of-flat}
 use Rattle.tv_lineage.proofs.Rising.{only-one}
 
 module _ (ns : Numbers) (k : Kept) (a : AreBefore k.groups) (h : AreNumbers ns k) where

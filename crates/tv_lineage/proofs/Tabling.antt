@@ -1,45 +1,28 @@
 -- Tables tell what was made from an element.
 use Rattle.std.specs.List.{list_any}
-use Rattle.std.specs.Prelude.{Bool, List, None, Option, Some, [], false, refl, true, zero, ℕ, ◌||◌, ◌≡◌, ◌∷◌}
-use Rattle.std.proofs.Common.{ap, inl, inr, sym, ◌∙◌}
+use Rattle.std.specs.Prelude.{Bool, List, None, Option, Some, false, refl, true, zero, ℕ, ◌≡◌}
+use Rattle.std.proofs.Common.{ap, inl, sym, ◌∙◌}
 use Rattle.std.specs.Cmp.Derive.{one_truth}
 use Rattle.std.proofs.lemmas.Bool.{true≢false}
+use Rattle.tv_lemmas.specs.Members.{In}
+use Rattle.tv_lemmas.proofs.OfMembers.{some_in, any-in, of-flat}
 use Rattle.tv_value.specs.Nested.{Place}
 use Rattle.tv_value.specs.Values.{JobName, Name}
 use Rattle.tv_lineage.specs.Kept.{AreBefore, Kept, Part, all_marks, element, group, marks_of, parts_by, parts_in, parts_next, records_of, result}
 use Rattle.tv_lineage.specs.Lineages.{IsReached, Record, backward, is_made_from}
-use Rattle.tv_lineage.specs.Members.{In}
 use Rattle.tv_lineage.specs.Reaching.{AreNumbers, IsNumber, Numbers, is_met}
 use Rattle.tv_lineage.specs.Tables.{AreTouched, IsTable, IsTouched, IsWhole, in_table, is_met_by}
 use Rattle.tv_lineage.specs.Touching.{Label, Mark, given, touches}
 use Rattle.tv_lineage.proofs.Closing.{in-backward, of-backward}
 use Rattle.tv_lineage.proofs.Keeping.{all-reached, next-reached, none-noted, reached-so, parts-shorter}
-use Rattle.tv_lineage.proofs.OfMembers.{of-flat}
 use Rattle.tv_lineage.proofs.Searching.{number-reached}
 
 -- ---- tests of members
 
-pub any-in : {A : Type 0} (p : A → Bool) (x : A) (xs : List A) → In x xs → p x ≡ true → list_any p xs ≡ true
-any-in p x [] h e = absurd h
-any-in p x (y ∷ xs) (inl q) e = ap (λ b. b || list_any p xs) (ap p (sym q) ∙ e)
-any-in p x (y ∷ xs) (inr h) e = by (p y) (any-in p x xs h e)
-  where
-    by : (b : Bool) → list_any p xs ≡ true → (b || list_any p xs) ≡ true
-    by true k = refl
-    by false k = k
-
-pub of-any : {A : Type 0} (p : A → Bool) (xs : List A) → list_any p xs ≡ true → (x : A) × In x xs × (p x ≡ true)
-of-any p [] h = absurd (true≢false (sym h))
-of-any {A = A} p (x ∷ xs) h = by (p x) refl h (λ k. of-any p xs k)
-  where
-    by : (b : Bool) → p x ≡ b → (b || list_any p xs) ≡ true → (list_any p xs ≡ true → (y : A) × In y xs × (p y ≡ true)) → (y : A) × In y (x ∷ xs) × (p y ≡ true)
-    by true e k rec = (x, inl refl, e)
-    by false e k rec = let r = rec k in (r.0, inr r.1, r.2)
-
 -- ---- a table
 
 pub made-from : (rs : List Record) (x : Name) (q : Place) (used : List Mark) → (is_made_from rs x q used ≡ true → (l : Label) × IsReached rs used l × (touches x q l ≡ true)) × ((l : Label) × IsReached rs used l × (touches x q l ≡ true) → is_made_from rs x q used ≡ true)
-made-from rs x q used = (λ e. let w = of-any (touches x q) (backward rs used) e in (w.0, of-backward rs used w.0 w.1, w.2), λ w. any-in (touches x q) w.0 (backward rs used) (in-backward rs used w.0 w.1) w.2)
+made-from rs x q used = (λ e. let w = some_in (touches x q) (backward rs used) e in (w.0, of-backward rs used w.0 w.1, w.2), λ w. any-in (touches x q) w.0 (backward rs used) (in-backward rs used w.0 w.1) w.2)
 
 module _ (ns : Numbers) (k : Kept) (a : AreBefore k.groups) (h : AreNumbers ns k) (x : Name) (q : Place) (bs : List Bool) where
   sound-so : AreTouched k x q bs → (p : Part) → in_table ns x q bs p ≡ true → IsTouched k x q p
@@ -54,7 +37,7 @@ module _ (ns : Numbers) (k : Kept) (a : AreBefore k.groups) (h : AreNumbers ns k
   -- what leads on to a part of a sound table is touched
   pub grows : AreTouched k x q bs → (i : ℕ) → list_any (in_table ns x q bs) (parts_in k.groups i) ≡ true → IsTouched k x q (group i)
   grows f i e =
-      let w = of-any (in_table ns x q bs) (parts_in k.groups i) e in
+      let w = some_in (in_table ns x q bs) (parts_in k.groups i) e in
       let u = sound-so f w.0 w.2 in (u.0, next-reached k a (group i) w.0 u.0 w.1 u.1, u.2)
 
   pub whole : IsWhole ns k x q bs → IsTable k x q (in_table ns x q bs)
@@ -62,7 +45,7 @@ module _ (ns : Numbers) (k : Kept) (a : AreBefore k.groups) (h : AreNumbers ns k
     where
       on-group : (i : ℕ) → list_any (in_table ns x q bs) (parts_in k.groups i) ≡ true → is_met bs i ≡ true
       on-group i e =
-          let m = of-any (in_table ns x q bs) (parts_in k.groups i) e in
+          let m = some_in (in_table ns x q bs) (parts_in k.groups i) e in
           w.closed i (parts-shorter k.groups i m.0 m.1) e
 
       on-job : (n : JobName) (o : Option ℕ) → IsNumber k n o → list_any (in_table ns x q bs) (parts_by n k.jobs) ≡ true → is_met_by bs o ≡ true
@@ -79,7 +62,7 @@ tells k a x q t h used = one_truth (list_any t used) (is_made_from (records_of k
   where
     there : list_any t used ≡ true → is_made_from (records_of k) x q (all_marks k.groups used) ≡ true
     there e =
-        let w = of-any t used e in
+        let w = some_in t used e in
         let u = h.sound w.0 w.2 in
         (made-from (records_of k) x q (all_marks k.groups used)).1 (u.0, all-reached k a used w.0 u.0 w.1 u.1, u.2)
 

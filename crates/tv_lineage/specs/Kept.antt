@@ -1,11 +1,11 @@
 -- What is kept of records: parts in place of marks, so that what many jobs used together is kept once.
 use Rattle.std.specs.List.{list_any}
 use Rattle.std.specs.Prelude.{Bool, List, [], flat_map, if◌then◌else◌, length, map, suc, ℕ, ◌==◌, ◌≤◌, ◌∷◌}
+use Rattle.tv_lemmas.specs.Members.{Each}
 use Rattle.tv_value.specs.Nested.{Place}
 use Rattle.tv_value.specs.Orders.{same_job}
 use Rattle.tv_value.specs.Values.{JobName, Name}
 use Rattle.tv_lineage.specs.Touching.{Mark, given, made}
-use Rattle.tv_lineage.specs.Members.{Each}
 use Rattle.tv_lineage.specs.Lineages.{Record}
 
 -- an element of an input, the result of a job, or a group of parts, such as the items of a list that many jobs bind

@@ -1,11 +1,11 @@
 -- What settled jobs used, and what their marks lead to.
 use Rattle.std.specs.List.{list_any}
 use Rattle.std.specs.Prelude.{Bool, List, None, Option, Some, [], filter_map, flat_map, if◌then◌else◌, length, map, suc, zero, ℕ, ◌≡◌, ◌∷◌}
+use Rattle.tv_lemmas.specs.Members.{In}
 use Rattle.tv_value.specs.Nested.{Place}
 use Rattle.tv_value.specs.Orders.{in_order, place_cmp, same_job, same_name}
 use Rattle.tv_value.specs.Values.{JobName, Name}
 use Rattle.tv_lineage.specs.Touching.{Label, Mark, given, label_cmp, made, touches}
-use Rattle.tv_lineage.specs.Members.{In}
 
 -- a job, and the marks that its inputs used
 pub record Record : Type 0 where

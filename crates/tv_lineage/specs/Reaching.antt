@@ -1,9 +1,10 @@
 -- How what is kept is searched, so that each group is looked at once.
 use Rattle.std.specs.Prelude.{Bool, IfSome, List, None, Option, Some, [], false, length, slice_index_or, suc, true, ℕ, ◌+◌, ◌≡◌, ◌≤◌, ◌⊎◌, ◌∷◌}
+use Rattle.tv_lemmas.specs.Members.{In}
 use Rattle.tv_value.specs.Values.{JobName}
 use Rattle.tv_lineage.specs.Kept.{Kept, Part, all_marks, element, group, group_marks, is_noted, parts_by, parts_in, records_of, result}
 use Rattle.tv_lineage.specs.Lineages.{IsReached}
-use Rattle.tv_lineage.specs.Members.{In, Rises}
+use Rattle.tv_lineage.specs.Members.{Rises}
 use Rattle.tv_lineage.specs.Touching.{Label, label_cmp}
 
 -- ---- numbers of jobs

@@ -1,12 +1,13 @@
 -- The laws of records, for all records, marks and elements.
 use Rattle.std.specs.List.{list_any}
 use Rattle.std.specs.Prelude.{Bool, List, [], length, map, suc, true, ℕ, ◌++◌, ◌↔◌, ◌≡◌, ◌∷◌}
+use Rattle.tv_lemmas.specs.Members.{In}
 use Rattle.tv_value.specs.Nested.{Place}
 use Rattle.tv_value.specs.Orders.{place_cmp}
 use Rattle.tv_value.specs.Values.{JobName, Name}
 use Rattle.tv_lineage.specs.Kept.{AreBefore, IsBefore, Kept, Part, all_marks, group, marks_of, parts_in, records_of}
 use Rattle.tv_lineage.specs.Lineages.{IsReached, Leaf, Record, backward, by_step, forward, is_made_from, job_at}
-use Rattle.tv_lineage.specs.Members.{HaveSame, In, Rises}
+use Rattle.tv_lineage.specs.Members.{HaveSame, Rises}
 use Rattle.tv_lineage.specs.Reaching.{AreNumbers, Begins, IsSearch, Numbers, Search, Sees, looks_left}
 use Rattle.tv_lineage.specs.Tables.{AreTouched, IsTable, IsTouched, IsWhole, in_table}
 use Rattle.tv_lineage.specs.Touching.{Label, Mark, label_cmp, touches}

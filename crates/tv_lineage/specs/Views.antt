@@ -1,12 +1,12 @@
 -- What the types of the code stand for.
 use Rattle.std.specs.Prelude.{List, Option, [], filter_map, length, map, option_and_then, option_map, reverse, ◌++◌, ◌∷◌}
+use Rattle.tv_lemmas.specs.Members.{In}
 use Rattle.tv_value.specs.Nested.{Place}
 use Rattle.tv_value.specs.Values.{JobName, Name}
 use Rattle.tv_lineage.specs.Kept as kept
 use Rattle.tv_lineage.specs.Kept.{AreBefore, IsBefore, Kept, KeptRecord}
 use Rattle.tv_lineage.specs.Lineages as lineages
 use Rattle.tv_lineage.specs.Lineages.{place_at}
-use Rattle.tv_lineage.specs.Members.{In}
 use Rattle.tv_lineage.specs.Reaching.{AreNumbers, Numbers}
 use Rattle.tv_lineage.specs.Touching as touching
 use Rattle.tv_lineage.specs.declared.mark.Leaf.{Leaf}

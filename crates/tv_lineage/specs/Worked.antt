@@ -39,4 +39,5 @@ abbrev pub FollowsRecords : Type 0
 FollowsRecords =
     (backward crossed (made (job_c (1 ∷ 0 ∷ [])) ∷ []) ≡ (x, 1 ∷ []) ∷ (y, 0 ∷ []) ∷ [])
     × (forward crossed leaves x (1 ∷ []) ≡ (out, 1 ∷ 0 ∷ []) ∷ (out, 1 ∷ 1 ∷ []) ∷ [])
-    × (by_step crossed (codes "c") ≡ job_c (0 ∷ 0 ∷ []) ∷ job_c (0 ∷ 1 ∷ []) ∷ job_c (1 ∷ 0 ∷ []) ∷ job_c (1 ∷ 1 ∷ []) ∷ [])
+    × (by_step crossed (codes "c") ≡ job_c (0 ∷ 0 ∷ []) ∷ job_c (0 ∷ 1 ∷ []) ∷ job_c (1 ∷ 0 ∷ [])
+    ∷ job_c (1 ∷ 1 ∷ []) ∷ [])

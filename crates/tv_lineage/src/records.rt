@@ -1,8 +1,8 @@
 //! What is kept of settled jobs.
 ghost use Rattle.std.specs.Prelude.{◌≡◌, ◌++◌, ◌∷◌, [], false, length, map, IfOk, OnOk, OnErr};
+ghost use Rattle.tv_lemmas.specs.Members.{Each};
 ghost use Rattle.tv_lineage.specs.Kept.{IsBefore, all_marks, is_noted, marks_of, records_of};
 ghost use Rattle.tv_lineage.specs.Lineages.{backward, by_step, forward};
-ghost use Rattle.tv_lineage.specs.Members.{Each};
 ghost use Rattle.tv_lineage.specs.Views.{leaf_view, mark_part, mark_view, none_kept, part_view, with_group, with_job};
 
 use crate::mark::{Labels, Leaves, Marks, OutPlaces, Part, Parts};

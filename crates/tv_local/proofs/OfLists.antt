@@ -23,7 +23,7 @@ use Rattle.tv_value.specs.declared.value.Value.{Value}
 use Rattle.tv_value.specs.Views.{view}
 use Rattle.tv_local.specs.Reading.{text_of, texts_of}
 use Rattle.tv_local.specs.Numbers.{count_up}
-use Rattle.tv_local.specs.Lists.{is_among, new_after, distinct, shared, flat}
+use Rattle.tv_local.specs.Lists.{text_among, new_after, distinct, shared, flat}
 
 pub flat-push : (tss : List (List Text)) (ts : List Text) → flat (tss ++ ts ∷ []) ≡ flat tss ++ ts
 flat-push [] ts = append-nil ts
@@ -51,10 +51,10 @@ drop_next (t ∷ ts) (suc i) d h = drop_next ts i d (omega arith) ∙ ap (λ n. 
 abbrev pub still : List Text → ℕ → List Text
 still ts i = new_after (take i ts) (drop i ts)
 
-pub still-step : (ts : List Text) (i : ℕ) (d : Text) → i < length ts → still ts i ≡ (if is_among (take i ts) (get_or ts i d) then still ts (i + 1) else get_or ts i d ∷ still ts (i + 1))
+pub still-step : (ts : List Text) (i : ℕ) (d : Text) → i < length ts → still ts i ≡ (if text_among (take i ts) (get_or ts i d) then still ts (i + 1) else get_or ts i d ∷ still ts (i + 1))
 still-step ts i d h =
     ap (new_after (take i ts)) (drop_next ts i d h)
-    ∙ ap (λ us. if is_among (take i ts) (get_or ts i d) then new_after us (drop (i + 1) ts) else get_or ts i d ∷ new_after us (drop (i + 1) ts)) (sym (take_more ts i d h))
+    ∙ ap (λ us. if text_among (take i ts) (get_or ts i d) then new_after us (drop (i + 1) ts) else get_or ts i d ∷ new_after us (drop (i + 1) ts)) (sym (take_more ts i d h))
 
 pub count_up-push : (z : ℤ) (n : ℕ) → count_up z (n + 1) ≡ count_up z n ++ (z +ℤ pos n) ∷ []
 count_up-push z n = ap (count_up z) (sym (suc-eq-add-one n)) ∙ by n z
@@ -82,8 +82,8 @@ text_at vs i d h = get_or-map text_of (map view vs) i (view d) ∙ ap text_of (g
 pub texts-long : (vs : List Value) (i : ℕ) → i < length vs → i < length (map text_of (map view vs))
 texts-long vs i h = subst (λ n. i < n) (sym (length-map (map view vs) text_of ∙ length-map vs view)) h
 
-among-push : (ts : List Text) (t q : Text) → is_among (ts ++ t ∷ []) q ≡ (is_among ts q || same_name q t)
-among-push ts t q = list_any-append (same_name q) ts (t ∷ []) ∙ ap (λ b. is_among ts q || b) (last (same_name q t))
+among-push : (ts : List Text) (t q : Text) → text_among (ts ++ t ∷ []) q ≡ (text_among ts q || same_name q t)
+among-push ts t q = list_any-append (same_name q) ts (t ∷ []) ∙ ap (λ b. text_among ts q || b) (last (same_name q t))
   where
     last : (b : Bool) → (b || false) ≡ b
     last true = refl
@@ -126,7 +126,7 @@ key_in q k [] = or-false (is_eq (ref_cmp q k)) ∙ same_key q k
 key_in q k (x ∷ xs) = by_order q k x xs (ref_cmp k x) refl (key_in q k xs)
 
 -- a key put in is among the keys, beside those that were there
-pub put-among : (old new : BTreeSet (Bor Text)) (k : Bor Text) (ts : List Text) → new.keys ≡ insert_key ref_cmp old.keys k → ((q : Bor Text) → contains ref_cmp old q ≡ is_among ts q.now) → (q : Bor Text) → contains ref_cmp new q ≡ is_among (ts ++ k.now ∷ []) q.now
+pub put-among : (old new : BTreeSet (Bor Text)) (k : Bor Text) (ts : List Text) → new.keys ≡ insert_key ref_cmp old.keys k → ((q : Bor Text) → contains ref_cmp old q ≡ text_among ts q.now) → (q : Bor Text) → contains ref_cmp new q ≡ text_among (ts ++ k.now ∷ []) q.now
 put-among old new k ts e h q =
     ap (list_any (λ x. is_eq (ref_cmp q x))) e
     ∙ key_in q k old.keys
@@ -134,7 +134,7 @@ put-among old new k ts e h q =
     ∙ sym (among-push ts k.now q.now)
 
 -- a new text is kept
-pub distinct-new : (ts : List Text) (i : ℕ) (d : Text) (old now : List spec.Value) → i < length ts → is_among (take i ts) (get_or ts i d) ≡ false → old ++ map text_value (still ts i) ≡ map text_value (distinct ts) → now ≡ old ++ text_value (get_or ts i d) ∷ [] → now ++ map text_value (still ts (i + 1)) ≡ map text_value (distinct ts)
+pub distinct-new : (ts : List Text) (i : ℕ) (d : Text) (old now : List spec.Value) → i < length ts → text_among (take i ts) (get_or ts i d) ≡ false → old ++ map text_value (still ts i) ≡ map text_value (distinct ts) → now ≡ old ++ text_value (get_or ts i d) ∷ [] → now ++ map text_value (still ts (i + 1)) ≡ map text_value (distinct ts)
 distinct-new ts i d old now h e inv n =
     ap (λ l. l ++ map text_value (still ts (i + 1))) n
     ∙ append_assoc old (text_value (get_or ts i d) ∷ []) (map text_value (still ts (i + 1)))
@@ -142,17 +142,17 @@ distinct-new ts i d old now h e inv n =
     ∙ inv
 
 -- one that was there isn't
-pub distinct-old : (ts : List Text) (i : ℕ) (d : Text) (old now : List spec.Value) → i < length ts → is_among (take i ts) (get_or ts i d) ≡ true → old ++ map text_value (still ts i) ≡ map text_value (distinct ts) → now ≡ old → now ++ map text_value (still ts (i + 1)) ≡ map text_value (distinct ts)
+pub distinct-old : (ts : List Text) (i : ℕ) (d : Text) (old now : List spec.Value) → i < length ts → text_among (take i ts) (get_or ts i d) ≡ true → old ++ map text_value (still ts i) ≡ map text_value (distinct ts) → now ≡ old → now ++ map text_value (still ts (i + 1)) ≡ map text_value (distinct ts)
 distinct-old ts i d old now h e inv n =
     ap (λ l. l ++ map text_value (still ts (i + 1))) n
     ∙ ap (λ l. old ++ map text_value l) (sym (still-step ts i d h ∙ ap (λ b. if b then still ts (i + 1) else get_or ts i d ∷ still ts (i + 1)) e))
     ∙ inv
 
-pub shared-push : (ts us : List Text) (t : Text) → shared (ts ++ t ∷ []) us ≡ shared ts us ++ (if is_among us t then t ∷ [] else [])
-shared-push ts us t = filter-append (is_among us) ts (t ∷ [])
+pub shared-push : (ts us : List Text) (t : Text) → shared (ts ++ t ∷ []) us ≡ shared ts us ++ (if text_among us t then t ∷ [] else [])
+shared-push ts us t = filter-append (text_among us) ts (t ∷ [])
 
 -- a text that is among the others is kept
-pub shared-new : (ts us : List Text) (i : ℕ) (d : Text) (old now : List spec.Value) → i < length ts → is_among us (get_or ts i d) ≡ true → old ≡ map text_value (shared (take i ts) us) → now ≡ old ++ text_value (get_or ts i d) ∷ [] → now ≡ map text_value (shared (take (i + 1) ts) us)
+pub shared-new : (ts us : List Text) (i : ℕ) (d : Text) (old now : List spec.Value) → i < length ts → text_among us (get_or ts i d) ≡ true → old ≡ map text_value (shared (take i ts) us) → now ≡ old ++ text_value (get_or ts i d) ∷ [] → now ≡ map text_value (shared (take (i + 1) ts) us)
 shared-new ts us i d old now h e inv n =
     n
     ∙ ap (λ l. l ++ text_value (get_or ts i d) ∷ []) inv
@@ -161,7 +161,7 @@ shared-new ts us i d old now h e inv n =
     ∙ ap (map text_value) (sym (ap (λ l. shared l us) (take_more ts i d h) ∙ shared-push (take i ts) us (get_or ts i d)))
 
 -- one that isn't is left out
-pub shared-old : (ts us : List Text) (i : ℕ) (d : Text) (old now : List spec.Value) → i < length ts → is_among us (get_or ts i d) ≡ false → old ≡ map text_value (shared (take i ts) us) → now ≡ old → now ≡ map text_value (shared (take (i + 1) ts) us)
+pub shared-old : (ts us : List Text) (i : ℕ) (d : Text) (old now : List spec.Value) → i < length ts → text_among us (get_or ts i d) ≡ false → old ≡ map text_value (shared (take i ts) us) → now ≡ old → now ≡ map text_value (shared (take (i + 1) ts) us)
 shared-old ts us i d old now h e inv n =
     n
     ∙ inv

@@ -12,7 +12,7 @@ use Rattle.tv_local.specs.Texts.{parts}
 use Rattle.tv_local.specs.Lists.{flat}
 use Rattle.tv_local.specs.Reading.{complaint, text_of, texts_of, lists_of, number_of}
 use Rattle.tv_local.specs.Table.{names, wants, with_one, with_two, one_text, one_list, one_number, list_limit, list_below, in_range, number_or, split_by, range_limit, range_of, take_of, fail_for, flaky_of}
-use Rattle.tv_local.specs.LocalGives.{by_rule, unless, given, local_gives}
+use Rattle.tv_local.specs.LocalGives.{by_rule, unless, local_outcome, local_gives}
 
 abbrev IsSingle : Outcome → Type 0
 IsSingle (good us) = length us ≡ 1
@@ -95,7 +95,7 @@ but : (o : Option Text) (p : Outcome) → IsSingle p → IsSingle (unless o p)
 but None p h = h
 but (Some why) p h = tt
 
-of_row : (o : Option Local) (name : Name) (vs : List Value) (n : ℕ) → IsSingle (given o name vs n)
+of_row : (o : Option Local) (name : Name) (vs : List Value) (n : ℕ) → IsSingle (local_outcome o name vs n)
 of_row None name vs n = tt
 of_row (Some k) name vs n = but (complaint name (wants k) vs) (by_rule k vs n) (ruled k vs n)
 

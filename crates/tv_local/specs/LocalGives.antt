@@ -19,13 +19,13 @@ abbrev pub unless : Option Text → Outcome → Outcome
 unless None o = o
 unless (Some why) o = bad why
 
-abbrev pub given : Option Local → Name → List Value → ℕ → Outcome
-given None name vs n = bad []
-given (Some k) name vs n = unless (complaint name (wants k) vs) (by_rule k vs n)
+abbrev pub local_outcome : Option Local → Name → List Value → ℕ → Outcome
+local_outcome None name vs n = bad []
+local_outcome (Some k) name vs n = unless (complaint name (wants k) vs) (by_rule k vs n)
 
 -- a name that is none of the table's gives a refusal without text
 abbrev pub local_gives : Giving
-local_gives name vs n = given (named name names) name vs n
+local_gives name vs n = local_outcome (named name names) name vs n
 
 abbrev pub local_knows : Name → Bool
 local_knows name = is_some (named name names)

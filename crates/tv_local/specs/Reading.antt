@@ -43,7 +43,8 @@ about name k t = name ++ (codes " input " ++ (decimal k ++ t))
 
 abbrev pub depth_complaint : Name → ℕ → Option ℕ → Value → Option Text
 depth_complaint name k None v = None
-depth_complaint name k (Some d) v = if has_depth v d then None else Some (about name k (codes " wants depth " ++ decimal d))
+depth_complaint name k (Some d) v = if has_depth v d then None
+    else Some (about name k (codes " wants depth " ++ decimal d))
 
 -- input k is an error or contains one, or lacks its depth
 abbrev pub shape_complaint : Name → ℕ → Want → Value → Option Text
@@ -54,7 +55,8 @@ shape_complaint name k w v =
 
 -- input k must be a number and isn't
 abbrev pub number_complaint : Name → ℕ → Want → Value → Option Text
-number_complaint name k want.Number v = if is_some (read_number (text_of v)) then None else Some (about name k (codes " is no number"))
+number_complaint name k want.Number v = if is_some (read_number (text_of v)) then None
+    else Some (about name k (codes " is no number"))
 number_complaint name k w v = None
 
 -- the first complaint of one kind, the inputs counted from k

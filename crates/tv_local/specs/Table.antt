@@ -107,7 +107,8 @@ fail_for t = if same_name t (codes "true") then bad (codes "told to fail") else 
 
 -- a negative number of attempts is none
 abbrev pub flaky_of : Text → ℤ → ℕ → Outcome
-flaky_of t z n = if nat_le (count_of z) n then one_text t else bad (codes "flaky attempt " ++ decimal n)
+flaky_of t z n = if nat_le (count_of z) n then one_text t
+    else bad (codes "flaky attempt " ++ decimal n)
 
 -- services of one input
 abbrev pub with_one : Local → Value → Outcome
@@ -128,7 +129,8 @@ with_two local.Concat v w n = one_text (text_of v ++ text_of w)
 with_two local.Split v w n = split_by (text_of v) (text_of w)
 with_two local.Join v w n = one_text (joined (text_of w) (texts_of v))
 with_two local.Add v w n = number_or (codes "add out of range") (number_of v +ℤ number_of w)
-with_two local.Subtract v w n = number_or (codes "subtract out of range") (number_of v -ℤ number_of w)
+with_two local.Subtract v w n =
+    number_or (codes "subtract out of range") (number_of v -ℤ number_of w)
 with_two local.Range v w n = range_of (number_of v) (number_of w)
 with_two local.Take v w n = take_of (texts_of v) (number_of w)
 with_two local.Intersect v w n = one_list (shared (texts_of v) (texts_of w))

@@ -4,7 +4,7 @@ use Rattle.tv_value.specs.Values.{Name}
 use Rattle.tv_value.specs.Strategies.{Strategy}
 use Rattle.tv_strategy.specs.Conditions.{Suits, number_of}
 use Rattle.tv_strategy.specs.Measures.{DotsAgree}
-use Rattle.tv_matching.specs.Stores.{store_for, gain, grown, told_by, worked, worked_items}
+use Rattle.tv_matching.specs.Stores.{store_for, gain, grown, told_by, store_after, worked_items}
 use Rattle.tv_match.specs.Entries.{Entry, kepts, front, AreMore}
 use Rattle.tv_match.specs.Brief.{briefs, brief_store}
 use Rattle.tv_match.specs.Filed.{Filed, kept_store, Adds}
@@ -20,7 +20,7 @@ module _ (s : Strategy) (mm : List (Name × ℕ)) (empty root : Filed) (out : Li
   out-full : front 0 out ≡ out
   out-full = more-early 0 0 [] out (omega arith) refl b
 
-  stored : kept_store (λ es. kepts (front 0 es)) root ≡ brief_store (worked (store_for 0 s) (unit_news ∷ []))
+  stored : kept_store (λ es. kepts (front 0 es)) root ≡ brief_store (store_after (store_for 0 s) (unit_news ∷ []))
   stored = full-kept 0 root full ∙ g ∙ ap (λ st. brief_store (grown (told_by unit_news) st)) k
 
   put : kepts (front 0 out) ≡ briefs (worked_items (store_for 0 s) (unit_news ∷ []))
@@ -33,7 +33,7 @@ module _ (s : Strategy) (mm : List (Name × ℕ)) (empty root : Filed) (out : Li
   begun =
       record {
         worked = record {
-          store = λ j i. subst (λ n. kept_store (λ es. kepts (front n es)) root ≡ brief_store (worked (store_for 0 s) (news_to n []))) (none j i) stored;
+          store = λ j i. subst (λ n. kept_store (λ es. kepts (front n es)) root ≡ brief_store (store_after (store_for 0 s) (news_to n []))) (none j i) stored;
           items = λ j i. subst (λ n. kepts (front n out) ≡ briefs (worked_items (store_for 0 s) (news_to n []))) (none j i) put;
         };
         full = full;

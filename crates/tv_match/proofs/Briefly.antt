@@ -7,7 +7,7 @@ use Rattle.std.proofs.lemmas.List.Folds.{flat_map-map}
 use Rattle.tv_value.specs.Nested.{Place}
 use Rattle.tv_strategy.specs.Splits.{same_place}
 use Rattle.tv_matching.specs.Items.{Kind, ends, closes, passes, item, if_so}
-use Rattle.tv_matching.specs.Matched.{bound, below, replaced, replaced_below, crossed_items, below_jobs, met}
+use Rattle.tv_matching.specs.Matched.{bound, below, replaced, replaced_below, crossed_items, below_jobs, meet_kinds}
 use Rattle.tv_matching.specs.Matchers.{Kept}
 use Rattle.tv_matching.specs.Stores as spec
 use Rattle.tv_matching.specs.Stores.{leaf_store, cross_store, dot_store, is_job, only_jobs, latest_at, met_with, met_by_first, met_by_second, gain, grown}
@@ -62,7 +62,7 @@ below-brief q b ys =
     ∙ map-same (λ y. brief (below q (brief_bound b) (brief y))) (λ y. brief (below q b y)) (λ y. ap (λ k. item (q ++ y.place) k) (bound-brief b y.kind)) ys
     ∙ sym (map-map brief (below q b) ys)
 
-met-brief : (k l : Bare) → brief_kind (met (brief_kind k) (brief_kind l)) ≡ brief_kind (met k l)
+met-brief : (k l : Bare) → brief_kind (meet_kinds (brief_kind k) (brief_kind l)) ≡ brief_kind (meet_kinds k l)
 met-brief (ends b) l = bound-brief b l
 met-brief (passes f) l = refl
 met-brief (closes m) (ends c) = ap (λ b. ends b) (brief_bound-again c)

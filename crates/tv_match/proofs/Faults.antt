@@ -5,6 +5,8 @@ use Rattle.std.proofs.lemmas.List.Sorted.{IsPermutation-sym}
 use Rattle.std.proofs.Common.{◌≡◌, inl, inr, refl, ℕ, zero, suc, ◌<◌, ◌≤◌, Bool, true, false, List, [], ◌∷◌, ◌++◌, map, length, take, get_or, sym, ap, subst, ◌∙◌, arith}
 use Rattle.std.proofs.lemmas.List.{length-take-le, length-map}
 use Rattle.std.proofs.lemmas.List.Folds.{flat_map-map}
+use Rattle.tv_lemmas.specs.Members.{In}
+use Rattle.tv_lemmas.proofs.OfMembers.{in-flat, of-map}
 use Rattle.tv_lemmas.proofs.Lists.{map-take}
 use Rattle.tv_value.specs.Nested.{Place}
 use Rattle.tv_value.specs.Values.{Name}
@@ -14,15 +16,15 @@ use Rattle.tv_strategy.specs.Measures.{leaf_names}
 use Rattle.tv_strategy.specs.Splits.{same_place}
 use Rattle.tv_strategy.proofs.OfPlaces.{same-itself}
 use Rattle.tv_matching.specs.Items.{Kind, ends, closes, passes, Item, if_so}
-use Rattle.tv_matching.specs.Members.{In, at_place, Once}
+use Rattle.tv_matching.specs.Members.{at_place, Once}
 use Rattle.tv_matching.specs.Told.{Spot, Told, Marked, marked_after, matched_after, binds_some, faulty_at}
-use Rattle.tv_matching.specs.Matchers.{out as out_of, Kept, kept, kept_of, leaf_number, bare_bound, bare_kind}
+use Rattle.tv_matching.specs.Matchers.{out as out_of, Kept, kept_item, kept_of, leaf_number, bare_bound, bare_kind}
 use Rattle.tv_matching.specs.Matched.{matched}
 use Rattle.tv_matching.specs.Stores.{store_for, worked_items}
 use Rattle.tv_matching.proofs.Bared.{plain, marked-is_matched, kept-is_enough}
 use Rattle.tv_matching.proofs.Lists.{flat-same, map-flat, map-if}
 use Rattle.tv_matching.proofs.OfLaws.{matches-once}
-use Rattle.tv_matching.proofs.OfMembers.{of-map, in-flat, in-if, in-permutes}
+use Rattle.tv_matching.proofs.OfMembers.{in-if, in-permutes}
 use Rattle.tv_match.specs.declared.kinds.Kind as kinds
 use Rattle.tv_match.specs.Entries.{Entry, entry_at, kept_entry, kepts, kind_view, front}
 use Rattle.tv_match.specs.Brief.{brief, brief_kind, briefs}
@@ -75,7 +77,7 @@ at-mapped f h q xs =
 once-before : {X F Y G : Type 0} (f : Item X F → Item Y G) → ((x : Item X F) → (f x).place ≡ x.place) → (xs : List (Item X F)) → Once (map f xs) → Once xs
 once-before f h xs o q = subst (λ n. n ≤ 1) (ap length (at-mapped f h q xs) ∙ length-map (at_place q xs) f) (o q)
 
-single : {A : Type 0} (x : A) (xs : List A) → In x xs → length xs ≤ 1 → xs ≡ x ∷ []
+pub single : {A : Type 0} (x : A) (xs : List A) → In x xs → length xs ≤ 1 → xs ≡ x ∷ []
 single x [] h l = absurd h
 single x (y ∷ []) (inl e) l = ap (λ z. z ∷ []) (sym e)
 single x (y ∷ []) (inr h) l = absurd h
@@ -116,12 +118,12 @@ module _ (s : Strategy) (mm : List (Name × ℕ)) (root : Filed) (log out : List
       let there : In (kept_entry (entry_at es i)) (briefs (worked_items (store_for 0 s) (unit_news ∷ map news_of (take n log)))) = subst (In (kept_entry (entry_at es i))) (a.done.worked.items n a.told_within) (entry-in es i h) in
       let w = of-map brief (kept_entry (entry_at es i)) (worked_items (store_for 0 s) (unit_news ∷ map news_of (take n log))) there in
       let m : In w.0 (matched (kept_of s ts) s) = in-permutes w.0 (matched (kept_of s ts) s) (worked_items (store_for 0 s) (unit_news ∷ map news_of (take n log))) (IsPermutation-sym _ _ (worked-matched s a.suits.leaves_differ (take n log) proper)) w.1 in
-      let x = of-map (kept s) w.0 (marked_after s ts) (subst (In w.0) (kept-is_enough s ts).0 m) in
-      let same : kept_entry (entry_at out i) ≡ brief (kept s x.0) = ap kept_entry (sym e) ∙ w.2 ∙ ap brief x.2 in
+      let x = of-map (kept_item s) w.0 (marked_after s ts) (subst (In w.0) (kept-is_enough s ts).0 m) in
+      let same : kept_entry (entry_at out i) ≡ brief (kept_item s x.0) = ap kept_entry (sym e) ∙ w.2 ∙ ap brief x.2 in
       ap is_faulty d
       ∙ flag-kept (entry_at out i).kind
       ∙ ap (λ (y : Kept). some_bound y.kind) same
-      ∙ flag-brief (kept s x.0).kind
+      ∙ flag-brief (kept_item s x.0).kind
       ∙ flag-bare (λ (r : Marked). r.1) (λ (r : Spot). leaf_number (leaf_names s) r.0) x.0.kind
       ∙ sym (at-item s ts x.0 once x.1)
       ∙ ap (faulty_at s ts) (sym (f ∙ ap (λ (y : Kept). y.place) same))

@@ -4,7 +4,7 @@ use Rattle.std.proofs.lemmas.List.{take-append-le, drop-append-le, drop-take, ge
 use Rattle.tv_lemmas.proofs.Lists.{map-take}
 use Rattle.tv_match.specs.declared.bags.Slot.{Slot}
 use Rattle.tv_match.specs.Entries.{Entry, entry, no_entry, entry_at}
-use Rattle.tv_match.specs.Slots.{shown_slot, shown, AreLaid}
+use Rattle.tv_match.specs.Slots.{shown_slot, bag_entries, AreLaid}
 
 -- each slot ends before the last index
 pub laid-rises : (a : ℕ) (ss : List Slot) (b : ℕ) → AreLaid a ss b → a ≤ b
@@ -48,10 +48,10 @@ seen-more idx more start len h =
     first : (a b n : ℕ) → a + b ≤ n → a ≤ n
     first a b n h = omega arith
 
-pub shown-more : (idx more : List ℕ) (a : ℕ) (ss : List Slot) (b : ℕ) → AreLaid a ss b → b ≤ length idx → shown (idx ++ more) ss ≡ shown idx ss
+pub shown-more : (idx more : List ℕ) (a : ℕ) (ss : List Slot) (b : ℕ) → AreLaid a ss b → b ≤ length idx → bag_entries (idx ++ more) ss ≡ bag_entries idx ss
 shown-more idx more a [] b h k = refl
 shown-more idx more a (s ∷ ss) b h k =
-    ap (λ q. entry s.number q s.kind ∷ shown (idx ++ more) ss) (seen-more idx more s.start s.length (here (laid-rises (a + s.length) ss b h.1) h.0))
+    ap (λ q. entry s.number q s.kind ∷ bag_entries (idx ++ more) ss) (seen-more idx more s.start s.length (here (laid-rises (a + s.length) ss b h.1) h.0))
     ∙ ap (λ es. shown_slot idx s ∷ es) (shown-more idx more (a + s.length) ss b h.1 k)
   where
     here : a + s.length ≤ b → s.start ≡ a → s.start + s.length ≤ length idx
@@ -76,16 +76,16 @@ seen-front idx c start len h = by (c - start) (gap c start len h)
     by : (m : ℕ) → start + m ≡ c → take len (drop start (take c idx)) ≡ take len (drop start idx)
     by m e = ap (λ n. take len (drop start (take n idx))) (sym e) ∙ ap (take len) (drop-take start m idx) ∙ shorter m (drop start idx) len (long m e)
 
-pub shown-front : (idx : List ℕ) (c a : ℕ) (ss : List Slot) → AreLaid a ss c → shown (take c idx) ss ≡ shown idx ss
+pub shown-front : (idx : List ℕ) (c a : ℕ) (ss : List Slot) → AreLaid a ss c → bag_entries (take c idx) ss ≡ bag_entries idx ss
 shown-front idx c a [] h = refl
 shown-front idx c a (s ∷ ss) h =
-    ap (λ q. entry s.number q s.kind ∷ shown (take c idx) ss) (seen-front idx c s.start s.length (here (laid-rises (a + s.length) ss c h.1) h.0))
+    ap (λ q. entry s.number q s.kind ∷ bag_entries (take c idx) ss) (seen-front idx c s.start s.length (here (laid-rises (a + s.length) ss c h.1) h.0))
     ∙ ap (λ es. shown_slot idx s ∷ es) (shown-front idx c (a + s.length) ss h.1)
   where
     here : a + s.length ≤ c → s.start ≡ a → s.start + s.length ≤ c
     here r e = omega (arith, r, e)
 
-pub length-shown : (idx : List ℕ) (ss : List Slot) → length (shown idx ss) ≡ length ss
+pub length-shown : (idx : List ℕ) (ss : List Slot) → length (bag_entries idx ss) ≡ length ss
 length-shown idx [] = refl
 length-shown idx (s ∷ ss) = ap suc (length-shown idx ss)
 
@@ -101,14 +101,14 @@ pushed-laid slots more idx all q s h e f g l =
     sums : (a b c : ℕ) → a ≤ b → c ≡ b - a → a + c ≡ b
     sums a b c h e = omega arith
 
-pub pushed-shown : (slots more : List Slot) (idx all q : List ℕ) (s : Slot) → AreLaid 0 slots (length idx) → all ≡ idx ++ q → more ≡ slots ++ s ∷ [] → s.start ≡ length idx → s.length ≡ length all - length idx → shown all more ≡ shown idx slots ++ entry s.number q s.kind ∷ []
+pub pushed-shown : (slots more : List Slot) (idx all q : List ℕ) (s : Slot) → AreLaid 0 slots (length idx) → all ≡ idx ++ q → more ≡ slots ++ s ∷ [] → s.start ≡ length idx → s.length ≡ length all - length idx → bag_entries all more ≡ bag_entries idx slots ++ entry s.number q s.kind ∷ []
 pushed-shown slots more idx all q s h e f g l =
-    ap (shown all) f
+    ap (bag_entries all) f
     ∙ both slots
-    ∙ ap (λ es. es ++ shown_slot all s ∷ []) (ap (λ i. shown i slots) e ∙ shown-more idx q 0 slots (length idx) h (omega arith))
-    ∙ ap (λ p. shown idx slots ++ entry s.number p s.kind ∷ []) place
+    ∙ ap (λ es. es ++ shown_slot all s ∷ []) (ap (λ i. bag_entries i slots) e ∙ shown-more idx q 0 slots (length idx) h (omega arith))
+    ∙ ap (λ p. bag_entries idx slots ++ entry s.number p s.kind ∷ []) place
   where
-    both : (slots : List Slot) → shown all (slots ++ s ∷ []) ≡ shown all slots ++ shown_slot all s ∷ []
+    both : (slots : List Slot) → bag_entries all (slots ++ s ∷ []) ≡ bag_entries all slots ++ shown_slot all s ∷ []
     both [] = refl
     both (t ∷ slots) = ap (λ es. shown_slot all t ∷ es) (both slots)
 
@@ -141,9 +141,9 @@ module _ (slots less : List Slot) (idx few : List ℕ) (n start : ℕ) (d : Slot
   pub cut-laid : AreLaid 0 less (length few)
   cut-laid = subst (AreLaid 0 less) (sym short) laid-start
 
-  pub cut-shown : shown few less ≡ take n (shown idx slots)
-  cut-shown = ap (λ i. shown i less) e ∙ shown-front idx start 0 less laid-start ∙ ap (shown idx) f ∙ map-take (shown_slot idx) n slots
+  pub cut-shown : bag_entries few less ≡ take n (bag_entries idx slots)
+  cut-shown = ap (λ i. bag_entries i less) e ∙ shown-front idx start 0 less laid-start ∙ ap (bag_entries idx) f ∙ map-take (shown_slot idx) n slots
 
 -- the number of an item
-pub number-shown : (idx : List ℕ) (slots : List Slot) (i : ℕ) (s : Slot) → i < length slots → s ≡ get_or slots i s → (entry_at (shown idx slots) i).number ≡ s.number
+pub number-shown : (idx : List ℕ) (slots : List Slot) (i : ℕ) (s : Slot) → i < length slots → s ≡ get_or slots i s → (entry_at (bag_entries idx slots) i).number ≡ s.number
 number-shown idx slots i s h e = ap (λ (x : Entry). x.number) (get_or-map (shown_slot idx) slots i s no_entry h) ∙ ap (λ (t : Slot). t.number) (sym e)

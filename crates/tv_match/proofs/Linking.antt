@@ -6,6 +6,7 @@ use Rattle.tv_matching.specs.Stores.{latest_at}
 use Rattle.tv_match.specs.Entries.{Entry, entry_at, kepts, FoundBefore}
 use Rattle.tv_match.specs.Linked.{digit_of, link_at, Reaches, Leads, AreRising, AreLinked, Agree}
 use Rattle.tv_match.proofs.Latest.{latest-other, found-here}
+use Rattle.tv_lemmas.proofs.Numbers.{less-or_same}
 
 pub digit-small : (q : Place) (level : ℕ) → digit_of q level < 4
 digit-small q level = by (length q == 0) (nat_lt (level / length q) 16) (get_or q (level % length q) 0 / 2 ^ (2 * (level / length q)))
@@ -172,16 +173,6 @@ module _ (links : List ℕ) (es : List Entry) (q : Place) (before : ℕ) (w : be
 -- ---- one item more, and fewer
 
 module _ (links : List ℕ) (es : List Entry) (a : AreLinked links es) where
-  order : (i n : ℕ) → i < suc n → (i < n) ⊎ (i ≡ n)
-  order zero zero h = inr refl
-  order zero (suc n) h = inl (omega arith)
-  order (suc i) zero h = absurd (omega (arith, h))
-  order (suc i) (suc n) h = by (order i n (omega (arith, h)))
-    where
-      by : (i < n) ⊎ (i ≡ n) → (suc i < suc n) ⊎ (suc i ≡ suc n)
-      by (inl k) = inl (omega (arith, k))
-      by (inr k) = inr (ap suc k)
-
   at-front : (xs : List Entry) (e : Entry) (i : ℕ) → i < length xs → entry_at (xs ++ e ∷ []) i ≡ entry_at xs i
   at-front [] e i h = absurd (none i h)
     where
@@ -230,7 +221,7 @@ module _ (links : List ℕ) (es : List Entry) (a : AreLinked links es) where
       subst (AreLinked hung) (sym m) (record {
         four = let k = length-append es (e ∷ []) in omega (arith, l, k);
         rising = r;
-        lead = λ i k. by i (order i (length es) (let j = length-append es (e ∷ []) in omega (arith, j, k)));
+        lead = λ i k. by i (less-or_same i (length es) (let j = length-append es (e ∷ []) in omega (arith, j, k)));
       })
     where
       agree : Agree (length es) links hung

@@ -5,6 +5,8 @@ use Rattle.std.proofs.lemmas.Bool.{cases_lt}
 use Rattle.std.proofs.lemmas.List.{take-append-drop, length-map, map-append}
 use Rattle.std.proofs.lemmas.List.Sorted.{IsPermutation-sym, IsPermutation-trans, IsPermutation-append_left, IsPermutation-map, length_permutation}
 use Rattle.std.proofs.lemmas.List.Folds.{flat_map-map}
+use Rattle.tv_lemmas.specs.Members.{In}
+use Rattle.tv_lemmas.proofs.OfMembers.{in-left}
 use Rattle.tv_value.specs.Nested.{Place}
 use Rattle.tv_value.specs.Values.{Name, Value}
 use Rattle.tv_value.specs.Strategies.{Strategy}
@@ -12,13 +14,13 @@ use Rattle.tv_value.specs.Views.{strategy_view}
 use Rattle.tv_strategy.specs.Conditions.{number_of}
 use Rattle.tv_strategy.specs.Splits.{same_place}
 use Rattle.tv_matching.specs.Items.{Kind, ends, closes, passes, Item, if_so}
-use Rattle.tv_matching.specs.Members.{at_place, In}
+use Rattle.tv_matching.specs.Members.{at_place}
 use Rattle.tv_matching.specs.Told.{Spot, Told, matched_after, added_after}
 use Rattle.tv_matching.specs.Matchers.{kind_out, out, all_out}
 use Rattle.tv_matching.proofs.Lists.{flat-append, flat-same, map-flat, map-if}
 use Rattle.tv_matching.proofs.OfLaws.{matches-once, tellings-add, tellings-in_any_order}
 use Rattle.tv_matching.proofs.OfMatchers.{out-is_known}
-use Rattle.tv_matching.proofs.OfMembers.{in-left, in-permutes}
+use Rattle.tv_matching.proofs.OfMembers.{in-permutes}
 use Rattle.tv_matching.proofs.Permutes.{flat-permutes}
 use Rattle.tv_match.specs.declared.matchers.Matcher.{Matcher}
 use Rattle.tv_match.specs.Entries.{front, entry_at}

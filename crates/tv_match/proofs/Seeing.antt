@@ -5,6 +5,7 @@ use Rattle.std.proofs.lemmas.Bool.{eqb-true}
 use Rattle.std.proofs.lemmas.List.Sorted.{IsPermutation-sym, IsPermutation-map}
 use Rattle.std.proofs.lemmas.Simd.{map-map}
 use Rattle.std.proofs.lemmas.List.{map-append}
+use Rattle.tv_lemmas.specs.Members.{Each}
 use Rattle.tv_lemmas.proofs.Numbers.{none-below}
 use Rattle.tv_value.specs.Nested.{Place}
 use Rattle.tv_value.specs.Values.{Name}
@@ -12,7 +13,6 @@ use Rattle.tv_value.specs.Orders.{same_name}
 use Rattle.tv_value.specs.Strategies.{Strategy}
 use Rattle.tv_strategy.specs.Conditions.{times, EachOnce}
 use Rattle.tv_strategy.specs.Measures.{DotsAgree, leaf_names, strategy_depth}
-use Rattle.tv_strategy.specs.Sources.{Each}
 use Rattle.tv_strategy.proofs.OfPlaces.{same-itself}
 use Rattle.tv_strategy.proofs.OfEach.{each-weaken}
 use Rattle.tv_matching.specs.Items.{Kind, Item, ends, closes, passes, item, if_so}
@@ -20,7 +20,7 @@ use Rattle.tv_matching.specs.Levels.{KindAt}
 use Rattle.tv_matching.specs.Members.{Once}
 use Rattle.tv_matching.specs.Matched.{matched, one_end}
 use Rattle.tv_matching.specs.Told.{Spot, told_to, matched_after, Marked, marked, marked_to, marked_after, IsFit}
-use Rattle.tv_matching.specs.Matchers.{Kept, kept, kept_of, kept_out, kept_kind_out, leaf_name, leaf_number, out}
+use Rattle.tv_matching.specs.Matchers.{Kept, kept_item, kept_of, kept_out, kept_kind_out, leaf_name, leaf_number, out}
 use Rattle.tv_matching.specs.Stores.{store_for, AreNumbered, items, told_by_all, worked_items}
 use Rattle.tv_matching.proofs.Lists.{map-same, map-if, each-map}
 use Rattle.tv_matching.proofs.OfMembers.{each-permutes}
@@ -114,13 +114,13 @@ module _ (s : Strategy) (apart : EachOnce (leaf_names s) (leaf_names s)) where
   told-leaf i l (e ∷ es) h =
       ap (λ r. if_so (e.number == i) (kept_entry e) ++ r) (told-leaf i l es h.1)
       ∙ ap (λ r. r ++ kept_of s (map (telling_of s) es) (leaf_name s i)) here-too
-      ∙ sym (map-append (kept s) (if_so (same_name (leaf_name s i) (marked (telling_of s e)).leaf) (marked (telling_of s e)).item) (marked_to (map (telling_of s) es) (leaf_name s i)))
+      ∙ sym (map-append (kept_item s) (if_so (same_name (leaf_name s i) (marked (telling_of s e)).leaf) (marked (telling_of s e)).item) (marked_to (map (telling_of s) es) (leaf_name s i)))
     where
-      here-too : if_so (e.number == i) (kept_entry e) ≡ map (kept s) (if_so (same_name (leaf_name s i) (marked (telling_of s e)).leaf) (marked (telling_of s e)).item)
+      here-too : if_so (e.number == i) (kept_entry e) ≡ map (kept_item s) (if_so (same_name (leaf_name s i) (marked (telling_of s e)).leaf) (marked (telling_of s e)).item)
       here-too =
           ap (λ b. if_so b (kept_entry e)) (sym (names-apart (leaf_names s) i e.number apart l h.0.0) ∙ ap (same_name (leaf_name s i)) (sym (leaf-there (leaf_name s e.number) e.place e.kind)))
           ∙ ap (if_so (same_name (leaf_name s i) (marked (telling_of s e)).leaf)) (sym h.0.1)
-          ∙ sym (map-if (kept s) (same_name (leaf_name s i) (marked (telling_of s e)).leaf) (marked (telling_of s e)).item)
+          ∙ sym (map-if (kept_item s) (same_name (leaf_name s i) (marked (telling_of s e)).leaf) (marked (telling_of s e)).item)
 
   none-told : (es : List Entry) → told_by_all (map news_of es) None ≡ []
   none-told [] = refl
@@ -232,7 +232,7 @@ module _ (s : Strategy) (apart : EachOnce (leaf_names s) (leaf_names s)) where
   entries-same : (i j : ℕ) (q r : Place) (k l : kinds.Kind) → i < length (leaf_names s) → j < length (leaf_names s) → leaf_name s i ≡ leaf_name s j → q ≡ r → k ≡ l → entry i q k ≡ entry j r l
   entries-same i j q r k l a b n p m = ap (λ x. entry x q k) (same-number i j a b n) ∙ ap (λ x. entry j x k) p ∙ ap (entry j r) m
 
-  passed-leaf : (p : Name) (q : Place) (l : ℕ) → kept s (marked (telling_kind p q (kinds.Kind.Passed l))).item ≡ item q (kind_view (kinds.Kind.Passed l)) → leaf_number (leaf_names s) p ≡ l
+  passed-leaf : (p : Name) (q : Place) (l : ℕ) → kept_item s (marked (telling_kind p q (kinds.Kind.Passed l))).item ≡ item q (kind_view (kinds.Kind.Passed l)) → leaf_number (leaf_names s) p ≡ l
   passed-leaf p q l h = passed-same (leaf_number (leaf_names s) p) l (ap (λ (x : Kept). x.kind) h)
 
   tellings-same : (i j : ℕ) (q r : Place) (k l : kinds.Kind) → IsProper s (entry i q k) → IsProper s (entry j r l) → telling_kind (leaf_name s i) q k ≡ telling_kind (leaf_name s j) r l → entry i q k ≡ entry j r l
@@ -297,6 +297,6 @@ places-short s mismatch apart es xs proper fit once agree e i l =
     let leveled = (matches-once mismatch ts fit once s agree).1 in
     let there : Each (λ (x : Item Spot Spot). length x.place ≤ d) (matched_after s ts) = each-weaken (λ (x : Item Spot Spot). KindAt d x.place x.kind) (λ (x : Item Spot Spot). length x.place ≤ d) (kind-short d) (matched_after s ts) leveled in
     let marked_there : Each (λ (x : Item Marked Spot). length x.place ≤ d) (marked_after s ts) = each-of-map (λ (x : Item Spot Spot). length x.place ≤ d) plain (marked_after s ts) (subst (Each (λ (x : Item Spot Spot). length x.place ≤ d)) (sym (marked-is_matched s ts)) there) in
-    let kept_there : Each short (matched (kept_of s ts) s) = subst (Each short) (sym (kept-is_enough s ts).0) (each-map short (kept s) (marked_after s ts) marked_there) in
+    let kept_there : Each short (matched (kept_of s ts) s) = subst (Each short) (sym (kept-is_enough s ts).0) (each-map short (kept_item s) (marked_after s ts) marked_there) in
     let all : Each short (worked_items (store_for 0 s) (unit_news ∷ map news_of es)) = each-permutes short (matched (kept_of s ts) s) _ (IsPermutation-sym _ _ (worked-matched s apart es proper)) kept_there in
     entry-of short xs i (subst (Each short) (sym e) (each-map short brief _ all)) l

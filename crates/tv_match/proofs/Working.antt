@@ -2,11 +2,11 @@
 use Rattle.std.proofs.Common.{◌≡◌, ◌⊎◌, inl, inr, refl, ℕ, zero, suc, ◌+◌, ◌<◌, ◌≤◌, List, [], ◌∷◌, ◌++◌, map, length, take, sym, ap, subst, ◌∙◌, arith, append_assoc, append-nil, length-append}
 use Rattle.std.proofs.lemmas.List.{length-take-le, map-append}
 use Rattle.std.proofs.Math.Seq.{take-length}
+use Rattle.tv_lemmas.specs.Members.{Each}
 use Rattle.tv_value.specs.Strategies.{Strategy}
-use Rattle.tv_strategy.specs.Sources.{Each}
 use Rattle.tv_strategy.proofs.OfEach.{each-weaken}
 use Rattle.tv_matching.specs.Stores as spec
-use Rattle.tv_matching.specs.Stores.{leaf_store, cross_store, dot_store, store_for, News, gain, grown, told_by, worked, worked_items}
+use Rattle.tv_matching.specs.Stores.{leaf_store, cross_store, dot_store, store_for, News, gain, grown, told_by, store_after, worked_items}
 use Rattle.tv_match.specs.Entries.{Entry, kepts, front, AreMore, Rise}
 use Rattle.tv_match.specs.Filed.{Filed, filed_leaf, filed_cross, filed_dot, kept_store, fronted, Adds}
 use Rattle.tv_match.specs.Working.{unit_news, news_of, news_to, IsFull, IsWorked, IsDone}
@@ -88,13 +88,13 @@ le_or (suc a) (suc b) = by (le_or a b)
 
 -- ---- lists of tellings
 
-worked-last : (st : spec.Store (Unit {0}) ℕ) (ns : List (News (Unit {0}) ℕ)) (n : News (Unit {0}) ℕ) → worked st (ns ++ n ∷ []) ≡ grown (told_by n) (worked st ns)
+worked-last : (st : spec.Store (Unit {0}) ℕ) (ns : List (News (Unit {0}) ℕ)) (n : News (Unit {0}) ℕ) → store_after st (ns ++ n ∷ []) ≡ grown (told_by n) (store_after st ns)
 worked-last st [] n = refl
 worked-last st (m ∷ ns) n = worked-last (grown (told_by m) st) ns n
 
-items-last : (st : spec.Store (Unit {0}) ℕ) (ns : List (News (Unit {0}) ℕ)) (n : News (Unit {0}) ℕ) → worked_items st (ns ++ n ∷ []) ≡ worked_items st ns ++ gain (told_by n) (worked st ns)
+items-last : (st : spec.Store (Unit {0}) ℕ) (ns : List (News (Unit {0}) ℕ)) (n : News (Unit {0}) ℕ) → worked_items st (ns ++ n ∷ []) ≡ worked_items st ns ++ gain (told_by n) (store_after st ns)
 items-last st [] n = append-nil (gain (told_by n) st)
-items-last st (m ∷ ns) n = ap (λ l. gain (told_by m) st ++ l) (items-last (grown (told_by m) st) ns n) ∙ sym (append_assoc (gain (told_by m) st) (worked_items (grown (told_by m) st) ns) (gain (told_by n) (worked (grown (told_by m) st) ns)))
+items-last st (m ∷ ns) n = ap (λ l. gain (told_by m) st ++ l) (items-last (grown (told_by m) st) ns n) ∙ sym (append_assoc (gain (told_by m) st) (worked_items (grown (told_by m) st) ns) (gain (told_by n) (store_after (grown (told_by m) st) ns)))
 
 pub take-within : {A : Type 0} (k : ℕ) (xs ys : List A) → k ≤ length xs → take k (xs ++ ys) ≡ take k xs
 take-within zero xs ys h = refl
@@ -120,7 +120,7 @@ module _ (s : Strategy) (root next : Filed) (log more out outs : List Entry) (n 
   pub still-worked : length log < n → ((k : ℕ) → k ≤ length log → take k more ≡ take k log) → IsWorked s (length log) next more outs
   still-worked h same =
       record {
-        store = λ k i. adds-front k n root next (omega (arith, i, h)) a ∙ d.worked.store k i ∙ ap (λ l. brief_store (worked (store_for 0 s) (unit_news ∷ map news_of l))) (sym (same k i));
+        store = λ k i. adds-front k n root next (omega (arith, i, h)) a ∙ d.worked.store k i ∙ ap (λ l. brief_store (store_after (store_for 0 s) (unit_news ∷ map news_of l))) (sym (same k i));
         items = λ k i. ap kepts (more-late k n out outs (omega (arith, i, h)) b) ∙ d.worked.items k i ∙ ap (λ l. briefs (worked_items (store_for 0 s) (unit_news ∷ map news_of l))) (sym (same k i));
       }
 
@@ -168,7 +168,7 @@ module _ (s : Strategy) (root next : Filed) (log more out outs : List Entry) (n 
       same : (k : ℕ) → k ≤ length log → take k more ≡ take k log
       same k i = ap (take k) m ∙ take-within k log (e ∷ []) i
 
-      kept : kept_store kepts root ≡ brief_store (worked (store_for 0 s) (news_to (length log) log))
+      kept : kept_store kepts root ≡ brief_store (store_after (store_for 0 s) (news_to (length log) log))
       kept = sym (full-kept (length log) root d.full) ∙ d.worked.store (length log) (omega arith)
 
       told : kepts out ≡ briefs (worked_items (store_for 0 s) (news_to (length log) log))
@@ -177,17 +177,17 @@ module _ (s : Strategy) (root next : Filed) (log more out outs : List Entry) (n 
       last : news_to (length more) more ≡ news_to (length log) log ++ news_of e ∷ []
       last = ap (λ l. news_to (length l) l) m ∙ news-last log e
 
-      by_store : (k : ℕ) → k ≤ length more → data_at k → kept_store (λ es. kepts (front k es)) next ≡ brief_store (worked (store_for 0 s) (news_to k more))
+      by_store : (k : ℕ) → k ≤ length more → data_at k → kept_store (λ es. kepts (front k es)) next ≡ brief_store (store_after (store_for 0 s) (news_to k more))
       by_store k i (inl h) = (still-worked (omega (arith, long, c)) same).store k h
       by_store k i (inr h) =
           ap (λ j. kept_store (λ es. kepts (front j es)) next) (h ∙ sym c)
           ∙ full-kept n next (adds-full (length log) n root next below d.full a)
           ∙ f
           ∙ ap (λ st. brief_store (grown (told_by (news_of e)) st)) kept
-          ∙ grown-brief (told_by (news_of e)) (worked (store_for 0 s) (news_to (length log) log))
+          ∙ grown-brief (told_by (news_of e)) (store_after (store_for 0 s) (news_to (length log) log))
           ∙ ap brief_store (sym (worked-last (store_for 0 s) (news_to (length log) log) (news_of e)))
-          ∙ ap (λ l. brief_store (worked (store_for 0 s) l)) (sym last)
-          ∙ ap (λ j. brief_store (worked (store_for 0 s) (news_to j more))) (sym h)
+          ∙ ap (λ l. brief_store (store_after (store_for 0 s) l)) (sym last)
+          ∙ ap (λ j. brief_store (store_after (store_for 0 s) (news_to j more))) (sym h)
 
       by_items : (k : ℕ) → k ≤ length more → data_at k → kepts (front k outs) ≡ briefs (worked_items (store_for 0 s) (news_to k more))
       by_items k i (inl h) = (still-worked (omega (arith, long, c)) same).items k h
@@ -197,8 +197,8 @@ module _ (s : Strategy) (root next : Filed) (log more out outs : List Entry) (n 
           ∙ g
           ∙ ap (λ l. l ++ briefs (gain (told_by (news_of e)) (kept_store kepts root))) told
           ∙ ap (λ st. briefs (worked_items (store_for 0 s) (news_to (length log) log)) ++ briefs (gain (told_by (news_of e)) st)) kept
-          ∙ ap (λ l. briefs (worked_items (store_for 0 s) (news_to (length log) log)) ++ l) (gain-brief (told_by (news_of e)) (worked (store_for 0 s) (news_to (length log) log)))
-          ∙ sym (briefs-append (worked_items (store_for 0 s) (news_to (length log) log)) (gain (told_by (news_of e)) (worked (store_for 0 s) (news_to (length log) log))))
+          ∙ ap (λ l. briefs (worked_items (store_for 0 s) (news_to (length log) log)) ++ l) (gain-brief (told_by (news_of e)) (store_after (store_for 0 s) (news_to (length log) log)))
+          ∙ sym (briefs-append (worked_items (store_for 0 s) (news_to (length log) log)) (gain (told_by (news_of e)) (store_after (store_for 0 s) (news_to (length log) log))))
           ∙ ap briefs (sym (items-last (store_for 0 s) (news_to (length log) log) (news_of e)))
           ∙ ap (λ l. briefs (worked_items (store_for 0 s) l)) (sym last)
           ∙ ap (λ j. briefs (worked_items (store_for 0 s) (news_to j more))) (sym h)
@@ -211,7 +211,7 @@ cut-done s m n root log out h l w r =
     let parts = front-rise n out r in
     record {
       worked = subst (λ j. IsWorked s j (fronted n root) (take n log) (front n out)) (sym long) (record {
-        store = λ k i. fronted-less k n root i ∙ w.store k (omega (arith, i, h)) ∙ ap (λ l. brief_store (worked (store_for 0 s) (unit_news ∷ map news_of l))) (sym (take-less k n log i));
+        store = λ k i. fronted-less k n root i ∙ w.store k (omega (arith, i, h)) ∙ ap (λ l. brief_store (store_after (store_for 0 s) (unit_news ∷ map news_of l))) (sym (take-less k n log i));
         items = λ k i. ap kepts (front-less k n i out) ∙ w.items k (omega (arith, i, h)) ∙ ap (λ l. briefs (worked_items (store_for 0 s) (unit_news ∷ map news_of l))) (sym (take-less k n log i));
       });
       full = subst (λ j. IsFull j (fronted n root)) (sym long) (fronted-full n root);

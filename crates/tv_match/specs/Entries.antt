@@ -1,7 +1,7 @@
 -- The items that are kept, each with the number of the telling that brought it.
 use Rattle.std.specs.Prelude.{◌≡◌, ℕ, ◌<◌, ◌≤◌, Bool, true, false, List, [], ◌∷◌, ◌++◌, map, take, get_or, nat_lt}
+use Rattle.tv_lemmas.specs.Members.{Each}
 use Rattle.tv_value.specs.Nested.{Place}
-use Rattle.tv_strategy.specs.Sources.{Each}
 use Rattle.tv_matching.specs.Items as items
 use Rattle.tv_matching.specs.Items.{ends, closes, passes, item, if_so}
 use Rattle.tv_matching.specs.Stores.{latest_at}

@@ -13,8 +13,8 @@ abbrev pub started : Strategy → List (Name × ℕ) → Matching
 started s mismatch = record { strategy = s; mismatch = mismatch; told = []; held = []; given = [] }
 
 -- these can be told one after the other to a matcher of that strategy
-pub record IsScript (s : Strategy) (mismatch : List (Name × ℕ)) (tolds : List code.Told) : Type
-    0 where
+pub record IsScript (s : Strategy) (mismatch : List (Name × ℕ))
+    (tolds : List code.Told) : Type 0 where
   pub suits : Suits mismatch s
   pub agree : DotsAgree (number_of mismatch) s
   pub leaves : NameLeaves s tolds

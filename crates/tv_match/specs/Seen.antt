@@ -1,16 +1,16 @@
 -- What a contract sees of a matcher, and what is so of its fields.
 use Rattle.std.specs.Prelude.{◌≡◌, ℕ, ◌<◌, ◌≤◌, Bool, true, false, List, [], map, length, take, drop}
+use Rattle.tv_lemmas.specs.Members.{Each}
 use Rattle.tv_value.specs.Nested.{Place}
 use Rattle.tv_value.specs.Values.{Name}
 use Rattle.tv_value.specs.Strategies.{Strategy}
 use Rattle.tv_value.specs.Views.{strategy_view}
 use Rattle.tv_strategy.specs.Conditions.{Suits, number_of}
 use Rattle.tv_strategy.specs.Measures.{DotsAgree, leaf_names, strategy_depth}
-use Rattle.tv_strategy.specs.Sources.{Each}
 use Rattle.tv_matching.specs.Members.{Once}
 use Rattle.tv_matching.specs.Told.{arrival, faulty, close, marked, told_to, IsFit}
 use Rattle.tv_matching.specs.Told as spec
-use Rattle.tv_matching.specs.Matchers.{Outcome, job_at, list_at, fault_at, Matching, leaf_name, kept}
+use Rattle.tv_matching.specs.Matchers.{Outcome, job_at, list_at, fault_at, Matching, leaf_name, kept_item}
 use Rattle.tv_match.specs.declared.kinds.Kind as kinds
 use Rattle.tv_match.specs.declared.told.Told as code
 use Rattle.tv_match.specs.declared.told.Matched as coded
@@ -63,7 +63,7 @@ NameLeaves s ts = Each (λ t. leaf_of t < length (leaf_names s)) ts
 
 -- a listed telling names a leaf, and is kept as what it tells
 abbrev pub IsProper : Strategy → Entry → Type 0
-IsProper s e = (e.number < length (leaf_names s)) × (kept s (marked (telling_of s e)).item
+IsProper s e = (e.number < length (leaf_names s)) × (kept_item s (marked (telling_of s e)).item
     ≡ kept_entry e)
 
 abbrev pub tellings_of : Strategy → List Entry → List spec.Told

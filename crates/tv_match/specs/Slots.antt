@@ -6,8 +6,8 @@ use Rattle.tv_match.specs.Entries.{Entry, entry}
 abbrev pub shown_slot : List ℕ → Slot → Entry
 shown_slot indices s = entry s.number (take s.length (drop s.start indices)) s.kind
 
-abbrev pub shown : List ℕ → List Slot → List Entry
-shown indices slots = map (shown_slot indices) slots
+abbrev pub bag_entries : List ℕ → List Slot → List Entry
+bag_entries indices slots = map (shown_slot indices) slots
 
 -- from one index to the other
 abbrev pub AreLaid : ℕ → List Slot → ℕ → Type 0

@@ -1,13 +1,12 @@
 -- The laws of matchers: what has come out, said of the values that are delivered.
 use Rattle.std.specs.Prelude.{◌≡◌, ℕ, ◌+◌, ◌≤◌, List, [], ◌∷◌, map, flat_map, length, take, drop, IsPermutation}
+use Rattle.tv_lemmas.specs.Members.{Each, In}
 use Rattle.tv_value.specs.Nested.{Place}
 use Rattle.tv_value.specs.Values.{Name, Value, HasDepth}
 use Rattle.tv_strategy.specs.Conditions.{number_of}
 use Rattle.tv_strategy.specs.Iterations.{iteration, walks}
-use Rattle.tv_strategy.specs.Sources.{Each}
 use Rattle.tv_strategy.specs.Splits.{same_place}
 use Rattle.tv_matching.specs.Items.{if_so, known_items}
-use Rattle.tv_matching.specs.Members.{In}
 use Rattle.tv_matching.specs.Told.{Told, added_after, IsTrueOf, labelled, node_told}
 use Rattle.tv_matching.specs.Matchers.{Outcome, job_at, list_at, fault_at, Matching, IsMatching, HasGivenAll, IsTold, out, node_out}
 use Rattle.tv_match.specs.declared.matchers.Matcher.{Matcher}

@@ -1,9 +1,9 @@
 -- What the stores and the items at the top have of a list of tellings: after each of them what is worked out of those up to it.
 use Rattle.std.specs.Prelude.{◌≡◌, ℕ, ◌≤◌, List, [], ◌∷◌, map, length, take, Some, None}
+use Rattle.tv_lemmas.specs.Members.{Each}
 use Rattle.tv_value.specs.Strategies.{Strategy}
-use Rattle.tv_strategy.specs.Sources.{Each}
 use Rattle.tv_matching.specs.Items.{ends, here}
-use Rattle.tv_matching.specs.Stores.{News, store_for, worked, worked_items}
+use Rattle.tv_matching.specs.Stores.{News, store_for, store_after, worked_items}
 use Rattle.tv_match.specs.Entries.{Entry, kept_entry, kepts, front, Rise}
 use Rattle.tv_match.specs.Brief.{briefs, brief_store}
 use Rattle.tv_match.specs.Filed.{Filed, filed_leaf, filed_cross, filed_dot, kept_store}
@@ -28,7 +28,7 @@ IsFull n (filed_dot xs ys f r) = (front n xs ≡ xs) × (front n ys ≡ ys) × I
 -- up to the telling m
 pub record IsWorked (s : Strategy) (m : ℕ) (root : Filed) (log out : List Entry) : Type 0 where
   pub store : (k : ℕ) → k ≤ m → kept_store (λ es. kepts (front k es)) root
-      ≡ brief_store (worked (store_for 0 s) (news_to k log))
+      ≡ brief_store (store_after (store_for 0 s) (news_to k log))
   pub items : (k : ℕ) → k ≤ m → kepts (front k out)
       ≡ briefs (worked_items (store_for 0 s) (news_to k log))
 

@@ -30,10 +30,10 @@ impl Model for Bag {
 
     ghost Value = { List Entry };
 
-    ghost use Rattle.tv_match.specs.Slots.{shown, AreLaid};
+    ghost use Rattle.tv_match.specs.Slots.{bag_entries, AreLaid};
     ghost use Rattle.std.specs.Prelude.{length};
 
-    ghost view = { λ b. shown b.indices.items b.slots.items };
+    ghost view = { λ b. bag_entries b.indices.items b.slots.items };
 
     ghost invariant = { λ b. AreLaid 0 b.slots.items (length b.indices.items) };
 }

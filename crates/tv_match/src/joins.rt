@@ -1,6 +1,6 @@
 ghost use Rattle.std.specs.Prelude.{◌≡◌, ◌<◌, ◌++◌, ◌∷◌, [], length, map, drop, OnOk};
 ghost use Rattle.tv_matching.specs.Items.{if_so};
-ghost use Rattle.tv_matching.specs.Matched.{bound as also_bound, below, crossed_items, below_jobs, met as both_met};
+ghost use Rattle.tv_matching.specs.Matched.{bound as also_bound, below, crossed_items, below_jobs, meet_kinds as both_met};
 ghost use Rattle.tv_matching.specs.Stores.{only_jobs, met_by_first, met_by_second};
 ghost use Rattle.tv_match.specs.Entries.{kepts, kept_entry, kind_view, entry_at, AreMore};
 ghost use Rattle.tv_match.specs.Brief.{brief_kind, briefs};

@@ -6,9 +6,9 @@
 //! come out are ends, lists and passed faults of their iteration whose sources were told, each once, and nothing follows
 //! exactly where all of these have come out (`laws::what_has_come_out`, stated in `specs/Stated.antt`). What a telling adds
 //! comes out behind all that followed before it, and nothing else is new (`laws::what_a_telling_adds`). A refused telling, or
-//! a refused reservation, changes nothing (a refused `hold` has let go what was held); after `reserve` the listed tellings are not refused, and its number is exact; a
-//! telling other than the next held one lets go what was held. Want of memory is the one refusal.
-//! Each job says whether some value that it binds was told to hold a fault, also before a held telling is made.
+//! a refused reservation, changes nothing (a refused `hold` has let go what was held, and of a refused `tell_bound` nothing is
+//! said); after `reserve` the listed tellings are not refused, and its number is exact; a telling other than the next held one
+//! lets go what was held. Want of memory is the one refusal. Each job says whether some value that it binds was told to hold a fault, also before a held telling is made.
 //!
 //! **How it is laid out.** For each cross and dot a `Store` keeps what is needed of its two children, the first ones taken
 //! together before the later ones. A telling goes to its leaf, and what is new at a child is joined with what is kept of the

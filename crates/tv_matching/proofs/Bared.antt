@@ -5,6 +5,7 @@ use Rattle.std.proofs.Common.{sym, ap, ◌∙◌}
 use Rattle.std.proofs.lemmas.Simd.{map-map}
 use Rattle.std.proofs.lemmas.List.{map-append}
 use Rattle.std.proofs.lemmas.List.Folds.{flat_map-map}
+use Rattle.tv_lemmas.specs.Members.{Each}
 use Rattle.tv_value.specs.Nested.{Place}
 use Rattle.tv_value.specs.Values.{Name, holds_fault}
 use Rattle.tv_value.specs.Orders.{same_name}
@@ -12,14 +13,13 @@ use Rattle.tv_value.specs.Strategies.{Strategy, port, cross, dot, Strategies, no
 use Rattle.tv_strategy.specs.Splits.{same_place}
 use Rattle.tv_strategy.specs.Measures.{leaf_names}
 use Rattle.tv_matching.specs.Items.{Kind, ends, closes, passes, Item, item, if_so}
-use Rattle.tv_matching.specs.Matched.{bound, below, replaced, replaced_below, crossed_items, below_jobs, met, meet, joined_items, same, matched, matched_cross, matched_dot, gained, gained_cross, gained_dot}
+use Rattle.tv_matching.specs.Matched.{bound, below, replaced, replaced_below, crossed_items, below_jobs, meet_kinds, meet, joined_items, same, matched, matched_cross, matched_dot, gained, gained_cross, gained_dot}
 use Rattle.tv_strategy.specs.Origins.{Traced}
-use Rattle.tv_strategy.specs.Sources.{Each}
 use Rattle.tv_strategy.proofs.OfEach.{each-all, each-weaken}
 use Rattle.tv_matching.specs.Members.{at_place}
 use Rattle.tv_matching.specs.Tellings.{Telling, told_of, after}
-use Rattle.tv_matching.specs.Told.{Spot, Told, arrival, faulty, close, telling, tellings, told_to, matched_after, Marked, marked, marked_to, marked_after, map_kind, map_item, binds_some, some_at, TellsFaults, bound_there, stop_there, seen, value_there}
-use Rattle.tv_matching.specs.Matchers.{bare, bare_bound, bare_kind, kept, kept_out, kind_out, out, leaf_number, KeptIsEnough, KeptGains, MarkedIsMatched, FaultsRide}
+use Rattle.tv_matching.specs.Told.{Spot, Told, arrival, faulty, close, telling, matched_after, Marked, marked, marked_to, marked_after, map_kind, map_item, binds_some, some_at, TellsFaults, bound_there, stop_there}
+use Rattle.tv_matching.specs.Matchers.{bare, bare_bound, bare_kind, kept_item, kept_out, out, leaf_number, KeptIsEnough, KeptGains, MarkedIsMatched, FaultsRide}
 use Rattle.tv_matching.proofs.Natural.{matched-maps}
 use Rattle.tv_matching.proofs.Lists.{flat-append, map-same, flat-same, map-flat, map-if}
 
@@ -54,7 +54,7 @@ module _ {X F G : Type 0} (test : X → Bool) (g : F → G) where
       ∙ flat-same (λ x. replaced_below (map (bare test g) ys) x.place (bare_kind test g x.kind)) (λ x. map (bare test g) (replaced_below ys x.place x.kind)) (λ x. below_jobs-bare_kind ys x.place x.kind) xs
       ∙ sym (map-flat (bare test g) (λ x. replaced_below ys x.place x.kind) xs)
 
-  met-bare : (k l : Kind X F) → met (bare_kind test g k) (bare_kind test g l) ≡ bare_kind test g (met k l)
+  met-bare : (k l : Kind X F) → meet_kinds (bare_kind test g k) (bare_kind test g l) ≡ bare_kind test g (meet_kinds k l)
   met-bare (ends b) l = bound-bare b l
   met-bare (passes e) l = refl
   met-bare (closes m) (ends c) = refl
@@ -63,7 +63,7 @@ module _ {X F G : Type 0} (test : X → Bool) (g : F → G) where
 
   meet-bare : (x y : Item X F) → meet same (bare test g x) (bare test g y) ≡ map (bare test g) (meet same x y)
   meet-bare x y =
-      ap (λ k. if_so (same_place x.place y.place) (item y.place k)) (met-bare x.kind y.kind) ∙ sym (map-if (bare test g) (same_place x.place y.place) (item y.place (met x.kind y.kind)))
+      ap (λ k. if_so (same_place x.place y.place) (item y.place k)) (met-bare x.kind y.kind) ∙ sym (map-if (bare test g) (same_place x.place y.place) (item y.place (meet_kinds x.kind y.kind)))
 
   joined-bare : (xs ys : List (Item X F)) → joined_items same (map (bare test g) xs) (map (bare test g) ys) ≡ map (bare test g) (joined_items same xs ys)
   joined-bare xs ys =
@@ -218,7 +218,7 @@ faults-ride values s ts h q =
     ∙ some-image (λ r. (r, holds values r)) (λ r. r) (λ r. r.1) q (matched_after s ts)
     ∙ sym (some-image (bound_there values) (stop_there values) (λ v. holds_fault v.1) q (matched_after s ts))
 
-kept-outs : (s : Strategy) (q : Place) (k : Kind Marked Spot) → kept_out (kept s (item q k)) ≡ out s (plain (item q k))
+kept-outs : (s : Strategy) (q : Place) (k : Kind Marked Spot) → kept_out (kept_item s (item q k)) ≡ out s (plain (item q k))
 kept-outs s q (ends b) = refl
 kept-outs s q (closes n) = refl
 kept-outs s q (passes r) = refl
@@ -226,7 +226,7 @@ kept-outs s q (passes r) = refl
 pub kept-is_enough : KeptIsEnough
 kept-is_enough s ts =
     let e = matched-bare (λ (r : Marked). r.1) (λ (r : Spot). leaf_number (leaf_names s) r.0) (marked_to ts) s in
-    (e, ap (map kept_out) e ∙ map-map kept_out (kept s) (marked_after s ts) ∙ map-same (λ x. kept_out (kept s x)) (λ x. out s (plain x)) (λ x. kept-outs s x.place x.kind) (marked_after s ts) ∙ sym (map-map (out s) plain (marked_after s ts)) ∙ ap (map (out s)) (marked-is_matched s ts))
+    (e, ap (map kept_out) e ∙ map-map kept_out (kept_item s) (marked_after s ts) ∙ map-same (λ x. kept_out (kept_item s x)) (λ x. out s (plain x)) (λ x. kept-outs s x.place x.kind) (marked_after s ts) ∙ sym (map-map (out s) plain (marked_after s ts)) ∙ ap (map (out s)) (marked-is_matched s ts))
 
 pub kept-gains : KeptGains
 kept-gains s ts more = gained-bare (λ (r : Marked). r.1) (λ (r : Spot). leaf_number (leaf_names s) r.0) (marked_to ts) (marked_to more) s

@@ -1,10 +1,11 @@
 -- What is matched of the known items of the leaves' walks is the known items of the whole iteration, in the same order.
-use Rattle.std.specs.Prelude.{◌≡◌, refl, ℕ, zero, suc, ◌≤◌, ◌<◌, min, Bool, true, false, ◌&&◌, ◌==◌, List, [], ◌∷◌, ◌++◌, map, flat_map, take, Option}
+use Rattle.std.specs.Prelude.{◌≡◌, refl, ℕ, zero, suc, ◌≤◌, ◌<◌, Bool, true, false, ◌&&◌, ◌==◌, List, [], ◌∷◌, ◌++◌, map, flat_map, take, Option}
 use Rattle.std.proofs.Common.{arith, sym, ap, subst, ◌∙◌, append-nil}
 use Rattle.std.proofs.lemmas.Bool.{eqb-true, eq-eqb}
 use Rattle.std.proofs.lemmas.Simd.{map-map}
 use Rattle.std.proofs.lemmas.List.{map-append}
 use Rattle.std.proofs.lemmas.List.Folds.{flat_map-map}
+use Rattle.tv_lemmas.specs.Members.{Each}
 use Rattle.tv_lemmas.proofs.Numbers.{less-unequal}
 use Rattle.tv_value.specs.Nested.{leaf, list, Trees, no_trees, tree, Place, count, note, map_trees}
 use Rattle.tv_value.specs.Values.{Name, ErrorDoc}
@@ -14,12 +15,12 @@ use Rattle.tv_strategy.specs.Iterations.{Binding, End, job, passed, Iteration, I
 use Rattle.tv_strategy.specs.Measures.{strategy_depth, DotsAgree, AllDotsAgree, HaveOneDepth}
 use Rattle.tv_strategy.specs.Levels.{HasLevels, AllHaveLevels}
 use Rattle.tv_strategy.specs.Splits.{same_place}
-use Rattle.tv_strategy.specs.Sources.{Each}
 use Rattle.tv_strategy.proofs.AtDepth.{iteration-levels, dot_of-levels}
 use Rattle.tv_strategy.proofs.OfSources.{each-append}
 use Rattle.tv_strategy.proofs.OfEach.{each-all, each-weaken}
+use Rattle.tv_strategy.proofs.OfLists.{count-each_paired}
 use Rattle.tv_matching.specs.Items.{Kind, ends, closes, passes, Item, item, Bound, Stopped, end_kind, within, here, if_so, all_known, known_items, known_from}
-use Rattle.tv_matching.specs.Matched.{bound, below, replaced, crossed_items, met, meet, joined_items, same, matched, matched_cross, matched_dot}
+use Rattle.tv_matching.specs.Matched.{bound, below, replaced, crossed_items, meet_kinds, meet, joined_items, same, matched, matched_cross, matched_dot}
 use Rattle.tv_matching.proofs.Lists.{flat-append, flat-none, flat-same, map-flat, flat-single, map-if, flat-nothing, flat-each, each-map, each-if}
 
 abbrev pub WalkItem : Type 0
@@ -176,7 +177,7 @@ module _ {X F : Type 0} (c : ℕ) where
   pub top-meets_none : (k : Kind X F) (i : ℕ) (ys : List (Item X F)) → Each (λ y. StartsFrom i y.place) ys → MeetsNone (take (suc c)) ys (here k)
   top-meets_none k i ys h = flat-nothing (meet (take (suc c)) (here k)) ys (each-weaken (λ y. StartsFrom i y.place) (λ y. meet (take (suc c)) (here k) y ≡ []) (λ y s. by y.place y.kind s) ys h)
     where
-      by : (q : Place) (l : Kind X F) → StartsFrom i q → if_so (same_place [] (take (suc c) q)) (item q (met k l)) ≡ []
+      by : (q : Place) (l : Kind X F) → StartsFrom i q → if_so (same_place [] (take (suc c) q)) (item q (meet_kinds k l)) ≡ []
       by [] l s = absurd s
       by (j ∷ q) l s = refl
 
@@ -184,23 +185,23 @@ module _ {X F : Type 0} (c : ℕ) where
   inside-meets_none x i false k s = refl
   inside-meets_none x i true k s = by x.place s
     where
-      by : (q : Place) → StartsFrom i q → if_so (same_place q []) (item [] (met x.kind k)) ++ [] ≡ []
+      by : (q : Place) → StartsFrom i q → if_so (same_place q []) (item [] (meet_kinds x.kind k)) ++ [] ≡ []
       by [] s = absurd s
       by (j ∷ q) s = refl
 
   earlier-meets_none : (i : ℕ) (x : Item X F) (ys : List (Item X F)) → Each (λ y. StartsFrom (suc i) y.place) ys → MeetsNone (take (suc c)) ys (within i x)
   earlier-meets_none i x ys h = flat-nothing (meet (take (suc c)) (within i x)) ys (each-weaken (λ y. StartsFrom (suc i) y.place) (λ y. meet (take (suc c)) (within i x) y ≡ []) (λ y s. by y.place y.kind s) ys h)
     where
-      by : (q : Place) (l : Kind X F) → StartsFrom (suc i) q → if_so (same_place (i ∷ x.place) (take (suc c) q)) (item q (met x.kind l)) ≡ []
+      by : (q : Place) (l : Kind X F) → StartsFrom (suc i) q → if_so (same_place (i ∷ x.place) (take (suc c) q)) (item q (meet_kinds x.kind l)) ≡ []
       by [] l s = absurd s
-      by (j ∷ q) l s = ap (λ b. if_so (b && same_place x.place (take c q)) (item (j ∷ q) (met x.kind l))) (less-unequal i j s)
+      by (j ∷ q) l s = ap (λ b. if_so (b && same_place x.place (take c q)) (item (j ∷ q) (meet_kinds x.kind l))) (less-unequal i j s)
 
   later-meets_none : (i : ℕ) (x : Item X F) (ys : List (Item X F)) → StartsFrom (suc i) x.place → MeetsNone (take (suc c)) (map (within i) ys) x
   later-meets_none i x ys s = flat_map-map (meet (take (suc c)) x) (within i) ys ∙ flat-nothing (λ y. meet (take (suc c)) x (within i y)) ys (each-all (λ y. meet (take (suc c)) x (within i y) ≡ []) (λ y. by x.place s y) ys)
     where
-      by : (q : Place) → StartsFrom (suc i) q → (y : Item X F) → if_so (same_place q (i ∷ take c y.place)) (item (i ∷ y.place) (met x.kind y.kind)) ≡ []
+      by : (q : Place) → StartsFrom (suc i) q → (y : Item X F) → if_so (same_place q (i ∷ take c y.place)) (item (i ∷ y.place) (meet_kinds x.kind y.kind)) ≡ []
       by [] s y = absurd s
-      by (j ∷ q) s y = ap (λ b. if_so (b && same_place q (take c y.place)) (item (i ∷ y.place) (met x.kind y.kind))) (eqb-differs_back i j s)
+      by (j ∷ q) s y = ap (λ b. if_so (b && same_place q (take c y.place)) (item (i ∷ y.place) (meet_kinds x.kind y.kind))) (eqb-differs_back i j s)
 
   -- what stands in two lists at the same index
   joined-within : (i : ℕ) (xs ys : List (Item X F)) → joined_items (take (suc c)) (map (within i) xs) (map (within i) ys) ≡ map (within i) (joined_items (take c) xs ys)
@@ -211,8 +212,8 @@ module _ {X F : Type 0} (c : ℕ) where
     where
       pair : (x y : Item X F) → meet (take (suc c)) (within i x) (within i y) ≡ map (within i) (meet (take c) x y)
       pair x y =
-          ap (λ b. if_so (b && same_place x.place (take c y.place)) (item (i ∷ y.place) (met x.kind y.kind))) (eq-eqb i i refl)
-          ∙ sym (map-if (within i) (same_place x.place (take c y.place)) (item y.place (met x.kind y.kind)))
+          ap (λ b. if_so (b && same_place x.place (take c y.place)) (item (i ∷ y.place) (meet_kinds x.kind y.kind))) (eq-eqb i i refl)
+          ∙ sym (map-if (within i) (same_place x.place (take c y.place)) (item y.place (meet_kinds x.kind y.kind)))
 
       one : (x : Item X F) → flat_map (meet (take (suc c)) (within i x)) (map (within i) ys) ≡ map (within i) (flat_map (meet (take c) x) ys)
       one x = flat_map-map (meet (take (suc c)) (within i x)) (within i) ys ∙ flat-same (λ y. meet (take (suc c)) (within i x) (within i y)) (λ y. map (within i) (meet (take c) x y)) (pair x) ys ∙ sym (map-flat (within i) (meet (take c) x) ys)
@@ -229,20 +230,6 @@ module _ (known : Origin → Bool) where
       lower [] s = s
       lower (j ∷ q) s = omega arith
 
-  count-paired : (ts us : Iterations) → count (each_paired ts us) ≡ min (count ts) (count us)
-  count-paired no_trees us = least (count us)
-    where
-      least : (n : ℕ) → 0 ≡ min 0 n
-      least n = omega arith
-  count-paired (tree t ts) no_trees = least (count ts)
-    where
-      least : (n : ℕ) → 0 ≡ min (suc n) 0
-      least n = omega arith
-  count-paired (tree t ts) (tree u us) = ap suc (count-paired ts us) ∙ both (count ts) (count us)
-    where
-      both : (m n : ℕ) → suc (min m n) ≡ min (suc m) (suc n)
-      both m n = omega arith
-
   -- a job beside anything
   job-meets : (b : Binding) (ys : List WalkItem) → flat_map (meet (take 0) (here (ends b))) ys ≡ map (below [] b) ys
   job-meets b ys = flat-single (below [] b) ys
@@ -252,16 +239,16 @@ module _ (known : Origin → Bool) where
   paired_job s b u false h = added-unknown known s b h u
 
   -- two that stand at the top
-  tops : (c : ℕ) (k l : Kind Bound Stopped) (s r : List Origin) → if_so (all_known known (s ++ r)) (here (met k l)) ≡ joined_items (take (suc c)) (if_so (all_known known s) (here k)) (if_so (all_known known r) (here l))
-  tops c k l s r = ap (λ b. if_so b (here (met k l))) (known-more known s r) ∙ by (all_known known s) (all_known known r)
+  tops : (c : ℕ) (k l : Kind Bound Stopped) (s r : List Origin) → if_so (all_known known (s ++ r)) (here (meet_kinds k l)) ≡ joined_items (take (suc c)) (if_so (all_known known s) (here k)) (if_so (all_known known r) (here l))
+  tops c k l s r = ap (λ b. if_so b (here (meet_kinds k l))) (known-more known s r) ∙ by (all_known known s) (all_known known r)
     where
-      by : (a b : Bool) → if_so (a && b) (here (met k l)) ≡ joined_items (take (suc c)) (if_so a (here k)) (if_so b (here l))
+      by : (a b : Bool) → if_so (a && b) (here (meet_kinds k l)) ≡ joined_items (take (suc c)) (if_so a (here k)) (if_so b (here l))
       by true true = refl
       by true false = refl
       by false b = refl
 
   -- what stands at the top beside a list
-  top-list : (c : ℕ) (k l : Kind Bound Stopped) (s r : List Origin) (us : Iterations) → if_so (all_known known (s ++ r)) (here (met k l)) ≡ joined_items (take (suc c)) (if_so (all_known known s) (here k)) (if_so (all_known known r) (here l) ++ known_from known 0 us)
+  top-list : (c : ℕ) (k l : Kind Bound Stopped) (s r : List Origin) (us : Iterations) → if_so (all_known known (s ++ r)) (here (meet_kinds k l)) ≡ joined_items (take (suc c)) (if_so (all_known known s) (here k)) (if_so (all_known known r) (here l) ++ known_from known 0 us)
   top-list c k l s r us =
       tops c k l s r ∙ sym (joined-first (take (suc c)) (if_so (all_known known s) (here k)) (if_so (all_known known r) (here l)) (known_from known 0 us) (each-if (MeetsNone (take (suc c)) (known_from known 0 us)) (all_known known s) (here k) (top-meets_none c k 0 (known_from known 0 us) (from-starts 0 us))))
 
@@ -300,7 +287,7 @@ module _ (known : Origin → Bool) where
     paired-known (list s ts) (leaf r (passed n e)) (suc c) d w l m = list-passed c s r ts n e
     paired-known (list s ts) (list r us) (suc c) zero w l m = absurd m
     paired-known (list s ts) (list r us) (suc c) (suc d) w l m =
-        ap (λ n. if_so (all_known known (s ++ r)) (here (closes n)) ++ known_from known 0 (each_paired ts us)) (count-paired ts us)
+        ap (λ n. if_so (all_known known (s ++ r)) (here (closes n)) ++ known_from known 0 (each_paired ts us)) (count-each_paired ts us)
         ∙ ap (λ x. x ++ known_from known 0 (each_paired ts us)) (top-list c (closes (count ts)) (closes (count us)) s r us)
         ∙ ap (λ x. joined_items (take (suc c)) (if_so (all_known known s) (here (closes (count ts)))) (known_items known (list r us)) ++ x) (paired-from c d 0 ts us (omega arith) l m)
         ∙ ap (λ x. joined_items (take (suc c)) (if_so (all_known known s) (here (closes (count ts)))) (known_items known (list r us)) ++ x) (sym (joined-second (take (suc c)) (known_from known 0 ts) (if_so (all_known known r) (here (closes (count us)))) (known_from known 0 us) (each-weaken (λ x. StartsFrom 0 x.place) (MeetsNone (take (suc c)) (if_so (all_known known r) (here (closes (count us))))) (λ x h. inside-meets_none c x 0 (all_known known r) (closes (count us)) h) (known_from known 0 ts) (from-starts 0 ts))))
@@ -339,7 +326,7 @@ module _ (known : Origin → Bool) where
 
 pub joined-key : {X F : Type 0} (key : Place → Place) (xs ys : List (Item X F)) → Each (λ (y : Item X F). key y.place ≡ y.place) ys → joined_items key xs ys ≡ joined_items same xs ys
 joined-key key xs ys h =
-    flat-same (λ x. flat_map (meet key x) ys) (λ x. flat_map (meet same x) ys) (λ x. flat-each (meet key x) (meet same x) ys (each-weaken (λ y. key y.place ≡ y.place) (λ y. meet key x y ≡ meet same x y) (λ y e. ap (λ q. if_so (same_place x.place q) (item y.place (met x.kind y.kind))) e) ys h)) xs
+    flat-same (λ x. flat_map (meet key x) ys) (λ x. flat_map (meet same x) ys) (λ x. flat-each (meet key x) (meet same x) ys (each-weaken (λ y. key y.place ≡ y.place) (λ y. meet key x y ≡ meet same x y) (λ y e. ap (λ q. if_so (same_place x.place q) (item y.place (meet_kinds x.kind y.kind))) e) ys h)) xs
 
 -- ---- every strategy whose dots agree
 

@@ -5,6 +5,8 @@ use Rattle.std.proofs.lemmas.List.Sorted.{IsPermutation-refl, IsPermutation-sym,
 use Rattle.std.proofs.lemmas.List.{length-map}
 use Rattle.std.proofs.lemmas.Option.{same_Some}
 use Rattle.std.proofs.lemmas.List.Folds.{flat_map-map}
+use Rattle.tv_lemmas.specs.Members.{Each, In}
+use Rattle.tv_lemmas.proofs.OfMembers.{each_in, in-flat, in-map, of-flat, of-map}
 use Rattle.tv_value.specs.Nested.{leaf, list, Trees, no_trees, tree, Place, count, note, notes, all_notes, at, item_at}
 use Rattle.tv_value.specs.Values.{Name, Scalar, text, fault, Value}
 use Rattle.tv_value.specs.Orders.{same_name}
@@ -14,15 +16,14 @@ use Rattle.tv_strategy.specs.Iterations.{passed, Iteration, walk, walk_each, wal
 use Rattle.tv_strategy.specs.Levels.{HasLevels}
 use Rattle.tv_strategy.specs.Measures.{DotsAgree}
 use Rattle.tv_strategy.specs.Splits.{same_place}
-use Rattle.tv_strategy.specs.Sources.{Each}
 use Rattle.tv_strategy.proofs.OfEnds.{item_at-walk_each}
 use Rattle.tv_strategy.proofs.OfPlaces.{same-equal, same-itself}
 use Rattle.tv_matching.specs.Items.{ends, closes, passes, Item, item, if_so, kind_of, Node, node_at, all_known, known_items}
-use Rattle.tv_matching.specs.Members.{In, at_place, Once}
+use Rattle.tv_matching.specs.Members.{at_place, Once}
 use Rattle.tv_matching.specs.Tellings.{Telling}
-use Rattle.tv_matching.specs.Told.{Spot, Told, arrival, faulty, close, told_leaf, told_place, telling, tellings, told_to, matched_after, value_there, stop_of, seen, bound_there, stop_there, IsTrueOf, IsThere, IsFaultThere, IsListThere, labelled, some, is_told, node_told}
+use Rattle.tv_matching.specs.Told.{Spot, Told, arrival, faulty, close, told_leaf, told_place, telling, tellings, told_to, matched_after, value_there, stop_of, item_there, bound_there, stop_there, IsTrueOf, IsThere, IsFaultThere, IsListThere, labelled, some, is_told, node_told}
 use Rattle.tv_matching.proofs.Lists.{flat-same, map-flat, map-if}
-use Rattle.tv_matching.proofs.OfMembers.{in-map, of-map, in-flat, of-flat, in-if, of-if, each-in, in-permutes}
+use Rattle.tv_matching.proofs.OfMembers.{in-if, of-if, in-permutes}
 use Rattle.tv_matching.proofs.FromScratch.{WalkItem, known-more}
 use Rattle.tv_matching.proofs.Nodes.{of-known, in-known, IsNodeOf, node-stands, node-in}
 use Rattle.tv_matching.proofs.Onces.{known-once, once-permutes}
@@ -175,10 +176,10 @@ take-whole (i ∷ q) (suc k) m e = ap (λ r. i ∷ r) (take-whole q k m (omega a
 module _ (mismatch : Name → ℕ) (ts : List Told) where
   module _ (p : Name) (q : Place) (ends_here : mismatch p ≡ length q + 0) where
     abbrev told_here : Bool
-    told_here = is_told mismatch ts p q
+    told_here = is_told ts p q
 
     one-told : (s : Place) → node_told mismatch ts (from_input p (q ++ s)) ≡ told_here
-    one-told s = ap (λ r. is_told mismatch ts p r) (take-front q s (mismatch p) ends_here)
+    one-told s = ap (λ r. is_told ts p r) (take-front q s (mismatch p) ends_here)
 
     twice : (b c : Bool) → (b && c) ≡ b → (b && (b && c)) ≡ b
     twice true c h = h
@@ -203,15 +204,15 @@ module _ (mismatch : Name → ℕ) (ts : List Told) where
           ap (λ b. told_here && b) (known-more (node_told mismatch ts) (notes (input_value p ((q ++ s) ++ i ∷ []) v)) (all_notes (input_values p (q ++ s) (suc i) vs)) ∙ ap (λ b. b && all_known (node_told mismatch ts) (all_notes (input_values p (q ++ s) (suc i) vs))) (ap (λ r. all_known (node_told mismatch ts) (notes (input_value p r v))) (append_assoc q s (i ∷ [])) ∙ notes-told (s ++ i ∷ []) v))
           ∙ twice told_here (all_known (node_told mismatch ts) (all_notes (input_values p (q ++ s) (suc i) vs))) (all_notes-told s (suc i) vs)
 
-  walked-told : (p : Name) (q : Place) (m : ℕ) → mismatch p ≡ length q + suc m → (node_told mismatch ts (from_input p q) && true) ≡ is_told mismatch ts p q
-  walked-told p q m e = ap (λ r. is_told mismatch ts p r && true) (take-whole q (mismatch p) (suc m) e) ∙ last (is_told mismatch ts p q)
+  walked-told : (p : Name) (q : Place) (m : ℕ) → mismatch p ≡ length q + suc m → (node_told mismatch ts (from_input p q) && true) ≡ is_told ts p q
+  walked-told p q m e = ap (λ r. is_told ts p r && true) (take-whole q (mismatch p) (suc m) e) ∙ last (is_told ts p q)
     where
       last : (b : Bool) → (b && true) ≡ b
       last true = refl
       last false = refl
 
   -- the sources of what stands at a place of a walk are told where something was told of that place
-  pub note-told : (p : Name) (q : Place) (m : ℕ) (v : Value) → mismatch p ≡ length q + m → all_known (node_told mismatch ts) (note (walk p m (input_value p q v))) ≡ is_told mismatch ts p q
+  pub note-told : (p : Name) (q : Place) (m : ℕ) (v : Value) → mismatch p ≡ length q + m → all_known (node_told mismatch ts) (note (walk p m (input_value p q v))) ≡ is_told ts p q
   note-told p q zero v e = ap (λ r. all_known (node_told mismatch ts) (notes (input_value p r v))) (sym (append-nil q)) ∙ notes-told p q e [] v
   note-told p q (suc m) (leaf n a) e = walked-told p q m e
   note-told p q (suc m) (list n vs) e = walked-told p q m e
@@ -230,7 +231,7 @@ module _ (values : Name → Traced) (mismatch : Name → ℕ) where
   pub record Stands (t : Told) : Type 0 where
     pub found : Iteration
     pub there : at (walks mismatch values (told_leaf t)) (told_place t) ≡ Some found
-    pub as_told : seen values (telling t).item ≡ item (told_place t) (kind_of found)
+    pub as_told : item_there values (telling t).item ≡ item (told_place t) (kind_of found)
 
   value-stands : (p : Name) (q : Place) (o : Option Traced) → at (values p) q ≡ o → length q ≡ mismatch p → IsThere o → Stands (arrival p q false)
   value-stands p q None e l h = absurd h
@@ -282,13 +283,13 @@ module _ (values : Name → Value) (mismatch : Name → ℕ) (ts : List Told) (t
       let r = of-flat (λ t. if_so (same_name p t.leaf) t.item) x (tellings ts) h in
       let m = of-map telling r.0 ts r.1 in
       let k = of-if (same_name p r.0.leaf) r.0.item x r.2 in
-      record { t = m.0; holds = each-in (IsTrueOf (labelled values) mismatch) m.0 ts true_of m.1; leaf_is = sym (same-equal p r.0.leaf k.0 ∙ ap (λ (u : Telling Spot Spot). u.leaf) m.2); is = k.1 ∙ ap (λ (u : Telling Spot Spot). u.item) m.2 }
+      record { t = m.0; holds = each_in (IsTrueOf (labelled values) mismatch) ts true_of m.0 m.1; leaf_is = sym (same-equal p r.0.leaf k.0 ∙ ap (λ (u : Telling Spot Spot). u.leaf) m.2); is = k.1 ∙ ap (λ (u : Telling Spot Spot). u.item) m.2 }
 
   -- what stands where an item was told
   record Placed (p : Name) (x : Item Spot Spot) : Type 0 where
     pub found : Iteration
     pub there : at (walks mismatch (labelled values) p) x.place ≡ Some found
-    pub as_told : seen (labelled values) x ≡ item x.place (kind_of found)
+    pub as_told : item_there (labelled values) x ≡ item x.place (kind_of found)
 
   placed : (p : Name) (x : Item Spot Spot) → In x (told_to ts p) → Placed p x
   placed p x h =
@@ -297,21 +298,21 @@ module _ (values : Name → Value) (mismatch : Name → ℕ) (ts : List Told) (t
       subst (λ y. Placed p y) (sym s.is) (subst (λ r. Placed r (telling s.t).item) s.leaf_is (record { found = w.found; there = w.there; as_told = w.as_told }))
 
   -- the sources of what stands at a place
-  sources-told : (p : Name) (q : Place) (w : Iteration) → at (walks mismatch (labelled values) p) q ≡ Some w → all_known (node_told mismatch ts) (note w) ≡ is_told mismatch ts p q
+  sources-told : (p : Name) (q : Place) (w : Iteration) → at (walks mismatch (labelled values) p) q ≡ Some w → all_known (node_told mismatch ts) (note w) ≡ is_told ts p q
   sources-told p q w h =
       let r = walk-comes p q (mismatch p) (labelled values p) w h in
       let v = input-there p q (at (values p) q) r.value (sym (at-input p q [] (values p)) ∙ r.there) in
       ap (λ t. all_known (node_told mismatch ts) (note t)) (r.is ∙ ap (walk p r.left) v.1) ∙ note-told mismatch ts p q r.left v.0 r.levels
 
-  seen-known : (p : Name) (y : WalkItem) → In y (map (seen (labelled values)) (told_to ts p)) → In y (known_items (node_told mismatch ts) (walks mismatch (labelled values) p))
+  seen-known : (p : Name) (y : WalkItem) → In y (map (item_there (labelled values)) (told_to ts p)) → In y (known_items (node_told mismatch ts) (walks mismatch (labelled values) p))
   seen-known p y h =
-      let x = of-map (seen (labelled values)) y (told_to ts p) h in
+      let x = of-map (item_there (labelled values)) y (told_to ts p) h in
       let w = placed p x.0 x.1 in
       subst (λ z. In z (known_items (node_told mismatch ts) (walks mismatch (labelled values) p))) (sym w.as_told ∙ sym x.2)
       (in-known (node_told mismatch ts) (walks mismatch (labelled values) p) (node_at x.0.place w.found) (node-in x.0.place (walks mismatch (labelled values) p) w.found w.there)
       (sources-told p x.0.place w.found w.there ∙ some-in x.0 (at_place x.0.place (told_to ts p)) (in-flat (λ z. if_so (same_place x.0.place z.place) z) x.0 x.0 (told_to ts p) x.1 (in-if (same_place x.0.place x.0.place) x.0 (same-itself x.0.place)))))
 
-  known-seen_at : (p : Name) (n : Node) (o : Option Iteration) → at (walks mismatch (labelled values) p) n.item.place ≡ o → IsNodeOf o n → all_known (node_told mismatch ts) n.sources ≡ true → In n.item (map (seen (labelled values)) (told_to ts p))
+  known-seen_at : (p : Name) (n : Node) (o : Option Iteration) → at (walks mismatch (labelled values) p) n.item.place ≡ o → IsNodeOf o n → all_known (node_told mismatch ts) n.sources ≡ true → In n.item (map (item_there (labelled values)) (told_to ts p))
   known-seen_at p n None e i k = absurd i
   known-seen_at p n (Some w) e i k =
       let told = sym (sources-told p n.item.place w e) ∙ ap (λ (m : Node). all_known (node_told mismatch ts) m.sources) (sym i) ∙ k in
@@ -321,25 +322,25 @@ module _ (values : Name → Value) (mismatch : Name → ℕ) (ts : List Told) (t
       let place : n.item.place ≡ r.0.place = same-equal n.item.place r.0.place s.0 in
       let d = placed p r.0 r.1 in
       let found : d.found ≡ w = same_Some d.found w (sym d.there ∙ ap (at (walks mismatch (labelled values) p)) (sym place) ∙ e) in
-      subst (λ z. In z (map (seen (labelled values)) (told_to ts p))) (d.as_told ∙ ap (λ q. item q (kind_of d.found)) (sym place) ∙ ap (λ u. item n.item.place (kind_of u)) found ∙ sym (ap (λ (m : Node). m.item) i)) (in-map (seen (labelled values)) r.0 (told_to ts p) r.1)
+      subst (λ z. In z (map (item_there (labelled values)) (told_to ts p))) (d.as_told ∙ ap (λ q. item q (kind_of d.found)) (sym place) ∙ ap (λ u. item n.item.place (kind_of u)) found ∙ sym (ap (λ (m : Node). m.item) i)) (in-map (item_there (labelled values)) r.0 (told_to ts p) r.1)
 
-  known-seen : (p : Name) (y : WalkItem) → In y (known_items (node_told mismatch ts) (walks mismatch (labelled values) p)) → In y (map (seen (labelled values)) (told_to ts p))
+  known-seen : (p : Name) (y : WalkItem) → In y (known_items (node_told mismatch ts) (walks mismatch (labelled values) p)) → In y (map (item_there (labelled values)) (told_to ts p))
   known-seen p y h =
       let n = of-known (node_told mismatch ts) (walks mismatch (labelled values) p) y h in
-      subst (λ z. In z (map (seen (labelled values)) (told_to ts p))) n.2 (known-seen_at p n.0 (at (walks mismatch (labelled values) p) n.0.item.place) refl (node-stands n.0.item.place (walks mismatch (labelled values) p) n.0 refl n.1) n.3)
+      subst (λ z. In z (map (item_there (labelled values)) (told_to ts p))) n.2 (known-seen_at p n.0 (at (walks mismatch (labelled values) p) n.0.item.place) refl (node-stands n.0.item.place (walks mismatch (labelled values) p) n.0 refl n.1) n.3)
 
-  seen-once : (xs : List (Item Spot Spot)) → Once xs → Once (map (seen (labelled values)) xs)
+  seen-once : (xs : List (Item Spot Spot)) → Once xs → Once (map (item_there (labelled values)) xs)
   seen-once xs o q =
-      subst (λ l. length l ≤ 1) (sym (flat_map-map (λ x. if_so (same_place q x.place) x) (seen (labelled values)) xs ∙ flat-same (λ x. if_so (same_place q x.place) (seen (labelled values) x)) (λ x. map (seen (labelled values)) (if_so (same_place q x.place) x)) (λ x. sym (map-if (seen (labelled values)) (same_place q x.place) x)) xs ∙ sym (map-flat (seen (labelled values)) (λ x. if_so (same_place q x.place) x) xs)))
-      (subst (λ n. n ≤ 1) (sym (length-map (at_place q xs) (seen (labelled values)))) (o q))
+      subst (λ l. length l ≤ 1) (sym (flat_map-map (λ x. if_so (same_place q x.place) x) (item_there (labelled values)) xs ∙ flat-same (λ x. if_so (same_place q x.place) (item_there (labelled values) x)) (λ x. map (item_there (labelled values)) (if_so (same_place q x.place) x)) (λ x. sym (map-if (item_there (labelled values)) (same_place q x.place) x)) xs ∙ sym (map-flat (item_there (labelled values)) (λ x. if_so (same_place q x.place) x) xs)))
+      (subst (λ n. n ≤ 1) (sym (length-map (at_place q xs) (item_there (labelled values)))) (o q))
 
   module _ (once : (p : Name) → Once (told_to ts p)) where
-    pub leaf-agrees : (p : Name) → IsPermutation (map (seen (labelled values)) (told_to ts p)) (known_items (node_told mismatch ts) (walks mismatch (labelled values) p))
+    pub leaf-agrees : (p : Name) → IsPermutation (map (item_there (labelled values)) (told_to ts p)) (known_items (node_told mismatch ts) (walks mismatch (labelled values) p))
     leaf-agrees p =
-        once-members (map (seen (labelled values)) (told_to ts p)) (known_items (node_told mismatch ts) (walks mismatch (labelled values) p)) (seen-once (told_to ts p) (once p)) (λ q. known-once (node_told mismatch ts) q (walks mismatch (labelled values) p)) (λ y h. seen-known p y h) (λ y h. known-seen p y h)
+        once-members (map (item_there (labelled values)) (told_to ts p)) (known_items (node_told mismatch ts) (walks mismatch (labelled values) p)) (seen-once (told_to ts p) (once p)) (λ q. known-once (node_told mismatch ts) q (walks mismatch (labelled values) p)) (λ y h. seen-known p y h) (λ y h. known-seen p y h)
 
     -- what is matched is what stands in the iteration of these values with all its sources told
-    pub matched-told : ((p : Name) → HasLevels (walks mismatch (labelled values) p) (mismatch p)) → (s : Strategy) → DotsAgree mismatch s → IsPermutation (map (seen (labelled values)) (matched_after s ts)) (known_items (node_told mismatch ts) (iteration (walks mismatch (labelled values)) s))
+    pub matched-told : ((p : Name) → HasLevels (walks mismatch (labelled values) p) (mismatch p)) → (s : Strategy) → DotsAgree mismatch s → IsPermutation (map (item_there (labelled values)) (matched_after s ts)) (known_items (node_told mismatch ts) (iteration (walks mismatch (labelled values)) s))
     matched-told levels s a =
         subst (λ l. IsPermutation l (known_items (node_told mismatch ts) (iteration (walks mismatch (labelled values)) s))) (matched-maps (bound_there (labelled values)) (stop_there (labelled values)) (told_to ts) s)
-        (matched-known (node_told mismatch ts) (walks mismatch (labelled values)) mismatch levels (λ p. map (seen (labelled values)) (told_to ts p)) leaf-agrees s a)
+        (matched-known (node_told mismatch ts) (walks mismatch (labelled values)) mismatch levels (λ p. map (item_there (labelled values)) (told_to ts p)) leaf-agrees s a)

@@ -2,6 +2,7 @@
 use Rattle.std.specs.Prelude.{◌≡◌, ℕ, Bool, true, List, IsPermutation}
 use Rattle.std.proofs.Common.{sym}
 use Rattle.std.proofs.lemmas.List.Sorted.{IsPermutation-trans, IsPermutation-sym}
+use Rattle.tv_lemmas.specs.Members.{In}
 use Rattle.tv_value.specs.Values.{Name}
 use Rattle.tv_value.specs.Strategies.{Strategy}
 use Rattle.tv_strategy.specs.Origins.{Origin}
@@ -9,7 +10,6 @@ use Rattle.tv_strategy.specs.Iterations.{Iteration, iteration}
 use Rattle.tv_strategy.specs.Measures.{DotsAgree}
 use Rattle.tv_strategy.specs.Levels.{HasLevels}
 use Rattle.tv_matching.specs.Items.{Node, nodes_of, all_known, known_items}
-use Rattle.tv_matching.specs.Members.{In}
 use Rattle.tv_matching.specs.Matched.{matched}
 use Rattle.tv_matching.proofs.FromScratch.{WalkItem, iteration-known}
 use Rattle.tv_matching.proofs.Permutes.{perm-from}

@@ -9,7 +9,7 @@ use Rattle.tv_value.specs.Values.{Name}
 use Rattle.tv_value.specs.Strategies.{Strategy, port, cross, dot, Strategies, no_strategies, strategy}
 use Rattle.tv_strategy.specs.Splits.{same_place}
 use Rattle.tv_matching.specs.Items.{Kind, ends, closes, passes, Item, item, if_so}
-use Rattle.tv_matching.specs.Matched.{bound, below, replaced, crossed_items, met, meet, joined_items, same, matched, matched_cross, matched_dot}
+use Rattle.tv_matching.specs.Matched.{bound, below, replaced, crossed_items, meet_kinds, meet, joined_items, same, matched, matched_cross, matched_dot}
 use Rattle.tv_matching.specs.Told.{map_kind, map_item}
 use Rattle.tv_matching.proofs.Lists.{map-same, flat-same, map-flat, map-if}
 
@@ -31,7 +31,7 @@ module _ {X F Y G : Type 0} (f : X → Y) (g : F → G) where
       ∙ flat-same (λ x. replaced (map (map_item f g) ys) x.place (map_kind f g x.kind)) (λ x. map (map_item f g) (replaced ys x.place x.kind)) (λ x. replaced-maps ys x.place x.kind) xs
       ∙ sym (map-flat (map_item f g) (λ x. replaced ys x.place x.kind) xs)
 
-  met-maps : (k l : Kind X F) → met (map_kind f g k) (map_kind f g l) ≡ map_kind f g (met k l)
+  met-maps : (k l : Kind X F) → meet_kinds (map_kind f g k) (map_kind f g l) ≡ map_kind f g (meet_kinds k l)
   met-maps (ends b) l = bound-maps b l
   met-maps (passes e) l = refl
   met-maps (closes m) (ends c) = refl
@@ -40,7 +40,7 @@ module _ {X F Y G : Type 0} (f : X → Y) (g : F → G) where
 
   meet-maps : (key : Place → Place) (x y : Item X F) → meet key (map_item f g x) (map_item f g y) ≡ map (map_item f g) (meet key x y)
   meet-maps key x y =
-      ap (λ k. if_so (same_place x.place (key y.place)) (item y.place k)) (met-maps x.kind y.kind) ∙ sym (map-if (map_item f g) (same_place x.place (key y.place)) (item y.place (met x.kind y.kind)))
+      ap (λ k. if_so (same_place x.place (key y.place)) (item y.place k)) (met-maps x.kind y.kind) ∙ sym (map-if (map_item f g) (same_place x.place (key y.place)) (item y.place (meet_kinds x.kind y.kind)))
 
   pub joined-maps : (key : Place → Place) (xs ys : List (Item X F)) → joined_items key (map (map_item f g) xs) (map (map_item f g) ys) ≡ map (map_item f g) (joined_items key xs ys)
   joined-maps key xs ys =

@@ -2,13 +2,14 @@
 use Rattle.std.specs.Prelude.{◌≡◌, refl, ℕ, zero, suc, ◌+◌, Bool, true, false, ◌⊎◌, List, [], ◌∷◌, ◌++◌, map, flat_map, Option, Some, None, option_and_then}
 use Rattle.std.proofs.Common.{arith, sym, ap, subst, ◌∙◌, inl, inr}
 use Rattle.std.proofs.lemmas.List.Folds.{flat_map-map}
+use Rattle.tv_lemmas.specs.Members.{In}
+use Rattle.tv_lemmas.proofs.OfMembers.{in-append, in-flat, in-left, in-map, in-right, of-flat, of-map}
 use Rattle.tv_value.specs.Nested.{leaf, list, no_trees, tree, Place, count, at, item_at}
 use Rattle.tv_strategy.specs.Origins.{Origin}
 use Rattle.tv_strategy.specs.Iterations.{Iteration, Iterations}
 use Rattle.tv_matching.specs.Items.{closes, end_kind, within, here, if_so, Node, node_at, inside, nodes_of, nodes_from, all_known, known_items, known_from}
-use Rattle.tv_matching.specs.Members.{In}
 use Rattle.tv_matching.proofs.Lists.{flat-append, flat-same, map-flat, map-if}
-use Rattle.tv_matching.proofs.OfMembers.{in-left, in-right, in-append, in-map, of-map, in-flat, of-flat, in-if, of-if}
+use Rattle.tv_matching.proofs.OfMembers.{in-if, of-if}
 use Rattle.tv_matching.proofs.FromScratch.{WalkItem}
 
 module _ (known : Origin → Bool) where
@@ -45,7 +46,7 @@ module _ (known : Origin → Bool) where
 
   -- and the other way
   pub in-known : (t : Iteration) (n : Node) → In n (nodes_of t) → all_known known n.sources ≡ true → In n.item (known_items known t)
-  in-known t n h k = subst (In n.item) (sym (known-nodes t)) (in-flat if_known n.item n (nodes_of t) h (in-if (all_known known n.sources) n.item k))
+  in-known t n h k = subst (In n.item) (sym (known-nodes t)) (in-flat if_known n n.item (nodes_of t) h (in-if (all_known known n.sources) n.item k))
 
 -- ---- a node stands at its place
 

@@ -1,16 +1,15 @@
 -- The laws hold.
-use Rattle.std.specs.Prelude.{◌≡◌, refl, ℕ, zero, suc, ◌+◌, ◌≤◌, Bool, true, false, List, [], ◌∷◌, ◌++◌, length, Option, Some, None, IsPermutation}
+use Rattle.std.specs.Prelude.{◌≡◌, refl, ℕ, ◌+◌, ◌≤◌, Bool, true, false, List, [], ◌∷◌, ◌++◌, length, Option, Some, None, IsPermutation}
 use Rattle.std.proofs.Common.{arith, sym, ap, subst, ◌∙◌, append-nil}
 use Rattle.std.proofs.lemmas.List.Sorted.{IsPermutation-map}
 use Rattle.std.proofs.lemmas.List.{map-append}
-use Rattle.tv_value.specs.Nested.{leaf, list, Trees, no_trees, tree, Place, at}
-use Rattle.tv_value.specs.Values.{Name, Scalar, Value, HasDepth, AllHaveDepth}
+use Rattle.tv_lemmas.specs.Members.{Each}
+use Rattle.tv_value.specs.Nested.{at}
+use Rattle.tv_value.specs.Values.{Name}
 use Rattle.tv_value.specs.Orders.{same_name}
-use Rattle.tv_strategy.specs.Origins.{input_value, input_values}
 use Rattle.tv_strategy.specs.Iterations.{Iteration}
 use Rattle.tv_strategy.specs.Splits.{same_place}
-use Rattle.tv_strategy.specs.Sources.{Each}
-use Rattle.tv_strategy.proofs.AtDepth.{walk-levels}
+use Rattle.tv_strategy.proofs.AtDepth.{walk-levels, input-depth}
 use Rattle.tv_strategy.proofs.OfPlaces.{same-equal}
 use Rattle.tv_strategy.proofs.OfSources.{each-append}
 use Rattle.tv_matching.specs.Items.{Item, node_at, if_so}
@@ -46,16 +45,6 @@ nodes-stand t n h = by (at t n.item.place) refl (node-stands n.item.place t n re
 
 pub places-have_nodes : PlacesHaveNodes
 places-have_nodes t q u h = node-in q t u h
-
-mutual
-  input-depth : (p : Name) (q : Place) (v : Value) (d : ℕ) → HasDepth v d → HasDepth (input_value p q v) d
-  input-depth p q (leaf n a) d h = h
-  input-depth p q (list n vs) zero h = absurd h
-  input-depth p q (list n vs) (suc d) h = inputs-depth p q 0 vs d h
-
-  inputs-depth : (p : Name) (q : Place) (i : ℕ) (vs : Trees (Unit {0}) Scalar) (d : ℕ) → AllHaveDepth vs d → AllHaveDepth (input_values p q i vs) d
-  inputs-depth p q i no_trees d h = tt
-  inputs-depth p q i (tree v vs) d h = (input-depth p (q ++ i ∷ []) v d h.0, inputs-depth p q (suc i) vs d h.1)
 
 pub matches-what_was_told : MatchesWhatWasTold
 matches-what_was_told values mismatch deep ts holds once s a =

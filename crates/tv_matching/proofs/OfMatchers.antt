@@ -4,6 +4,7 @@ use Rattle.std.proofs.Common.{arith, sym, ap, subst, ◌∙◌, append_assoc, le
 use Rattle.std.proofs.lemmas.List.Sorted.{IsPermutation-refl, IsPermutation-sym, IsPermutation-trans, IsPermutation-append_left, IsPermutation-map, length_permutation}
 use Rattle.std.proofs.lemmas.Simd.{map-map}
 use Rattle.std.proofs.lemmas.List.{map-append}
+use Rattle.tv_lemmas.specs.Members.{Each}
 use Rattle.tv_value.specs.Nested.{leaf, list, Place, at}
 use Rattle.tv_value.specs.Values.{Name, text, fault, Value}
 use Rattle.tv_value.specs.Orders.{same_name}
@@ -13,14 +14,13 @@ use Rattle.tv_strategy.specs.Iterations.{iteration, walks}
 use Rattle.tv_strategy.specs.Conditions.{number_of}
 use Rattle.tv_strategy.specs.Measures.{leaf_names}
 use Rattle.tv_strategy.specs.Splits.{same_place}
-use Rattle.tv_strategy.specs.Sources.{Each}
 use Rattle.tv_strategy.proofs.OfSources.{each-append}
 use Rattle.tv_strategy.proofs.OfEach.{each-weaken}
 use Rattle.tv_matching.specs.Items.{Kind, ends, closes, passes, Item, item, if_so, known_items}
 use Rattle.tv_matching.specs.Members.{at_place}
-use Rattle.tv_matching.specs.Matched.{bound, below, replaced, crossed_items, met, meet, joined_items, same, matched, matched_cross, matched_dot}
+use Rattle.tv_matching.specs.Matched.{bound, below, replaced, crossed_items, meet_kinds, meet, joined_items, same, matched, matched_cross, matched_dot}
 use Rattle.tv_matching.specs.Tellings.{Telling}
-use Rattle.tv_matching.specs.Told.{Spot, Told, arrival, faulty, close, told_leaf, told_place, told_kind, telling, tellings, told_to, matched_after, added_after, IsFit, seen, stop_there, stop_of, labelled, node_told, IsTrueOf, IsFaultThere}
+use Rattle.tv_matching.specs.Told.{Spot, Told, arrival, faulty, close, told_leaf, told_place, told_kind, telling, tellings, told_to, matched_after, added_after, IsFit, item_there, stop_there, stop_of, labelled, node_told, IsTrueOf, IsFaultThere}
 use Rattle.tv_matching.specs.Matchers.{Outcome, fault_at, leaf_number, kind_out, out, all_out, Matching, AreMatching, CanTellAll, IsTold, mark_number, node_out, OutIsKnown, StartIsMatching, TellingIsMatching, GivesOnlyRest}
 use Rattle.tv_matching.proofs.Lists.{each-map, each-if}
 use Rattle.tv_matching.proofs.Permutes.{perm-from, flat-permutes}
@@ -50,7 +50,7 @@ module _ {X F : Type 0} (Q : F → Type 0) where
   replaced-have ys q (closes n) h k = (tt, tt)
   replaced-have ys q (passes f) h k = (k, tt)
 
-  met-has : (k l : Kind X F) → PassesHave k → PassesHave l → PassesHave (met k l)
+  met-has : (k l : Kind X F) → PassesHave k → PassesHave l → PassesHave (meet_kinds k l)
   met-has (ends b) l h j = bound-has b l j
   met-has (passes f) l h j = h
   met-has (closes m) (ends c) h j = tt
@@ -62,7 +62,7 @@ module _ {X F : Type 0} (Q : F → Type 0) where
 
   joined-have : (xs ys : List (Item X F)) → AllPass xs → AllPass ys → AllPass (joined_items same xs ys)
   joined-have xs ys h k =
-      each-flat (λ y. PassesHave y.kind) (λ x. flat_map (meet same x) ys) xs (each-weaken (λ x. PassesHave x.kind) (λ x. AllPass (flat_map (meet same x) ys)) (λ x j. each-flat (λ y. PassesHave y.kind) (meet same x) ys (each-weaken (λ y. PassesHave y.kind) (λ y. AllPass (meet same x y)) (λ y l. each-if (λ z. PassesHave z.kind) (same_place x.place y.place) (item y.place (met x.kind y.kind)) (met-has x.kind y.kind j l)) ys k)) xs h)
+      each-flat (λ y. PassesHave y.kind) (λ x. flat_map (meet same x) ys) xs (each-weaken (λ x. PassesHave x.kind) (λ x. AllPass (flat_map (meet same x) ys)) (λ x j. each-flat (λ y. PassesHave y.kind) (meet same x) ys (each-weaken (λ y. PassesHave y.kind) (λ y. AllPass (meet same x y)) (λ y l. each-if (λ z. PassesHave z.kind) (same_place x.place y.place) (item y.place (meet_kinds x.kind y.kind)) (met-has x.kind y.kind j l)) ys k)) xs h)
 
   module _ (told : Name → List (Item X F)) (have : (p : Name) → AllPass (told p)) where
     mutual
@@ -114,22 +114,22 @@ module _ (s : Strategy) (values : Name → Value) (mismatch : Name → ℕ) wher
       (each-map (λ (t : Telling Spot Spot). AllPass NamesLeaf (if_so (same_name p t.leaf) t.item)) telling ts
       (each-weaken (IsTrueOf (labelled values) mismatch) (λ t. AllPass NamesLeaf (if_so (same_name p (telling t).leaf) (telling t).item)) (λ t k. each-if (λ (x : Item Spot Spot). PassesHave NamesLeaf x.kind) (same_name p (telling t).leaf) (telling t).item (told-names t k)) ts h))
 
-  out-seen : (q : Place) (k : Kind Spot Spot) → PassesHave NamesLeaf k → kind_out s q k ≡ node_out s (seen (labelled values) (item q k))
+  out-seen : (q : Place) (k : Kind Spot Spot) → PassesHave NamesLeaf k → kind_out s q k ≡ node_out s (item_there (labelled values) (item q k))
   out-seen q (ends b) h = refl
   out-seen q (closes n) h = refl
   out-seen q (passes r) h = ap (fault_at q) (sym h)
 
-  outs-seen : (ts : List Told) → Each (IsTrueOf (labelled values) mismatch) ts → map (out s) (matched_after s ts) ≡ map (node_out s) (map (seen (labelled values)) (matched_after s ts))
+  outs-seen : (ts : List Told) → Each (IsTrueOf (labelled values) mismatch) ts → map (out s) (matched_after s ts) ≡ map (node_out s) (map (item_there (labelled values)) (matched_after s ts))
   outs-seen ts h =
-      map-each (out s) (λ x. node_out s (seen (labelled values) x)) (matched_after s ts) (each-weaken (λ x. PassesHave NamesLeaf x.kind) (λ x. out s x ≡ node_out s (seen (labelled values) x)) (λ x k. out-seen x.place x.kind k) (matched_after s ts) (matched-have NamesLeaf (told_to ts) (all-name ts h) s))
-      ∙ sym (map-map (node_out s) (seen (labelled values)) (matched_after s ts))
+      map-each (out s) (λ x. node_out s (item_there (labelled values) x)) (matched_after s ts) (each-weaken (λ x. PassesHave NamesLeaf x.kind) (λ x. out s x ≡ node_out s (item_there (labelled values) x)) (λ x k. out-seen x.place x.kind k) (matched_after s ts) (matched-have NamesLeaf (told_to ts) (all-name ts h) s))
+      ∙ sym (map-map (node_out s) (item_there (labelled values)) (matched_after s ts))
 
 pub out-is_known : OutIsKnown
 out-is_known m h values deep holds =
     let found = known_items (node_told (number_of m.mismatch) m.told) (iteration (walks (number_of m.mismatch) (labelled values)) m.strategy) in
     IsPermutation-trans _ _ _ h.parts
     (subst (λ l. IsPermutation l (map (node_out m.strategy) found)) (sym (outs-seen m.strategy values (number_of m.mismatch) m.told holds))
-    (IsPermutation-map (node_out m.strategy) (map (seen (labelled values)) (matched_after m.strategy m.told)) found (matches-what_was_told values (number_of m.mismatch) deep m.told holds h.once m.strategy h.agree)))
+    (IsPermutation-map (node_out m.strategy) (map (item_there (labelled values)) (matched_after m.strategy m.told)) found (matches-what_was_told values (number_of m.mismatch) deep m.told holds h.once m.strategy h.agree)))
 
 -- ---- the calls
 
@@ -141,7 +141,7 @@ told-parts s ts us t gone rest e h =
     (IsPermutation-map (out s) (matched_after s ts ++ added_after s ts (t ∷ [])) (matched_after s us)
     (IsPermutation-trans _ _ _ (IsPermutation-sym _ _ (tellings-add s ts (t ∷ []))) (tellings-in_any_order s (ts ++ t ∷ []) us (IsPermutation-sym _ _ e))))))
 
-told-permutes : (ts us : List Told) → IsPermutation ts us → (p : Name) → IsPermutation (told_to ts p) (told_to us p)
+pub told-permutes : (ts us : List Told) → IsPermutation ts us → (p : Name) → IsPermutation (told_to ts p) (told_to us p)
 told-permutes ts us h p = flat-permutes (λ t. if_so (same_name p t.leaf) t.item) (tellings ts) (tellings us) (IsPermutation-map telling ts us h)
 
 nothing-permutes : {A : Type 0} (xs ys : List A) → IsPermutation xs ys → xs ≡ [] → ys ≡ []

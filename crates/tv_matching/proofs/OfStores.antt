@@ -13,7 +13,7 @@ use Rattle.tv_strategy.specs.Splits.{same_place}
 use Rattle.tv_matching.specs.Items.{Kind, ends, closes, passes, Item, item, if_so}
 use Rattle.tv_matching.specs.Members.{at_place}
 use Rattle.tv_matching.specs.Matched.{bound, below, replaced, replaced_below, one_end, crossed_items, below_jobs, meet, joined_items, same, matched, matched_cross, matched_dot}
-use Rattle.tv_matching.specs.Stores.{Store, leaf_store, cross_store, dot_store, store_for, store_for_cross, crossed_with, store_for_dot, AreNumbered, is_job, only_jobs, items, IsStoreOf, latest_at, met_with, met_by_first, met_by_second, gain, grown, News, told_by, told_by_all, worked, worked_items}
+use Rattle.tv_matching.specs.Stores.{Store, leaf_store, cross_store, dot_store, store_for, store_for_cross, crossed_with, store_for_dot, AreNumbered, is_job, only_jobs, items, IsStoreOf, latest_at, met_with, met_by_first, met_by_second, gain, grown, News, told_by, told_by_all, store_after, worked_items}
 use Rattle.tv_matching.proofs.Lists.{map-same, flat-append, flat-none, flat-same, map-flat, flat-single, map-if}
 use Rattle.tv_matching.proofs.Permutes.{perm-from, two-parts, flat-each_permutes, flat-permutes}
 use Rattle.tv_matching.proofs.Gains.{crossed-permutes, joined-permutes, crossed-gains, joined-gains}
@@ -263,10 +263,10 @@ module _ {X F : Type 0} where
     alike-end : (l : Option ℕ) → told l ≡ more_told [] l
     alike-end l = sym (append-nil (told l))
 
-  pub worked-is : (told : Option ℕ → List (Item X F)) (st : Store X F) (ns : List (News X F)) → IsStoreOf told st → IsStoreOf (more_told told ns) (worked st ns)
+  pub worked-is : (told : Option ℕ → List (Item X F)) (st : Store X F) (ns : List (News X F)) → IsStoreOf told st → IsStoreOf (more_told told ns) (store_after st ns)
   worked-is told st [] h = store-alike told (more_told told []) (alike-end told) st h
   worked-is told st (n ∷ ns) h =
-      store-alike (more_told (both told (told_by n)) ns) (more_told told (n ∷ ns)) (alike-next told n ns) (worked (grown (told_by n) st) ns)
+      store-alike (more_told (both told (told_by n)) ns) (more_told told (n ∷ ns)) (alike-next told n ns) (store_after (grown (told_by n) st) ns)
       (worked-is (both told (told_by n)) (grown (told_by n) st) ns (grown-is told (told_by n) st h))
 
   pub worked-permutes : (told : Option ℕ → List (Item X F)) (st : Store X F) (ns : List (News X F)) → IsStoreOf told st → IsPermutation (items (more_told told ns) st) (items told st ++ worked_items st ns)

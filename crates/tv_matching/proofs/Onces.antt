@@ -5,6 +5,7 @@ use Rattle.std.proofs.lemmas.Bool.{eqb-true, eq-eqb}
 use Rattle.std.proofs.lemmas.List.Sorted.{length_permutation}
 use Rattle.std.proofs.lemmas.List.{length-map}
 use Rattle.std.proofs.lemmas.List.Folds.{flat_map-map}
+use Rattle.tv_lemmas.specs.Members.{Each}
 use Rattle.tv_lemmas.proofs.Lists.{flat-flat}
 use Rattle.tv_lemmas.proofs.Numbers.{less-unequal}
 use Rattle.tv_value.specs.Nested.{leaf, list, no_trees, tree, Place, count}
@@ -14,14 +15,13 @@ use Rattle.tv_strategy.specs.Origins.{Origin}
 use Rattle.tv_strategy.specs.Iterations.{Iteration, Iterations}
 use Rattle.tv_strategy.specs.Measures.{strategy_depth, sum_of_depths, first_depth, DotsAgree, AllDotsAgree, HaveOneDepth}
 use Rattle.tv_strategy.specs.Splits.{same_place}
-use Rattle.tv_strategy.specs.Sources.{Each}
 use Rattle.tv_strategy.proofs.OfPlaces.{same-equal, same-itself}
 use Rattle.tv_strategy.proofs.OfSources.{each-append}
 use Rattle.tv_strategy.proofs.OfEach.{each-all, each-weaken}
 use Rattle.tv_matching.specs.Items.{Kind, ends, closes, passes, Item, item, Bound, Stopped, end_kind, within, here, if_so, all_known, known_items, known_from}
 use Rattle.tv_matching.specs.Members.{at_place, Once}
 use Rattle.tv_matching.specs.Levels.{KindAt, AreLeveled}
-use Rattle.tv_matching.specs.Matched.{bound, below, replaced, crossed_items, met, meet, joined_items, same, one_end, matched, matched_cross, matched_dot}
+use Rattle.tv_matching.specs.Matched.{bound, below, replaced, crossed_items, meet_kinds, meet, joined_items, same, one_end, matched, matched_cross, matched_dot}
 use Rattle.tv_matching.proofs.Lists.{flat-append, flat-same, map-flat, flat-nothing, map-if, each-map}
 use Rattle.tv_matching.proofs.Permutes.{flat-permutes}
 use Rattle.tv_matching.proofs.FromScratch.{StartsFrom, from-starts}
@@ -208,22 +208,22 @@ module _ {X F : Type 0} where
     meet-few : (y : Item X F) → length (at_place q (meet key x y)) ≤ length (if_so (same_place q y.place) y)
     meet-few y = by (same_place x.place (key y.place))
       where
-        deep : (b : Bool) → length (if_so b (item y.place (met x.kind y.kind)) ++ []) ≤ length (if_so b y)
+        deep : (b : Bool) → length (if_so b (item y.place (meet_kinds x.kind y.kind)) ++ []) ≤ length (if_so b y)
         deep true = omega arith
         deep false = omega arith
 
-        by : (b : Bool) → length (at_place q (if_so b (item y.place (met x.kind y.kind)))) ≤ length (if_so (same_place q y.place) y)
+        by : (b : Bool) → length (at_place q (if_so b (item y.place (meet_kinds x.kind y.kind)))) ≤ length (if_so (same_place q y.place) y)
         by true = deep (same_place q y.place)
         by false = omega arith
 
     meet-none : same_place (key q) x.place ≡ false → (y : Item X F) → at_place q (meet key x y) ≡ []
     meet-none h y = by (same_place x.place (key y.place)) refl
       where
-        deep : same_place x.place (key y.place) ≡ true → (b : Bool) → same_place q y.place ≡ b → if_so b (item y.place (met x.kind y.kind)) ++ [] ≡ []
+        deep : same_place x.place (key y.place) ≡ true → (b : Bool) → same_place q y.place ≡ b → if_so b (item y.place (meet_kinds x.kind y.kind)) ++ [] ≡ []
         deep e false k = refl
         deep e true k = absurd (are-differ (key q) x.place h (ap key (same-equal q y.place k) ∙ sym (same-equal x.place (key y.place) e)))
 
-        by : (b : Bool) → same_place x.place (key y.place) ≡ b → at_place q (if_so b (item y.place (met x.kind y.kind))) ≡ []
+        by : (b : Bool) → same_place x.place (key y.place) ≡ b → at_place q (if_so b (item y.place (meet_kinds x.kind y.kind))) ≡ []
         by false e = refl
         by true e = deep e (same_place q y.place) refl
 
@@ -270,12 +270,12 @@ module _ {X F : Type 0} where
   pub crossed-leveled : (c d : ℕ) (xs ys : List (Item X F)) → AreLeveled c xs → AreLeveled d ys → AreLeveled (c + d) (crossed_items xs ys)
   crossed-leveled c d xs ys h k = each-flat (λ y. KindAt (c + d) y.place y.kind) (λ x. replaced ys x.place x.kind) xs (each-weaken (λ x. KindAt c x.place x.kind) (λ x. AreLeveled (c + d) (replaced ys x.place x.kind)) (λ x l. replaced-leveled c d ys x.place x.kind k l) xs h)
 
-  bound-level : (d : ℕ) (q : Place) (b : List X) (k : Kind X F) → KindAt d q k → KindAt d q (bound b k)
+  pub bound-level : (d : ℕ) (q : Place) (b : List X) (k : Kind X F) → KindAt d q k → KindAt d q (bound b k)
   bound-level d q b (ends c) h = h
   bound-level d q b (closes n) h = h
   bound-level d q b (passes f) h = h
 
-  met-level : (d : ℕ) (q : Place) (k l : Kind X F) → KindAt d q k → KindAt d q l → KindAt d q (met k l)
+  met-level : (d : ℕ) (q : Place) (k l : Kind X F) → KindAt d q k → KindAt d q l → KindAt d q (meet_kinds k l)
   met-level d q (ends b) l h m = bound-level d q b l m
   met-level d q (passes f) l h m = h
   met-level d q (closes n) (ends c) h m = m
@@ -286,7 +286,7 @@ module _ {X F : Type 0} where
   joined-leveled d xs ys h k =
       each-flat (λ y. KindAt d y.place y.kind) (λ x. flat_map (meet same x) ys) xs (each-weaken (λ x. KindAt d x.place x.kind) (λ x. AreLeveled d (flat_map (meet same x) ys)) (λ x l. each-flat (λ y. KindAt d y.place y.kind) (meet same x) ys (each-weaken (λ y. KindAt d y.place y.kind) (λ y. AreLeveled d (meet same x y)) (λ y m. one x y (same_place x.place y.place) refl l m) ys k)) xs h)
     where
-      one : (x y : Item X F) (b : Bool) → same_place x.place y.place ≡ b → KindAt d x.place x.kind → KindAt d y.place y.kind → AreLeveled d (if_so b (item y.place (met x.kind y.kind)))
+      one : (x y : Item X F) (b : Bool) → same_place x.place y.place ≡ b → KindAt d x.place x.kind → KindAt d y.place y.kind → AreLeveled d (if_so b (item y.place (meet_kinds x.kind y.kind)))
       one x y false e l m = tt
       one x y true e l m = (met-level d y.place x.kind y.kind (subst (λ q. KindAt d q x.kind) (same-equal x.place y.place e) l) m, tt)
 

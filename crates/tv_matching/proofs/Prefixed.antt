@@ -11,12 +11,12 @@ use Rattle.tv_strategy.proofs.OfEach.{each-weaken}
 use Rattle.tv_matching.specs.Items.{Kind, ends, closes, passes, Item, item, if_so, known_items}
 use Rattle.tv_matching.specs.Levels.{KindAt, AreLeveled}
 use Rattle.tv_matching.specs.Members.{at_place, Once}
-use Rattle.tv_matching.specs.Matched.{bound, met, meet, joined_items}
+use Rattle.tv_matching.specs.Matched.{meet_kinds, meet, joined_items}
 use Rattle.tv_matching.specs.Stores.{met_with}
 use Rattle.tv_matching.proofs.Lists.{flat-same, map-flat, map-if}
 use Rattle.tv_matching.proofs.FromScratch.{paired-known}
 use Rattle.tv_matching.proofs.Gains.{joined-gains}
-use Rattle.tv_matching.proofs.Onces.{joined-once, each-flat}
+use Rattle.tv_matching.proofs.Onces.{joined-once, each-flat, bound-level}
 use Rattle.tv_matching.proofs.Lookups.{same-flips}
 
 shorter : (p d : ℕ) (q r : Place) → p ≤ d → q ≡ take p r → length q < p → length r < d
@@ -61,12 +61,7 @@ module _ {X F : Type 0} where
       one : (x : Item X F) → meet key x y ++ [] ≡ map (λ x. met_with x y) (if_so (same_place (key y.place) x.place) x)
       one x = append-nil (meet key x y) ∙ ap (λ b. if_so b (met_with x y)) (same-flips x.place (key y.place)) ∙ sym (map-if (λ x. met_with x y) (same_place (key y.place) x.place) x)
 
-  bound-level : (d : ℕ) (q : Place) (b : List X) (k : Kind X F) → KindAt d q k → KindAt d q (bound b k)
-  bound-level d q b (ends c) h = h
-  bound-level d q b (closes n) h = h
-  bound-level d q b (passes f) h = h
-
-  prefix-level : (p d : ℕ) (q r : Place) (k l : Kind X F) → p ≤ d → q ≡ take p r → KindAt p q k → KindAt d r l → KindAt d r (met k l)
+  prefix-level : (p d : ℕ) (q r : Place) (k l : Kind X F) → p ≤ d → q ≡ take p r → KindAt p q k → KindAt d r l → KindAt d r (meet_kinds k l)
   prefix-level p d q r (ends b) l w e h m = bound-level d r b l m
   prefix-level p d q r (passes f) l w e h m = shorter p d q r w e h
   prefix-level p d q r (closes n) (ends c) w e h m = m
@@ -78,7 +73,7 @@ module _ {X F : Type 0} where
   prefixed-leveled p d xs ys w h k =
       each-flat (λ y. KindAt d y.place y.kind) (λ x. flat_map (meet (take p) x) ys) xs (each-weaken (λ x. KindAt p x.place x.kind) (λ x. AreLeveled d (flat_map (meet (take p) x) ys)) (λ x l. each-flat (λ y. KindAt d y.place y.kind) (meet (take p) x) ys (each-weaken (λ y. KindAt d y.place y.kind) (λ y. AreLeveled d (meet (take p) x y)) (λ y m. one x y (same_place x.place (take p y.place)) refl l m) ys k)) xs h)
     where
-      one : (x y : Item X F) (b : Bool) → same_place x.place (take p y.place) ≡ b → KindAt p x.place x.kind → KindAt d y.place y.kind → AreLeveled d (if_so b (item y.place (met x.kind y.kind)))
+      one : (x y : Item X F) (b : Bool) → same_place x.place (take p y.place) ≡ b → KindAt p x.place x.kind → KindAt d y.place y.kind → AreLeveled d (if_so b (item y.place (meet_kinds x.kind y.kind)))
       one x y false e l m = tt
       one x y true e l m = (prefix-level p d x.place y.place x.kind y.kind w (same-equal x.place (take p y.place) e) l m, tt)
 

@@ -1,7 +1,7 @@
 -- Jobs stand below so many lists, and lists and passed faults below fewer.
 use Rattle.std.specs.Prelude.{◌≡◌, ℕ, ◌<◌, List, length}
+use Rattle.tv_lemmas.specs.Members.{Each}
 use Rattle.tv_value.specs.Nested.{Place}
-use Rattle.tv_strategy.specs.Sources.{Each}
 use Rattle.tv_matching.specs.Items.{Kind, ends, closes, passes, Item}
 
 module _ {X F : Type 0} where

@@ -43,16 +43,16 @@ module _ {X F : Type 0} where
   -- ---- a dot: what stands at one place in both children
 
   -- the first fault stands, lists are zipped to the shorter, and bindings are joined
-  abbrev pub met : Kind X F → Kind X F → Kind X F
-  met (ends b) k = bound b k
-  met (passes f) k = passes f
-  met (closes m) (ends c) = ends c
-  met (closes m) (closes n) = closes (min m n)
-  met (closes m) (passes f) = passes f
+  abbrev pub meet_kinds : Kind X F → Kind X F → Kind X F
+  meet_kinds (ends b) k = bound b k
+  meet_kinds (passes f) k = passes f
+  meet_kinds (closes m) (ends c) = ends c
+  meet_kinds (closes m) (closes n) = closes (min m n)
+  meet_kinds (closes m) (passes f) = passes f
 
   -- `key` gives the first child's place for that of the second: the same in a dot
   abbrev pub meet : (Place → Place) → Item X F → Item X F → List (Item X F)
-  meet key x y = if_so (same_place x.place (key y.place)) (item y.place (met x.kind y.kind))
+  meet key x y = if_so (same_place x.place (key y.place)) (item y.place (meet_kinds x.kind y.kind))
 
   abbrev pub joined_items : (Place → Place) → List (Item X F) → List (Item X F) → List (Item X F)
   joined_items key xs ys = flat_map (λ x. flat_map (meet key x) ys) xs

@@ -1,18 +1,18 @@
 -- What a contract sees of a matcher, and what each of its calls does.
 use Rattle.std.specs.Prelude.{◌≡◌, ℕ, suc, ◌+◌, Bool, flat_map, Option, Some, None, if◌then◌else◌, List, [], ◌∷◌, ◌++◌, map, get_or, IsPermutation}
+use Rattle.tv_lemmas.specs.Members.{Each}
 use Rattle.tv_value.specs.Nested.{Place}
 use Rattle.tv_value.specs.Values.{Name, Value, HasDepth, holds_fault}
 use Rattle.tv_value.specs.Orders.{same_name}
 use Rattle.tv_value.specs.Strategies.{Strategy}
 use Rattle.tv_strategy.specs.Conditions.{Suits, number_of}
 use Rattle.tv_strategy.specs.Measures.{DotsAgree, leaf_names}
-use Rattle.tv_strategy.specs.Sources.{Each}
 use Rattle.tv_strategy.specs.Iterations.{iteration, walks}
 use Rattle.tv_strategy.specs.Origins.{Mark, given, made, Traced}
 use Rattle.tv_matching.specs.Items.{Kind, ends, closes, passes, Item, item, if_so, Bound, Stopped, known_items}
 use Rattle.tv_matching.specs.Matched.{matched, gained}
 use Rattle.tv_matching.specs.Members.{Once}
-use Rattle.tv_matching.specs.Told.{Spot, Told, told_to, matched_after, added_after, Marked, marked_to, marked_after, map_item, some_at, faulty_at, IsFit, IsNew, IsTrueOf, TellsFaults, seen, labelled, node_told}
+use Rattle.tv_matching.specs.Told.{Spot, Told, told_to, matched_after, Marked, marked_to, marked_after, map_item, some_at, faulty_at, IsFit, IsNew, IsTrueOf, TellsFaults, item_there, labelled, node_told}
 
 -- what comes out: a job's place, a list's place and length, or a passed fault's place and the number of its leaf
 pub data Outcome : Type 0 where
@@ -51,8 +51,8 @@ bare test g x = item x.place (bare_kind test g x.kind)
 abbrev pub Kept : Type 0
 Kept = Item (Unit {0}) ℕ
 
-abbrev pub kept : Strategy → Item Marked Spot → Kept
-kept s x = bare (λ r. r.1) (λ r. leaf_number (leaf_names s) r.0) x
+abbrev pub kept_item : Strategy → Item Marked Spot → Kept
+kept_item s x = bare (λ r. r.1) (λ r. leaf_number (leaf_names s) r.0) x
 
 abbrev pub kept_kind_out : Place → Kind (Unit {0}) ℕ → Outcome
 kept_kind_out q (ends b) = job_at q
@@ -64,7 +64,7 @@ kept_out x = kept_kind_out x.place x.kind
 
 -- what was told of a leaf, as it is kept: of each bound value whether it was told to hold a fault
 abbrev pub kept_of : Strategy → List Told → Name → List Kept
-kept_of s ts p = map (kept s) (marked_to ts p)
+kept_of s ts p = map (kept_item s) (marked_to ts p)
 
 pub record Matching : Type 0 where
   pub strategy : Strategy
@@ -172,13 +172,13 @@ OutIsKnown =
 -- what is matched of the kept items is what would be kept of all that is matched, and tells what comes out
 abbrev pub KeptIsEnough : Type 0
 KeptIsEnough = (s : Strategy) (ts : List Told)
-    → (matched (kept_of s ts) s ≡ map (kept s) (marked_after s ts))
+    → (matched (kept_of s ts) s ≡ map (kept_item s) (marked_after s ts))
     × (map kept_out (matched (kept_of s ts) s) ≡ map (out s) (matched_after s ts))
 
 -- and what is gained of them
 abbrev pub KeptGains : Type 0
 KeptGains = (s : Strategy) (ts more : List Told) → gained (kept_of s ts) (kept_of s more) s
-    ≡ map (kept s) (gained (marked_to ts) (marked_to more) s)
+    ≡ map (kept_item s) (gained (marked_to ts) (marked_to more) s)
 
 -- with what was told of faults in bound values, it is the same that is matched
 abbrev pub MarkedIsMatched : Type 0
@@ -190,7 +190,7 @@ abbrev pub FaultsRide : Type 0
 FaultsRide =
     (values : Name → Traced) (s : Strategy) (ts : List Told) → Each (TellsFaults values) ts
     → (q : Place) → faulty_at s ts q ≡ some_at (λ v. holds_fault v.1) q
-    (map (seen values) (matched_after s ts))
+    (map (item_there values) (matched_after s ts))
 
 -- the calls keep what is so of every matcher
 abbrev pub StartIsMatching : Type 0

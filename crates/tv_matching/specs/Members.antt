@@ -1,12 +1,8 @@
 -- Members of lists, what stands at one place of a list of items, and items that stand at places of their own.
-use Rattle.std.specs.Prelude.{◌≡◌, ◌≤◌, ◌⊎◌, List, [], ◌∷◌, length, flat_map}
+use Rattle.std.specs.Prelude.{◌≤◌, List, length, flat_map}
 use Rattle.tv_value.specs.Nested.{Place}
 use Rattle.tv_strategy.specs.Splits.{same_place}
 use Rattle.tv_matching.specs.Items.{Item, if_so}
-
-abbrev pub In : {A : Type 0} → A → List A → Type 0
-In x [] = ⊥
-In x (y ∷ ys) = (x ≡ y) ⊎ In x ys
 
 module _ {X F : Type 0} where
   -- the items at a place

@@ -1,5 +1,6 @@
 -- The laws of matching. `known` says of an origin whether it is known; what was told of a leaf is what stands in the walk of its value with all its sources known.
 use Rattle.std.specs.Prelude.{◌≡◌, ℕ, ◌+◌, Bool, true, List, [], ◌∷◌, ◌++◌, map, length, IsPermutation, Option, Some, None}
+use Rattle.tv_lemmas.specs.Members.{Each, In}
 use Rattle.tv_value.specs.Nested.{Place, at}
 use Rattle.tv_value.specs.Values.{Name, Value, HasDepth}
 use Rattle.tv_value.specs.Strategies.{Strategy, cross, no_strategies, strategy}
@@ -7,14 +8,13 @@ use Rattle.tv_strategy.specs.Origins.{Origin}
 use Rattle.tv_strategy.specs.Iterations.{Iteration, iteration, walks}
 use Rattle.tv_strategy.specs.Measures.{DotsAgree, strategy_depth, leaf_names}
 use Rattle.tv_strategy.specs.Levels.{HasLevels}
-use Rattle.tv_strategy.specs.Sources.{Each}
 use Rattle.tv_matching.specs.Items.{Item, Bound, Stopped, Node, node_at, nodes_of, all_known, known_items}
-use Rattle.tv_matching.specs.Members.{In, Once}
+use Rattle.tv_matching.specs.Members.{Once}
 use Rattle.tv_matching.specs.Levels.{AreLeveled}
 use Rattle.tv_matching.specs.Matched.{crossed_items, one_end, matched}
-use Rattle.tv_matching.specs.Stores.{Store, store_for, AreNumbered, items, IsStoreOf, gain, grown, News, told_by_all, worked, worked_items}
+use Rattle.tv_matching.specs.Stores.{Store, store_for, AreNumbered, items, IsStoreOf, gain, grown, News, told_by_all, store_after, worked_items}
 use Rattle.tv_matching.specs.Matchers.{Kept}
-use Rattle.tv_matching.specs.Told.{Spot, Told, told_to, matched_after, added_after, count_of_added, IsFit, IsNew, seen, labelled, IsTrueOf, node_told}
+use Rattle.tv_matching.specs.Told.{Spot, Told, told_to, matched_after, added_after, count_of_added, IsFit, IsNew, item_there, labelled, IsTrueOf, node_told}
 
 -- ---- against the iteration
 
@@ -83,7 +83,7 @@ MatchesWhatWasTold =
     → ((p : Name) → Once (told_to ts p))
     → (s : Strategy)
     → DotsAgree mismatch s
-    → IsPermutation (map (seen (labelled values)) (matched_after s ts))
+    → IsPermutation (map (item_there (labelled values)) (matched_after s ts))
     (known_items (node_told mismatch ts) (iteration (walks mismatch (labelled values)) s))
 
 -- ---- without values
@@ -148,7 +148,7 @@ abbrev pub StoreWorks : Type 0
 StoreWorks =
     (told : Option ℕ → List Kept) (st : Store (Unit {0}) ℕ) (ns : List (News (Unit {0}) ℕ))
     → IsStoreOf told st
-    → IsStoreOf (λ l. told l ++ told_by_all ns l) (worked st ns)
+    → IsStoreOf (λ l. told l ++ told_by_all ns l) (store_after st ns)
     × IsPermutation (items (λ l. told l ++ told_by_all ns l) st) (items told st
     ++ worked_items st ns)
 

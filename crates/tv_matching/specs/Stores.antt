@@ -6,7 +6,7 @@ use Rattle.tv_value.specs.Strategies.{Strategy, port, cross, dot, Strategies, no
 use Rattle.tv_strategy.specs.Measures.{leaf_names}
 use Rattle.tv_strategy.specs.Splits.{same_place}
 use Rattle.tv_matching.specs.Items.{Kind, ends, closes, passes, Item, item, if_so}
-use Rattle.tv_matching.specs.Matched.{crossed_items, below_jobs, met, joined_items, same}
+use Rattle.tv_matching.specs.Matched.{crossed_items, below_jobs, meet_kinds, joined_items, same}
 
 -- a leaf with its number from left to right, or None for a strategy without children; for a cross the jobs of its first child and all that the second has; for a dot what both have
 pub data Store (X F : Type 0) : Type 0 where
@@ -89,7 +89,7 @@ module _ {X F : Type 0} where
   latest_at q (x ∷ xs) = latest_at q xs ++ if_so (same_place q x.place) x
 
   abbrev pub met_with : Item X F → Item X F → Item X F
-  met_with x y = item y.place (met x.kind y.kind)
+  met_with x y = item y.place (meet_kinds x.kind y.kind)
 
   -- the new items of one child of a dot meet what the other has at their places
   abbrev pub met_by_first : List (Item X F) → List (Item X F) → List (Item X F)
@@ -122,9 +122,9 @@ module _ {X F : Type 0} where
   abbrev pub told_by_all : List (News X F) → Option ℕ → List (Item X F)
   told_by_all ns l = flat_map (λ n. told_by n l) ns
 
-  abbrev pub worked : Store X F → List (News X F) → Store X F
-  worked st [] = st
-  worked st (n ∷ ns) = worked (grown (told_by n) st) ns
+  abbrev pub store_after : Store X F → List (News X F) → Store X F
+  store_after st [] = st
+  store_after st (n ∷ ns) = store_after (grown (told_by n) st) ns
 
   abbrev pub worked_items : Store X F → List (News X F) → List (Item X F)
   worked_items st [] = []

@@ -133,8 +133,8 @@ module _ (values : Name → Traced) where
   abbrev pub stop_there : Spot → Stopped
   stop_there r = stop_of (at (values r.0) r.1)
 
-  abbrev pub seen : Item Spot Spot → Item Bound Stopped
-  seen = map_item bound_there stop_there
+  abbrev pub item_there : Item Spot Spot → Item Bound Stopped
+  item_there = map_item bound_there stop_there
 
 -- ---- what was told is true of these values
 
@@ -177,15 +177,15 @@ abbrev pub some : {A : Type 0} → List A → Bool
 some [] = false
 some (x ∷ xs) = true
 
-module _ (mismatch : Name → ℕ) (ts : List Told) where
-  -- something was told of that place of the port
-  abbrev pub is_told : Name → Place → Bool
-  is_told p q = some (at_place q (told_to ts p))
+-- something was told of that place of the port
+abbrev pub is_told : List Told → Name → Place → Bool
+is_told ts p q = some (at_place q (told_to ts p))
 
+module _ (mismatch : Name → ℕ) (ts : List Told) where
   -- a list or a fault on the way is told at its place, and a bound value with all inside it at the place where it is bound
   abbrev pub mark_told : Option Mark → Bool
   mark_told None = false
-  mark_told (Some (given p q)) = is_told p (take (mismatch p) q)
+  mark_told (Some (given p q)) = is_told ts p (take (mismatch p) q)
   mark_told (Some (made j)) = false
 
   abbrev pub node_told : Origin → Bool

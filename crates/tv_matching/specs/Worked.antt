@@ -107,6 +107,7 @@ all_items s mismatch values = map outline
 
 abbrev pub PairsWholeValues : Type 0
 PairsWholeValues =
-    all_items pairing (levels 1 1) (both (texts (codes "A" ∷ codes "B" ∷ codes "C" ∷ [])) (texts (codes "1" ∷ codes "2" ∷ [])))
+    all_items pairing (levels 1 1)
+    (both (texts (codes "A" ∷ codes "B" ∷ codes "C" ∷ [])) (texts (codes "1" ∷ codes "2" ∷ [])))
     ≡ map outline (closed [] 2 ∷ job_of ((a, 0 ∷ []) ∷ (b, 0 ∷ []) ∷ []) (0 ∷ [])
     ∷ job_of ((a, 1 ∷ []) ∷ (b, 1 ∷ []) ∷ []) (1 ∷ []) ∷ [])

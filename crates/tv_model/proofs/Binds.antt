@@ -5,6 +5,7 @@ use Rattle.std.specs.Cmp.Lexicographic.{bytes_decides}
 use Rattle.std.proofs.Common.{arith, sym, ap, subst, ◌∙◌}
 use Rattle.std.proofs.lemmas.Bool.{and_parts}
 use Rattle.std.proofs.lemmas.List.{map-append}
+use Rattle.tv_lemmas.specs.Members.{Each}
 use Rattle.tv_value.specs.Nested.{leaf, list, Trees, no_trees, tree, Place, at, item_at}
 use Rattle.tv_value.specs.Values.{Name, Scalar, text, fault, HasDepth, AllHaveDepth}
 use Rattle.tv_value.specs.Orders.{same_name, named}
@@ -15,7 +16,6 @@ use Rattle.tv_strategy.specs.Iterations.{Binding, Iteration, walk, iteration}
 use Rattle.tv_strategy.specs.Levels.{HasLevels, IsJob}
 use Rattle.tv_strategy.specs.Measures.{DotsAgree, leaf_names}
 use Rattle.tv_strategy.specs.Origins.{Origin, Traced}
-use Rattle.tv_strategy.specs.Sources.{Each}
 use Rattle.tv_strategy.specs.Splits.{split}
 use Rattle.tv_strategy.proofs.AtPlace.{JobsAt, split-jobs}
 use Rattle.tv_strategy.proofs.OfEnds.{item_at-walk_each}

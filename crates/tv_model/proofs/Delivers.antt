@@ -1,24 +1,24 @@
 -- What an instance delivers has the depths of the check.
-use Rattle.std.specs.Prelude.{◌≡◌, refl, ℕ, zero, suc, ◌+◌, ◌-◌, List, [], ◌∷◌, ◌++◌, map, find, Bool, true, false, Option, Some, None, option_map, unwrap_or, if◌then◌else◌}
+use Rattle.std.specs.Prelude.{◌≡◌, refl, ℕ, zero, suc, ◌+◌, ◌-◌, List, [], ◌∷◌, map, find, Bool, true, false, Option, Some, None, option_map, unwrap_or, if◌then◌else◌}
 use Rattle.std.specs.Option.{option_map_or}
 use Rattle.std.proofs.Common.{arith, sym, ap, subst, ◌∙◌}
-use Rattle.tv_value.specs.Nested.{leaf, list, Trees, no_trees, tree, Place, trees_of}
-use Rattle.tv_value.specs.Values.{Name, JobName, Scalar, Value, HasDepth, AllHaveDepth}
+use Rattle.tv_lemmas.specs.Members.{Each}
+use Rattle.tv_value.specs.Nested.{trees_of}
+use Rattle.tv_value.specs.Values.{Name, JobName, Value, HasDepth, AllHaveDepth}
 use Rattle.tv_value.specs.Orders.{same_name, named}
 use Rattle.tv_flow.specs.Flows.{Link, input, output, Feed, link, merge, constant, StepInput, Step}
-use Rattle.tv_strategy.specs.Origins.{Traced, fixed, input_value, input_values}
+use Rattle.tv_strategy.specs.Origins.{Traced, fixed, input_value}
 use Rattle.tv_strategy.specs.Iterations.{Iteration}
 use Rattle.tv_strategy.specs.Measures.{strategy_depth}
 use Rattle.tv_gate.specs.Outcomes.{Giving}
 use Rattle.tv_naming.proofs.OfLists.{find-map}
-use Rattle.tv_depths.specs.Delivered.{Delivered, Ported, nothing_delivered, wrapped, ported}
+use Rattle.tv_instance.specs.Delivered.{Delivered, Ported, nothing_delivered, wrapped, at_port}
 use Rattle.tv_model.specs.Made.{Made, Meaning, Opened, link_value, feed_value, delivered_outputs}
-use Rattle.tv_depths.specs.Steps.{port_mismatch, strategy_of}
+use Rattle.tv_instance.specs.Steps.{port_mismatch, strategy_of}
 use Rattle.tv_model.specs.Instances.{step_made, value_given}
 use Rattle.tv_model.specs.Agreeing.{constant_depth, StepDepths, link_depth, feed_depth, port_depth, step_depths, AllAre, FeedAgrees, InputsHave}
 pub use Rattle.tv_model.specs.RightDepths.{AreRight, IsRight}
-use Rattle.tv_model.proofs.Tests.{Each}
-use Rattle.tv_strategy.proofs.AtDepth.{traced-depth}
+use Rattle.tv_strategy.proofs.AtDepth.{traced-depth, input-depth}
 use Rattle.tv_model.proofs.Fed.{step_ports, step_iteration, named_or, find_map_or}
 
 abbrev pub depths_of : List (Name × Delivered) → List (Name × ℕ)
@@ -58,11 +58,11 @@ module _ (given : List (Name × Delivered)) (ms : List Made) where
   feed-depth (merge (l ∷ ls)) = ap suc (link-depth l)
   feed-depth (constant v) = refl
 
-  port-depth : (p : Name) (is : List (Name × StepInput)) → port_mismatch (map (λ i. (i.0, ported i.1.depth (feed_value given ms i.1.from))) is) p ≡ option_map_or (λ (i : StepInput). feed_depth (depths_of given) (map forget ms) i.from - i.depth) (named p is) 0
+  port-depth : (p : Name) (is : List (Name × StepInput)) → port_mismatch (map (λ i. (i.0, at_port i.1.depth (feed_value given ms i.1.from))) is) p ≡ option_map_or (λ (i : StepInput). feed_depth (depths_of given) (map forget ms) i.from - i.depth) (named p is) 0
   port-depth p [] = refl
   port-depth p (i ∷ is) = by (same_name p i.0) (port-depth p is)
     where
-      by : (b : Bool) → port_mismatch (map (λ i. (i.0, ported i.1.depth (feed_value given ms i.1.from))) is) p ≡ option_map_or (λ (i : StepInput). feed_depth (depths_of given) (map forget ms) i.from - i.depth) (named p is) 0 → option_map_or (λ (d : Ported). d.mismatch) (if b then Some (ported i.1.depth (feed_value given ms i.1.from)) else named p (map (λ i. (i.0, ported i.1.depth (feed_value given ms i.1.from))) is)) 0 ≡ option_map_or (λ (i : StepInput). feed_depth (depths_of given) (map forget ms) i.from - i.depth) (if b then Some i.1 else named p is) 0
+      by : (b : Bool) → port_mismatch (map (λ i. (i.0, at_port i.1.depth (feed_value given ms i.1.from))) is) p ≡ option_map_or (λ (i : StepInput). feed_depth (depths_of given) (map forget ms) i.from - i.depth) (named p is) 0 → option_map_or (λ (d : Ported). d.mismatch) (if b then Some (at_port i.1.depth (feed_value given ms i.1.from)) else named p (map (λ i. (i.0, at_port i.1.depth (feed_value given ms i.1.from))) is)) 0 ≡ option_map_or (λ (i : StepInput). feed_depth (depths_of given) (map forget ms) i.from - i.depth) (if b then Some i.1 else named p is) 0
       by true h = ap (λ n. n - i.1.depth) (feed-depth i.1.from)
       by false h = h
 
@@ -86,7 +86,7 @@ wrapped-depth zero v d n e h = let same : d ≡ n = omega (arith, e) in subst (H
 wrapped-depth (suc k) v d zero e h = omega (arith, e)
 wrapped-depth (suc k) v d (suc n) e h = (wrapped-depth k v d n (omega arith) h, tt)
 
-pub ported-depth : (declared : ℕ) (d : Delivered) → IsRight d → HasDepth (ported declared d).value ((ported declared d).mismatch + declared)
+pub ported-depth : (declared : ℕ) (d : Delivered) → IsRight d → HasDepth (at_port declared d).value ((at_port declared d).mismatch + declared)
 ported-depth declared d h = wrapped-depth (declared - d.depth) d.value d.depth ((d.depth - declared) + declared) (omega arith) h
 
 module _ (given : List (Name × Delivered)) (given_right : AreRight given) (ms : List Made) (made_right : Each (λ m. AreRight m.step.outputs) ms) where
@@ -107,16 +107,6 @@ module _ (given : List (Name × Delivered)) (given_right : AreRight given) (ms :
   feed-right (constant v) h = traced-depth fixed v (constant_depth v) h
 
 -- ---- what an instance is given has the depths of its flow's inputs
-
-mutual
-  input-depth : (x : Name) (q : Place) (v : Value) (d : ℕ) → HasDepth v d → HasDepth (input_value x q v) d
-  input-depth x q (leaf n a) d h = h
-  input-depth x q (list n vs) zero h = absurd h
-  input-depth x q (list n vs) (suc d) h = inputs-depth x q 0 vs d h
-
-  inputs-depth : (x : Name) (q : Place) (i : ℕ) (vs : Trees (Unit {0}) Scalar) (d : ℕ) → AllHaveDepth vs d → AllHaveDepth (input_values x q i vs) d
-  inputs-depth x q i no_trees d h = tt
-  inputs-depth x q i (tree v vs) d h = (input-depth x (q ++ i ∷ []) v d h.0, inputs-depth x q (suc i) vs d h.1)
 
 abbrev given_as : List (Name × Value) → Name × ℕ → Name × Delivered
 given_as vs x = (x.0, record { depth = x.1; value = input_value x.0 [] (value_given vs x.0) })

@@ -1,17 +1,17 @@
 -- What holds of every node of what an instance is given and of what its steps made so far holds of all that a next step is fed with.
 use Rattle.std.specs.Prelude.{ℕ, zero, suc, List, [], ◌∷◌, map, Bool, true, false, if◌then◌else◌, Some, unwrap_or, flat_map, find}
 use Rattle.std.specs.Option.{option_map_or}
+use Rattle.tv_lemmas.specs.Members.{Each}
 use Rattle.tv_value.specs.Nested.{leaf, trees_of}
 use Rattle.tv_value.specs.Values.{Name}
 use Rattle.tv_value.specs.Orders.{same_name, named}
 use Rattle.tv_flow.specs.Flows.{Link, input, output, Feed, link, merge, constant, Step}
 use Rattle.tv_strategy.specs.Origins.{Origin, Traced, fixed}
 use Rattle.tv_strategy.specs.Iterations.{job, Iteration, walk, iteration}
-use Rattle.tv_depths.specs.Delivered.{Delivered, Ported, nothing_delivered, merged, wrapped, ported}
+use Rattle.tv_instance.specs.Delivered.{Delivered, Ported, nothing_delivered, merged, wrapped, at_port}
 use Rattle.tv_model.specs.Made.{Made, link_value, feed_value, endings}
-use Rattle.tv_depths.specs.Steps.{strategy_of, port_iteration}
-use Rattle.tv_depths.specs.Ranks.{is_among}
-use Rattle.tv_model.proofs.Tests.{Each}
+use Rattle.tv_instance.specs.Steps.{strategy_of, port_iteration}
+use Rattle.tv_instance.specs.Ranks.{is_among}
 use Rattle.tv_strategy.proofs.OfSources.{each-append, walk-have, iteration-have, traced-have}
 use Rattle.tv_strategy.specs.Sources.{AtNodes, AtAllNodes, SourcesHave}
 use Rattle.tv_strategy.proofs.OfEach.{each-all}
@@ -56,7 +56,7 @@ merged-have P f (d ∷ ds) h = (f, trees_of-have P (d ∷ ds) h)
 
 -- the ports of a step as they are fed
 abbrev pub step_ports : List (Name × Delivered) → List Made → Step → List (Name × Ported)
-step_ports given ms s = map (λ i. (i.0, ported i.1.depth (feed_value given ms i.1.from))) s.inputs
+step_ports given ms s = map (λ i. (i.0, at_port i.1.depth (feed_value given ms i.1.from))) s.inputs
 
 abbrev pub step_iteration : List (Name × Delivered) → List Made → Step → Iteration
 step_iteration given ms s = iteration (port_iteration (step_ports given ms s)) (strategy_of s)
@@ -79,7 +79,7 @@ module _ (P : Origin → Type 0) (fresh : P fixed) (given : List (Name × Delive
 
   ports-have : (s : Step) → Each (λ d. AtNodes P d.1.value) (step_ports given ms s)
   ports-have s =
-      each-of_map (λ i. Unit {0}) (λ d. AtNodes P d.1.value) (λ i. (i.0, ported i.1.depth (feed_value given ms i.1.from))) (λ i _. wrapped-have P fresh _ _ (feed-has i.1.from)) s.inputs (each-all (λ i. Unit {0}) (λ i. tt) s.inputs)
+      each-of_map (λ i. Unit {0}) (λ d. AtNodes P d.1.value) (λ i. (i.0, at_port i.1.depth (feed_value given ms i.1.from))) (λ i _. wrapped-have P fresh _ _ (feed-has i.1.from)) s.inputs (each-all (λ i. Unit {0}) (λ i. tt) s.inputs)
 
   pub step_iteration-has : (s : Step) → SourcesHave P (step_iteration given ms s)
   step_iteration-has s =

@@ -1,37 +1,37 @@
 -- In an instance every node is grounded, each job needs only jobs of steps that were taken earlier, and no two jobs have one name.
-use Rattle.std.specs.Prelude.{◌≡◌, refl, ℕ, zero, suc, ◌⊎◌, List, [], ◌∷◌, ◌++◌, map, length, Bool, true, false, not, ◌&&◌, Option, Some, None, is_none, filter_map}
-use Rattle.std.specs.List.{list_any}
+use Rattle.std.specs.Prelude.{◌≡◌, refl, ℕ, zero, suc, ◌⊎◌, List, [], ◌∷◌, ◌++◌, map, length, true, false, not, ◌&&◌, Option, Some, None, is_none, filter_map}
 use Rattle.std.proofs.Common.{sym, ap, subst, ◌∙◌, inl, inr}
-use Rattle.std.proofs.lemmas.List.Folds.{list_any-append}
 use Rattle.std.specs.Cmp.Lexicographic.{bytes_decides}
 use Rattle.std.proofs.lemmas.Option.{same_Some}
+use Rattle.tv_lemmas.specs.Members.{Each, In}
+use Rattle.tv_lemmas.proofs.OfMembers.{any-in, each_in, in-append, in-flat, in-left, in-map, in-options, in-right, in_each, of-flat, of-options}
 use Rattle.tv_value.specs.Nested.{leaf, list, no_trees, tree, Place, note, nodes, nodes_below, nodes_from}
 use Rattle.tv_value.specs.Values.{Name, JobName, Value}
 use Rattle.tv_value.specs.Orders.{same_name}
 use Rattle.tv_value.proofs.OfJobNames.{same_job_decides}
 use Rattle.tv_flow.specs.Flows.{Step}
-use Rattle.tv_strategy.specs.Origins.{Mark, Origin, Known, at_start, by_job, by_level, fixed, from_level, needs_of}
+use Rattle.tv_strategy.specs.Origins.{Mark, Origin, Known, at_start, by_job, by_level, fixed, from_level}
 use Rattle.tv_strategy.specs.Iterations.{job, passed, Iteration, Iterations}
 use Rattle.tv_strategy.specs.Measures.{strategy_depth}
 use Rattle.tv_strategy.specs.Sources.{AtNodes}
 use Rattle.tv_strategy.proofs.OfSources.{each-append}
 use Rattle.tv_strategy.proofs.OfEach.{each-weaken}
 use Rattle.tv_gate.specs.Outcomes.{Giving}
-use Rattle.tv_depths.specs.Delivered.{Delivered, StepMeaning}
-use Rattle.tv_depths.specs.Ranks.{is_among}
-use Rattle.tv_depths.specs.Steps.{strategy_of, port_mismatch, spot, node_origin, bound_values}
+use Rattle.tv_instance.specs.Delivered.{Delivered, StepMeaning}
+use Rattle.tv_instance.specs.Ranks.{is_among}
+use Rattle.tv_instance.specs.Steps.{strategy_of, port_mismatch, spot, node_origin, bound_values}
 use Rattle.tv_model.specs.Instances.{job_on, node_jobs, step_made, steps_made}
 use Rattle.tv_model.specs.Jobs.{Job, job_needs}
 use Rattle.tv_model.specs.Levels.{Level, level_at, levels}
 use Rattle.tv_model.specs.Made.{Meaning, Opened, Made, endings, result_of, delivered_outputs}
 use Rattle.tv_model.specs.Turns.{is_bounced, is_failed}
-use Rattle.tv_model.proofs.Tests.{Each, true≠false, or_right}
-use Rattle.tv_model.proofs.Turns.{In, or_left}
-use Rattle.tv_model.proofs.Order.{in-left, in-right, in-append, in-map}
+use Rattle.tv_model.proofs.Tests.{true≠false, or_right}
+use Rattle.tv_model.proofs.Turns.{or_left}
 use Rattle.tv_model.proofs.Fed.{each-flat_map, each-of_map, step_ports, step_iteration, StepHas, step_iteration-has, endings-have}
 use Rattle.tv_model.proofs.Earlier.{at_nodes-weaken, job_list, is_name_of, has_job, NeedEarlier}
 use Rattle.tv_model.proofs.Sound.{AllStand, AllStandFrom, output-gives, step_list, step_names, AreDistinct, FreshNames, IsFree, nodes-sourced, spot-step, level-node}
-use Rattle.tv_model.proofs.Members.{each_in, in_each, any-in, in-flat, of-flat, in-options, of-options, Apart, apart-flat, nodes-apart}
+use Rattle.tv_model.proofs.Members.{apart-flat, nodes-apart}
+use Rattle.tv_model.specs.JobOrder.{Apart}
 use Rattle.tv_model.proofs.Grounds.{GroundedBy, Grounded, grounded-weaken, grounded-more}
 use Rattle.tv_model.proofs.Kept.{node_job-at, InsideIs, any_right}
 

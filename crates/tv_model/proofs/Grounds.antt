@@ -1,11 +1,11 @@
 -- A node is grounded where all that it waits for leads back, in so many steps, to what is known from the start.
 use Rattle.std.specs.Prelude.{◌≡◌, ℕ, zero, suc, [], ◌∷◌}
+use Rattle.tv_lemmas.specs.Members.{Each}
 use Rattle.tv_value.specs.Values.{JobName}
 use Rattle.tv_strategy.specs.Origins.{Origin, Known, at_start, by_job, by_level, needs_of}
 use Rattle.tv_strategy.proofs.OfEach.{each-weaken}
 use Rattle.tv_model.specs.Jobs.{Job}
 use Rattle.tv_model.specs.Levels.{Level}
-use Rattle.tv_model.proofs.Tests.{Each}
 
 -- L and J hold of the lists and faults, and of the jobs, that there are
 module _ (L : Level → Type 0) (J : Job → Type 0) (I : JobName) where

@@ -1,20 +1,16 @@
 -- The laws of an instance, for every flow and every inputs.
-use Rattle.std.specs.Prelude.{◌≡◌, refl, ℕ, zero, suc, List, [], ◌∷◌, ◌++◌, length, filter, find, not, Bool, true, false, ◌||◌, cond, Option, Some, None, unwrap_or, flat_map, IsPermutation}
-use Rattle.std.specs.List.{list_all}
-use Rattle.std.specs.Option.{option_map_or}
-use Rattle.std.specs.Cmp.Lexicographic.{bytes_decides}
-use Rattle.std.proofs.Common.{sym, subst, ◌∙◌}
+use Rattle.std.specs.Prelude.{refl, ℕ, suc, List, [], ◌∷◌, ◌++◌, unwrap_or, flat_map, IsPermutation}
+use Rattle.tv_lemmas.specs.Members.{Each}
 use Rattle.tv_value.specs.Nested.{leaf, list, Trees, no_trees, tree, Place}
 use Rattle.tv_value.specs.Values.{Name, JobName, Scalar, Value}
-use Rattle.tv_value.specs.Orders.{same_name, named}
+use Rattle.tv_value.specs.Orders.{named}
 use Rattle.tv_flow.specs.Flows.{Step, Flow}
 use Rattle.tv_strategy.specs.Origins.{input_value, input_values}
 use Rattle.tv_gate.specs.Outcomes.{Giving}
 use Rattle.tv_model.specs.Made.{Meaning, Made}
 use Rattle.tv_model.specs.Instances.{steps_made}
-use Rattle.tv_depths.specs.Ranks.{ranked}
-use Rattle.tv_depths.proofs.OfRanked.{IsOrdered, ranked-ordered}
-use Rattle.tv_model.proofs.Tests.{Each, true≠false}
+use Rattle.tv_instance.specs.Ranks.{ranked}
+use Rattle.tv_instance.proofs.OfRanks.{IsOrdered, ranked-ordered}
 use Rattle.tv_strategy.specs.Sources.{AtNodes, AtAllNodes}
 use Rattle.tv_strategy.proofs.OfEach.{each-all}
 use Rattle.tv_model.proofs.Fed.{each-of_map}

@@ -18,3 +18,6 @@ pub mod ReadOff
 pub mod Ordered
 pub mod OfTotals
 pub mod OfMembers
+pub mod OfOpening
+pub mod OfFeeds
+pub mod records

@@ -1,66 +1,15 @@
 -- Members of lists, and lists whose members have keys of their own.
-use Rattle.std.specs.Prelude.{◌≡◌, refl, ℕ, suc, ◌≤◌, ◌⊎◌, List, [], ◌∷◌, ◌++◌, Bool, true, false, filter_map, flat_map, Option, Some, None}
-use Rattle.std.specs.List.{cons_option, list_any}
-use Rattle.std.proofs.Common.{arith, sym, ap, subst, ◌∙◌, inl, inr, append_assoc, append-nil}
+use Rattle.std.specs.Prelude.{◌≡◌, refl, ℕ, suc, ◌≤◌, ◌⊎◌, List, [], ◌∷◌, ◌++◌, flat_map}
+use Rattle.std.proofs.Common.{arith, sym, ap, ◌∙◌, inl, inr, append_assoc, append-nil}
+use Rattle.tv_lemmas.specs.Members.{In}
+use Rattle.tv_lemmas.proofs.OfMembers.{in-append, of-flat}
 use Rattle.tv_value.specs.Nested.{leaf, list, no_trees, tree, Place, nodes, nodes_below, nodes_from}
 use Rattle.tv_strategy.specs.Iterations.{Iteration, Iterations}
 use Rattle.tv_model.specs.Lists.{rest_of}
-use Rattle.tv_model.proofs.Tests.{Each, or_right, true≠false}
-use Rattle.tv_model.proofs.Turns.{In, or_left}
-use Rattle.tv_model.proofs.Order.{in-left, in-right, in-append}
+use Rattle.tv_model.specs.JobOrder.{Apart}
 use Rattle.tv_model.proofs.Sound.{cancel}
 
-pub each_in : {A : Type 0} (P : A → Type 0) (xs : List A) → Each P xs → (x : A) → In x xs → P x
-each_in P [] e x h = absurd h
-each_in P (y ∷ xs) e x (inl p) = subst P (sym p) e.0
-each_in P (y ∷ xs) e x (inr h) = each_in P xs e.1 x h
-
-pub in_each : {A : Type 0} (P : A → Type 0) (xs : List A) → ((x : A) → In x xs → P x) → Each P xs
-in_each P [] f = tt
-in_each P (x ∷ xs) f = (f x (inl refl), in_each P xs (λ y h. f y (inr h)))
-
-pub any-in : {A : Type 0} (p : A → Bool) (x : A) (xs : List A) → In x xs → p x ≡ true → list_any p xs ≡ true
-any-in p x [] h e = absurd h
-any-in p x (y ∷ xs) (inl q) e = or_left (p y) (list_any p xs) (ap p (sym q) ∙ e)
-any-in p x (y ∷ xs) (inr h) e = or_right (p y) (list_any p xs) (any-in p x xs h e)
-
-pub in-flat : {A B : Type 0} (f : A → List B) (x : A) (y : B) (xs : List A) → In x xs → In y (f x) → In y (flat_map f xs)
-in-flat f x y [] h k = absurd h
-in-flat f x y (z ∷ xs) (inl p) k = in-left y (f z) (flat_map f xs) (subst (λ w. In y (f w)) p k)
-in-flat f x y (z ∷ xs) (inr h) k = in-right y (f z) (flat_map f xs) (in-flat f x y xs h k)
-
-pub of-flat : {A B : Type 0} (f : A → List B) (y : B) (xs : List A) → In y (flat_map f xs) → (x : A) × In x xs × In y (f x)
-of-flat f y [] h = absurd h
-of-flat {A = A} f y (x ∷ xs) h = by (in-append y (f x) (flat_map f xs) h) (λ k. of-flat f y xs k)
-  where
-    by : In y (f x) ⊎ In y (flat_map f xs) → (In y (flat_map f xs) → (z : A) × In z xs × In y (f z)) → (z : A) × In z (x ∷ xs) × In y (f z)
-    by (inl k) rec = (x, inl refl, k)
-    by (inr k) rec = let r = rec k in (r.0, inr r.1, r.2)
-
-pub of-options : {A B : Type 0} (f : A → Option B) (y : B) (xs : List A) → In y (filter_map f xs) → (x : A) × In x xs × (f x ≡ Some y)
-of-options f y [] h = absurd h
-of-options {A = A} {B = B} f y (x ∷ xs) h = by (f x) refl h (λ k. of-options f y xs k)
-  where
-    by : (o : Option B) → f x ≡ o → In y (cons_option o (filter_map f xs)) → (In y (filter_map f xs) → (z : A) × In z xs × (f z ≡ Some y)) → (z : A) × In z (x ∷ xs) × (f z ≡ Some y)
-    by None e k rec = let r = rec k in (r.0, inr r.1, r.2)
-    by (Some z) e (inl p) rec = (x, inl refl, e ∙ ap (λ w. Some w) (sym p))
-    by (Some z) e (inr k) rec = let r = rec k in (r.0, inr r.1, r.2)
-
-pub in-options : {A B : Type 0} (f : A → Option B) (x : A) (y : B) (xs : List A) → In x xs → f x ≡ Some y → In y (filter_map f xs)
-in-options f x y [] h e = absurd h
-in-options {A = A} {B = B} f x y (z ∷ xs) (inl p) e = subst (λ o. In y (cons_option o (filter_map f xs))) (sym (ap f (sym p) ∙ e)) (inl refl)
-in-options {A = A} {B = B} f x y (z ∷ xs) (inr h) e = by (f z) (in-options f x y xs h e)
-  where
-    by : (o : Option B) → In y (filter_map f xs) → In y (cons_option o (filter_map f xs))
-    by None k = k
-    by (Some w) k = inr k
-
 -- ---- keys
-
--- no two members have one key
-abbrev pub Apart : {A K : Type 0} → (A → K) → List A → Type 0
-Apart key [] = Unit {0}
-Apart {A} {K} key (x ∷ xs) = ((y : A) → In y xs → key y ≡ key x → ⊥) × Apart key xs
 
 pub apart-append : {A K : Type 0} (key : A → K) (xs ys : List A) → Apart key xs → Apart key ys → ((x y : A) → In x xs → In y ys → key y ≡ key x → ⊥) → Apart key (xs ++ ys)
 apart-append key [] ys a b f = b

@@ -3,7 +3,9 @@ use Rattle.std.specs.Prelude.{◌≡◌, refl, ℕ, zero, suc, ◌+◌, List, []
 use Rattle.std.specs.List.{list_all, list_any, slice_get}
 use Rattle.std.specs.Option.{option_map_or}
 use Rattle.std.proofs.Common.{sym, ap, subst, inl, inr}
-use Rattle.tv_value.specs.Nested.{leaf, list, no_trees, tree, Place, nodes, nodes_below, nodes_from}
+use Rattle.tv_lemmas.specs.Members.{Each, In}
+use Rattle.tv_lemmas.proofs.OfMembers.{in-flat}
+use Rattle.tv_value.specs.Nested.{leaf, list, no_trees, tree, Place, nodes}
 use Rattle.tv_value.specs.Values.{Name, JobName, Value, HasDepth}
 use Rattle.tv_value.specs.Orders.{same_name, same_job, named}
 use Rattle.tv_value.specs.Strategies.{Strategy}
@@ -15,19 +17,16 @@ use Rattle.tv_strategy.specs.Levels.{HasLevels, IsJob}
 use Rattle.tv_strategy.specs.Measures.{strategy_depth, DotsAgree, leaf_names}
 use Rattle.tv_strategy.specs.Sources.{JobsStand, JobsStandFrom}
 use Rattle.tv_strategy.proofs.AtDepth.{walk-levels, iteration-levels, output-depth}
-use Rattle.tv_strategy.proofs.OfSources.{each-append}
 use Rattle.tv_gate.specs.Outcomes.{Giving}
-use Rattle.tv_depths.specs.Delivered.{Ported}
-use Rattle.tv_depths.specs.Steps.{bound_values, declared_depths, port_iteration, port_mismatch, spot, strategy_of}
+use Rattle.tv_instance.specs.Delivered.{Ported}
+use Rattle.tv_instance.specs.Steps.{bound_values, declared_depths, port_iteration, port_mismatch, spot, strategy_of}
 use Rattle.tv_model.specs.Agreeing.{FindThemselves, ActivitiesAgree, ActivitiesNest, NestsWithin}
 use Rattle.tv_model.specs.RightDepths.{AreRight, HaveTheseDepths}
 use Rattle.tv_model.specs.Instances.{node_jobs, job_on}
 use Rattle.tv_model.specs.Lists.{rest_of}
 use Rattle.tv_model.specs.Made.{Meaning, Opened, result_of, delivered_outputs}
-use Rattle.tv_model.specs.Members.{In}
-use Rattle.tv_model.proofs.Tests.{Each, true≠false}
+use Rattle.tv_model.proofs.Tests.{true≠false}
 use Rattle.tv_model.proofs.Fed.{either, each-flat_map}
-use Rattle.tv_model.proofs.Members.{in-flat}
 use Rattle.tv_model.proofs.Sound.{AllStand, AllStandFrom, StandsAt, all-stand, nodes-stand}
 use Rattle.tv_model.proofs.Formed.{nodes-in, IsNode}
 use Rattle.tv_model.proofs.Kept.{job-at}

@@ -1,12 +1,13 @@
 -- The order of one worker has exactly the asks of an instance's jobs and of what stands inside them.
-use Rattle.std.specs.Prelude.{◌≡◌, refl, ℕ, zero, suc, ◌+◌, ◌≤◌, ◌⊎◌, List, [], ◌∷◌, ◌++◌, map, length, filter, Bool, true, false, not, ◌||◌, cond, flat_map, IsPermutation}
-use Rattle.std.specs.List.{list_any}
+use Rattle.std.specs.Prelude.{◌≡◌, refl, ℕ, zero, suc, ◌+◌, ◌≤◌, ◌⊎◌, List, [], ◌∷◌, ◌++◌, map, length, filter, Bool, true, false, not, cond, flat_map, IsPermutation}
 use Rattle.std.specs.Option.{option_map_or}
-use Rattle.std.proofs.Common.{arith, sym, ap, subst, ◌∙◌, inl, inr, append_assoc, length-append}
+use Rattle.std.proofs.Common.{arith, sym, subst, ◌∙◌, inl, inr, append_assoc, length-append}
 use Rattle.std.proofs.lemmas.Grind.{flat_map-append}
 use Rattle.std.proofs.lemmas.List.{length-map}
 use Rattle.std.proofs.lemmas.List.Folds.{flat_map-map}
 use Rattle.std.proofs.lemmas.List.Sorted.{IsPermutation-refl, IsPermutation-append_right, IsPermutation-trans}
+use Rattle.tv_lemmas.specs.Members.{Each, In}
+use Rattle.tv_lemmas.proofs.OfMembers.{each_in, in-append, in-left, in-map, in-right, of-map, some_in}
 use Rattle.tv_lemmas.proofs.Lists.{permute-front}
 use Rattle.tv_value.specs.Values.{JobName}
 use Rattle.tv_value.specs.Orders.{same_job}
@@ -14,8 +15,7 @@ use Rattle.tv_dispatch.specs.Jobs.{Ask}
 use Rattle.tv_model.specs.Made.{Opened, Made}
 use Rattle.tv_model.specs.Turns.{Turn, ask_order, asks_by_turns, bounced_first, is_bounced, job_turn}
 use Rattle.tv_model.specs.Jobs.{job_needs}
-use Rattle.tv_model.proofs.Tests.{Each, true≠false}
-use Rattle.tv_model.proofs.Turns.{In, turn_asks, HasRate, AllRated, turns-asks}
+use Rattle.tv_model.proofs.Turns.{HasRate, AllRated, turns-asks}
 use Rattle.tv_model.proofs.Earlier.{job_list, is_name_of, has_job, NeedEarlier}
 use Rattle.tv_strategy.proofs.OfEach.{each-weaken}
 
@@ -25,47 +25,6 @@ turn_of o = job_turn o.job (option_map_or ask_order o.inside [])
 
 abbrev pub opened_order : List Opened → List (JobName × Ask)
 opened_order os = asks_by_turns (length os) [] (map turn_of (bounced_first (λ o. o.job) os))
-
-pub in-left : {A : Type 0} (x : A) (xs ys : List A) → In x xs → In x (xs ++ ys)
-in-left x [] ys h = absurd h
-in-left x (y ∷ xs) ys (inl p) = inl p
-in-left x (y ∷ xs) ys (inr h) = inr (in-left x xs ys h)
-
-pub in-right : {A : Type 0} (x : A) (xs ys : List A) → In x ys → In x (xs ++ ys)
-in-right x [] ys h = h
-in-right x (y ∷ xs) ys h = inr (in-right x xs ys h)
-
-pub in-append : {A : Type 0} (x : A) (xs ys : List A) → In x (xs ++ ys) → In x xs ⊎ In x ys
-in-append x [] ys h = inr h
-in-append x (y ∷ xs) ys (inl p) = inl (inl p)
-in-append x (y ∷ xs) ys (inr h) = more (in-append x xs ys h)
-  where
-    more : In x xs ⊎ In x ys → In x (y ∷ xs) ⊎ In x ys
-    more (inl k) = inl (inr k)
-    more (inr k) = inr k
-
-pub in-map : {A B : Type 0} (f : A → B) (x : A) (xs : List A) → In x xs → In (f x) (map f xs)
-in-map f x [] h = absurd h
-in-map f x (y ∷ xs) (inl p) = inl (ap f p)
-in-map f x (y ∷ xs) (inr h) = inr (in-map f x xs h)
-
-pub of-map : {A B : Type 0} (f : A → B) (b : B) (xs : List A) → In b (map f xs) → (x : A) × In x xs × (b ≡ f x)
-of-map f b [] h = absurd h
-of-map f b (x ∷ xs) (inl p) = (x, inl refl, p)
-of-map f b (x ∷ xs) (inr h) = let r = of-map f b xs h in (r.0, inr r.1, r.2)
-
-pub each-in : {A : Type 0} (P : A → Type 0) (x : A) (xs : List A) → Each P xs → In x xs → P x
-each-in P x [] e h = absurd h
-each-in P x (y ∷ xs) e (inl p) = subst P (sym p) e.0
-each-in P x (y ∷ xs) e (inr h) = each-in P x xs e.1 h
-
-pub some_in : {A : Type 0} (p : A → Bool) (xs : List A) → list_any p xs ≡ true → (x : A) × In x xs × (p x ≡ true)
-some_in p [] h = absurd (true≠false (sym h))
-some_in p (x ∷ xs) h = pick (p x) refl h (λ k. some_in p xs k)
-  where
-    pick : (b : Bool) → p x ≡ b → (b || list_any p xs) ≡ true → (list_any p xs ≡ true → (y : _) × In y xs × (p y ≡ true)) → (y : _) × In y (x ∷ xs) × (p y ≡ true)
-    pick true e k rec = (x, inl refl, e)
-    pick false e k rec = let r = rec k in (r.0, inr r.1, r.2)
 
 -- ---- bounced jobs first, then the others
 
@@ -135,7 +94,7 @@ module _ (ts : List Turn) where
       by : In o m.jobs ⊎ In o (job_list ms) → ((u : Opened) → In u (job_list ms) → HasRate [] ts (length ms) (turn_of u)) → HasRate [] ts (suc (length ms)) (turn_of o)
       by (inr k) rec = rate-more (length ms) (turn_of o) (rec o k)
       by (inl k) rec =
-          each-weaken (λ n. has_job ms n ≡ true) (λ n. (false ≡ true) ⊎ ((u : Turn) × In u ts × (same_job n u.name ≡ true) × HasRate [] ts (length ms) u)) (λ n i. let r = some_in (is_name_of n) (job_list ms) i in inr (turn_of r.0, w r.0 (in-right r.0 m.jobs (job_list ms) r.1), r.2, rec r.0 r.1)) (job_needs o.job) (each-in (λ u. Each (λ n. has_job ms n ≡ true) (job_needs u.job)) o m.jobs e.0 k)
+          each-weaken (λ n. has_job ms n ≡ true) (λ n. (false ≡ true) ⊎ ((u : Turn) × In u ts × (same_job n u.name ≡ true) × HasRate [] ts (length ms) u)) (λ n i. let r = some_in (is_name_of n) (job_list ms) i in inr (turn_of r.0, w r.0 (in-right r.0 m.jobs (job_list ms) r.1), r.2, rec r.0 r.1)) (job_needs o.job) (each_in (λ u. Each (λ n. has_job ms n ≡ true) (job_needs u.job)) m.jobs e.0 o k)
 
 abbrev pub waiting : List Opened → List Opened
 waiting os = filter (λ o. is_bounced o.job.ending) os ++ filter (λ o. not (is_bounced o.job.ending)) os

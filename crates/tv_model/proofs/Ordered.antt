@@ -3,6 +3,7 @@ use Rattle.std.specs.Prelude.{refl, ℕ, zero, suc, List, [], ◌∷◌, Option,
 use Rattle.std.specs.Option.{option_map_or}
 use Rattle.std.proofs.Common.{sym, subst, inl, inr}
 use Rattle.std.proofs.lemmas.List.Sorted.{IsPermutation-refl, IsPermutation-append_left, IsPermutation-append_right, IsPermutation-trans}
+use Rattle.tv_lemmas.specs.Members.{In}
 use Rattle.tv_lemmas.proofs.Lists.{flat-flat}
 use Rattle.tv_value.specs.Values.{Name, JobName, Value}
 use Rattle.tv_flow.specs.Flows.{Flow}
@@ -10,8 +11,7 @@ use Rattle.tv_gate.specs.Outcomes.{Giving}
 use Rattle.tv_model.specs.Made.{Meaning, Opened}
 use Rattle.tv_model.specs.Turns.{ask_order, asks_of}
 use Rattle.tv_model.specs.Meanings.{jobs_with_inside, instance_meaning, no_meaning, flow_meaning}
-use Rattle.tv_depths.specs.Ranks.{ranked}
-use Rattle.tv_model.proofs.Turns.{In}
+use Rattle.tv_instance.specs.Ranks.{ranked}
 use Rattle.tv_model.proofs.Fed.{named_map_or}
 use Rattle.tv_model.proofs.Earlier.{job_list}
 use Rattle.tv_model.proofs.Kept.{InsideIs}

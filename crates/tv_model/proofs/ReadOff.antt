@@ -4,6 +4,8 @@ use Rattle.std.specs.Option.{option_map_or}
 use Rattle.std.proofs.Common.{arith, sym, ap, ◌∙◌, inl, inr, append_assoc, append-nil, length-append}
 use Rattle.std.proofs.lemmas.List.{length-map, map-append}
 use Rattle.std.proofs.lemmas.List.Elements.{filter-append}
+use Rattle.tv_lemmas.specs.Members.{In}
+use Rattle.tv_lemmas.proofs.OfMembers.{in-append, of-flat}
 use Rattle.tv_lemmas.proofs.Lists.{filter-map}
 use Rattle.tv_value.specs.Nested.{Place}
 use Rattle.tv_value.specs.Orders.{same_job}
@@ -11,18 +13,17 @@ use Rattle.tv_value.specs.Values.{Name, JobName, Value}
 use Rattle.tv_value.proofs.OfJobNames.{same_job_decides}
 use Rattle.tv_flow.specs.Flows.{Flow}
 use Rattle.tv_gate.specs.Outcomes.{Giving}
-use Rattle.tv_depths.specs.Ranks.{ranked}
+use Rattle.tv_instance.specs.Ranks.{ranked}
 use Rattle.tv_dispatch.specs.Jobs.{Ask}
 use Rattle.tv_model.specs.Instances.{given_of}
 use Rattle.tv_model.specs.Jobs.{Job}
 use Rattle.tv_model.specs.Made.{Meaning, Opened}
 use Rattle.tv_model.specs.Meanings.{flow_meaning, instance_meaning, instances_inside, jobs_with_inside, no_meaning}
 use Rattle.tv_model.specs.Turns.{ask_order, asks_by_turns, bounced_first, is_bounced, job_turn, jobs_in, order_in}
-use Rattle.tv_model.proofs.Turns.{In}
-use Rattle.tv_model.proofs.Order.{in-append, of-filter, opened_order, turn_of}
+use Rattle.tv_model.proofs.Order.{of-filter, opened_order, turn_of}
 use Rattle.tv_model.proofs.Fed.{named_map_or}
 use Rattle.tv_model.proofs.Earlier.{job_list}
-use Rattle.tv_model.proofs.Members.{Apart, of-flat}
+use Rattle.tv_model.specs.JobOrder.{Apart}
 use Rattle.tv_model.proofs.Kept.{InsideIs}
 use Rattle.tv_model.proofs.Formed.{AreFormed, own-apart}
 use Rattle.tv_model.proofs.Instances.{given-free, instance-formed, steps_of}

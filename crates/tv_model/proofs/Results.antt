@@ -1,21 +1,21 @@
 -- A job gives each output in its declared depth, however it comes out.
-use Rattle.std.specs.Prelude.{◌≡◌, refl, ℕ, zero, suc, List, [], ◌∷◌, ◌++◌, map, length, Bool, true, false, ◌==◌, Option, Some, None, is_some, is_ok, Result, Ok, Err, unwrap_or, codes, decimal, if◌then◌else◌}
+use Rattle.std.specs.Prelude.{◌≡◌, refl, ℕ, zero, suc, List, [], ◌∷◌, ◌++◌, map, length, Bool, true, false, ◌==◌, Option, Some, None, Result, Ok, Err, unwrap_or, codes, decimal, if◌then◌else◌}
 use Rattle.std.specs.List.{list_any, range_with_len}
 use Rattle.std.proofs.Common.{arith, sym, ap, subst, eqb-true}
-use Rattle.tv_value.specs.Nested.{Tree, leaf, list, Trees, no_trees, tree, Place, map_trees}
-use Rattle.tv_value.specs.Values.{Text, Name, JobName, Scalar, Value, scalar_depth, HasDepth, AllHaveDepth, has_depth, all_have_depth, holds_fault}
+use Rattle.tv_lemmas.specs.Members.{Each}
+use Rattle.tv_value.specs.Nested.{leaf, list, Trees, no_trees, tree, Place, map_trees}
+use Rattle.tv_value.specs.Values.{Text, Name, JobName, Scalar, Value, HasDepth, AllHaveDepth, has_depth, holds_fault}
 use Rattle.tv_value.specs.Orders.{same_name, named}
 use Rattle.tv_value.specs.Activities.{Activity, service, nested}
 use Rattle.tv_flow.specs.Flows.{StepInput, Step, Flow}
 use Rattle.tv_strategy.specs.Origins.{Origin, Traced, plain}
 use Rattle.tv_gate.specs.Outcomes.{Outcome, good, bad, Giving}
-use Rattle.tv_dispatch.specs.Jobs.{value_complaint, or_else, first_complaint, ok_unless, judged, Ask, outcome_of, Try, ask, open_flow, tries, Fate, right, opens, wrong, Taken, taken, match_result, error_results}
+use Rattle.tv_dispatch.specs.Jobs.{value_complaint, or_else, first_complaint, ok_unless, judged, Ask, outcome_of, Try, ask, open_flow, tries, Fate, right, opens, wrong, Taken, take_tries, match_result, error_results}
 use Rattle.tv_model.specs.Made.{Meaning, Opened}
-use Rattle.tv_depths.specs.Steps.{declared_depths}
+use Rattle.tv_instance.specs.Steps.{declared_depths}
 use Rattle.tv_model.specs.Instances.{zip_names, with_fate, bounced_job, tried_job, job_on}
 use Rattle.tv_model.specs.Agreeing.{FindThemselves, InputsHave, ActivityAgrees, ActivitiesAgree, ActivitiesNest, NestsWithin, output_depths}
 use Rattle.tv_value.proofs.OfDepths.{test-decides}
-use Rattle.tv_model.proofs.Tests.{Each, true≠false}
 use Rattle.tv_strategy.proofs.OfSources.{each-append}
 use Rattle.tv_strategy.proofs.OfEach.{each-all}
 use Rattle.tv_model.proofs.Fed.{either, each-of_map}
@@ -71,19 +71,19 @@ module _ (ds : List ℕ) (Q : Name → Type 0) where
       (tries-have vs retries (suc k) as' h)
   tries-have vs retries k (nested f ∷ as') h = (h.0, tries-have vs retries (suc k) as' h.1)
 
-  taken-has : (gives : Giving) (why : Text) (ts : List Try) → Each TryHas ts → FateHas (taken gives why ts).fate
+  taken-has : (gives : Giving) (why : Text) (ts : List Try) → Each TryHas ts → FateHas (take_tries gives why ts).fate
   taken-has gives why [] h = tt
   taken-has gives why (open_flow f ∷ ts) h = h.0
   taken-has gives why (ask a ∷ ts) h = by (outcome_of gives a) refl (λ w. taken-has gives w ts h.1)
     where
-      by : (r : Result (List Value) Text) → outcome_of gives a ≡ r → ((w : Text) → FateHas (taken gives w ts).fate) → FateHas (match_result {C = Taken} r (λ vs. record { asks = a ∷ []; fate = right vs }) (λ reason. record { asks = a ∷ (taken gives reason ts).asks; fate = (taken gives reason ts).fate })).fate
+      by : (r : Result (List Value) Text) → outcome_of gives a ≡ r → ((w : Text) → FateHas (take_tries gives w ts).fate) → FateHas (match_result {C = Taken} r (λ vs. record { asks = a ∷ []; fate = right vs }) (λ reason. record { asks = a ∷ (take_tries gives reason ts).asks; fate = (take_tries gives reason ts).fate })).fate
       by (Ok vs) e rec = subst (λ l. HaveTheseDepths l vs) h.0 (judged-depths a.outputs (gives a.service a.inputs a.attempt) vs e)
       by (Err w) e rec = rec w
 
 -- ---- the inputs and outputs of a flow that is opened
 
 mutual
-  plain-depth : (v : Traced) (d : ℕ) → HasDepth v d → HasDepth (plain v) d
+  pub plain-depth : (v : Traced) (d : ℕ) → HasDepth v d → HasDepth (plain v) d
   plain-depth (leaf o a) d h = h
   plain-depth (list o vs) zero h = absurd h
   plain-depth (list o vs) (suc d) h = all_plain-depth vs d h
@@ -148,18 +148,18 @@ module _ (gives : Giving) (inside : Name → JobName → List (Name × Value) �
     pub inside_it : InsideHas P o.inside
 
   module _ (n : Name) (s : Step) (w : List Origin) (q : Place) (vs : List Traced) (once : FindThemselves s.inputs s.inputs) (fit : HaveTheseDepths (map (λ i. i.1.depth) s.inputs) vs) where
-    fate-fit : (as' : List Ask) (f : Fate) → FateHas (declared_depths s) (CanOpen s) f → IsFit s n (with_fate gives inside I s (record (bounced_job gives inside I n s w q vs) { asks = as' }) f)
+    fate-fit : (as' : List Ask) (f : Fate) → FateHas (declared_depths s) (CanOpen s) f → IsFit s n (with_fate inside s (record (bounced_job I n s w q vs) { asks = as' }) f)
     fate-fit as' (right rs) h = record { step = refl; inputs = fit; result = h; inside_it = tt }
     fate-fit as' (wrong why) h = record { step = refl; inputs = fit; result = errors-have _ why [] (declared_depths s); inside_it = tt }
     fate-fit as' (opens f) h =
         let a = h.0 in
-        let r = inside_is f a.flow a.is_flow h.1 (bounced_job gives inside I n s w q vs).name (zip_names s.inputs vs) (subst (λ l. InputsHave l (zip_names s.inputs vs)) (sym a.inputs) (zip-have s.inputs vs fit s.inputs once)) in
-        record { step = refl; inputs = fit; result = plain-outputs (declared_depths s) (inside f (bounced_job gives inside I n s w q vs).name (zip_names s.inputs vs)).outputs (subst (λ l. HaveTheseDepths l (map (λ o. o.1) (inside f (bounced_job gives inside I n s w q vs).name (zip_names s.inputs vs)).outputs)) a.outputs r.1); inside_it = r.0 }
+        let r = inside_is f a.flow a.is_flow h.1 (bounced_job I n s w q vs).name (zip_names s.inputs vs) (subst (λ l. InputsHave l (zip_names s.inputs vs)) (sym a.inputs) (zip-have s.inputs vs fit s.inputs once)) in
+        record { step = refl; inputs = fit; result = plain-outputs (declared_depths s) (inside f (bounced_job I n s w q vs).name (zip_names s.inputs vs)).outputs (subst (λ l. HaveTheseDepths l (map (λ o. o.1) (inside f (bounced_job I n s w q vs).name (zip_names s.inputs vs)).outputs)) a.outputs r.1); inside_it = r.0 }
 
     pub job-fit : ActivitiesAgree flows s s.activities → ActivitiesNest (NestsWithin flows k) s.activities → IsFit s n (job_on gives inside I n s w q vs)
     job-fit a b =
-        let j = bounced_job gives inside I n s w q vs in
+        let j = bounced_job I n s w q vs in
         let ts = tries (map plain j.inputs) (declared_depths s) s.retries 0 s.activities in
-        either (IsFit s n) (list_any (λ v. holds_fault v) vs) (record { job = j; inside = None }) (tried_job gives inside I s j)
+        either (IsFit s n) (list_any (λ v. holds_fault v) vs) (record { job = j; inside = None }) (tried_job gives inside s j)
         (record { step = refl; inputs = fit; result = errors-have j.name (codes "bounced") _ (declared_depths s); inside_it = tt })
-        (fate-fit (taken gives [] ts).asks (taken gives [] ts).fate (taken-has (declared_depths s) (CanOpen s) gives [] ts (tries-have (declared_depths s) (CanOpen s) (map plain j.inputs) s.retries 0 s.activities (both s s.activities a b))))
+        (fate-fit (take_tries gives [] ts).asks (take_tries gives [] ts).fate (taken-has (declared_depths s) (CanOpen s) gives [] ts (tries-have (declared_depths s) (CanOpen s) (map plain j.inputs) s.retries 0 s.activities (both s s.activities a b))))

@@ -3,17 +3,18 @@ use Rattle.std.specs.Prelude.{◌≡◌, refl, ℕ, suc, pred, ◌+◌, List, []
 use Rattle.std.proofs.Common.{arith, sym, ap, ◌∙◌}
 pub use Rattle.std.proofs.lemmas.List.{append_cancel_left as cancel}
 use Rattle.std.proofs.lemmas.Option.{same_Some}
+use Rattle.tv_lemmas.specs.Members.{Each}
 use Rattle.tv_value.specs.Nested.{leaf, list, no_trees, tree, Place, note, at, item_at, children, nodes_below, nodes_from}
 use Rattle.tv_value.specs.Values.{Name, JobName, ErrorDoc, Value}
 use Rattle.tv_flow.specs.Flows.{Step}
 use Rattle.tv_strategy.specs.Origins.{Mark, Origin, at_start, from_job, from_level}
 use Rattle.tv_strategy.specs.Iterations.{Binding, End, job, passed, Iteration, Iterations}
 use Rattle.tv_strategy.specs.Outputs.{output_below, outputs_from, end_output}
-use Rattle.tv_strategy.specs.Sources.{Each, AtNodes, AtAllNodes, SourcesHave, AllSourcesHave}
+use Rattle.tv_strategy.specs.Sources.{AtNodes, AtAllNodes, SourcesHave, AllSourcesHave}
 use Rattle.tv_strategy.proofs.OfSources.{each-append, traced-have}
-use Rattle.tv_depths.specs.Delivered.{StepMeaning}
-use Rattle.tv_depths.specs.Ranks.{is_among}
-use Rattle.tv_depths.specs.Steps.{spot}
+use Rattle.tv_instance.specs.Delivered.{StepMeaning}
+use Rattle.tv_instance.specs.Ranks.{is_among}
+use Rattle.tv_instance.specs.Steps.{spot}
 use Rattle.tv_model.specs.Levels.{Level, level_at}
 use Rattle.tv_model.specs.Made.{Made}
 

@@ -1,5 +1,5 @@
 -- The order of one worker has each ask once.
-use Rattle.std.specs.Prelude.{◌≡◌, refl, ℕ, zero, suc, ◌≤◌, ◌⊎◌, List, [], ◌∷◌, ◌++◌, length, Bool, true, false, ◌||◌, Option, Some, None, option_map, flat_map, IsPermutation, if◌then◌else◌}
+use Rattle.std.specs.Prelude.{◌≡◌, refl, ℕ, zero, suc, ◌≤◌, ◌⊎◌, List, [], ◌∷◌, ◌++◌, length, Bool, true, false, Option, Some, None, option_map, flat_map, IsPermutation, if◌then◌else◌}
 use Rattle.std.specs.List.{list_any}
 use Rattle.std.specs.Option.{option_map_or}
 use Rattle.std.proofs.Common.{arith, sym, ap, subst, ◌∙◌, inl, inr}
@@ -8,10 +8,10 @@ use Rattle.tv_value.specs.Values.{JobName}
 use Rattle.tv_value.specs.Orders.{same_job}
 use Rattle.tv_dispatch.specs.Jobs.{Ask}
 use Rattle.tv_model.specs.Turns.{Turn, all_done, asks_by_turns, first_turn}
-use Rattle.tv_model.proofs.Tests.{true≠false, both_true, or_right, Each}
+use Rattle.tv_model.proofs.Tests.{true≠false, both_true, or_right}
 pub use Rattle.std.proofs.lemmas.Bool.{or_left}
+use Rattle.tv_lemmas.specs.Members.{Each, In}
 use Rattle.tv_lemmas.proofs.Lists.{permute-front}
-pub use Rattle.tv_model.specs.Members.{In}
 use Rattle.tv_strategy.proofs.OfEach.{each-weaken}
 
 abbrev pub turn_asks : List Turn → List (JobName × Ask)

@@ -1,8 +1,10 @@
 -- What is so of the meaning of every flow, at any number of levels of nesting.
-use Rattle.std.specs.Prelude.{◌≡◌, refl, ℕ, zero, suc, ◌⊎◌, List, [], ◌∷◌, ◌++◌, length, filter, Bool, true, false, not, ◌&&◌, Option, Some, None, is_some, is_none, flat_map, filter_map}
+use Rattle.std.specs.Prelude.{◌≡◌, refl, ℕ, zero, suc, ◌⊎◌, List, [], ◌∷◌, ◌++◌, length, filter, true, false, not, ◌&&◌, Option, Some, None, is_some, is_none, flat_map, filter_map}
 use Rattle.std.specs.List.{list_all}
 use Rattle.std.specs.Option.{option_map_or}
 use Rattle.std.proofs.Common.{sym, ap, subst, ◌∙◌, inl, inr, append_assoc, append-nil}
+use Rattle.tv_lemmas.specs.Members.{Each, In}
+use Rattle.tv_lemmas.proofs.OfMembers.{each_in, in-append, in-flat, in-left, in-right, of-flat, of-map, each-filter}
 use Rattle.tv_value.specs.Nested.{Place, nodes}
 use Rattle.tv_value.specs.Values.{Name, JobName, Value}
 use Rattle.tv_value.specs.Orders.{same_name}
@@ -11,19 +13,18 @@ use Rattle.tv_strategy.specs.Origins.{Origin, by_job}
 use Rattle.tv_strategy.proofs.OfEach.{each-weaken}
 use Rattle.tv_gate.specs.Outcomes.{Giving}
 use Rattle.tv_model.specs.Jobs.{Job}
-use Rattle.tv_depths.specs.Delivered.{StepMeaning}
+use Rattle.tv_instance.specs.Delivered.{StepMeaning}
 use Rattle.tv_model.specs.Made.{Meaning, Opened, Made}
 use Rattle.tv_model.specs.Meanings.{jobs_with_inside, steps_inside, instance_meaning, no_meaning, flow_meaning}
-use Rattle.tv_depths.specs.Ranks.{ranked, by_rank, is_among, earlier_steps}
+use Rattle.tv_instance.specs.Ranks.{ranked, by_rank, is_among, earlier_steps}
 use Rattle.tv_model.specs.Turns.{is_bounced, is_failed}
 use Rattle.tv_model.specs.Levels.{Level, level_at, levels}
-use Rattle.tv_model.proofs.Tests.{Each, true≠false}
-use Rattle.tv_model.proofs.Turns.{In}
-use Rattle.tv_model.proofs.Order.{in-left, in-right, in-append, of-map}
-use Rattle.tv_model.proofs.Fed.{either, named_map_or, find_map_or}
+use Rattle.tv_model.proofs.Tests.{true≠false}
+use Rattle.tv_model.proofs.Fed.{named_map_or, find_map_or}
 use Rattle.tv_model.proofs.Earlier.{job_list}
 use Rattle.tv_model.proofs.Sound.{cancel, first_of, step_list, step_names, AreDistinct}
-use Rattle.tv_model.proofs.Members.{each_in, in-flat, of-flat, Apart, apart-append, apart-flat}
+use Rattle.tv_model.proofs.Members.{apart-append, apart-flat}
+use Rattle.tv_model.specs.JobOrder.{Apart}
 pub use Rattle.tv_model.proofs.Members.{not-longer}
 use Rattle.tv_model.proofs.Grounds.{Grounded, grounded-weaken}
 use Rattle.tv_model.proofs.Kept.{InsideIs, any_right}
@@ -282,10 +283,6 @@ module _ (gives : Giving) (D : ℕ → Type 0) where
             by s g (inr i) = let r = of-flat steps_inside s opened i in level-case r.0 r.1 s r.2 l g
 
   -- ---- every number of levels
-
-  pub each-filter : {A : Type 0} (R : A → Type 0) (p : A → Bool) (xs : List A) → Each R xs → Each R (filter p xs)
-  each-filter R p [] h = tt
-  each-filter R p (x ∷ xs) h = either (Each R) (p x) (x ∷ filter p xs) (filter p xs) (h.0, each-filter R p xs h.1) (each-filter R p xs h.1)
 
   pub rank-each : (R : Name × Step → Type 0) (n : ℕ) (done : List Name) (steps : List (Name × Step)) → Each R steps → Each R (by_rank n done steps)
   rank-each R zero done steps h = tt

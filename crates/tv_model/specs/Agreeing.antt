@@ -1,18 +1,17 @@
 -- When a document agrees in its depths: a check of depths alone, step by step by rank.
 use Rattle.std.specs.List.{list_all, list_any}
-use Rattle.std.specs.Option.{option_map_or}
-use Rattle.std.specs.Prelude.{List, Some, [], find, is_some, map, suc, true, unwrap_or, zero, ℕ, ◌++◌, ◌+◌, ◌-◌, ◌∷◌, ◌≡◌}
+use Rattle.std.specs.Prelude.{List, Some, [], is_some, map, suc, true, unwrap_or, zero, ℕ, ◌-◌, ◌∷◌, ◌≡◌}
 use Rattle.tv_value.specs.Activities.{Activity, nested, service}
 use Rattle.tv_value.specs.Nested.{list, no_trees}
 use Rattle.tv_value.specs.Orders.{named, same_name}
-use Rattle.tv_value.specs.Strategies.{Strategies, Strategy, cross, dot, no_strategies, port, strategy}
+use Rattle.tv_value.specs.Strategies.{port}
 use Rattle.tv_value.specs.Values.{HasDepth, Name, Value}
-use Rattle.tv_flow.specs.Flows.{Document, Feed, Flow, Link, Step, StepInput, constant, input, link, merge, output}
+use Rattle.tv_flow.specs.Flows.{Document, Feed, Flow, Step, StepInput, constant, link, merge}
 use Rattle.tv_strategy.specs.Measures.{DotsAgree, leaf_names}
-use Rattle.tv_depths.specs.Ranks.{ranked}
-use Rattle.tv_depths.specs.Steps.{declared_depths, strategy_of}
+use Rattle.tv_instance.specs.Ranks.{ranked}
+use Rattle.tv_instance.specs.Steps.{declared_depths, strategy_of}
 use Rattle.tv_model.specs.Meanings.{nesting_limit}
-pub use Rattle.tv_depths.specs.CheckedDepths.{StepDepths, link_depth, merged_depth, constant_depth, feed_depth, port_depth, step_depths, steps_depths, flow_depths, output_depths}
+pub use Rattle.tv_instance.specs.CheckedDepths.{StepDepths, link_depth, merged_depth, constant_depth, feed_depth, port_depth, step_depths, steps_depths, flow_depths, output_depths}
 
 abbrev pub AllAre : ℕ → List ℕ → Type 0
 AllAre d [] = Unit {0}

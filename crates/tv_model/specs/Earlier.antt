@@ -1,9 +1,9 @@
 -- That the needs of a job name only jobs of steps that were taken earlier.
 use Rattle.std.specs.List.{list_any}
 use Rattle.std.specs.Prelude.{Bool, List, [], flat_map, true, ◌∷◌, ◌≡◌}
+use Rattle.tv_lemmas.specs.Members.{Each}
 use Rattle.tv_value.specs.Orders.{same_job}
 use Rattle.tv_value.specs.Values.{JobName}
-use Rattle.tv_strategy.specs.Sources.{Each}
 use Rattle.tv_model.specs.Jobs.{job_needs}
 use Rattle.tv_model.specs.Made.{Made, Opened}
 

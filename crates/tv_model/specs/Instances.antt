@@ -9,9 +9,9 @@ use Rattle.tv_flow.specs.Flows.{Flow, Step, StepInput}
 use Rattle.tv_strategy.specs.Iterations.{Iteration, iteration, job, passed}
 use Rattle.tv_strategy.specs.Measures.{strategy_depth}
 use Rattle.tv_strategy.specs.Origins.{Origin, Traced, input_value, plain}
-use Rattle.tv_dispatch.specs.Jobs.{Fate, error_results, fault_makers, opens, right, taken, tries, wrong}
-use Rattle.tv_depths.specs.Delivered.{Delivered, ported}
-use Rattle.tv_depths.specs.Steps.{bound_values, declared_depths, node_origin, port_iteration, port_mismatch, spot, strategy_of}
+use Rattle.tv_dispatch.specs.Jobs.{Fate, error_results, fault_makers, opens, right, take_tries, tries, wrong}
+use Rattle.tv_instance.specs.Delivered.{Delivered, at_port}
+use Rattle.tv_instance.specs.Steps.{bound_values, declared_depths, node_origin, port_iteration, port_mismatch, spot, strategy_of}
 use Rattle.tv_model.specs.Jobs.{Job, bounced_end, failed_end, good_end}
 use Rattle.tv_model.specs.Made.{Made, Meaning, Opened, delivered_outputs, endings, feed_value}
 
@@ -31,9 +31,26 @@ zip_names [] vs = []
 zip_names (i ∷ is) [] = []
 zip_names (i ∷ is) (v ∷ vs) = (i.0, plain v) ∷ zip_names is vs
 
+-- a job whose inputs hold a fault
+abbrev pub bounced_job : JobName → Name → Step → List Origin → Place → List Traced → Job
+bounced_job instance n s waits q inputs =
+    let name = spot instance n q in
+    record {
+      name = name;
+      instance = instance;
+      step = n;
+      limit = s.jobs;
+      inputs = inputs;
+      waits = waits;
+      asks = [];
+      opens = None;
+      ending = bounced_end;
+      result = error_results name (codes "bounced") (fault_makers (map plain inputs))
+          (declared_depths s);
+    }
+
 -- `inside` is the meaning of a nested flow under a job's name and on its inputs
-module _ (gives : Giving) (inside : Name → JobName → List (Name × Value) → Meaning)
-    (instance : JobName) where
+module _ (inside : Name → JobName → List (Name × Value) → Meaning) where
   abbrev pub with_fate : Step → Job → Fate → Opened
   with_fate s j (right vs) = record {
     job = record j { ending = good_end; result = vs };
@@ -50,35 +67,21 @@ module _ (gives : Giving) (inside : Name → JobName → List (Name × Value) �
         inside = Some m;
       }
 
-  -- a job whose inputs hold a fault
-  abbrev pub bounced_job : Name → Step → List Origin → Place → List Traced → Job
-  bounced_job n s waits q inputs =
-      let name = spot instance n q in
-      record {
-        name = name;
-        instance = instance;
-        step = n;
-        limit = s.jobs;
-        inputs = inputs;
-        waits = waits;
-        asks = [];
-        opens = None;
-        ending = bounced_end;
-        result = error_results name (codes "bounced") (fault_makers (map plain inputs))
-            (declared_depths s);
-      }
-
+module _ (gives : Giving) (inside : Name → JobName → List (Name × Value) → Meaning) where
   -- the same job by its tries
   abbrev pub tried_job : Step → Job → Opened
   tried_job s j =
-      let t = taken gives [] (tries (map plain j.inputs) (declared_depths s) s.retries 0 s.activities) in
-      with_fate s (record j { asks = t.asks }) t.fate
+      let t = take_tries gives []
+      (tries (map plain j.inputs) (declared_depths s) s.retries 0 s.activities) in
+      with_fate inside s (record j { asks = t.asks }) t.fate
 
+module _ (gives : Giving) (inside : Name → JobName → List (Name × Value) → Meaning)
+    (instance : JobName) where
   -- a job on its bound values
   abbrev pub job_on : Name → Step → List Origin → Place → List Traced → Opened
   job_on n s waits q inputs =
-      let bounced = bounced_job n s waits q inputs in
-      let tried = tried_job s bounced in
+      let bounced = bounced_job instance n s waits q inputs in
+      let tried = tried_job gives inside s bounced in
       if list_any (λ v. holds_fault v) inputs then record { job = bounced; inside = None }
       else tried
 
@@ -92,7 +95,7 @@ module _ (gives : Giving) (inside : Name → JobName → List (Name × Value) �
   -- a step, after those of less rank
   abbrev pub step_made : List (Name × Delivered) → List Made → Name × Step → Made
   step_made given made (n, s) =
-      let ports = map (λ i. (i.0, ported i.1.depth (feed_value given made i.1.from))) s.inputs in
+      let ports = map (λ i. (i.0, at_port i.1.depth (feed_value given made i.1.from))) s.inputs in
       let it = iteration (port_iteration ports) (strategy_of s) in
       let levels = strategy_depth (port_mismatch ports) (strategy_of s) in
       let before = endings made s.after in

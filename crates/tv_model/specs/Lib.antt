@@ -11,13 +11,14 @@ pub mod Agreeing
 pub mod RightDepths
 pub mod Levels
 pub mod Lists
-pub mod Members
 pub mod Earlier
 pub mod Asked
 pub mod Stated
-pub mod TextServices
 pub mod Writing
 pub mod RowsOfIteration
 pub mod RowsOfFaults
 pub mod RowsOfFlows
 pub mod RowsOfSize
+pub mod JobOrder
+pub mod Opening
+pub mod records

@@ -32,7 +32,8 @@ StreamsToNextStep = asked two_steps ≡ codes "p[0]" ∷ codes "q[0]" ∷ codes 
 abbrev pub LimitOfJobsLeavesOrder : Type 0
 LimitOfJobsLeavesOrder =
     (asked (two_steps_with 2) ≡ codes "p[0]" ∷ codes "q[0]" ∷ codes "p[1]" ∷ codes "q[1]" ∷ [])
-    × (line (two_steps_with 2) ≡ codes "{\"outputs\":{\"out\":[\"a\",\"b\"]},\"totals\":{\"attempts\":4,\"bounced\":0,\"failed\":0,\"jobs\":4}}\n")
+    × (line (two_steps_with 2)
+    ≡ codes "{\"outputs\":{\"out\":[\"a\",\"b\"]},\"totals\":{\"attempts\":4,\"bounced\":0,\"failed\":0,\"jobs\":4}}\n")
 
 -- two steps on one input, the second of which may have to run after the first
 abbrev pub side_by_side : List Name → Document
@@ -49,35 +50,57 @@ side_by_side after =
 
 -- all jobs of the first come before those of the second
 abbrev pub RunsAfter : Type 0
-RunsAfter = asked (side_by_side (codes "p" ∷ [])) ≡ codes "p[0]" ∷ codes "p[1]" ∷ codes "q[0]" ∷ codes "q[1]" ∷ []
+RunsAfter = asked (side_by_side (codes "p" ∷ [])) ≡ codes "p[0]" ∷ codes "p[1]" ∷ codes "q[0]"
+    ∷ codes "q[1]" ∷ []
 
 -- else the step of greater rank comes first
 abbrev pub RunsByRank : Type 0
-RunsByRank = asked (side_by_side []) ≡ codes "q[0]" ∷ codes "q[1]" ∷ codes "p[0]" ∷ codes "p[1]" ∷ []
+RunsByRank = asked (side_by_side []) ≡ codes "q[0]" ∷ codes "q[1]" ∷ codes "p[0]"
+    ∷ codes "p[1]" ∷ []
 
 -- what comes first changes no result
 abbrev pub GivesTheSameInEachOrder : Type 0
 GivesTheSameInEachOrder =
-    (line (side_by_side (codes "p" ∷ [])) ≡ codes "{\"outputs\":{\"a\":[\"A\",\"B\"],\"b\":[\"a\",\"b\"]},\"totals\":{\"attempts\":4,\"bounced\":0,\"failed\":0,\"jobs\":4}}\n")
-    × (line (side_by_side []) ≡ codes "{\"outputs\":{\"a\":[\"A\",\"B\"],\"b\":[\"a\",\"b\"]},\"totals\":{\"attempts\":4,\"bounced\":0,\"failed\":0,\"jobs\":4}}\n")
+    (line (side_by_side (codes "p" ∷ []))
+    ≡ codes "{\"outputs\":{\"a\":[\"A\",\"B\"],\"b\":[\"a\",\"b\"]},\"totals\":{\"attempts\":4,\"bounced\":0,\"failed\":0,\"jobs\":4}}\n")
+    × (line (side_by_side [])
+    ≡ codes "{\"outputs\":{\"a\":[\"A\",\"B\"],\"b\":[\"a\",\"b\"]},\"totals\":{\"attempts\":4,\"bounced\":0,\"failed\":0,\"jobs\":4}}\n")
 
 -- names of genes, each once, with a prefix
 abbrev pub gene_names : Document
 gene_names =
     document
     ((codes "genes", 0) ∷ [])
-    (
-    (codes "c", asks (codes "concat") (takes a (constant_text (codes "hsa:")) ∷ takes b (from_step (codes "d")) ∷ []))
-    ∷ (codes "d", record (asks (codes "distinct") (takes_list a (from_step (codes "s")) ∷ [])) { outputs = (o, 1) ∷ [] })
-    ∷ (codes "j", asks (codes "join") (takes_list a (from_step (codes "c")) ∷ takes (codes "s") (constant_text (codes ";")) ∷ []))
-    ∷ (codes "s", record (asks (codes "split") (takes a (from_input (codes "genes")) ∷ takes b (constant_text (codes ",")) ∷ [])) { outputs = (o, 1) ∷ [] })
+    ((
+      codes "c",
+      asks (codes "concat")
+          (takes a (constant_text (codes "hsa:")) ∷ takes b (from_step (codes "d")) ∷ []),
+    )
+    ∷ (
+      codes "d",
+      record (asks (codes "distinct") (takes_list a (from_step (codes "s")) ∷ [])) {
+        outputs = (o, 1) ∷ [];
+      },
+    )
+    ∷ (
+      codes "j",
+      asks (codes "join")
+          (takes_list a (from_step (codes "c")) ∷ takes (codes "s") (constant_text (codes ";")) ∷ []),
+    )
+    ∷ (
+      codes "s",
+      record (asks (codes "split")
+          (takes a (from_input (codes "genes")) ∷ takes b (constant_text (codes ","))
+          ∷ [])) { outputs = (o, 1) ∷ [] },
+    )
     ∷ []
     )
     (out (codes "j"))
     ((codes "genes", text_value (codes "BRCA1,TP53,BRCA1")) ∷ [])
 
 abbrev pub JoinsGeneNames : Type 0
-JoinsGeneNames = line gene_names ≡ codes "{\"outputs\":{\"out\":\"hsa:BRCA1;hsa:TP53\"},\"totals\":{\"attempts\":5,\"bounced\":0,\"failed\":0,\"jobs\":5}}\n"
+JoinsGeneNames = line gene_names
+    ≡ codes "{\"outputs\":{\"out\":\"hsa:BRCA1;hsa:TP53\"},\"totals\":{\"attempts\":5,\"bounced\":0,\"failed\":0,\"jobs\":5}}\n"
 
 -- ---- a nested flow
 
@@ -89,7 +112,13 @@ opening =
       codes "m",
       record {
         inputs = (x, 1) ∷ [];
-        steps = (codes "n", record (asks (codes "s") (takes a (from_input x) ∷ [])) { activities = nested (codes "s") ∷ []; jobs = 2 }) ∷ [];
+        steps = (
+          codes "n",
+          record (asks (codes "s") (takes a (from_input x) ∷ [])) {
+            activities = nested (codes "s") ∷ [];
+            jobs = 2;
+          },
+        ) ∷ [];
         outputs = out (codes "n");
       },
     )
@@ -107,7 +136,8 @@ opening =
 
 -- both the jobs that open flows and those inside are counted
 abbrev pub OpensFlowForEachItem : Type 0
-OpensFlowForEachItem = line opening ≡ codes "{\"outputs\":{\"out\":[\"A\",\"B\",\"C\"]},\"totals\":{\"attempts\":3,\"bounced\":0,\"failed\":0,\"jobs\":6}}\n"
+OpensFlowForEachItem = line opening
+    ≡ codes "{\"outputs\":{\"out\":[\"A\",\"B\",\"C\"]},\"totals\":{\"attempts\":3,\"bounced\":0,\"failed\":0,\"jobs\":6}}\n"
 
 abbrev pub AsksInsideFlows : Type 0
 AsksInsideFlows = asked opening ≡ codes "n[0]/u[]" ∷ codes "n[1]/u[]" ∷ codes "n[2]/u[]" ∷ []
@@ -115,7 +145,8 @@ AsksInsideFlows = asked opening ≡ codes "n[0]/u[]" ∷ codes "n[1]/u[]" ∷ co
 -- ---- where outputs come from
 
 abbrev pub LineageOfCross : Type 0
-LineageOfCross = made_from two_lists (codes "out") (1 ∷ 0 ∷ []) ≡ Some (codes "x[1]" ∷ codes "y[0]" ∷ [])
+LineageOfCross = made_from two_lists (codes "out") (1 ∷ 0 ∷ [])
+    ≡ Some (codes "x[1]" ∷ codes "y[0]" ∷ [])
 
 abbrev pub HasNoSuchElement : Type 0
 HasNoSuchElement = made_from two_lists (codes "out") (2 ∷ []) ≡ None

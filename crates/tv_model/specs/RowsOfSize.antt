@@ -29,23 +29,48 @@ generated n =
         codes "main",
         record {
           inputs = (x, 1) ∷ (y, 1) ∷ [];
-          steps =
-              (codes "c", record (asks (codes "concat") (takes a (from_input x) ∷ takes b (from_input y) ∷ [])) { jobs = 8 })
-              ∷ (codes "f", record (asks (codes "flaky") (takes a (from_step (codes "c")) ∷ takes (codes "n") (constant_text (codes "1")) ∷ [])) { retries = 1; jobs = 8 })
-              ∷ (codes "g", record (asks (codes "fail_if") (takes a (from_step (codes "f")) ∷ [])) { jobs = 8 })
-              ∷ (codes "n", record (asks (codes "sub") (takes a (from_step (codes "g")) ∷ [])) { activities = nested (codes "sub") ∷ []; jobs = 4 })
-              ∷ [];
+          steps = (
+            codes "c",
+            record (asks (codes "concat")
+                (takes a (from_input x) ∷ takes b (from_input y) ∷ [])) { jobs = 8 },
+          )
+              ∷ (
+                codes "f",
+                record (asks (codes "flaky")
+                    (takes a (from_step (codes "c")) ∷ takes (codes "n") (constant_text (codes "1"))
+                    ∷ [])) { retries = 1; jobs = 8 },
+              )
+              ∷ (
+                codes "g",
+                record (asks (codes "fail_if") (takes a (from_step (codes "f")) ∷ [])) {
+                  jobs = 8;
+                },
+              )
+              ∷ (
+                codes "n",
+                record (asks (codes "sub") (takes a (from_step (codes "g")) ∷ [])) {
+                  activities = nested (codes "sub") ∷ [];
+                  jobs = 4;
+                },
+              ) ∷ [];
           outputs = out (codes "n");
         },
       )
-          ∷ (codes "sub", record { inputs = (a, 0) ∷ []; steps = (codes "u", asks (codes "upper") (takes a (from_input a) ∷ [])) ∷ []; outputs = (o, from_step (codes "u")) ∷ [] })
-          ∷ [];
+          ∷ (
+            codes "sub",
+            record {
+              inputs = (a, 0) ∷ [];
+              steps = (codes "u", asks (codes "upper") (takes a (from_input a) ∷ [])) ∷ [];
+              outputs = (o, from_step (codes "u")) ∷ [];
+            },
+          ) ∷ [];
       inputs = (x, texts_to n outer_text) ∷ (y, texts_to n inner_text) ∷ [];
     }
 
 abbrev pub LineOfOne : Type 0
 LineOfOne =
-    line (generated 1) ≡ codes "{\"outputs\":{\"out\":[[{\"error\":{\"at\":\"n[0,0]\",\"depth\":0,\"from\":[\"g[0,0]\"],\"why\":\"bounced\"}}]]},\"totals\":{\"attempts\":4,\"bounced\":1,\"failed\":1,\"jobs\":4}}\n"
+    line (generated 1)
+    ≡ codes "{\"outputs\":{\"out\":[[{\"error\":{\"at\":\"n[0,0]\",\"depth\":0,\"from\":[\"g[0,0]\"],\"why\":\"bounced\"}}]]},\"totals\":{\"attempts\":4,\"bounced\":1,\"failed\":1,\"jobs\":4}}\n"
 
 abbrev pub TotalsOfThree : Type 0
 TotalsOfThree = totals (meant (generated 3)).jobs ≡ record {

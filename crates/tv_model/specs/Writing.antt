@@ -5,12 +5,12 @@ use Rattle.tv_value.specs.Nested.{Place, trees_of}
 use Rattle.tv_value.specs.Printed.{element_text, job_text}
 use Rattle.tv_value.specs.Strategies.{Strategy, dot, no_strategies, port, strategy}
 use Rattle.tv_value.specs.Values.{Name, Text, Value, list_value, text_value}
+use Rattle.tv_local.specs.LocalGives.{local_gives}
 use Rattle.tv_flow.specs.Flows.{Document, Feed, Flow, Step, StepInput, constant, input, link, output}
 use Rattle.tv_model.specs.Lineages.{forward, lineage_of}
 use Rattle.tv_model.specs.Made.{Meaning}
 use Rattle.tv_model.specs.Meanings.{meaning}
 use Rattle.tv_model.specs.Results.{result_line}
-use Rattle.tv_model.specs.TextServices.{text_services}
 use Rattle.tv_model.specs.Turns.{ask_order}
 
 -- ---- names and values
@@ -90,7 +90,7 @@ out s = (codes "out", from_step s) ∷ []
 -- ---- what is told
 
 abbrev pub meant : Document → Meaning
-meant d = meaning text_services d
+meant d = meaning local_gives d
 
 abbrev pub line : Document → Text
 line d = result_line (meant d)

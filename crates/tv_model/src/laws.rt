@@ -1,6 +1,8 @@
 //! What holds of the definitions alone: each law is the clause of a function that does nothing.
 ghost use Rattle.tv_model.specs.Stated.{NeedsAreEarlier, OrderHasAllAsks, TotalsAreSums};
 
+pub mod records;
+
 /// The needs of a job name only jobs of its own instance, of steps that were taken earlier.
 pub fn needs_are_earlier()
     ensures { NeedsAreEarlier }

@@ -4,7 +4,8 @@
 //! for the contracts of the crates above; the program runs nothing of them. `specs/Meanings.antt` has the meaning of a
 //! flow and of a document, made of one step after another (`specs/Instances.antt`) by the definitions of `tv_depths`,
 //! `tv_strategy` and `tv_dispatch`; beside it stand the order of one worker (`specs/Turns.antt`), the totals, lineage
-//! and the result line.
+//! and the result line. `specs/JobOrder.antt` compares two jobs at the first level where their names differ, and
+//! `specs/records/` says that the records of a meaning's jobs lead to its lineage (`laws::records`).
 //!
 //! - `laws`: what holds of these definitions, for every flow and all services
 //! - `totals`: totals as the code counts them

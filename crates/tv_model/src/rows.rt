@@ -1,8 +1,8 @@
 //! Worked documents, each with its result line, the order of its asks or the lineage of its outputs: they compute.
 //!
 //! Each stands in a file of `specs/` by its subject (`RowsOfIteration.antt`, `RowsOfFaults.antt`, `RowsOfFlows.antt`,
-//! `RowsOfSize.antt`), in the words of `specs/Writing.antt`, over the services of
-//! `specs/TextServices.antt`. A wrong definition gives another line, which the check refuses.
+//! `RowsOfSize.antt`), in the words of `specs/Writing.antt`, over the local services (`specs/LocalGives.antt` of
+//! `tv_local`). A wrong definition gives another line, which the check refuses.
 ghost use Rattle.tv_model.specs.RowsOfFaults.{BouncesOneItem, CrossesEmptyListWithFault, CrossesListWithFault, FailsAfterRetries, FailsOver, PairsWithFault, PassesFaultOfList, RetriesUntilRight, TellsDepthOfValue, TellsErrorInValue, TellsNumberOfValues};
 ghost use Rattle.tv_model.specs.RowsOfFlows.{AsksInsideFlows, ForwardOfCross, ForwardThroughFlow, GivesTheSameInEachOrder, HasNoSuchElement, JoinsGeneNames, LimitOfJobsLeavesOrder, LineageOfCross, LineageThroughFlow, LineageThroughSteps, OpensFlowForEachItem, RunsAfter, RunsByRank, StreamsToNextStep};
 ghost use Rattle.tv_model.specs.RowsOfIteration.{CapitalsOfText, CrossesTwoLists, CrossesWithEmptyInnerList, CrossesWithEmptyOuterList, MergesTwoTexts, PairsToShorter, ReadsNumbersAsTexts, WalksEmptyList, WalksNestedLists, WrapsTextInList};

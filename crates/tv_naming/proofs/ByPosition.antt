@@ -5,33 +5,21 @@ use Rattle.std.specs.Ordering.{is_lt, ordering_reverse}
 use Rattle.std.specs.List.{list_all}
 use Rattle.std.specs.List.Sorted.{IsSearchInRange, IsBinarySearchResult, IsSortedBy, IsPartitionPoint}
 use Rattle.std.proofs.Common.{arith, get_or, ap, sym, subst, ◌∙◌, Less, Equal, Greater, inl, inr, ◌⊎◌}
-use Rattle.std.proofs.lemmas.Bool.{eqb-true, cases_lt, and_parts}
-use Rattle.std.proofs.lemmas.Cmp.{nat_list_cmp_total, nat_list_eq_equiv, tied_itself}
+use Rattle.std.proofs.lemmas.Bool.{cases_lt, and_parts}
+use Rattle.std.proofs.lemmas.Cmp.{nat_list_cmp_total, tied_itself}
 use Rattle.std.proofs.lemmas.Map.Lookups.{exact_bytes}
 use Rattle.std.proofs.lemmas.List.Sorted.{searchable_from_sorted}
 use Rattle.tv_lemmas.proofs.Numbers.{none-below}
 use Rattle.tv_lemmas.proofs.Orderings.{is_lt-less}
 use Rattle.tv_value.specs.Values.{Name}
 use Rattle.tv_value.specs.Orders.{name_cmp, same_name, named}
-use Rattle.tv_value.proofs.OfNames.{same_name-refl}
+use Rattle.tv_value.proofs.OfNames.{same_name-is, same_name-refl}
 use Rattle.tv_flow.specs.Formed.{is_ascending}
 use Rattle.tv_naming.specs.Naming.{has_name}
 use Rattle.tv_naming.specs.Numbers.{number_in, position}
+use Rattle.tv_flow.specs.Views.{each}
 
 -- ---- equal names
-
-pub same_name-is : (n m : Name) → same_name n m ≡ true → n ≡ m
-same_name-is [] [] e = refl
-same_name-is [] (y ∷ ys) e = cc
-same_name-is (x ∷ xs) [] e = cc
-same_name-is (x ∷ xs) (y ∷ ys) e =
-    let h = and_parts _ _ e in
-    let p : x ≡ y = eqb-true x y h.0 in
-    let q : xs ≡ ys = same_name-is xs ys h.1 in
-    cc
-
-pub same_name-sym : (n m : Name) → same_name n m ≡ same_name m n
-same_name-sym n m = nat_list_eq_equiv.symm n m
 
 -- names of which one is less are different
 pub below-differs : (m n : Name) → name_cmp m n ≡ Less → same_name n m ≡ false
@@ -151,3 +139,9 @@ module _ {A : Type 0} where
 
   pub number-there : (xs : List (Name × A)) (n : Name) → has_name xs n ≡ true → number_in xs n ≡ Some (position n xs)
   number-there xs n h = ap (λ b. if b then Some (position n xs) else None) h
+
+-- ---- a list of other things under the same names
+
+pub position-each : {A B : Type 0} (g : A → B) (n : Name) (xs : List (Name × A)) → position n (each g xs) ≡ position n xs
+position-each g n [] = refl
+position-each g n (x ∷ xs) = ap (λ k. if same_name n x.0 then 0 else suc k) (position-each g n xs)

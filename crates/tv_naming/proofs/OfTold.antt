@@ -2,7 +2,7 @@
 use Rattle.std.proofs.Common.{◌≡◌, ◌∙◌, refl, sym, ap, subst, ℕ, zero, suc, ◌<◌, ◌≤◌, ◌+◌, List, [], ◌∷◌, ◌++◌, length, take, flat_map, Some, arith, get_or, slice_get, le_of_suc-le-suc}
 use Rattle.tv_lemmas.proofs.Lists.{append-none, get-read}
 use Rattle.tv_lemmas.proofs.Numbers.{none-after}
-use Rattle.tv_naming.specs.Faulty.{Complaint, first_of}
+use Rattle.tv_naming.specs.Faulty.{CheckComplaint, first_of}
 use Rattle.tv_naming.specs.FaultViews.{fault_view}
 use Rattle.tv_naming.specs.Naming.{numbered}
 use Rattle.tv_naming.specs.declared.faults.CheckRefused.{CheckRefused}
@@ -10,20 +10,20 @@ use Rattle.tv_naming.specs.declared.faults.CheckRefused.TheVariants.{Check, NoMe
 use Rattle.tv_naming.specs.Told.{StopsAt}
 
 -- the first of a list is the first of a longer one
-pub first-left : (xs ys : List Complaint) (c : Complaint) → first_of xs ≡ Some c → first_of (xs ++ ys) ≡ Some c
+pub first-left : (xs ys : List CheckComplaint) (c : CheckComplaint) → first_of xs ≡ Some c → first_of (xs ++ ys) ≡ Some c
 first-left [] ys c e = cc
 first-left (x ∷ xs) ys c e = e
 
-pub stops-left : (xs ys : List Complaint) (e : CheckRefused) → StopsAt xs e → StopsAt (xs ++ ys) e
+pub stops-left : (xs ys : List CheckComplaint) (e : CheckRefused) → StopsAt xs e → StopsAt (xs ++ ys) e
 stops-left xs ys (Check f) h = first-left xs ys (fault_view f) h
 stops-left xs ys NoMemory h = tt
 
-pub stops-right : (xs ys : List Complaint) (e : CheckRefused) → xs ≡ [] → StopsAt ys e → StopsAt (xs ++ ys) e
+pub stops-right : (xs ys : List CheckComplaint) (e : CheckRefused) → xs ≡ [] → StopsAt ys e → StopsAt (xs ++ ys) e
 stops-right xs ys e n h = subst (λ zs. StopsAt (zs ++ ys) e) (sym n) h
 
 -- ---- item by item
 
-module _ {A : Type 0} (g : A → List Complaint) where
+module _ {A : Type 0} (g : A → List CheckComplaint) where
   -- nothing is said of the first so many
   abbrev pub Silent : List A → ℕ → Type 0
   Silent xs i = flat_map g (take i xs) ≡ []

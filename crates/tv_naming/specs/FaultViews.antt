@@ -32,7 +32,7 @@ spot_view (spot.After f s k) = told.at_after f s k
 spot_view (spot.FlowOutput f p) = told.at_flow_output f p
 spot_view (spot.Given p) = told.at_given p
 
-abbrev pub fault_view : CheckFault → told.Complaint
+abbrev pub fault_view : CheckFault → told.CheckComplaint
 fault_view c = record {
   kind = kind_view c.kind;
   spot = spot_view c.spot;

@@ -30,21 +30,21 @@ pub data Where : Type 0 where
   at_given : Name → Where
 
 -- a complaint, with two numbers that are 0 where its kind has none
-pub record Complaint : Type 0 where
+pub record CheckComplaint : Type 0 where
   pub kind : Kind
   pub spot : Where
   pub first : ℕ
   pub second : ℕ
 
 -- one with no numbers
-abbrev pub plainly : Kind → Where → Complaint
+abbrev pub plainly : Kind → Where → CheckComplaint
 plainly k w = record { kind = k; spot = w; first = 0; second = 0 }
 
 -- one with two numbers
-abbrev pub with_numbers : Kind → Where → ℕ → ℕ → Complaint
+abbrev pub with_numbers : Kind → Where → ℕ → ℕ → CheckComplaint
 with_numbers k w a b = record { kind = k; spot = w; first = a; second = b }
 
 -- the first of these, where there is one
-abbrev pub first_of : List Complaint → Option Complaint
+abbrev pub first_of : List CheckComplaint → Option CheckComplaint
 first_of [] = None
 first_of (c ∷ cs) = Some c

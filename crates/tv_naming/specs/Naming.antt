@@ -8,7 +8,7 @@ use Rattle.tv_value.specs.Strategies.{Strategy}
 use Rattle.tv_value.specs.Activities.{Activity, service, nested}
 use Rattle.tv_flow.specs.Flows.{Link, input, output, Feed, link, merge, constant, StepInput, Step, Flow, Document}
 use Rattle.tv_strategy.specs.Measures.{leaf_names}
-use Rattle.tv_naming.specs.Faulty.{no_such_port, no_such_service, no_such_flow, strategy_ports, Where, at_main, at_step, at_input, at_activity, at_after, at_flow_output, Complaint, plainly}
+use Rattle.tv_naming.specs.Faulty.{no_such_port, no_such_service, no_such_flow, strategy_ports, Where, at_main, at_step, at_input, at_activity, at_after, at_flow_output, CheckComplaint, plainly}
 
 -- whether a list has a thing of this name
 abbrev pub has_name : {A : Type 0} → List (Name × A) → Name → Bool
@@ -24,12 +24,12 @@ abbrev pub is_there : Flow → Link → Bool
 is_there f (input x) = has_name f.inputs x
 is_there f (output s p) = option_map_or (λ t. has_name t.outputs p) (named s f.steps) false
 
-abbrev pub complain_if : Bool → Complaint → List Complaint
+abbrev pub complain_if : Bool → CheckComplaint → List CheckComplaint
 complain_if true c = c ∷ []
 complain_if false c = []
 
 -- each link of a feed, in order
-abbrev pub link_complaints : Flow → Where → Feed → List Complaint
+abbrev pub link_complaints : Flow → Where → Feed → List CheckComplaint
 link_complaints f w feed = flat_map (λ l. complain_if (not (is_there f l)) (plainly no_such_port w))
     (feed_links feed)
 
@@ -46,40 +46,40 @@ abbrev pub numbered : {A : Type 0} → ℕ → List A → List (ℕ × A)
 numbered k [] = []
 numbered k (x ∷ xs) = (k, x) ∷ numbered (suc k) xs
 
-abbrev pub input_complaints : Name → Flow → Name → Name × StepInput → List Complaint
+abbrev pub input_complaints : Name → Flow → Name → Name × StepInput → List CheckComplaint
 input_complaints f flow n i = link_complaints flow (at_input f n i.0) i.1.from
 
-abbrev pub strategy_complaints : Name → Name × Step → List Complaint
+abbrev pub strategy_complaints : Name → Name × Step → List CheckComplaint
 strategy_complaints f (n, s) = option_map_or (λ t. complain_if (not (fits_ports s t))
     (plainly strategy_ports (at_step f n))) s.strategy []
 
-abbrev pub after_complaints : Name → Flow → Name → ℕ × Name → List Complaint
+abbrev pub after_complaints : Name → Flow → Name → ℕ × Name → List CheckComplaint
 after_complaints f flow n (k, a) = complain_if (not (has_name flow.steps a))
     (plainly no_such_port (at_after f n k))
 
-abbrev pub output_complaints : Name → Flow → Name × Feed → List Complaint
+abbrev pub output_complaints : Name → Flow → Name × Feed → List CheckComplaint
 output_complaints f flow o = link_complaints flow (at_flow_output f o.0) o.1
 
 module _ (knows : Name → Bool) (d : Document) where
-  abbrev pub activity_complaints : Name → Name → ℕ × Activity → List Complaint
+  abbrev pub activity_complaints : Name → Name → ℕ × Activity → List CheckComplaint
   activity_complaints f n (k, service a) = complain_if (not (knows a))
       (plainly no_such_service (at_activity f n k))
   activity_complaints f n (k, nested g) = complain_if (not (has_name d.flows g))
       (plainly no_such_flow (at_activity f n k))
 
   -- a step: the links of its inputs, its strategy, its activities, and the steps that it runs after
-  abbrev pub step_naming : Name → Flow → Name × Step → List Complaint
+  abbrev pub step_naming : Name → Flow → Name × Step → List CheckComplaint
   step_naming f flow (n, s) =
       flat_map (input_complaints f flow n) s.inputs
       ++ strategy_complaints f (n, s)
       ++ flat_map (activity_complaints f n) (numbered 0 s.activities)
       ++ flat_map (after_complaints f flow n) (numbered 0 s.after)
 
-  abbrev pub flow_naming : Name × Flow → List Complaint
+  abbrev pub flow_naming : Name × Flow → List CheckComplaint
   flow_naming (f, flow) = flat_map (step_naming f flow) flow.steps
       ++ flat_map (output_complaints f flow) flow.outputs
 
   -- the main flow, and then the flows in order
-  abbrev pub naming_complaints : List Complaint
+  abbrev pub naming_complaints : List CheckComplaint
   naming_complaints = complain_if (not (has_name d.flows d.main)) (plainly no_such_flow at_main)
       ++ flat_map flow_naming d.flows

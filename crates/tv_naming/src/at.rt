@@ -1,6 +1,6 @@
 //! Places in a document while it is checked.
 ghost use Rattle.std.specs.Prelude.{◌≡◌, [], ◌∷◌, IfOk, Err};
-ghost use Rattle.tv_naming.specs.Faulty.{with_numbers, Complaint};
+ghost use Rattle.tv_naming.specs.Faulty.{with_numbers, CheckComplaint};
 ghost use Rattle.tv_naming.specs.FaultViews.{kind_view, spot_view, fault_view};
 ghost use Rattle.tv_naming.specs.AtViews.{at_view};
 ghost use Rattle.tv_naming.specs.Told.{StopsAt};

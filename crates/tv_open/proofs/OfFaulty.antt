@@ -3,8 +3,10 @@ use Rattle.std.specs.Prelude.{◌≡◌, refl, ℕ, ◌+◌, ◌<◌, ◌≤◌,
 use Rattle.std.proofs.Common.{ap, arith, length-append, subst, sym, ◌∙◌}
 use Rattle.std.proofs.lemmas.Bool.{ltb-false, ltb-true}
 use Rattle.std.proofs.lemmas.Option.{get_or_from_slice_get, same_Some, slice_get_within}
+use Rattle.tv_lemmas.specs.Members.{In}
 use Rattle.tv_lemmas.proofs.Cases.{on_test}
-use Rattle.tv_lemmas.proofs.Lists.{get-within}
+use Rattle.tv_lemmas.proofs.Lists.{get-within, in-front, in-behind}
+use Rattle.tv_lemmas.proofs.OfMembers.{get-in}
 use Rattle.tv_value.specs.Values.{Name}
 use Rattle.tv_flow.specs.Flows.{Document, Step}
 use Rattle.tv_naming.specs.Numbers.{position}
@@ -12,16 +14,14 @@ use Rattle.tv_naming.proofs.FormedParts.{steps-ascend}
 use Rattle.tv_check.specs.declared.plans.FlowPlan.{FlowPlan}
 use Rattle.tv_outputs.specs.Known.{Nodes}
 use Rattle.tv_spread.specs.Spreads.{is_faulty_now}
-use Rattle.tv_model.specs.Members.{In}
 use Rattle.tv_framing.specs.Views.{View}
-use Rattle.tv_drawn.specs.Steps.{IsStepAt}
-use Rattle.tv_turn.specs.FirstReady.{by_falling_rank}
-use Rattle.tv_turn.proofs.OfRanks.{has-number, number-of}
+use Rattle.tv_framing.specs.matches.Steps.{IsStepAt}
+use Rattle.tv_framing.specs.turns.FirstReady.{by_falling_rank}
+use Rattle.tv_framing.proofs.turns.OfRanks.{has-number, number-of}
 use Rattle.tv_frame.specs.Ready.{IsFirstOfStep}
 use Rattle.tv_frame.specs.Tables.{levels_in}
 use Rattle.tv_frame.proofs.OfKeeping.{kept-ranked, kept-wired}
 use Rattle.tv_seats.specs.Seats.{Seat}
-use Rattle.tv_seated.proofs.OfLists.{in-behind, in-front, place-of}
 use Rattle.tv_open.specs.Firsts.{BindsFault, IsFirstFaulty, IsReadySeat}
 use Rattle.tv_open.specs.Quiet.{AreGoing}
 use Rattle.tv_open.specs.Standing.{IsOpen}
@@ -103,7 +103,7 @@ module _ (d : Document) (plan : FlowPlan) (pool : Nodes) (o : Open) (v : View) (
       let rise = steps-ascend v.flow (kept-ranked d.flows plan pool o.frame v io.keeps).formed in
       let t = its-step-at d plan pool o v io n s e in
       let wired = kept-wired d.flows plan pool o.frame v io.keeps in
-      place-of s.step (by_falling_rank v.flow)
+      get-in s.step (by_falling_rank v.flow)
       (subst (λ m. In m (by_falling_rank v.flow)) (number-of v.flow.steps s.step t.0 rise t.1)
       (has-number v.flow.steps (λ u. position u.0 v.flow.steps) rise wired.ranked s.step t.0 t.1))
 

@@ -11,8 +11,8 @@ use Rattle.std.proofs.lemmas.List.MinMax.{ranks_by}
 use Rattle.std.proofs.lemmas.Option.{slice_get_within}
 use Rattle.tv_lemmas.proofs.Cases.{on_either}
 use Rattle.tv_value.specs.Nested.{Place}
-use Rattle.tv_order.specs.JobOrder.{place_before}
-use Rattle.tv_turn.proofs.OfRanks.{place-is}
+use Rattle.tv_model.specs.JobOrder.{place_before}
+use Rattle.tv_framing.proofs.turns.OfRanks.{place-is}
 use Rattle.tv_seats.specs.Firsts.{IsFirstAsideOf, IsFirstOf}
 use Rattle.tv_seats.specs.Seats.{Seat, place_at}
 use Rattle.tv_seats.specs.Stages.{is_aside, is_idle}

@@ -3,30 +3,30 @@ use Rattle.std.specs.Option.{option_map_or}
 use Rattle.std.specs.Prelude.{◌≡◌, ℕ, ◌<◌, ◌≤◌, Bool, false, List, [], Option, None, Some, get_or, length, slice_get}
 use Rattle.std.proofs.Common.{ap, arith, subst, sym, ◌∙◌}
 use Rattle.std.proofs.lemmas.List.{length-map}
+use Rattle.tv_lemmas.specs.Members.{Each}
+use Rattle.tv_lemmas.proofs.OfMembers.{each_in}
+use Rattle.tv_lemmas.proofs.Lists.{get-map}
 use Rattle.tv_value.specs.Nested.{Place}
 use Rattle.tv_value.specs.Values.{Name}
 use Rattle.tv_flow.specs.Flows.{Document, Step}
 use Rattle.tv_flow.specs.Views.{flow_view, step_view}
 use Rattle.tv_flow.specs.declared.document.Step.{Step as CodeStep}
-use Rattle.tv_strategy.specs.Sources.{Each}
 use Rattle.tv_naming.proofs.OfTold.{got-in}
 use Rattle.tv_check.specs.declared.plans.FlowPlan.{FlowPlan}
 use Rattle.tv_outputs.specs.Known.{Nodes}
 use Rattle.tv_spread.specs.Spreads.{is_faulty_now}
-use Rattle.tv_matching.proofs.OfMembers.{each-in}
 use Rattle.tv_instance.specs.ByResults.{InstanceStep}
 use Rattle.tv_framing.specs.Answers.{IsReadyJob}
 use Rattle.tv_framing.specs.Views.{View, steps_with}
 use Rattle.tv_framing.proofs.OfPossible.{some-possible}
-use Rattle.tv_order.specs.JobOrder.{place_before}
-use Rattle.tv_drawn.specs.Steps.{IsStepAt}
+use Rattle.tv_model.specs.JobOrder.{place_before}
+use Rattle.tv_framing.specs.matches.Steps.{IsStepAt}
 use Rattle.tv_frame.specs.Calls.{HoldsError, HoldsErrorAt, holds_error}
 use Rattle.tv_frame.specs.Ready.{IsFirstOfStep, IsReadyWith}
 use Rattle.tv_frame.specs.Tables.{levels_in}
 use Rattle.tv_frame.proofs.OfJobs.{job-is, said-holds}
 use Rattle.tv_seats.specs.Seats.{Seat, running_count}
-use Rattle.tv_seated.specs.Seated.{spot_of}
-use Rattle.tv_seated.proofs.OfLists.{get-image}
+use Rattle.tv_forest.specs.seats.Seated.{spot_of}
 use Rattle.tv_open.specs.Firsts.{BindsFault, CanBegin, IsFirstAt, IsReadySeat, step_limit}
 use Rattle.tv_open.specs.Standing.{IsOpen}
 use Rattle.tv_open.specs.declared.open.Open.{Open}
@@ -52,10 +52,7 @@ module _ (d : Document) (plan : FlowPlan) (pool : Nodes) (o : Open) (v : View) (
         job-is d.flows plan pool o.frame v io.keeps n s.step s.place (known-at d plan pool o v io n s there) [] r.0 r.1 r.2 in
         let at : (e : Bool) → BindsFault v s e → e ≡ holds_error j.job =
         λ e p.
-        each-in (HoldsErrorAt (spot_of v.flow.steps s) e) j.job j.step.jobs
-        (each-in (λ (f : InstanceStep). Each (HoldsErrorAt (spot_of v.flow.steps s) e) f.jobs) j.step (steps_with v [] r.0)
-        (p [] r.0 r.1 r.2) j.among)
-        j.of_step j.name j.place in
+        each_in (HoldsErrorAt (spot_of v.flow.steps s) e) j.step.jobs (each_in (λ (f : InstanceStep). Each (HoldsErrorAt (spot_of v.flow.steps s) e) f.jobs) (steps_with v [] r.0) (p [] r.0 r.1 r.2) j.step j.among) j.job j.of_step j.name j.place in
         at b h ∙ sym (at c k)
 
     pub said-is : (b : Bool) → BindsFault v s b → is_faulty_now o.frame.intakes (s.step, s.place) ≡ b
@@ -144,4 +141,4 @@ limit-is plan seen all n low x is =
     ap (λ (y : Name × CodeStep). y.1.jobs) (sym is)
     ∙ sym
     (ap (λ o. option_map_or (λ (s : Name × Step). s.1.jobs) o 0)
-    (get-image (λ (y : Name × CodeStep). (y.0, step_view y.1)) plan.flow.steps n x there))
+    (get-map (λ (y : Name × CodeStep). (y.0, step_view y.1)) plan.flow.steps n x there))

@@ -10,7 +10,7 @@ use Rattle.tv_intake.specs.Intaken.{known_jobs}
 use Rattle.tv_instance.specs.Events.{gave, is_taken}
 use Rattle.tv_framing.specs.Answers.{IsReadyJob}
 use Rattle.tv_framing.specs.Views.{View}
-use Rattle.tv_drawn.specs.Steps.{IsStepAt}
+use Rattle.tv_framing.specs.matches.Steps.{IsStepAt}
 use Rattle.tv_frame.specs.Calls.{Brings, GoesOn, IsReadyToBounce}
 use Rattle.tv_frame.specs.declared.frame.Frame.{Frame}
 use Rattle.tv_frame.specs.Kept.{Keeps}

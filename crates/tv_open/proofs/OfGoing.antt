@@ -5,23 +5,22 @@ use Rattle.std.proofs.lemmas.Bool.{eqb-true, ltb-false, ltb-true, true≢false}
 use Rattle.std.proofs.lemmas.List.{length-map, take-append-drop}
 use Rattle.std.proofs.lemmas.Option.{get_or_from_slice_get, none-some, same_Some, slice_get_within}
 use Rattle.tv_lemmas.proofs.Cases.{on_test}
-use Rattle.tv_lemmas.proofs.Lists.{get-within}
+use Rattle.tv_lemmas.proofs.Lists.{get-within, in-front}
 use Rattle.tv_value.specs.Values.{Name}
 use Rattle.tv_flow.specs.Flows.{Document, Step}
 use Rattle.tv_check.specs.declared.plans.FlowPlan.{FlowPlan}
 use Rattle.tv_outputs.specs.Known.{Nodes}
 use Rattle.tv_instance.specs.Events.{has_result, is_taken}
 use Rattle.tv_framing.specs.Views.{View}
-use Rattle.tv_drawn.specs.Steps.{IsStepAt}
+use Rattle.tv_framing.specs.matches.Steps.{IsStepAt}
 use Rattle.tv_frame.specs.Ready.{HasIdle}
 use Rattle.tv_frame.specs.Tables.{levels_in}
-use Rattle.tv_turn.specs.FirstReady.{by_falling_rank}
+use Rattle.tv_framing.specs.turns.FirstReady.{by_falling_rank}
 use Rattle.tv_seats.specs.Firsts.{IsFirstAsideOf, IsFirstOf}
 use Rattle.tv_seats.specs.Nested.{AreNested}
 use Rattle.tv_seats.specs.Seats.{Seat}
 use Rattle.tv_seats.specs.Stages.{is_aside, is_idle, is_nested}
-use Rattle.tv_seated.specs.Seated.{spot_of}
-use Rattle.tv_seated.proofs.OfLists.{in-front}
+use Rattle.tv_forest.specs.seats.Seated.{spot_of}
 use Rattle.tv_open.specs.Quiet.{AreGoing, AreQuiet, IsQuietStep, has_begun}
 use Rattle.tv_open.specs.Standing.{IsOpen}
 use Rattle.tv_open.specs.Turns.{turn_of}

@@ -6,7 +6,8 @@ use Rattle.std.proofs.lemmas.List.{map-id}
 use Rattle.std.proofs.lemmas.List.Sorted.{IsPermutation-sym}
 use Rattle.std.proofs.lemmas.Option.{get_or_from_slice_get}
 use Rattle.std.proofs.lemmas.Simd.{map-map}
-use Rattle.tv_lemmas.proofs.Lists.{get-within}
+use Rattle.tv_lemmas.proofs.OfMembers.{each_in, in-slice}
+use Rattle.tv_lemmas.proofs.Lists.{get-within, of-image, get-map}
 use Rattle.tv_value.specs.Nested.{Place, at}
 use Rattle.tv_value.specs.Values.{Name}
 use Rattle.tv_flow.specs.Flows.{Flow, Step}
@@ -15,11 +16,11 @@ use Rattle.tv_naming.specs.Numbers.{position}
 use Rattle.tv_naming.proofs.ByPosition.{position-at}
 use Rattle.tv_naming.proofs.FormedParts.{steps-ascend}
 use Rattle.tv_check.specs.declared.plans.FlowPlan.{FlowPlan}
-use Rattle.tv_matching.proofs.OfMembers.{each-in, in-permutes}
+use Rattle.tv_matching.proofs.OfMembers.{in-permutes}
 use Rattle.tv_outputs.specs.Known.{Nodes}
 use Rattle.tv_instance.specs.Events.{gave, known_by}
-use Rattle.tv_instances.specs.Stated.{HasItsLevels}
-use Rattle.tv_instances.proofs.OfLevels.{steps-have_their_levels}
+use Rattle.tv_framing.specs.instances.Stated.{HasItsLevels}
+use Rattle.tv_framing.proofs.instances.OfLevels.{steps-have_their_levels}
 use Rattle.tv_framing.specs.Frames as frames
 use Rattle.tv_framing.specs.Frames.{FitsKind}
 use Rattle.tv_framing.specs.Views.{View, steps_with}
@@ -34,7 +35,6 @@ use Rattle.tv_frame.specs.Kept.{Keeps, named_job, step_name}
 use Rattle.tv_frame.specs.Tables.{levels_in}
 use Rattle.tv_frame.proofs.OfJobInputs.{item-deep}
 use Rattle.tv_frame.proofs.OfKeeping.{kept-ranked}
-use Rattle.tv_seated.proofs.OfLists.{get-image, is-member, of-image}
 use Rattle.tv_frame.proofs.OfLists.{same-maps}
 
 -- the job of a spot, by the number of its step
@@ -50,8 +50,7 @@ module _ (flows : List (Name × Flow)) (plan : FlowPlan) (pool : Nodes) (f : Fra
     step-low =
         let ms = f.intakes.matchers.items in
         let r = of-image (λ (x : Found). placed (thing_in ms x)) f.intakes.jobs.items m (n, q) there in
-        let low = each-in (λ (x : Found). x.at < length (followed_in ms x.step)) r.0 f.intakes.jobs.items
-        (jobs-there ms f.intakes.jobs.items f.intakes.waiting.items k.intaken) (is-member r.0 f.intakes.jobs.items m r.1) in
+        let low = each_in (λ (x : Found). x.at < length (followed_in ms x.step)) f.intakes.jobs.items (jobs-there ms f.intakes.jobs.items f.intakes.waiting.items k.intaken) r.0 (in-slice f.intakes.jobs.items m r.0 r.1) in
         subst (λ l. n < l) k.as_many (subst (λ l. l < length ms) (ap (λ (j : ℕ × Place). j.0) r.2)
         (step-within ms r.0.step r.0.at low))
 
@@ -63,7 +62,7 @@ module _ (flows : List (Name × Flow)) (plan : FlowPlan) (pool : Nodes) (f : Fra
 
     -- the view has it by that name
     pub named-there : slice_get v.jobs m ≡ Some (named_job v.flow (n, q))
-    named-there = ap (λ l. slice_get l m) k.jobs_are ∙ get-image (named_job v.flow) (known_jobs f.intakes) m (n, q) there
+    named-there = ap (λ l. slice_get l m) k.jobs_are ∙ get-map (named_job v.flow) (known_jobs f.intakes) m (n, q) there
 
     pub numbered-so : numbered_job v.flow.steps (named_job v.flow (n, q)) ≡ (n, q)
     numbered-so =
@@ -82,10 +81,9 @@ module _ (flows : List (Name × Flow)) (plan : FlowPlan) (pool : Nodes) (f : Fra
         let name = step_name v.flow n in
         let end = job-end known fs name q
         (in-permutes (name, q) (frames.known_jobs known fs) v.jobs (IsPermutation-sym _ _ (k.frame.known [] r.0 r.1 r.2))
-        (is-member (name, q) v.jobs m named-there)) in
-        let has = (each-in (HasItsLevels (levels_in v.flow)) end.0 fs
-        (steps-have_their_levels flows v.flow k.of_depths.flow v.inputs k.of_depths.inputs [] r.0 r.1
-        (levels_in v.flow) k.of_depths.levels_are) end.1).levels_told in
+        (in-slice v.jobs m (name, q) named-there)) in
+        let has = (each_in (HasItsLevels (levels_in v.flow)) fs (steps-have_their_levels flows v.flow k.of_depths.flow v.inputs k.of_depths.inputs [] r.0 r.1
+        (levels_in v.flow) k.of_depths.levels_are) end.0 end.1).levels_told in
         let st = known-stands known end.0.step.iteration end.3 end.4 in
         item-deep end.0.step.iteration (levels_in v.flow end.0.step.step) q name st.0 has
         (ap (at end.0.step.iteration) (sym end.5) ∙ st.1) (subst (FitsKind (gave name q [])) st.2 end.6)

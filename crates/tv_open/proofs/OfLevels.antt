@@ -4,6 +4,8 @@ use Rattle.std.specs.Cmp.Lexicographic.{bytes_decides}
 use Rattle.std.proofs.Common.{inl, sym, ap, subst, ◌∙◌}
 use Rattle.std.proofs.lemmas.Bool.{and_parts, or_right, true≢false}
 use Rattle.std.proofs.lemmas.Option.{same_Some, slice_get_within}
+use Rattle.tv_lemmas.specs.Members.{In}
+use Rattle.tv_lemmas.proofs.OfMembers.{each_in, in-append, in-left, in-right, of-map}
 use Rattle.tv_lemmas.proofs.Cases.{on_either}
 use Rattle.tv_value.specs.Nested.{Place, at, leaf, list}
 use Rattle.tv_value.specs.Orders.{same_name}
@@ -11,29 +13,27 @@ use Rattle.tv_value.specs.Values.{JobName, Name, Value}
 use Rattle.tv_flow.specs.Flows.{Flow, Step}
 use Rattle.tv_strategy.specs.Iterations.{Iteration, job, passed}
 use Rattle.tv_strategy.specs.Origins.{Origin}
-use Rattle.tv_depths.specs.Delivered.{StepMeaning}
-use Rattle.tv_depths.specs.Steps.{spot}
+use Rattle.tv_instance.specs.Delivered.{StepMeaning}
+use Rattle.tv_instance.specs.Steps.{spot}
 use Rattle.tv_naming.specs.Numbers.{position}
 use Rattle.tv_naming.proofs.FormedParts.{steps-ascend}
 use Rattle.tv_cell.specs.declared.piece.Piece.{Piece}
 use Rattle.tv_check.specs.declared.plans.FlowPlan.{FlowPlan}
-use Rattle.tv_matching.proofs.OfMembers.{each-in, in-append, in-left, in-right, of-map}
 use Rattle.tv_outputs.specs.Known.{Nodes}
-use Rattle.tv_model.specs.Members.{In}
 use Rattle.tv_instance.specs.ByResults.{InstanceStep, Results, step_of}
 use Rattle.tv_instance.specs.Counting.{whole_by}
 use Rattle.tv_instance.specs.Events as events
 use Rattle.tv_instance.specs.Events.{Event, Events, Extends, event_place, event_step, fault_set, gave, has_level, known_by, levels_at, took}
 use Rattle.tv_instance.specs.Wholeness.{all_whole, is_whole, origin_at}
 use Rattle.tv_instance.proofs.OfRising.{whole-inside}
-use Rattle.tv_instances.proofs.OfEvents.{hits, level-known, one-more as one-known}
+use Rattle.tv_framing.proofs.instances.OfEvents.{hits, level-known, one-more as one-known}
 use Rattle.tv_framing.specs.Answers.{has_ended_now, is_settlement}
 use Rattle.tv_framing.specs.Frames.{Comes}
 use Rattle.tv_framing.specs.Views.{AreOfDepth, View, steps_with}
 use Rattle.tv_framing.proofs.OfArriving.{extends-parts}
 use Rattle.tv_framing.proofs.OfEndings.{whole-in_all}
-use Rattle.tv_drawn.specs.Steps.{IsStepAt}
-use Rattle.tv_turn.proofs.OfRanks.{number-of}
+use Rattle.tv_framing.specs.matches.Steps.{IsStepAt}
+use Rattle.tv_framing.proofs.turns.OfRanks.{number-of}
 use Rattle.tv_levels.specs.Levels.{FaultsAreKnown, Fit, FitsThere, IsAmong, IsFromKnown, IsNoJob, Level}
 use Rattle.tv_frame.specs.declared.frame.Frame.{Frame}
 use Rattle.tv_frame.specs.Kept.{AreOuts, Keeps}
@@ -212,9 +212,7 @@ module _ (flows : List (Name × Flow)) (plan : FlowPlan) (pool : Nodes) (f : Fra
     told-all instance results depth x n s g q t here among named there u =
         let known : Origin → Bool = known_by instance v.events in
         let whole : is_whole (spot instance g.step.step) known [] g.step.iteration ≡ true =
-        each-in (λ (y : InstanceStep). is_whole (spot instance y.step.step) known [] y.step.iteration ≡ whole_by v.events y.step.step (levels_in v.flow y.step.step) [])
-        g (steps_with v instance results)
-        (whole-in_all flows v keeps.frame keeps.of_depths.flow keeps.of_depths.inputs (levels_in v.flow) keeps.of_depths.levels_are instance results depth x) among
+        each_in (λ (y : InstanceStep). is_whole (spot instance y.step.step) known [] y.step.iteration ≡ whole_by v.events y.step.step (levels_in v.flow y.step.step) []) (steps_with v instance results) (whole-in_all flows v keeps.frame keeps.of_depths.flow keeps.of_depths.inputs (levels_in v.flow) keeps.of_depths.levels_are instance results depth x) g among
         ∙ ap (λ y. whole_by v.events y (levels_in v.flow y) []) named
         ∙ ended-whole v (kept-wired flows plan pool f v keeps) ended n s here in
         ap (λ y. has_level v.events y q) (sym named)

@@ -4,6 +4,9 @@ use Rattle.std.specs.Prelude.{◌≡◌, ℕ, ◌<◌, List, [], Some, length, m
 use Rattle.std.proofs.Common.{sym, ap, subst, ◌∙◌}
 use Rattle.std.proofs.lemmas.List.{length-map}
 use Rattle.std.proofs.lemmas.Option.{same_Some, slice_get_within}
+use Rattle.tv_lemmas.specs.Members.{In}
+use Rattle.tv_lemmas.proofs.Lists.{of-image, get-map}
+use Rattle.tv_lemmas.proofs.OfMembers.{in-slice}
 use Rattle.tv_value.specs.Nested.{Place}
 use Rattle.tv_value.specs.Values.{Name}
 use Rattle.tv_flow.specs.Flows.{Document, Flow, Step}
@@ -12,17 +15,15 @@ use Rattle.tv_naming.proofs.FormedParts.{steps-ascend}
 use Rattle.tv_check.specs.declared.plans.FlowPlan.{FlowPlan}
 use Rattle.tv_outputs.specs.Known.{Nodes}
 use Rattle.tv_intake.specs.Intaken.{known_jobs}
-use Rattle.tv_model.specs.Members.{In}
 use Rattle.tv_framing.specs.Answers.{numbered}
 use Rattle.tv_framing.specs.Views.{View}
-use Rattle.tv_drawn.specs.Steps.{IsStepAt}
-use Rattle.tv_turn.proofs.OfRanks.{number-of}
+use Rattle.tv_framing.specs.matches.Steps.{IsStepAt}
+use Rattle.tv_framing.proofs.turns.OfRanks.{number-of}
 use Rattle.tv_frame.specs.Kept.{Keeps, named_job, step_name}
 use Rattle.tv_frame.specs.Tables.{levels_in}
 use Rattle.tv_frame.proofs.OfKeeping.{kept-ranked}
 use Rattle.tv_seats.specs.Seats.{Seat}
-use Rattle.tv_seated.specs.Seated.{spot_of}
-use Rattle.tv_seated.proofs.OfLists.{get-image, is-member, of-image}
+use Rattle.tv_forest.specs.seats.Seated.{spot_of}
 use Rattle.tv_open.specs.Levels.{AreKept}
 use Rattle.tv_open.specs.Standing.{IsOpen, job_of}
 use Rattle.tv_open.specs.declared.open.Open.{Open}
@@ -66,7 +67,7 @@ module _ (d : Document) (plan : FlowPlan) (pool : Nodes) (o : Open) (v : View) (
 
   module _ (n : ℕ) (s : Seat) (there : slice_get ss n ≡ Some s) where
     pub known-at : slice_get (known_jobs o.frame.intakes) n ≡ Some (s.step, s.place)
-    known-at = ap (λ l. slice_get l n) (sym io.known) ∙ get-image job_of ss n s there
+    known-at = ap (λ l. slice_get l n) (sym io.known) ∙ get-map job_of ss n s there
 
     pub is-known : n < length (known_jobs o.frame.intakes)
     is-known = slice_get_within (known_jobs o.frame.intakes) n (s.step, s.place) known-at
@@ -74,7 +75,7 @@ module _ (d : Document) (plan : FlowPlan) (pool : Nodes) (o : Open) (v : View) (
     pub numbered-at : numbered v n ≡ Some (spot_of v.flow.steps s)
     numbered-at =
         ap (λ l. slice_get l n) io.keeps.jobs_are
-        ∙ get-image (named_job v.flow) (known_jobs o.frame.intakes) n (s.step, s.place) known-at
+        ∙ get-map (named_job v.flow) (known_jobs o.frame.intakes) n (s.step, s.place) known-at
 
     pub its-step-at : (t : Name × Step) × IsStepAt v s.step t
     its-step-at = its-step d.flows plan pool o.frame v io.keeps n s.step s.place known-at
@@ -90,7 +91,7 @@ module _ (d : Document) (plan : FlowPlan) (pool : Nodes) (o : Open) (v : View) (
       numbered-step = numbered-at ∙ ap Some (spot-at v.flow.steps s t at)
 
       pub in-view : In (t.0, s.place) v.jobs
-      in-view = is-member (t.0, s.place) v.jobs n numbered-step
+      in-view = in-slice v.jobs n (t.0, s.place) numbered-step
 
   -- ---- a seat by its job
 

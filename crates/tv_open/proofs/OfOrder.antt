@@ -17,9 +17,9 @@ use Rattle.tv_frame.specs.declared.frame.Frame.{Frame}
 use Rattle.tv_frame.specs.Kept.{Keeps}
 use Rattle.tv_frame.proofs.OfKeeping.{kept-ranked}
 use Rattle.tv_frame.proofs.OfTables.{steps-are}
-use Rattle.tv_turn.specs.FirstReady.{by_falling_rank}
-use Rattle.tv_turn.proofs.OfRanks.{at-in, number-of, numbers-step}
-use Rattle.tv_seated.proofs.OfLists.{is-member}
+use Rattle.tv_framing.specs.turns.FirstReady.{by_falling_rank}
+use Rattle.tv_framing.proofs.turns.OfRanks.{at-in, number-of, numbers-step}
+use Rattle.tv_lemmas.proofs.OfMembers.{in-slice}
 
 -- a plan has as many steps as its flow
 pub planned-many : (p : FlowPlan) → length (flow_view p.flow).steps ≡ length p.steps
@@ -33,7 +33,7 @@ module _ (flows : List (Name × Flow)) (plan : FlowPlan) (pool : Nodes) (f : Fra
   pub ordered-low : (n k : ℕ) → slice_get (by_falling_rank v.flow) n ≡ Some k → k < length v.flow.steps
   ordered-low n k e =
       let rise = steps-ascend v.flow (kept-ranked flows plan pool f v kept).formed in
-      let m = numbers-step v.flow.steps (λ s. position s.0 v.flow.steps) k (is-member k (by_falling_rank v.flow) n e) in
+      let m = numbers-step v.flow.steps (λ s. position s.0 v.flow.steps) k (in-slice (by_falling_rank v.flow) n k e) in
       let at = at-in v.flow.steps m.0 m.1 in
       subst (λ i. i < length v.flow.steps) (sym (m.2 ∙ number-of v.flow.steps at.0 m.0 rise at.1))
       (slice_get_within v.flow.steps at.0 m.0 at.1)

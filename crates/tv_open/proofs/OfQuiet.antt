@@ -5,18 +5,17 @@ use Rattle.std.proofs.Common.{ap, arith, subst, sym, ◌∙◌}
 use Rattle.std.proofs.lemmas.Bool.{ltb-false, ltb-true, true≢false, cases_eq}
 use Rattle.std.proofs.lemmas.Option.{same_Some}
 use Rattle.tv_lemmas.proofs.Cases.{on_either, on_test}
-use Rattle.tv_lemmas.proofs.Lists.{get-within}
+use Rattle.tv_lemmas.proofs.Lists.{get-within, in-front}
 use Rattle.tv_value.specs.Nested.{Place}
 use Rattle.tv_value.specs.Values.{Name}
 use Rattle.tv_flow.specs.Flows.{Flow, Step}
 use Rattle.tv_instance.specs.Events.{Event, Events, gives_at, has_result, is_taken, takes_at}
 use Rattle.tv_framing.specs.Views.{View}
-use Rattle.tv_turn.specs.FirstReady.{by_falling_rank}
+use Rattle.tv_framing.specs.turns.FirstReady.{by_falling_rank}
 use Rattle.tv_seats.specs.Seats.{Seat, staged, step_at, with_stage}
 use Rattle.tv_seats.specs.declared.stage.Stage.{Stage}
 use Rattle.tv_seats.proofs.Staging.{staged-here, staged-other}
-use Rattle.tv_seated.specs.Seated.{spot_of}
-use Rattle.tv_seated.proofs.OfLists.{in-front}
+use Rattle.tv_forest.specs.seats.Seated.{spot_of}
 use Rattle.tv_open.specs.Firsts.{IsReadySeat}
 use Rattle.tv_open.specs.Quiet.{AreQuiet, has_begun, is_calm}
 use Rattle.tv_open.specs.Turns.{AreTurns, turn_of}

@@ -1,29 +1,12 @@
 -- A region that is new and is released again.
-use Rattle.std.specs.Prelude.{◌≡◌, ◌⊎◌, refl, ℕ, zero, suc, List, [], ◌∷◌, Option, None, length, slice_index_or, slice_set}
+use Rattle.std.specs.Prelude.{◌≡◌, ◌⊎◌, ℕ, None, length, slice_index_or, slice_set}
 use Rattle.std.proofs.Common.{sym, ap, ◌∙◌, inl, inr}
 use Rattle.std.proofs.lemmas.Bool.{cases_eq}
 use Rattle.tv_pool.specs.Pool.{region_at, regions_with}
 use Rattle.tv_nodes.specs.Calls.{KeepsRegions}
 use Rattle.tv_outputs.specs.Known.{Nodes}
 use Rattle.tv_frame.specs.Calls.{SameRegions}
-
-module _ {A : Type 0} where
-  set-none : (xs : List (Option A)) (n : ℕ) → slice_index_or (slice_set xs n None) n None ≡ None
-  set-none [] n = refl
-  set-none (x ∷ xs) zero = refl
-  set-none (x ∷ xs) (suc n) = set-none xs n
-
-  set-other : (xs : List (Option A)) (n k : ℕ) (y : Option A) → (k ≡ n → ⊥)
-      → slice_index_or (slice_set xs n y) k None ≡ slice_index_or xs k None
-  set-other [] n k y h = refl
-  set-other (x ∷ xs) zero zero y h = absurd (h refl)
-  set-other (x ∷ xs) zero (suc k) y h = refl
-  set-other (x ∷ xs) (suc n) zero y h = refl
-  set-other (x ∷ xs) (suc n) (suc k) y h = set-other xs n k y (λ e. h (ap suc e))
-
-  past-end : (xs : List (Option A)) → slice_index_or xs (length xs) None ≡ None
-  past-end [] = refl
-  past-end (x ∷ xs) = past-end xs
+use Rattle.tv_frame.proofs.OfRegions.{past-end, set-none, set-other}
 
 -- where it is released, all is as it was
 pub given-up : (old mid new : Nodes) (number : ℕ) → number ≡ length old.regions → KeepsRegions old mid number

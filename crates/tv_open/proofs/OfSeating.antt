@@ -3,13 +3,12 @@ use Rattle.std.specs.Prelude.{◌≡◌, refl, ℕ, ◌+◌, ◌-◌, ◌<◌, [
 use Rattle.std.proofs.Common.{sym, ap, subst, ◌∙◌, arith}
 use Rattle.std.proofs.lemmas.List.{append_assoc, length-append, map-append}
 use Rattle.std.proofs.lemmas.Option.{slice_get_within}
-use Rattle.tv_lemmas.proofs.Lists.{get-within}
+use Rattle.tv_lemmas.proofs.Lists.{get-within, in-front, get-map}
 use Rattle.tv_value.specs.Nested.{Place}
 use Rattle.tv_intake.specs.Intaken.{known_jobs}
 use Rattle.tv_intake.proofs.OfSorting.{drop-next}
 use Rattle.tv_frame.specs.declared.frame.Frame.{Frame}
 use Rattle.tv_seats.specs.Seats.{IsFree, Seat, Seated, levels_of}
-use Rattle.tv_seated.proofs.OfLists.{get-image, in-front}
 use Rattle.tv_open.specs.Seating.{CanSit, seat_for, unseated}
 use Rattle.tv_open.specs.Standing.{job_of}
 
@@ -25,7 +24,7 @@ module _ (f : Frame) (x : Seated) (can : CanSit f x) where
   sits-at : (n : ℕ) (s : Seat) → slice_get x.seats n ≡ Some s → slice_get (known_jobs f.intakes) n ≡ Some (job_of s)
   sits-at n s e =
       ap (λ l. slice_get l n) (sym can.first)
-      ∙ in-front (map job_of x.seats) (unseated f x.seats) n (job_of s) (get-image job_of x.seats n s e)
+      ∙ in-front (map job_of x.seats) (unseated f x.seats) n (job_of s) (get-map job_of x.seats n s e)
 
   -- no seat is where the next job is
   pub next-free : (m : ℕ) (j : ℕ × Place) → m ≡ length x.seats → slice_get (known_jobs f.intakes) m ≡ Some j

@@ -10,7 +10,7 @@ use Rattle.tv_frame.specs.declared.frame.Frame.{Frame}
 use Rattle.tv_seats.specs.Seats.{Seat, Seated, staged, stage_at, stands, with_stage}
 use Rattle.tv_seats.specs.Stages.{is_waiting}
 use Rattle.tv_seats.specs.declared.stage.Stage.{Stage}
-use Rattle.tv_seated.proofs.OfLists.{same-images}
+use Rattle.tv_forest.proofs.seats.OfLists.{same-images}
 use Rattle.tv_open.specs.Seating.{AllSit, CanSit, seat_for, unseated}
 use Rattle.tv_open.specs.Standing.{job_of}
 

@@ -8,7 +8,7 @@ use Rattle.tv_outputs.specs.Known.{Nodes}
 use Rattle.tv_instance.specs.Events.{Event}
 use Rattle.tv_framing.specs.Answers.{CanSettle}
 use Rattle.tv_framing.specs.Views.{View}
-use Rattle.tv_drawn.specs.Steps.{IsStepAt}
+use Rattle.tv_framing.specs.matches.Steps.{IsStepAt}
 use Rattle.tv_naming.specs.Numbers.{position}
 use Rattle.tv_frame.specs.Calls.{Brings, GoesOn, IsReadyToSettle, Tells}
 use Rattle.tv_frame.specs.declared.events.Settled.{Settled}

@@ -19,13 +19,13 @@ use Rattle.tv_frame.specs.Kept.{Keeps, named_job}
 use Rattle.tv_frame.specs.Tables.{levels_in}
 use Rattle.tv_seats.specs.Seats.{Seat, Seated, levels_of}
 use Rattle.tv_seats.specs.declared.stage.Stage.TheVariants as stage
-use Rattle.tv_seated.specs.GoingOn.{AreNewSeats, GoesOn}
-use Rattle.tv_seated.specs.Seated.{spot_of}
-use Rattle.tv_seated.proofs.OfLists.{get-image, in-behind, of-image}
+use Rattle.tv_forest.specs.seats.GoingOn.{AreNewSeats, GoesOn}
+use Rattle.tv_forest.specs.seats.Seated.{spot_of}
 use Rattle.tv_open.specs.Seating.{CanSit, seat_for, unseated}
 use Rattle.tv_open.specs.Standing.{IsOpen, job_of}
 use Rattle.tv_open.specs.declared.open.Open.{Open}
 use Rattle.tv_open.proofs.OfKnownJobs.{by-names, its-step, known-apart, numbered_job, place-deep, step-low}
+use Rattle.tv_lemmas.proofs.Lists.{in-behind, of-image, get-map}
 
 -- the jobs of seats, and then others
 module _ (f : Frame) (x : Seated) (more : List (ℕ × Place)) (begins : known_jobs f.intakes ≡ map job_of x.seats ++ more) where
@@ -59,7 +59,7 @@ module _ (f : Frame) (x : Seated) (more : List (ℕ × Place)) (begins : known_j
             let s = its-step flows plan pool f v k n j.0 j.1 e in
             place-deep flows plan pool f v k n j.0 j.1 e
             ∙ sym (get_or_from_slice_get (map (λ (t : Name × Step). levels_in v.flow t.0) v.flow.steps) j.0
-            (levels_in v.flow s.0.0) 0 (get-image (λ (t : Name × Step). levels_in v.flow t.0) v.flow.steps j.0 s.0 s.1))
+            (levels_in v.flow s.0.0) 0 (get-map (λ (t : Name × Step). levels_in v.flow t.0) v.flow.steps j.0 s.0 s.1))
             ∙ ap (λ l. levels_of l j.0) (sym levels)
 
     -- those that sit down are new, each at a step of the flow

@@ -1,6 +1,6 @@
 -- An instance that starts: the jobs that its frame knows sit down.
 use Rattle.std.specs.Prelude.{◌≡◌, ◌≤◌, List, [], ◌++◌, length, map}
-use Rattle.tv_turn.specs.FirstReady.{by_falling_rank}
+use Rattle.tv_framing.specs.turns.FirstReady.{by_falling_rank}
 use Rattle.std.proofs.Common.{arith, sym, ap, subst, ◌∙◌}
 use Rattle.tv_value.specs.Values.{Value}
 use Rattle.tv_flow.specs.Flows.{Document, Flow}
@@ -14,7 +14,7 @@ use Rattle.tv_frame.specs.declared.frame.Frame.{Frame}
 use Rattle.tv_frame.specs.Kept.{Keeps}
 use Rattle.tv_frame.specs.Tables.{levels_in}
 use Rattle.tv_seats.specs.Seats.{Seated}
-use Rattle.tv_seated.specs.GoingOn.{AreNewSeats}
+use Rattle.tv_forest.specs.seats.GoingOn.{AreNewSeats}
 use Rattle.tv_open.specs.Levels.{AreKept, Kept}
 use Rattle.tv_open.specs.Seating.{AllSit, CanSit, IsKept, seat_for, unseated}
 use Rattle.tv_open.specs.Standing.{StartsOpen, job_of}

@@ -21,8 +21,8 @@ use Rattle.tv_seats.specs.Firsts.{MayGoOut, MayNest}
 use Rattle.tv_seats.specs.Stages.{is_waiting}
 use Rattle.tv_seats.proofs.Keeping.{stands-there}
 use Rattle.tv_seats.specs.declared.stage.Stage.{Stage}
-use Rattle.tv_seated.specs.GoingOn.{GoesOn}
-use Rattle.tv_seated.specs.Seated.{spot_of}
+use Rattle.tv_forest.specs.seats.GoingOn.{GoesOn}
+use Rattle.tv_forest.specs.seats.Seated.{spot_of}
 use Rattle.tv_open.specs.Events.{IsTaken, IsToldTaken}
 use Rattle.tv_open.specs.Quiet.{is_calm}
 use Rattle.tv_open.specs.Standing.{IsOpen, job_of}

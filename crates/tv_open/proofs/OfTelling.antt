@@ -2,7 +2,7 @@
 use Rattle.std.specs.Prelude.{◌≡◌, ℕ, ◌∷◌, ◌++◌, [], List, length, map}
 use Rattle.std.proofs.Common.{sym, ap, arith, subst, ◌∙◌}
 use Rattle.tv_flow.specs.Flows.{Document, Flow}
-use Rattle.tv_depths.specs.Ranks.{ranked}
+use Rattle.tv_instance.specs.Ranks.{ranked}
 use Rattle.tv_check.specs.declared.plans.FlowPlan.{FlowPlan}
 use Rattle.tv_outputs.specs.Known.{Nodes}
 use Rattle.tv_instance.specs.Events.{Event}

@@ -10,7 +10,7 @@ use Rattle.tv_lemmas.proofs.Lists.{get-within}
 use Rattle.tv_value.specs.Nested.{Place}
 use Rattle.tv_depths.proofs.OfRanked.{get-set-other, get-set-same}
 use Rattle.tv_seats.specs.Seats.{Seat}
-use Rattle.tv_seated.proofs.OfLists.{in-either}
+use Rattle.tv_forest.proofs.seats.OfLists.{in-either}
 use Rattle.tv_open.specs.Seating.{seat_for}
 use Rattle.tv_open.specs.Turns.{AreTurns, TakeIn, TakesIn, turn_of}
 use Rattle.tv_open.specs.declared.turns.Turns.{Turns}

@@ -16,8 +16,8 @@ use Rattle.tv_seats.specs.Seats.{Seat, with_stage}
 use Rattle.tv_seats.specs.Stages.{is_waiting, may_settle}
 use Rattle.tv_seats.specs.declared.stage.Stage.{Stage}
 use Rattle.tv_levels.specs.Levels.{Level}
-use Rattle.tv_seated.specs.GoingOn.{GoesOn}
-use Rattle.tv_seated.specs.Seated.{spot_of}
+use Rattle.tv_forest.specs.seats.GoingOn.{GoesOn}
+use Rattle.tv_forest.specs.seats.Seated.{spot_of}
 use Rattle.tv_open.specs.Firsts.{IsReadySeat}
 use Rattle.tv_open.specs.Standing.{IsOpen}
 use Rattle.tv_open.specs.declared.events.Spot.{Spot}

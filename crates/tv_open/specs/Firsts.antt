@@ -6,10 +6,10 @@ use Rattle.tv_framing.specs.Answers.{IsReadyJob}
 use Rattle.tv_framing.specs.Views.{View}
 use Rattle.tv_frame.specs.Calls.{HoldsError}
 use Rattle.tv_frame.specs.Tables.{levels_in}
-use Rattle.tv_order.specs.JobOrder.{place_before}
+use Rattle.tv_model.specs.JobOrder.{place_before}
 use Rattle.tv_seats.specs.Seats.{Seat, place_at, running_count}
 use Rattle.tv_seats.specs.Stages.{is_aside, is_idle}
-use Rattle.tv_seated.specs.Seated.{spot_of}
+use Rattle.tv_forest.specs.seats.Seated.{spot_of}
 use Rattle.tv_open.specs.declared.firsts.Seeking.{Seeking}
 use Rattle.tv_open.specs.declared.firsts.Seeking.TheVariants as seeking
 

@@ -4,11 +4,11 @@ use Rattle.tv_value.specs.Nested.{Place}
 use Rattle.tv_value.specs.Values.{Name}
 use Rattle.tv_instance.specs.Events.{Events, has_result, is_taken}
 use Rattle.tv_framing.specs.Views.{View}
-use Rattle.tv_turn.specs.FirstReady.{by_falling_rank}
+use Rattle.tv_framing.specs.turns.FirstReady.{by_falling_rank}
 use Rattle.tv_seats.specs.Seats.{Seat}
 use Rattle.tv_seats.specs.Stages.{is_aside, is_idle, is_nested}
 use Rattle.tv_seats.specs.declared.stage.Stage.{Stage}
-use Rattle.tv_seated.specs.Seated.{spot_of}
+use Rattle.tv_forest.specs.seats.Seated.{spot_of}
 use Rattle.tv_open.specs.Turns.{AreTurns, turn_of}
 
 -- ---- one seat

@@ -10,7 +10,7 @@ use Rattle.tv_framing.specs.Views.{View}
 use Rattle.tv_frame.specs.Kept.{Keeps}
 use Rattle.tv_frame.specs.Tables.{levels_in}
 use Rattle.tv_seats.specs.Seats.{Seat}
-use Rattle.tv_seated.specs.GoingOn.{AreNewSeats}
+use Rattle.tv_forest.specs.seats.GoingOn.{AreNewSeats}
 use Rattle.tv_open.specs.Levels.{AreKept}
 use Rattle.tv_open.specs.Quiet.{AreQuiet}
 use Rattle.tv_open.specs.declared.open.Open.{Open}

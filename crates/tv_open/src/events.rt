@@ -166,7 +166,8 @@ impl Open {
         requires sound { AreSound pieces }
         ensures told { (d : Document) (v : View) (s : Seat) (t : Name × Step)
             → MayBeGiven d plan.now pool.old self.old v number s t (piece_values pieces) spot
-            → IsTold d plan.now pool.new self.new v (gave t.0 s.place (piece_values pieces)) spot.more
+            → IsTold d plan.now pool.new self.new v
+            (gave t.0 s.place (piece_values pieces)) spot.more
             (with_stage number ASettled self.old.seats.seats) }
         ensures regions { KeepsRegions pool.old pool.new (number_of self.old.frame.region) }
         ensures region { self.new.frame.region ≡ self.old.frame.region }
@@ -192,7 +193,8 @@ impl Open {
         requires sound { AreSound pieces }
         ensures told { (d : Document) (v : View) (s : Seat) (t : Name × Step)
             → MayBeBounced d plan.now pool.old self.old v number s t (piece_values pieces) spot
-            → IsTold d plan.now pool.new self.new v (gave t.0 s.place (piece_values pieces)) spot.more
+            → IsTold d plan.now pool.new self.new v
+            (gave t.0 s.place (piece_values pieces)) spot.more
             (with_stage number ASettled self.old.seats.seats) }
         ensures regions { KeepsRegions pool.old pool.new (number_of self.old.frame.region) }
         ensures region { self.new.frame.region ≡ self.old.frame.region }

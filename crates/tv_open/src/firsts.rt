@@ -90,7 +90,8 @@ impl Open {
         requires { (d : Document) × (v : View)
             × IsOpen d plan.now pool.now self.now v × (step < length v.flow.steps) }
         ensures { (d : Document) (v : View) → IsOpen d plan.now pool.now self.now v
-            → IsFirstToBegin v self.now.seats.seats (step_limit (flow_view plan.now.flow) step) step result }
+            → IsFirstToBegin v self.now.seats.seats (step_limit (flow_view plan.now.flow) step) step
+            result }
     {
         let limit = plan.flow.steps.as_slice()[step as usize].1.jobs;
         if self.seats.running(step) >= limit {

@@ -5,16 +5,16 @@ ghost use Rattle.tv_value.specs.Views.{values_view, view};
 ghost use Rattle.tv_flow.specs.Flows.{Document, Step};
 ghost use Rattle.tv_cell.specs.PieceValues.{piece_values};
 ghost use Rattle.tv_cell.specs.Soundness.{AreSound};
-ghost use Rattle.tv_depths.specs.Ranks.{ranked};
+ghost use Rattle.tv_instance.specs.Ranks.{ranked};
 ghost use Rattle.tv_instance.specs.ByResults.{last_first};
 ghost use Rattle.tv_instance.specs.Counting.{have_ended_by};
 ghost use Rattle.tv_framing.specs.Answers.{AreInputs, after_of};
 ghost use Rattle.tv_framing.specs.Views.{View};
-ghost use Rattle.tv_drawn.specs.Steps.{IsStepAt};
+ghost use Rattle.tv_framing.specs.matches.Steps.{IsStepAt};
 ghost use Rattle.tv_frame.specs.Tables.{levels_in};
 ghost use Rattle.tv_levels.specs.Views.{level_view};
-ghost use Rattle.tv_seats.specs.Seats.{Seat, out_count, place_at, stage_at, step_at};
-ghost use Rattle.tv_seated.specs.Seated.{spot_of};
+ghost use Rattle.tv_seats.specs.Seats.{Seat, place_at, seats_out, stage_at, step_at};
+ghost use Rattle.tv_forest.specs.seats.Seated.{spot_of};
 ghost use Rattle.tv_open.specs.Standing.{IsOpen};
 
 use crate::open::Open;
@@ -43,7 +43,7 @@ impl Open {
 
     /// How many jobs are out, of all steps together.
     pub fn out_count(&self) -> u64
-        ensures { result ≡ out_count self.now.seats.seats }
+        ensures { result ≡ seats_out self.now.seats.seats }
     {
         self.seats.out_count()
     }

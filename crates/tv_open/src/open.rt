@@ -12,7 +12,7 @@ ghost use Rattle.tv_outputs.specs.Known.{Nodes as TheNodes};
 ghost use Rattle.tv_intake.specs.Intaken.{known_jobs};
 ghost use Rattle.tv_framing.specs.Answers.{AreOutputs, has_ended_now};
 ghost use Rattle.tv_framing.specs.Views.{View};
-ghost use Rattle.tv_turn.specs.FirstReady.{by_falling_rank};
+ghost use Rattle.tv_framing.specs.turns.FirstReady.{by_falling_rank};
 ghost use Rattle.tv_frame.specs.Calls.{CanStart, SameRegions, Starts};
 ghost use Rattle.tv_frame.specs.Kept.{AreOuts};
 ghost use Rattle.tv_frame.specs.Tables.{AreTables, levels_in};

@@ -1,6 +1,6 @@
 //! Jobs that are idle again, or have a flow next.
 ghost use Rattle.std.specs.Prelude.{◌≡◌, ◌<◌, OnOk, length, map, true};
-ghost use Rattle.tv_seats.specs.Seats.{HasBackRooms, back, back_room, out_count, room_at, stands, step_at};
+ghost use Rattle.tv_seats.specs.Seats.{HasBackRooms, back, back_room, room_at, seats_out, stands, step_at};
 ghost use Rattle.tv_seats.specs.Stages.{is_out};
 ghost use Rattle.tv_seats.specs.declared.stage.Stage.TheVariants.{Aside as AnAside, Idle as AnIdle};
 ghost use Rattle.tv_open.specs.Turns.{AreRestarted};
@@ -70,7 +70,7 @@ impl Open {
     /// Each job that is out is idle from now on, with the same try as its next. Answers how many were out. Takes no memory.
     pub fn put_all_back(&mut self) -> u64
         requires { HasBackRooms self.old.seats }
-        ensures count { result ≡ out_count self.old.seats.seats }
+        ensures count { result ≡ seats_out self.old.seats.seats }
         ensures frame { self.new.frame ≡ self.old.frame }
         ensures seats { self.new.seats.seats ≡ map back self.old.seats.seats }
         ensures levels { self.new.seats.levels ≡ self.old.seats.levels }

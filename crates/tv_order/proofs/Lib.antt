@@ -12,3 +12,4 @@ pub mod OfHanding
 pub mod OfParts
 pub mod OfHeld
 pub mod OfClosings
+pub mod offers

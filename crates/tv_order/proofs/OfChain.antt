@@ -1,8 +1,9 @@
 -- With one worker the open instances are one chain.
-use Rattle.std.specs.Prelude.{◌≡◌, refl, ℕ, suc, ◌+◌, ◌<◌, ◌≤◌, ◌⊎◌, [], ◌∷◌, ◌++◌, length, true, false, is_some, count_by}
+use Rattle.std.specs.Prelude.{◌≡◌, refl, ℕ, suc, ◌+◌, ◌<◌, ◌≤◌, [], ◌∷◌, ◌++◌, length, true, false, is_some, count_by}
 use Rattle.std.proofs.Common.{arith, sym, ap, subst, ◌∙◌, inl, inr, append_assoc, append-nil, length-append}
 use Rattle.std.proofs.lemmas.List.{nil_from_length}
 use Rattle.std.specs.Cmp.{first_so, second_so}
+use Rattle.tv_lemmas.specs.Members.{In}
 use Rattle.tv_lemmas.proofs.Cases.{on_either}
 use Rattle.tv_value.specs.Nested.{Place}
 use Rattle.tv_value.specs.Values.{JobName, Name}
@@ -14,7 +15,6 @@ use Rattle.tv_model.specs.Lists.{rest_of}
 use Rattle.tv_model.specs.Made.{Meaning}
 use Rattle.tv_model.specs.Meanings.{meaning, nesting_limit}
 use Rattle.tv_model.proofs.Tests.{true≠false}
-use Rattle.tv_model.proofs.Turns.{In}
 use Rattle.tv_model.proofs.Sound.{cancel, first_of}
 use Rattle.tv_model.proofs.Whole.{IsWhole}
 use Rattle.tv_history.specs.Alone.{is_by_one_after}
@@ -34,13 +34,13 @@ use Rattle.tv_order.proofs.OfDocuments.{any-whole, orderly}
 -- ---- appended by one worker
 
 module _ (gives : Giving) (m : Meaning) (w : IsWhole gives AtLeastOne m []) (laid : IsLaidOut m.jobs) (base : History) (none : (j : Job) → In j m.jobs → is_running base j ≡ false) where
-  pub one-from : (es : History) → is_legal gives m (es ++ base) ≡ true → is_by_one_from gives m base es ≡ true → OneRuns gives m (es ++ base) × OthersWait gives m (es ++ base)
+  pub one-from : (es : History) → is_legal gives m (es ++ base) ≡ true → is_by_one_from m base es ≡ true → OneRuns gives m (es ++ base) × OthersWait gives m (es ++ base)
   one-from [] l b = (λ j k i h s r u. absurd (true≠false (sym r ∙ none j i)), λ c y i h s r u n o. absurd (true≠false (sym r ∙ none c i)))
   one-from (e ∷ es) l b =
       let legal = first_so (is_legal gives m (es ++ base)) (is_legal_after gives m (es ++ base) e) l in
       let after = second_so (is_legal gives m (es ++ base)) (is_legal_after gives m (es ++ base) e) l in
-      let mine = second_so (is_by_one_from gives m base es) (is_by_one_after m (es ++ base) e) b in
-      let r = one-from es legal (first_so (is_by_one_from gives m base es) (is_by_one_after m (es ++ base) e) b) in
+      let mine = second_so (is_by_one_from m base es) (is_by_one_after m (es ++ base) e) b in
+      let r = one-from es legal (first_so (is_by_one_from m base es) (is_by_one_after m (es ++ base) e) b) in
       (one-after gives m w laid (es ++ base) e legal after mine r.0 r.1, wait-after gives m w laid (es ++ base) e legal after mine r.0 r.1)
 
 -- ---- where at most one job of an instance runs
@@ -94,7 +94,7 @@ module _ (gives : Giving) (m : Meaning) (w : IsWhole gives AnyNumber m []) (past
 
 -- ---- one chain
 
-module _ (gives : Giving) (d : Document) (f : IsWellFormed d) (base : History) (none : (j : Job) → In j (meaning gives d).jobs → is_running base j ≡ false) (es : History) (legal : is_legal gives (meaning gives d) (es ++ base) ≡ true) (by_one : is_by_one_from gives (meaning gives d) base es ≡ true) where
+module _ (gives : Giving) (d : Document) (f : IsWellFormed d) (base : History) (none : (j : Job) → In j (meaning gives d).jobs → is_running base j ≡ false) (es : History) (legal : is_legal gives (meaning gives d) (es ++ base) ≡ true) (by_one : is_by_one_from (meaning gives d) base es ≡ true) where
   one-runs : OneRuns gives (meaning gives d) (es ++ base)
   one-runs = let p = flow-laid gives AtLeastOne d.flows f.places nesting_limit d.main [] d.inputs in (one-from gives (meaning gives d) p.0 p.1 base none es legal by_one).0
 

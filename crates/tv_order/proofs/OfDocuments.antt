@@ -1,10 +1,11 @@
 -- What holds of the meaning of every document.
-use Rattle.std.specs.Prelude.{◌≡◌, refl, ◌<◌, ◌≤◌, ◌⊎◌, List, [], length, Bool, true, false, not, ◌&&◌, ◌||◌, if◌then◌else◌, Option, Some, None, is_some, is_none, find}
+use Rattle.std.specs.Prelude.{◌≡◌, refl, ◌≤◌, ◌⊎◌, List, [], length, Bool, true, false, not, ◌&&◌, ◌||◌, if◌then◌else◌, Option, Some, None, is_some, is_none, find}
 use Rattle.std.specs.List.{list_any}
 use Rattle.std.proofs.Common.{arith, sym, ap, subst, ◌∙◌, inl, inr}
 use Rattle.std.proofs.lemmas.Bool.{false_from_ne_true, not-true}
 use Rattle.std.specs.Cmp.{first_so, second_so}
 use Rattle.std.specs.Cmp.Derive.{one_truth}
+use Rattle.tv_lemmas.specs.Members.{In}
 use Rattle.tv_lemmas.proofs.Cases.{on_test, on_or}
 use Rattle.tv_value.specs.Values.{JobName}
 use Rattle.tv_gate.specs.Outcomes.{Giving}
@@ -15,7 +16,7 @@ use Rattle.tv_model.specs.Made.{Meaning}
 use Rattle.tv_model.specs.Meanings.{meaning, nesting_limit}
 use Rattle.tv_model.specs.Turns.{is_bounced}
 use Rattle.tv_model.proofs.Tests.{true≠false, both_true, or_right}
-use Rattle.tv_model.proofs.Turns.{In, or_left}
+use Rattle.tv_model.proofs.Turns.{or_left}
 use Rattle.tv_model.proofs.Whole.{IsWhole, StepsHave}
 use Rattle.tv_history.specs.Entries.{History, is_bounced_entry, is_ended_entry}
 use Rattle.tv_history.specs.Histories.{all_known, can_open, has_open_instance, has_place, is_idle, is_legal, is_offered, is_open, is_ready, is_running, is_settled, may_go_on, next_ask}

@@ -1,9 +1,11 @@
 -- The walk enters few instances: at most eight, and eight for each try that is out.
-use Rattle.std.specs.Prelude.{◌≡◌, refl, ℕ, zero, suc, ◌+◌, ◌*◌, ◌≤◌, ◌⊎◌, List, [], ◌∷◌, ◌++◌, length, filter, Bool, true, false, not, ◌&&◌, ◌||◌, if◌then◌else◌, cond, Option, Some, None, is_some, count_by}
+use Rattle.std.specs.Prelude.{◌≡◌, refl, ℕ, zero, suc, ◌+◌, ◌*◌, ◌≤◌, List, [], ◌∷◌, ◌++◌, length, filter, Bool, true, false, not, ◌&&◌, ◌||◌, if◌then◌else◌, cond, Option, Some, None, is_some, count_by}
 use Rattle.std.specs.List.{list_all}
 use Rattle.std.proofs.Common.{arith, sym, ap, subst, ◌∙◌, inl, inr, append_assoc, append-nil, length-append}
 use Rattle.std.proofs.lemmas.Bool.{not-true}
 use Rattle.std.specs.Cmp.{first_so, second_so}
+use Rattle.tv_lemmas.specs.Members.{In}
+use Rattle.tv_lemmas.proofs.OfMembers.{all-in, each_in, in-append, in-options, of-all, of-filter}
 use Rattle.tv_lemmas.proofs.Cases.{on_either}
 use Rattle.tv_value.specs.Nested.{Place}
 use Rattle.tv_value.specs.Values.{JobName, Name}
@@ -13,11 +15,8 @@ use Rattle.tv_model.specs.Jobs.{Job}
 use Rattle.tv_model.specs.Made.{Meaning}
 use Rattle.tv_model.specs.Meanings.{meaning, nesting_limit}
 use Rattle.tv_model.proofs.Tests.{true≠false}
-use Rattle.tv_model.proofs.Turns.{In}
-use Rattle.tv_model.proofs.Order.{in-append}
-use Rattle.tv_model.proofs.Members.{Apart, apart-append, each_in, in-options}
+use Rattle.tv_model.proofs.Members.{apart-append}
 use Rattle.tv_model.proofs.Whole.{IsWhole, not-longer, same-head}
-use Rattle.tv_model.proofs.OfMembers.{of-all, of-filter, all-in}
 use Rattle.tv_history.specs.Entries.{History, is_out}
 use Rattle.tv_history.specs.Going.{IsWellFormed}
 use Rattle.tv_history.specs.Histories.{can_open, can_settle_more, has_open_instance, instances, is_legal, is_offered, is_open}
@@ -26,7 +25,7 @@ use Rattle.tv_history.proofs.OneWorker.{Before, not-both}
 use Rattle.tv_history.proofs.Counts.{bit, tally}
 use Rattle.tv_order.specs.Chains.{is_inside}
 use Rattle.tv_order.specs.FirstIn.{AreHeld, entered_among, entered_in, first_in}
-use Rattle.tv_order.specs.JobOrder.{AllPairs}
+use Rattle.tv_model.specs.JobOrder.{AllPairs, Apart}
 use Rattle.tv_order.proofs.OfTallies.{tally-none}
 use Rattle.tv_order.proofs.OfFirst.{FirstOf, Under, going-open, walked}
 use Rattle.tv_order.proofs.OfStill.{few-still, inside-parts}
@@ -81,7 +80,7 @@ module _ (gives : Giving) (d : Document) (f : IsWellFormed d) (past : History) (
   entered k I = entered_in held into goes k I
 
   abbrev among : ℕ → List Job → List JobName
-  among k js = entered_among held into goes (first_of k) (entered k) js
+  among k js = entered_among into goes (first_of k) (entered k) js
 
   w : IsWhole gives AnyNumber m []
   w = any-whole gives d

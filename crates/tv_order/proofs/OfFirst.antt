@@ -5,6 +5,8 @@ use Rattle.std.specs.Option.{option_or}
 use Rattle.std.proofs.Common.{arith, sym, ap, subst, ◌∙◌, inl, inr, append_assoc, append-nil, length-append}
 use Rattle.std.proofs.lemmas.Bool.{false_from_ne_true, not-true}
 use Rattle.std.specs.Cmp.{first_so, second_so}
+use Rattle.tv_lemmas.specs.Members.{In}
+use Rattle.tv_lemmas.proofs.OfMembers.{each_in}
 use Rattle.tv_lemmas.proofs.Cases.{on_test, on_either}
 use Rattle.tv_value.specs.Nested.{Place}
 use Rattle.tv_value.specs.Values.{JobName, Name}
@@ -13,8 +15,8 @@ use Rattle.tv_model.specs.Jobs.{Job}
 use Rattle.tv_model.specs.Made.{Meaning}
 use Rattle.tv_model.specs.Turns.{is_bounced}
 use Rattle.tv_model.proofs.Tests.{true≠false, both_true, or_right}
-use Rattle.tv_model.proofs.Turns.{In, or_left}
-use Rattle.tv_model.proofs.Members.{Apart, each_in, snoc-parts}
+use Rattle.tv_model.proofs.Turns.{or_left}
+use Rattle.tv_model.proofs.Members.{snoc-parts}
 use Rattle.tv_model.proofs.Whole.{IsWhole, not-longer}
 use Rattle.tv_history.specs.Entries.{History, is_begun_entry, is_ended_entry, is_opened_entry, is_out}
 use Rattle.tv_history.specs.Histories.{all_known, has_open_instance, is_legal, is_open, is_running, is_settled, may_go_on}
@@ -24,7 +26,7 @@ use Rattle.tv_history.proofs.Stuck.{begun-tried}
 use Rattle.tv_history.proofs.Done.{opener-ended}
 use Rattle.tv_history.proofs.OneWorker.{Before, IsLaidOut, before-right}
 use Rattle.tv_order.specs.FirstIn.{AreHeld, first_among, first_in}
-use Rattle.tv_order.specs.JobOrder.{AllPairs}
+use Rattle.tv_model.specs.JobOrder.{AllPairs, Apart}
 use Rattle.tv_order.proofs.OfStrict.{PrefixFirst}
 
 -- ---- lists
@@ -229,9 +231,9 @@ module _ (gives : Giving) (D : ℕ → Type 0) (m : Meaning) (w : IsWhole gives 
         by true e = from (inside j.name) (passes-shut j h e) (rec e)
         by false e = itself (passes j) refl e
 
-    among : (inside : JobName → Option Job) (I : JobName) (js : List Job) → ((j : Job) → In j js → In j m.jobs × (j.instance ≡ I)) → AllPairs (λ j k. Before j k m.jobs) js → ((j : Job) → In j js → into j ≡ true → FirstOf (Under j.name) (inside j.name)) → FirstOf (InOneOf js) (first_among held into passes inside js)
+    among : (inside : JobName → Option Job) (I : JobName) (js : List Job) → ((j : Job) → In j js → In j m.jobs × (j.instance ≡ I)) → AllPairs (λ j k. Before j k m.jobs) js → ((j : Job) → In j js → into j ≡ true → FirstOf (Under j.name) (inside j.name)) → FirstOf (InOneOf js) (first_among into passes inside js)
     among inside I [] of p rec = λ y i s. absurd s.1
-    among inside I (j ∷ js) of p rec = by (here_of inside (into j) j) (first_among held into passes inside js) (in-job inside j (of j (inl refl)).0 (rec j (inl refl))) (among inside I js (λ k h. of k (inr h)) p.1 (λ k h. rec k (inr h)))
+    among inside I (j ∷ js) of p rec = by (here_of inside (into j) j) (first_among into passes inside js) (in-job inside j (of j (inl refl)).0 (rec j (inl refl))) (among inside I js (λ k h. of k (inr h)) p.1 (λ k h. rec k (inr h)))
       where
         later : (x : Job) → In x m.jobs → AtOrIn j x → (k : Job) → In k js → (y : Job) → In y m.jobs → AtOrIn k y → Before x y m.jobs
         later x i a k h y u b =
@@ -269,7 +271,7 @@ module _ (gives : Giving) (D : ℕ → Type 0) (m : Meaning) (w : IsWhole gives 
     -- so many levels may follow
     pub walked : (k : ℕ) (I : JobName) → is_open past I ≡ true → ((y : Job) → In y m.jobs → length y.name ≤ length I + k) → FirstOf (Under I) (first_in held into passes k I)
     walked zero I o b = λ y i u. absurd (omega (arith, ap (λ (l : JobName). length l) u.2 ∙ length-append I (u.0 ∷ u.1), b y i))
-    walked (suc k) I o b = from (first_among held into passes (first_in held into passes k) (held I)) (among (first_in held into passes k) I (held I) ((are I o).of_instance) ((are I o).in_order) (deeper (λ J q c. walked k J q c)))
+    walked (suc k) I o b = from (first_among into passes (first_in held into passes k) (held I)) (among (first_in held into passes k) I (held I) ((are I o).of_instance) ((are I o).in_order) (deeper (λ J q c. walked k J q c)))
       where
         deeper : ((J : JobName) → is_open past J ≡ true → ((y : Job) → In y m.jobs → length y.name ≤ length J + k) → FirstOf (Under J) (first_in held into passes k J)) → (j : Job) → In j (held I) → into j ≡ true → FirstOf (Under j.name) (first_in held into passes k j.name)
         deeper rec j h q =

@@ -1,30 +1,20 @@
 -- All jobs of each instance may be held.
 use Rattle.std.specs.Prelude.{refl, List, [], ◌∷◌, Bool, true, false, cond, filter}
 use Rattle.std.proofs.Common.{inl, inr}
+use Rattle.tv_lemmas.proofs.OfMembers.{in-filter, in_each, of-filter, each-filter}
 use Rattle.tv_value.specs.Orders.{same_job}
 use Rattle.tv_value.proofs.OfJobNames.{same_job_decides}
 use Rattle.tv_model.specs.Jobs.{Job}
 use Rattle.tv_model.specs.Made.{Meaning}
-use Rattle.tv_model.proofs.Tests.{Each}
-use Rattle.tv_model.proofs.Members.{in_each}
-use Rattle.tv_model.proofs.OfMembers.{of-filter, in-filter}
 use Rattle.tv_history.specs.Entries.{History}
 use Rattle.tv_history.proofs.OneWorker.{Before}
 use Rattle.tv_order.specs.FirstIn.{AreHeld, own_jobs}
-use Rattle.tv_order.specs.JobOrder.{AllPairs}
+use Rattle.tv_model.specs.JobOrder.{AllPairs}
 use Rattle.tv_order.proofs.OfOrder.{pairs-map}
 
 pairs-self : {A : Type 0} (xs : List A) → AllPairs (λ x y. Before x y xs) xs
 pairs-self [] = tt
 pairs-self {A = A} (x ∷ xs) = (in_each (λ y. Before x y (x ∷ xs)) xs (λ y h. inl (refl, h)), pairs-map (λ y z. Before y z xs) (λ y z. Before y z (x ∷ xs)) (λ y z h. inr h) xs (pairs-self xs))
-
-each-filter : {A : Type 0} (R : A → Type 0) (p : A → Bool) (xs : List A) → Each R xs → Each R (filter p xs)
-each-filter R p [] h = tt
-each-filter {A = A} R p (x ∷ xs) h = by (p x) (each-filter R p xs h.1)
-  where
-    by : (b : Bool) → Each R (filter p xs) → Each R (cond b (x ∷ filter p xs) (filter p xs))
-    by true k = (h.0, k)
-    by false k = k
 
 pairs-filter : {A : Type 0} (R : A → A → Type 0) (p : A → Bool) (xs : List A) → AllPairs R xs → AllPairs R (filter p xs)
 pairs-filter R p [] h = tt

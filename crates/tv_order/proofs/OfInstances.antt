@@ -2,20 +2,20 @@
 use Rattle.std.specs.Prelude.{◌≡◌, refl, ℕ, zero, suc, ◌⊎◌, List, [], ◌∷◌, ◌++◌, Bool, true, false, if◌then◌else◌, Option, Some, None}
 use Rattle.std.specs.Option.{option_map_or}
 use Rattle.std.proofs.Common.{sym, ap, subst, ◌∙◌, inl, inr}
+use Rattle.tv_lemmas.specs.Members.{In}
 use Rattle.tv_lemmas.proofs.Cases.{on_either}
 use Rattle.tv_value.specs.Nested.{Place}
 use Rattle.tv_value.specs.Orders.{named}
 use Rattle.tv_value.specs.Values.{JobName, Name}
 use Rattle.tv_gate.specs.Outcomes.{Giving}
 use Rattle.tv_flow.specs.Flows.{Document, Flow, Step}
-use Rattle.tv_depths.specs.Ranks.{ranked}
+use Rattle.tv_instance.specs.Ranks.{ranked}
 use Rattle.tv_model.specs.Jobs.{Job}
 use Rattle.tv_model.specs.Meanings.{meaning, nesting_limit}
 use Rattle.tv_model.proofs.Tests.{true≠false}
-use Rattle.tv_model.proofs.Turns.{In}
 use Rattle.tv_model.proofs.Sound.{cancel, first_of}
 use Rattle.tv_history.proofs.OneWorker.{Before, one-first}
-use Rattle.tv_order.specs.JobOrder.{job_before, names_before, step_flow, same_spot, spot_before, steps_at, steps_in}
+use Rattle.tv_model.specs.JobOrder.{job_before, names_before, step_flow, same_spot, spot_before, steps_at, steps_in}
 use Rattle.tv_order.proofs.OfOrder.{jobs-in_order}
 use Rattle.tv_order.proofs.OfStrict.{pair-before, same-spots, spot-itself, spot-strict}
 

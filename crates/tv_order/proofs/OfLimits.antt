@@ -5,6 +5,8 @@ use Rattle.std.specs.Cmp.Lexicographic.{bytes_decides}
 use Rattle.std.proofs.Common.{arith, sym, ap, subst, ◌∙◌, inl, inr}
 use Rattle.std.proofs.lemmas.Bool.{ltb-true, not-true}
 use Rattle.std.specs.Cmp.{first_so, second_so}
+use Rattle.tv_lemmas.specs.Members.{In}
+use Rattle.tv_lemmas.proofs.OfMembers.{each_in, some_in}
 use Rattle.tv_history.proofs.Legal.{legal-of}
 use Rattle.tv_lemmas.proofs.Cases.{on_test, on_either, on_or}
 use Rattle.tv_value.specs.Orders.{same_job, same_name}
@@ -16,8 +18,6 @@ use Rattle.tv_model.specs.Made.{Meaning}
 use Rattle.tv_model.specs.Meanings.{meaning, nesting_limit}
 use Rattle.tv_model.specs.Turns.{is_bounced}
 use Rattle.tv_model.proofs.Tests.{true≠false, both_true}
-use Rattle.tv_model.proofs.Turns.{In}
-use Rattle.tv_model.proofs.Order.{some_in}
 use Rattle.tv_history.specs.Entries.{Entry, History, handed_out, is_begun_entry, opened}
 use Rattle.tv_history.specs.Histories.{has_open_instance, has_place, is_idle, is_legal, is_legal_after, is_ready, is_running, is_settled}
 use Rattle.tv_history.proofs.Needs.{stays_settled}
@@ -25,9 +25,8 @@ use Rattle.tv_history.proofs.Running.{begins, idle_begun}
 use Rattle.tv_history.proofs.Ready.{AnyNumber, all-sound, are-jobs}
 use Rattle.tv_history.proofs.Tests.{none_pass}
 use Rattle.tv_history.proofs.Counts.{count-tally, tally}
-use Rattle.tv_model.proofs.Members.{each_in}
 use Rattle.tv_order.proofs.OfOrder.{IsPlainJob}
-use Rattle.tv_order.specs.JobOrder.{limit_at}
+use Rattle.tv_model.specs.JobOrder.{limit_at}
 use Rattle.tv_order.proofs.OfTallies.{tally-none, tally-one_more, tally-weaken}
 use Rattle.tv_order.proofs.OfFirst.{open-running}
 use Rattle.tv_order.proofs.OfDocuments.{any-whole, orderly}

@@ -4,6 +4,8 @@ use Rattle.std.specs.Option.{option_map_or}
 use Rattle.std.specs.Cmp.Lexicographic.{bytes_decides}
 use Rattle.std.proofs.Common.{arith, sym, ap, subst, ◌∙◌, inl, inr, append_assoc, append-nil, eq-eqb, ne_eqb, length-append}
 use Rattle.std.proofs.lemmas.Bool.{lt-ltb, false_from_ne_true, cond-true, cond-false}
+use Rattle.tv_lemmas.specs.Members.{Each, In}
+use Rattle.tv_lemmas.proofs.OfMembers.{each_in, in-append, in_each, of-flat}
 use Rattle.tv_lemmas.proofs.Cases.{on_either}
 use Rattle.tv_value.specs.Activities.{Activity, nested, service}
 use Rattle.tv_value.specs.Nested.{leaf, list, no_trees, tree, Place, nodes, nodes_below, nodes_from}
@@ -13,26 +15,24 @@ use Rattle.tv_flow.specs.Flows.{Document, Flow, Step}
 use Rattle.tv_strategy.specs.Iterations.{Iteration, Iterations, job, passed}
 use Rattle.tv_strategy.specs.Origins.{Origin}
 use Rattle.tv_gate.specs.Outcomes.{Giving}
-use Rattle.tv_depths.specs.Delivered.{Delivered}
-use Rattle.tv_depths.specs.Ranks.{is_among, ranked}
-use Rattle.tv_depths.specs.Steps.{spot}
+use Rattle.tv_instance.specs.Delivered.{Delivered}
+use Rattle.tv_instance.specs.Ranks.{is_among, ranked}
+use Rattle.tv_instance.specs.Steps.{spot}
 use Rattle.tv_model.specs.Instances.{node_jobs, step_made, steps_made, zip_names}
 use Rattle.tv_model.specs.Jobs.{Job}
 use Rattle.tv_model.specs.Made.{Made, Meaning, Opened, endings}
 use Rattle.tv_model.specs.Meanings.{flow_meaning, instance_meaning, jobs_with_inside, meaning, nesting_limit, no_meaning}
-use Rattle.tv_model.proofs.Tests.{Each, true≠false, both_true, or_right}
-use Rattle.tv_model.proofs.Turns.{In, or_left}
-use Rattle.tv_model.proofs.Order.{in-append}
+use Rattle.tv_model.proofs.Tests.{true≠false, both_true, or_right}
+use Rattle.tv_model.proofs.Turns.{or_left}
 use Rattle.tv_model.proofs.Sound.{FreshNames}
-use Rattle.tv_model.proofs.Members.{each_in, in_each, of-flat}
 use Rattle.tv_model.proofs.Instances.{given_of, ranked-fresh, steps_of}
 use Rattle.tv_strategy.proofs.OfSources.{each-append}
 use Rattle.tv_strategy.proofs.OfEach.{each-weaken}
 use Rattle.tv_model.specs.Agreeing.{ActivitiesNest, NestsWithin, StepsNest}
 use Rattle.tv_model.proofs.Whole.{rank-each}
-use Rattle.tv_agreed.proofs.Opening as opening
-use Rattle.tv_agreed.specs.Opening.{first_nested}
-use Rattle.tv_order.specs.JobOrder.{AllPairs, job_before, limit_at, limit_in, names_before, step_flow, place_before, rank_in, same_spot, spot_before}
+use Rattle.tv_model.proofs.OfOpening as opening
+use Rattle.tv_model.specs.Opening.{first_nested}
+use Rattle.tv_model.specs.JobOrder.{AllPairs, job_before, limit_at, limit_in, names_before, step_flow, place_before, rank_in, same_spot, spot_before}
 
 -- ---- pairs
 

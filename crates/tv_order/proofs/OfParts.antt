@@ -2,12 +2,14 @@
 use Rattle.std.specs.Prelude.{◌≡◌, refl, ℕ, zero, suc, ◌⊎◌, List, [], ◌∷◌, ◌++◌, length, flat_map, Option, Some, None, is_some}
 use Rattle.std.specs.Option.{option_map_or}
 use Rattle.std.proofs.Common.{sym, ap, subst, ◌∙◌, inl, inr, append_assoc, append-nil}
+use Rattle.tv_lemmas.specs.Members.{Each, In}
+use Rattle.tv_lemmas.proofs.OfMembers.{in-append, in-flat, in-left, in-right, of-flat, of-map}
 use Rattle.tv_value.specs.Orders.{named}
 use Rattle.tv_value.specs.Values.{JobName, Name, Value}
 use Rattle.tv_gate.specs.Outcomes.{Giving}
 use Rattle.tv_flow.specs.Flows.{Flow, Step}
-use Rattle.tv_depths.specs.Delivered.{StepMeaning}
-use Rattle.tv_depths.specs.Ranks.{ranked}
+use Rattle.tv_instance.specs.Delivered.{StepMeaning}
+use Rattle.tv_instance.specs.Ranks.{ranked}
 use Rattle.tv_model.specs.Agreeing.{NestsWithin}
 use Rattle.tv_model.specs.Earlier.{job_list}
 use Rattle.tv_model.specs.Instances.{given_of}
@@ -15,15 +17,14 @@ use Rattle.tv_model.specs.Instances.{zip_names}
 use Rattle.tv_model.specs.Jobs.{Job}
 use Rattle.tv_model.specs.Made.{Made, Meaning, Opened}
 use Rattle.tv_model.specs.Meanings.{flow_meaning, instance_meaning, jobs_with_inside, no_meaning, steps_inside}
-use Rattle.tv_model.proofs.Tests.{Each, true≠false}
-use Rattle.tv_model.proofs.Turns.{In}
-use Rattle.tv_model.proofs.Order.{in-append, in-left, in-right, of-map}
+use Rattle.tv_model.proofs.Tests.{true≠false}
 use Rattle.tv_model.proofs.Sound.{AreDistinct}
-use Rattle.tv_model.proofs.Members.{Apart, in-flat, of-flat, once-of_apart}
+use Rattle.tv_model.proofs.Members.{once-of_apart}
+use Rattle.tv_model.specs.JobOrder.{Apart}
 use Rattle.tv_model.proofs.Formed.{none-formed, own-apart, steps-formed}
 use Rattle.tv_model.proofs.Instances.{all-distinct, given-free, ranked-fresh}
 use Rattle.tv_model.proofs.Whole.{AnyNumber, IsWhole, StepsHave, flow-whole, not-longer, rank-each, same-head}
-use Rattle.tv_agreed.specs.Opening.{first_nested}
+use Rattle.tv_model.specs.Opening.{first_nested}
 use Rattle.tv_order.specs.Parts.{IsInstance, OwnPart, made_of, steps_of_made}
 use Rattle.tv_order.proofs.OfOrder.{IsOf, InsideAt, deeper-nests, flow-orderly, made-all, steps-each}
 use Rattle.tv_strategy.proofs.OfEach.{each-all}
@@ -87,7 +88,7 @@ module _ (gives : Giving) (flows : List (Name × Flow)) where
         by None e i = absurd i
         by (Some m) e i = let t = inner o w m e in ((whole-of k t.0 m o.job.name t.1).steps s i).0
 
-    own-instance : (s : StepMeaning) → In s (steps_of_made gives flows ms) → s.instance ≡ I
+    own-instance : (s : StepMeaning) → In s (steps_of_made ms) → s.instance ≡ I
     own-instance s h = let r = of-map (λ (x : Made). x.step) s ms h in ap (λ (t : StepMeaning). t.instance) r.2 ∙ distinct ms (all-distinct gives inside I flow vs) r.0 r.1
       where
         distinct : (ks : List Made) → AreDistinct I ks → (x : Made) → In x ks → x.step.instance ≡ I
@@ -108,13 +109,13 @@ module _ (gives : Giving) (flows : List (Name × Flow)) where
     -- the instance itself
     itself : IsInstance gives flows n I k flow vs
     itself = record {
-      steps = λ s h e. step s e (in-append s (steps_of_made gives flows ms) (flat_map steps_inside os) h);
-      all_steps = λ s h. in-left s (steps_of_made gives flows ms) (flat_map steps_inside os) h;
+      steps = λ s h e. step s e (in-append s (steps_of_made ms) (flat_map steps_inside os) h);
+      all_steps = λ s h. in-left s (steps_of_made ms) (flat_map steps_inside os) h;
       jobs = λ j h e. let r = of-flat jobs_with_inside j os h in job j e r.0 r.1 r.2;
       all_jobs = λ o h. in-flat jobs_with_inside o o.job os h (inl refl);
     }
       where
-        step : (s : StepMeaning) → s.instance ≡ I → In s (steps_of_made gives flows ms) ⊎ In s (flat_map steps_inside os) → In s (steps_of_made gives flows ms)
+        step : (s : StepMeaning) → s.instance ≡ I → In s (steps_of_made ms) ⊎ In s (flat_map steps_inside os) → In s (steps_of_made ms)
         step s e (inl h) = h
         step s e (inr h) = let r = of-flat steps_inside s os h in let b = step-inside r.0 (own r.0 r.1) s r.2 in absurd (not-own r.0 (own r.0 r.1) b.0 (sym e ∙ b.1))
 
@@ -125,13 +126,13 @@ module _ (gives : Giving) (flows : List (Name × Flow)) where
     -- an instance inside an opened job is one of the whole
     lifted : (o : Opened) → In o os → (m : Meaning) → o.inside ≡ Some m → (J r : JobName) → J ≡ o.job.name ++ r → (l : ℕ) (fl : Flow) (us : List (Name × Value)) → IsInstance gives flows m J l fl us → IsInstance gives flows n J l fl us
     lifted o h m e J r q l fl us p = record {
-      steps = λ s i g. p.steps s (step s g (in-append s (steps_of_made gives flows ms) (flat_map steps_inside os) i)) g;
-      all_steps = λ s i. in-right s (steps_of_made gives flows ms) (flat_map steps_inside os) (in-flat steps_inside o s os h (subst (λ t. In s (option_map_or (λ (x : Meaning). x.steps) t [])) (sym e) (p.all_steps s i)));
+      steps = λ s i g. p.steps s (step s g (in-append s (steps_of_made ms) (flat_map steps_inside os) i)) g;
+      all_steps = λ s i. in-right s (steps_of_made ms) (flat_map steps_inside os) (in-flat steps_inside o s os h (subst (λ t. In s (option_map_or (λ (x : Meaning). x.steps) t [])) (sym e) (p.all_steps s i)));
       jobs = λ j i g. p.jobs j (let z = of-flat jobs_with_inside j os i in job j g z.0 z.1 z.2) g;
       all_jobs = λ u i. in-flat jobs_with_inside o u.job os h (inr (subst (λ t. In u.job (option_map_or (λ (x : Meaning). x.jobs) t [])) (sym e) (p.all_jobs u i)));
     }
       where
-        step : (s : StepMeaning) → s.instance ≡ J → In s (steps_of_made gives flows ms) ⊎ In s (flat_map steps_inside os) → In s m.steps
+        step : (s : StepMeaning) → s.instance ≡ J → In s (steps_of_made ms) ⊎ In s (flat_map steps_inside os) → In s m.steps
         step s g (inl i) = absurd (not-own o (own o h) r (sym (own-instance s i) ∙ g ∙ q))
         step s g (inr i) =
             let z = of-flat steps_inside s os i in

@@ -1,8 +1,9 @@
 -- Where nothing can be settled, an open instance has a job inside it that goes on, or a try out inside. So few open instances have neither.
-use Rattle.std.specs.Prelude.{◌≡◌, refl, ◌+◌, ◌*◌, ◌<◌, ◌≤◌, List, [], ◌∷◌, ◌++◌, length, Bool, true, false, ◌&&◌, ◌||◌, if◌then◌else◌, count_by}
+use Rattle.std.specs.Prelude.{◌≡◌, refl, ◌+◌, ◌*◌, ◌≤◌, List, [], ◌∷◌, ◌++◌, length, Bool, true, false, ◌&&◌, ◌||◌, count_by}
 use Rattle.std.proofs.Common.{arith, sym, ap, subst, ◌∙◌, length-append}
 use Rattle.std.proofs.lemmas.Bool.{and_right}
 use Rattle.std.specs.Cmp.{first_so, second_so}
+use Rattle.tv_lemmas.specs.Members.{In}
 use Rattle.tv_value.specs.Nested.{Place}
 use Rattle.tv_value.specs.Values.{JobName, Name}
 use Rattle.tv_flow.specs.Flows.{Document}
@@ -14,15 +15,13 @@ use Rattle.tv_history.specs.Entries.{History, is_out}
 use Rattle.tv_model.specs.Levels.{levels}
 use Rattle.tv_history.specs.Histories.{is_open, is_offered, can_open, instances, can_settle_more, is_legal}
 use Rattle.tv_model.proofs.Tests.{true≠false, both_true}
-use Rattle.tv_model.proofs.Turns.{In}
-use Rattle.tv_model.proofs.Members.{Apart}
 use Rattle.tv_history.proofs.Ready.{meaning-whole}
 use Rattle.tv_history.proofs.Stuck as stuck
 use Rattle.tv_history.proofs.Stuck.{AtLeastOne}
 use Rattle.tv_history.specs.Going.{IsWellFormed}
 use Rattle.tv_history.proofs.Counts.{count-tally, tally, total}
 use Rattle.tv_order.specs.Chains.{is_inside}
-use Rattle.tv_order.specs.JobOrder.{same_spot}
+use Rattle.tv_model.specs.JobOrder.{Apart, same_spot}
 use Rattle.tv_order.proofs.OfStrict.{same-spots, spot-itself}
 use Rattle.tv_order.proofs.OfTallies.{few-by, tally-below, tally-none}
 use Rattle.tv_order.proofs.OfDocuments.{name-length}

@@ -1,22 +1,22 @@
 -- Job order is strict: no two jobs stand before each other, and no name before its own first part.
-use Rattle.std.specs.Prelude.{◌≡◌, refl, ℕ, zero, suc, ◌<◌, ◌⊎◌, List, [], ◌∷◌, ◌++◌, Bool, true, false, ◌==◌, if◌then◌else◌, nat_lt, Option, Some, None}
+use Rattle.std.specs.Prelude.{◌≡◌, refl, ℕ, zero, suc, ◌⊎◌, List, [], ◌∷◌, ◌++◌, Bool, true, false, ◌==◌, if◌then◌else◌, nat_lt, Option, Some, None}
 use Rattle.std.specs.Option.{option_map_or}
 use Rattle.std.specs.Cmp.Lexicographic.{bytes_decides}
 use Rattle.std.proofs.Common.{arith, sym, ap, subst, ◌∙◌, inl, inr, eqb-true}
 use Rattle.std.proofs.lemmas.Bool.{ltb-true, false_from_ne_true}
 use Rattle.std.specs.Cmp.{first_so, second_so}
+use Rattle.tv_lemmas.specs.Members.{In}
+use Rattle.tv_lemmas.proofs.OfMembers.{each_in}
 use Rattle.tv_value.specs.Nested.{Place}
 use Rattle.tv_value.specs.Orders.{named, same_name}
 use Rattle.tv_value.specs.Values.{JobName, Name}
 use Rattle.tv_flow.specs.Flows.{Flow, Step}
-use Rattle.tv_depths.specs.Ranks.{ranked}
+use Rattle.tv_instance.specs.Ranks.{ranked}
 use Rattle.tv_model.specs.Jobs.{Job}
 use Rattle.tv_model.proofs.Tests.{true≠false, both_true}
-use Rattle.tv_model.proofs.Turns.{In}
-use Rattle.tv_model.proofs.Members.{each_in}
 use Rattle.tv_model.proofs.Whole.{not-longer}
 use Rattle.tv_history.proofs.OneWorker.{Before, one-first}
-use Rattle.tv_order.specs.JobOrder.{AllPairs, job_before, names_before, step_flow, place_before, rank_in, same_spot, spot_before}
+use Rattle.tv_model.specs.JobOrder.{AllPairs, job_before, names_before, step_flow, place_before, rank_in, same_spot, spot_before}
 use Rattle.tv_order.proofs.OfOrder.{Within}
 
 both-less : (i j : ℕ) → nat_lt i j ≡ true → nat_lt j i ≡ true → ⊥

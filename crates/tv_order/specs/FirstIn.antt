@@ -2,31 +2,26 @@
 -- whose flow is open.
 use Rattle.std.specs.Option.{option_or}
 use Rattle.std.specs.Prelude.{Bool, List, None, Option, Some, [], filter, if◌then◌else◌, is_some, suc, true, zero, ℕ, ◌++◌, ◌||◌, ◌∷◌, ◌≡◌, ◌⊎◌}
+use Rattle.tv_lemmas.specs.Members.{In}
 use Rattle.tv_value.specs.Orders.{same_job}
 use Rattle.tv_value.specs.Values.{JobName}
 use Rattle.tv_model.specs.Jobs.{Job}
 use Rattle.tv_model.specs.Made.{Meaning}
-use Rattle.tv_model.specs.Members.{In}
 use Rattle.tv_history.specs.Entries.{History}
 use Rattle.tv_history.specs.Histories.{has_open_instance, is_open}
-use Rattle.tv_order.specs.JobOrder.{AllPairs}
+use Rattle.tv_model.specs.JobOrder.{AllPairs}
 
 -- x stands before y
 abbrev pub StandsBefore : {A : Type 0} → A → A → List A → Type 0
 StandsBefore x y [] = ⊥
 StandsBefore x y (z ∷ zs) = ((z ≡ x) × In y zs) ⊎ StandsBefore x y zs
 
--- of what is held of each instance: a list of jobs
-module _ (held : JobName → List Job) (walks_into passes : Job → Bool) where
+module _ (walks_into passes : Job → Bool) where
   abbrev pub first_among : (JobName → Option Job) → List Job → Option Job
   first_among inside [] = None
   first_among inside (j ∷ js) =
       option_or (if walks_into j then inside j.name else (if passes j then Some j else None))
       (first_among inside js)
-
-  abbrev pub first_in : ℕ → JobName → Option Job
-  first_in zero instance = None
-  first_in (suc levels) instance = first_among (first_in levels) (held instance)
 
   -- the instances that this walk enters
   abbrev pub entered_among : (JobName → Option Job) → (JobName → List JobName) → List Job
@@ -38,9 +33,17 @@ module _ (held : JobName → List Job) (walks_into passes : Job → Bool) where
       else entered_among inside entered js)
       else (if passes j then [] else entered_among inside entered js)
 
+-- of what is held of each instance: a list of jobs
+module _ (held : JobName → List Job) (walks_into passes : Job → Bool) where
+  abbrev pub first_in : ℕ → JobName → Option Job
+  first_in zero instance = None
+  first_in (suc levels) instance =
+      first_among walks_into passes (first_in levels) (held instance)
+
   abbrev pub entered_in : ℕ → JobName → List JobName
   entered_in zero instance = []
-  entered_in (suc levels) instance = instance ∷ entered_among (first_in levels) (entered_in levels)
+  entered_in (suc levels) instance =
+      instance ∷ entered_among walks_into passes (first_in levels) (entered_in levels)
       (held instance)
 
 -- of each open instance the list has jobs of it alone, in the order of the meaning, and among them each that passes

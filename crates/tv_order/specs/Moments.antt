@@ -1,5 +1,6 @@
 -- A document's run after a history: the words in which the laws speak.
 use Rattle.std.specs.Prelude.{Bool, List, [], false, true, ℕ, ◌&&◌, ◌++◌, ◌||◌, ◌∷◌, ◌≡◌}
+use Rattle.tv_lemmas.specs.Members.{In}
 use Rattle.tv_value.specs.Nested.{Place}
 use Rattle.tv_value.specs.Orders.{same_job, same_name}
 use Rattle.tv_value.specs.Values.{JobName, Name}
@@ -7,9 +8,8 @@ use Rattle.tv_gate.specs.Outcomes.{Giving}
 use Rattle.tv_flow.specs.Flows.{Document}
 use Rattle.tv_model.specs.Jobs.{Job}
 use Rattle.tv_model.specs.Meanings.{meaning}
-use Rattle.tv_model.specs.Members.{In}
 use Rattle.tv_history.specs.Entries.{History}
-use Rattle.tv_history.specs.Histories.{can_open, can_settle_more, has_open_instance, is_legal, is_offered, is_open, is_running, out_count}
+use Rattle.tv_history.specs.Histories.{can_open, can_settle_more, is_legal, is_offered, is_open, out_count}
 
 -- the job j stands at the spot x of the instance I
 abbrev pub StandsAt : Job → JobName → Name × Place → Type 0
@@ -18,6 +18,9 @@ StandsAt j I x = j.name ≡ I ++ x ∷ []
 -- k is of the instance and step of j
 abbrev pub is_beside : Job → Job → Bool
 is_beside j k = same_job k.instance j.instance && same_name k.step j.step
+
+abbrev pub IsOpen : History → JobName → Type 0
+IsOpen past I = is_open past I ≡ true
 
 module _ (gives : Giving) (d : Document) where
   abbrev pub all_jobs : List Job
@@ -33,16 +36,6 @@ module _ (gives : Giving) (d : Document) where
     -- nothing can be bounced, closed, passed or ended
     abbrev pub IsQuiet : Type 0
     IsQuiet = can_settle_more (meaning gives d) past ≡ false
-
-    abbrev pub IsOpen : JobName → Type 0
-    IsOpen I = is_open past I ≡ true
-
-    abbrev pub runs : Job → Bool
-    runs j = is_running past j
-
-    -- the flow that it opened hasn't ended
-    abbrev pub has_open : Job → Bool
-    has_open j = has_open_instance past j
 
     abbrev pub has_offer : Job → Bool
     has_offer j = is_offered (meaning gives d) past j

@@ -1,5 +1,6 @@
 -- The laws of open instances, for every document, all services and every legal history.
 use Rattle.std.specs.Prelude.{List, count_by, false, length, suc, true, ◌&&◌, ◌*◌, ◌++◌, ◌||◌, ◌∷◌, ◌≡◌, ◌≤◌}
+use Rattle.tv_lemmas.specs.Members.{In}
 use Rattle.tv_value.specs.Nested.{Place}
 use Rattle.tv_value.specs.Values.{JobName, Name}
 use Rattle.tv_gate.specs.Outcomes.{Giving}
@@ -7,20 +8,19 @@ use Rattle.tv_flow.specs.Flows.{Document}
 use Rattle.tv_model.specs.Agreeing.{NestsWithin}
 use Rattle.tv_model.specs.Jobs.{Job}
 use Rattle.tv_model.specs.Meanings.{meaning, nesting_limit}
-use Rattle.tv_model.specs.Members.{In}
 use Rattle.tv_history.specs.Entries.{History, is_out}
 use Rattle.tv_history.specs.Going.{IsWellFormed}
-use Rattle.tv_history.specs.Histories.{instances, may_go_on}
+use Rattle.tv_history.specs.Histories.{has_open_instance, instances, is_running, may_go_on}
 use Rattle.tv_order.specs.Chains.{AreNested, is_by_one_from, is_inside}
-use Rattle.tv_order.specs.JobOrder.{Apart, limit_at}
-use Rattle.tv_order.specs.Moments.{IsJob, IsLegal, IsOpen, IsQuiet, all_jobs, goes_on, has_open, is_beside, runs, tries_out}
+use Rattle.tv_model.specs.JobOrder.{Apart, limit_at}
+use Rattle.tv_order.specs.Moments.{IsJob, IsLegal, IsOpen, IsQuiet, all_jobs, goes_on, is_beside, tries_out}
 
 -- ---- where they are
 
 -- a job whose flow is open
 pub record Opener (gives : Giving) (d : Document) (past : History) (j : Job) : Type 0 where
-  pub in_open : IsOpen gives d past j.instance
-  pub running : runs gives d past j ≡ true
+  pub in_open : IsOpen past j.instance
+  pub running : is_running past j ≡ true
   pub waits : may_go_on (meaning gives d) past j ≡ false
 
 -- the instance round an open one is open, and the job that opened it runs and doesn't go on itself
@@ -30,7 +30,7 @@ OpenersRun =
     → IsLegal gives d past
     → (j : Job)
     → IsJob gives d j
-    → has_open gives d past j ≡ true
+    → has_open_instance past j ≡ true
     → Opener gives d past j
 
 -- what goes on stands in an open instance
@@ -41,14 +41,14 @@ GoingIsInside =
     → (j : Job)
     → IsJob gives d j
     → may_go_on (meaning gives d) past j ≡ true
-    → IsOpen gives d past j.instance
+    → IsOpen past j.instance
 
 -- ---- limits of steps
 
 -- of the jobs beside j at most its limit run, and as many at most have an open instance
 pub record Limits (gives : Giving) (d : Document) (past : History) (j : Job) : Type 0 where
-  pub running : count_by (λ k. is_beside j k && runs gives d past k) (all_jobs gives d) ≤ j.limit
-  pub open_within : count_by (λ k. is_beside j k && has_open gives d past k) (all_jobs gives d)
+  pub running : count_by (λ k. is_beside j k && is_running past k) (all_jobs gives d) ≤ j.limit
+  pub open_within : count_by (λ k. is_beside j k && has_open_instance past k) (all_jobs gives d)
       ≤ j.limit
 
 abbrev pub StepsKeepLimits : Type 0
@@ -79,9 +79,9 @@ LimitsAreStated =
 
 -- a legal history: what one worker appended to one in which no job runs
 pub record IsAlone (gives : Giving) (d : Document) (base es : History) : Type 0 where
-  pub idle : (j : Job) → IsJob gives d j → runs gives d base j ≡ false
+  pub idle : (j : Job) → IsJob gives d j → is_running base j ≡ false
   pub legal : IsLegal gives d (es ++ base)
-  pub by_one : is_by_one_from gives (meaning gives d) base es ≡ true
+  pub by_one : is_by_one_from (meaning gives d) base es ≡ true
 
 -- of two open instances one stands in the other
 abbrev pub OpenIsOneChain : Type 0
@@ -93,8 +93,8 @@ OpenIsOneChain =
     → (j k : Job)
     → IsJob gives d j
     → IsJob gives d k
-    → has_open gives d (es ++ base) j ≡ true
-    → has_open gives d (es ++ base) k ≡ true
+    → has_open_instance (es ++ base) j ≡ true
+    → has_open_instance (es ++ base) k ≡ true
     → AreNested j.name k.name
 
 -- at most eight are open, with the main one
@@ -105,7 +105,7 @@ ChainIsShort =
     → NestsWithin d.flows nesting_limit d.main
     → (base es : History)
     → IsAlone gives d base es
-    → suc (count_by (has_open gives d (es ++ base)) (all_jobs gives d)) ≤ nesting_limit
+    → suc (count_by (has_open_instance (es ++ base)) (all_jobs gives d)) ≤ nesting_limit
 
 -- ---- many workers
 
@@ -125,13 +125,13 @@ OpenIsBusy =
     → IsLegal gives d past
     → IsQuiet gives d past
     → (J : JobName)
-    → IsOpen gives d past J
+    → IsOpen past J
     → In J (instances (meaning gives d))
     → BusyJob gives d past J
 
 -- an open instance inside which nothing goes on
 pub record IsStill (gives : Giving) (d : Document) (past : History) (J : JobName) : Type 0 where
-  pub is_open : IsOpen gives d past J
+  pub is_open : IsOpen past J
   pub is_instance : In J (instances (meaning gives d))
   pub still : (k : Job) → IsJob gives d k → is_inside J k.name ≡ true
       → goes_on gives d past k ≡ false

@@ -7,7 +7,7 @@ use Rattle.tv_flow.specs.Flows.{Document, Flow}
 use Rattle.tv_model.specs.Jobs.{Job}
 use Rattle.tv_model.specs.Meanings.{nesting_limit}
 use Rattle.tv_order.specs.FirstIn.{StandsBefore}
-use Rattle.tv_order.specs.JobOrder.{AllPairs, job_before, spot_before, steps_at}
+use Rattle.tv_model.specs.JobOrder.{AllPairs, job_before, spot_before, steps_at}
 use Rattle.tv_order.specs.Moments.{IsJob, StandsAt, all_jobs}
 
 -- the jobs of a meaning stand in job order

@@ -8,7 +8,7 @@ use Rattle.tv_model.specs.Agreeing.{NestsWithin}
 use Rattle.tv_model.specs.Instances.{zip_names}
 use Rattle.tv_model.specs.Jobs.{Job}
 use Rattle.tv_model.specs.Meanings.{meaning, nesting_limit}
-use Rattle.tv_agreed.specs.Opening.{first_nested}
+use Rattle.tv_model.specs.Opening.{first_nested}
 use Rattle.tv_order.specs.Moments.{IsJob}
 use Rattle.tv_order.specs.Parts.{IsInstance, OwnPart}
 

@@ -1,17 +1,18 @@
 -- Worked documents and histories: job order, and three instances that are open while no try is out.
 use Rattle.std.specs.Prelude.{Bool, Option, Some, [], codes, count_by, false, map, option_map, reverse, true, ◌∷◌, ◌≡◌}
 use Rattle.tv_value.specs.Values.{JobName}
+use Rattle.tv_local.specs.LocalGives.{local_gives}
 use Rattle.tv_flow.specs.Flows.{Document}
 use Rattle.tv_model.specs.Jobs.{Job}
 use Rattle.tv_model.specs.Meanings.{nesting_limit}
 use Rattle.tv_model.specs.RowsOfFlows.{opening, side_by_side}
-use Rattle.tv_model.specs.TextServices.{text_services}
 use Rattle.tv_model.specs.Writing.{meant}
 use Rattle.tv_history.specs.Entries.{History, closed, opened, recalled}
+use Rattle.tv_history.specs.Histories.{has_open_instance}
 use Rattle.tv_history.specs.RowsOfHistories.{inner, n0, n1, out_first, p0, p1, q0, q1, spot_of}
 use Rattle.tv_order.specs.FirstIn.{entered_in, first_in, own_jobs}
-use Rattle.tv_order.specs.JobOrder.{job_before}
-use Rattle.tv_order.specs.Moments.{IsLegal, IsOpen, has_offer, has_open, tries_out}
+use Rattle.tv_model.specs.JobOrder.{job_before}
+use Rattle.tv_order.specs.Moments.{IsLegal, IsOpen, has_offer, tries_out}
 
 abbrev pub before : Document → JobName → JobName → Bool
 before d a b = job_before d.flows nesting_limit d.main a b
@@ -36,22 +37,23 @@ second = (codes "n", 1 ∷ []) ∷ (codes "u", []) ∷ []
 -- the flow of each of two items is opened and its try handed out, and then both tries are recalled
 abbrev pub both_recalled : History
 both_recalled =
-    reverse (closed (spot_of (codes "n") []) 3 ∷ opened n0 ∷ out_first inner ∷ opened n1 ∷ out_first second ∷ recalled 2 ∷ [])
+    reverse (closed (spot_of (codes "n") []) 3 ∷ opened n0 ∷ out_first inner ∷ opened n1
+    ∷ out_first second ∷ recalled 2 ∷ [])
 
 -- of the run of this document after it
 abbrev pub has_open_now : Job → Bool
-has_open_now j = has_open text_services opening both_recalled j
+has_open_now j = has_open_instance both_recalled j
 
 abbrev pub has_offer_now : Job → Bool
-has_offer_now j = has_offer text_services opening both_recalled j
+has_offer_now j = has_offer local_gives opening both_recalled j
 
 -- so the open instances are not bounded by the tries that are out: the offers in them count too
 abbrev pub OffersKeepInstancesOpen : Type 0
 OffersKeepInstancesOpen =
-    IsLegal text_services opening both_recalled
-    × IsOpen text_services opening both_recalled []
+    IsLegal local_gives opening both_recalled
+    × IsOpen both_recalled []
     × (count_by has_open_now (meant opening).jobs ≡ 2)
-    × (tries_out text_services opening both_recalled ≡ 0)
+    × (tries_out local_gives opening both_recalled ≡ 0)
 
 -- the walk over all jobs of each instance goes into the first open one, and finds the job inside it
 abbrev pub WalksIntoOpenInstance : Type 0

@@ -4,7 +4,7 @@ use Rattle.tv_flow.specs.Flows.{Document}
 use Rattle.tv_model.specs.RowsOfFlows.{opening, two_steps}
 use Rattle.tv_model.specs.Writing.{meant}
 use Rattle.tv_history.specs.Entries.{Entry, closed, ended, opened}
-use Rattle.tv_history.specs.Histories.{kept, room}
+use Rattle.tv_history.specs.Histories.{kept_results, node_room}
 use Rattle.tv_history.specs.RowsOfHistories.{in_right, inner, is_legal_run, n0, n1, out_first, p0, q0, spot_of}
 use Rattle.tv_order.specs.Rows.{second}
 
@@ -12,8 +12,8 @@ use Rattle.tv_order.specs.Rows.{second}
 abbrev pub Holds : Document → List Entry → ℕ → ℕ → Type 0
 Holds d entries results nodes =
     (is_legal_run d entries ≡ true)
-    × (kept (meant d) (reverse entries) ≡ results)
-    × (room (meant d) (reverse entries) ≡ nodes)
+    × (kept_results (meant d) (reverse entries) ≡ results)
+    × (node_room (meant d) (reverse entries) ≡ nodes)
 
 -- each of two steps has a list of two texts at its port and its output, and its iteration is as long; so is the
 -- output of the flow: three nodes each. The first job's result is kept while the next works on it.

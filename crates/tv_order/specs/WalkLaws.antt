@@ -7,18 +7,19 @@ use Rattle.tv_model.specs.Jobs.{Job}
 use Rattle.tv_model.specs.Meanings.{meaning, nesting_limit}
 use Rattle.tv_history.specs.Entries.{History, opened}
 use Rattle.tv_history.specs.Going.{IsWellFormed}
-use Rattle.tv_history.specs.Histories.{is_legal_after, is_open, may_go_on}
+use Rattle.tv_history.specs.Histories.{has_open_instance, is_legal_after, is_open, may_go_on}
 use Rattle.tv_order.specs.FirstIn.{AreHeld, entered_in, first_in, own_jobs}
-use Rattle.tv_order.specs.Moments.{IsJob, IsLegal, IsOpen, IsQuiet, all_jobs, goes_on, has_offer, has_open, tries_out}
+use Rattle.tv_order.specs.Moments.{IsJob, IsLegal, IsOpen, IsQuiet, all_jobs, goes_on, has_offer, tries_out}
 
 -- while the main instance is open, walking down from it finds the first job that passes, whatever else is held
 abbrev pub Finds : Giving → Document → History → (Job → Bool) → Type 0
 Finds gives d past passes =
     IsLegal gives d past
-    → IsOpen gives d past []
+    → IsOpen past []
     → (held : JobName → List Job)
     → AreHeld (meaning gives d) past held passes
-    → first_in held (has_open gives d past) passes nesting_limit [] ≡ find passes (all_jobs gives d)
+    → first_in held (has_open_instance past) passes nesting_limit []
+    ≡ find passes (all_jobs gives d)
 
 -- the first offered ask
 abbrev pub FirstOfferedIsFound : Type 0
@@ -71,8 +72,8 @@ FewAreEntered =
     → (past : History)
     → IsLegal gives d past
     → IsQuiet gives d past
-    → IsOpen gives d past []
+    → IsOpen past []
     → (held : JobName → List Job)
     → AreHeld (meaning gives d) past held (goes_on gives d past)
-    → length (entered_in held (has_open gives d past) (goes_on gives d past) nesting_limit [])
+    → length (entered_in held (has_open_instance past) (goes_on gives d past) nesting_limit [])
     ≤ nesting_limit * suc (tries_out gives d past)

@@ -7,6 +7,8 @@ ghost use Rattle.tv_order.specs.Rows.{OffersKeepInstancesOpen, OrderOfRows, Walk
 ghost use Rattle.tv_order.specs.RowsOfRoom.{KeepsResultOfFirstJob, KeepsResultsOfOpenInstances};
 ghost use Rattle.tv_order.specs.WalkLaws.{FewAreEntered, FirstGoingIsFound, FirstGoingIsOffered, FirstOfferedIsFound, GoingIsPlain, NothingGoesOnAtEnd, OwnAreHeld};
 
+pub mod offers;
+
 /// The jobs of a meaning, and those of each instance, stand in job order, which is strict.
 pub fn job_order()
     ensures ordered { JobsAreInOrder }

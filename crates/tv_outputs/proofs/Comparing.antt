@@ -1,5 +1,5 @@
 -- Whether what is found in a tree is a value, as the calls tell it.
-use Rattle.std.proofs.Common.{◌≡◌, ◌<◌, ◌+◌, ℕ, zero, suc, Bool, true, false, ◌&&◌, List, [], ◌∷◌, length, map, get_or, Option, Some, None, refl, sym, ap, ◌∙◌, subst, true≢false, arith, inl, inr}
+use Rattle.std.proofs.Common.{◌≡◌, ◌<◌, ◌+◌, ℕ, zero, suc, Bool, true, false, List, [], ◌∷◌, length, map, get_or, Option, Some, None, refl, sym, ap, ◌∙◌, subst, true≢false, arith, inl, inr}
 use Rattle.std.specs.Prelude.{◌↔◌, IsTrue, slice_get, if◌then◌else◌}
 use Rattle.std.specs.Option.{option_map, option_map_or}
 use Rattle.std.proofs.lemmas.Bool.{cases_eq, and_from}
@@ -19,15 +19,15 @@ use Rattle.tv_parts.specs.Below.{value_in, values_in}
 use Rattle.tv_stream.specs.declared.held.PartKind.TheVariants.{Closed}
 use Rattle.tv_stream.specs.Trees.{Marked}
 use Rattle.tv_stream.specs.Answers.{kind_of, item_of}
+use Rattle.tv_stream.proofs.Mapped.{map-part_at}
 use Rattle.tv_cell.specs.declared.piece.Piece.{Piece}
 use Rattle.tv_cell.specs.PieceValues.{piece_value}
 use Rattle.tv_cell.specs.Sameness.{is_at, same_value}
 use Rattle.tv_cell.proofs.OfPieces.{list-view}
 use Rattle.tv_cell.proofs.OfSameness.{test-decides}
-use Rattle.tv_outputs.specs.Known.{item_value, shown}
+use Rattle.tv_outputs.specs.Known.{item_value, value_tree}
 use Rattle.tv_outputs.specs.FoundIn.{found_in}
 use Rattle.tv_outputs.specs.PartValues.{part_values, list_values, AreParts}
-use Rattle.tv_outputs.proofs.Mapping.{map-part_at}
 use Rattle.tv_outputs.proofs.Building.{Closes, closes-whole, value-there, values-count, values-listed}
 use Rattle.tv_outputs.proofs.OfPieces.{inside-found, part-found, whole-kinds}
 
@@ -68,36 +68,36 @@ whole-found r e = ap (λ b. if b then Some (value_in r) else None) e
 
 module _ (r : Partial (Marked Piece)) where
   -- an item
-  item-whole : (p : Piece) → item_of r ≡ Some p → found_in [] (shown r) ≡ Some (piece_value p)
+  item-whole : (p : Piece) → item_of r ≡ Some p → found_in [] (value_tree r) ≡ Some (piece_value p)
   item-whole p h = by r h
     where
-      by : (t : Partial (Marked Piece)) → item_of t ≡ Some p → found_in [] (shown t) ≡ Some (piece_value p)
+      by : (t : Partial (Marked Piece)) → item_of t ≡ Some p → found_in [] (value_tree t) ≡ Some (piece_value p)
       by wanting e = absurd (none-some p e)
       by (item x) e = ap (λ y. Some (piece_value y)) (same_Some x.value p e)
       by (growing ps) e = absurd (none-some p e)
       by (closed ps) e = absurd (none-some p e)
 
-  pub item-told : (p : Piece) → item_of r ≡ Some p → (u : Value) (b : Bool) → b ≡ same_value (piece_value p) u → IsTrue b ↔ (found_in [] (shown r) ≡ Some u)
-  item-told p h u b e = told-of (Some (piece_value p)) (found_in [] (shown r)) u b e (item-whole p h)
+  pub item-told : (p : Piece) → item_of r ≡ Some p → (u : Value) (b : Bool) → b ≡ same_value (piece_value p) u → IsTrue b ↔ (found_in [] (value_tree r) ≡ Some u)
+  item-told p h u b e = told-of (Some (piece_value p)) (found_in [] (value_tree r)) u b e (item-whole p h)
 
-  pub part-told : (p : Piece) → item_of r ≡ Some p → (q : Place) (i : ℕ) (o : Place) → q ≡ i ∷ o → (u : Value) (b : Bool) → b ≡ is_at (piece_value p) q u → IsTrue b ↔ (found_in q (shown r) ≡ Some u)
+  pub part-told : (p : Piece) → item_of r ≡ Some p → (q : Place) (i : ℕ) (o : Place) → q ≡ i ∷ o → (u : Value) (b : Bool) → b ≡ is_at (piece_value p) q u → IsTrue b ↔ (found_in q (value_tree r) ≡ Some u)
   part-told p h q i o e u b g =
-      told-of (at (piece_value p) q) (found_in q (shown r)) u b g (part-found r q i o e p h)
+      told-of (at (piece_value p) q) (found_in q (value_tree r)) u b g (part-found r q i o e p h)
 
   -- inside, where no item stands
   module _ (none : item_of r ≡ None) (q : Place) (i : ℕ) (o : Place) (e : q ≡ i ∷ o) (u : Value) where
-    inside : found_in q (shown r) ≡ found_in o (shown (part_at r i))
+    inside : found_in q (value_tree r) ≡ found_in o (value_tree (part_at r i))
     inside = inside-found r q i o e none
 
-    pub inner-told : (b : Bool) → IsTrue b ↔ (found_in o (shown (part_at r i)) ≡ Some u) → IsTrue b ↔ (found_in q (shown r) ≡ Some u)
+    pub inner-told : (b : Bool) → IsTrue b ↔ (found_in o (value_tree (part_at r i)) ≡ Some u) → IsTrue b ↔ (found_in q (value_tree r) ≡ Some u)
     inner-told b h = subst (λ t. IsTrue b ↔ (t ≡ Some u)) (sym inside) h
 
-    pub none-told : part_at r i ≡ wanting → IsTrue false ↔ (found_in q (shown r) ≡ Some u)
-    none-told h = told-no (λ k. found-none o u (ap (λ t. found_in o (shown t)) (sym h) ∙ sym inside ∙ k))
+    pub none-told : part_at r i ≡ wanting → IsTrue false ↔ (found_in q (value_tree r) ≡ Some u)
+    none-told h = told-no (λ k. found-none o u (ap (λ t. found_in o (value_tree t)) (sym h) ∙ sym inside ∙ k))
 
   -- nothing is whole but an item or a closed list
-  pub open-told : (u : Value) → item_of r ≡ None → ((n : ℕ) → kind_of r ≡ Closed n → ⊥) → IsTrue false ↔ (found_in [] (shown r) ≡ Some u)
-  open-told u none k = told-no (λ e. whole-kinds r (found-whole (shown r) u e).0 none k)
+  pub open-told : (u : Value) → item_of r ≡ None → ((n : ℕ) → kind_of r ≡ Closed n → ⊥) → IsTrue false ↔ (found_in [] (value_tree r) ≡ Some u)
+  open-told u none k = told-no (λ e. whole-kinds r (found-whole (value_tree r) u e).0 none k)
 
 -- ---- a closed list
 
@@ -165,11 +165,11 @@ module _ (r : Partial Value) (n : ℕ) (c : Closes r n) where
 
 module _ (r : Partial (Marked Piece)) (vs : List Value) where
   abbrev pub AreFound : ℕ → Type 0
-  AreFound n = (i : ℕ) → i < n → found_in [] (part_at (shown r) i) ≡ slice_get vs i
+  AreFound n = (i : ℕ) → i < n → found_in [] (part_at (value_tree r) i) ≡ slice_get vs i
 
-  pub more-found : (n : ℕ) (v : Value) → AreFound n → found_in [] (shown (part_at r n)) ≡ Some v → slice_get vs n ≡ Some v → AreFound (n + 1)
+  pub more-found : (n : ℕ) (v : Value) → AreFound n → found_in [] (value_tree (part_at r n)) ≡ Some v → slice_get vs n ≡ Some v → AreFound (n + 1)
   more-found n v h e g i lt = elim (cases_eq i n) [
-    | inl same ↦ ap (λ j. found_in [] (part_at (shown r) j)) same ∙ ap (found_in []) (map-part_at item_value r n) ∙ e ∙ sym g ∙ ap (slice_get vs) (sym same)
+    | inl same ↦ ap (λ j. found_in [] (part_at (value_tree r) j)) same ∙ ap (found_in []) (map-part_at item_value r n) ∙ e ∙ sym g ∙ ap (slice_get vs) (sym same)
     | inr ne ↦ h i (below i n lt ne)
   ]
     where
@@ -177,7 +177,7 @@ module _ (r : Partial (Marked Piece)) (vs : List Value) where
       below i n h ne = omega arith
 
   -- where one part isn't found, they are not all
-  pub one-other : (n i : ℕ) (v : Value) → i < n → slice_get vs i ≡ Some v → (found_in [] (shown (part_at r i)) ≡ Some v → ⊥) → IsTrue false ↔ AreParts (shown r) n vs
+  pub one-other : (n i : ℕ) (v : Value) → i < n → slice_get vs i ≡ Some v → (found_in [] (value_tree (part_at r i)) ≡ Some v → ⊥) → IsTrue false ↔ AreParts (value_tree r) n vs
   one-other n i v lt g never = told-no (λ a. never (sym (ap (found_in []) (map-part_at item_value r i)) ∙ a.each i lt ∙ g))
 
 -- ---- how large a value is

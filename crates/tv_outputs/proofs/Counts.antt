@@ -6,12 +6,12 @@ use Rattle.std.proofs.lemmas.List.{length-map}
 use Rattle.tv_value.specs.Nested.{Place}
 use Rattle.tv_value.specs.Values.{Value, holds_fault}
 use Rattle.tv_parts.specs.Changes.{arrive, CanArrive}
-use Rattle.tv_parts.specs.Partials.{Partial, holds_some, known_at}
+use Rattle.tv_parts.specs.Partials.{HoldsFaults, Partial, holds_some, known_at}
 use Rattle.tv_parts.proofs.Changes.{arrive-there}
 use Rattle.tv_cell.specs.declared.piece.Piece.{Piece}
 use Rattle.tv_cell.specs.PieceValues.{piece_value, piece_values}
 use Rattle.tv_outputs.specs.Known.{tree_in}
-use Rattle.tv_outputs.specs.Changes.{AllCanArrive, AreMarked, HoldsFaults, Counted, no_value}
+use Rattle.tv_outputs.specs.Changes.{AllCanArrive, AreMarked, Counted, no_value}
 use Rattle.tv_outputs.proofs.Faults.{arrive-levels}
 use Rattle.tv_outputs.proofs.Lists.{length-more}
 

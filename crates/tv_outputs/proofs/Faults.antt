@@ -1,5 +1,6 @@
 -- Where faults stand after a change.
-use Rattle.std.proofs.Common.{◌≡◌, ◌≤◌, ℕ, zero, suc, Bool, true, false, ◌||◌, [], ◌∷◌, length, take, refl, sym, ap, ◌∙◌, le_of_suc-le-suc, not-suc-le-zero}
+use Rattle.std.proofs.Common.{◌≡◌, ◌≤◌, ℕ, zero, suc, Bool, false, ◌||◌, [], ◌∷◌, length, take, refl, sym, ap, ◌∙◌, le_of_suc-le-suc, not-suc-le-zero}
+use Rattle.std.proofs.Math.Bool.{or-false}
 use Rattle.tv_value.specs.Nested.{Place}
 use Rattle.tv_parts.specs.Partials.{Partial, wanting, item, growing, closed, no_parts, part_of, part_at, known_at, holds_some, some_holds}
 use Rattle.tv_parts.specs.Changes.{arrive, close_at, CanArrive, CanClose}
@@ -8,10 +9,6 @@ use Rattle.tv_stream.proofs.Counting.{part-with}
 use Rattle.tv_stream.proofs.Places.{arrive-wanting, close-wanting}
 
 module _ {A : Type 0} (test : A → Bool) where
-  or-false : (b : Bool) → (b || false) ≡ b
-  or-false true = refl
-  or-false false = refl
-
   -- an item that arrives is there, and in all lists around it
   arrive-holds : (q : Place) (x : A) (r : Partial A) → CanArrive q r → holds_some test (arrive q x r) ≡ (holds_some test r || test x)
   arrive-holds [] x wanting can = refl

@@ -17,7 +17,7 @@ use Rattle.tv_stream.specs.NodeCounts.{tree_nodes}
 use Rattle.tv_stream.proofs.NodeCounts.{nodes-mapped}
 use Rattle.tv_stream.proofs.Others.{stays-grown, stays-started}
 use Rattle.tv_cell.specs.declared.piece.Piece.{Piece}
-use Rattle.tv_outputs.specs.Known.{Nodes, all_nodes, item_value, shown, known_of, known_in}
+use Rattle.tv_outputs.specs.Known.{Nodes, all_nodes, item_value, value_tree, known_of, known_in}
 use Rattle.tv_outputs.specs.Kept.{IsNoted, EachItem, IsKept, AreKept, AreKeptBeside}
 use Rattle.tv_outputs.specs.Changes.{Turns}
 use Rattle.tv_outputs.proofs.Lists.{tree-at, same-in, all-same, map-more, get-cases}
@@ -52,7 +52,7 @@ nodes-grown old new [] k tree e same = absurd (none e)
     none h = cc
 nodes-grown old new (t ∷ ts) zero tree e same =
     subst (λ u. (tree_nodes (known_of new t) + all_nodes (known_in new ts)) + tree_nodes (known_of old u) ≡ (tree_nodes (known_of old t) + all_nodes (known_in old ts)) + tree_nodes (known_of new u)) (same_Some t tree e)
-    (turn (tree_nodes (known_of new t)) (tree_nodes (known_of old t)) (all_nodes (known_in new ts)) (all_nodes (known_in old ts)) (ap all_nodes (all-same old new ts (λ j u there. ap shown (same (suc j) u (above j) there)))))
+    (turn (tree_nodes (known_of new t)) (tree_nodes (known_of old t)) (all_nodes (known_in new ts)) (all_nodes (known_in old ts)) (ap all_nodes (all-same old new ts (λ j u there. ap value_tree (same (suc j) u (above j) there)))))
   where
     above : (j : ℕ) → suc j ≢ 0
     above j h = omega arith
@@ -61,7 +61,7 @@ nodes-grown old new (t ∷ ts) zero tree e same =
     turn a b c d h = omega arith
 nodes-grown old new (t ∷ ts) (suc k) tree e same =
     behind (tree_nodes (known_of new t)) (tree_nodes (known_of old t)) (all_nodes (known_in new ts)) (all_nodes (known_in old ts)) (tree_nodes (known_of old tree)) (tree_nodes (known_of new tree))
-    (ap (λ r. tree_nodes (shown r)) (same 0 t (below k) refl))
+    (ap (λ r. tree_nodes (value_tree r)) (same 0 t (below k) refl))
     (nodes-grown old new ts k tree e (λ j u ne there. same (suc j) u (λ is. ne (down j k is)) there))
   where
     below : (k : ℕ) → 0 ≢ suc k
@@ -123,7 +123,7 @@ module _ (beside : ℕ) (old new : Nodes) (region : Region) (trees : List (Handl
     pub turns-grown : (t : Partial Value) → known_of new tree ≡ t → Turns k t (known_in old trees) (known_in new trees)
     turns-grown t is = record {
       turned = tree-at new trees k tree there ∙ is;
-      others = λ j ne. same-in old new trees j (λ u e. ap shown (others-stay j u ne e));
+      others = λ j ne. same-in old new trees j (λ u e. ap value_tree (others-stay j u ne e));
       as_many = length-map trees (known_of new) ∙ sym (length-map trees (known_of old));
     }
 
@@ -147,8 +147,8 @@ module _ (beside : ℕ) (old new : Nodes) (region : Region) (trees : List (Handl
     pub known-started : known_in new (trees ++ tree ∷ []) ≡ known_in old trees ++ wanting ∷ []
     known-started =
         map-more (known_of new) trees tree
-        ∙ ap (λ ts. ts ++ known_of new tree ∷ []) (all-same old new trees (λ j u e. ap shown (unmoved j u e).0.tree))
-        ∙ ap (λ t. known_in old trees ++ t ∷ []) (ap shown started-empty)
+        ∙ ap (λ ts. ts ++ known_of new tree ∷ []) (all-same old new trees (λ j u e. ap value_tree (unmoved j u e).0.tree))
+        ∙ ap (λ t. known_in old trees ++ t ∷ []) (ap value_tree started-empty)
 
     pub kept-started : count_in new (number_of region) ≡ count_in old (number_of region) + 1 → AreKeptBeside beside new region (trees ++ tree ∷ [])
     kept-started one = record {

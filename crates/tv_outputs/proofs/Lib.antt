@@ -11,3 +11,8 @@ pub mod Building
 pub mod OfPieces
 pub mod Comparing
 pub mod Seeing
+pub mod Counting
+pub mod Flattened
+pub mod Slots
+pub mod Places
+pub mod OfValues

@@ -5,23 +5,23 @@ use Rattle.std.proofs.lemmas.Bool.{lt-ltb}
 use Rattle.std.proofs.Math.Bool.{or-false, or-true}
 use Rattle.tv_value.specs.Nested.{Place}
 use Rattle.tv_value.specs.Values.{Value, holds_fault}
-use Rattle.tv_parts.specs.Partials.{Partial, known_at, whole, holds_some}
+use Rattle.tv_parts.specs.Partials.{Partial, known_at, whole, holds_some, HoldsFaults}
 use Rattle.tv_parts.specs.Changes.{arrive, close_at, CanArrive, CanClose}
 use Rattle.tv_pool.specs.declared.handles.Region.{Region}
 use Rattle.tv_stream.specs.declared.partial.Partial.{Partial as Handle}
 use Rattle.tv_stream.specs.Trees.{Marked, tree_of, least_whole}
 use Rattle.tv_stream.specs.Stands.{is_marked}
 use Rattle.tv_stream.specs.Answers.{marked_item}
+use Rattle.tv_stream.proofs.Mapped.{map-arrive, map-close, map-least, map-known, map-whole}
 use Rattle.tv_cell.specs.declared.piece.Piece.{Piece}
 use Rattle.tv_cell.specs.PieceValues.{piece_value}
-use Rattle.tv_outputs.specs.Known.{Nodes, item_value, shown, known_in, tree_in}
+use Rattle.tv_outputs.specs.Known.{Nodes, item_value, value_tree, known_in, tree_in}
 use Rattle.tv_outputs.specs.Kept.{IsNoted, EachItem, AreKept}
-use Rattle.tv_outputs.specs.Changes.{HoldsFaults}
 use Rattle.tv_outputs.proofs.Lists.{tree-at}
-use Rattle.tv_outputs.proofs.Mapping.{map-arrive, map-close, map-whole, map-least, map-known, map-holds, each-known}
+use Rattle.tv_outputs.proofs.Mapping.{map-holds, each-known}
 use Rattle.tv_outputs.proofs.Faults.{arrive-levels, close-levels}
 
-marks : (t : Partial (Marked Piece)) → EachItem IsNoted t → holds_some is_marked t ≡ holds_some holds_fault (shown t)
+marks : (t : Partial (Marked Piece)) → EachItem IsNoted t → holds_some is_marked t ≡ holds_some holds_fault (value_tree t)
 marks t items = map-holds item_value holds_fault is_marked IsNoted (λ x h. h.marked) t items
 
 module _ (pool : Nodes) (region : Region) (trees : List (Handle Piece)) (a : AreKept pool region trees) (k : ℕ) (tree : Handle Piece) (there : slice_get trees k ≡ Some tree) where

@@ -15,6 +15,7 @@ use Rattle.tv_stream.specs.declared.held.PartKind.{PartKind}
 use Rattle.tv_stream.specs.declared.held.PartKind.TheVariants.{Wanting, Growing, Closed, Item}
 use Rattle.tv_stream.specs.Trees.{Marked}
 use Rattle.tv_stream.specs.Answers.{kind_of, item_of}
+use Rattle.tv_stream.proofs.Mapped.{map-count, map-part_at}
 use Rattle.tv_cell.specs.declared.piece.Piece.{Piece}
 use Rattle.tv_value.specs.Views.{view}
 use Rattle.tv_value.specs.declared.value.Value as held
@@ -22,17 +23,16 @@ use Rattle.tv_cell.specs.declared.piece.Piece.TheViews as code
 use Rattle.tv_cell.specs.PieceValues.{piece_value, piece_values}
 use Rattle.tv_cell.specs.Soundness.{IsSound, AreSound, is_sound}
 use Rattle.tv_cell.proofs.OfPieces.{list-sound}
-use Rattle.tv_outputs.specs.Known.{item_value, shown}
+use Rattle.tv_outputs.specs.Known.{item_value, value_tree}
 use Rattle.tv_outputs.specs.Kept.{IsNoted, EachItem}
 use Rattle.tv_outputs.specs.FoundIn.{found_in}
 use Rattle.tv_outputs.specs.PartValues.{list_values}
-use Rattle.tv_outputs.proofs.Mapping.{map-count, map-part_at}
 use Rattle.tv_outputs.proofs.Lists.{map-more, length-more}
 use Rattle.tv_outputs.proofs.Building.{Around, Closes, around, value-there, range-none, range-more, range-few, ended}
 
 -- ---- an item
 
-pub item-found : (r : Partial (Marked Piece)) (p : Piece) (i : ℕ) (q : Place) → item_of r ≡ Some p → found_in (i ∷ q) (shown r) ≡ at (piece_value p) (i ∷ q)
+pub item-found : (r : Partial (Marked Piece)) (p : Piece) (i : ℕ) (q : Place) → item_of r ≡ Some p → found_in (i ∷ q) (value_tree r) ≡ at (piece_value p) (i ∷ q)
 item-found wanting p i q h = absurd (cc)
 item-found (item x) p i q h = ap (λ v. at (piece_value v) (i ∷ q)) (same_Some x.value p h)
 item-found (growing ps) p i q h = absurd (cc)
@@ -44,14 +44,14 @@ item-sound (item x) p h n = subst IsSound (same_Some x.value p h) n.sound
 item-sound (growing ps) p h n = absurd (cc)
 item-sound (closed ps) p h n = absurd (cc)
 
-pub item-is : (r : Partial (Marked Piece)) (p : Piece) → item_of r ≡ Some p → piece_value p ≡ value_in (shown r)
+pub item-is : (r : Partial (Marked Piece)) (p : Piece) → item_of r ≡ Some p → piece_value p ≡ value_in (value_tree r)
 item-is wanting p h = absurd (cc)
 item-is (item x) p h = ap piece_value (sym (same_Some x.value p h))
 item-is (growing ps) p h = absurd (cc)
 item-is (closed ps) p h = absurd (cc)
 
 -- where no item stands, what is found inside is found in the part
-pub open-found : (r : Partial (Marked Piece)) (i : ℕ) (q : Place) → item_of r ≡ None → found_in (i ∷ q) (shown r) ≡ found_in q (part_at (shown r) i)
+pub open-found : (r : Partial (Marked Piece)) (i : ℕ) (q : Place) → item_of r ≡ None → found_in (i ∷ q) (value_tree r) ≡ found_in q (part_at (value_tree r) i)
 open-found wanting i [] h = refl
 open-found wanting i (j ∷ q) h = refl
 open-found (item x) i q h = absurd (cc)
@@ -70,14 +70,14 @@ same-count : (n m : ℕ) → Closed n ≡ Closed m → n ≡ m
 unfolding kind_count
 same-count n m h = ap kind_count h
 
-pub kind-closes : (r : Partial (Marked Piece)) (n : ℕ) → kind_of r ≡ Closed n → Closes (shown r) n
+pub kind-closes : (r : Partial (Marked Piece)) (n : ℕ) → kind_of r ≡ Closed n → Closes (value_tree r) n
 kind-closes wanting n h = absurd (cc)
 kind-closes (item x) n h = absurd (cc)
 kind-closes (growing ps) n h = absurd (cc)
 kind-closes (closed ps) n h = record { parts = map_parts item_value ps; is = refl; count = map-count item_value ps ∙ same-count (part_count ps) n h }
 
 -- a whole tree is an item or a closed list
-pub whole-kinds : (r : Partial (Marked Piece)) → whole (shown r) ≡ true → item_of r ≡ None → ((n : ℕ) → kind_of r ≡ Closed n → ⊥) → ⊥
+pub whole-kinds : (r : Partial (Marked Piece)) → whole (value_tree r) ≡ true → item_of r ≡ None → ((n : ℕ) → kind_of r ≡ Closed n → ⊥) → ⊥
 whole-kinds wanting h i k = true≢false (sym h)
 whole-kinds (item x) h i k = cc
 whole-kinds (growing ps) h i k = true≢false (sym h)
@@ -109,14 +109,14 @@ pub here-found : (r : Partial Value) (q : Place) (v : Value) → [] ≡ q → wh
 here-found r q v e h is = ap (λ x. found_in x r) (sym e) ∙ ap (λ b. if b then Some (value_in r) else None) h ∙ ap Some (sym is)
 
 module _ (r : Partial (Marked Piece)) (q : Place) (i : ℕ) (o : Place) (e : q ≡ i ∷ o) where
-  pub part-found : (p : Piece) → item_of r ≡ Some p → found_in q (shown r) ≡ at (piece_value p) q
-  part-found p h = ap (λ x. found_in x (shown r)) e ∙ item-found r p i o h ∙ ap (at (piece_value p)) (sym e)
+  pub part-found : (p : Piece) → item_of r ≡ Some p → found_in q (value_tree r) ≡ at (piece_value p) q
+  part-found p h = ap (λ x. found_in x (value_tree r)) e ∙ item-found r p i o h ∙ ap (at (piece_value p)) (sym e)
 
-  pub inside-found : item_of r ≡ None → found_in q (shown r) ≡ found_in o (shown (part_at r i))
-  inside-found none = ap (λ x. found_in x (shown r)) e ∙ open-found r i o none ∙ ap (found_in o) (map-part_at item_value r i)
+  pub inside-found : item_of r ≡ None → found_in q (value_tree r) ≡ found_in o (value_tree (part_at r i))
+  inside-found none = ap (λ x. found_in x (value_tree r)) e ∙ open-found r i o none ∙ ap (found_in o) (map-part_at item_value r i)
 
-  pub known-part : known_at q (shown r) ≡ known_at o (shown (part_at r i))
-  known-part = ap (λ x. known_at x (shown r)) e ∙ ap (known_at o) (map-part_at item_value r i)
+  pub known-part : known_at q (value_tree r) ≡ known_at o (value_tree (part_at r i))
+  known-part = ap (λ x. known_at x (value_tree r)) e ∙ ap (known_at o) (map-part_at item_value r i)
 
 pub known-none : (q : Place) (k : Partial Value) → k ≡ wanting → known_at q k ≡ wanting
 known-none [] k e = e
@@ -136,7 +136,7 @@ none-arrives [] v h = refl
 none-arrives (i ∷ q) v h = absurd (true≢false (sym h))
 
 -- where a change makes a list whole, it is closed
-pub whole-closes : (r : Partial (Marked Piece)) (i : ℕ) (q : Place) (v : Value) → is_place (i ∷ q) (shown r) ≡ true → whole (arrive (i ∷ q) v (shown r)) ≡ true → ((n : ℕ) → kind_of r ≡ Closed n → ⊥) → ⊥
+pub whole-closes : (r : Partial (Marked Piece)) (i : ℕ) (q : Place) (v : Value) → is_place (i ∷ q) (value_tree r) ≡ true → whole (arrive (i ∷ q) v (value_tree r)) ≡ true → ((n : ℕ) → kind_of r ≡ Closed n → ⊥) → ⊥
 whole-closes wanting i q v p h k = true≢false (sym h)
 whole-closes (item x) i q v p h k = true≢false (sym p)
 whole-closes (growing ps) i q v p h k = true≢false (sym h)

@@ -16,14 +16,15 @@ use Rattle.tv_stream.specs.Stands.{Stands, KeepsTrees}
 use Rattle.tv_stream.specs.Answers.{marked_item}
 use Rattle.tv_stream.specs.NodeCounts.{tree_nodes, new_nodes}
 use Rattle.tv_stream.proofs.NodeCounts.{nodes-added}
+use Rattle.tv_stream.proofs.Mapped.{map-arrive, map-close, map-can_arrive, map-can_close}
 use Rattle.tv_cell.specs.declared.piece.Piece.{Piece}
 use Rattle.tv_cell.specs.PieceValues.{piece_value}
 use Rattle.tv_cell.specs.Soundness.{IsSound}
-use Rattle.tv_outputs.specs.Known.{Nodes, item_value, shown, known_of, known_in, tree_in}
+use Rattle.tv_outputs.specs.Known.{Nodes, item_value, value_tree, known_of, known_in, tree_in}
 use Rattle.tv_outputs.specs.Kept.{IsNoted, EachItem, AreKept}
 use Rattle.tv_outputs.specs.Changes.{Turns}
 use Rattle.tv_outputs.proofs.Lists.{tree-at}
-use Rattle.tv_outputs.proofs.Mapping.{map-arrive, map-close, can-arrive, can-close, each-arrive, each-close}
+use Rattle.tv_outputs.proofs.Mapping.{each-arrive, each-close}
 use Rattle.tv_outputs.proofs.Keeping.{kept-grown, turns-grown}
 
 pub within : (pool : Nodes) (trees : List (Handle Piece)) (k : ℕ) → k < length (known_in pool trees) → k < length trees
@@ -40,10 +41,10 @@ module _ (pool : Nodes) (region : Region) (trees : List (Handle Piece)) (a : Are
   one-stands = (a.slots k, (a.kept k tree there).stands)
 
   pub one-arrives : (q : Place) → CanArrive q (tree_in (known_in pool trees) k) → CanArrive q (tree_of pool tree)
-  one-arrives q h = can-arrive item_value q (tree_of pool tree) (subst (CanArrive q) (tree-at pool trees k tree there) h)
+  one-arrives q h = map-can_arrive item_value q (tree_of pool tree) (subst (CanArrive q) (tree-at pool trees k tree there) h)
 
   pub one-closes : (q : Place) (n : ℕ) → CanClose q n (tree_in (known_in pool trees) k) → CanClose q n (tree_of pool tree)
-  one-closes q n h = can-close item_value q n (tree_of pool tree) (subst (CanClose q n) (tree-at pool trees k tree there) h)
+  one-closes q n h = map-can_close item_value q n (tree_of pool tree) (subst (CanClose q n) (tree-at pool trees k tree there) h)
 
   module _ (new : Nodes) (other : Handle Piece) (read : tree ≡ get_or trees k tree) (same : other ≡ tree) (keeps : KeepsTrees pool new tree) where
     pub one-same : slice_set trees k other ≡ trees
@@ -69,7 +70,7 @@ module _ (pool : Nodes) (region : Region) (trees : List (Handle Piece)) (a : Are
 
       pub arrived-turns : Turns k (arrive q (piece_value piece) (tree_in (known_in pool trees) k)) (known_in pool trees) (known_in new (slice_set trees k other))
       arrived-turns = one-turns (arrive q (piece_value piece) (tree_in (known_in pool trees) k)) (
-          ap shown is
+          ap value_tree is
           ∙ map-arrive item_value q (marked_item piece (holds_fault (piece_value piece))) (tree_of pool tree)
           ∙ ap (arrive q (piece_value piece)) (sym (tree-at pool trees k tree there))
           )
@@ -81,7 +82,7 @@ module _ (pool : Nodes) (region : Region) (trees : List (Handle Piece)) (a : Are
 
       pub closed-turns : Turns k (close_at q n (tree_in (known_in pool trees) k)) (known_in pool trees) (known_in new (slice_set trees k other))
       closed-turns = one-turns (close_at q n (tree_in (known_in pool trees) k)) (
-          ap shown is
+          ap value_tree is
           ∙ map-close item_value q n (tree_of pool tree)
           ∙ ap (close_at q n) (sym (tree-at pool trees k tree there))
           )

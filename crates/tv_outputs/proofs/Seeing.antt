@@ -13,11 +13,12 @@ use Rattle.tv_stream.specs.Looks.{Shows}
 use Rattle.tv_stream.specs.Stands.{IsCounted, IsLeaf, IsSound, Stands}
 use Rattle.tv_stream.specs.Trees.{Marked, listed, list_of, count_of, optional, tree_at, tree_by, memory_of, tree_of}
 use Rattle.tv_stream.proofs.Same.{sound-suc, sound-zero, tree-suc, tree-zero}
+use Rattle.tv_stream.proofs.Mapped.{map-part_at}
 use Rattle.tv_cell.specs.declared.piece.Piece.{Piece}
-use Rattle.tv_outputs.specs.Known.{item_value, shown}
+use Rattle.tv_outputs.specs.Known.{item_value, value_tree}
 use Rattle.tv_outputs.specs.Kept.{IsNoted, EachItem}
 use Rattle.tv_outputs.specs.Seen.{levels_in, levels_of, Sees}
-use Rattle.tv_outputs.proofs.Mapping.{each-part_at, map-part_at}
+use Rattle.tv_outputs.proofs.Mapping.{each-part_at}
 
 -- ---- the levels of a part
 
@@ -45,7 +46,7 @@ part-levels (growing ps) i n h = further (levels_in (part_of ps i)) (levels_of p
 part-levels (closed ps) i n h = further (levels_in (part_of ps i)) (levels_of ps) n (part-few ps i) h
 
 -- where something stands in a part, there is a level, and the part has one less
-part-below : (r : Partial (Marked Piece)) (i n : ℕ) → whole (part_at (shown r) i) ≡ true → levels_in r ≤ n → (1 ≤ n) × (levels_in (part_at r i) ≤ n - 1)
+part-below : (r : Partial (Marked Piece)) (i n : ℕ) → whole (part_at (value_tree r) i) ≡ true → levels_in r ≤ n → (1 ≤ n) × (levels_in (part_at r i) ≤ n - 1)
 part-below wanting i n w h = absurd (true≢false (sym w))
 part-below (item x) i n w h = absurd (true≢false (sym w))
 part-below (growing ps) i n w h = below (levels_in (part_of ps i)) (levels_of ps) n (part-few ps i) h
@@ -57,10 +58,10 @@ module _ (look inner : Look Piece) (n : ℕ) (r : Partial (Marked Piece)) (i : �
   pub sees-part : Sees inner n (part_at r i)
   sees-part = record { shows = h; noted = each-part_at IsNoted r i s.noted; few = part-levels r i n s.few }
 
-  pub sees-whole : whole (part_at (shown r) i) ≡ true → (1 ≤ n) × Sees inner (n - 1) (part_at r i)
+  pub sees-whole : whole (part_at (value_tree r) i) ≡ true → (1 ≤ n) × Sees inner (n - 1) (part_at r i)
   sees-whole w = let f = part-below r i n w s.few in (f.0, record { shows = h; noted = each-part_at IsNoted r i s.noted; few = f.1 })
 
-pub whole-part : (r : Partial (Marked Piece)) (i : ℕ) → whole (part_at (shown r) i) ≡ true → whole (shown (part_at r i)) ≡ true
+pub whole-part : (r : Partial (Marked Piece)) (i : ℕ) → whole (part_at (value_tree r) i) ≡ true → whole (value_tree (part_at r i)) ≡ true
 whole-part r i w = ap whole (sym (map-part_at item_value r i)) ∙ w
 
 -- ---- a look from the top

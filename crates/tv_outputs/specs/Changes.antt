@@ -1,8 +1,8 @@
 -- What the calls make of what is known, and how many prefixes of a place hold a fault.
-use Rattle.std.specs.Prelude.{◌≡◌, ◌≢◌, ℕ, ◌+◌, ◌≤◌, ◌<◌, List, [], ◌++◌, length, take, nat_lt, Option, Some, None, slice_get, slice_index_or, ◌⊎◌}
+use Rattle.std.specs.Prelude.{◌≡◌, ◌≢◌, ℕ, ◌+◌, ◌≤◌, ◌<◌, List, [], ◌++◌, length, nat_lt, Option, Some, None, slice_get, slice_index_or, ◌⊎◌}
 use Rattle.tv_value.specs.Nested.{Place}
 use Rattle.tv_value.specs.Values.{Value, text_value, holds_fault}
-use Rattle.tv_parts.specs.Partials.{Partial, known_at, holds_some}
+use Rattle.tv_parts.specs.Partials.{Partial, HoldsFaults}
 use Rattle.tv_parts.specs.Changes.{arrive, close_at, CanArrive, CanClose}
 use Rattle.tv_outputs.specs.Known.{tree_in, depth_in}
 
@@ -15,8 +15,8 @@ pub record Arrive (first : ℕ) (q : Place) (values : List Value)
   pub as_many : length new ≡ length old
 
 -- the list at the place is closed in so many trees from the first on, and all other trees stay
-pub record Close (first count : ℕ) (q : Place) (size : ℕ) (old new : List (Partial Value)) : Type
-    0 where
+pub record Close (first count : ℕ) (q : Place) (size : ℕ)
+    (old new : List (Partial Value)) : Type 0 where
   pub closed : (k : ℕ) → k < count → tree_in new (first + k)
       ≡ close_at q size (tree_in old (first + k))
   pub others : (j : ℕ) → (j < first) ⊎ (first + count ≤ j) → tree_in new j ≡ tree_in old j
@@ -47,18 +47,13 @@ abbrev pub least_or_past : Place → Option ℕ → ℕ
 least_or_past q None = length q + 1
 least_or_past q (Some least) = least
 
--- at so many prefixes of the place, from the empty one on, the tree holds a fault
-abbrev pub HoldsFaults : Place → Partial Value → ℕ → Type 0
-HoldsFaults q tree count = (m : ℕ) → m ≤ length q → nat_lt m count
-    ≡ holds_some holds_fault (known_at (take m q) tree)
-
 -- what is read where there is no such value
 abbrev pub no_value : Value
 no_value = text_value []
 
 -- so many counts of faults were pushed, for each tree its own
-pub record Counted (count : ℕ) (q : Place) (old new : List ℕ) (tree : ℕ → Partial Value) : Type
-    0 where
+pub record Counted (count : ℕ) (q : Place) (old new : List ℕ)
+    (tree : ℕ → Partial Value) : Type 0 where
   pub added : List ℕ
   pub all : new ≡ old ++ added
   pub many : length added ≡ count

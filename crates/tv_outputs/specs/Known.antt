@@ -19,11 +19,11 @@ abbrev pub item_value : Marked Piece → Value
 item_value x = piece_value x.value
 
 -- with the values that the pieces stand for
-abbrev pub shown : Partial (Marked Piece) → Partial Value
-shown = map_partial item_value
+abbrev pub value_tree : Partial (Marked Piece) → Partial Value
+value_tree = map_partial item_value
 
 abbrev pub known_of : Nodes → Handle Piece → Partial Value
-known_of pool tree = shown (tree_of pool tree)
+known_of pool tree = value_tree (tree_of pool tree)
 
 abbrev pub known_in : Nodes → List (Handle Piece) → List (Partial Value)
 known_in pool trees = map (known_of pool) trees

@@ -4,3 +4,5 @@ pub mod Changes
 pub mod FoundIn
 pub mod Seen
 pub mod PartValues
+pub mod Stated
+pub mod Worked

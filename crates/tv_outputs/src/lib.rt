@@ -20,8 +20,10 @@
 //! - `pieces`: pieces of one tree
 //! - `values`: values of one tree
 //! - `same`: whether what is found in one tree is a value
+//! - `laws`: a region has a node for each place of its trees at which something is known, and no others but roots
 #![tactic(auto)]
 
+pub mod laws;
 mod one;
 mod outputs;
 mod pieces;

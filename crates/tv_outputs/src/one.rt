@@ -38,7 +38,8 @@ pub(crate) fn arrive_in(
     ensures same { tree.new ≡ tree.old }
     ensures trees { KeepsTrees pool.old pool.new tree.old }
     ensures nodes { count_in pool.new (number_of region.now)
-        ≤ count_in pool.old (number_of region.now) + new_nodes place.now (tree_of pool.old tree.old) }
+        ≤ count_in pool.old (number_of region.now) + new_nodes place.now
+        (tree_of pool.old tree.old) }
     ensures kept { KeepsRegions pool.old pool.new (number_of region.now) }
     ensures spare { pool.old.spare ≤ pool.new.spare + tree.old.depth }
 {
@@ -67,7 +68,8 @@ pub(crate) fn close_in(
     ensures same { tree.new ≡ tree.old }
     ensures trees { KeepsTrees pool.old pool.new tree.old }
     ensures nodes { count_in pool.new (number_of region.now)
-        ≤ count_in pool.old (number_of region.now) + new_nodes place.now (tree_of pool.old tree.old) }
+        ≤ count_in pool.old (number_of region.now) + new_nodes place.now
+        (tree_of pool.old tree.old) }
     ensures kept { KeepsRegions pool.old pool.new (number_of region.now) }
     ensures spare { pool.old.spare ≤ pool.new.spare + tree.old.depth }
 {

@@ -2,7 +2,7 @@
 ghost use Rattle.std.specs.Prelude.{◌≡◌, ◌↔◌, ◌≤◌, ◌<◌, ◌+◌, ℕ, Some, is_some, true, length, map, slice_index_or, IsTrue, IfOk, OnOk};
 ghost use Rattle.tv_value.specs.Values.{holds_fault};
 ghost use Rattle.tv_value.specs.Views.{view};
-ghost use Rattle.tv_parts.specs.Partials.{wanting, whole, holds_some};
+ghost use Rattle.tv_parts.specs.Partials.{wanting, whole, holds_some, HoldsFaults};
 ghost use Rattle.tv_parts.specs.Below.{value_in};
 ghost use Rattle.tv_parts.specs.Changes.{arrive as arrived, close_at, CanArrive, CanClose};
 ghost use Rattle.tv_pool.specs.Pool.{IsLive, number_of};
@@ -15,7 +15,7 @@ ghost use Rattle.tv_cell.specs.Soundness.{IsSound, AreSound};
 ghost use Rattle.tv_outputs.specs.Known.{known, depths as depths_of, tree_in, depth_in, needed};
 ghost use Rattle.tv_outputs.specs.Kept.{Stand, StandBeside};
 ghost use Rattle.tv_outputs.specs.FoundIn.{found_in};
-ghost use Rattle.tv_outputs.specs.Changes.{Arrive, Close, Turns, AllCanArrive, AllCanClose, AreMarked, least_or_past, HoldsFaults, Counted};
+ghost use Rattle.tv_outputs.specs.Changes.{Arrive, Close, Turns, AllCanArrive, AllCanClose, AreMarked, least_or_past, Counted};
 
 use crate::one::{arrive_in, close_in};
 use crate::pieces::{found_piece, list_at, piece_around};

@@ -10,7 +10,7 @@ ghost use Rattle.tv_stream.specs.Answers.{kind_of};
 ghost use Rattle.tv_cell.specs.declared.piece.Piece.{Piece as APiece};
 ghost use Rattle.tv_cell.specs.PieceValues.{piece_value, piece_values};
 ghost use Rattle.tv_cell.specs.Soundness.{IsSound, AreSound};
-ghost use Rattle.tv_outputs.specs.Known.{shown};
+ghost use Rattle.tv_outputs.specs.Known.{value_tree};
 ghost use Rattle.tv_outputs.specs.Seen.{Sees};
 ghost use Rattle.tv_outputs.specs.FoundIn.{found_in};
 ghost use Rattle.tv_outputs.specs.PartValues.{list_values};
@@ -29,10 +29,10 @@ pub(crate) fn found_piece(
     place: &[u32],
 ) -> Result<Piece, NoMemory>
     requires { (r : Tree (Marked APiece)) × Sees look.now levels r
-        × IsTrue (is_some (found_in place.now (shown r))) }
+        × IsTrue (is_some (found_in place.now (value_tree r))) }
     ensures value { (r : Tree (Marked APiece)) → Sees look.now levels r
-        → IsTrue (is_some (found_in place.now (shown r)))
-        → IfOk result (λ p. found_in place.now (shown r) ≡ Some (piece_value p)) }
+        → IsTrue (is_some (found_in place.now (value_tree r)))
+        → IfOk result (λ p. found_in place.now (value_tree r) ≡ Some (piece_value p)) }
     ensures sound { IfOk result IsSound }
 {
     let Some((first, rest)) = place.split_first() else {
@@ -55,9 +55,10 @@ pub(crate) fn whole_piece(
     look: &Look<'_, Piece>,
     levels: u32,
 ) -> Result<Piece, NoMemory>
-    requires { (r : Tree (Marked APiece)) × Sees look.now levels r × (whole (shown r) ≡ true) }
-    ensures value { (r : Tree (Marked APiece)) → Sees look.now levels r → whole (shown r) ≡ true
-        → IfOk result (λ p. piece_value p ≡ value_in (shown r)) }
+    requires { (r : Tree (Marked APiece)) × Sees look.now levels r × (whole (value_tree r) ≡ true) }
+    ensures value { (r : Tree (Marked APiece)) → Sees look.now levels r → whole (value_tree r)
+        ≡ true
+        → IfOk result (λ p. piece_value p ≡ value_in (value_tree r)) }
     ensures sound { IfOk result IsSound }
 {
     if let Some(piece) = look.item() {
@@ -79,11 +80,11 @@ fn list_piece(
     length: u32,
 ) -> Result<Piece, NoMemory>
     requires { (r : Tree (Marked APiece)) × Sees look.now levels r
-        × ((i : ℕ) → i < length → whole (part_at (shown r) i) ≡ true) }
+        × ((i : ℕ) → i < length → whole (part_at (value_tree r) i) ≡ true) }
     ensures value { (r : Tree (Marked APiece)) → Sees look.now levels r
-        → ((i : ℕ) → i < length → whole (part_at (shown r) i) ≡ true)
+        → ((i : ℕ) → i < length → whole (part_at (value_tree r) i) ≡ true)
         → IfOk result (λ p. piece_value p
-        ≡ list_value (trees_of (slice_range (list_values (shown r)) 0 length))) }
+        ≡ list_value (trees_of (slice_range (list_values (value_tree r)) 0 length))) }
     ensures sound { IfOk result IsSound }
 {
     let mut parts = Vec::with_capacity(alloc, length as usize)?;
@@ -103,12 +104,12 @@ fn push_parts(
 ) -> Result<(), NoMemory>
     requires ordered { first ≤ end }
     requires seen { (r : Tree (Marked APiece)) × Sees look.now levels r
-        × ((i : ℕ) → first ≤ i → i < end → whole (part_at (shown r) i) ≡ true) }
+        × ((i : ℕ) → first ≤ i → i < end → whole (part_at (value_tree r) i) ≡ true) }
     requires sound { AreSound parts.old.items }
     ensures values { (r : Tree (Marked APiece)) → Sees look.now levels r
-        → ((i : ℕ) → first ≤ i → i < end → whole (part_at (shown r) i) ≡ true)
+        → ((i : ℕ) → first ≤ i → i < end → whole (part_at (value_tree r) i) ≡ true)
         → OnOk result (piece_values parts.new.items
-        ≡ piece_values parts.old.items ++ slice_range (list_values (shown r)) first end) }
+        ≡ piece_values parts.old.items ++ slice_range (list_values (value_tree r)) first end) }
     ensures sound { OnOk result (AreSound parts.new.items) }
 {
     for index in first..end {
@@ -130,11 +131,12 @@ pub(crate) fn list_at(
     length: u32,
 ) -> Result<Piece, NoMemory>
     requires { (r : Tree (Marked APiece)) × Sees look.now levels r
-        × ((i : ℕ) → i < length → whole (part_at (known_at place.now (shown r)) i) ≡ true) }
+        × ((i : ℕ) → i < length → whole (part_at (known_at place.now (value_tree r)) i) ≡ true) }
     ensures value { (r : Tree (Marked APiece)) → Sees look.now levels r
-        → ((i : ℕ) → i < length → whole (part_at (known_at place.now (shown r)) i) ≡ true)
+        → ((i : ℕ) → i < length → whole (part_at (known_at place.now (value_tree r)) i) ≡ true)
         → IfOk result (λ p. piece_value p
-        ≡ list_value (trees_of (slice_range (list_values (known_at place.now (shown r))) 0 length))) }
+        ≡ list_value
+        (trees_of (slice_range (list_values (known_at place.now (value_tree r))) 0 length))) }
     ensures sound { IfOk result IsSound }
 {
     let Some((first, rest)) = place.split_first() else {
@@ -159,13 +161,13 @@ fn list_with(
     requires there { index < length }
     requires seen { (r : Tree (Marked APiece)) × Sees look.now levels r
         × (kind_of r ≡ PartKind.Closed length)
-        × (whole (arrived (index ∷ []) (piece_value part) (shown r)) ≡ true) }
+        × (whole (arrived (index ∷ []) (piece_value part) (value_tree r)) ≡ true) }
     requires sound { IsSound part }
     ensures value { (r : Tree (Marked APiece)) → Sees look.now levels r
         → kind_of r ≡ PartKind.Closed length
-        → whole (arrived (index ∷ []) (piece_value part) (shown r)) ≡ true
+        → whole (arrived (index ∷ []) (piece_value part) (value_tree r)) ≡ true
         → IfOk result (λ p. piece_value p
-        ≡ value_in (arrived (index ∷ []) (piece_value part) (shown r))) }
+        ≡ value_in (arrived (index ∷ []) (piece_value part) (value_tree r))) }
     ensures sound { IfOk result IsSound }
 {
     let mut parts = Vec::with_capacity(alloc, length as usize)?;
@@ -186,14 +188,14 @@ pub(crate) fn piece_around(
     piece: Piece,
 ) -> Result<Piece, NoMemory>
     requires seen { (r : Tree (Marked APiece)) × Sees look.now levels r
-        × (is_place place.now (shown r) ≡ true)
-        × (whole (arrived place.now (piece_value piece) (shown r)) ≡ true) }
+        × (is_place place.now (value_tree r) ≡ true)
+        × (whole (arrived place.now (piece_value piece) (value_tree r)) ≡ true) }
     requires sound { IsSound piece }
     ensures value { (r : Tree (Marked APiece)) → Sees look.now levels r
-        → is_place place.now (shown r) ≡ true
-        → whole (arrived place.now (piece_value piece) (shown r)) ≡ true
+        → is_place place.now (value_tree r) ≡ true
+        → whole (arrived place.now (piece_value piece) (value_tree r)) ≡ true
         → IfOk result (λ p. piece_value p
-        ≡ value_in (arrived place.now (piece_value piece) (shown r))) }
+        ≡ value_in (arrived place.now (piece_value piece) (value_tree r))) }
     ensures sound { IfOk result IsSound }
 {
     let Some((first, rest)) = place.split_first() else {
@@ -217,14 +219,14 @@ fn part_around(
     piece: Piece,
 ) -> Result<Piece, NoMemory>
     requires seen { (r : Tree (Marked APiece)) × Sees look.now levels r
-        × (is_place place.now (part_at (shown r) index) ≡ true)
-        × (whole (arrived place.now (piece_value piece) (part_at (shown r) index)) ≡ true) }
+        × (is_place place.now (part_at (value_tree r) index) ≡ true)
+        × (whole (arrived place.now (piece_value piece) (part_at (value_tree r) index)) ≡ true) }
     requires sound { IsSound piece }
     ensures value { (r : Tree (Marked APiece)) → Sees look.now levels r
-        → is_place place.now (part_at (shown r) index) ≡ true
-        → whole (arrived place.now (piece_value piece) (part_at (shown r) index)) ≡ true
+        → is_place place.now (part_at (value_tree r) index) ≡ true
+        → whole (arrived place.now (piece_value piece) (part_at (value_tree r) index)) ≡ true
         → IfOk result (λ p. piece_value p
-        ≡ value_in (arrived place.now (piece_value piece) (part_at (shown r) index))) }
+        ≡ value_in (arrived place.now (piece_value piece) (part_at (value_tree r) index))) }
     ensures sound { IfOk result IsSound }
 {
     match look.part(index) {

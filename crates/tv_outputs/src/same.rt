@@ -5,7 +5,7 @@ ghost use Rattle.tv_parts.specs.Partials.{Partial as Tree};
 ghost use Rattle.tv_stream.specs.Looks.{Shows};
 ghost use Rattle.tv_stream.specs.Trees.{Marked};
 ghost use Rattle.tv_cell.specs.declared.piece.Piece.{Piece as APiece};
-ghost use Rattle.tv_outputs.specs.Known.{shown};
+ghost use Rattle.tv_outputs.specs.Known.{value_tree};
 ghost use Rattle.tv_outputs.specs.Kept.{IsNoted, EachItem};
 ghost use Rattle.tv_outputs.specs.FoundIn.{found_in};
 ghost use Rattle.tv_outputs.specs.PartValues.{AreParts};
@@ -19,7 +19,7 @@ use tv_value::Value;
 pub(crate) fn found_is(look: &Look<'_, Piece>, place: &[u32], value: &Value) -> bool
     requires { (r : Tree (Marked APiece)) × Shows look.now r × EachItem IsNoted r }
     ensures { (r : Tree (Marked APiece)) → Shows look.now r → EachItem IsNoted r → IsTrue result
-        ↔ (found_in place.now (shown r) ≡ Some (view value.now)) }
+        ↔ (found_in place.now (value_tree r) ≡ Some (view value.now)) }
 {
     let Some((first, rest)) = place.split_first() else {
         return whole_is(look, value);
@@ -38,7 +38,7 @@ pub(crate) fn found_is(look: &Look<'_, Piece>, place: &[u32], value: &Value) -> 
 fn whole_is(look: &Look<'_, Piece>, value: &Value) -> bool
     requires { (r : Tree (Marked APiece)) × Shows look.now r × EachItem IsNoted r }
     ensures { (r : Tree (Marked APiece)) → Shows look.now r → EachItem IsNoted r → IsTrue result
-        ↔ (found_in [] (shown r) ≡ Some (view value.now)) }
+        ↔ (found_in [] (value_tree r) ≡ Some (view value.now)) }
 {
     if let Some(piece) = look.item() {
         return piece.stands_for(value);
@@ -58,7 +58,7 @@ fn whole_is(look: &Look<'_, Piece>, value: &Value) -> bool
 fn parts_are(look: &Look<'_, Piece>, count: u32, values: &[Value]) -> bool
     requires { (r : Tree (Marked APiece)) × Shows look.now r × EachItem IsNoted r }
     ensures { (r : Tree (Marked APiece)) → Shows look.now r → EachItem IsNoted r → IsTrue result
-        ↔ AreParts (shown r) count (map view values.now) }
+        ↔ AreParts (value_tree r) count (map view values.now) }
 {
     if values.len() != count as usize {
         return false;

@@ -7,7 +7,7 @@ ghost use Rattle.tv_parts.specs.Partials.{Partial as Tree, part_at, whole};
 ghost use Rattle.tv_parts.specs.Below.{value_in};
 ghost use Rattle.tv_stream.specs.Trees.{Marked};
 ghost use Rattle.tv_cell.specs.declared.piece.Piece.{Piece as APiece};
-ghost use Rattle.tv_outputs.specs.Known.{shown};
+ghost use Rattle.tv_outputs.specs.Known.{value_tree};
 ghost use Rattle.tv_outputs.specs.Seen.{Sees};
 ghost use Rattle.tv_outputs.specs.FoundIn.{found_in};
 ghost use Rattle.tv_outputs.specs.PartValues.{list_values};
@@ -26,10 +26,10 @@ pub(crate) fn found_value(
     place: &[u32],
 ) -> Result<Value, NoMemory>
     requires { (r : Tree (Marked APiece)) × Sees look.now levels r
-        × IsTrue (is_some (found_in place.now (shown r))) }
+        × IsTrue (is_some (found_in place.now (value_tree r))) }
     ensures { (r : Tree (Marked APiece)) → Sees look.now levels r
-        → IsTrue (is_some (found_in place.now (shown r)))
-        → IfOk result (λ x. found_in place.now (shown r) ≡ Some (view x)) }
+        → IsTrue (is_some (found_in place.now (value_tree r)))
+        → IfOk result (λ x. found_in place.now (value_tree r) ≡ Some (view x)) }
 {
     let Some((first, rest)) = place.split_first() else {
         return whole_value(alloc, look, levels);
@@ -50,9 +50,9 @@ pub(crate) fn found_value(
 /// each part of a list there a look-up, logarithmic in the list's known parts.
 #[cycle(whole_value)]
 fn whole_value(alloc: Global, look: &Look<'_, Piece>, levels: u32) -> Result<Value, NoMemory>
-    requires { (r : Tree (Marked APiece)) × Sees look.now levels r × (whole (shown r) ≡ true) }
-    ensures { (r : Tree (Marked APiece)) → Sees look.now levels r → whole (shown r) ≡ true
-        → IfOk result (λ x. view x ≡ value_in (shown r)) }
+    requires { (r : Tree (Marked APiece)) × Sees look.now levels r × (whole (value_tree r) ≡ true) }
+    ensures { (r : Tree (Marked APiece)) → Sees look.now levels r → whole (value_tree r) ≡ true
+        → IfOk result (λ x. view x ≡ value_in (value_tree r)) }
 {
     if let Some(piece) = look.item() {
         return assemble(alloc, piece);
@@ -72,11 +72,11 @@ fn whole_list(
     length: u32,
 ) -> Result<Value, NoMemory>
     requires { (r : Tree (Marked APiece)) × Sees look.now levels r
-        × ((i : ℕ) → i < length → whole (part_at (shown r) i) ≡ true) }
+        × ((i : ℕ) → i < length → whole (part_at (value_tree r) i) ≡ true) }
     ensures { (r : Tree (Marked APiece)) → Sees look.now levels r
-        → ((i : ℕ) → i < length → whole (part_at (shown r) i) ≡ true)
+        → ((i : ℕ) → i < length → whole (part_at (value_tree r) i) ≡ true)
         → IfOk result (λ x. view x
-        ≡ list_value (trees_of (slice_range (list_values (shown r)) 0 length))) }
+        ≡ list_value (trees_of (slice_range (list_values (value_tree r)) 0 length))) }
 {
     let mut items = Vec::with_capacity(alloc, length as usize)?;
     push_values(alloc, look, levels, length, &mut items)?;
@@ -93,11 +93,11 @@ fn push_values(
     items: &mut Vec<Value>,
 ) -> Result<(), NoMemory>
     requires { (r : Tree (Marked APiece)) × Sees look.now levels r
-        × ((i : ℕ) → i < end → whole (part_at (shown r) i) ≡ true) }
+        × ((i : ℕ) → i < end → whole (part_at (value_tree r) i) ≡ true) }
     ensures { (r : Tree (Marked APiece)) → Sees look.now levels r
-        → ((i : ℕ) → i < end → whole (part_at (shown r) i) ≡ true)
+        → ((i : ℕ) → i < end → whole (part_at (value_tree r) i) ≡ true)
         → OnOk result (map view items.new.items
-        ≡ map view items.old.items ++ slice_range (list_values (shown r)) 0 end) }
+        ≡ map view items.old.items ++ slice_range (list_values (value_tree r)) 0 end) }
 {
     for index in 0..end {
         let Some(part) = look.part(index) else {

@@ -3,7 +3,8 @@ use Rattle.std.specs.Prelude.{◌≡◌, refl, ℕ, zero, suc, ◌<◌, nat_lt, 
 use Rattle.std.proofs.Common.{arith, sym, ap, subst, ◌∙◌}
 use Rattle.std.proofs.lemmas.Bool.{eqb-true, eq-eqb, lt-ltb, ne_eqb}
 use Rattle.std.proofs.lemmas.Option.{same_Some}
-use Rattle.tv_lemmas.proofs.Tests.{or-nothing, less-if}
+use Rattle.std.proofs.Math.Bool.{or-false}
+use Rattle.tv_lemmas.proofs.Tests.{less-if}
 use Rattle.tv_value.specs.Nested.{leaf, list, no_trees, tree, Place, count, at, item_at}
 use Rattle.tv_value.specs.Values.{Value}
 use Rattle.tv_value.specs.Orders.{is_prefix}
@@ -147,7 +148,7 @@ at-index p ps i j s more h = ap (λ r. shows r s) (of-with p ps i j (j == i) ref
   where
     by : (b : Bool) → (j == i) ≡ b → shows (if b then p else part_of ps j) s ≡ (shows (part_of ps j) s || ((i == j) && more))
     by true e = h ∙ ap (λ k. shows (part_of ps k) s || more) (sym (eqb-true j i e)) ∙ ap (λ b. shows (part_of ps j) s || (b && more)) (sym (eq-eqb i j (sym (eqb-true j i e))))
-    by false e = or-nothing (shows (part_of ps j) s) ∙ ap (λ b. shows (part_of ps j) s || (b && more)) (sym (ne_eqb i j (λ k. clash (j == i) e (eq-eqb j i (sym k)))))
+    by false e = sym (or-false (shows (part_of ps j) s)) ∙ ap (λ b. shows (part_of ps j) s || (b && more)) (sym (ne_eqb i j (λ k. clash (j == i) e (eq-eqb j i (sym k)))))
 
 free : (A : Type 0) (q : Place) → CanArrive {A = A} q wanting
 free A [] = tt
@@ -185,7 +186,7 @@ close-shows [] n wanting h [] = refl
 close-shows [] n wanting h (j ∷ s) = ap (λ r. shows r s) (of-filled no_parts n j)
 close-shows [] n (item v) h s = absurd h
 close-shows [] n (growing ps) h [] = refl
-close-shows [] n (growing ps) h (j ∷ s) = ap (λ r. shows r s) (of-filled ps n j) ∙ or-nothing (shows (part_of ps j) s)
+close-shows [] n (growing ps) h (j ∷ s) = ap (λ r. shows r s) (of-filled ps n j) ∙ sym (or-false (shows (part_of ps j) s))
 close-shows [] n (closed ps) h s = absurd h
 close-shows {A} (i ∷ q) n wanting h [] = refl
 close-shows {A} (i ∷ q) n wanting h (j ∷ s) = at-index (close_at q n wanting) no_parts i j s (same_place q s) (close-shows q n wanting (can-close A q n) s)

@@ -1,6 +1,7 @@
 -- A partial tree: what is known so far of a value that arrives in parts. The parts of a list stand at their indices, with `wanting` where nothing is known yet; behind the last part nothing is known either.
-use Rattle.std.specs.Prelude.{ℕ, zero, suc, ◌+◌, Bool, true, false, ◌&&◌, if◌then◌else◌, [], ◌∷◌}
+use Rattle.std.specs.Prelude.{◌≡◌, ◌≤◌, ℕ, zero, suc, ◌+◌, Bool, true, false, ◌&&◌, if◌then◌else◌, [], ◌∷◌, length, nat_lt, take}
 use Rattle.tv_value.specs.Nested.{Place}
+use Rattle.tv_value.specs.Values.{Value, holds_fault}
 
 -- A is what items are: values, or what stands for them. A closed list has as many parts as its length.
 mutual
@@ -75,6 +76,11 @@ abbrev mutual
   pub some_holds : {A : Type 0} → (A → Bool) → Parts A → Bool
   some_holds test no_parts = false
   some_holds test (part p ps) = if holds_some test p then true else some_holds test ps
+
+-- at so many prefixes of the place, from the empty one on, the tree holds a fault
+abbrev pub HoldsFaults : Place → Partial Value → ℕ → Type 0
+HoldsFaults q tree count = (m : ℕ) → m ≤ length q → nat_lt m count
+    ≡ holds_some holds_fault (known_at (take m q) tree)
 
 -- the same tree with other items
 abbrev mutual

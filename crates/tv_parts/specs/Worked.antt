@@ -11,20 +11,23 @@ text_item t = item (text_value t)
 
 -- parts come in any order and stand at their indices; the list is whole once it is closed
 abbrev pub two_came : Partial Value
-two_came = arrive (0 ∷ []) (text_value (codes "x")) (arrive (1 ∷ []) (text_value (codes "y")) wanting)
+two_came =
+    arrive (0 ∷ []) (text_value (codes "x")) (arrive (1 ∷ []) (text_value (codes "y")) wanting)
 
 abbrev pub PartsInAnyOrder : Type 0
 PartsInAnyOrder =
     (two_came ≡ growing (part (text_item (codes "x")) (part (text_item (codes "y")) no_parts)))
     × (whole two_came ≡ false)
-    × (close_at [] 2 two_came ≡ closed (part (text_item (codes "x")) (part (text_item (codes "y")) no_parts)))
+    × (close_at [] 2 two_came
+    ≡ closed (part (text_item (codes "x")) (part (text_item (codes "y")) no_parts)))
     × (whole (close_at [] 2 two_came) ≡ true)
     × (is_place (2 ∷ []) (close_at [] 2 two_came) ≡ false)
 
 -- nothing is known of an index that was passed over; lists on the way grow
 abbrev pub PassesOver : Type 0
 PassesOver =
-    (arrive (1 ∷ 0 ∷ []) (text_value (codes "z")) wanting ≡ growing (part wanting (part (growing (part (text_item (codes "z")) no_parts)) no_parts)))
+    (arrive (1 ∷ 0 ∷ []) (text_value (codes "z")) wanting
+    ≡ growing (part wanting (part (growing (part (text_item (codes "z")) no_parts)) no_parts)))
     × (known_at (0 ∷ []) (arrive (1 ∷ 0 ∷ []) (text_value (codes "z")) wanting) ≡ wanting)
     × (is_place (1 ∷ 0 ∷ 3 ∷ []) (arrive (1 ∷ 0 ∷ []) (text_value (codes "z")) wanting) ≡ false)
 

@@ -20,10 +20,6 @@ module _ {X : Type 0} where
         | inr here ↦ inr (ap suc here.0, here.1)
       ]
 
-  pub slice_get-push_last : (xs : List X) (last : X) → slice_get (xs ++ last ∷ []) (length xs) ≡ Some last
-  slice_get-push_last [] last = refl
-  slice_get-push_last (x ∷ xs) last = slice_get-push_last xs last
-
   pub slice_get-push_below : (xs : List X) (last : X) (k : ℕ) (x : X) → slice_get xs k ≡ Some x → slice_get (xs ++ last ∷ []) k ≡ Some x
   slice_get-push_below [] last k x found = absurd (cc)
   slice_get-push_below (y ∷ ys) last zero x found = found

@@ -8,7 +8,8 @@ use Rattle.std.proofs.lemmas.Option.{slice_get-map, slice_get_within, same_Some}
 use Rattle.tv_pool.specs.Pool.{Pool, Contents, Stored, region_at, stored_in, stored_at, items_of, item_at, number_of, IsLive, Holds, Keeps, KeepsOthers, Begins, Puts, with_item, written, region_of, position_of}
 use Rattle.tv_pool.specs.declared.handles.Region.{Region}
 use Rattle.tv_pool.specs.declared.handles.Node.{Node}
-use Rattle.tv_pool.proofs.Chains.{within, slice_get-push_last, slice_get-push_below, slice_get-set_same, slice_get-set_other}
+use Rattle.tv_pool.proofs.Chains.{within, slice_get-push_below, slice_get-set_same, slice_get-set_other}
+use Rattle.tv_lemmas.proofs.Lists.{get-end}
 
 pub some_from : {X : Type 0} (o : Option X) (P : X → Type 0) → IsSomeAnd o P → (x : X) × (o ≡ Some x) × P x
 some_from None P holds = absurd holds
@@ -105,7 +106,7 @@ module _ {T : Type 0} where
       ap (λ n. slice_get (stored_in (region_at new n)) node.position) puts.number
       ∙ ap (λ o. slice_get (stored_in o) node.position) (region_at-put old new region item node live puts)
       ∙ ap (λ k. slice_get (xs ++ record { item = item; slot = node.slot } ∷ []) k) (puts.position ∙ length-map xs (λ (s : Stored T). s.item))
-      ∙ slice_get-push_last xs (record { item = item; slot = node.slot })
+      ∙ get-end xs (record { item = item; slot = node.slot })
 
   pub Holds-put : (old new : Pool T) (region : Region) (item : T) (node : Node) → IsLive old region → Puts old new region item node → Holds new node
   Holds-put old new region item node live puts = rw (stored_at-put old new region item node live puts) refl

@@ -35,9 +35,15 @@ impl Model for Ready {
     ghost use Rattle.std.specs.Prelude.{vec_capacity};
     ghost use Rattle.std.specs.VecDeque.{deque_capacity};
 
-    ghost view = { λ r. record { jobs = listed r.table r.queue.items r.late.items; levels = r.table.levels; room = r.table.room } };
+    ghost view = { λ r. record {
+      jobs = listed r.table r.queue.items r.late.items;
+      levels =
+          r.table.levels;
+      room = r.table.room;
+    } };
 
-    ghost invariant = { λ r. AreKept r.table r.queue.items (deque_capacity r.queue) r.late.items (vec_capacity r.late) };
+    ghost invariant = { λ r. AreKept r.table r.queue.items (deque_capacity r.queue) r.late.items
+        (vec_capacity r.late) };
 }
 
 impl Ready {

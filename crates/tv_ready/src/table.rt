@@ -32,9 +32,14 @@ impl Model for Table {
 
     ghost Value = { Rows };
 
-    ghost use Rattle.tv_ready.specs.Slots.{shown, IsLaid};
+    ghost use Rattle.tv_ready.specs.Slots.{table_jobs, IsLaid};
 
-    ghost view = { λ t. record { jobs = shown t.levels t.indices.items t.slots.items; levels = t.levels; room = t.room } };
+    ghost view = { λ t. record {
+      jobs = table_jobs t.levels t.indices.items t.slots.items;
+      levels =
+          t.levels;
+      room = t.room;
+    } };
 
     ghost invariant = { λ t. IsLaid t.levels t.slots t.indices t.room };
 }

@@ -15,7 +15,7 @@ use Rattle.tv_flow.specs.Flows.{Document}
 use Rattle.tv_history.specs.Entries as history
 use Rattle.tv_history.specs.Tries.{NamedTry, all_tries, entry_try}
 use Rattle.tv_history.proofs.Tests.{same-itself}
-use Rattle.tv_entries.specs.Runs.{IsLegalRun, Run, all_distinct, all_have_numbers, has_numbers, instances_of, is_among, name_at, opened_number, with_names}
+use Rattle.tv_entries.specs.Runs.{IsLegalRun, Run, all_distinct, all_have_numbers, has_numbers, instances_of, has_job_name, name_at, opened_number, with_names}
 use Rattle.tv_entries.proofs.OfNames.{same_job-turned}
 use Rattle.tv_entries.specs.declared.entry.Entry.{Entry}
 use Rattle.tv_entries.specs.declared.entry.Entry.TheVariants as entry
@@ -87,22 +87,22 @@ numbers-below n m (e ∷ es) h =
 abbrev at : List JobName → ℕ → JobName
 at names k = name_at names k
 
-none-is : (n : JobName) (ns : List JobName) (k : ℕ) → is_among ns n ≡ false → k < length ns → same_job n (at ns k) ≡ false
+none-is : (n : JobName) (ns : List JobName) (k : ℕ) → has_job_name ns n ≡ false → k < length ns → same_job n (at ns k) ≡ false
 none-is n [] k h l = absurd (none-below k l)
-none-is n (m ∷ ns) zero h l = (or_parts (same_job n m) (is_among ns n) h).0
-none-is n (m ∷ ns) (suc k) h l = none-is n ns k (or_parts (same_job n m) (is_among ns n) h).1 (less-back k (length ns) l)
+none-is n (m ∷ ns) zero h l = (or_parts (same_job n m) (has_job_name ns n) h).0
+none-is n (m ∷ ns) (suc k) h l = none-is n ns k (or_parts (same_job n m) (has_job_name ns n) h).1 (less-back k (length ns) l)
 
 names-apart : (ns : List JobName) (a b : ℕ) → all_distinct ns ≡ true → a < length ns → b < length ns → same_job (at ns a) (at ns b) ≡ nat_eq a b
 names-apart [] a b h l m = absurd (none-below a l)
 names-apart (n ∷ ns) zero zero h l m = same-itself n
 names-apart (n ∷ ns) zero (suc b) h l m =
-    let p = and_parts (not (is_among ns n)) (all_distinct ns) h in
-    none-is n ns b (not-true (is_among ns n) p.0) (less-back b (length ns) m) ∙ sym (eqb-zero-suc b)
+    let p = and_parts (not (has_job_name ns n)) (all_distinct ns) h in
+    none-is n ns b (not-true (has_job_name ns n) p.0) (less-back b (length ns) m) ∙ sym (eqb-zero-suc b)
 names-apart (n ∷ ns) (suc a) zero h l m =
-    let p = and_parts (not (is_among ns n)) (all_distinct ns) h in
-    same_job-turned (at ns a) n ∙ none-is n ns a (not-true (is_among ns n) p.0) (less-back a (length ns) l) ∙ sym (eqb-suc-zero a)
+    let p = and_parts (not (has_job_name ns n)) (all_distinct ns) h in
+    same_job-turned (at ns a) n ∙ none-is n ns a (not-true (has_job_name ns n) p.0) (less-back a (length ns) l) ∙ sym (eqb-suc-zero a)
 names-apart (n ∷ ns) (suc a) (suc b) h l m =
-    let p = and_parts (not (is_among ns n)) (all_distinct ns) h in
+    let p = and_parts (not (has_job_name ns n)) (all_distinct ns) h in
     names-apart ns a b p.1 (less-back a (length ns) l) (less-back b (length ns) m) ∙ sym (eqb-suc-suc a b)
 
 -- ---- lines

@@ -1,7 +1,7 @@
 -- The line of a fault of the check.
 use Rattle.std.specs.Prelude.{ℕ, [], ◌∷◌, ◌++◌, codes, decimal, Bool, true, false, if◌then◌else◌}
 use Rattle.tv_value.specs.Values.{Name, Text}
-use Rattle.tv_check.specs.Faulty.{Kind, no_such_port, no_such_service, no_such_flow, flow_cycle, link_cycle, strategy_ports, dot_depths, merge_depths, nested_ports, too_deep, input_missing, input_unknown, input_depth, Where, at_main, at_flow, at_step, at_input, at_output, at_activity, at_after, at_flow_output, at_given, Complaint}
+use Rattle.tv_check.specs.Faulty.{Kind, no_such_port, no_such_service, no_such_flow, flow_cycle, link_cycle, strategy_ports, dot_depths, merge_depths, nested_ports, too_deep, input_missing, input_unknown, input_depth, Where, at_main, at_flow, at_step, at_input, at_output, at_activity, at_after, at_flow_output, at_given, CheckComplaint}
 
 abbrev pub check_number : Kind → ℕ
 check_number no_such_port = 1
@@ -68,9 +68,10 @@ spot_text (at_flow_output f p) = flow_text f ++ codes " output " ++ p
 spot_text (at_given p) = codes "input " ++ p
 
 abbrev pub numbers_text : Kind → ℕ → ℕ → Text
-numbers_text k a b = if has_numbers k then codes ": " ++ decimal a ++ codes " and " ++ decimal b else []
+numbers_text k a b = if has_numbers k then codes ": " ++ decimal a ++ codes " and "
+    ++ decimal b else []
 
-abbrev pub check_text : Complaint → Text
+abbrev pub check_text : CheckComplaint → Text
 check_text c =
     codes "taverna: check fault " ++ decimal (check_number c.kind) ++ codes " "
     ++ check_words c.kind ++ codes " at " ++ spot_text c.spot

@@ -2,9 +2,8 @@
 use Rattle.std.specs.Prelude.{ℕ, ◌+◌, [], ◌∷◌, ◌++◌, codes, decimal, flat_map}
 use Rattle.tv_value.specs.Values.{Text, Name}
 use Rattle.tv_flow.specs.Flows.{Feed, Step, Flow, Document}
-use Rattle.tv_strategy.specs.Measures.{strategy_depth}
-use Rattle.tv_check.specs.Steps.{strategy_of}
-use Rattle.tv_check.specs.CheckedDepths.{feed_depth, port_depth, flow_depths}
+use Rattle.tv_check.specs.Tables.{step_level}
+use Rattle.tv_check.specs.CheckedDepths.{feed_depth, flow_depths}
 
 -- words with a blank between each two, and a line feed
 abbrev pub port_line : Text → Name → Name → Name → ℕ → ℕ → Text
@@ -20,15 +19,11 @@ end_line f p delivered = codes "flow " ++ f ++ codes " " ++ p ++ codes " " ++ de
 abbrev pub fed_depth : Flow → Feed → ℕ
 fed_depth f from = feed_depth f.inputs (flow_depths f) from
 
--- the levels that a step iterates
-abbrev pub levels : Flow → Step → ℕ
-levels f s = strategy_depth (port_depth f.inputs (flow_depths f) s) (strategy_of s)
-
 -- a step: its inputs, then its outputs, each of which is delivered by so many levels deeper than declared
 abbrev pub step_lines : Name → Flow → Name × Step → Text
 step_lines n f s =
     flat_map (λ i. port_line (codes "in") n s.0 i.0 i.1.depth (fed_depth f i.1.from)) s.1.inputs
-    ++ flat_map (λ o. port_line (codes "out") n s.0 o.0 o.1 (o.1 + levels f s.1)) s.1.outputs
+    ++ flat_map (λ o. port_line (codes "out") n s.0 o.0 o.1 (o.1 + step_level f s.1)) s.1.outputs
 
 -- a flow: its steps, then its outputs
 abbrev pub flow_lines : Name × Flow → Text

@@ -10,7 +10,9 @@ use Rattle.tv_model.specs.Results.{totals_json}
 
 -- the outputs and the totals as JSON
 abbrev pub result_json : {N : Type 0} → List (Name × Tree N Scalar) → Totals → Data
-result_json os t = object (members ((codes "outputs", object (members (map (λ o. (o.0, json o.1)) os))) ∷ (codes "totals", totals_json t) ∷ []))
+result_json os t =
+    object (members ((codes "outputs", object (members (map (λ o. (o.0, json o.1)) os)))
+    ∷ (codes "totals", totals_json t) ∷ []))
 
 -- what a document means is printed by `result_line`, which is this line of its outputs and totals
 abbrev pub line_of_result : {N : Type 0} → List (Name × Tree N Scalar) → Totals → Text

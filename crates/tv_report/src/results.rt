@@ -200,7 +200,8 @@ fn put_error(alloc: Global, out: &mut Writer, error: &ErrorDoc) -> Result<(), No
 fn put_error_fields(alloc: Global, out: &mut Writer, error: &ErrorDoc) -> Result<(), NoMemory>
     ensures { OnOk result (Adds out.old out.new (text_member (codes "at") (job_text error.now.at)
         ++ number_member (codes "depth") error.now.depth
-        ++ Spec.key (codes "from") ∷ tokens_of (array (strings (map job_text error.now.from))) ++ text_member (codes "why") error.now.why)) }
+        ++ Spec.key (codes "from") ∷ tokens_of (array (strings (map job_text error.now.from)))
+        ++ text_member (codes "why") error.now.why)) }
 {
     let at = job_text(alloc, &error.at)?;
     put_text(out, "at", at.as_str())?;

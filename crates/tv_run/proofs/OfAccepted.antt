@@ -3,6 +3,8 @@ use Rattle.std.specs.Option.{option_map_or}
 use Rattle.std.specs.Prelude.{◌≡◌, refl, ℕ, suc, ◌+◌, ◌≤◌, Bool, true, false, List, [], ◌∷◌, ◌++◌, None, Option, Some, find, is_none, length, option_and_then, slice_get, vec_capacity}
 use Rattle.std.proofs.Common.{ap, arith, subst, sym, ◌∙◌}
 use Rattle.std.proofs.lemmas.List.{length-append}
+use Rattle.tv_lemmas.specs.Members.{In}
+use Rattle.tv_lemmas.proofs.Lists.{in-front}
 use Rattle.tv_value.specs.Orders.{same_job}
 use Rattle.tv_value.specs.Values.{JobName, Value}
 use Rattle.tv_gate.specs.Outcomes.{Giving, Outcome}
@@ -12,18 +14,17 @@ use Rattle.tv_instance.specs.Events.{gave}
 use Rattle.tv_model.specs.Jobs.{Job}
 use Rattle.tv_model.specs.Made.{Meaning}
 use Rattle.tv_model.specs.Meanings.{meaning}
-use Rattle.tv_model.specs.Members.{In}
 use Rattle.tv_history.specs.Entries as history
 use Rattle.tv_history.specs.Entries.{History, accepted}
-use Rattle.tv_history.specs.Histories.{is_legal_after, is_right, is_settled}
+use Rattle.tv_history.specs.Histories.{is_legal_after, is_settled}
+use Rattle.tv_dispatch.specs.Plans.{came_right}
 use Rattle.tv_framing.specs.Views.{View}
 use Rattle.tv_frame.specs.Tables.{levels_in}
 use Rattle.tv_seats.specs.Seats.{Seat, with_stage}
 use Rattle.tv_seats.specs.declared.stage.Stage.{Stage}
 use Rattle.tv_seats.specs.declared.stage.Stage.TheVariants as stage
-use Rattle.tv_seated.specs.GoingOn.{GoesOn}
-use Rattle.tv_seated.proofs.OfLists.{in-front}
-use Rattle.tv_forest.specs.Entries.{GoesOnWith, seated, told, with_instance}
+use Rattle.tv_forest.specs.seats.GoingOn.{GoesOn}
+use Rattle.tv_forest.specs.Entries.{GoesOnWith, seated, with_view, with_instance}
 use Rattle.tv_forest.specs.Forest.{Instance, Instances, Stand}
 use Rattle.tv_forest.proofs.OfEntries.{trying-again}
 use Rattle.tv_entries.specs.Answers.{Question}
@@ -81,7 +82,7 @@ module _ (gives : Giving) (r s : OpenRun) (xs : Instances) (st : Stands gives r 
 -- ---- an outcome of a try that is out, accepted by the run b, which is r but for rooms
 
 module _ (gives : Giving) (r : OpenRun) (xs : Instances) (st : Stands gives r xs) (t : Ticket) (k : Ask)
-    (o : IsAskedOut gives r xs t k) (right : Bool) (is : is_right gives k ≡ right) (b : OpenRun) (pre : IsAsBefore r b)
+    (o : IsAskedOut gives r xs t k) (right : Bool) (is : came_right gives k ≡ right) (b : OpenRun) (pre : IsAsBefore r b)
   where
     abbrev e : Entry
     e = accepts t right
@@ -235,7 +236,7 @@ module _ (gives : Giving) (r : OpenRun) (xs : Instances) (st : Stands gives r xs
       (tells : TellsIn b c xs o.outer o.instance o.view (gave o.step.0 o.seat.place vs) more settled_seats)
       (noted : IsNoted c s (accepts t right)) where
     abbrev y : Instance
-    y = told o.instance tells.view (settled_seats ++ tells.new)
+    y = with_view o.instance tells.view (settled_seats ++ tells.new)
 
     as-open : is_none y.view ≡ is_none o.instance.view
     as-open = ap (λ (z : Option View). is_none z) (sym o.is_open)
@@ -352,7 +353,7 @@ module _ (gives : Giving) (r : OpenRun) (t : Ticket) (q : Question) (oc : Outcom
     abbrev then : History
     then = accepted u.job.name t.activity t.attempt false ∷ past_of (run_of r)
 
-    is : is_right gives asked.task.asked ≡ false
+    is : came_right gives asked.task.asked ≡ false
     is = wrong-asked gives r xs st t q oc asked wrong
 
     -- with this try or flow next

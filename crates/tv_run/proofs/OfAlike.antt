@@ -3,14 +3,14 @@ use Rattle.std.specs.Option.{option_map_or}
 use Rattle.std.specs.Prelude.{◌≡◌, refl, ℕ, ◌<◌, ◌≤◌, ◌++◌, true, List, [], ◌∷◌, Some, length, map, option_map, slice_get}
 use Rattle.std.proofs.Common.{ap, subst, sym, ◌∙◌}
 use Rattle.std.proofs.lemmas.Option.{slice_get_cases, slice_get_past, slice_get_within}
+use Rattle.tv_lemmas.specs.Members.{In}
 use Rattle.tv_lemmas.proofs.Cases.{on_either}
 use Rattle.tv_lemmas.proofs.Lists.{get-within}
 use Rattle.tv_value.specs.Values.{JobName, Name}
 use Rattle.tv_flow.specs.Flows.{Flow}
 use Rattle.tv_check.specs.RunViews.{run_view}
-use Rattle.tv_model.specs.Members.{In}
 use Rattle.tv_beside.specs.Theirs.{AreTheirs}
-use Rattle.tv_seated.specs.Seated.{spot_of}
+use Rattle.tv_forest.specs.seats.Seated.{spot_of}
 use Rattle.tv_forest.specs.Forest.{AreNumbered, Instance, Instances, IsAt, names_by}
 use Rattle.tv_run.specs.Looks.{AreLooks}
 use Rattle.tv_run.specs.Standing.{Fits, IsKept, IsLife, frame_at, name_behind, names_from, names_of, numbered_as, numbers_of, opener_name, seats_of, steps_of}

@@ -13,8 +13,7 @@ use Rattle.tv_intake.specs.Intaken.{known_jobs}
 use Rattle.tv_framing.specs.Answers.{AreInputs, numbered}
 use Rattle.tv_framing.specs.Views.{View}
 use Rattle.tv_seats.specs.Seats.{Seat}
-use Rattle.tv_seated.specs.Seated.{spot_of}
-use Rattle.tv_seated.proofs.OfLists.{get-image}
+use Rattle.tv_forest.specs.seats.Seated.{spot_of}
 use Rattle.tv_forest.specs.Forest.{Instance, Instances, IsAt}
 use Rattle.tv_entries.specs.Answers.{Question}
 use Rattle.tv_entries.specs.Calls.{try_if_out}
@@ -30,6 +29,7 @@ use Rattle.tv_run.proofs.OfBindings.{binds-some}
 use Rattle.tv_run.proofs.OfJobs.{seats-open}
 use Rattle.tv_run.proofs.OfPlans.{plan-there}
 use Rattle.tv_run.proofs.OfTasks.{inputs-are, is-open, is-other, is-task}
+use Rattle.tv_lemmas.proofs.Lists.{get-map}
 
 module _ (gives : Giving) (r : OpenRun) (xs : Instances) (st : Stands gives r xs) (t : Ticket) (k : Ask)
     (out : try_if_out gives (run_of r) t ≡ Some k) (o : IsAskedOut gives r xs t k) where
@@ -48,7 +48,7 @@ module _ (gives : Giving) (r : OpenRun) (xs : Instances) (st : Stands gives r xs
   known-there : slice_get (known_jobs its.frame.intakes) o.number ≡ Some (o.seat.step, o.seat.place)
   known-there =
       ap (λ l. slice_get l o.number) (sym open-by.known)
-      ∙ get-image job_of its.seats.seats o.number o.seat (ap (λ l. slice_get l o.number) seats ∙ o.known.seat)
+      ∙ get-map job_of its.seats.seats o.number o.seat (ap (λ l. slice_get l o.number) seats ∙ o.known.seat)
     where
       seats : its.seats.seats ≡ o.instance.seats
       seats =
@@ -57,7 +57,7 @@ module _ (gives : Giving) (r : OpenRun) (xs : Instances) (st : Stands gives r xs
   spot-there : numbered o.view o.number ≡ Some (spot_of o.view.flow.steps o.seat)
   spot-there =
       ap (λ l. slice_get l o.number) (sym (sit gives r xs st t k o).1.jobs)
-      ∙ get-image (spot_of o.view.flow.steps) o.instance.seats o.number o.seat o.known.seat
+      ∙ get-map (spot_of o.view.flow.steps) o.instance.seats o.number o.seat o.known.seat
 
   -- its job binds what the try asks for
   binds-asked : AreInputs o.view (spot_of o.instance.flow.steps o.seat) k.inputs

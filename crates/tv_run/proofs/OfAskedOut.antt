@@ -15,11 +15,11 @@ use Rattle.tv_framing.specs.Views.{View}
 use Rattle.tv_frame.specs.Tables.{levels_in}
 use Rattle.tv_seats.specs.Seats.{Seat}
 use Rattle.tv_seats.specs.declared.stage.Stage.TheVariants as stage
-use Rattle.tv_seated.specs.Seated.{IsStage, Sit}
-use Rattle.tv_standing.specs.Seats.{IsJobOf}
-use Rattle.tv_standing.proofs.OfOffers.{steps-of_seats}
-use Rattle.tv_tried.specs.Steps.{IsAskOf, IsOwnStep}
-use Rattle.tv_tried.proofs.OfTries.{asks-step}
+use Rattle.tv_forest.specs.seats.Seated.{IsStage, Sit}
+use Rattle.tv_forest.specs.stands.Seats.{IsJobOf}
+use Rattle.tv_forest.proofs.stands.OfOffers.{steps-of_seats}
+use Rattle.tv_forest.specs.tries.Steps.{IsAskOf, IsOwnStep}
+use Rattle.tv_forest.proofs.tries.OfTries.{asks-step}
 use Rattle.tv_forest.specs.Forest.{Instance, Instances}
 use Rattle.tv_entries.specs.Calls.{job_of, try_if_out, try_out}
 use Rattle.tv_entries.specs.Runs.{meant, past_of}
@@ -98,13 +98,13 @@ module _ (gives : Giving) (r : OpenRun) (xs : Instances) (st : Stands gives r xs
   asked-out t k h = by (job_of gives (run_of r) t.job) refl h
     where
       by : (o : Option Job) → job_of gives (run_of r) t.job ≡ o
-          → option_and_then (try_out m past t.activity t.attempt) o ≡ Some k → IsAskedOut gives r xs t k
+          → option_and_then (try_out past t.activity t.attempt) o ≡ Some k → IsAskedOut gives r xs t k
       by None e h = absurd (none-some k h)
       by (Some j) e h =
           let w = number-of_job gives r xs st t.job j e in
           of-job t k w.0
           (subst (λ l. IsTryOut past t.activity t.attempt l k) (sym w.1)
-          (try_out-parts m past t.activity t.attempt j k h))
+          (try_out-parts past t.activity t.attempt j k h))
 
   pub asked-now : (t : Ticket) → is_some (try_if_out gives (run_of r) t) ≡ true
       → (k : Ask) × (try_if_out gives (run_of r) t ≡ Some k) × IsAskedOut gives r xs t k

@@ -3,13 +3,13 @@ use Rattle.std.specs.Option.{option_map_or}
 use Rattle.std.specs.Prelude.{◌≡◌, ◌≢◌, refl, ℕ, suc, ◌+◌, ◌<◌, ◌≤◌, List, [], ◌∷◌, None, Option, Some, is_some, length, map, option_and_then, option_map, slice_get, vec_capacity}
 use Rattle.std.proofs.Common.{ap, arith, subst, sym, ◌∙◌, suc-ne-zero}
 use Rattle.std.proofs.lemmas.Option.{same_Some, slice_get_cases, slice_get_past, slice_get_within}
+use Rattle.tv_lemmas.specs.Members.{In}
 use Rattle.tv_lemmas.proofs.Cases.{on_either}
 use Rattle.tv_lemmas.proofs.Lists.{get-within}
 use Rattle.tv_check.specs.RunViews.{run_view}
 use Rattle.tv_check.specs.declared.plans.FlowPlan.{FlowPlan}
 use Rattle.tv_pool.specs.Pool.{region_at}
 use Rattle.tv_intake.specs.Intaken.{known_jobs}
-use Rattle.tv_model.specs.Members.{In}
 use Rattle.tv_framing.specs.Views.{View}
 use Rattle.tv_frame.specs.Kept.{Keeps}
 use Rattle.tv_frame.specs.declared.frame.Frame.{Frame}

@@ -15,14 +15,14 @@ use Rattle.tv_match.specs.Seen.{matching}
 use Rattle.tv_matching.specs.Told.{faulty_at}
 use Rattle.tv_outputs.specs.Known.{Nodes}
 use Rattle.tv_intake.specs.Intaken.{IsFaultyAt, known_jobs, matcher_at}
-use Rattle.tv_bound.specs.Constants.{constants_view}
-use Rattle.tv_bound.specs.Jobs.{job_found}
-use Rattle.tv_bound.specs.Sourced.{known_by as sourced_by}
-use Rattle.tv_bound.specs.declared.jobs.StepPorts.{StepPorts}
-use Rattle.tv_bound.specs.declared.sources.Sources.{Sources}
+use Rattle.tv_binding.specs.Constants.{constants_view}
+use Rattle.tv_binding.specs.Jobs.{job_found}
+use Rattle.tv_binding.specs.Sourced.{known_by as sourced_by}
+use Rattle.tv_binding.specs.declared.jobs.StepPorts.{StepPorts}
+use Rattle.tv_binding.specs.declared.sources.Sources.{Sources}
 use Rattle.tv_framing.specs.Answers.{AreInputs, numbered}
 use Rattle.tv_framing.specs.Views.{View}
-use Rattle.tv_drawn.specs.Steps.{IsStepAt}
+use Rattle.tv_framing.specs.matches.Steps.{IsStepAt}
 use Rattle.tv_frame.specs.declared.frame.Frame.{Frame}
 use Rattle.tv_frame.specs.Kept.{HasMatcher, Keeps}
 use Rattle.tv_frame.specs.StepPorts.{ArePortsOf}

@@ -11,7 +11,7 @@ use Rattle.tv_gate.specs.Outcomes.{Giving}
 use Rattle.tv_flow.specs.Flows.{Document, Flow, Step}
 use Rattle.tv_strategy.specs.Origins.{plain}
 use Rattle.tv_dispatch.specs.Jobs.{error_results, fault_makers}
-use Rattle.tv_depths.specs.Steps.{declared_depths}
+use Rattle.tv_instance.specs.Steps.{declared_depths}
 use Rattle.tv_instance.specs.Events.{gave, has_result}
 use Rattle.tv_model.specs.Jobs.{Job}
 use Rattle.tv_model.specs.Made.{Meaning}
@@ -24,29 +24,29 @@ use Rattle.tv_history.specs.Histories.{is_legal_after, is_ready, is_settled, nex
 use Rattle.tv_history.proofs.Tests.{same-itself}
 use Rattle.tv_framing.specs.Answers.{AreInputs, IsReadyJob, numbered}
 use Rattle.tv_framing.specs.Views.{View}
-use Rattle.tv_viewed.specs.InRun.{IsJobThere}
-use Rattle.tv_viewed.specs.Stated.{IsBoundAsTold}
-use Rattle.tv_viewed.proofs.OfLaws.{inputs-are_told, ready-is_told}
-use Rattle.tv_tried.specs.Steps.{IsBouncedJob, IsOwnStep}
-use Rattle.tv_tried.proofs.OfJobs.{bounced-none}
-use Rattle.tv_offered.proofs.OfEnds.{bounce-legal}
+use Rattle.tv_forest.specs.views.InRun.{IsJobThere}
+use Rattle.tv_forest.specs.views.Stated.{IsBoundAsTold}
+use Rattle.tv_forest.proofs.views.OfLaws.{inputs-are_told, ready-is_told}
+use Rattle.tv_forest.specs.tries.Steps.{IsBouncedJob, IsOwnStep}
+use Rattle.tv_forest.proofs.tries.OfJobs.{bounced-none}
+use Rattle.tv_order.proofs.offers.OfEnds.{bounce-legal}
 use Rattle.tv_frame.specs.Prepared.{MayGive}
 use Rattle.tv_frame.specs.Tables.{levels_in}
 use Rattle.tv_seats.specs.Seats.{Seat, with_stage}
 use Rattle.tv_seats.specs.Stages.{is_waiting}
 use Rattle.tv_seats.specs.declared.stage.Stage.TheVariants as stage
-use Rattle.tv_seated.specs.GoingOn.{GoesOn, MaySettle}
-use Rattle.tv_seated.specs.Seated.{Sit, spot_of}
-use Rattle.tv_seated.proofs.OfLists.{is-member}
-use Rattle.tv_standing.proofs.OfOffers.{ready-waits, steps-of_seats}
-use Rattle.tv_standing.proofs.OfSeats.{seat-job}
-use Rattle.tv_standing.proofs.OfStages.{over-is, runs-is}
-use Rattle.tv_forest.specs.Entries.{told, with_instance}
+use Rattle.tv_forest.specs.seats.GoingOn.{GoesOn, MaySettle}
+use Rattle.tv_forest.specs.seats.Seated.{Sit, spot_of}
+use Rattle.tv_forest.proofs.stands.OfOffers.{ready-waits, steps-of_seats}
+use Rattle.tv_forest.proofs.stands.OfSeats.{seat-job}
+use Rattle.tv_forest.proofs.stands.OfStages.{over-is, runs-is}
+use Rattle.tv_forest.specs.Entries.{with_view, with_instance}
 use Rattle.tv_forest.specs.Forest.{Instance, Instances, IsJobAt, Stand}
 use Rattle.tv_forest.proofs.OfEntries.{settling}
 use Rattle.tv_forest.proofs.OfInstances.{sits}
 use Rattle.tv_open.specs.Firsts.{BindsFault, IsReadySeat}
 use Rattle.tv_run.proofs.OfTellings.{waits-alone}
+use Rattle.tv_lemmas.proofs.OfMembers.{in-slice}
 
 -- ---- a job of an open instance
 
@@ -98,7 +98,7 @@ module _ (gives : Giving) (d : Document) (past : History) (xs : Instances) (stan
     is-ready : is_ready m past j ≡ true
     is-ready =
         (ready-is_told gives d past x.name (levels_in v.flow) v sit.in_run (spot_of v.flow.steps s) j it).ready
-        (is-member (spot_of v.flow.steps s) v.jobs n known) ready
+        (in-slice v.jobs n (spot_of v.flow.steps s) known) ready
 
     pub is-waiting : is_waiting s.stage ≡ true
     is-waiting =
@@ -134,7 +134,7 @@ module _ (gives : Giving) (d : Document) (past : History) (xs : Instances) (stan
 
       pub may-give : MayGive v t s.place j.result
       may-give = record {
-        known = is-member (t.0, s.place) v.jobs n (known ∙ ap Some (spot-is t at_step));
+        known = in-slice v.jobs n (t.0, s.place) (known ∙ ap Some (spot-is t at_step));
         new = ap (λ (y : Name × Place). has_result v.events y.0 y.1) (sym (spot-is t at_step)) ∙ ready.without_result;
         right =
             subst (HaveTheseDepths (declared_depths t.1)) (sym error.result)
@@ -148,7 +148,7 @@ module _ (gives : Giving) (d : Document) (past : History) (xs : Instances) (stan
     pub stand-bounced : (w : View) (ns : List Seat)
         → GoesOn d (levels_in x.flow) v w (gave (spot_of x.flow.steps s).0 s.place j.result) ns
         → Stand gives d levels_in (bounced j.name ∷ past)
-        (with_instance xs i (told x w (with_stage n stage.Settled x.seats ++ ns)))
+        (with_instance xs i (with_view x w (with_stage n stage.Settled x.seats ++ ns)))
     stand-bounced w ns on =
         settling gives d levels_in past xs stand i n x s j v is is_open (bounced j.name) w ns
         (subst (λ y. MaySettle j y (bounced j.name)) (sym (waits-alone s.stage is-waiting)) refl) (λ k. refl) legal-bounce

@@ -13,7 +13,7 @@ use Rattle.tv_framing.specs.Answers.{AreInputs, IsReadyJob}
 use Rattle.tv_frame.specs.Prepared.{MayGive}
 use Rattle.tv_frame.specs.Tables.{levels_in}
 use Rattle.tv_seats.specs.Stages.{is_waiting}
-use Rattle.tv_seated.specs.Seated.{spot_of}
+use Rattle.tv_forest.specs.seats.Seated.{spot_of}
 use Rattle.tv_forest.specs.Forest.{Instances}
 use Rattle.tv_entries.specs.Runs.{past_of}
 use Rattle.tv_open.specs.declared.events.Spot.{Spot}

@@ -4,12 +4,12 @@ use Rattle.std.specs.Vec.{with_item}
 use Rattle.std.proofs.Common.{ap, arith, inl, inr, subst, sym, ◌∙◌}
 use Rattle.std.proofs.lemmas.List.{length-set}
 use Rattle.std.proofs.lemmas.Option.{same_Some, slice_get_read}
+use Rattle.tv_lemmas.specs.Members.{In}
 use Rattle.tv_gate.specs.Outcomes.{Giving}
 use Rattle.tv_flow.specs.Flows.{Document}
 use Rattle.tv_flow.specs.Views.{flow_view}
 use Rattle.tv_check.specs.RunViews.{run_view}
 use Rattle.tv_check.specs.declared.plans.FlowPlan.{FlowPlan}
-use Rattle.tv_model.specs.Members.{In}
 use Rattle.tv_framing.specs.Views.{View}
 use Rattle.tv_seats.specs.Seats.{Seat}
 use Rattle.tv_seats.proofs.Staging.{set-other}

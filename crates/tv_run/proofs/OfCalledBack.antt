@@ -7,35 +7,34 @@ use Rattle.std.proofs.lemmas.List.{length-map}
 use Rattle.std.proofs.lemmas.List.Sums.{sum_by-cons}
 use Rattle.std.proofs.lemmas.Option.{slice_get_cases, slice_get_past, slice_get_within}
 use Rattle.std.proofs.lemmas.Simd.{map-map}
+use Rattle.tv_lemmas.specs.Members.{In}
 use Rattle.tv_lemmas.proofs.Cases.{on_either}
 use Rattle.tv_lemmas.proofs.Counts.{count-cons}
-use Rattle.tv_lemmas.proofs.Lists.{get-within}
+use Rattle.tv_lemmas.proofs.Lists.{get-within, of-image, get-map}
 use Rattle.tv_value.specs.Values.{JobName, Name}
 use Rattle.tv_flow.specs.Flows.{Flow}
 use Rattle.tv_check.specs.RunViews.{run_view}
 use Rattle.tv_check.specs.declared.plans.FlowPlan.{FlowPlan}
 use Rattle.tv_intake.specs.Intaken.{known_jobs}
-use Rattle.tv_model.specs.Members.{In}
 use Rattle.tv_model.proofs.Tests.{true≠false}
 use Rattle.tv_framing.specs.Views.{View}
 use Rattle.tv_frame.specs.Kept.{Keeps}
 use Rattle.tv_frame.specs.Tables.{levels_in}
 use Rattle.tv_frame.specs.declared.frame.Frame.{Frame}
 use Rattle.tv_beside.specs.Theirs.{AreTheirs}
-use Rattle.tv_seats.specs.Seats.{Seat, back, out_count, staged}
+use Rattle.tv_seats.specs.Seats.{Seat, back, seats_out, staged}
 use Rattle.tv_seats.specs.Tables.{Rows}
 use Rattle.tv_seats.specs.Stages as stages
 use Rattle.tv_seats.specs.Stages.{is_waiting}
 use Rattle.tv_seats.specs.declared.stage.Stage.{Stage}
 use Rattle.tv_seats.specs.declared.stage.Stage.TheVariants as stage
-use Rattle.tv_seated.specs.Seated.{spot_of}
-use Rattle.tv_seated.proofs.OfLists.{get-image, of-image}
+use Rattle.tv_forest.specs.seats.Seated.{spot_of}
 use Rattle.tv_forest.specs.Entries.{called_back}
 use Rattle.tv_forest.specs.Forest.{AreNumbered, Instance, Instances, IsAt, names_by}
 use Rattle.tv_forest.proofs.OfRecalls.{settled-back}
-use Rattle.tv_firsts.specs.Opening.{IsStill}
-use Rattle.tv_firsts.specs.Told.{KeepsSpots}
-use Rattle.tv_firsts.proofs.OfNames.{names-stay}
+use Rattle.tv_forest.specs.firsts.Opening.{IsStill}
+use Rattle.tv_forest.specs.firsts.Told.{KeepsSpots}
+use Rattle.tv_forest.proofs.firsts.OfNames.{names-stay}
 use Rattle.tv_open.specs.Standing.{IsOpen, job_of}
 use Rattle.tv_open.specs.declared.open.Open.{Open}
 use Rattle.tv_open.proofs.OfTries.{kept-with, quiet-none}
@@ -52,7 +51,7 @@ use Rattle.tv_run.proofs.OfRooms.{theirs-as}
 -- ---- seats
 
 none-out : (ss : List Seat) → ((n : ℕ) (s : Seat) → slice_get ss n ≡ Some s → s.stage ≡ stage.Settled)
-    → out_count ss ≡ 0
+    → seats_out ss ≡ 0
 none-out [] h = refl
 none-out (s ∷ ss) h =
     let all = count-cons (λ (t : Seat). stages.is_out t.stage) s ss in
@@ -71,7 +70,7 @@ due-back (stage.Nested i) = refl
 due-back stage.Settled = refl
 
 due-seats : (ss : List Seat)
-    → count_by (λ (s : Seat). is_due s.stage) (map back ss) ≡ count_by (λ (s : Seat). is_due s.stage) ss + out_count ss
+    → count_by (λ (s : Seat). is_due s.stage) (map back ss) ≡ count_by (λ (s : Seat). is_due s.stage) ss + seats_out ss
 due-seats [] = refl
 due-seats (s ∷ ss) =
     let now = count-cons (λ (t : Seat). is_due t.stage) (back s) (map back ss) in
@@ -82,12 +81,12 @@ due-seats (s ∷ ss) =
     omega (arith, now, was, out, rest, here)
 
 due-all : (xs : Instances)
-    → sum_by due_in (map called_back xs) ≡ sum_by due_in xs + sum_by (λ (x : Instance). out_count x.seats) xs
+    → sum_by due_in (map called_back xs) ≡ sum_by due_in xs + sum_by (λ (x : Instance). seats_out x.seats) xs
 due-all [] = refl
 due-all (x ∷ xs) =
     let now = sum_by-cons due_in (called_back x) (map called_back xs) in
     let was = sum_by-cons due_in x xs in
-    let out = sum_by-cons (λ (y : Instance). out_count y.seats) x xs in
+    let out = sum_by-cons (λ (y : Instance). seats_out y.seats) x xs in
     let rest = due-all xs in
     let here = due-seats x.seats in
     omega (arith, now, was, out, rest, here)
@@ -223,26 +222,26 @@ sums-alike f g (x ∷ xs) (y ∷ ys) many h =
 
 module _ (r : OpenRun) (xs : Instances) (fits : Fits r xs) (rests : AllRest xs) where
   out-here : (i : ℕ) (c : code.Instance) (x : Instance) → IsAt xs i x → IsKept r i c x
-      → sum_by (λ (o : Open). out_count o.seats.seats) c.open.items ≡ out_count x.seats
+      → sum_by (λ (o : Open). seats_out o.seats.seats) c.open.items ≡ seats_out x.seats
   out-here i c x at kept = by x.view refl kept.life
     where
       by : (w : Option View) → x.view ≡ w → IsLife r c x w
-          → sum_by (λ (o : Open). out_count o.seats.seats) c.open.items ≡ out_count x.seats
+          → sum_by (λ (o : Open). seats_out o.seats.seats) c.open.items ≡ seats_out x.seats
       by None e life =
-          ap (sum_by (λ (o : Open). out_count o.seats.seats)) life.0 ∙ sym (none-out x.seats (rests i x at e))
+          ap (sum_by (λ (o : Open). seats_out o.seats.seats)) life.0 ∙ sym (none-out x.seats (rests i x at e))
       by (Some v) e life =
-          let one = sum_by-cons (λ (o : Open). out_count o.seats.seats) life.itself [] in
-          let same = ap out_count (sym (seats-open c life.itself [] life.there) ∙ kept.seats) in
-          ap (sum_by (λ (o : Open). out_count o.seats.seats)) life.there ∙ plus-none _ _ one ∙ same
+          let one = sum_by-cons (λ (o : Open). seats_out o.seats.seats) life.itself [] in
+          let same = ap seats_out (sym (seats-open c life.itself [] life.there) ∙ kept.seats) in
+          ap (sum_by (λ (o : Open). seats_out o.seats.seats)) life.there ∙ plus-none _ _ one ∙ same
         where
           plus-none : (a b : ℕ) → a ≡ b + 0 → a ≡ b
           plus-none a b h = omega (arith, h)
 
   -- as many are out in the code
-  pub out-all : out_in r.instances.items ≡ sum_by (λ (x : Instance). out_count x.seats) xs
+  pub out-all : out_in r.instances.items ≡ sum_by (λ (x : Instance). seats_out x.seats) xs
   out-all =
-      sums-alike (λ (c : code.Instance). sum_by (λ (o : Open). out_count o.seats.seats) c.open.items)
-      (λ (x : Instance). out_count x.seats) r.instances.items xs fits.as_many
+      sums-alike (λ (c : code.Instance). sum_by (λ (o : Open). seats_out o.seats.seats) c.open.items)
+      (λ (x : Instance). seats_out x.seats) r.instances.items xs fits.as_many
       (λ i c x e at. out-here i c x at (fits.kept i c x e at))
 
 -- s is the run r with all that was out idle, and so many more due
@@ -347,17 +346,17 @@ module _ (r s : OpenRun) (n : ℕ) (all : IsAllBack r s n) (xs : Instances) (fit
   keeps : KeepsSpots xs ys
   keeps k x there = (
     called_back x,
-    get-image called_back xs k x there,
+    get-map called_back xs k x there,
     refl,
     refl,
-    λ n t e. (back t, get-image back x.seats n t e, refl, refl),
+    λ n t e. (back t, get-map back x.seats n t e, refl, refl),
   )
 
   numbered : AreNumbered ys (numbers_of r)
   numbered = record {
     seats = λ a k m e.
         let w = fits.numbered.seats a k m e in
-        (called_back w.0, back w.1, get-image called_back xs k w.0 w.2, get-image back w.0.seats m w.1 w.3);
+        (called_back w.0, back w.1, get-map called_back xs k w.0 w.2, get-map back w.0.seats m w.1 w.3);
     all = λ k m y t there sits.
         let u = of-image called_back xs k y there in
         let w = of-image back u.0.seats m t (ap (λ (z : Instance). slice_get z.seats m) u.2 ∙ sits) in

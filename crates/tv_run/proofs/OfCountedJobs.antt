@@ -5,13 +5,16 @@ use Rattle.std.proofs.Common.{ap, subst, sym, ◌∙◌}
 use Rattle.std.proofs.lemmas.List.{take_all}
 use Rattle.std.proofs.lemmas.List.Sums.{count_by-le-length, count_by_more_no, count_by_more_yes, length-filter}
 use Rattle.std.proofs.lemmas.Option.{same_Some, slice_get-get_or, slice_get_within}
+use Rattle.tv_lemmas.specs.Members.{In}
+use Rattle.tv_lemmas.proofs.Lists.{get-map}
+use Rattle.tv_lemmas.proofs.OfMembers.{get-in, in-slice}
 use Rattle.tv_value.specs.Values.{JobName}
 use Rattle.tv_gate.specs.Outcomes.{Giving}
 use Rattle.tv_check.specs.RunViews.{run_view}
 use Rattle.tv_model.specs.Jobs.{Job}
 use Rattle.tv_model.specs.Made.{Meaning}
-use Rattle.tv_model.specs.Members.{In}
-use Rattle.tv_model.proofs.Members.{Apart, once-of_apart}
+use Rattle.tv_model.proofs.Members.{once-of_apart}
+use Rattle.tv_model.specs.JobOrder.{Apart}
 use Rattle.tv_history.specs.Entries as entries
 use Rattle.tv_history.specs.Entries.{History}
 use Rattle.tv_history.specs.Histories.{is_settled}
@@ -20,16 +23,15 @@ use Rattle.tv_frame.specs.Tables.{levels_in}
 use Rattle.tv_seats.specs.Seats.{Seat}
 use Rattle.tv_seats.specs.Stages.{is_out}
 use Rattle.tv_seats.specs.declared.stage.Stage.{Stage}
-use Rattle.tv_seated.specs.Seated.{IsStage}
-use Rattle.tv_seated.proofs.OfLists.{get-image, is-member, place-of}
-use Rattle.tv_standing.specs.Seats.{is_over}
-use Rattle.tv_standing.proofs.OfCounts.{ArePartnered, as-many}
-use Rattle.tv_standing.proofs.OfLists.{apart-by}
-use Rattle.tv_standing.proofs.OfStages.{out-is, over-is}
+use Rattle.tv_forest.specs.seats.Seated.{IsStage}
+use Rattle.tv_forest.specs.stands.Seats.{is_over}
+use Rattle.tv_forest.proofs.stands.OfCounts.{ArePartnered, as-many}
+use Rattle.tv_forest.proofs.stands.OfLists.{apart-by}
+use Rattle.tv_forest.proofs.stands.OfStages.{out-is, over-is}
 use Rattle.tv_forest.specs.Forest.{Instance, Instances, name_of}
-use Rattle.tv_firsts.specs.Told.{HasSeat}
-use Rattle.tv_firsts.proofs.OfInstances.{job-seat, out-anywhere, settled-anywhere}
-use Rattle.tv_entries.specs.Calls.{out_count}
+use Rattle.tv_forest.specs.firsts.Told.{HasSeat}
+use Rattle.tv_forest.proofs.firsts.OfInstances.{job-seat, out-anywhere, settled-anywhere}
+use Rattle.tv_entries.specs.Calls.{out_now}
 use Rattle.tv_entries.specs.Runs.{meant, past_of}
 use Rattle.tv_run.specs.Following.{numbered_in}
 use Rattle.tv_run.specs.Jobs.{stage_in, stage_of}
@@ -89,7 +91,7 @@ module _ (gives : Giving) (r : OpenRun) (xs : Instances) (st : Stands gives r xs
   name-there : (k : ℕ) (n : Numbered) → slice_get r.jobs.items k ≡ Some n → slice_get (names_of r) k ≡ Some (named n)
   name-there k n e =
       ap (λ l. slice_get l k) st.fits.names_are
-      ∙ get-image (name_of xs) (numbers_of r) k (numbered_as n) (get-image numbered_as r.jobs.items k n e)
+      ∙ get-map (name_of xs) (numbers_of r) k (numbered_as n) (get-map numbered_as r.jobs.items k n e)
 
   module _ (k : ℕ) (n : Numbered) (there : slice_get r.jobs.items k ≡ Some n) (i l : ℕ) (x : Instance) (s : Seat)
       (j : Job) (is : IsNumber gives r xs k i l x s j) where
@@ -137,7 +139,7 @@ module _ (gives : Giving) (r : OpenRun) (xs : Instances) (st : Stands gives r xs
         let n = numbered_in s.outer s.number in
         let e = number-is r k.0 s.outer s.number k.1.numbered in (
           n,
-          is-member n r.jobs.items k.0 e,
+          in-slice r.jobs.items k.0 n e,
           is-so k.0 n e s.outer s.number s.instance s.seat j k.1 p
               ∙ sym (alike j s.seat.stage (stage-is gives r xs st k.0 s.outer s.number s.instance s.seat j k.1))
               ∙ h,
@@ -146,7 +148,7 @@ module _ (gives : Giving) (r : OpenRun) (xs : Instances) (st : Stands gives r xs
 
     numbers-partnered : ArePartnered named (λ (j : Job). j.name) (is_in p r) counts r.jobs.items m.jobs
     numbers-partnered n i h =
-        let k = place-of n r.jobs.items i in
+        let k = get-in n r.jobs.items i in
         let w = its k.0 n k.1 in (
           w.job,
           w.is_number.is_job.job.listed,
@@ -175,7 +177,7 @@ module _ (gives : Giving) (r : OpenRun) (xs : Instances) (st : Stands gives r xs
   all-counted k c h e = e ∙ ap (count_by (over_in r)) (take_all k r.jobs.items h) ∙ settled-counted
 
   -- no more are out than there are jobs
-  pub out-few : out_count gives (run_of r) ≤ length r.jobs.items
+  pub out-few : out_now gives (run_of r) ≤ length r.jobs.items
   out-few =
       subst (λ n. n ≤ length r.jobs.items)
       (sym

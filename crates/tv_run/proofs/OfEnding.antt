@@ -5,11 +5,12 @@ use Rattle.std.proofs.Common.{ap, arith, subst, sym, ◌∙◌}
 use Rattle.std.proofs.lemmas.Option.{none-some, same_Some, slice_get_cases}
 use Rattle.std.specs.Cmp.{first_so}
 use Rattle.tv_lemmas.proofs.Cases.{on_either}
+use Rattle.tv_lemmas.proofs.OfMembers.{in-slice}
 use Rattle.tv_value.specs.Nested.{Place}
 use Rattle.tv_value.specs.Values.{Name, Value}
 use Rattle.tv_gate.specs.Outcomes.{Giving}
 use Rattle.tv_flow.specs.Flows.{Document, Flow, Step}
-use Rattle.tv_depths.specs.Steps.{declared_depths}
+use Rattle.tv_instance.specs.Steps.{declared_depths}
 use Rattle.tv_check.specs.RunViews.{run_view}
 use Rattle.tv_check.specs.declared.plans.FlowPlan.{FlowPlan}
 use Rattle.tv_outputs.specs.Known.{Nodes}
@@ -21,17 +22,16 @@ use Rattle.tv_history.specs.Entries.{History, is_begun_entry}
 use Rattle.tv_history.specs.Histories.{can_end, is_settled}
 use Rattle.tv_framing.specs.Answers.{AreOutputs, has_ended_now}
 use Rattle.tv_framing.specs.Views.{View}
-use Rattle.tv_viewed.specs.InRun.{IsOfJob}
-use Rattle.tv_viewed.specs.Stated.{IsBegunAsTold}
-use Rattle.tv_viewed.proofs.OfLaws.{instances-end_as_told, outputs-are_results, taken-is_running}
+use Rattle.tv_forest.specs.views.InRun.{IsOfJob}
+use Rattle.tv_forest.specs.views.Stated.{IsBegunAsTold}
+use Rattle.tv_forest.proofs.views.OfLaws.{instances-end_as_told, outputs-are_results, taken-is_running}
 use Rattle.tv_frame.specs.Prepared.{MayGive}
 use Rattle.tv_frame.specs.Tables.{levels_in}
 use Rattle.tv_seats.specs.Seats.{Seat}
 use Rattle.tv_seats.specs.Stages.{is_nested, is_out}
 use Rattle.tv_seats.specs.declared.stage.Stage.TheVariants as stage
-use Rattle.tv_seated.specs.Seated.{GoesAs, IsStage, Sit, spot_of}
-use Rattle.tv_seated.proofs.OfLists.{is-member}
-use Rattle.tv_firsts.proofs.OfInstances.{one-seat}
+use Rattle.tv_forest.specs.seats.Seated.{GoesAs, IsStage, Sit, spot_of}
+use Rattle.tv_forest.proofs.firsts.OfInstances.{one-seat}
 use Rattle.tv_forest.specs.Forest.{Instance, Instances, IsAt, IsJobAt}
 use Rattle.tv_forest.proofs.OfInstances as forest
 use Rattle.tv_forest.proofs.OfInstances.{one-job, sits}
@@ -294,7 +294,7 @@ module _ (gives : Giving) (r : OpenRun) (i : ℕ) (h : IsOpenIn gives r i) (ends
       pub may-give : MayGive v q.step q.seat.place vs
       may-give = record {
         known =
-            is-member (q.step.0, q.seat.place) v.jobs m.number
+            in-slice v.jobs m.number (q.step.0, q.seat.place)
             (bounces.known gives d past xs st.stand m.instance m.number q.around q.seat q.job v its-at around-open.1
             ∙ ap Some spot-so);
         new =

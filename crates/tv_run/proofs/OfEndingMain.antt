@@ -13,7 +13,7 @@ use Rattle.tv_history.specs.Entries.{ended}
 use Rattle.tv_history.specs.Histories.{can_end}
 use Rattle.tv_framing.specs.Answers.{AreOutputs}
 use Rattle.tv_framing.specs.Views.{View}
-use Rattle.tv_viewed.proofs.OfLaws.{outputs-are_meant}
+use Rattle.tv_forest.proofs.views.OfLaws.{outputs-are_meant}
 use Rattle.tv_frame.specs.Tables.{levels_in}
 use Rattle.tv_forest.specs.Entries.{shut, with_instance}
 use Rattle.tv_forest.specs.Forest.{Instance, Instances, IsAt, IsMain}

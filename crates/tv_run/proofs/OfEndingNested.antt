@@ -13,9 +13,9 @@ use Rattle.tv_framing.specs.Views.{View}
 use Rattle.tv_frame.specs.Tables.{levels_in}
 use Rattle.tv_seats.specs.Seats.{with_stage}
 use Rattle.tv_seats.specs.declared.stage.Stage.TheVariants as stage
-use Rattle.tv_seated.specs.GoingOn.{GoesOn}
-use Rattle.tv_seated.specs.Seated.{spot_of}
-use Rattle.tv_forest.specs.Entries.{shut, told, with_instance}
+use Rattle.tv_forest.specs.seats.GoingOn.{GoesOn}
+use Rattle.tv_forest.specs.seats.Seated.{spot_of}
+use Rattle.tv_forest.specs.Entries.{shut, with_view, with_instance}
 use Rattle.tv_forest.specs.Forest.{Instance, Instances, IsAt, Stand}
 use Rattle.tv_forest.proofs.OfEnds as ends
 use Rattle.tv_forest.proofs.OfLists.{of-set, set-swap, to-set}
@@ -135,7 +135,7 @@ module _ (gives : Giving) (r : OpenRun) (i : ℕ) (h : IsOpenIn gives r i) (ends
         (room : length ready.entries.items + ready.due + more + 1 ≤ vec_capacity ready.entries)
         (undone : ready.outs ≡ None) where
       abbrev around-then : Instance
-      around-then = told q.around tells.view (with_stage m.number stage.Settled q.around.seats ++ tells.new)
+      around-then = with_view q.around tells.view (with_stage m.number stage.Settled q.around.seats ++ tells.new)
 
       abbrev ys : Instances
       ys = with_instance zs m.instance around-then

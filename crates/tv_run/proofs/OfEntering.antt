@@ -4,8 +4,7 @@ use Rattle.std.specs.Global.{Global}
 use Rattle.std.specs.Prelude.{◌≡◌, ◌≢◌, ℕ, suc, ◌+◌, ◌-◌, ◌≤◌, ◌++◌, true, false, if◌then◌else◌, List, [], ◌∷◌, Some, Vec, length, map, slice_get, vec_capacity}
 use Rattle.std.proofs.Common.{ap, arith, length-append, subst, sym, ◌∙◌}
 use Rattle.std.proofs.lemmas.Option.{none-some, same_Some}
-use Rattle.tv_lemmas.proofs.Lists.{get-within}
-use Rattle.tv_forest.proofs.OfLists.{at-last}
+use Rattle.tv_lemmas.proofs.Lists.{get-within, get-end}
 use Rattle.tv_open.specs.declared.open.Open.{Open}
 use Rattle.tv_run.specs.Following.{CanFollow, Enters, FollowsIn, HasNumbers, IsEntering, numbered_in, unnumbered}
 use Rattle.tv_run.specs.declared.instances.Instance as code
@@ -50,7 +49,7 @@ module _ (r m : OpenRun) (jobs : Vec ℕ Global) (slot : Vec Open Global) (o : O
   i = length r.instances.items
 
   at-itself : slice_get m.instances.items i ≡ Some e
-  at-itself = ap (λ l. slice_get l i) last.instances ∙ at-last r.instances.items e
+  at-itself = ap (λ l. slice_get l i) last.instances ∙ get-end r.instances.items e
 
   none-numbered : length e.jobs.items ≡ 0
   none-numbered = ap (λ v. length v.items) jobs-are ∙ ap length entering.none_numbered

@@ -5,8 +5,10 @@ use Rattle.std.proofs.Common.{ap, arith, inl, inr, length-append, subst, sym, �
 use Rattle.std.proofs.lemmas.List.FromFn.{length-range_with_len}
 use Rattle.std.proofs.lemmas.List.Sums.{sum_by_push}
 use Rattle.std.proofs.lemmas.Option.{none-some, slice_get_cases, slice_get_past, slice_get_within}
+use Rattle.tv_lemmas.specs.Members.{In}
 use Rattle.tv_lemmas.proofs.Cases.{on_either}
-use Rattle.tv_lemmas.proofs.Lists.{get-within}
+use Rattle.tv_lemmas.proofs.Lists.{get-within, in-front, get-end}
+use Rattle.tv_lemmas.proofs.OfMembers.{get-in, in-slice}
 use Rattle.tv_value.specs.Values.{JobName, Value}
 use Rattle.tv_flow.specs.Flows.{Flow}
 use Rattle.tv_flow.specs.Views.{flow_view}
@@ -14,7 +16,6 @@ use Rattle.tv_check.specs.RunViews.{run_view}
 use Rattle.tv_check.specs.declared.plans.FlowPlan.{FlowPlan}
 use Rattle.tv_pool.specs.Pool.{number_of, region_at}
 use Rattle.tv_nodes.specs.Calls.{KeepsRegions}
-use Rattle.tv_model.specs.Members.{In}
 use Rattle.tv_model.proofs.Tests.{true≠false}
 use Rattle.tv_framing.specs.Stated.{IsOfDepths}
 use Rattle.tv_framing.specs.Views.{View}
@@ -25,11 +26,10 @@ use Rattle.tv_beside.specs.Theirs.{AreTheirs, OthersStay}
 use Rattle.tv_beside.proofs.OfFrames.{starts-keep}
 use Rattle.tv_beside.proofs.OfTheirs.{theirs-started}
 use Rattle.tv_seats.specs.Seats.{Seat}
-use Rattle.tv_seated.specs.GoingOn.{IsNew}
-use Rattle.tv_seated.specs.Seated.{AreAtSteps, spot_of}
-use Rattle.tv_seated.proofs.OfLists.{in-front, is-member, place-of}
+use Rattle.tv_forest.specs.seats.GoingOn.{IsNew}
+use Rattle.tv_forest.specs.seats.Seated.{AreAtSteps, spot_of}
 use Rattle.tv_forest.specs.Forest.{Instance, Instances, IsAt, TellsNumbers, names_by}
-use Rattle.tv_forest.proofs.OfLists.{at-last, of-last}
+use Rattle.tv_forest.proofs.OfLists.{of-last}
 use Rattle.tv_open.specs.Standing.{IsOpen, StartsOpen, job_of}
 use Rattle.tv_open.specs.declared.open.Open.{Open}
 use Rattle.tv_run.specs.Changes.{AddsTo, CanAdd, IsNameOf, IsOpenedOn}
@@ -273,7 +273,7 @@ module _ (r m t s : OpenRun) (xs : Instances) (flow : ℕ) (f : Flow) (opener : 
     new = λ q low.
         let u = get-within o.seats.seats q low in
         let same : 0 + q ≡ q = omega arith in
-        (entered, u.0, at-last xs entered, ap (slice_get o.seats.seats) same ∙ u.1);
+        (entered, u.0, get-end xs entered, ap (slice_get o.seats.seats) same ∙ u.1);
     low = λ q z u there sits. absurd (beyond (length xs) z refl there);
   }
 
@@ -304,7 +304,7 @@ module _ (r m t s : OpenRun) (xs : Instances) (flow : ℕ) (f : Flow) (opener : 
   itself-there =
       ap (λ l. slice_get l (length xs)) enters.instances
       ∙ ap (slice_get (t.instances.items ++ enters.itself ∷ [])) (sym many-t)
-      ∙ at-last t.instances.items enters.itself
+      ∙ get-end t.instances.items enters.itself
 
   others-stay : OthersStay (length xs) (frame_at r) (frame_at s)
   others-stay k ne =
@@ -344,20 +344,20 @@ module _ (r m t s : OpenRun) (xs : Instances) (flow : ℕ) (f : Flow) (opener : 
       (on_either (which k e at)
       (λ h.
       let same = rooms.instances k h.before e h.in_m h.there in
-      let p = place-of k r.busy.items (fits.busy k h.before h.was (sym same.is_busy ∙ b)) in
-      is-member k (r.busy.items ++ length xs ∷ []) p.0 (in-front r.busy.items (length xs ∷ []) p.0 k p.1))
+      let p = get-in k r.busy.items (fits.busy k h.before h.was (sym same.is_busy ∙ b)) in
+      in-slice (r.busy.items ++ length xs ∷ []) p.0 k (in-front r.busy.items (length xs ∷ []) p.0 k p.1))
       (λ h.
-      is-member k (r.busy.items ++ length xs ∷ []) (length r.busy.items)
-      (at-last r.busy.items (length xs) ∙ ap Some (sym h.0))))
+      in-slice (r.busy.items ++ length xs ∷ []) (length r.busy.items) k
+      (get-end r.busy.items (length xs) ∙ ap Some (sym h.0))))
 
   busy-low : (k : ℕ) → In k s.busy.items → k < length s.instances.items
   busy-low k h =
-      let p = place-of k (r.busy.items ++ length xs ∷ []) (subst (In k) busy-is h) in
+      let p = get-in k (r.busy.items ++ length xs ∷ []) (subst (In k) busy-is h) in
       let many = many-s in
       let more = length-append xs (entered ∷ []) in
       on_either (of-last r.busy.items (length xs) p.0 k p.1)
       (λ a.
-      let low : k < length r.instances.items = fits.busy_low k (is-member k r.busy.items p.0 a) in
+      let low : k < length r.instances.items = fits.busy_low k (in-slice r.busy.items p.0 k a) in
       let was = fits.as_many in
       omega (arith, low, was, many, more))
       (λ a. let is = a.1 in omega (arith, is, many, more))

@@ -5,6 +5,8 @@ use Rattle.std.specs.Prelude.{◌≡◌, refl, ℕ, suc, ◌+◌, ◌==◌, Bool
 use Rattle.std.proofs.Common.{ap, append-nil, arith, eqb-true, inl, inr, subst, sym, ◌∙◌}
 use Rattle.std.proofs.lemmas.Option.{none-some}
 use Rattle.std.specs.Cmp.{first_so, second_so}
+use Rattle.tv_lemmas.specs.Members.{In}
+use Rattle.tv_lemmas.proofs.OfMembers.{any-in, in-right, some_in}
 use Rattle.tv_lemmas.proofs.Cases.{on_test}
 use Rattle.tv_lemmas.proofs.Counts.{count-both, count-cons}
 use Rattle.tv_lemmas.proofs.Options.{map_or-some}
@@ -20,13 +22,13 @@ use Rattle.tv_model.specs.Jobs.{Ending, Job, bounced_end, failed_end, good_end}
 use Rattle.tv_model.specs.Lists.{first_of_list}
 use Rattle.tv_model.specs.Made.{Meaning}
 use Rattle.tv_model.specs.Meanings.{meaning}
-use Rattle.tv_model.specs.Members.{In}
 use Rattle.tv_model.specs.Turns.{is_bounced, is_failed}
-use Rattle.tv_model.proofs.Members.{Apart, any-in, once-of_apart}
-use Rattle.tv_model.proofs.Order.{in-right, some_in}
+use Rattle.tv_model.proofs.Members.{once-of_apart}
+use Rattle.tv_model.specs.JobOrder.{Apart}
 use Rattle.tv_model.proofs.Tests.{both_true, true≠false}
 use Rattle.tv_history.specs.Entries.{Entry, History, accepted, bounced, closed, ended, fault_passed, handed_out, is_bounced_entry, is_ended_entry, is_opened_entry, is_out, opened, recalled}
-use Rattle.tv_history.specs.Histories.{is_ask, is_at, is_legal, is_legal_after, is_right, is_settled, next_ask, same_bool}
+use Rattle.tv_history.specs.Histories.{is_ask, is_at, is_legal, is_legal_after, is_settled, next_ask, same_bool}
+use Rattle.tv_dispatch.specs.Plans.{came_right}
 use Rattle.tv_history.specs.ReadOff.{has_failed}
 use Rattle.tv_history.specs.Tries.{TryKey, tries_of, try_of}
 use Rattle.tv_history.proofs.Done.{settled-none}
@@ -34,11 +36,11 @@ use Rattle.tv_history.proofs.Ready.{AnyNumber, document-whole}
 use Rattle.tv_history.proofs.Sums.{settled-failed}
 use Rattle.tv_history.proofs.Tests.{same-itself}
 use Rattle.tv_history.proofs.Legal.{judged-same}
-use Rattle.tv_seated.proofs.OfStages.{accepted-other, settled-stays}
-use Rattle.tv_tried.specs.NextTries.{IsAfter, accepting, said_after}
-use Rattle.tv_tried.specs.Steps.{IsOwnStep}
-use Rattle.tv_tried.proofs.OfNext.{after-is}
-use Rattle.tv_tried.proofs.OfParts.{own-parts}
+use Rattle.tv_forest.proofs.seats.OfStages.{accepted-other, settled-stays}
+use Rattle.tv_forest.specs.tries.NextTries.{IsAfter, accepting, said_after}
+use Rattle.tv_forest.specs.tries.Steps.{IsOwnStep}
+use Rattle.tv_forest.proofs.tries.OfNext.{after-is}
+use Rattle.tv_forest.proofs.tries.OfParts.{own-parts}
 use Rattle.tv_forest.specs.Forest.{Instances, Stand}
 use Rattle.tv_run.specs.Looks as looks
 
@@ -218,24 +220,24 @@ module _ (gives : Giving) (d : Document) (levels : Flow → Name → ℕ) (past 
       is_next : next_ask past j ≡ Some ask
       activity : ask.activity ≡ a
       attempt : ask.attempt ≡ t
-      is_its : is_right gives ask ≡ right
+      is_its : came_right gives ask ≡ right
       out : is_out past j.name ≡ true
 
     asked-next : (right : Bool) → MayBeNext (accepted j.name a t right) → IsAskedNext right
     asked-next right h =
         let k = map_or-some is_this (next_ask past j) its in
-        let same = first_so (is_ask a t k.0) (same_bool right (is_right gives k.0)) k.2 in
+        let same = first_so (is_ask a t k.0) (same_bool right (came_right gives k.0)) k.2 in
         record {
           ask = k.0;
           is_next = k.1;
           activity = sym (eqb-true a k.0.activity (first_so (a == k.0.activity) (t == k.0.attempt) same));
           attempt = sym (eqb-true t k.0.attempt (second_so (a == k.0.activity) (t == k.0.attempt) same));
-          is_its = judged-same right (is_right gives k.0) (second_so (is_ask a t k.0) (same_bool right (is_right gives k.0)) k.2);
+          is_its = judged-same right (came_right gives k.0) (second_so (is_ask a t k.0) (same_bool right (came_right gives k.0)) k.2);
           out = first_so (is_out past j.name) (list_any is_it m.jobs) h;
         }
       where
         is_this : Ask → Bool
-        is_this k = is_ask a t k && same_bool right (is_right gives k)
+        is_this k = is_ask a t k && same_bool right (came_right gives k)
 
         is_it : Job → Bool
         is_it x = is_at x j.name && option_map_or is_this (next_ask past x) false

@@ -3,6 +3,8 @@ use Rattle.std.specs.Prelude.{◌≡◌, refl, ◌+◌, ◌<◌, ◌≤◌, ◌^
 use Rattle.std.proofs.Common.{ap, arith, sym, ◌∙◌}
 use Rattle.std.proofs.lemmas.List.{length-map}
 use Rattle.std.proofs.lemmas.List.Sums.{count_by-le-length}
+use Rattle.tv_lemmas.specs.Members.{In}
+use Rattle.tv_lemmas.proofs.OfMembers.{of-filter, in-slice}
 use Rattle.tv_value.specs.Orders.{same_job}
 use Rattle.tv_value.specs.Values.{JobName}
 use Rattle.tv_value.proofs.OfJobNames.{same_job_decides}
@@ -11,9 +13,7 @@ use Rattle.tv_flow.specs.Flows.{Document}
 use Rattle.tv_check.specs.RunViews.{run_view}
 use Rattle.tv_model.specs.Jobs.{Job}
 use Rattle.tv_model.specs.Made.{Meaning}
-use Rattle.tv_model.specs.Members.{In}
 use Rattle.tv_model.proofs.Tests.{true≠false}
-use Rattle.tv_model.proofs.OfMembers.{of-filter}
 use Rattle.tv_history.specs.Entries.{History}
 use Rattle.tv_history.specs.Histories.{is_settled}
 use Rattle.tv_history.specs.ReadOff.{has_failed}
@@ -21,8 +21,7 @@ use Rattle.tv_history.proofs.Counts.{bit, tally, total}
 use Rattle.tv_history.proofs.Ready.{document-whole}
 use Rattle.tv_order.proofs.OfTallies.{few-by, tally-once}
 use Rattle.tv_frame.specs.Tables.{levels_in}
-use Rattle.tv_seated.proofs.OfLists.{is-member}
-use Rattle.tv_firsts.proofs.OfInstances.{job-seat, settled-anywhere}
+use Rattle.tv_forest.proofs.firsts.OfInstances.{job-seat, settled-anywhere}
 use Rattle.tv_forest.specs.Forest.{Instances, name_of}
 use Rattle.tv_forest.proofs.OfInstances.{one-job}
 use Rattle.tv_entries.specs.Runs.{meant, past_of}
@@ -76,7 +75,7 @@ module _ (gives : Giving) (r : OpenRun) (xs : Instances) (st : Stands gives r xs
       job-seat gives d levels_in past xs st.stand j p.0 (settled-anywhere m past j p.1) in
       let k = number-of_seat gives r xs st s.outer s.number s.instance s.seat j s.is_its in (
         j.name,
-        is-member j.name (names_of r) k.0 (job-named gives r xs st k.0 s.outer s.number s.instance s.seat j k.1),
+        in-slice (names_of r) k.0 j.name (job-named gives r xs st k.0 s.outer s.number s.instance s.seat j k.1),
         (same_job_decides j.name j.name).1 refl,
       )
 

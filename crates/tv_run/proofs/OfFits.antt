@@ -6,8 +6,10 @@ use Rattle.std.proofs.lemmas.List.{length-map, length-set}
 use Rattle.std.proofs.lemmas.List.FromFn.{length-range_with_len}
 use Rattle.std.proofs.lemmas.List.Sums.{sum_by-append, sum_by-cons}
 use Rattle.std.proofs.lemmas.Option.{none-some, same_Some, slice_get_within}
+use Rattle.tv_lemmas.specs.Members.{In}
 use Rattle.tv_lemmas.proofs.Cases.{on_either}
-use Rattle.tv_lemmas.proofs.Lists.{get-within}
+use Rattle.tv_lemmas.proofs.Lists.{get-within, in-front, in-behind, get-end}
+use Rattle.tv_lemmas.proofs.OfMembers.{get-in, in-slice}
 use Rattle.tv_value.specs.Values.{Name}
 use Rattle.tv_flow.specs.Flows.{Flow, Step}
 use Rattle.tv_flow.specs.Views.{flow_view}
@@ -15,7 +17,6 @@ use Rattle.tv_check.specs.RunViews.{run_view}
 use Rattle.tv_check.specs.declared.plans.FlowPlan.{FlowPlan}
 use Rattle.tv_pool.specs.Pool.{number_of, region_at}
 use Rattle.tv_nodes.specs.Calls.{KeepsRegions}
-use Rattle.tv_model.specs.Members.{In}
 use Rattle.tv_model.proofs.Tests.{true≠false}
 use Rattle.tv_instance.specs.Events.{Event}
 use Rattle.tv_framing.specs.Views.{View}
@@ -26,12 +27,11 @@ use Rattle.tv_beside.proofs.OfTheirs.{theirs-called, theirs-only}
 use Rattle.tv_seats.specs.Seats.{Seat}
 use Rattle.tv_seats.specs.declared.stage.Stage.{Stage}
 use Rattle.tv_seats.specs.declared.stage.Stage.TheVariants as stage
-use Rattle.tv_seated.specs.GoingOn.{GoesOn}
-use Rattle.tv_seated.specs.Seated.{AreAtSteps}
-use Rattle.tv_seated.proofs.OfLists.{in-behind, in-front, is-member, place-of}
-use Rattle.tv_forest.specs.Entries.{told, with_instance}
+use Rattle.tv_forest.specs.seats.GoingOn.{GoesOn}
+use Rattle.tv_forest.specs.seats.Seated.{AreAtSteps}
+use Rattle.tv_forest.specs.Entries.{with_view, with_instance}
 use Rattle.tv_forest.specs.Forest.{Instance, Instances, IsAt, names_by}
-use Rattle.tv_forest.proofs.OfLists.{at-last, at-set, of-set, one-at, same-number, to-set}
+use Rattle.tv_forest.proofs.OfLists.{at-set, of-set, one-at, same-number, to-set}
 use Rattle.tv_open.specs.Events.{IsTold}
 use Rattle.tv_open.specs.Standing.{IsOpen, job_of}
 use Rattle.tv_open.specs.declared.open.Open.{Open}
@@ -101,18 +101,18 @@ busy_with b l i = if b then l else l ++ i ∷ []
 pub busy-kept : (b : Bool) (l : List ℕ) (i k : ℕ) → In k l → In k (busy_with b l i)
 busy-kept true l i k h = h
 busy-kept false l i k h =
-    let n = place-of k l h in is-member k (l ++ i ∷ []) n.0 (in-front l (i ∷ []) n.0 k n.1)
+    let n = get-in k l h in in-slice (l ++ i ∷ []) n.0 k (in-front l (i ∷ []) n.0 k n.1)
 
 pub busy-itself : (b : Bool) (l : List ℕ) (i : ℕ) → (b ≡ true → In i l) → In i (busy_with b l i)
 busy-itself true l i h = h refl
-busy-itself false l i h = is-member i (l ++ i ∷ []) (length l) (at-last l i)
+busy-itself false l i h = in-slice (l ++ i ∷ []) (length l) i (get-end l i)
 
 pub busy-was : (b : Bool) (l : List ℕ) (i k : ℕ) → In k (busy_with b l i) → In k l ⊎ (k ≡ i)
 busy-was true l i k h = inl h
 busy-was false l i k h =
-    let n = place-of k (l ++ i ∷ []) h in
+    let n = get-in k (l ++ i ∷ []) h in
     on_either (get-either l (i ∷ []) n.0 k n.1)
-    (λ w. inl (is-member k l n.0 w.0))
+    (λ w. inl (in-slice l n.0 k w.0))
     (λ w. inr (one w.0 w.2))
   where
     one : (p : ℕ) → slice_get (i ∷ []) p ≡ Some k → k ≡ i
@@ -137,7 +137,7 @@ module _ (r t s : OpenRun) (xs : Instances) (i : ℕ) (x : Instance) (v : View) 
   w = tells.view
 
   abbrev y : Instance
-  y = told x w (ss ++ tells.new)
+  y = with_view x w (ss ++ tells.new)
 
   abbrev ys : Instances
   ys = with_instance xs i y

@@ -8,8 +8,8 @@ use Rattle.tv_flow.specs.Views.{flow_view}
 use Rattle.tv_check.specs.FlowPlanViews.{flow_plan_view}
 use Rattle.tv_check.specs.Plans.{flow_plan, flow_plans}
 use Rattle.tv_check.specs.declared.plans.FlowPlan.{FlowPlan}
-use Rattle.tv_seated.proofs.OfLists.{of-image}
 use Rattle.tv_run.specs.Looks.{IsFlow}
+use Rattle.tv_lemmas.proofs.Lists.{of-image}
 
 -- it is a plan of that flow
 pub plan-flow : (d : Document) (k : ℕ) (f : Flow) (p : FlowPlan) → IsFlow d k f

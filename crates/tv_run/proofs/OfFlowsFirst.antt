@@ -2,18 +2,18 @@
 use Rattle.std.specs.Prelude.{◌≡◌, refl, ℕ, ◌<◌, true, false, None, Option, Some, find, is_some, length, option_map}
 use Rattle.std.proofs.Common.{ap, ap₂, subst, sym, ◌∙◌}
 use Rattle.std.proofs.lemmas.Option.{none-some, same_Some}
+use Rattle.tv_lemmas.proofs.OfMembers.{found-in}
 use Rattle.tv_gate.specs.Outcomes.{Giving}
 use Rattle.tv_dispatch.specs.declared.plan.Plan.{Plan}
 use Rattle.tv_check.specs.RunViews.{run_view}
 use Rattle.tv_model.specs.Jobs.{Job}
 use Rattle.tv_model.proofs.Tests.{true≠false}
-use Rattle.tv_model.proofs.OfMembers.{found-in}
 use Rattle.tv_history.specs.Entries as history
 use Rattle.tv_history.specs.Histories.{next_ask}
 use Rattle.tv_order.specs.Moments.{all_jobs, goes_on}
 use Rattle.tv_seats.specs.declared.stage.Stage.{Stage}
-use Rattle.tv_firsts.specs.Opening.{SettlesNothing}
-use Rattle.tv_firsts.proofs.OfHistories.{nothing-left}
+use Rattle.tv_forest.specs.firsts.Opening.{SettlesNothing}
+use Rattle.tv_forest.proofs.firsts.OfHistories.{nothing-left}
 use Rattle.tv_entries.specs.Calls.{NothingSettles}
 use Rattle.tv_entries.specs.Runs.{Run, past_of}
 use Rattle.tv_open.specs.declared.firsts.Seeking.TheVariants as seeking

@@ -32,13 +32,13 @@ use Rattle.tv_seats.specs.Seats.{Seat, running_count, stands}
 use Rattle.tv_seats.specs.Stages.{is_aside, is_idle, is_waiting}
 use Rattle.tv_seats.specs.declared.stage.Stage.{Stage}
 use Rattle.tv_seats.specs.declared.stage.Stage.TheVariants as stage
-use Rattle.tv_seated.specs.Seated.{Sit}
-use Rattle.tv_standing.specs.Offers.{HasNextBySeat, begins_with_service, is_service_first}
-use Rattle.tv_standing.proofs.OfNext.{next-by_seat}
-use Rattle.tv_standing.proofs.OfOffers.{going-by_seat}
-use Rattle.tv_tried.specs.Steps.{IsOwnStep}
-use Rattle.tv_viewed.proofs.OwnDepths.{formed-flow}
-use Rattle.tv_firsts.proofs.OfQuiet.{going-by_next}
+use Rattle.tv_forest.specs.seats.Seated.{Sit}
+use Rattle.tv_forest.specs.stands.Offers.{HasNextBySeat, begins_with_service, is_service_first}
+use Rattle.tv_forest.proofs.stands.OfNext.{next-by_seat}
+use Rattle.tv_forest.proofs.stands.OfOffers.{going-by_seat}
+use Rattle.tv_forest.specs.tries.Steps.{IsOwnStep}
+use Rattle.tv_forest.proofs.views.OwnDepths.{formed-flow}
+use Rattle.tv_forest.proofs.firsts.OfQuiet.{going-by_next}
 use Rattle.tv_forest.specs.Forest.{Instance, Instances, IsJobAt}
 use Rattle.tv_entries.specs.Runs.{past_of}
 use Rattle.tv_open.specs.declared.firsts.Seeking.TheVariants as seeking

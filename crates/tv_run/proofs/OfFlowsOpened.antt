@@ -13,8 +13,8 @@ use Rattle.tv_framing.specs.Views.{View}
 use Rattle.tv_frame.specs.Tables.{levels_in}
 use Rattle.tv_seats.specs.Seats.{with_stage}
 use Rattle.tv_seats.specs.declared.stage.Stage.TheVariants as stage
-use Rattle.tv_seated.specs.Seated.{spot_of}
-use Rattle.tv_forest.specs.Entries.{told, with_instance}
+use Rattle.tv_forest.specs.seats.Seated.{spot_of}
+use Rattle.tv_forest.specs.Entries.{with_view, with_instance}
 use Rattle.tv_forest.specs.Forest.{Instance, Instances, IsAt, Stand}
 use Rattle.tv_forest.proofs.OfLists.{of-last}
 use Rattle.tv_forest.proofs.OfOpening.{opening}
@@ -71,7 +71,7 @@ module _ (gives : Giving) (r : OpenRun) (k : ℕ) (q : OpensFirst gives r k) (m 
   name = (opens.j gives r k q).name
 
   abbrev z : Instance
-  z = told x takes.view (with_stage m.number (stage.Nested (length xs)) x.seats)
+  z = with_view x takes.view (with_stage m.number (stage.Nested (length xs)) x.seats)
 
   abbrev zs : Instances
   zs = with_instance xs m.instance z

@@ -4,19 +4,22 @@ use Rattle.std.specs.Option.{option_map_or}
 use Rattle.std.specs.Prelude.{◌≡◌, refl, Bool, true, false, not, ◌||◌, if◌then◌else◌, List, [], ◌∷◌, ◌++◌, slice_get, unwrap_or}
 use Rattle.std.proofs.Common.{ap, subst, sym, ◌∙◌}
 use Rattle.std.specs.Cmp.{first_so}
+use Rattle.tv_lemmas.specs.Members.{In}
+use Rattle.tv_lemmas.proofs.Lists.{get-map}
+use Rattle.tv_lemmas.proofs.OfMembers.{in-slice}
 use Rattle.tv_value.specs.Values.{Name, Value}
 use Rattle.tv_gate.specs.Outcomes.{Giving}
 use Rattle.tv_flow.specs.Flows.{Document, Step}
 use Rattle.tv_check.specs.RunViews.{run_view}
-use Rattle.tv_depths.specs.Steps.{declared_depths}
+use Rattle.tv_instance.specs.Steps.{declared_depths}
 use Rattle.tv_dispatch.specs.Jobs.{Ask}
 use Rattle.tv_instance.specs.Events.{gave, has_result, is_taken}
 use Rattle.tv_model.specs.Made.{Meaning}
-use Rattle.tv_model.specs.Members.{In}
 use Rattle.tv_model.specs.RightDepths.{HaveTheseDepths}
 use Rattle.tv_model.proofs.Results.{judged-depths, errors-have}
 use Rattle.tv_history.specs.Entries.{History, accepted, is_begun_entry}
-use Rattle.tv_history.specs.Histories.{is_right, is_settled}
+use Rattle.tv_history.specs.Histories.{is_settled}
+use Rattle.tv_dispatch.specs.Plans.{came_right}
 use Rattle.tv_history.specs.Tries.{TryKey, key_of}
 use Rattle.tv_history.proofs.Done.{of-next}
 use Rattle.tv_history.proofs.Legal.{legal-of}
@@ -28,11 +31,10 @@ use Rattle.tv_frame.specs.Tables.{levels_in}
 use Rattle.tv_seats.specs.Seats.{Seat, with_stage}
 use Rattle.tv_seats.specs.Stages.{is_nested, is_out}
 use Rattle.tv_seats.specs.declared.stage.Stage.TheVariants as stage
-use Rattle.tv_viewed.proofs.OfLaws.{taken-is_running}
-use Rattle.tv_seated.specs.GoingOn.{GoesOn, MaySettle}
-use Rattle.tv_seated.specs.Seated.{IsStage, spot_of}
-use Rattle.tv_seated.proofs.OfLists.{get-image, is-member}
-use Rattle.tv_forest.specs.Entries.{told, with_instance}
+use Rattle.tv_forest.proofs.views.OfLaws.{taken-is_running}
+use Rattle.tv_forest.specs.seats.GoingOn.{GoesOn, MaySettle}
+use Rattle.tv_forest.specs.seats.Seated.{IsStage, spot_of}
+use Rattle.tv_forest.specs.Entries.{with_view, with_instance}
 use Rattle.tv_forest.specs.Forest.{Instances, Stand}
 use Rattle.tv_forest.proofs.OfEntries.{settling}
 use Rattle.tv_entries.specs.Runs.{meant, past_of}
@@ -49,7 +51,7 @@ pub record SettlesAsked (gives : Giving) (r : OpenRun) (xs : Instances) (t : Tic
     : Type 0 where
   pub ask : Ask
   pub asked : IsAskedOut gives r xs t ask
-  pub is : is_right gives ask ≡ right
+  pub is : came_right gives ask ≡ right
   pub settled : is_settled (accepted asked.job.name t.activity t.attempt right ∷ past_of (run_of r)) asked.job ≡ true
   pub result : vs ≡ asked.job.result
 
@@ -123,7 +125,7 @@ module _ (gives : Giving) (r : OpenRun) (xs : Instances) (st : Stands gives r xs
   result-deep : HaveTheseDepths (declared_depths o.step.1) o.job.result
   result-deep = by right a.is a.settled
     where
-      by : (b : Bool) → is_right gives a.ask ≡ b → is_settled (accepted o.job.name t.activity t.attempt b ∷ past) o.job ≡ true
+      by : (b : Bool) → came_right gives a.ask ≡ b → is_settled (accepted o.job.name t.activity t.attempt b ∷ past) o.job ≡ true
           → HaveTheseDepths (declared_depths o.step.1) o.job.result
       by true is settled =
           let after = its-after gives r xs st t a.ask o in
@@ -161,9 +163,9 @@ module _ (gives : Giving) (r : OpenRun) (xs : Instances) (st : Stands gives r xs
     known =
         let s = sit gives r xs st t a.ask o in
         subst (λ z. In z o.view.jobs) spot-is
-        (is-member (spot_of o.view.flow.steps o.seat) o.view.jobs o.number
+        (in-slice o.view.jobs o.number (spot_of o.view.flow.steps o.seat)
         (ap (λ l. slice_get l o.number) (sym s.1.jobs)
-        ∙ get-image (spot_of o.view.flow.steps) o.instance.seats o.number o.seat o.known.seat));
+        ∙ get-map (spot_of o.view.flow.steps) o.instance.seats o.number o.seat o.known.seat));
     new = sym told-so.0 ∙ its-stage.0.unsettled;
     right = subst (HaveTheseDepths (declared_depths o.step.1)) (sym a.result) result-deep;
   }
@@ -181,7 +183,7 @@ module _ (gives : Giving) (r : OpenRun) (xs : Instances) (st : Stands gives r xs
   pub stand-settled : (w : View) (ns : List Seat)
       → GoesOn d (levels_in o.instance.flow) o.view w (gave o.step.0 o.seat.place vs) ns
       → Stand gives d levels_in (accepted o.job.name t.activity t.attempt right ∷ past)
-      (with_instance xs o.outer (told o.instance w (with_stage o.number stage.Settled o.instance.seats ++ ns)))
+      (with_instance xs o.outer (with_view o.instance w (with_stage o.number stage.Settled o.instance.seats ++ ns)))
   stand-settled w ns on =
       let e = accepted o.job.name t.activity t.attempt right in
       let name : (spot_of o.instance.flow.steps o.seat).0 ≡ o.step.0 =

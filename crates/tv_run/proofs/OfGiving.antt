@@ -19,7 +19,7 @@ use Rattle.tv_seats.specs.Seats.{Seat, staged, with_stage}
 use Rattle.tv_seats.specs.Stages.{is_nested, is_out, is_waiting, may_settle}
 use Rattle.tv_seats.specs.declared.stage.Stage.{Stage}
 use Rattle.tv_seats.specs.declared.stage.Stage.TheVariants as stage
-use Rattle.tv_forest.specs.Entries.{told}
+use Rattle.tv_forest.specs.Entries.{with_view}
 use Rattle.tv_forest.specs.Forest.{Instance, Instances}
 use Rattle.tv_open.specs.Events.{IsReadyToGive, IsReadyToSettleAt, IsTold, MayBeBounced, MayBeGiven}
 use Rattle.tv_open.specs.Standing.{job_of}
@@ -82,7 +82,7 @@ module _ (ss : List Seat) (n : ℕ) (s : Seat) (e : slice_get ss n ≡ Some s) w
   pub some-due : (xs : Instances) (i : ℕ) (x : Instance) (v : View) → slice_get xs i ≡ Some x → x.seats ≡ ss
       → (due : ℕ) → due ≡ sum_by due_in xs → is_waiting s.stage ≡ true → 1 ≤ due
   some-due xs i x v at seats due is h =
-      let set = sum-set due_in xs i x (told x v (with_stage n stage.Settled ss)) at in
+      let set = sum-set due_in xs i x (with_view x v (with_stage n stage.Settled ss)) at in
       let one = bounced-due h in
       let whole = ap due_seats seats in
       omega (arith, set, one, whole, is)

@@ -6,14 +6,13 @@ use Rattle.std.proofs.Common.{ap, arith, inl, inr, subst, sym, ◌∙◌}
 use Rattle.std.proofs.lemmas.List.{length-map, map-append}
 use Rattle.std.proofs.lemmas.List.FromFn.{get_or-range_with_len, length-range_with_len}
 use Rattle.std.proofs.lemmas.Option.{same_Some, slice_get-get_or, slice_get_within}
+use Rattle.tv_lemmas.specs.Members.{In}
 use Rattle.tv_lemmas.proofs.Cases.{on_either}
-use Rattle.tv_lemmas.proofs.Lists.{get-within}
+use Rattle.tv_lemmas.proofs.Lists.{get-within, in-front, in-behind, of-image, get-map}
 use Rattle.tv_check.specs.RunViews.{run_view}
-use Rattle.tv_model.specs.Members.{In}
 use Rattle.tv_beside.specs.Theirs.{AreTheirs}
 use Rattle.tv_seats.specs.Seats.{Seat}
-use Rattle.tv_seated.specs.Seated.{AreAtSteps, spot_of}
-use Rattle.tv_seated.proofs.OfLists.{get-image, in-behind, in-front, of-image}
+use Rattle.tv_forest.specs.seats.Seated.{AreAtSteps, spot_of}
 use Rattle.tv_forest.specs.Forest.{AreNumbered, Instance, Instances, IsAt, TellsNumbers, name_of, names_by}
 use Rattle.tv_run.specs.Following.{numbered_in}
 use Rattle.tv_run.specs.Looks.{AreLooks, IsFlow}
@@ -63,7 +62,7 @@ of-more i a n p k m e =
     (sym (ap (λ (q : ℕ × ℕ). q.0) w.2), r.0, sym (ap (λ (q : ℕ × ℕ). q.1) w.2) ∙ r.1)
 
 get-more : (i a n p : ℕ) → p < n → slice_get (more_numbers i a n) p ≡ Some (i, a + p)
-get-more i a n p low = get-image (λ (x : ℕ). (i, x)) (range_with_len a n) p (a + p) (get-range a n p low)
+get-more i a n p low = get-map (λ (x : ℕ). (i, x)) (range_with_len a n) p (a + p) (get-range a n p low)
 
 -- ---- instances
 
@@ -267,7 +266,7 @@ module _ (r s : OpenRun) (xs ys : Instances) (i a n : ℕ) (g : HasGrown r s xs 
   behind k m e o job at opener =
       on_either (get-either r.jobs.items (more_jobs i a n) k m (sym (ap (λ l. slice_get l k) g.jobs) ∙ job))
       (λ h.
-      let w = g.fits.numbered.seats k m.instance m.number (get-image numbered_as r.jobs.items k m h.0) in
+      let w = g.fits.numbered.seats k m.instance m.number (get-map numbered_as r.jobs.items k m h.0) in
       let c =
       get-within r.instances.items m.instance
       (subst (λ q. m.instance < q) (sym g.fits.as_many) (slice_get_within xs m.instance w.0 w.2)) in
@@ -285,7 +284,7 @@ module _ (r s : OpenRun) (xs ys : Instances) (i a n : ℕ) (g : HasGrown r s xs 
 
   named-at : (k : ℕ) (m : Numbered) → slice_get s.jobs.items k ≡ Some m → IsNamedAt s ys k m
   named-at k m job =
-      let w = numbered.seats k m.instance m.number (get-image numbered_as s.jobs.items k m job) in
+      let w = numbered.seats k m.instance m.number (get-map numbered_as s.jobs.items k m job) in
       let e =
       get-within s.instances.items m.instance
       (subst (λ q. m.instance < q) (sym g.as_many) (slice_get_within ys m.instance w.0 w.2)) in

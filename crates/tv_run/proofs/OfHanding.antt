@@ -6,6 +6,7 @@ use Rattle.std.proofs.Common.{ap, arith, inl, inr, subst, sym, ◌∙◌}
 use Rattle.std.proofs.lemmas.Bool.{eqb-true}
 use Rattle.std.proofs.lemmas.Option.{none-some, same_Some}
 use Rattle.std.specs.Cmp.{first_so, second_so}
+use Rattle.tv_lemmas.proofs.OfMembers.{found-in}
 use Rattle.tv_lemmas.proofs.Cases.{on_test}
 use Rattle.tv_gate.specs.Outcomes.{Giving}
 use Rattle.tv_flow.specs.Flows.{Document}
@@ -13,7 +14,6 @@ use Rattle.tv_check.specs.RunViews.{run_view}
 use Rattle.tv_dispatch.specs.Jobs.{Ask}
 use Rattle.tv_model.specs.Jobs.{Job}
 use Rattle.tv_model.proofs.Tests.{true≠false}
-use Rattle.tv_model.proofs.OfMembers.{found-in}
 use Rattle.tv_history.specs.Entries as history
 use Rattle.tv_history.specs.Entries.{History}
 use Rattle.tv_history.specs.Histories.{is_ask, is_legal_after, next_ask}
@@ -25,9 +25,9 @@ use Rattle.tv_seats.specs.Seats.{Seat, with_stage}
 use Rattle.tv_seats.specs.Stages.{is_idle, is_waiting}
 use Rattle.tv_seats.specs.declared.stage.Stage.{Stage}
 use Rattle.tv_seats.specs.declared.stage.Stage.TheVariants as stage
-use Rattle.tv_seated.specs.Seated.{IsNextTry, IsStage}
-use Rattle.tv_offered.proofs.OfOffers.{handing-legal}
-use Rattle.tv_forest.specs.Entries.{seated, told, with_instance}
+use Rattle.tv_forest.specs.seats.Seated.{IsNextTry, IsStage}
+use Rattle.tv_order.proofs.offers.OfOffers.{handing-legal}
+use Rattle.tv_forest.specs.Entries.{seated, with_view, with_instance}
 use Rattle.tv_forest.specs.Forest.{Instance, Instances, Stand}
 use Rattle.tv_forest.proofs.OfEntries.{handing-out_again, handing-out_first}
 use Rattle.tv_entries.specs.Calls.{hands_out}
@@ -175,7 +175,7 @@ module _ (gives : Giving) (r : OpenRun) (xs : Instances) (st : Stands gives r xs
 
   module _ (u : OpenRun) (takes : TakesIn r u xs h.may.outer x v n out) where
     abbrev y : Instance
-    y = told x takes.view (with_stage n out x.seats)
+    y = with_view x takes.view (with_stage n out x.seats)
 
     stand-first : is_waiting s.stage ≡ true → Stand gives d levels_in (handed ∷ past) (with_instance xs h.may.outer y)
     stand-first waits =

@@ -3,7 +3,7 @@ use Rattle.std.specs.Option.{option_map_or}
 use Rattle.std.specs.Prelude.{◌≡◌, refl, ℕ, ◌<◌, ◌≤◌, ◌++◌, true, List, [], ◌∷◌, None, Option, Some, is_some, length, option_and_then, option_map, slice_get}
 use Rattle.std.proofs.Common.{ap, subst, sym, ◌∙◌}
 use Rattle.std.proofs.lemmas.Option.{none-some, same_Some, slice_get-map, slice_get_past, slice_get_within}
-use Rattle.tv_lemmas.proofs.Lists.{get-within}
+use Rattle.tv_lemmas.proofs.Lists.{get-within, of-image, get-map}
 use Rattle.tv_value.specs.Values.{JobName, Name}
 use Rattle.tv_flow.specs.Flows.{Flow, Step}
 use Rattle.tv_check.specs.RunViews.{run_view}
@@ -12,8 +12,7 @@ use Rattle.tv_seats.specs.Seats.{Seat}
 use Rattle.tv_seats.specs.Tables.{Rows}
 use Rattle.tv_seats.specs.declared.stage.Stage.{Stage}
 use Rattle.tv_seats.specs.declared.stage.Stage.TheVariants as stage
-use Rattle.tv_seated.specs.Seated.{spot_of}
-use Rattle.tv_seated.proofs.OfLists.{get-image, of-image}
+use Rattle.tv_forest.specs.seats.Seated.{spot_of}
 use Rattle.tv_forest.specs.Forest.{Instance, Instances, IsAt, name_of}
 use Rattle.tv_open.specs.declared.open.Open.{Open}
 use Rattle.tv_run.specs.Following.{numbered_in}
@@ -149,7 +148,7 @@ module _ (r : OpenRun) (xs : Instances) (fits : Fits r xs) where
   pub known-at : (k : ℕ) (m : Numbered) → slice_get r.jobs.items k ≡ Some m
       → (x : Instance) × (s : Seat) × (t : Name × Step) × IsKnownAs r xs k m.instance m.number x s t
   known-at k m e =
-      let number = get-image numbered_as r.jobs.items k m e in
+      let number = get-map numbered_as r.jobs.items k m e in
       let w = fits.numbered.seats k m.instance m.number number in
       let t = known-as k m.instance m.number w.0 w.1 number w.2 w.3 in
       (w.0, w.1, t.0, t.1)
@@ -185,7 +184,7 @@ module _ (r : OpenRun) (xs : Instances) (fits : Fits r xs) where
 
   module _ (k i n : ℕ) (x : Instance) (s : Seat) (t : Name × Step) (w : IsKnownAs r xs k i n x s t) where
     pub number-of : slice_get (numbers_of r) k ≡ Some (i, n)
-    number-of = get-image numbered_as r.jobs.items k (numbered_in i n) w.number
+    number-of = get-map numbered_as r.jobs.items k (numbered_in i n) w.number
 
     pub low : k < length r.jobs.items
     low = slice_get_within r.jobs.items k (numbered_in i n) w.number
@@ -235,7 +234,7 @@ module _ (r : OpenRun) (xs : Instances) (fits : Fits r xs) where
     pub name-there : slice_get (names_of r) k ≡ Some (x.name ++ spot_of x.flow.steps s ∷ [])
     name-there =
         ap (λ (l : List JobName). slice_get l k) fits.names_are
-        ∙ get-image (name_of xs) (numbers_of r) k (i, n) number-of
+        ∙ get-map (name_of xs) (numbers_of r) k (i, n) number-of
         ∙ ap
         (λ (o : Option Instance).
         Some (option_map_or (λ (y : Instance). option_map_or (λ u. y.name ++ spot_of y.flow.steps u ∷ []) (slice_get y.seats n) []) o []))

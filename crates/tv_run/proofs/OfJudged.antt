@@ -3,26 +3,24 @@ use Rattle.std.specs.Prelude.{◌≡◌, refl, ℕ, ◌<◌, ◌≤◌, ◌==◌
 use Rattle.std.proofs.Common.{ap, arith, sym, subst, ◌∙◌}
 use Rattle.std.proofs.lemmas.List.{length-map}
 use Rattle.std.proofs.lemmas.Option.{same_Some}
+use Rattle.tv_lemmas.specs.Members.{Each}
+use Rattle.tv_lemmas.proofs.OfMembers.{each_in, in-slice}
 use Rattle.tv_value.specs.Values.{JobName, Name, Text, Value}
 use Rattle.tv_gate.specs.Outcomes.{Giving, Outcome, good}
 use Rattle.tv_flow.specs.Flows.{Flow, Step}
-use Rattle.tv_strategy.specs.Sources.{Each}
 use Rattle.tv_check.specs.RunViews.{run_view}
-use Rattle.tv_agreed.proofs.Lists.{named-each}
-use Rattle.tv_depths.specs.Steps.{declared_depths}
+use Rattle.tv_agreement.proofs.Lists.{named-each}
+use Rattle.tv_instance.specs.Steps.{declared_depths}
 use Rattle.tv_dispatch.specs.Jobs.{Ask, error_results, first_complaint, judged, ok_unless, outcome_of}
-use Rattle.tv_dispatch.specs.Plans.{kind_of, next_after}
+use Rattle.tv_dispatch.specs.Plans.{came_right, kind_of, next_after}
 use Rattle.tv_dispatch.specs.Verdicts.{verdict_of}
 use Rattle.tv_dispatch.specs.declared.judgment.Verdict.TheVariants as verdict
 use Rattle.tv_dispatch.specs.declared.plan.Kind.TheVariants.{Service}
 use Rattle.tv_dispatch.specs.declared.plan.Next.{Next}
 use Rattle.tv_dispatch.specs.declared.plan.Next.TheVariants as next
 use Rattle.tv_dispatch.specs.declared.plan.Plan.{Plan}
-use Rattle.tv_model.proofs.Members.{each_in}
 use Rattle.tv_model.proofs.Tests.{true≠false}
-use Rattle.tv_history.specs.Histories.{is_right}
-use Rattle.tv_outcomes.proofs.Read.{few-activities}
-use Rattle.tv_seated.proofs.OfLists.{is-member}
+use Rattle.tv_history.proofs.activities.Read.{few-activities}
 use Rattle.tv_forest.specs.Forest.{Instances}
 use Rattle.tv_entries.specs.Answers.{Question}
 use Rattle.tv_entries.specs.Calls.{try_if_out}
@@ -78,7 +76,7 @@ module _ (gives : Giving) (r : OpenRun) (xs : Instances) (st : Stands gives r xs
       (λ i. judged (asked.task.outputs i) (asked.given i))
       ∙ (λ i. judged k.outputs (gives (asked.task.service i) (asked.task.inputs i) ((sym o.try.attempt) i)))
 
-  pub right-so : refusals.is_right q oc ≡ is_right gives k
+  pub right-so : refusals.is_right q oc ≡ came_right gives k
   right-so = ap is_ok judged-so
 
   -- ---- the judgment by the outputs of the job's step
@@ -106,7 +104,7 @@ module _ (gives : Giving) (r : OpenRun) (xs : Instances) (st : Stands gives r xs
       ∙ ap (judged (map (λ p. p.1) q.outputs)) e
       ∙ judged-good (map (λ p. p.1) q.outputs) vs (ap (λ z. is_ok (judged (map (λ p. p.1) q.outputs) z)) (sym e) ∙ is))
 
-  pub wrong-asked : refusals.is_right q oc ≡ false → is_right gives k ≡ false
+  pub wrong-asked : refusals.is_right q oc ≡ false → came_right gives k ≡ false
   wrong-asked wrong = sym right-so ∙ wrong
 
   module _ (why : Text) (wrong : IsWrongFor q oc why) where
@@ -149,7 +147,7 @@ module _ (gives : Giving) (r : OpenRun) (xs : Instances) (st : Stands gives r xs
         (named-each (λ (f : Name × Flow). Each (λ (s : Name × Step). length s.1.activities ≤ 8) f.1.steps)
         in_run.flow_name (run_view r.run).flows o.view.flow (few-activities (run_view r.run) in_run.formed)
         in_run.is_flow)
-        o.step (is-member o.step o.view.flow.steps o.seat.step (at-step gives r xs st t k o)) in
+        o.step (in-slice o.view.flow.steps o.seat.step o.step (at-step gives r xs st t k o)) in
         let many = length-map step.activities kind_of in
         let same = ap (λ (z : Plan). length z.activities) plan-is in
         omega (arith, most, many, same)

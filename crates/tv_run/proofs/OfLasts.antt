@@ -3,8 +3,8 @@ use Rattle.std.specs.Prelude.{◌≡◌, refl, ℕ, ◌-◌, ◌<◌, Bool, true
 use Rattle.std.proofs.Common.{ap, arith, subst, sym, ◌∙◌}
 use Rattle.std.proofs.lemmas.Option.{get_or_from_slice_get, same_Some, slice_get-get_or}
 use Rattle.tv_lemmas.proofs.Lists.{get-within}
+use Rattle.tv_lemmas.proofs.OfMembers.{in-slice}
 use Rattle.tv_gate.specs.Outcomes.{Giving}
-use Rattle.tv_seated.proofs.OfLists.{is-member}
 use Rattle.tv_forest.specs.Forest.{Instances, IsAt}
 use Rattle.tv_open.specs.declared.open.Open.{Open}
 use Rattle.tv_run.specs.Settlements.{IsOpenIn, LastIsStill, SettlesIn, SettlesLast, last_busy}
@@ -30,7 +30,7 @@ module _ (r : OpenRun) (some : 0 < length r.busy.items) (k n : ℕ) (last : n �
   its-last i e = same_Some i k (sym e ∙ last-is)
 
   pub last-low : (xs : Instances) → Fits r xs → k < length r.instances.items
-  last-low xs fits = fits.busy_low k (is-member k r.busy.items (length r.busy.items - 1) last-is)
+  last-low xs fits = fits.busy_low k (in-slice r.busy.items (length r.busy.items - 1) k last-is)
 
   module _ (g : code.Instance) (at : g ≡ slice_index_or r.instances.items k g) where
     last-there : (xs : Instances) → Fits r xs → slice_get r.instances.items k ≡ Some g

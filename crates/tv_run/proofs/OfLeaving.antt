@@ -2,9 +2,10 @@
 use Rattle.std.specs.Prelude.{◌≡◌, refl, ℕ, ◌+◌, ◌-◌, ◌<◌, ◌⊎◌, true, false, List, [], ◌∷◌, ◌++◌, None, Option, Some, length, option_and_then, option_map, slice_get}
 use Rattle.std.proofs.Common.{ap, arith, inl, inr, length-append, subst, sym, ◌∙◌}
 use Rattle.std.proofs.lemmas.Option.{same_Some}
+use Rattle.tv_lemmas.specs.Members.{In}
 use Rattle.tv_lemmas.proofs.Cases.{on_either}
+use Rattle.tv_lemmas.proofs.Lists.{get-end}
 use Rattle.tv_check.specs.RunViews.{run_view}
-use Rattle.tv_model.specs.Members.{In}
 use Rattle.tv_model.proofs.Tests.{true≠false}
 use Rattle.tv_framing.specs.Views.{View}
 use Rattle.tv_frame.specs.Tables.{levels_in}
@@ -12,8 +13,8 @@ use Rattle.tv_frame.specs.declared.frame.Frame.{Frame}
 use Rattle.tv_pool.specs.Pool.{region_at}
 use Rattle.tv_beside.specs.Theirs.{AreTheirs}
 use Rattle.tv_forest.specs.Forest.{Instance, Instances, IsAt}
-use Rattle.tv_forest.proofs.OfLists.{at-last, same-number}
-use Rattle.tv_firsts.specs.Opening.{IsStill}
+use Rattle.tv_forest.proofs.OfLists.{same-number}
+use Rattle.tv_forest.specs.firsts.Opening.{IsStill}
 use Rattle.tv_open.specs.Standing.{IsOpen}
 use Rattle.tv_open.specs.declared.open.Open.{Open}
 use Rattle.tv_run.specs.Following.{OthersAreSame}
@@ -113,7 +114,7 @@ module _ (r s : OpenRun) (last : ℕ) (w : IsLeft r s last) where
   last-is =
       let long : length r.busy.items ≡ length s.busy.items + 1 = ap length w.busy ∙ length-append s.busy.items (last ∷ []) in
       let here : length r.busy.items - 1 ≡ length s.busy.items = omega (arith, long) in
-      ap (slice_get r.busy.items) here ∙ ap (λ l. slice_get l (length s.busy.items)) w.busy ∙ at-last s.busy.items last
+      ap (slice_get r.busy.items) here ∙ ap (λ l. slice_get l (length s.busy.items)) w.busy ∙ get-end s.busy.items last
 
   lives : (xs : Instances) → LastIsStill r xs → (k : ℕ) (c e : code.Instance) (x : Instance)
       → slice_get r.instances.items k ≡ Some c → slice_get s.instances.items k ≡ Some e → IsAt xs k x → IsKept r k c x

@@ -14,17 +14,17 @@ use Rattle.tv_framing.specs.Answers.{IsReadyJob, NothingSettles, has_ended_now}
 use Rattle.tv_framing.specs.Views.{View}
 use Rattle.tv_frame.specs.Tables.{levels_in}
 use Rattle.tv_frame.specs.declared.events.Settled.{Settled}
-use Rattle.tv_seated.specs.Seated.{spot_of}
+use Rattle.tv_forest.specs.seats.Seated.{spot_of}
 use Rattle.tv_forest.specs.Forest.{Instance, Instances}
-use Rattle.tv_firsts.specs.Opening as opening
-use Rattle.tv_firsts.specs.Opening.{IsStill}
+use Rattle.tv_forest.specs.firsts.Opening as opening
+use Rattle.tv_forest.specs.firsts.Opening.{IsStill}
 use Rattle.tv_entries.specs.Calls.{Settles}
 use Rattle.tv_open.specs.Events.{IsReadyToSettleAt, TellsAt}
 use Rattle.tv_open.specs.Standing.{IsOpen}
 use Rattle.tv_open.specs.declared.open.Open.{Open}
 use Rattle.tv_run.specs.Changes.{IsOpenHere, IsReadyToSettleIn, TellsIn}
 use Rattle.tv_run.specs.Rooms.{HasRoomIn, IsAsBefore, IsNoted, IsSameButRooms}
-use Rattle.tv_run.specs.Settlements.{EndsNot, EndsOrNot, IsOpenIn, IsReadyToSettleLevel, NothingBouncesIn, OfOpen, SettlesIn, level_entry}
+use Rattle.tv_run.specs.Settlements.{EndsNot, EndsOrNot, IsOpenIn, IsReadyToSettleLevel, NothingBouncesIn, OfOpen, SettlesIn, settled_entry}
 use Rattle.tv_run.specs.Standing.{StandsOpen, run_of}
 use Rattle.tv_run.specs.Turns.{StaysAs}
 use Rattle.tv_run.specs.declared.instances.Instance as code
@@ -74,9 +74,9 @@ module _ (gives : Giving) (r : OpenRun) (i more : ℕ) (e : Event) (q : IsReadyT
   module _ (room : HasRoomIn m i more) (t : OpenRun)
       (tells : TellsIn m t q.here.instances i q.here.instance q.here.view e more q.here.instance.seats) where
     pub level-settled : (s : OpenRun) (y : Settled) (b : Box Place Global) → TellsAt q.here.instance.flow.steps y e
-        → IsNoted t s (level_entry i y b) → SettlesIn gives r s i true
+        → IsNoted t s (settled_entry i y b) → SettlesIn gives r s i true
     level-settled s y b at noted =
-        settles-in gives r m s i (level_entry i y b) before.same (level-settles y i b)
+        settles-in gives r m s i (settled_entry i y b) before.same (level-settles y i b)
         (level-goes gives m t s q.here.instances i q.here.instance q.here.view e more o.stands o.going q.here.there
         q.here.is_open q.can tells y at b noted room.beside.entries)
 

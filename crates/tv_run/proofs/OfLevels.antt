@@ -6,7 +6,7 @@ use Rattle.tv_value.specs.declared.place.Place.{Place}
 use Rattle.tv_value.specs.Values.{Name}
 use Rattle.tv_gate.specs.Outcomes.{Giving}
 use Rattle.tv_flow.specs.Flows.{Document, Step}
-use Rattle.tv_depths.specs.Steps.{spot}
+use Rattle.tv_instance.specs.Steps.{spot}
 use Rattle.tv_check.specs.RunViews.{run_view}
 use Rattle.tv_instance.specs.Events as events
 use Rattle.tv_instance.specs.Events.{Event, event_step, fault_set}
@@ -17,20 +17,20 @@ use Rattle.tv_history.specs.Entries.{History}
 use Rattle.tv_history.specs.Histories.{is_legal_after}
 use Rattle.tv_framing.specs.Answers.{CanSettle}
 use Rattle.tv_framing.specs.Views.{View}
-use Rattle.tv_viewed.specs.Stated.{entry_of}
-use Rattle.tv_viewed.proofs.OfLaws.{levels-settle_as_told}
+use Rattle.tv_forest.specs.views.Stated.{entry_of}
+use Rattle.tv_forest.proofs.views.OfLaws.{levels-settle_as_told}
 use Rattle.tv_outputs.specs.Known.{Nodes}
 use Rattle.tv_frame.specs.Calls.{Tells}
 use Rattle.tv_frame.specs.Tables.{levels_in}
 use Rattle.tv_frame.specs.declared.events.Settled.{Settled}
 use Rattle.tv_frame.specs.declared.events.Settled.TheVariants as settled
 use Rattle.tv_seats.specs.Seats.{Seat}
-use Rattle.tv_seated.specs.GoingOn.{GoesOn}
-use Rattle.tv_forest.specs.Entries.{told, with_instance}
+use Rattle.tv_forest.specs.seats.GoingOn.{GoesOn}
+use Rattle.tv_forest.specs.Entries.{with_view, with_instance}
 use Rattle.tv_forest.specs.Forest.{Instance, Instances, IsAt, Stand}
 use Rattle.tv_forest.proofs.OfEntries.{level-settling}
 use Rattle.tv_forest.proofs.OfInstances.{sits}
-use Rattle.tv_firsts.proofs.OfFlows.{flows-by_names}
+use Rattle.tv_forest.proofs.firsts.OfFlows.{flows-by_names}
 use Rattle.tv_entries.specs.Calls.{settles}
 use Rattle.tv_entries.specs.Runs.{flow_of, instances_of, opened_number, past_of}
 use Rattle.tv_entries.specs.declared.entry.Entry.TheVariants as entry
@@ -38,20 +38,20 @@ use Rattle.tv_entries.proofs.OfTold.{IsTold, tells-closed, tells-passed}
 use Rattle.tv_open.specs.Events.{IsReadyToSettleAt, TellsAt}
 use Rattle.tv_run.specs.Changes.{IsReadyToSettleIn}
 use Rattle.tv_run.specs.Rooms.{IsSameButRooms}
-use Rattle.tv_run.specs.Settlements.{IsReadyToSettleLevel, level_entry}
+use Rattle.tv_run.specs.Settlements.{IsReadyToSettleLevel, settled_entry}
 use Rattle.tv_run.specs.Standing.{Stands, names_of, run_of}
 use Rattle.tv_run.specs.declared.run.OpenRun.{OpenRun}
 use Rattle.tv_run.proofs.OfFailing.{FailsNone, closed-fails_none, passed-fails_none}
 use Rattle.tv_run.proofs.OfJobs.{instance-there}
-use Rattle.tv_seated.proofs.OfLists.{get-image}
+use Rattle.tv_lemmas.proofs.Lists.{get-map}
 
 -- ---- the entry
 
-pub level-settles : (y : Settled) (i : ℕ) (b : Box Place Global) → settles (level_entry i y b) ≡ true
+pub level-settles : (y : Settled) (i : ℕ) (b : Box Place Global) → settles (settled_entry i y b) ≡ true
 level-settles (settled.Closed s q n) i b = refl
 level-settles (settled.Passed s q) i b = refl
 
-pub level-opens_none : (y : Settled) (i : ℕ) (b : Box Place Global) → opened_number (level_entry i y b) ≡ None
+pub level-opens_none : (y : Settled) (i : ℕ) (b : Box Place Global) → opened_number (settled_entry i y b) ≡ None
 level-opens_none (settled.Closed s q n) i b = refl
 level-opens_none (settled.Passed s q) i b = refl
 
@@ -66,14 +66,14 @@ module _ (gives : Giving) (r : OpenRun) (xs : Instances) (st : Stands gives r xs
   -- the name of instance i, and the flow to which it leads
   pub instance-named : slice_get (instances_of (names_of r) r.entries.items) i ≡ Some x.name
   instance-named =
-      ap (λ l. slice_get l i) st.named ∙ get-image (λ (y : Instance). y.name) xs i x there
+      ap (λ l. slice_get l i) st.named ∙ get-map (λ (y : Instance). y.name) xs i x there
 
   pub flow-named : flow_of d.flows d.main x.name ≡ Some x.flow
   flow-named = flows-by_names gives d levels_in past xs st.stand i x there
 
   -- what it tells
   pub level-told : (b : Box Place Global) (y : Settled) (e : Event) → TellsAt x.flow.steps y e
-      → IsTold (run_of r) (level_entry i y b) (entry_of x.name e)
+      → IsTold (run_of r) (settled_entry i y b) (entry_of x.name e)
   level-told b y e h = by y e h.3 h.4
     where
       n : ℕ
@@ -83,7 +83,7 @@ module _ (gives : Giving) (r : OpenRun) (xs : Instances) (st : Stands gives r xs
       s = h.1
 
       by : (y : Settled) (e : Event) → event_step e ≡ s.0 → Tells y n e
-          → IsTold (run_of r) (level_entry i y b) (entry_of x.name e)
+          → IsTold (run_of r) (settled_entry i y b) (entry_of x.name e)
       by (settled.Closed t q m) (events.closed u p k) g c =
           subst (λ f. IsTold (run_of r) f (history.closed (spot x.name u p) k))
           (λ j. entry.Closed i (sym c.0 j) (record b { value = sym c.1 j }) (sym c.2 j))
@@ -113,7 +113,7 @@ module _ (gives : Giving) (r : OpenRun) (xs : Instances) (st : Stands gives r xs
         by (events.took s q) c l = absurd (true≠false (sym c.0))
 
     pub level-stand : (w : View) (ns : List Seat) → GoesOn d (levels_in x.flow) v w e ns
-        → Stand gives d levels_in (entry_of x.name e ∷ past) (with_instance xs i (told x w (x.seats ++ ns)))
+        → Stand gives d levels_in (entry_of x.name e ∷ past) (with_instance xs i (with_view x w (x.seats ++ ns)))
     level-stand w ns on =
         level-settling gives d levels_in past xs st.stand i x v w e ns there is_open can on
 

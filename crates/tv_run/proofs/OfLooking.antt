@@ -5,6 +5,7 @@ use Rattle.std.proofs.lemmas.List.{drop_more, length-map}
 use Rattle.std.proofs.lemmas.Option.{get_or_from_slice_get, none-some, same_Some, slice_get-get_or}
 use Rattle.std.specs.Cmp.{first_so, second_so}
 use Rattle.tv_lemmas.proofs.Cases.{on_either}
+use Rattle.tv_lemmas.proofs.Lists.{of-image, get-map}
 use Rattle.tv_value.specs.Activities.{Activity}
 use Rattle.tv_value.specs.Orders.{named, same_name}
 use Rattle.tv_value.specs.Values.{Name}
@@ -21,8 +22,7 @@ use Rattle.tv_flow.specs.declared.document.Document as code_document
 use Rattle.tv_flow.specs.declared.document.Flow as code_flow
 use Rattle.tv_flow.specs.declared.document.Step as code_step
 use Rattle.tv_model.proofs.Tests.{true≠false}
-use Rattle.tv_seated.proofs.OfLists.{get-image, of-image}
-use Rattle.tv_entries.specs.Runs.{first_flow}
+use Rattle.tv_model.specs.Opening.{first_nested}
 use Rattle.tv_check.specs.RunViews.{run_view}
 use Rattle.tv_check.specs.declared.run.CheckedRun.{CheckedRun}
 use Rattle.tv_run.specs.Looks.{AreFlowsOf, AreLooks, AreStepLooks, IsFlowNumber, IsLook, IsStepLook}
@@ -43,7 +43,7 @@ module _ (d : Document) (flows : List (Name × code_flow.Flow)) (are : AreFlowsO
         flow = flow_view x.0.1;
         there =
             ap (λ l. slice_get l k) are.same
-            ∙ get-image (λ (y : Name × code_flow.Flow). (y.0, flow_view y.1)) flows k x.0 x.1
+            ∙ get-map (λ (y : Name × code_flow.Flow). (y.0, flow_view y.1)) flows k x.0 x.1
             ∙ ap (λ m. Some (m, flow_view x.0.1)) name;
       }
     where
@@ -86,12 +86,12 @@ module _ (d : Document) (flows : List (Name × code_flow.Flow)) (are : AreFlowsO
 
 -- those before this one are services
 pub first-so_far : {A : Type 0} (view : A → Activity) (xs : List A) (k : ℕ) (x : A) → k < length xs → x ≡ get_or xs k x
-    → first_flow (map view xs) ≡ first_flow (map view (drop k xs))
-    → first_flow (map view xs) ≡ first_flow (view x ∷ map view (drop (k + 1) xs))
+    → first_nested (map view xs) ≡ first_nested (map view (drop k xs))
+    → first_nested (map view xs) ≡ first_nested (view x ∷ map view (drop (k + 1) xs))
 first-so_far view xs k x low is e =
     e
-    ∙ ap (λ l. first_flow (map view l)) (drop_more xs k x low)
-    ∙ ap (λ y. first_flow (view y ∷ map view (drop (k + 1) xs))) (sym is)
+    ∙ ap (λ l. first_nested (map view l)) (drop_more xs k x low)
+    ∙ ap (λ y. first_nested (view y ∷ map view (drop (k + 1) xs))) (sym is)
 
 -- ---- looks of steps
 

@@ -2,27 +2,27 @@
 use Rattle.std.specs.Prelude.{◌≡◌, ℕ, List, [], Some, map}
 use Rattle.std.proofs.Common.{subst, sym, ◌∙◌}
 use Rattle.std.proofs.lemmas.Option.{same_Some}
+use Rattle.tv_lemmas.specs.Members.{In}
+use Rattle.tv_lemmas.proofs.OfMembers.{in-map}
 use Rattle.tv_value.specs.Orders.{named}
 use Rattle.tv_value.specs.Values.{JobName, Name}
 use Rattle.tv_gate.specs.Outcomes.{Giving}
 use Rattle.tv_flow.specs.Flows.{Document, Flow}
-use Rattle.tv_depths.specs.Delivered.{StepMeaning}
-use Rattle.tv_matching.proofs.OfMembers.{in-map}
+use Rattle.tv_instance.specs.Delivered.{StepMeaning}
 use Rattle.tv_model.specs.Made.{Meaning}
 use Rattle.tv_model.specs.Meanings.{meaning}
-use Rattle.tv_model.specs.Members.{In}
 use Rattle.tv_history.specs.Entries.{History}
 use Rattle.tv_instance.specs.ByResults.{step_of}
 use Rattle.tv_framing.specs.Views.{View}
-use Rattle.tv_viewed.specs.InRun.{IsInRun}
-use Rattle.tv_viewed.proofs.OfEndings.{listed-step}
-use Rattle.tv_viewed.proofs.OfRuns.{Runs, in-all, runs, steps_here}
+use Rattle.tv_forest.specs.views.InRun.{IsInRun}
+use Rattle.tv_forest.proofs.views.OfEndings.{listed-step}
+use Rattle.tv_forest.proofs.views.OfRuns.{Runs, in-all, runs, steps_here}
 use Rattle.tv_levels.specs.Levels.{AreLevels, Level}
 use Rattle.tv_levels.specs.MainSteps.{main_steps}
 use Rattle.tv_open.specs.Levels.{AreItsLevels}
 use Rattle.tv_run.specs.Ended.{AreMainLevels}
-use Rattle.tv_marked.proofs.OfRecords.{outermost}
-use Rattle.tv_marked.proofs.OfKnown.{of-main}
+use Rattle.tv_traces.proofs.OfRecords.{outermost}
+use Rattle.tv_traces.proofs.OfKnown.{of-main}
 
 -- of any meaning, so that a document's isn't unfolded
 levels-in : (gives : Giving) (flows : List (Name × Flow)) (m : Meaning) (past : History) (levels : Name → ℕ) (v : View)

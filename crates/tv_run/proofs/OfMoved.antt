@@ -6,23 +6,22 @@ use Rattle.std.proofs.Common.{ap, arith, subst, sym, ◌∙◌}
 use Rattle.std.proofs.lemmas.List.{length-map, length-set}
 use Rattle.std.proofs.lemmas.List.Sums.{sum_by-cons}
 use Rattle.std.proofs.lemmas.Option.{none-some, same_Some, slice_get_cases, slice_get_past, slice_get_within, slice_get-map}
+use Rattle.tv_lemmas.specs.Members.{In}
 use Rattle.tv_lemmas.proofs.Cases.{on_either}
-use Rattle.tv_lemmas.proofs.Lists.{get-within}
+use Rattle.tv_lemmas.proofs.Lists.{get-within, of-image, get-map}
 use Rattle.tv_value.specs.Nested.{Place}
 use Rattle.tv_value.specs.Values.{JobName, Name}
 use Rattle.tv_flow.specs.Flows.{Flow, Step}
 use Rattle.tv_check.specs.RunViews.{run_view}
-use Rattle.tv_model.specs.Members.{In}
 use Rattle.tv_framing.specs.Views.{View}
 use Rattle.tv_beside.specs.Theirs.{AreTheirs}
 use Rattle.tv_seats.specs.Seats.{Seat}
-use Rattle.tv_seated.specs.Seated.{AreAtSteps, spot_of}
-use Rattle.tv_seated.proofs.OfLists.{get-image, of-image}
+use Rattle.tv_forest.specs.seats.Seated.{AreAtSteps, spot_of}
 use Rattle.tv_forest.specs.Entries.{with_instance}
 use Rattle.tv_forest.specs.Forest.{AreNumbered, Instance, Instances, IsAt, names_by}
 use Rattle.tv_forest.proofs.OfLists.{at-set, of-set, one-at, same-number, to-set}
-use Rattle.tv_firsts.specs.Told.{KeepsSpots}
-use Rattle.tv_firsts.proofs.OfNames.{names-stay}
+use Rattle.tv_forest.specs.firsts.Told.{KeepsSpots}
+use Rattle.tv_forest.proofs.firsts.OfNames.{names-stay}
 use Rattle.tv_open.specs.Standing.{IsOpen, job_of}
 use Rattle.tv_run.specs.Following.{OthersAreSame}
 use Rattle.tv_run.specs.Looks.{AreLooks}
@@ -76,7 +75,7 @@ pub record IsMovedTo (r s : OpenRun) (i : ℕ) (x y : Instance) : Type 0 where
 pub same-job : (ss ts : List Seat) → map job_of ts ≡ map job_of ss → (n : ℕ) (s : Seat) → slice_get ss n ≡ Some s
     → (t : Seat) × (slice_get ts n ≡ Some t) × (t.step ≡ s.step) × (t.place ≡ s.place)
 same-job ss ts h n s at =
-    let w = of-image job_of ts n (job_of s) (ap (λ l. slice_get l n) h ∙ get-image job_of ss n s at) in
+    let w = of-image job_of ts n (job_of s) (ap (λ l. slice_get l n) h ∙ get-map job_of ss n s at) in
     (w.0, w.1, ap (λ (p : ℕ × Place). p.0) w.2, ap (λ (p : ℕ × Place). p.1) w.2)
 
 pub at-steps : (steps : List (Name × Step)) (ss ts : List Seat) → map job_of ts ≡ map job_of ss → AreAtSteps steps ss

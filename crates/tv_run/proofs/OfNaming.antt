@@ -4,15 +4,13 @@ use Rattle.std.specs.Prelude.{◌≡◌, refl, ℕ, ◌<◌, ◌++◌, List, [],
 use Rattle.std.proofs.Common.{ap, append-nil, append_assoc, subst, sym, ◌∙◌}
 use Rattle.std.proofs.lemmas.List.{length-map, map-append}
 use Rattle.std.proofs.lemmas.Option.{none-some, same_Some}
-use Rattle.tv_lemmas.proofs.Lists.{get-within}
+use Rattle.tv_lemmas.proofs.Lists.{get-within, in-front, get-end}
 use Rattle.tv_value.specs.Values.{JobName, Name}
 use Rattle.tv_flow.specs.Flows.{Document, Flow}
 use Rattle.tv_check.specs.RunViews.{run_view}
 use Rattle.tv_seats.specs.Seats.{Seat}
-use Rattle.tv_seated.specs.Seated.{spot_of}
-use Rattle.tv_seated.proofs.OfLists.{in-front}
+use Rattle.tv_forest.specs.seats.Seated.{spot_of}
 use Rattle.tv_forest.specs.Forest.{Instance, Instances, IsAt, name_of, names_by}
-use Rattle.tv_forest.proofs.OfLists.{at-last}
 use Rattle.tv_run.specs.Looks.{IsFlow}
 use Rattle.tv_run.specs.Standing.{name_behind, names_from, names_of, numbered_as, numbers_of, opener_name, seats_of, steps_of}
 use Rattle.tv_run.specs.declared.instances.Instance as code
@@ -107,7 +105,7 @@ module _ (s : OpenRun) (ys : Instances) where
     from-told so_far (k ∷ ks) e =
         let here : slice_get s.jobs.items (length so_far) ≡ Some k =
         ap (λ l. slice_get l (length so_far)) (e ∙ sym (append_assoc so_far (k ∷ []) ks))
-        ∙ in-front (so_far ++ k ∷ []) ks (length so_far) k (at-last so_far k) in
+        ∙ in-front (so_far ++ k ∷ []) ks (length so_far) k (get-end so_far k) in
         ap (λ n. names_from s (named_by so_far ++ n ∷ []) ks)
         (name-told so_far ks k e (each (length so_far) k here))
         ∙ ap (λ l. names_from s l ks) (sym (named-more so_far (k ∷ [])))

@@ -3,11 +3,11 @@ use Rattle.std.specs.Prelude.{◌≡◌, ℕ, ◌+◌, ◌<◌, ◌≤◌, true,
 use Rattle.std.proofs.Common.{ap, arith, subst, sym, ◌∙◌}
 use Rattle.std.proofs.lemmas.List.{length-append, length-map}
 use Rattle.std.proofs.lemmas.Option.{none-some, same_Some}
+use Rattle.tv_lemmas.specs.Members.{In}
 use Rattle.tv_value.specs.Values.{JobName}
 use Rattle.tv_gate.specs.Outcomes.{Giving}
 use Rattle.tv_check.specs.RunViews.{run_view}
 use Rattle.tv_model.specs.Meanings.{meaning}
-use Rattle.tv_model.specs.Members.{In}
 use Rattle.tv_history.specs.Entries as history
 use Rattle.tv_history.specs.Entries.{History}
 use Rattle.tv_history.specs.Histories.{is_legal_after}
@@ -15,12 +15,12 @@ use Rattle.tv_framing.specs.Views.{View}
 use Rattle.tv_frame.specs.Tables.{levels_in}
 use Rattle.tv_frame.specs.declared.frame.Frame.{Frame}
 use Rattle.tv_beside.specs.Theirs.{AreTheirs}
-use Rattle.tv_seated.proofs.OfLists.{same-images}
-use Rattle.tv_standing.specs.States.{AreNamesOfJobs}
+use Rattle.tv_forest.proofs.seats.OfLists.{same-images}
+use Rattle.tv_forest.specs.stands.States.{AreNamesOfJobs}
 use Rattle.tv_forest.specs.Forest.{Instance, Instances, IsAt, Stand}
 use Rattle.tv_forest.specs.Entries.{with_instance}
 use Rattle.tv_forest.proofs.OfLists.{at-set, of-set, one-at, same-number}
-use Rattle.tv_firsts.proofs.OfNames.{names-of_instances}
+use Rattle.tv_forest.proofs.firsts.OfNames.{names-of_instances}
 use Rattle.tv_entries.specs.Runs.{Appends, instances_of, meant, opened_number, past_of}
 use Rattle.tv_entries.specs.declared.entry.Entry.{Entry}
 use Rattle.tv_entries.specs.declared.entry.Entry.TheVariants as entry

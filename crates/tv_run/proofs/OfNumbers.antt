@@ -15,14 +15,14 @@ use Rattle.tv_framing.specs.Views.{View}
 use Rattle.tv_frame.specs.Tables.{levels_in}
 use Rattle.tv_seats.specs.Seats.{Seat}
 use Rattle.tv_seats.specs.declared.stage.Stage.TheVariants as stage
-use Rattle.tv_seated.specs.Seated.{HasEnded, IsStage, Sit, spot_of}
-use Rattle.tv_standing.specs.Seats.{IsJobOf}
-use Rattle.tv_standing.specs.States.{IsJobOfNumber}
-use Rattle.tv_viewed.specs.InRun.{IsJobThere}
+use Rattle.tv_forest.specs.seats.Seated.{HasEnded, IsStage, Sit, spot_of}
+use Rattle.tv_forest.specs.stands.Seats.{IsJobOf}
+use Rattle.tv_forest.specs.stands.States.{IsJobOfNumber}
+use Rattle.tv_forest.specs.views.InRun.{IsJobThere}
 use Rattle.tv_forest.specs.Forest.{Instance, Instances, IsJobAt, Stays, names_by}
 use Rattle.tv_forest.proofs.OfInstances.{sits}
-use Rattle.tv_firsts.proofs.OfInstances.{one-seat, seat-job, stage-of}
-use Rattle.tv_firsts.proofs.OfNames as names
+use Rattle.tv_forest.proofs.firsts.OfInstances.{one-seat, seat-job, stage-of}
+use Rattle.tv_forest.proofs.firsts.OfNames as names
 use Rattle.tv_entries.specs.Calls.{job_of}
 use Rattle.tv_entries.specs.Runs.{meant, name_at, past_of}
 use Rattle.tv_run.specs.Jobs.{stage_of}

@@ -8,10 +8,9 @@ use Rattle.tv_flow.specs.Views.{flow_view}
 use Rattle.tv_check.specs.RunViews.{run_view}
 use Rattle.tv_check.specs.declared.plans.FlowPlan.{FlowPlan}
 use Rattle.tv_framing.specs.Views.{View}
-use Rattle.tv_drawn.specs.Steps.{IsStepAt}
+use Rattle.tv_framing.specs.matches.Steps.{IsStepAt}
 use Rattle.tv_seats.specs.Seats.{Seat, step_at}
 use Rattle.std.specs.Option.{option_map_or}
-use Rattle.tv_seated.proofs.OfLists.{get-image}
 use Rattle.tv_forest.specs.Forest.{Instance, Instances, IsAt}
 use Rattle.tv_open.specs.Standing.{IsOpen}
 use Rattle.tv_open.specs.declared.open.Open.{Open}
@@ -22,6 +21,7 @@ use Rattle.tv_run.specs.declared.instances.Instance as code
 use Rattle.tv_run.specs.declared.instances.Numbered.{Numbered}
 use Rattle.tv_run.specs.declared.run.OpenRun.{OpenRun}
 use Rattle.tv_run.proofs.OfJobs.{IsKnownAs, code-seat, known-as, known-at, open-is, seats-open, view-is}
+use Rattle.tv_lemmas.proofs.Lists.{get-map}
 
 module _ (r : OpenRun) (xs : Instances) (fits : Fits r xs) (k i n : ℕ) (x : Instance) (s : Seat) (t : Name × Step)
     (w : IsKnownAs r xs k i n x s t) (m : Numbered) (e : slice_get r.jobs.items k ≡ Some m) where
@@ -113,5 +113,5 @@ pub open-of : (r : OpenRun) (xs : Instances) → Fits r xs → (k : ℕ) (m : Nu
     → slice_get r.jobs.items k ≡ Some m → IsAt xs m.instance x → x.view ≡ Some v → slice_get x.seats m.number ≡ Some s
     → (t : Name × Step) × (w : IsKnownAs r xs k m.instance m.number x s t) × IsOpenOf r w.itself x v
 open-of r xs fits k m x v s there at is_open sits =
-    let w = known-as r xs fits k m.instance m.number x s (get-image numbered_as r.jobs.items k m there) at sits in
+    let w = known-as r xs fits k m.instance m.number x s (get-map numbered_as r.jobs.items k m there) at sits in
     (w.0, w.1, open-is r m.instance w.1.itself x v w.1.kept is_open)

@@ -3,6 +3,7 @@
 use Rattle.std.specs.Prelude.{◌≡◌, refl, ℕ, suc, ◌<◌, Bool, true, false, if◌then◌else◌, List, [], ◌∷◌, None, Some, length, map, option_map, slice_get}
 use Rattle.std.proofs.Common.{ap, subst, sym, ◌∙◌}
 use Rattle.std.proofs.lemmas.Option.{none-some, same_Some}
+use Rattle.tv_lemmas.proofs.OfMembers.{each_in, found-in, in-slice}
 use Rattle.tv_lemmas.proofs.Options.{is_some-some}
 use Rattle.tv_value.specs.Orders.{named, same_name}
 use Rattle.tv_value.specs.Values.{Name, Value}
@@ -11,7 +12,7 @@ use Rattle.tv_flow.specs.Flows.{Document, Flow, Step}
 use Rattle.tv_flow.specs.Formed.{is_formed}
 use Rattle.tv_flow.specs.Views.{flow_view}
 use Rattle.tv_strategy.specs.Origins.{plain}
-use Rattle.tv_naming.proofs.ByPosition.{same_name-is}
+use Rattle.tv_value.proofs.OfNames.{same_name-is}
 use Rattle.tv_naming.proofs.OfForms.{flows-named}
 use Rattle.tv_check.specs.RunViews.{run_view}
 use Rattle.tv_check.specs.declared.plans.FlowPlan.{FlowPlan}
@@ -19,8 +20,6 @@ use Rattle.tv_check.proofs.OfCycles.{IsThere, each-there}
 use Rattle.tv_model.specs.Agreeing.{FlowAgrees}
 use Rattle.tv_model.specs.Jobs.{Job}
 use Rattle.tv_model.specs.RightDepths.{HaveTheseDepths}
-use Rattle.tv_model.proofs.Members.{each_in}
-use Rattle.tv_model.proofs.OfMembers.{found-in}
 use Rattle.tv_history.specs.Entries.{History, opened}
 use Rattle.tv_history.specs.Histories.{is_legal_after}
 use Rattle.tv_order.specs.Moments.{all_jobs, goes_on}
@@ -28,19 +27,18 @@ use Rattle.tv_framing.specs.Answers.{AreInputs}
 use Rattle.tv_framing.specs.Views.{View}
 use Rattle.tv_frame.specs.Calls.{CanStart}
 use Rattle.tv_frame.specs.Tables.{levels_in}
-use Rattle.tv_going.specs.Opened.{CanBeOpened}
-use Rattle.tv_going.proofs.OfOpened.{opened-fit}
+use Rattle.tv_forest.specs.runs.Opened.{CanBeOpened}
+use Rattle.tv_forest.proofs.runs.OfOpened.{opened-fit}
 use Rattle.tv_seats.specs.Firsts.{MayNest}
 use Rattle.tv_seats.specs.Seats.{Seat}
 use Rattle.tv_seats.specs.Stages.{is_waiting}
 use Rattle.tv_seats.specs.declared.stage.Stage.{Stage}
 use Rattle.tv_seats.specs.declared.stage.Stage.TheVariants as stage
-use Rattle.tv_seated.specs.GoingOn.{IsNew}
-use Rattle.tv_seated.specs.Seated.{spot_of}
-use Rattle.tv_seated.proofs.OfLists.{is-member}
+use Rattle.tv_forest.specs.seats.GoingOn.{IsNew}
+use Rattle.tv_forest.specs.seats.Seated.{spot_of}
 use Rattle.tv_forest.specs.Entries.{IsFresh, IsTakenFor}
 use Rattle.tv_forest.specs.Forest.{Instance, Instances, IsJobAt}
-use Rattle.tv_firsts.proofs.OfHistories.{opening-is_legal}
+use Rattle.tv_forest.proofs.firsts.OfHistories.{opening-is_legal}
 use Rattle.tv_entries.specs.Runs.{meant, past_of}
 use Rattle.tv_open.specs.Events.{WaitsReady}
 use Rattle.tv_run.specs.Changes.{CanAdd, IsOpenHere, IsOpenedOn, TakesIn}
@@ -80,7 +78,7 @@ flow-named : (d : Document) → is_formed d ≡ true → (k : ℕ) (n : Name) (f
 flow-named d formed k n f e =
     (
     each_in (IsThere d.flows) d.flows (each-there d.flows (flows-named d formed).rise) (n, f)
-    (is-member (n, f) d.flows k e)
+    (in-slice d.flows k (n, f) e)
     ).1
 
 -- ---- the job of that number

@@ -7,7 +7,7 @@ use Rattle.std.proofs.lemmas.List.Sums.{sum_by-cons, sum_by-take-le, sum_by_more
 use Rattle.std.proofs.lemmas.Option.{none-some, slice_get_read}
 use Rattle.tv_gate.specs.Outcomes.{Giving}
 use Rattle.tv_framing.specs.Views.{View}
-use Rattle.tv_seats.specs.Seats.{out_count}
+use Rattle.tv_seats.specs.Seats.{seats_out}
 use Rattle.tv_forest.specs.Forest.{Instance, Instances}
 use Rattle.tv_open.specs.declared.open.Open.{Open}
 use Rattle.tv_run.specs.Recalling.{out_in}
@@ -19,7 +19,7 @@ use Rattle.tv_run.proofs.OfJobs.{instance-told}
 use Rattle.tv_run.proofs.OfRecalling.{out-many}
 
 abbrev out_of : code.Instance → ℕ
-out_of c = sum_by (λ (o : Open). out_count o.seats.seats) c.open.items
+out_of c = sum_by (λ (o : Open). seats_out o.seats.seats) c.open.items
 
 -- an instance has no more than one Open
 alone : (r : OpenRun) (i : ℕ) (c : code.Instance) (x : Instance) (o : Open) (os : List Open) → IsKept r i c x
@@ -40,29 +40,29 @@ module _ (gives : Giving) (r : OpenRun) (xs : Instances) (st : Stands gives r xs
   more-is : out_in (take (i + 1) items) ≡ count + out_of c
   more-is = sum_by_more out_of items i c low ∙ (λ j. sym before j + out_of (sym read j))
 
-  pub one-open : (o : Open) (os : List Open) → c.open.items ≡ o ∷ os → out_of c ≡ out_count o.seats.seats
+  pub one-open : (o : Open) (os : List Open) → c.open.items ≡ o ∷ os → out_of c ≡ seats_out o.seats.seats
   one-open o os e =
       let at = slice_get_read items (length items) i c refl low read in
       let x = instance-told r xs st.fits i c (ap (λ l. slice_get l i) (sym all) ∙ at) in
       let rest = alone r i c x.0 o os x.2 e in
-      let sum = sum_by-cons (λ (p : Open). out_count p.seats.seats) o [] in
-      ap (sum_by (λ (p : Open). out_count p.seats.seats)) (e ∙ ap (λ l. o ∷ l) rest) ∙ plus-none _ _ sum
+      let sum = sum_by-cons (λ (p : Open). seats_out p.seats.seats) o [] in
+      ap (sum_by (λ (p : Open). seats_out p.seats.seats)) (e ∙ ap (λ l. o ∷ l) rest) ∙ plus-none _ _ sum
     where
       plus-none : (a b : ℕ) → a ≡ b + 0 → a ≡ b
       plus-none a b h = omega (arith, h)
 
-  pub open-more : (o : Open) (os : List Open) (n : ℕ) → c.open.items ≡ o ∷ os → n ≡ out_count o.seats.seats
+  pub open-more : (o : Open) (os : List Open) (n : ℕ) → c.open.items ≡ o ∷ os → n ≡ seats_out o.seats.seats
       → count + n ≡ out_in (take (i + 1) items)
   open-more o os n e is = ap (λ m. count + m) (is ∙ sym (one-open o os e)) ∙ sym more-is
 
   pub shut-more : c.open.items ≡ [] → count ≡ out_in (take (i + 1) items)
   shut-more e =
       let more = more-is in
-      let none : out_of c ≡ 0 = ap (sum_by (λ (p : Open). out_count p.seats.seats)) e in
+      let none : out_of c ≡ 0 = ap (sum_by (λ (p : Open). seats_out p.seats.seats)) e in
       omega (arith, more, none)
 
   -- no more are counted than there are jobs
-  pub few-more : (o : Open) (os : List Open) (n : ℕ) → c.open.items ≡ o ∷ os → n ≡ out_count o.seats.seats
+  pub few-more : (o : Open) (os : List Open) (n : ℕ) → c.open.items ≡ o ∷ os → n ≡ seats_out o.seats.seats
       → count + n ≤ length r.jobs.items
   few-more o os n e is =
       let now = open-more o os n e is in

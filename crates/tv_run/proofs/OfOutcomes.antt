@@ -8,22 +8,22 @@ use Rattle.tv_value.specs.Values.{Text, Value}
 use Rattle.tv_gate.specs.Outcomes.{Giving}
 use Rattle.tv_flow.specs.Flows.{Document}
 use Rattle.tv_check.specs.RunViews.{run_view}
-use Rattle.tv_depths.specs.Steps.{declared_depths}
+use Rattle.tv_instance.specs.Steps.{declared_depths}
 use Rattle.tv_dispatch.specs.Jobs.{Ask, error_results, outcome_of}
-use Rattle.tv_dispatch.specs.Plans.{next_after}
+use Rattle.tv_dispatch.specs.Plans.{came_right, next_after}
 use Rattle.tv_dispatch.specs.declared.plan.Next.{Next}
 use Rattle.tv_dispatch.specs.declared.plan.Next.TheVariants as next
 use Rattle.tv_dispatch.specs.declared.plan.Plan.{Plan}
 use Rattle.tv_model.specs.Made.{Meaning}
 use Rattle.tv_model.proofs.Tests.{both_true, true≠false}
 use Rattle.tv_history.specs.Entries.{History, accepted}
-use Rattle.tv_history.specs.Histories.{is_ask, is_legal_after, is_right, is_settled, next_ask}
-use Rattle.tv_tried.specs.NextTries.{AsksNext, IsAfter, accepting, said_after}
-use Rattle.tv_tried.specs.Steps.{IsOfPlan, IsPlanOf}
-use Rattle.tv_tried.proofs.OfFlows.{flows-come_after_asks}
-use Rattle.tv_tried.proofs.OfNext.{after-is}
-use Rattle.tv_tried.proofs.OfTries.{asks-plan}
-use Rattle.tv_seated.specs.Seated.{IsNextFlow, IsNextTry}
+use Rattle.tv_history.specs.Histories.{is_ask, is_legal_after, is_settled, next_ask}
+use Rattle.tv_forest.specs.tries.NextTries.{AsksNext, IsAfter, accepting, said_after}
+use Rattle.tv_forest.specs.tries.Steps.{IsOfPlan, IsPlanOf}
+use Rattle.tv_forest.proofs.tries.OfFlows.{flows-come_after_asks}
+use Rattle.tv_forest.proofs.tries.OfNext.{after-is}
+use Rattle.tv_forest.proofs.tries.OfTries.{asks-plan}
+use Rattle.tv_forest.specs.seats.Seated.{IsNextFlow, IsNextTry}
 use Rattle.tv_forest.specs.Forest.{Instances}
 use Rattle.tv_entries.specs.Runs.{meant, past_of}
 use Rattle.tv_entries.specs.declared.ticket.Ticket.{Ticket}
@@ -65,7 +65,7 @@ module _ (gives : Giving) (r : OpenRun) (xs : Instances) (st : Stands gives r xs
 
   -- ---- its outcome, which is right or not
 
-  module _ (right : Bool) (is : is_right gives k ≡ right) where
+  module _ (right : Bool) (is : came_right gives k ≡ right) where
     abbrev now : History
     now = accepted o.job.name t.activity t.attempt right ∷ past
 
@@ -83,7 +83,7 @@ module _ (gives : Giving) (r : OpenRun) (xs : Instances) (st : Stands gives r xs
 
   -- ---- it is right
 
-  pub settles-right : is_right gives k ≡ true → (vs : List Value) → outcome_of gives k ≡ Ok vs
+  pub settles-right : came_right gives k ≡ true → (vs : List Value) → outcome_of gives k ≡ Ok vs
       → SettlesWith gives r t true vs
   settles-right is vs h =
       let w = its-after.right (said-now true is) in
@@ -107,7 +107,7 @@ module _ (gives : Giving) (r : OpenRun) (xs : Instances) (st : Stands gives r xs
 
   -- ---- it isn't
 
-  module _ (is : is_right gives k ≡ false) where
+  module _ (is : came_right gives k ≡ false) where
     abbrev then : History
     then = accepted o.job.name t.activity t.attempt false ∷ past
 

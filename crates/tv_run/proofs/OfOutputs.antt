@@ -28,7 +28,6 @@ use Rattle.tv_model.specs.Made.{feed_value}
 use Rattle.tv_model.specs.Meanings.{flow_meaning, instance_meaning, meaning, no_meaning}
 use Rattle.tv_history.specs.Histories.{is_done}
 use Rattle.tv_order.specs.Parts.{made_of}
-use Rattle.tv_seated.proofs.OfLists.{of-image}
 use Rattle.tv_entries.specs.Runs.{meant, past_of}
 use Rattle.tv_levels.specs.Views.{level_view}
 use Rattle.tv_run.specs.Ended.{AreMainLevels}
@@ -36,6 +35,7 @@ use Rattle.tv_run.specs.Standing.{OutsAre, StandsStill, run_of}
 use Rattle.tv_run.specs.declared.ended.Ended.{Ended}
 use Rattle.tv_run.specs.declared.run.OpenRun.{OpenRun}
 use Rattle.tv_run.proofs.OfOver.{done-is}
+use Rattle.tv_lemmas.proofs.Lists.{of-image}
 
 -- ---- the main flow by its number
 

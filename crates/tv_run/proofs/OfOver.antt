@@ -5,13 +5,15 @@ use Rattle.std.proofs.lemmas.Option.{none-some}
 use Rattle.std.specs.List.{list_any}
 use Rattle.std.specs.Option.{option_map_or}
 use Rattle.std.specs.Prelude.{Bool, List, None, Option, Some, [], cond, false, find, if◌then◌else◌, is_none, is_some, nat_lt, not, option_and_then, refl, slice_get, suc, true, zero, ℕ, ◌&&◌, ◌==◌, ◌||◌, ◌∷◌, ◌≡◌}
+use Rattle.tv_lemmas.specs.Members.{In}
+use Rattle.tv_lemmas.proofs.OfMembers.{found-in}
 use Rattle.tv_value.specs.Orders.{same_job}
 use Rattle.tv_value.specs.Values.{JobName}
 use Rattle.tv_check.specs.RunViews.{run_view}
 use Rattle.tv_dispatch.specs.Jobs.{Ask}
 use Rattle.tv_entries.specs.Calls.{idle_state, job_at, out_state, state_after, try_if_out, try_out}
 use Rattle.tv_entries.specs.Runs.{past_of}
-use Rattle.tv_outcomes.specs.Activities.{last_activity}
+use Rattle.tv_history.specs.activities.Activities.{last_activity}
 use Rattle.tv_model.specs.Turns.{is_bounced}
 use Rattle.tv_framing.specs.Views.{View}
 use Rattle.tv_entries.specs.declared.ticket.JobState.TheVariants as state
@@ -19,7 +21,7 @@ use Rattle.tv_entries.specs.declared.ticket.JobState.{JobState}
 use Rattle.tv_entries.specs.declared.ticket.Ticket.{Ticket}
 use Rattle.tv_flow.specs.Flows.{Document}
 use Rattle.tv_forest.specs.Forest.{Instance, Instances, IsAt, Stays}
-use Rattle.tv_firsts.proofs.OfEnds.{nothing-at_end}
+use Rattle.tv_forest.proofs.firsts.OfEnds.{nothing-at_end}
 use Rattle.tv_frame.specs.Tables.{levels_in}
 use Rattle.tv_gate.specs.Outcomes.{Giving}
 use Rattle.tv_history.specs.Entries as history
@@ -31,9 +33,7 @@ use Rattle.tv_model.proofs.Tests.{both_true, true≠false}
 use Rattle.tv_model.specs.Jobs.{Job}
 use Rattle.tv_model.specs.Made.{Meaning}
 use Rattle.tv_model.specs.Meanings.{meaning}
-use Rattle.tv_model.specs.Members.{In}
-use Rattle.tv_model.proofs.OfMembers.{found-in}
-use Rattle.tv_offered.proofs.OfOffers.{handing-legal}
+use Rattle.tv_order.proofs.offers.OfOffers.{handing-legal}
 use Rattle.tv_run.specs.Standing.{OutsAre, Stands, StandsOpen, StandsStill, names_of, run_of}
 use Rattle.tv_run.specs.Turns.{IsOver}
 use Rattle.tv_run.specs.declared.ended.Ended.{Ended}
@@ -56,8 +56,8 @@ abbrev pub is_out_state : JobState → Bool
 is_out_state (state.Out a t) = true
 is_out_state s = false
 
-idle-calm : (m : Meaning) (past : History) (j : Job) → is_out_state (idle_state m past j) ≡ false
-idle-calm m past j = by (next_ask past j)
+idle-calm : (past : History) (j : Job) → is_out_state (idle_state past j) ≡ false
+idle-calm past j = by (next_ask past j)
   where
     by : (o : Option Ask) → is_out_state (option_map_or (λ a. state.Idle a.activity a.attempt) o (state.Idle (last_activity j.asks) 0)) ≡ false
     by None = refl
@@ -98,10 +98,10 @@ none-is_out m past ns quiet k a t = by (job_at m ns k) (job-in m ns k)
 none-tried :
     (m : Meaning) (past : History) (ns : List JobName)
     → ((j : Job) → In j m.jobs → is_out past j.name ≡ false)
-    → (k a t : ℕ) → option_and_then (try_out m past a t) (job_at m ns k) ≡ None
+    → (k a t : ℕ) → option_and_then (try_out past a t) (job_at m ns k) ≡ None
 none-tried m past ns quiet k a t = by (job_at m ns k) (job-in m ns k)
   where
-    by : (o : Option Job) → ((j : Job) → o ≡ Some j → In j m.jobs) → option_and_then (try_out m past a t) o ≡ None
+    by : (o : Option Job) → ((j : Job) → o ≡ Some j → In j m.jobs) → option_and_then (try_out past a t) o ≡ None
     by None h = refl
     by (Some j) h =
         ap (λ b. if b && option_map_or (is_ask a t) (next_ask past j) false then next_ask past j else None) (quiet j (h j refl))
@@ -161,7 +161,7 @@ module _ (gives : Giving) (r : OpenRun) (xs : Instances) (st : Stands gives r xs
         none-is_out m past (names_of r)
         (λ j i.
         calm (is_settled past j) (is_out past j.name) (has_open_instance past j) (is_running past j) (is_ready m past j)
-        (out_state m past j) (idle_state m past j) (not-out j i) (idle-calm m past j));
+        (out_state past j) (idle_state past j) (not-out j i) (idle-calm past j));
     none_asked = λ t. none-tried m past (names_of r) not-out t.job t.activity t.attempt;
   }
 

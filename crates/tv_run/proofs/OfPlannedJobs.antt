@@ -4,31 +4,30 @@ use Rattle.std.specs.Option.{option_map_or}
 use Rattle.std.specs.Prelude.{◌≡◌, refl, ℕ, zero, suc, [], ◌∷◌, Some, find, option_and_then, slice_get}
 use Rattle.std.proofs.Common.{ap, ap₂, inl, subst, sym, ◌∙◌}
 use Rattle.std.proofs.lemmas.Option.{same_Some}
+use Rattle.tv_lemmas.specs.Members.{In}
+use Rattle.tv_lemmas.proofs.OfMembers.{each_in, in-slice}
 use Rattle.tv_value.specs.Orders.{named, same_job}
 use Rattle.tv_value.specs.Values.{JobName, Name}
 use Rattle.tv_value.proofs.OfJobNames.{same_job_decides}
 use Rattle.tv_gate.specs.Outcomes.{Giving}
 use Rattle.tv_flow.specs.Flows.{Document, Flow, Step}
-use Rattle.tv_depths.specs.Steps.{declared_depths}
-use Rattle.tv_agreed.specs.InstanceFlows.{StandsIn, instance_flow}
-use Rattle.tv_agreed.specs.PlannedDepths.{JobIsPlanned}
-use Rattle.tv_agreed.proofs.Planned.{meanings-planned}
+use Rattle.tv_instance.specs.Steps.{declared_depths}
+use Rattle.tv_agreement.specs.InstanceFlows.{StandsIn, instance_flow}
+use Rattle.tv_agreement.specs.PlannedDepths.{JobIsPlanned}
+use Rattle.tv_agreement.proofs.Planned.{meanings-planned}
 use Rattle.tv_model.specs.Jobs.{Job}
 use Rattle.tv_model.specs.Made.{Meaning}
 use Rattle.tv_model.specs.Meanings.{meaning}
-use Rattle.tv_model.specs.Members.{In}
 use Rattle.tv_model.specs.RightDepths.{HaveTheseDepths}
-use Rattle.tv_model.proofs.Members.{each_in, no-nil, once-of_apart}
+use Rattle.tv_model.proofs.Members.{no-nil, once-of_apart}
 use Rattle.tv_history.specs.Entries.{History}
 use Rattle.tv_history.proofs.Ready.{document-whole}
 use Rattle.tv_history.proofs.Tests.{same-itself}
 use Rattle.tv_order.proofs.OfFirst.{find-first}
-use Rattle.tv_viewed.proofs.OwnDepths.{formed-flow, formed-named}
+use Rattle.tv_forest.proofs.views.OwnDepths.{formed-flow, formed-named}
 use Rattle.tv_seats.specs.Seats.{Seat}
-use Rattle.tv_seated.proofs.OfLists.{is-member}
 use Rattle.tv_forest.specs.Forest.{Instance, Instances, IsAt, IsJobAt, Stand}
-use Rattle.tv_entries.specs.Runs.{first_flow}
-use Rattle.tv_firsts.proofs.OfFlows.{same-first}
+use Rattle.tv_model.specs.Opening.{first_nested}
 
 module _ (gives : Giving) (d : Document) (levels : Flow → Name → ℕ) (past : History) (xs : Instances)
     (stand : Stand gives d levels past xs) where
@@ -104,7 +103,7 @@ module _ (gives : Giving) (d : Document) (levels : Flow → Name → ℕ) (past 
     found =
         each_in (λ (u : Name × Step). named u.0 x.flow.steps ≡ Some u.1) x.flow.steps
         (formed-named x.flow (formed-flow d stand.formed its.flow_name x.flow its.is_flow)) t
-        (is-member t x.flow.steps s.step at)
+        (in-slice x.flow.steps s.step t at)
 
     step-is : own.step ≡ t.1
     step-is =
@@ -114,7 +113,7 @@ module _ (gives : Giving) (d : Document) (levels : Flow → Name → ℕ) (past 
     pub result-deep : HaveTheseDepths (declared_depths t.1) j.result
     result-deep = subst (λ (u : Step). HaveTheseDepths (declared_depths u) j.result) step-is planned.result
 
-    pub flow-opened : (g : Name) → j.opens ≡ Some g → first_flow t.1.activities ≡ Some g
+    pub flow-opened : (g : Name) → j.opens ≡ Some g → first_nested t.1.activities ≡ Some g
     flow-opened g e =
-        subst (λ (u : Step). first_flow u.activities ≡ Some g) step-is
-        (same-first own.step.activities ∙ planned.opens g e)
+        subst (λ (u : Step). first_nested u.activities ≡ Some g) step-is
+        (planned.opens g e)

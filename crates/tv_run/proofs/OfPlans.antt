@@ -10,8 +10,8 @@ use Rattle.tv_check.specs.Plans.{flow_plan}
 use Rattle.tv_check.specs.RunViews.{run_view}
 use Rattle.tv_check.specs.declared.plans.FlowPlan.{FlowPlan}
 use Rattle.tv_check.specs.declared.run.CheckedRun.{CheckedRun}
-use Rattle.tv_seated.proofs.OfLists.{get-image, of-image}
 use Rattle.tv_run.specs.Looks.{IsFlow}
+use Rattle.tv_lemmas.proofs.Lists.{of-image, get-map}
 
 pub plan-there : (run : CheckedRun) (k : ℕ) (f : Flow) → IsFlow (run_view run) k f
     → (p : FlowPlan) × (flow_view p.flow ≡ f)
@@ -24,5 +24,5 @@ plan-there run k f h = by (slice_get (run_view run).flows k) refl h
         let w =
         of-image flow_plan_view run.plans k (flow_plan g.1)
         (ap (λ l. slice_get l k) run.kept.1.0
-        ∙ get-image (λ (x : Name × Flow). flow_plan x.1) (run_view run).flows k g e) in
+        ∙ get-map (λ (x : Name × Flow). flow_plan x.1) (run_view run).flows k g e) in
         (w.0, ap (λ q. q.flow) w.2 ∙ same_Some g.1 f h)

@@ -5,6 +5,7 @@ use Rattle.std.proofs.Common.{ap, append-nil, arith, subst, sym, ◌∙◌}
 use Rattle.std.proofs.lemmas.Bool.{eq-eqb, lt-ltb}
 use Rattle.std.proofs.lemmas.Simd.{map-map}
 use Rattle.tv_lemmas.proofs.Counts.{count-cons}
+use Rattle.tv_lemmas.proofs.Lists.{get-map}
 use Rattle.tv_gate.specs.Outcomes.{Giving}
 use Rattle.tv_flow.specs.Flows.{Document}
 use Rattle.tv_check.specs.RunViews.{run_view}
@@ -19,14 +20,13 @@ use Rattle.tv_seats.specs.Seats.{back}
 use Rattle.tv_seats.specs.Stages as stages
 use Rattle.tv_seats.specs.declared.stage.Stage.{Stage}
 use Rattle.tv_seats.specs.declared.stage.Stage.TheVariants as stage
-use Rattle.tv_seated.proofs.OfLists.{get-image}
-use Rattle.tv_standing.proofs.OfStages.{out-is}
+use Rattle.tv_forest.proofs.stands.OfStages.{out-is}
 use Rattle.tv_forest.specs.Entries.{called_back}
 use Rattle.tv_forest.specs.Forest.{Instance, Instances, Stays}
 use Rattle.tv_forest.proofs.OfLists.{one-at}
 use Rattle.tv_forest.proofs.OfRecalls.{recalling}
-use Rattle.tv_firsts.proofs.OfCounts.{are-counted}
-use Rattle.tv_entries.specs.Calls.{out_count, state_after, state_of}
+use Rattle.tv_forest.proofs.firsts.OfCounts.{are-counted}
+use Rattle.tv_entries.specs.Calls.{out_now, state_after, state_of}
 use Rattle.tv_entries.specs.Idle.{AreIdle}
 use Rattle.tv_entries.specs.Recalls.{recalls}
 use Rattle.tv_entries.specs.Runs.{Appends, Run, meant, past_of}
@@ -94,7 +94,7 @@ module _ (gives : Giving) (r : OpenRun) (xs : Instances) (st : Stands gives r xs
   all-rest i x at h n s sits = (subst (Stays gives d levels_in past x) h (st.stand.each i x at)).settled n s sits
 
   -- as many are out as the code has
-  pub out-many : out_in r.instances.items ≡ out_count gives (run_of r)
+  pub out-many : out_in r.instances.items ≡ out_now gives (run_of r)
   out-many = out-all r xs st.fits all-rest ∙ sym (are-counted gives d levels_in past xs st.stand).out
 
   -- the job of a number of which a try is out
@@ -115,7 +115,7 @@ module _ (gives : Giving) (r : OpenRun) (xs : Instances) (st : Stands gives r xs
       unknown h = ap (λ (o : Option Job). option_map_or (state_after m past) o state.Unknown) (no-job gives r xs st k h)
 
   -- where none is out no job is in such a state
-  pub none-idle : out_count gives (run_of r) ≡ 0 → AreIdle gives (run_of r) (run_of r)
+  pub none-idle : out_now gives (run_of r) ≡ 0 → AreIdle gives (run_of r) (run_of r)
   none-idle z k a t e =
       let o = out-of k a t e in
       let w = o.its in
@@ -135,8 +135,8 @@ module _ (gives : Giving) (r : OpenRun) (xs : Instances) (st : Stands gives r xs
   called-idle s now numbers k a t e =
       let o = out-of k a t e in
       let w = o.its in
-      let at = get-image called_back xs w.outer w.instance w.known.there in
-      let sits = get-image back w.instance.seats w.number w.seat w.known.seat in
+      let at = get-map called_back xs w.outer w.instance w.known.there in
+      let sits = get-map back w.instance.seats w.number w.seat w.known.seat in
       let known =
       known-as s (map called_back xs) now.fits k w.outer w.number (called_back w.instance) (back w.seat)
       (ap (λ l. slice_get l k) numbers ∙ w.is_number.numbered) at sits in
@@ -153,7 +153,7 @@ module _ (gives : Giving) (r : OpenRun) (xs : Instances) (st : Stands gives r xs
   main-called : KeepsMain xs (map called_back xs)
   main-called x y was is =
       ap (λ (z : Instance). is_none z.view)
-      (one-at (map called_back xs) 0 y (called_back x) is (get-image called_back xs 0 x was))
+      (one-at (map called_back xs) 0 y (called_back x) is (get-map called_back xs 0 x was))
 
 -- ---- the run
 
@@ -167,7 +167,7 @@ pub record IsRecalling (r s : OpenRun) (n : ℕ) : Type 0 where
   pub noted : IsNoted called s (recalls n)
 
 module _ (gives : Giving) (r : OpenRun) (st : StandsOpen gives r) (n : ℕ) (many : n ≡ out_in r.instances.items) where
-  pub all-out : n ≡ out_count gives (run_of r)
+  pub all-out : n ≡ out_now gives (run_of r)
   all-out = many ∙ out-many gives r st.0 st.1
 
   -- where none is out
@@ -194,8 +194,8 @@ module _ (gives : Giving) (r : OpenRun) (st : StandsOpen gives r) (n : ℕ) (man
     before : Stands gives q xs
     before = stands-before gives r q w.before xs st.1
 
-    out-before : n ≡ out_count gives (run_of q)
-    out-before = all-out ∙ ap (out_count gives) (sym w.before.same)
+    out-before : n ≡ out_now gives (run_of q)
+    out-before = all-out ∙ ap (out_now gives) (sym w.before.same)
 
     many-before : n ≡ out_in q.instances.items
     many-before = out-before ∙ sym (out-many gives q xs before)
@@ -208,8 +208,8 @@ module _ (gives : Giving) (r : OpenRun) (st : StandsOpen gives r) (n : ℕ) (man
 
     legal : is_legal_after gives (meant gives (run_of q)) now (recalled n) ≡ true
     legal =
-        both_true (nat_lt 0 n) (n == out_count gives (run_of q)) (lt-ltb 0 n some)
-        (eq-eqb n (out_count gives (run_of q)) out-before)
+        both_true (nat_lt 0 n) (n == out_now gives (run_of q)) (lt-ltb 0 n some)
+        (eq-eqb n (out_now gives (run_of q)) out-before)
 
     changes : ChangesTo q w.called ys
     changes = record {
@@ -264,7 +264,7 @@ module _ (gives : Giving) (r : OpenRun) (st : StandsOpen gives r) (n : ℕ) (man
     past-then : past_of (run_of s) ≡ recalled n ∷ now
     past-then = past-next gives q s xs ys before (recalls n) (recalled n) appends (tells-recalled (run_of q) n)
 
-    none-then : out_count gives (run_of s) ≡ 0
+    none-then : out_now gives (run_of s) ≡ 0
     none-then =
         ap (λ p. count_by (λ (j : Job). is_out p j.name) (meant gives (run_of s)).jobs) past-then
         ∙ none-counted (meant gives (run_of s)).jobs

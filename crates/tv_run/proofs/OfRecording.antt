@@ -5,6 +5,7 @@ use Rattle.std.proofs.Common.{ap, ap₂, arith, get_or, inl, inr, subst, sym, �
 use Rattle.std.proofs.lemmas.Bool.{true≢false, or_right}
 use Rattle.std.proofs.lemmas.List.{map-append, take_all}
 use Rattle.std.proofs.lemmas.Option.{none-some, same_Some, slice_get_cases, slice_get_within}
+use Rattle.tv_lemmas.specs.Members.{In}
 use Rattle.tv_value.specs.Nested.{Place}
 use Rattle.tv_value.specs.Orders.{named}
 use Rattle.tv_value.specs.Values.{Name}
@@ -12,26 +13,25 @@ use Rattle.tv_gate.specs.Outcomes.{Giving}
 use Rattle.tv_flow.specs.Flows.{Document, Step}
 use Rattle.tv_naming.specs.Numbers.{position}
 use Rattle.tv_naming.proofs.FormedParts.{steps-ascend}
-use Rattle.tv_turn.proofs.OfRanks.{number-of}
+use Rattle.tv_framing.proofs.turns.OfRanks.{number-of}
 use Rattle.tv_model.specs.Jobs.{Job}
 use Rattle.tv_model.specs.Meanings.{meaning}
-use Rattle.tv_model.specs.Members.{In}
 use Rattle.tv_history.specs.Entries.{History}
 use Rattle.tv_history.specs.Histories.{is_settled}
 use Rattle.tv_instance.specs.Events.{has_result, is_taken}
 use Rattle.tv_instance.specs.Legality.{AreLegal}
 use Rattle.tv_framing.specs.Views.{View}
-use Rattle.tv_viewed.proofs.OfJobs.{ends-known, ends-told}
-use Rattle.tv_viewed.proofs.OfLaws.{known_jobs-are_there, taken-is_running}
-use Rattle.tv_viewed.proofs.OfRuns.{Runs, in-all, runs, steps_here}
-use Rattle.tv_viewed.proofs.OwnDepths.{formed-flow}
+use Rattle.tv_forest.proofs.views.OfJobs.{ends-known, ends-told}
+use Rattle.tv_forest.proofs.views.OfLaws.{known_jobs-are_there, taken-is_running}
+use Rattle.tv_forest.proofs.views.OfRuns.{Runs, in-all, runs, steps_here}
+use Rattle.tv_forest.proofs.views.OwnDepths.{formed-flow}
 use Rattle.tv_seats.specs.Seats.{Seat, place_at, stage_at, step_at}
 use Rattle.tv_seats.specs.declared.stage.Stage.{Stage}
 use Rattle.tv_seats.specs.declared.stage.Stage.TheVariants as stage
-use Rattle.tv_seated.specs.Seated.{IsStage, Sit, spot_of}
-use Rattle.tv_seated.specs.Seated.{HasEnded}
+use Rattle.tv_forest.specs.seats.Seated.{IsStage, Sit, spot_of}
+use Rattle.tv_forest.specs.seats.Seated.{HasEnded}
 use Rattle.tv_forest.specs.Forest.{Instance, IsAt, IsMain, Stays}
-use Rattle.tv_going.proofs.OfEntries.{by-name}
+use Rattle.tv_forest.proofs.runs.OfEntries.{by-name}
 use Rattle.tv_check.specs.FlowPlanViews.{flow_plan_view}
 use Rattle.tv_check.specs.Plans.{flow_plans}
 use Rattle.tv_check.specs.RunViews.{run_view}
@@ -41,10 +41,8 @@ use Rattle.tv_history.specs.Histories.{is_settled_name}
 use Rattle.tv_instance.specs.Events.{known_by}
 use Rattle.tv_entries.specs.Runs.{past_of}
 use Rattle.tv_lineage.specs.Lineages.{Record}
-use Rattle.tv_lineage.specs.Members as members
 use Rattle.tv_lineage.specs.Members.{HaveSame}
-use Rattle.tv_lineage.proofs.OfMembers.{of-map as of-records}
-use Rattle.tv_followed.specs.Recorded.{main_records, record_of}
+use Rattle.tv_model.specs.records.Recorded.{main_records, record_of}
 use Rattle.tv_model.specs.Lineages.{is_outermost, main_jobs}
 use Rattle.tv_levels.specs.MainSteps.{main_steps}
 use Rattle.tv_levels.specs.Views.{level_view}
@@ -52,10 +50,11 @@ use Rattle.tv_levels.specs.declared.level.Level.{Level}
 use Rattle.tv_frame.specs.Tables.{levels_in}
 use Rattle.tv_open.specs.Standing.{IsOpen}
 use Rattle.tv_open.specs.declared.open.Open.{Open}
-use Rattle.tv_marked.specs.KnownInRun.{AreJobsTold, AreLevelsTold}
-use Rattle.tv_marked.specs.Settled.{settled_records}
-use Rattle.tv_marked.proofs.OfKnown.{main-known}
-use Rattle.tv_marked.proofs.OfRecords.{of-filter, outermost}
+use Rattle.tv_traces.specs.KnownInRun.{AreJobsTold, AreLevelsTold}
+use Rattle.tv_traces.specs.Settled.{settled_records}
+use Rattle.tv_traces.proofs.OfKnown.{main-known}
+use Rattle.tv_lemmas.proofs.OfMembers.{of-filter, of-map}
+use Rattle.tv_traces.proofs.OfRecords.{outermost}
 use Rattle.tv_traces.specs.Sights.{job_view}
 use Rattle.tv_traces.specs.Traced.{IsTracedSoFar}
 use Rattle.tv_traces.specs.declared.settled.SettledJob.{SettledJob}
@@ -65,8 +64,10 @@ use Rattle.tv_run.specs.declared.instances.Instance as code
 use Rattle.tv_run.specs.declared.run.OpenRun.{OpenRun}
 use Rattle.tv_run.proofs.OfJobs.{seats-open}
 use Rattle.tv_run.proofs.OfOutputs.{main-plan}
-use Rattle.tv_marked.specs.Seen.{AreKnownBy, Spot}
-use Rattle.tv_run.specs.Tracing.{is_settled_stage, settled_spots}
+use Rattle.tv_traces.specs.Seen.{AreKnownBy, Spot}
+use Rattle.tv_forest.specs.stands.Seats.{is_over}
+use Rattle.tv_run.specs.Tracing.{settled_spots}
+use Rattle.tv_history.proofs.activities.Filtered.{filter-all}
 
 -- ---- seats and spots
 
@@ -76,35 +77,35 @@ record IsSettledSeat (ss : List Seat) (n : ℕ) (q : Place) : Type 0 where
   there : slice_get ss number ≡ Some seat
   step : seat.step ≡ n
   place : seat.place ≡ q
-  settled : is_settled_stage seat.stage ≡ true
+  settled : is_over seat.stage ≡ true
 
 of-spots : (ss : List Seat) (n : ℕ) (q : Place) → In {A = Spot} (n, q) (settled_spots ss) → IsSettledSeat ss n q
 of-spots [] n q i = absurd i
-of-spots (s ∷ ss) n q i = by (is_settled_stage s.stage) refl i (of-spots ss n q)
+of-spots (s ∷ ss) n q i = by (is_over s.stage) refl i (of-spots ss n q)
   where
     later : IsSettledSeat ss n q → IsSettledSeat (s ∷ ss) n q
     later x = record { number = suc x.number; seat = x.seat; there = x.there; step = x.step; place = x.place; settled = x.settled }
 
     rest : List Seat
-    rest = filter (λ (t : Seat). is_settled_stage t.stage) ss
+    rest = filter (λ (t : Seat). is_over t.stage) ss
 
-    by : (b : Bool) → is_settled_stage s.stage ≡ b → In {A = Spot} (n, q) (map {B = Spot} (λ (t : Seat). (t.step, t.place)) (Rattle.std.specs.Prelude.cond b (s ∷ rest) rest)) → (In {A = Spot} (n, q) (settled_spots ss) → IsSettledSeat ss n q) → IsSettledSeat (s ∷ ss) n q
+    by : (b : Bool) → is_over s.stage ≡ b → In {A = Spot} (n, q) (map {B = Spot} (λ (t : Seat). (t.step, t.place)) (Rattle.std.specs.Prelude.cond b (s ∷ rest) rest)) → (In {A = Spot} (n, q) (settled_spots ss) → IsSettledSeat ss n q) → IsSettledSeat (s ∷ ss) n q
     by true e (inl f) rec = record { number = 0; seat = s; there = refl; step = sym (ap (λ (y : Spot). y.0) f); place = sym (ap (λ (y : Spot). y.1) f); settled = e }
     by true e (inr j) rec = later (rec j)
     by false e j rec = later (rec j)
 
-in-spots : (ss : List Seat) (k : ℕ) (s : Seat) → slice_get ss k ≡ Some s → is_settled_stage s.stage ≡ true → In {A = Spot} (s.step, s.place) (settled_spots ss)
+in-spots : (ss : List Seat) (k : ℕ) (s : Seat) → slice_get ss k ≡ Some s → is_over s.stage ≡ true → In {A = Spot} (s.step, s.place) (settled_spots ss)
 in-spots [] k s e h = absurd (none-some s e)
 in-spots (t ∷ ss) zero s e h =
-    subst (λ (u : Seat). In {A = Spot} (s.step, s.place) (map {B = Spot} (λ (x : Seat). (x.step, x.place)) (Rattle.std.specs.Prelude.cond (is_settled_stage u.stage) (u ∷ rest) rest))) (sym (same_Some t s e))
+    subst (λ (u : Seat). In {A = Spot} (s.step, s.place) (map {B = Spot} (λ (x : Seat). (x.step, x.place)) (Rattle.std.specs.Prelude.cond (is_over u.stage) (u ∷ rest) rest))) (sym (same_Some t s e))
     (subst (λ b. In {A = Spot} (s.step, s.place) (map {B = Spot} (λ (x : Seat). (x.step, x.place)) (Rattle.std.specs.Prelude.cond b (s ∷ rest) rest))) (sym h) (inl refl))
   where
     rest : List Seat
-    rest = filter (λ (u : Seat). is_settled_stage u.stage) ss
-in-spots (t ∷ ss) (suc k) s e h = by (is_settled_stage t.stage) (in-spots ss k s e h)
+    rest = filter (λ (u : Seat). is_over u.stage) ss
+in-spots (t ∷ ss) (suc k) s e h = by (is_over t.stage) (in-spots ss k s e h)
   where
     rest : List Seat
-    rest = filter (λ (u : Seat). is_settled_stage u.stage) ss
+    rest = filter (λ (u : Seat). is_over u.stage) ss
 
     by : (b : Bool) → In {A = Spot} (s.step, s.place) (settled_spots ss) → In {A = Spot} (s.step, s.place) (map {B = Spot} (λ (x : Seat). (x.step, x.place)) (Rattle.std.specs.Prelude.cond b (t ∷ rest) rest))
     by true i = inr i
@@ -120,7 +121,7 @@ of-mapped f [] y i = absurd i
 of-mapped f (x ∷ xs) y (inl e) = (0, x, refl, e)
 of-mapped f (x ∷ xs) y (inr i) = let r = of-mapped f xs y i in (suc r.0, r.1, r.2, r.3)
 
-settled-so : (past : History) (j : Job) (x : Stage) → IsStage past j x → is_settled_stage x ≡ true → is_settled past j ≡ true
+settled-so : (past : History) (j : Job) (x : Stage) → IsStage past j x → is_over x ≡ true → is_settled past j ≡ true
 settled-so past j stage.Waiting g h = absurd (true≢false (sym h))
 settled-so past j (stage.Out a t) g h = absurd (true≢false (sym h))
 settled-so past j (stage.Idle a t) g h = absurd (true≢false (sym h))
@@ -128,7 +129,7 @@ settled-so past j (stage.Aside a) g h = absurd (true≢false (sym h))
 settled-so past j (stage.Nested i) g h = absurd (true≢false (sym h))
 settled-so past j stage.Settled g h = g.0
 
-so-settled : (past : History) (j : Job) (x : Stage) → IsStage past j x → is_settled past j ≡ true → is_settled_stage x ≡ true
+so-settled : (past : History) (j : Job) (x : Stage) → IsStage past j x → is_settled past j ≡ true → is_over x ≡ true
 so-settled past j stage.Waiting g h = absurd (true≢false (sym h ∙ g.unsettled))
 so-settled past j (stage.Out a t) g h = absurd (true≢false (sym h ∙ g.0.unsettled))
 so-settled past j (stage.Idle a t) g h = absurd (true≢false (sym h ∙ g.0.unsettled))
@@ -138,25 +139,25 @@ so-settled past j stage.Settled g h = refl
 
 -- ---- seat after seat
 
-pub spots-with : (ss : List Seat) (k : ℕ) (s : Seat) → slice_get ss k ≡ Some s → is_settled_stage s.stage ≡ true → settled_spots (take (suc k) ss) ≡ settled_spots (take k ss) ++ (s.step, s.place) ∷ []
+pub spots-with : (ss : List Seat) (k : ℕ) (s : Seat) → slice_get ss k ≡ Some s → is_over s.stage ≡ true → settled_spots (take (suc k) ss) ≡ settled_spots (take k ss) ++ (s.step, s.place) ∷ []
 spots-with [] k s e h = absurd (none-some s e)
-spots-with (t ∷ ss) zero s e h = subst (λ (u : Seat). map {B = Spot} (λ (x : Seat). (x.step, x.place)) (Rattle.std.specs.Prelude.cond (is_settled_stage u.stage) (u ∷ []) []) ≡ ((s.step, s.place) ∷ [])) (sym (same_Some t s e)) (ap (λ b. map {B = Spot} (λ (x : Seat). (x.step, x.place)) (Rattle.std.specs.Prelude.cond b (s ∷ []) [])) h)
-spots-with (t ∷ ss) (suc k) s e h = by (is_settled_stage t.stage) (spots-with ss k s e h)
+spots-with (t ∷ ss) zero s e h = subst (λ (u : Seat). map {B = Spot} (λ (x : Seat). (x.step, x.place)) (Rattle.std.specs.Prelude.cond (is_over u.stage) (u ∷ []) []) ≡ ((s.step, s.place) ∷ [])) (sym (same_Some t s e)) (ap (λ b. map {B = Spot} (λ (x : Seat). (x.step, x.place)) (Rattle.std.specs.Prelude.cond b (s ∷ []) [])) h)
+spots-with (t ∷ ss) (suc k) s e h = by (is_over t.stage) (spots-with ss k s e h)
   where
     spots : Bool → List Seat → List Spot
-    spots b us = map {B = Spot} (λ (x : Seat). (x.step, x.place)) (Rattle.std.specs.Prelude.cond b (t ∷ filter (λ (u : Seat). is_settled_stage u.stage) us) (filter (λ (u : Seat). is_settled_stage u.stage) us))
+    spots b us = map {B = Spot} (λ (x : Seat). (x.step, x.place)) (Rattle.std.specs.Prelude.cond b (t ∷ filter (λ (u : Seat). is_over u.stage) us) (filter (λ (u : Seat). is_over u.stage) us))
 
     by : (b : Bool) → settled_spots (take (suc k) ss) ≡ settled_spots (take k ss) ++ (s.step, s.place) ∷ [] → spots b (take (suc k) ss) ≡ spots b (take k ss) ++ (s.step, s.place) ∷ []
     by true f = ap (λ l. (t.step, t.place) ∷ l) f
     by false f = f
 
-pub spots-without : (ss : List Seat) (k : ℕ) (s : Seat) → slice_get ss k ≡ Some s → is_settled_stage s.stage ≡ false → settled_spots (take (suc k) ss) ≡ settled_spots (take k ss)
+pub spots-without : (ss : List Seat) (k : ℕ) (s : Seat) → slice_get ss k ≡ Some s → is_over s.stage ≡ false → settled_spots (take (suc k) ss) ≡ settled_spots (take k ss)
 spots-without [] k s e h = absurd (none-some s e)
-spots-without (t ∷ ss) zero s e h = subst (λ (u : Seat). map {B = Spot} (λ (x : Seat). (x.step, x.place)) (Rattle.std.specs.Prelude.cond (is_settled_stage u.stage) (u ∷ []) []) ≡ []) (sym (same_Some t s e)) (ap (λ b. map {B = Spot} (λ (x : Seat). (x.step, x.place)) (Rattle.std.specs.Prelude.cond b (s ∷ []) [])) h)
-spots-without (t ∷ ss) (suc k) s e h = by (is_settled_stage t.stage) (spots-without ss k s e h)
+spots-without (t ∷ ss) zero s e h = subst (λ (u : Seat). map {B = Spot} (λ (x : Seat). (x.step, x.place)) (Rattle.std.specs.Prelude.cond (is_over u.stage) (u ∷ []) []) ≡ []) (sym (same_Some t s e)) (ap (λ b. map {B = Spot} (λ (x : Seat). (x.step, x.place)) (Rattle.std.specs.Prelude.cond b (s ∷ []) [])) h)
+spots-without (t ∷ ss) (suc k) s e h = by (is_over t.stage) (spots-without ss k s e h)
   where
     spots : Bool → List Seat → List Spot
-    spots b us = map {B = Spot} (λ (x : Seat). (x.step, x.place)) (Rattle.std.specs.Prelude.cond b (t ∷ filter (λ (u : Seat). is_settled_stage u.stage) us) (filter (λ (u : Seat). is_settled_stage u.stage) us))
+    spots b us = map {B = Spot} (λ (x : Seat). (x.step, x.place)) (Rattle.std.specs.Prelude.cond b (t ∷ filter (λ (u : Seat). is_over u.stage) us) (filter (λ (u : Seat). is_over u.stage) us))
 
     by : (b : Bool) → settled_spots (take (suc k) ss) ≡ settled_spots (take k ss) → spots b (take (suc k) ss) ≡ spots b (take k ss)
     by true f = ap (λ l. (t.step, t.place) ∷ l) f
@@ -171,14 +172,14 @@ seat-at ss k lt = by (slice_get_cases ss k).1
     by (inl y) = (y.0, y.2)
     by (inr y) = absurd (omega (arith, lt, y.0))
 
-module _ (ss : List Seat) (k : ℕ) (lt : k < length ss) (m : Bool) (told : option_map_or is_settled_stage (stage_at ss k) false ≡ m) where
+module _ (ss : List Seat) (k : ℕ) (lt : k < length ss) (m : Bool) (told : option_map_or is_over (stage_at ss k) false ≡ m) where
   s : (t : Seat) × (slice_get ss k ≡ Some t)
   s = seat-at ss k lt
 
-  its : is_settled_stage s.0.stage ≡ m
-  its = ap (λ o. option_map_or (λ (t : Seat). is_settled_stage t.stage) o false) (sym s.1) ∙ mapped (slice_get ss k) ∙ told
+  its : is_over s.0.stage ≡ m
+  its = ap (λ o. option_map_or (λ (t : Seat). is_over t.stage) o false) (sym s.1) ∙ mapped (slice_get ss k) ∙ told
     where
-      mapped : (o : Option Seat) → option_map_or (λ (t : Seat). is_settled_stage t.stage) o false ≡ option_map_or is_settled_stage (option_map (λ (t : Seat). t.stage) o) false
+      mapped : (o : Option Seat) → option_map_or (λ (t : Seat). is_over t.stage) o false ≡ option_map_or is_over (option_map (λ (t : Seat). t.stage) o) false
       mapped None = refl
       mapped (Some t) = refl
 
@@ -252,14 +253,6 @@ module _ (gives : Giving) (d : Document) (past : History) (levels : Name → ℕ
 
 -- ---- the main instance of a run
 
-same-records : {A : Type 0} (p : A → Bool) (xs : List A) → ((x : A) → members.In x xs → p x ≡ true) → filter p xs ≡ xs
-same-records p [] h = refl
-same-records {A = A} p (x ∷ xs) h = by (p x) (h x (inl refl)) (same-records p xs (λ y i. h y (inr i)))
-  where
-    by : (b : Bool) → b ≡ true → filter p xs ≡ xs → Rattle.std.specs.Prelude.cond b (x ∷ filter p xs) (filter p xs) ≡ x ∷ xs
-    by true e f = ap (λ l. x ∷ l) f
-    by false e f = absurd (true≢false (sym e))
-
 module _ (gives : Giving) (o : OpenRun) (st : StandsStill gives o) where
   abbrev d : Document
   d = run_view o.run
@@ -301,11 +294,11 @@ module _ (gives : Giving) (o : OpenRun) (st : StandsStill gives o) where
         by-name gives d past j i ∙ (has-ended.stages s.number s.seat j s.there s.is_its).0
 
     pub all-recorded : (rs : List Record) → HaveSame rs (main_records (meaning gives d)) → HaveSame rs (settled_records past (meaning gives d))
-    all-recorded rs = subst (HaveSame rs) (sym (same-records (λ (y : Record). is_settled_name (meaning gives d) past y.job) (main_records (meaning gives d)) each))
+    all-recorded rs = subst (HaveSame rs) (sym (filter-all (λ (y : Record). is_settled_name (meaning gives d) past y.job) (main_records (meaning gives d)) each))
       where
-        each : (y : Record) → members.In y (main_records (meaning gives d)) → is_settled_name (meaning gives d) past y.job ≡ true
+        each : (y : Record) → In y (main_records (meaning gives d)) → is_settled_name (meaning gives d) past y.job ≡ true
         each y i =
-            let j = of-records record_of y (main_jobs (meaning gives d)) i in
+            let j = of-map record_of y (main_jobs (meaning gives d)) i in
             let k = of-filter (λ (z : Job). is_outermost z.instance) j.0 (meaning gives d).jobs j.1 in
             ap (λ (z : Record). is_settled_name (meaning gives d) past z.job) j.2 ∙ settled-job j.0 k.0 (outermost j.0.instance k.1)
 
@@ -349,7 +342,7 @@ module _ (gives : Giving) (o : OpenRun) (st : StandsStill gives o) where
         subst (AreJobsTold view.0) (sym (jobs ∙ ap settled_spots seats)) (jobs-told gives d past (levels_in x.flow) view.0 x.seats stays.1)
         in
         record {
-          flow_is = record { formed = st.1.stand.formed; accepted = o.run.kept.0; main = flow-is };
+          flow_is = record { formed = st.1.stand.formed; accepted = o.run.kept.0; is_main = flow-is };
           known_are =
               subst (λ f. AreKnownBy (known_by [] view.0.events) (is_settled_name (meaning gives d) past) f (main_steps (meaning gives d)) (map level_view ls) (map job_view js)) (stays.0 ∙ sym same-flow)
               (main-known gives d past (levels_in x.flow) view.0 stays.1.in_run (map level_view ls) (map job_view js) told done);

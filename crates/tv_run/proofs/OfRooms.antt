@@ -6,6 +6,7 @@ use Rattle.std.specs.Prelude.{◌≡◌, refl, ℕ, ◌+◌, ◌<◌, ◌≤◌,
 use Rattle.std.proofs.Common.{ap, ap₂, arith, subst, sym, ◌∙◌}
 use Rattle.std.proofs.lemmas.List.{length-set}
 use Rattle.std.proofs.lemmas.Option.{same_Some, slice_get-get_or, slice_get_cases, slice_get_past, slice_get_within}
+use Rattle.tv_lemmas.specs.Members.{In}
 use Rattle.tv_forest.proofs.OfLists.{at-set, same-number, to-set}
 use Rattle.tv_lemmas.proofs.Cases.{on_either}
 use Rattle.tv_lemmas.proofs.Lists.{get-within}
@@ -13,7 +14,6 @@ use Rattle.tv_gate.specs.Outcomes.{Giving}
 use Rattle.tv_check.specs.RunViews.{run_view}
 use Rattle.tv_pool.specs.Pool.{number_of, region_at}
 use Rattle.tv_outputs.specs.Known.{Nodes}
-use Rattle.tv_model.specs.Members.{In}
 use Rattle.tv_framing.specs.Views.{View}
 use Rattle.tv_frame.specs.Calls.{SameRegions}
 use Rattle.tv_frame.specs.Tables.{levels_in}

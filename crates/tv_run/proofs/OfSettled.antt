@@ -1,15 +1,15 @@
 -- What is settled in a run that stands, and what is left as it was.
 use Rattle.std.specs.Prelude.{◌≡◌, ℕ, Bool, true, false, [], IfSome, Option, Some}
 use Rattle.std.proofs.Common.{subst, ◌∙◌}
+use Rattle.tv_lemmas.specs.Members.{In}
 use Rattle.tv_lemmas.proofs.Cases.{on_test}
 use Rattle.tv_gate.specs.Outcomes.{Giving}
 use Rattle.tv_check.specs.RunViews.{run_view}
-use Rattle.tv_model.specs.Members.{In}
 use Rattle.tv_framing.specs.Views.{View}
 use Rattle.tv_frame.specs.Tables.{levels_in}
 use Rattle.tv_forest.specs.Forest.{Instance, Instances, IsAt}
-use Rattle.tv_firsts.specs.Opening.{IsStill}
-use Rattle.tv_firsts.proofs.OfQuiet.{quiet-by_instances}
+use Rattle.tv_forest.specs.firsts.Opening.{IsStill}
+use Rattle.tv_forest.proofs.firsts.OfQuiet.{quiet-by_instances}
 use Rattle.tv_entries.specs.Calls.{NothingSettles, Settles}
 use Rattle.tv_entries.specs.Runs.{past_of}
 use Rattle.tv_run.specs.Settlements.{IsQuietRun}

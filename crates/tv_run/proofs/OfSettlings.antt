@@ -14,14 +14,14 @@ use Rattle.tv_history.specs.Entries.{bounced}
 use Rattle.tv_history.specs.Histories.{is_legal_after}
 use Rattle.tv_framing.specs.Answers.{CanSettle}
 use Rattle.tv_framing.specs.Views.{View}
-use Rattle.tv_viewed.specs.Stated.{entry_of}
+use Rattle.tv_forest.specs.views.Stated.{entry_of}
 use Rattle.tv_frame.specs.Tables.{levels_in}
 use Rattle.tv_frame.specs.declared.events.Settled.{Settled}
 use Rattle.tv_seats.specs.Seats.{Seat, with_stage}
 use Rattle.tv_seats.specs.declared.stage.Stage.TheVariants as stage
-use Rattle.tv_seated.specs.GoingOn.{GoesOn}
-use Rattle.tv_seated.specs.Seated.{spot_of}
-use Rattle.tv_forest.specs.Entries.{told, with_instance}
+use Rattle.tv_forest.specs.seats.GoingOn.{GoesOn}
+use Rattle.tv_forest.specs.seats.Seated.{spot_of}
+use Rattle.tv_forest.specs.Entries.{with_view, with_instance}
 use Rattle.tv_forest.specs.Forest.{Instance, Instances, IsAt, Stand}
 use Rattle.tv_entries.specs.Calls.{Settles, settles}
 use Rattle.tv_entries.specs.Runs.{Run, meant, past_of}
@@ -30,7 +30,7 @@ use Rattle.tv_entries.proofs.OfTold.{tells-bounced}
 use Rattle.tv_open.specs.Events.{TellsAt}
 use Rattle.tv_run.specs.Changes.{TellsIn}
 use Rattle.tv_run.specs.Rooms.{HasRoomIn, IsNoted}
-use Rattle.tv_run.specs.Settlements.{IsBouncedJob, SettlesIn, bounces_job, level_entry}
+use Rattle.tv_run.specs.Settlements.{IsBouncedJob, SettlesIn, bounces_job, settled_entry}
 use Rattle.tv_run.specs.Standing.{Stands, run_of}
 use Rattle.tv_run.specs.Turns.{GoesTo}
 use Rattle.tv_run.specs.declared.run.OpenRun.{OpenRun}
@@ -85,7 +85,7 @@ module _ (gives : Giving) (r m t s : OpenRun) (xs : Instances) (k : ℕ) (j : Jo
   w = tells.view
 
   abbrev ys : Instances
-  ys = with_instance xs b.outer (told x w (with_stage b.number stage.Settled x.seats ++ tells.new))
+  ys = with_instance xs b.outer (with_view x w (with_stage b.number stage.Settled x.seats ++ tells.new))
 
   abbrev its-step : Name × Step
   its-step = bouncing.step gives r xs k j st b
@@ -132,9 +132,9 @@ module _ (gives : Giving) (r m t s : OpenRun) (xs : Instances) (k : ℕ) (j : Jo
         room =
             room-left m t s xs b.outer x b.view (gave its-step.0 b.seat.place vs) more
             (with_stage b.number stage.Settled x.seats) tells (bounces_job k) noted room;
-        names = names-kept xs b.outer x (told x w (with_stage b.number stage.Settled x.seats ++ tells.new)) b.is_number.is_job.instance refl;
+        names = names-kept xs b.outer x (with_view x w (with_stage b.number stage.Settled x.seats ++ tells.new)) b.is_number.is_job.instance refl;
         main =
-            main-kept xs b.outer x (told x w (with_stage b.number stage.Settled x.seats ++ tells.new))
+            main-kept xs b.outer x (with_view x w (with_stage b.number stage.Settled x.seats ++ tells.new))
             b.is_number.is_job.instance (sym (ap (λ (o : Option View). is_none o) b.is_open));
       })
       now undone
@@ -144,14 +144,14 @@ module _ (gives : Giving) (r m t s : OpenRun) (xs : Instances) (k : ℕ) (j : Jo
 module _ (gives : Giving) (m t s : OpenRun) (xs : Instances) (i : ℕ) (x : Instance) (v : View) (e : Event) (more : ℕ)
     (now : Stands gives m xs) (undone : m.outs ≡ None) (there : IsAt xs i x) (is_open : x.view ≡ Some v)
     (can : CanSettle v e) (tells : TellsIn m t xs i x v e more x.seats) (y : Settled) (at : TellsAt x.flow.steps y e)
-    (b : Box held.Place Global) (noted : IsNoted t s (level_entry i y b))
+    (b : Box held.Place Global) (noted : IsNoted t s (settled_entry i y b))
     (room : length m.entries.items + m.due + more + 1 ≤ vec_capacity m.entries) where
   abbrev then_told : Instance
-  then_told = told x tells.view (x.seats ++ tells.new)
+  then_told = with_view x tells.view (x.seats ++ tells.new)
 
-  pub level-goes : GoesTo gives m s (level_entry i y b)
+  pub level-goes : GoesTo gives m s (settled_entry i y b)
   level-goes =
-      goes-noted gives m t s xs (with_instance xs i then_told) (level_entry i y b) (entry_of x.name e)
+      goes-noted gives m t s xs (with_instance xs i then_told) (settled_entry i y b) (entry_of x.name e)
       (record {
         changes = tells.changes;
         noted = noted;
@@ -160,7 +160,7 @@ module _ (gives : Giving) (m t s : OpenRun) (xs : Instances) (i : ℕ) (x : Inst
         legal = level-legal gives m xs now i x there v is_open e can;
         stand = level-stand gives m xs now i x there v is_open e can tells.view tells.new tells.goes_on;
         failed = level-fails_none gives m xs now i x there v is_open e can;
-        room = room-left m t s xs i x v e more x.seats tells (level_entry i y b) noted room;
+        room = room-left m t s xs i x v e more x.seats tells (settled_entry i y b) noted room;
         names = names-kept xs i x then_told there refl;
         main = main-kept xs i x then_told there (sym (ap (λ (o : Option View). is_none o) is_open));
       })

@@ -6,9 +6,9 @@ use Rattle.std.specs.Prelude.{Vec, ◌≡◌, ◌≢◌, refl, ℕ, ◌<◌, ◌
 use Rattle.std.proofs.Common.{ap, append-nil, arith, inl, subst, sym, ◌∙◌}
 use Rattle.std.proofs.lemmas.List.{length-set}
 use Rattle.std.proofs.lemmas.Option.{none-some, same_Some, slice_get_within}
+use Rattle.tv_lemmas.specs.Members.{In}
 use Rattle.tv_check.specs.RunViews.{run_view}
 use Rattle.tv_pool.specs.Pool.{number_of, regions_with}
-use Rattle.tv_model.specs.Members.{In}
 use Rattle.tv_model.proofs.Tests.{true≠false}
 use Rattle.tv_outputs.specs.Known.{Nodes}
 use Rattle.tv_framing.specs.Views.{View}

@@ -20,7 +20,7 @@ use Rattle.tv_seats.specs.declared.stage.Stage.TheVariants as stage
 use Rattle.tv_forest.specs.Entries.{seated, with_instance}
 use Rattle.tv_forest.specs.Forest.{Instance, Instances}
 use Rattle.tv_forest.proofs.OfLists.{at-set, of-set, one-at, same-number}
-use Rattle.tv_firsts.specs.Opening.{IsStill}
+use Rattle.tv_forest.specs.firsts.Opening.{IsStill}
 use Rattle.tv_open.specs.Standing.{IsOpen, job_of}
 use Rattle.tv_open.specs.Tries.{HasStage}
 use Rattle.tv_open.proofs.OfTries.{kept-with, quiet-staged}

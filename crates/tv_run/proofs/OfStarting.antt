@@ -3,6 +3,7 @@ use Rattle.std.specs.Prelude.{◌≡◌, refl, ℕ, ◌+◌, ◌<◌, ◌≤◌,
 use Rattle.std.proofs.Common.{ap, arith, inl, inr, subst, sym, ◌∙◌}
 use Rattle.std.proofs.lemmas.Option.{none-some, same_Some}
 use Rattle.std.proofs.lemmas.Simd.{map-map}
+use Rattle.tv_lemmas.specs.Members.{In}
 use Rattle.tv_lemmas.proofs.Lists.{get-within}
 use Rattle.tv_value.specs.Orders.{named}
 use Rattle.tv_value.specs.Values.{Name, Value}
@@ -24,22 +25,21 @@ use Rattle.tv_model.specs.Agreeing.{FlowAgrees}
 use Rattle.tv_model.specs.Jobs.{Job}
 use Rattle.tv_model.specs.Lists.{first_of_list}
 use Rattle.tv_model.specs.Meanings.{meaning}
-use Rattle.tv_model.specs.Members.{In}
 use Rattle.tv_model.specs.RightDepths.{HaveTheseDepths}
 use Rattle.tv_model.specs.Turns.{is_bounced}
 use Rattle.tv_model.proofs.Tests.{true≠false}
 use Rattle.tv_history.specs.Histories.{is_settled}
 use Rattle.tv_history.specs.ReadOff.{has_failed}
-use Rattle.tv_outcomes.proofs.Read.{documents-have_activities}
-use Rattle.tv_outcomes.proofs.Tried.{document-tried}
-use Rattle.tv_going.specs.Stated.{IsMainFlow}
-use Rattle.tv_going.proofs.OfStarts.{inputs-are_in_order}
-use Rattle.tv_seated.specs.GoingOn.{IsNew}
-use Rattle.tv_standing.specs.States.{AreNamesOfJobs}
+use Rattle.tv_history.proofs.activities.Read.{documents-have_activities}
+use Rattle.tv_history.proofs.activities.Tried.{document-tried}
+use Rattle.tv_forest.specs.runs.Stated.{IsMainFlow}
+use Rattle.tv_forest.proofs.runs.OfStarts.{inputs-are_in_order}
+use Rattle.tv_forest.specs.seats.GoingOn.{IsNew}
+use Rattle.tv_forest.specs.stands.States.{AreNamesOfJobs}
 use Rattle.tv_forest.specs.Entries.{main_of}
 use Rattle.tv_forest.specs.Forest.{Instance, IsAt, Stand, names_by}
 use Rattle.tv_forest.proofs.OfStart.{starting}
-use Rattle.tv_firsts.proofs.OfNames.{names-of_instances}
+use Rattle.tv_forest.proofs.firsts.OfNames.{names-of_instances}
 use Rattle.tv_entries.specs.Runs.{IsLegalRun, Run, instances_of, past_of}
 use Rattle.tv_entries.specs.declared.entry.Entry.{Entry}
 use Rattle.tv_open.specs.declared.open.Open.{Open}

@@ -7,7 +7,7 @@ use Rattle.tv_lemmas.proofs.Cases.{on_either}
 use Rattle.tv_value.specs.Values.{Name}
 use Rattle.tv_gate.specs.Outcomes.{Giving}
 use Rattle.tv_flow.specs.Flows.{Document, Flow, Step}
-use Rattle.tv_depths.specs.Ranks.{ranked}
+use Rattle.tv_instance.specs.Ranks.{ranked}
 use Rattle.tv_check.specs.RunViews.{run_view}
 use Rattle.tv_instance.specs.ByResults.{last_first}
 use Rattle.tv_instance.specs.Counting.{have_ended_by}
@@ -18,15 +18,15 @@ use Rattle.tv_history.specs.Entries.{History}
 use Rattle.tv_history.specs.Histories.{is_ready}
 use Rattle.tv_framing.specs.Answers.{after_of}
 use Rattle.tv_framing.specs.Views.{View}
-use Rattle.tv_drawn.specs.Steps.{IsStepAt}
+use Rattle.tv_framing.specs.matches.Steps.{IsStepAt}
 use Rattle.tv_frame.specs.Tables.{levels_in}
 use Rattle.tv_seats.specs.Seats.{Seat}
 use Rattle.tv_seats.specs.Stages.{is_waiting}
 use Rattle.tv_seats.specs.declared.stage.Stage.{Stage}
 use Rattle.tv_seats.specs.declared.stage.Stage.TheVariants as stage
-use Rattle.tv_seated.specs.Seated.{IsStage}
-use Rattle.tv_standing.specs.States.{StandsAt}
-use Rattle.tv_standing.proofs.OfStates.{states-by_seats}
+use Rattle.tv_forest.specs.seats.Seated.{IsStage}
+use Rattle.tv_forest.specs.stands.States.{StandsAt}
+use Rattle.tv_forest.proofs.stands.OfStates.{states-by_seats}
 use Rattle.tv_forest.specs.Forest.{Instance, Instances}
 use Rattle.tv_entries.specs.Calls.{job_of, state_after, state_of, try_if_out, try_out}
 use Rattle.tv_entries.specs.Runs.{meant, past_of}
@@ -89,13 +89,13 @@ module _ (gives : Giving) (r : OpenRun) (xs : Instances) (st : Stands gives r xs
 
     -- whether that try of it is out
     pub out-of_job : (a u : ℕ)
-        → is_at (Some s.stage) a u ≡ is_some (option_and_then (try_out m past a u) (job_of gives (run_of r) k))
+        → is_at (Some s.stage) a u ≡ is_some (option_and_then (try_out past a u) (job_of gives (run_of r) k))
     out-of_job a u =
         by x.view refl
         ∙ sym
-        (ap (λ (o : Option Job). is_some (option_and_then (try_out m past a u) o)) (job-is gives r xs st k i n x s j is))
+        (ap (λ (o : Option Job). is_some (option_and_then (try_out past a u) o)) (job-is gives r xs st k i n x s j is))
       where
-        by : (o : Option View) → x.view ≡ o → is_at (Some s.stage) a u ≡ is_some (try_out m past a u j)
+        by : (o : Option View) → x.view ≡ o → is_at (Some s.stage) a u ≡ is_some (try_out past a u j)
         by None e =
             ap (λ y. is_at (Some y) a u) (settled-there gives r xs st k i n x s j is e)
             ∙ not-out m past j a u (settled-now e).1
@@ -146,7 +146,7 @@ module _ (gives : Giving) (r : OpenRun) (xs : Instances) (st : Stands gives r xs
       (λ h.
       ap (λ o. is_at o t.activity t.attempt) (no-stage r t.job h)
       ∙ sym
-      (ap (λ (o : Option Job). is_some (option_and_then (try_out m past t.activity t.attempt) o))
+      (ap (λ (o : Option Job). is_some (option_and_then (try_out past t.activity t.attempt) o))
       (no-job gives r xs st t.job h)))
 
   -- ---- jobs of open instances

@@ -2,12 +2,12 @@
 use Rattle.std.specs.Option.{option_map_or}
 use Rattle.std.specs.Prelude.{◌≡◌, refl, ℕ, zero, suc, ◌==◌, ◌&&◌, ◌||◌, true, false, if◌then◌else◌, List, [], ◌∷◌, Some, slice_get}
 use Rattle.std.proofs.Common.{ap, subst, sym, ◌∙◌}
-use Rattle.tv_lemmas.proofs.Tests.{or-second}
+use Rattle.std.proofs.lemmas.Bool.{or_parts}
 use Rattle.tv_value.specs.Nested.{Place}
 use Rattle.tv_value.specs.Values.{JobName, Name}
 use Rattle.tv_flow.specs.Flows.{Flow, Step}
 use Rattle.tv_strategy.specs.Origins.{Known, Origin, at_start, by_job, by_level}
-use Rattle.tv_depths.specs.Ranks.{is_among, ranked}
+use Rattle.tv_instance.specs.Ranks.{is_among, ranked}
 use Rattle.tv_instance.specs.ByResults.{InstanceStep, last_first}
 use Rattle.tv_instance.specs.Counting.{count_whole, have_ended_by, whole_by}
 use Rattle.tv_instance.specs.Events as events
@@ -16,16 +16,16 @@ use Rattle.tv_instance.specs.Legality.{HasSources, IsFresh, IsLegalNext, node_of
 use Rattle.tv_model.proofs.Tests.{true≠false}
 use Rattle.tv_framing.specs.Answers.{IsReadyJob, after_of, is_settlement}
 use Rattle.tv_framing.specs.Views.{View}
-use Rattle.tv_going.specs.Follows.{Follows}
+use Rattle.tv_forest.specs.runs.Follows.{Follows}
 use Rattle.tv_seats.specs.Seats.{Seat, staged, with_stage}
 use Rattle.tv_seats.specs.Stages.{is_waiting}
 use Rattle.tv_seats.specs.declared.stage.Stage.{Stage}
 use Rattle.tv_seats.proofs.Staging.{staged-here, staged-other}
-use Rattle.tv_seated.specs.Seated.{spot_of}
-use Rattle.tv_forest.specs.Entries.{told}
+use Rattle.tv_forest.specs.seats.Seated.{spot_of}
+use Rattle.tv_forest.specs.Entries.{with_view}
 use Rattle.tv_forest.specs.Forest.{Instance}
 use Rattle.tv_forest.proofs.OfLists.{one-at, same-number}
-use Rattle.tv_firsts.specs.Opening.{IsStill}
+use Rattle.tv_forest.specs.firsts.Opening.{IsStill}
 
 -- ---- a job that is taken makes nothing known
 
@@ -80,7 +80,7 @@ module _ (levels : Flow → Name → ℕ) (x : Instance) (v : View) (n : ℕ) (s
       absurd (true≠false (sym waits ∙ ap (λ (z : Seat). is_waiting z.stage) here ∙ rests)))
       (λ ne. sym (staged-other x.seats n s y there m ne) ∙ at)
 
-  pub still-staged : IsStill levels (told x v (with_stage n y x.seats)) v
+  pub still-staged : IsStill levels (with_view x v (with_stage n y x.seats)) v
   still-staged = record {
     bounces = λ m u at ready. still.bounces m u (waited m u at ready.0) ready;
     settles = still.settles;
@@ -94,13 +94,13 @@ module _ (levels : Flow → Name → ℕ) (x : Instance) (v : View) (n : ℕ) (s
 
     ready-before : (j : Name × Place) → IsReadyJob (levels x.flow) later j → IsReadyJob (levels x.flow) v j
     ready-before j h = record {
-      idle = or-second (is_spot j.0 j.1 t r) (is_taken v.events j.0 j.1) h.idle;
+      idle = (or_parts (is_spot j.0 j.1 t r) (is_taken v.events j.0 j.1) h.idle).1;
       without_result = h.without_result;
       after =
           sym (ended-so t r v.events (levels x.flow) (last_first (ranked v.flow.steps) []) (after_of v j.0)) ∙ h.after;
     }
 
-    still-then : IsStill levels (told x later (with_stage n y x.seats)) later
+    still-then : IsStill levels (with_view x later (with_stage n y x.seats)) later
     still-then = record {
       bounces = λ m u at ready.
           still.bounces m u (waited m u at ready.0) (ready.0, ready-before (spot_of x.flow.steps u) ready.1);
@@ -110,9 +110,9 @@ module _ (levels : Flow → Name → ℕ) (x : Instance) (v : View) (n : ℕ) (s
     }
 
   pub still-taken : (w : View) (t : Name) (r : Place) → Follows v w (took t r)
-      → IsStill levels (told x w (with_stage n y x.seats)) w
+      → IsStill levels (with_view x w (with_stage n y x.seats)) w
   still-taken w t r f =
-      subst (λ z. IsStill levels (told x z (with_stage n y x.seats)) z) (sym is-then) (still-then t r w.jobs)
+      subst (λ z. IsStill levels (with_view x z (with_stage n y x.seats)) z) (sym is-then) (still-then t r w.jobs)
     where
       is-then : w ≡ record v { events = took t r ∷ v.events; jobs = w.jobs }
       is-then = λ i. record { flow = f.flow i; inputs = f.inputs i; events = f.events i; jobs = w.jobs }

@@ -24,13 +24,13 @@ use Rattle.tv_seats.specs.Seats.{Seat, staged, stands, with_stage}
 use Rattle.tv_seats.specs.Stages.{is_aside, is_idle, is_waiting}
 use Rattle.tv_seats.specs.declared.stage.Stage.{Stage}
 use Rattle.tv_seats.proofs.Staging.{as-set, one, set-other, staged-count}
-use Rattle.tv_seated.specs.GoingOn.{GoesOn}
-use Rattle.tv_seated.specs.Seated.{spot_of}
-use Rattle.tv_seated.proofs.OfLists.{same-images}
-use Rattle.tv_forest.specs.Entries.{told}
+use Rattle.tv_forest.specs.seats.GoingOn.{GoesOn}
+use Rattle.tv_forest.specs.seats.Seated.{spot_of}
+use Rattle.tv_forest.proofs.seats.OfLists.{same-images}
+use Rattle.tv_forest.specs.Entries.{with_view}
 use Rattle.tv_forest.specs.Forest.{Instance, Instances}
 use Rattle.tv_forest.proofs.OfLists.{at-set, one-at}
-use Rattle.tv_firsts.specs.Opening.{IsStill}
+use Rattle.tv_forest.specs.firsts.Opening.{IsStill}
 use Rattle.tv_open.specs.Events.{IsTaken}
 use Rattle.tv_open.specs.Standing.{IsOpen, job_of}
 use Rattle.tv_open.specs.declared.open.Open.{Open}
@@ -184,9 +184,9 @@ module _ (r : OpenRun) (i : ℕ) (xs : Instances) (x : Instance) (v : View) (her
         by true b c e = e
         by false b c e = refl
 
-    fewer : (w : View) → due_in (told x w moved) + 1 ≡ due_in x
+    fewer : (w : View) → due_in (with_view x w moved) + 1 ≡ due_in x
     fewer w =
-        let c : due_in (told x w moved) + one (is_due h.seat.stage) ≡ due_in x + one (is_due y) =
+        let c : due_in (with_view x w moved) + one (is_due h.seat.stage) ≡ due_in x + one (is_due y) =
         staged-count x.seats n h.seat y h.there (λ s. is_due s.stage) in
         let was : one (is_due h.seat.stage) ≡ 1 = ap one h.due in
         let is : one (is_due y) ≡ 0 = ap one rests in
@@ -194,7 +194,7 @@ module _ (r : OpenRun) (i : ℕ) (xs : Instances) (x : Instance) (v : View) (her
 
     pub some-due : 1 ≤ r.due
     some-due =
-        let sum = sum-set due_in xs i x (told x v moved) here.there in
+        let sum = sum-set due_in xs i x (with_view x v moved) here.there in
         let less = fewer v in
         let due = here.fits.due_is in
         omega (arith, sum, less, due)
@@ -266,14 +266,14 @@ module _ (r : OpenRun) (i : ℕ) (xs : Instances) (x : Instance) (v : View) (her
       went-on : (t : Seat) → slice_get x.seats n ≡ Some t → is_waiting t.stage ≡ false → w ≡ v
       went-on t is waits = taken.went_on t (ap (λ l. slice_get l n) seats-are ∙ is) waits
 
-      still : IsStill levels_in x v → IsStill levels_in (told x w moved) w
+      still : IsStill levels_in x v → IsStill levels_in (with_view x w moved) w
       still was =
           on_test (is_waiting h.seat.stage)
           (λ waits.
           still-taken levels_in x v n h.seat y h.there not-waits was w (spot_of x.flow.steps h.seat).0 h.seat.place
           (waited h.seat h.there waits).follows)
           (λ waits.
-          subst (λ z. IsStill levels_in (told x z moved) z) (sym (went-on h.seat h.there waits))
+          subst (λ z. IsStill levels_in (with_view x z moved) z) (sym (went-on h.seat h.there waits))
           (still-staged levels_in x v n h.seat y h.there not-waits was))
 
       open-then : (other : FlowPlan) → flow_view other.flow ≡ x.flow → IsOpen (run_view s.run) other s.pool p w
@@ -282,7 +282,7 @@ module _ (r : OpenRun) (i : ℕ) (xs : Instances) (x : Instance) (v : View) (her
           (subst (λ q. IsOpen (run_view r.run) other q p w) (sym at.pool)
           (open-any (run_view r.run) plan other r.pool p w (f ∙ sym flow-then) taken.is_open))
 
-      life : (g : code.Instance) → slice_get s.instances.items i ≡ Some g → IsLife s g (told x w moved) (Some w)
+      life : (g : code.Instance) → slice_get s.instances.items i ≡ Some g → IsLife s g (with_view x w moved) (Some w)
       life g is =
           let new = e-is g is in
           record {
@@ -304,7 +304,7 @@ module _ (r : OpenRun) (i : ℕ) (xs : Instances) (x : Instance) (v : View) (her
           (λ k ne. λ j. frame_in (moves.others.others k ne j))
           (record { live = λ q live. live; others = λ q ne. refl }))
 
-      to : IsMovedTo r s i x (told x w moved)
+      to : IsMovedTo r s i x (with_view x w moved)
       to = record {
         name = refl;
         flow = refl;
@@ -326,7 +326,7 @@ module _ (r : OpenRun) (i : ℕ) (xs : Instances) (x : Instance) (v : View) (her
         went_on = went-on;
         names = names-same;
         changes = record {
-          fits = fits-moved r s i moves xs x (told x w moved) here.fits here.there to;
+          fits = fits-moved r s i moves xs x (with_view x w moved) here.fits here.there to;
           more = [];
           names = names-same ∙ sym (append-nil (names_of r));
           rest = record { run = at.run; entries = at.entries; failed = at.failed; outs = at.outs };

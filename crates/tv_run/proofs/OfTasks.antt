@@ -14,18 +14,17 @@ use Rattle.tv_flow.specs.declared.document.Activity.{Activity as CodeActivity}
 use Rattle.tv_flow.specs.declared.document.Step.{Step as CodeStep}
 use Rattle.tv_check.specs.RunViews.{run_view}
 use Rattle.tv_dispatch.specs.Jobs.{Ask}
-use Rattle.tv_depths.specs.Steps.{declared_depths}
+use Rattle.tv_instance.specs.Steps.{declared_depths}
 use Rattle.tv_model.specs.Jobs.{Job}
 use Rattle.tv_history.specs.Entries.{History}
 use Rattle.tv_framing.specs.Answers.{AreInputs}
 use Rattle.tv_frame.specs.Tables.{levels_in}
 use Rattle.tv_frame.proofs.OfBinding.{named-there}
-use Rattle.tv_seated.specs.Seated.{spot_of}
-use Rattle.tv_seated.proofs.OfLists.{get-image}
-use Rattle.tv_standing.proofs.OfTold.{steps-rise}
-use Rattle.tv_viewed.proofs.OfLaws.{inputs-are_told}
+use Rattle.tv_forest.specs.seats.Seated.{spot_of}
+use Rattle.tv_forest.proofs.stands.OfTold.{steps-rise}
+use Rattle.tv_forest.proofs.views.OfLaws.{inputs-are_told}
 use Rattle.tv_forest.specs.Forest.{Instances}
-use Rattle.tv_firsts.proofs.OfFlows.{flows-by_names}
+use Rattle.tv_forest.proofs.firsts.OfFlows.{flows-by_names}
 use Rattle.tv_entries.specs.Answers.{Question}
 use Rattle.tv_entries.specs.Calls.{IsOther, IsTask, try_if_out}
 use Rattle.tv_entries.specs.Declarations.{declared_for, declared_outputs}
@@ -38,6 +37,7 @@ use Rattle.tv_run.specs.declared.run.OpenRun.{OpenRun}
 use Rattle.tv_run.proofs.OfAskedOut.{IsAskedOut, ask-is, at-step, is-its, sit, step-there}
 use Rattle.tv_run.proofs.OfJobs.{open-is, spot-is}
 use Rattle.tv_run.proofs.OfNumbers.{job-is}
+use Rattle.tv_lemmas.proofs.Lists.{get-map}
 
 abbrev name_of_service : Activity → Name
 name_of_service (service n) = n
@@ -73,7 +73,7 @@ module _ (gives : Giving) (r : OpenRun) (xs : Instances) (st : Stands gives r xs
         → activity_view a ≡ service k.service
     activity-is a h =
         same_Some (activity_view a) (service k.service)
-        (sym (get-image activity_view s.activities t.activity a h)
+        (sym (get-map activity_view s.activities t.activity a h)
         ∙ ap (λ (x : Step). slice_get x.activities t.activity) (its-step (step_view s) e)
         ∙ service-there)
 

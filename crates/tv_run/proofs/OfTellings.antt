@@ -12,13 +12,13 @@ use Rattle.tv_model.specs.Made.{Meaning}
 use Rattle.tv_model.proofs.Tests.{true≠false}
 use Rattle.tv_history.specs.Entries.{History, is_out}
 use Rattle.tv_history.specs.Histories.{has_open_instance, is_ask, is_ready, is_running, is_settled, next_ask}
-use Rattle.tv_outcomes.specs.Activities.{last_activity}
+use Rattle.tv_history.specs.activities.Activities.{last_activity}
 use Rattle.tv_framing.specs.Views.{View}
 use Rattle.tv_seats.specs.Stages.{is_waiting}
 use Rattle.tv_seats.specs.declared.stage.Stage.{Stage}
 use Rattle.tv_seats.specs.declared.stage.Stage.TheVariants as stage
-use Rattle.tv_seated.specs.Seated.{IsStage}
-use Rattle.tv_standing.specs.States.{StandsAt}
+use Rattle.tv_forest.specs.seats.Seated.{IsStage}
+use Rattle.tv_forest.specs.stands.States.{StandsAt}
 use Rattle.tv_entries.specs.Calls.{idle_state, out_state, state_after, try_out}
 use Rattle.tv_entries.specs.declared.ticket.JobState.{JobState}
 use Rattle.tv_entries.specs.declared.ticket.JobState.TheVariants as state
@@ -55,10 +55,10 @@ module _ (m : Meaning) (past : History) (j : Job) where
   pub settled-is : is_settled past j ≡ true → state_after m past j ≡ state.Settled
   settled-is w =
       λ i. by_tests (w i) (is_out past j.name) (has_open_instance past j) (is_running past j) ready_now
-      (out_state m past j) (idle_state m past j)
+      (out_state past j) (idle_state past j)
 
   -- no try is out of what isn't
-  pub not-out : (a t : ℕ) → is_out past j.name ≡ false → false ≡ is_some (try_out m past a t j)
+  pub not-out : (a t : ℕ) → is_out past j.name ≡ false → false ≡ is_some (try_out past a t j)
   not-out a t h =
       sym
       (λ i. is_some (if h i && option_map_or (is_ask a t) (next_ask past j) false then next_ask past j else None))
@@ -67,28 +67,28 @@ module _ (gives : Giving) (d : Document) (m : Meaning) (past : History) (levels 
     (j : Job) where
   pub state-is : (x : Stage) → StandsAt gives d past levels v n j x → state_after m past j ≡ state_by x (is_ready m past j)
   state-is stage.Waiting w =
-      λ i. by_tests (w.unsettled i) (w.out i) (w.nothing_open i) (w.running i) (is_ready m past j) (out_state m past j)
-      (idle_state m past j)
+      λ i. by_tests (w.unsettled i) (w.out i) (w.nothing_open i) (w.running i) (is_ready m past j) (out_state past j)
+      (idle_state past j)
   state-is (stage.Out a t) w =
       (λ i. by_tests (w.unsettled i) (w.out i) (w.nothing_open i) (w.running i) (is_ready m past j)
-      (out_by m past j (w.next.is_next i)) (idle_state m past j))
+      (out_by m past j (w.next.is_next i)) (idle_state past j))
       ∙ (λ i. state.Out (w.next.activity i) (w.next.attempt i))
   state-is (stage.Idle a t) w =
       (λ i. by_tests (w.unsettled i) (w.out i) (w.nothing_open i) (w.running i) (is_ready m past j)
-      (out_state m past j) (idle_by m past j (w.next.is_next i)))
+      (out_state past j) (idle_by m past j (w.next.is_next i)))
       ∙ (λ i. state.Idle (w.next.activity i) (w.next.attempt i))
   state-is (stage.Aside a) w =
       (λ i. by_tests (w.unsettled i) (w.out i) (w.nothing_open i) (w.running i) (is_ready m past j)
-      (out_state m past j) (idle_by m past j (w.none_next i)))
+      (out_state past j) (idle_by m past j (w.none_next i)))
       ∙ ap (λ b. state.Idle b 0) (sym w.after)
   state-is (stage.Nested k) w =
       λ i. by_tests (w.unsettled i) (w.out i) (w.open_inside i) (is_running past j) (is_ready m past j)
-      (out_state m past j) (idle_state m past j)
+      (out_state past j) (idle_state past j)
   state-is stage.Settled w = settled-is m past j w
 
   -- whether a try is out
   pub out-is : (a t : ℕ) (x : Stage) → IsStage past j x → StandsAt gives d past levels v n j x
-      → is_at (Some x) a t ≡ is_some (try_out m past a t j)
+      → is_at (Some x) a t ≡ is_some (try_out past a t j)
   out-is a t stage.Waiting h w = not-out m past j a t h.is_out
   out-is a t (stage.Out b u) h w =
       sym

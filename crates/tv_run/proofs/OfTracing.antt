@@ -41,7 +41,7 @@ module _ (gives : Giving) (r : OpenRun) (st : StandsStill gives r) (n : ℕ) (pl
 
   -- traces are of the flow of the main plan
   pub of-main : (t : Traces) → IsTracedBy gives r t → AreTraces gives d flow t
-  of-main t h = subst (λ f. AreTraces gives d f t) (same_Some h.0 flow (sym h.1.flow_is.main ∙ its-main)) h.1
+  of-main t h = subst (λ f. AreTraces gives d f t) (same_Some h.0 flow (sym h.1.flow_is.is_main ∙ its-main)) h.1
 
   module _ (e : Ended) (are : r.outs ≡ Some e) where
     its : OutsAre gives d (Some e) (is_none st.1.stand.main.0.view)
@@ -52,7 +52,7 @@ module _ (gives : Giving) (r : OpenRun) (st : StandsStill gives r) (n : ℕ) (pl
     -- what is kept of the main instance tells all of it
     pub levels-traced : (ls : List Level) → ls ≡ e.levels.items → IsTraced gives d flow (map level_view ls)
     levels-traced ls same = record {
-      flow_is = record { formed = st.1.stand.formed; accepted = r.run.kept.0; main = its-main };
+      flow_is = record { formed = st.1.stand.formed; accepted = r.run.kept.0; is_main = its-main };
       levels_are =
           subst (λ l. AreLevels flow (main_steps (meaning gives d)) (map level_view l)) (sym same) (its.3 flow its-main);
     }

@@ -6,13 +6,12 @@ use Rattle.std.proofs.lemmas.Option.{none-some, same_Some}
 use Rattle.std.specs.Cmp.{first_so, second_so}
 use Rattle.tv_dispatch.specs.Jobs.{Ask}
 use Rattle.tv_model.specs.Jobs.{Job}
-use Rattle.tv_model.specs.Made.{Meaning}
 use Rattle.tv_model.proofs.Tests.{true≠false}
 use Rattle.tv_history.specs.Entries.{History, is_out}
 use Rattle.tv_history.specs.Histories.{is_ask, next_ask}
 use Rattle.tv_seats.specs.declared.stage.Stage.{Stage}
 use Rattle.tv_seats.specs.declared.stage.Stage.TheVariants as stage
-use Rattle.tv_seated.specs.Seated.{IsStage}
+use Rattle.tv_forest.specs.seats.Seated.{IsStage}
 use Rattle.tv_entries.specs.Calls.{try_out}
 
 is_ask-parts : (a u : ℕ) (k : Ask) → is_ask a u k ≡ true → (a ≡ k.activity) × (u ≡ k.attempt)
@@ -28,8 +27,8 @@ pub record IsTryOut (past : History) (a u : ℕ) (j : Job) (k : Ask) : Type 0 wh
   pub activity : k.activity ≡ a
   pub attempt : k.attempt ≡ u
 
-module _ (m : Meaning) (past : History) (a u : ℕ) (j : Job) (k : Ask) where
-  pub try_out-parts : try_out m past a u j ≡ Some k → IsTryOut past a u j k
+module _ (past : History) (a u : ℕ) (j : Job) (k : Ask) where
+  pub try_out-parts : try_out past a u j ≡ Some k → IsTryOut past a u j k
   try_out-parts h = by (is_out past j.name) refl (next_ask past j) refl h
     where
       found : (x : Ask) → is_out past j.name ≡ true → next_ask past j ≡ Some x → (b : Bool) → is_ask a u x ≡ b

@@ -5,16 +5,16 @@ use Rattle.std.proofs.Common.{ap, inl, inr, subst, sym, ◌∙◌}
 use Rattle.std.proofs.lemmas.Bool.{false_from_ne_true}
 use Rattle.std.proofs.lemmas.Option.{none-some, same_Some}
 use Rattle.std.specs.Cmp.{first_so, second_so}
+use Rattle.tv_lemmas.specs.Members.{In}
 use Rattle.tv_value.specs.Orders.{same_job}
 use Rattle.tv_value.specs.Values.{JobName, Name}
 use Rattle.tv_value.proofs.OfJobNames.{same_job_decides}
 use Rattle.tv_gate.specs.Outcomes.{Giving}
 use Rattle.tv_flow.specs.Flows.{Document}
-use Rattle.tv_depths.specs.Steps.{spot}
+use Rattle.tv_instance.specs.Steps.{spot}
 use Rattle.tv_model.specs.Jobs.{Job}
 use Rattle.tv_model.specs.Made.{Meaning}
 use Rattle.tv_model.specs.Meanings.{meaning}
-use Rattle.tv_model.specs.Members.{In}
 use Rattle.tv_model.proofs.Tests.{both_true, true≠false}
 use Rattle.tv_history.specs.Entries.{History}
 use Rattle.tv_history.specs.Histories.{has_open_instance}
@@ -23,9 +23,9 @@ use Rattle.tv_history.proofs.Ready.{AnyNumber, are-jobs, document-whole}
 use Rattle.tv_order.specs.Chains.{is_inside}
 use Rattle.tv_order.proofs.OfFirst.{find-first, find-none}
 use Rattle.tv_seats.specs.Seats.{Seat}
-use Rattle.tv_seated.specs.Seated.{spot_of}
+use Rattle.tv_forest.specs.seats.Seated.{spot_of}
 use Rattle.tv_forest.specs.Forest.{Instance, Instances, IsJobAt}
-use Rattle.tv_firsts.specs.FirstWithin.{IsFirst, IsFirstWithin, IsFoundAt}
+use Rattle.tv_forest.specs.firsts.FirstWithin.{IsFirst, IsFirstWithin, IsFoundAt}
 
 -- where none is found none passes
 none-passes : {A : Type 0} (p : A → Bool) (xs : List A) → find p xs ≡ None → (y : A) → In y xs → p y ≡ false

@@ -5,6 +5,7 @@ use Rattle.std.proofs.Common.{ap, inl, inr, subst, sym, ◌∙◌}
 use Rattle.std.proofs.lemmas.Bool.{lt-ltb, ltb-true, not-true}
 use Rattle.std.proofs.lemmas.Option.{same_Some}
 use Rattle.std.specs.Cmp.{first_so, second_so}
+use Rattle.tv_lemmas.specs.Members.{In}
 use Rattle.tv_lemmas.proofs.Cases.{on_either, on_or, on_test}
 use Rattle.tv_lemmas.proofs.Tests.{from-false_true}
 use Rattle.tv_value.specs.Activities.{Activity, nested, service}
@@ -18,33 +19,32 @@ use Rattle.tv_spread.specs.Spreads.{is_faulty_now}
 use Rattle.tv_model.specs.Jobs.{Job}
 use Rattle.tv_model.specs.Made.{Meaning}
 use Rattle.tv_model.specs.Meanings.{meaning}
-use Rattle.tv_model.specs.Members.{In}
 use Rattle.tv_model.specs.Turns.{is_bounced}
 use Rattle.tv_model.proofs.Tests.{or_left, or_right, true≠false}
 use Rattle.tv_history.specs.Entries.{History}
 use Rattle.tv_history.specs.Histories.{has_open_instance, is_ready, may_go_on, next_ask}
 use Rattle.tv_history.proofs.Ready.{AnyNumber, document-whole}
-use Rattle.tv_order.specs.JobOrder.{place_before}
+use Rattle.tv_model.specs.JobOrder.{place_before}
 use Rattle.tv_order.proofs.OfFirst.{open-unsettled, opener-waits}
 use Rattle.tv_framing.specs.Views.{View}
 use Rattle.tv_frame.specs.Calls.{HoldsError}
 use Rattle.tv_frame.specs.Tables.{levels_in}
 use Rattle.tv_frame.proofs.OfJobs.{said-holds}
-use Rattle.tv_turn.proofs.OfRanks.{place-is}
+use Rattle.tv_framing.proofs.turns.OfRanks.{place-is}
 use Rattle.tv_seats.specs.Seats.{Seat, running_count, stands}
 use Rattle.tv_seats.specs.Stages.{is_aside, is_idle, is_nested, is_waiting}
 use Rattle.tv_seats.specs.declared.stage.Stage.{Stage}
 use Rattle.tv_seats.specs.declared.stage.Stage.TheVariants as stage
-use Rattle.tv_viewed.specs.Stated.{IsBoundAsTold, IsReadyAsTold}
-use Rattle.tv_viewed.proofs.OfLaws.{inputs-are_told, ready-is_told}
-use Rattle.tv_seated.specs.Seated.{IsStage, spot_of}
-use Rattle.tv_standing.specs.Offers.{GoesOnBySeat, HasNextBySeat, is_service_first}
-use Rattle.tv_standing.proofs.OfNext.{next-by_seat}
-use Rattle.tv_standing.proofs.OfOffers.{going-by_seat, ready-waits}
-use Rattle.tv_standing.proofs.OfStages.{over-is, runs-is}
+use Rattle.tv_forest.specs.views.Stated.{IsBoundAsTold, IsReadyAsTold}
+use Rattle.tv_forest.proofs.views.OfLaws.{inputs-are_told, ready-is_told}
+use Rattle.tv_forest.specs.seats.Seated.{IsStage, spot_of}
+use Rattle.tv_forest.specs.stands.Offers.{GoesOnBySeat, HasNextBySeat, is_service_first}
+use Rattle.tv_forest.proofs.stands.OfNext.{next-by_seat}
+use Rattle.tv_forest.proofs.stands.OfOffers.{going-by_seat, ready-waits}
+use Rattle.tv_forest.proofs.stands.OfStages.{over-is, runs-is}
 use Rattle.tv_forest.specs.Forest.{Instance, Instances, IsAt, IsJobAt}
-use Rattle.tv_firsts.specs.FirstWithin.{GoesOnBy}
-use Rattle.tv_firsts.proofs.OfQuiet.{going-by_next}
+use Rattle.tv_forest.specs.firsts.FirstWithin.{GoesOnBy}
+use Rattle.tv_forest.proofs.firsts.OfQuiet.{going-by_next}
 use Rattle.tv_entries.specs.Runs.{past_of}
 use Rattle.tv_open.specs.Events.{WaitsReady}
 use Rattle.tv_open.specs.Firsts.{BindsFault, CanBegin, GoesOnAt, IsReadySeat, asides}

@@ -4,7 +4,7 @@ use Rattle.std.proofs.Common.{ap, arith, inl, inr, length-append, subst, sym, â—
 use Rattle.std.proofs.lemmas.Bool.{false_from_ne_true, ltb-false, ltb-true}
 use Rattle.std.proofs.lemmas.Option.{same_Some, slice_get_within}
 use Rattle.tv_lemmas.proofs.Cases.{on_test}
-use Rattle.tv_lemmas.proofs.Lists.{get-within}
+use Rattle.tv_lemmas.proofs.Lists.{get-within, in-front}
 use Rattle.tv_value.specs.Nested.{Place}
 use Rattle.tv_value.specs.Values.{JobName, Name}
 use Rattle.tv_gate.specs.Outcomes.{Giving}
@@ -12,19 +12,18 @@ use Rattle.tv_check.specs.RunViews.{run_view}
 use Rattle.tv_model.specs.Jobs.{Job}
 use Rattle.tv_model.proofs.Tests.{trueâ‰ false}
 use Rattle.tv_history.specs.Entries.{History}
-use Rattle.tv_order.specs.JobOrder.{place_before}
+use Rattle.tv_model.specs.JobOrder.{place_before}
 use Rattle.tv_order.proofs.OfDocuments.{name-length}
 use Rattle.tv_order.proofs.OfStill.{inside-parts}
 use Rattle.tv_framing.specs.Views.{View}
 use Rattle.tv_frame.specs.Tables.{levels_in}
-use Rattle.tv_turn.specs.FirstReady.{by_falling_rank}
+use Rattle.tv_framing.specs.turns.FirstReady.{by_falling_rank}
 use Rattle.tv_seats.specs.Seats.{Seat}
-use Rattle.tv_seated.proofs.OfLists.{in-front}
-use Rattle.tv_standing.specs.Offers.{ComesNotBefore}
+use Rattle.tv_forest.specs.stands.Offers.{ComesNotBefore}
 use Rattle.tv_forest.specs.Forest.{Instance, Instances, IsAt, IsJobAt}
-use Rattle.tv_firsts.specs.FirstWithin.{IsFirstOfSeats, IsFirstWithin, IsFoundAt, Passing}
-use Rattle.tv_firsts.proofs.OfFirsts.{first-by_seats}
-use Rattle.tv_firsts.proofs.OfHistories.{first-of_all_jobs}
+use Rattle.tv_forest.specs.firsts.FirstWithin.{IsFirstOfSeats, IsFirstWithin, IsFoundAt, Passing}
+use Rattle.tv_forest.proofs.firsts.OfFirsts.{first-by_seats}
+use Rattle.tv_forest.proofs.firsts.OfHistories.{first-of_all_jobs}
 use Rattle.tv_entries.specs.Runs.{past_of}
 use Rattle.tv_open.specs.Quiet.{AreGoing}
 use Rattle.tv_open.specs.declared.firsts.Seeking.{Seeking}

@@ -3,7 +3,9 @@ use Rattle.std.specs.Prelude.{◌≡◌, ℕ, ◌+◌, ◌<◌, true, List, [], 
 use Rattle.std.proofs.Common.{ap, get_or, subst, sym, ◌∙◌}
 use Rattle.std.proofs.lemmas.List.{length-map}
 use Rattle.std.proofs.lemmas.Option.{get_or_from_slice_get, same_Some, slice_get_within}
-use Rattle.tv_lemmas.proofs.Lists.{get-within}
+use Rattle.tv_lemmas.specs.Members.{In}
+use Rattle.tv_lemmas.proofs.Lists.{get-within, in-behind}
+use Rattle.tv_lemmas.proofs.OfMembers.{get-in, in-slice}
 use Rattle.tv_value.specs.Values.{JobName, Name}
 use Rattle.tv_gate.specs.Outcomes.{Giving}
 use Rattle.tv_flow.specs.Flows.{Document, Flow, Step}
@@ -14,20 +16,18 @@ use Rattle.tv_check.specs.RunViews.{run_view}
 use Rattle.tv_check.specs.declared.plans.FlowPlan.{FlowPlan}
 use Rattle.tv_outputs.specs.Known.{Nodes}
 use Rattle.tv_model.specs.Jobs.{Job}
-use Rattle.tv_model.specs.Members.{In}
 use Rattle.tv_history.specs.Entries.{History}
 use Rattle.tv_framing.specs.Views.{View}
 use Rattle.tv_frame.specs.Tables.{levels_in}
 use Rattle.tv_frame.proofs.OfKeeping.{kept-wired}
 use Rattle.tv_seats.specs.Seats.{Seat}
-use Rattle.tv_turn.specs.FirstReady.{by_falling_rank}
-use Rattle.tv_turn.proofs.OfRanks.{at-in, has-number, number-of, numbers-step}
-use Rattle.tv_viewed.specs.InRun.{IsJobThere}
-use Rattle.tv_seated.specs.Seated.{Sit, spot_of}
-use Rattle.tv_seated.proofs.OfLists.{in-behind, is-member, place-of}
-use Rattle.tv_standing.specs.Seats.{IsJobOf}
-use Rattle.tv_standing.proofs.OfSeats.{seat-job}
-use Rattle.tv_standing.proofs.OfTold.{steps-rise}
+use Rattle.tv_framing.specs.turns.FirstReady.{by_falling_rank}
+use Rattle.tv_framing.proofs.turns.OfRanks.{at-in, has-number, number-of, numbers-step}
+use Rattle.tv_forest.specs.views.InRun.{IsJobThere}
+use Rattle.tv_forest.specs.seats.Seated.{Sit, spot_of}
+use Rattle.tv_forest.specs.stands.Seats.{IsJobOf}
+use Rattle.tv_forest.proofs.stands.OfSeats.{seat-job}
+use Rattle.tv_forest.proofs.stands.OfTold.{steps-rise}
 use Rattle.tv_forest.specs.Forest.{Instance, Instances, IsAt, IsJobAt, Stays}
 use Rattle.tv_entries.specs.Runs.{past_of}
 use Rattle.tv_open.specs.Quiet.{AreGoing}
@@ -91,7 +91,7 @@ module _ (gives : Giving) (r : OpenRun) (xs : Instances) (st : Stands gives r xs
 
   pub spot-known : (n : ℕ) (s : Seat) → slice_get x.seats n ≡ Some s → In (spot_of v.flow.steps s) v.jobs
   spot-known n s e =
-      is-member (spot_of v.flow.steps s) v.jobs n
+      in-slice v.jobs n (spot_of v.flow.steps s)
       (seat-job gives d past I (levels_in v.flow) v x.seats sit-there n s e).known
 
   pub step-there : (n : ℕ) (s : Seat) → slice_get x.seats n ≡ Some s
@@ -167,7 +167,7 @@ module _ (gives : Giving) (r : OpenRun) (xs : Instances) (st : Stands gives r xs
 
   within : (n k : ℕ) → slice_get (by_falling_rank v.flow) n ≡ Some k → k < length v.flow.steps
   within n k e =
-      let m = numbers-step v.flow.steps (λ s. position s.0 v.flow.steps) k (is-member k (by_falling_rank v.flow) n e) in
+      let m = numbers-step v.flow.steps (λ s. position s.0 v.flow.steps) k (in-slice (by_falling_rank v.flow) n k e) in
       let u = at-in v.flow.steps m.0 m.1 in
       subst (λ l. l < length v.flow.steps) (sym (m.2 ∙ number-of v.flow.steps u.0 m.0 rise u.1))
       (slice_get_within v.flow.steps u.0 m.0 u.1)
@@ -183,6 +183,6 @@ module _ (gives : Giving) (r : OpenRun) (xs : Instances) (st : Stands gives r xs
   turn-of n s e =
       let t = step-there n s e in
       let wired = kept-wired d.flows planned.0 r.pool there.opened.itself.frame v is-open.keeps in
-      place-of s.step (by_falling_rank v.flow)
+      get-in s.step (by_falling_rank v.flow)
       (subst (λ l. In l (by_falling_rank v.flow)) (number-of v.flow.steps s.step t.0 rise t.1)
       (has-number v.flow.steps (λ u. position u.0 v.flow.steps) rise wired.ranked s.step t.0 t.1))

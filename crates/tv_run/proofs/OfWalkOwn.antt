@@ -57,5 +57,5 @@ module _ (gives : Giving) (r : OpenRun) (xs : Instances) (st : Stands gives r xs
     pub own-is : IsOwn gives r xs k i x step o
     own-is = own-first gives r xs st i x v at told k step step-at.0 at-step limit limit-is o found
 
-    pub own-begun : IsOwnBegun gives r xs k i x v step o
+    pub own-begun : IsOwnBegun gives r xs i x o
     own-begun = own-begins gives r xs st i x v at told k step step-at.0 at-step limit limit-is o found

@@ -4,7 +4,7 @@ use Rattle.std.proofs.Common.{sym, ◌∙◌}
 use Rattle.tv_lemmas.proofs.Cases.{on_test}
 use Rattle.tv_value.specs.Nested.{Place}
 use Rattle.tv_model.proofs.Tests.{true≠false}
-use Rattle.tv_order.specs.JobOrder.{place_before}
+use Rattle.tv_model.specs.JobOrder.{place_before}
 use Rattle.tv_open.proofs.OfFirstSeats.{before-chain, before-turned}
 
 pub before-then : (p q r : Place) → place_before p q ≡ true → place_before q r ≡ true → place_before p r ≡ true

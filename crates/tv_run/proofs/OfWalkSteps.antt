@@ -12,16 +12,16 @@ use Rattle.tv_check.specs.RunViews.{run_view}
 use Rattle.tv_model.specs.Jobs.{Job}
 use Rattle.tv_model.proofs.Tests.{true≠false}
 use Rattle.tv_history.specs.Entries.{History}
-use Rattle.tv_order.specs.JobOrder.{place_before}
+use Rattle.tv_model.specs.JobOrder.{place_before}
 use Rattle.tv_framing.specs.Views.{View}
-use Rattle.tv_turn.proofs.OfRanks.{place-is}
+use Rattle.tv_framing.proofs.turns.OfRanks.{place-is}
 use Rattle.tv_seats.specs.Nested.{AreNested, IsNestedSeat}
 use Rattle.tv_seats.specs.Seats.{Seat, place_at, stage_at}
 use Rattle.tv_seats.specs.Stages.{is_nested}
 use Rattle.tv_seats.specs.declared.stage.Stage.TheVariants as stage
-use Rattle.tv_seated.specs.Seated.{spot_of}
+use Rattle.tv_forest.specs.seats.Seated.{spot_of}
 use Rattle.tv_forest.specs.Forest.{Instance, Instances, IsAt, IsJobAt, IsOpenAt}
-use Rattle.tv_firsts.specs.FirstWithin.{IsFirstWithin}
+use Rattle.tv_forest.specs.firsts.FirstWithin.{IsFirstWithin}
 use Rattle.tv_entries.specs.Runs.{past_of}
 use Rattle.tv_open.specs.Firsts.{GoesOnAt, IsFirstAt, asides, stands_before}
 use Rattle.tv_open.specs.declared.firsts.Seeking.{Seeking}
@@ -103,7 +103,7 @@ module _ (gives : Giving) (r : OpenRun) (xs : Instances) (st : Stands gives r xs
           first = λ m s l it e h. f.first m s it.seat e (passing-does m s l it e h);
         }
 
-    pub own-begins : (o : Option ℕ) → IsFirstAt x.seats Does step o → IsOwnBegun gives r xs k i x v step o
+    pub own-begins : (o : Option ℕ) → IsFirstAt x.seats Does step o → IsOwnBegun gives r xs i x o
     own-begins None none = tt
     own-begins (Some n) f =
         λ number s j is.
@@ -138,10 +138,10 @@ module _ (gives : Giving) (r : OpenRun) (xs : Instances) (st : Stands gives r xs
   module _ (own : Option ℕ) (is_own : IsOwn gives r xs k i x step own) where
     -- of those that stand before the one that passes itself, nothing is found at one whose flow isn't open
     quiet-before : (m : ℕ) (s : Seat) (l : Job) → Is m s l → s.step ≡ step → is_nested s.stage ≡ false
-        → StandsBeforeOwn gives r x s own → Found l None
+        → StandsBeforeOwn x s own → Found l None
     quiet-before m s l it e shut before = nothing-at m s l it shut (by own is_own before)
       where
-        by : (o : Option ℕ) → IsOwn gives r xs k i x step o → StandsBeforeOwn gives r x s o → passes gives r k l ≡ false
+        by : (o : Option ℕ) → IsOwn gives r xs k i x step o → StandsBeforeOwn x s o → passes gives r k l ≡ false
         by None none b = none m s l it e
         by (Some n) f b =
             false_from_ne_true (passes gives r k l)
@@ -152,18 +152,18 @@ module _ (gives : Giving) (r : OpenRun) (xs : Instances) (st : Stands gives r xs
 
     -- a seat that stands before it by its number
     own-by : (m : ℕ) (s : Seat) → slice_get x.seats m ≡ Some s → stands_before x.seats m own ≡ true
-        → StandsBeforeOwn gives r x s own
+        → StandsBeforeOwn x s own
     own-by m s e h = by own h
       where
-        by : (o : Option ℕ) → stands_before x.seats m o ≡ true → StandsBeforeOwn gives r x s o
+        by : (o : Option ℕ) → stands_before x.seats m o ≡ true → StandsBeforeOwn x s o
         by None q = tt
         by (Some n) q = λ u f. (λ l. place_before (sym (at-place m s e) l) (sym (at-place n u f) l)) ∙ q
 
-    then-own : (s t : Seat) → place_before s.place t.place ≡ true → StandsBeforeOwn gives r x t own
-        → StandsBeforeOwn gives r x s own
+    then-own : (s t : Seat) → place_before s.place t.place ≡ true → StandsBeforeOwn x t own
+        → StandsBeforeOwn x s own
     then-own s t h b = by own b
       where
-        by : (o : Option ℕ) → StandsBeforeOwn gives r x t o → StandsBeforeOwn gives r x s o
+        by : (o : Option ℕ) → StandsBeforeOwn x t o → StandsBeforeOwn x s o
         by None q = tt
         by (Some n) q = λ u f. before-then s.place t.place u.place h (q u f)
 
@@ -211,7 +211,7 @@ module _ (gives : Giving) (r : OpenRun) (xs : Instances) (st : Stands gives r xs
             ap (λ (u : Seat). place_before u.place s.place) seat ∙ before-itself s.place)
 
         -- before it nothing is found
-        none-before : None_to q → StandsBeforeOwn gives r x s own → (m : ℕ) (t : Seat) (l : Job) → Is m t l → t.step ≡ step
+        none-before : None_to q → StandsBeforeOwn x s own → (m : ℕ) (t : Seat) (l : Job) → Is m t l → t.step ≡ step
             → place_before t.place s.place ≡ true → Found l None
         none-before none own_before m t l it e b =
             on_test (is_nested t.stage)
@@ -244,7 +244,7 @@ module _ (gives : Giving) (r : OpenRun) (xs : Instances) (st : Stands gives r xs
                 (λ c. quiet-before m t l it e c before)
 
             by : (o : Option ℕ) → IsOwn gives r xs k i x step o → stands_before x.seats n o ≡ false
-                → StandsBeforeOwn gives r x t o → Found l None
+                → StandsBeforeOwn x t o → Found l None
             by None w g b = absurd (true≠false g)
             by (Some a) w g b =
                 behind w.seat
@@ -328,7 +328,7 @@ module _ (gives : Giving) (r : OpenRun) (xs : Instances) (st : Stands gives r xs
   -- ---- all of the step
 
   -- the one that passes itself, where nothing is found before it
-  own-found : (n number : ℕ) → IsOwn gives r xs k i x step (Some n) → IsOwnBegun gives r xs k i x v step (Some n)
+  own-found : (n number : ℕ) → IsOwn gives r xs k i x step (Some n) → IsOwnBegun gives r xs i x (Some n)
       → IsFoundBefore gives r xs k i x step (Some n) None → slice_get (numbers_of r) number ≡ Some (i, n)
       → IsFoundAtStep gives r xs k i x step number
   own-found n number own begins none numbered =
@@ -353,7 +353,7 @@ module _ (gives : Giving) (r : OpenRun) (xs : Instances) (st : Stands gives r xs
   own-low (Some n) own = slice_get_within x.seats n own.seat own.is_job.seat
 
   -- where nothing is found before the one that passes itself
-  pub own-or_none : (own o : Option ℕ) → IsOwn gives r xs k i x step own → IsOwnBegun gives r xs k i x v step own
+  pub own-or_none : (own o : Option ℕ) → IsOwn gives r xs k i x step own → IsOwnBegun gives r xs i x own
       → IsFoundBefore gives r xs k i x step own None → AreInRun r i own o → IsFoundOf gives r xs k i x step o
   own-or_none None o is begun none numbered =
       subst (IsFoundOf gives r xs k i x step) (sym numbered) (λ m s l it e. none m s l it e tt)

@@ -25,13 +25,13 @@ use Rattle.tv_seats.specs.Seats.{Seat}
 use Rattle.tv_seats.specs.Stages.{is_idle, is_waiting}
 use Rattle.tv_seats.specs.declared.stage.Stage.{Stage}
 use Rattle.tv_seats.specs.declared.stage.Stage.TheVariants as stage
-use Rattle.tv_tried.specs.NextTries.{IsFirst}
-use Rattle.tv_tried.proofs.OfJobs.{tried-job}
-use Rattle.tv_tried.proofs.OfNext.{first-is}
-use Rattle.tv_seated.specs.Seated.{IsNextTry, IsStage}
-use Rattle.tv_standing.proofs.OfNext.{none-accepted}
-use Rattle.tv_standing.proofs.OfOffers.{own-step}
-use Rattle.tv_standing.proofs.OfStates.{not-begun}
+use Rattle.tv_forest.specs.tries.NextTries.{IsFirst}
+use Rattle.tv_forest.proofs.tries.OfJobs.{tried-job}
+use Rattle.tv_forest.proofs.tries.OfNext.{first-is}
+use Rattle.tv_forest.specs.seats.Seated.{IsNextTry, IsStage}
+use Rattle.tv_forest.proofs.stands.OfNext.{none-accepted}
+use Rattle.tv_forest.proofs.stands.OfOffers.{own-step}
+use Rattle.tv_forest.proofs.stands.OfStates.{not-begun}
 use Rattle.tv_forest.specs.Forest.{Instance, Instances}
 use Rattle.tv_entries.specs.Runs.{past_of}
 use Rattle.tv_open.specs.declared.firsts.Seeking.TheVariants as seeking

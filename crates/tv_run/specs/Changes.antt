@@ -14,9 +14,9 @@ use Rattle.tv_beside.specs.Beside.{SameRegion}
 use Rattle.tv_seats.specs.Seats.{Seat, room_at, step_at, with_stage}
 use Rattle.tv_seats.specs.Stages.{is_nested, is_out, is_waiting}
 use Rattle.tv_seats.specs.declared.stage.Stage.{Stage}
-use Rattle.tv_seated.specs.GoingOn.{GoesOn, IsNew}
-use Rattle.tv_seated.specs.Seated.{spot_of}
-use Rattle.tv_forest.specs.Entries.{told, with_instance}
+use Rattle.tv_forest.specs.seats.GoingOn.{GoesOn, IsNew}
+use Rattle.tv_forest.specs.seats.Seated.{spot_of}
+use Rattle.tv_forest.specs.Entries.{with_view, with_instance}
 use Rattle.tv_forest.specs.Forest.{Instance, Instances, IsAt}
 use Rattle.tv_open.specs.Events.{IsReadyToGive, IsReadyToSettleAt}
 use Rattle.tv_open.specs.declared.events.Spot.{Spot}
@@ -71,7 +71,7 @@ pub record TakesIn (r s : OpenRun) (xs : Instances) (i : ℕ) (x : Instance) (v 
         → GoesOn (run_view r.run)
         (levels_in x.flow) v view (took (spot_of x.flow.steps s).0 s.place) []
     pub went_on : (s : Seat) → slice_get x.seats n ≡ Some s → is_waiting s.stage ≡ false → view ≡ v
-    pub changes : ChangesTo r s (with_instance xs i (told x view (with_stage n y x.seats)))
+    pub changes : ChangesTo r s (with_instance xs i (with_view x view (with_stage n y x.seats)))
     pub names : names_of s ≡ names_of r
 
 -- ---- events
@@ -84,7 +84,7 @@ pub record TellsIn (r s : OpenRun) (xs : Instances) (i : ℕ) (x : Instance) (v 
   pub new : List Seat
   pub goes_on : GoesOn (run_view r.run) (levels_in x.flow) v view e new
   pub many : length new ≡ more
-  pub changes : ChangesTo r s (with_instance xs i (told x view (ss ++ new)))
+  pub changes : ChangesTo r s (with_instance xs i (with_view x view (ss ++ new)))
   -- one that was due may be settled
   pub due : s.due ≤ r.due + more
 

@@ -7,7 +7,7 @@ use Rattle.tv_flow.specs.Views.{each, flow_view}
 use Rattle.tv_flow.specs.declared.document.Flow.{Flow as CodeFlow}
 use Rattle.tv_dispatch.specs.Plans as plans
 use Rattle.tv_dispatch.specs.declared.plan.Plan.{Plan}
-use Rattle.tv_entries.specs.Runs.{first_flow}
+use Rattle.tv_model.specs.Opening.{first_nested}
 use Rattle.tv_frame.specs.Tables.{AreTables}
 use Rattle.tv_run.specs.declared.plans.FlowLook.{FlowLook}
 use Rattle.tv_run.specs.declared.plans.StepLook.{StepLook}
@@ -43,7 +43,7 @@ pub record AreFlowsOf (d : Document) (flows : List (Name × CodeFlow)) : Type 0 
 
 pub record IsStepLook (d : Document) (s : Step) (l : StepLook) : Type 0 where
   pub tries : l.tries ≡ tries_of s
-  pub opens : OpensNumber d (first_flow s.activities) l.opens
+  pub opens : OpensNumber d (first_nested s.activities) l.opens
 
 pub record AreStepLooks (d : Document) (f : Flow) (ls : List StepLook) : Type 0 where
   pub as_many : length ls ≡ length f.steps

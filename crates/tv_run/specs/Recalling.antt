@@ -1,7 +1,7 @@
 -- All tries that are out are taken back, in one open instance after another.
 use Rattle.std.specs.List.{sum_by}
 use Rattle.std.specs.Prelude.{List, Some, length, map, slice_get, ℕ, ◌<◌, ◌≡◌}
-use Rattle.tv_seats.specs.Seats.{HasBackRooms, back, out_count}
+use Rattle.tv_seats.specs.Seats.{HasBackRooms, back, seats_out}
 use Rattle.tv_open.specs.Tries.{IsSameButRooms}
 use Rattle.tv_open.specs.Turns.{AreRestarted}
 use Rattle.tv_open.specs.declared.open.Open.{Open}
@@ -11,7 +11,7 @@ use Rattle.tv_run.specs.declared.run.OpenRun.{OpenRun}
 
 -- how many are out
 abbrev pub out_in : List code.Instance → ℕ
-out_in cs = sum_by (λ (c : code.Instance). sum_by (λ (o : Open). out_count o.seats.seats)
+out_in cs = sum_by (λ (c : code.Instance). sum_by (λ (o : Open). seats_out o.seats.seats)
     c.open.items) cs
 
 -- ---- rooms

@@ -22,9 +22,10 @@ use Rattle.tv_seats.specs.Seats.{Seat}
 use Rattle.tv_seats.specs.declared.stage.Stage.{Stage}
 use Rattle.tv_seats.specs.declared.stage.Stage.TheVariants as stage
 use Rattle.tv_forest.specs.Forest.{Instance, Instances, IsAt}
-use Rattle.tv_firsts.specs.Opening.{IsStill}
+use Rattle.tv_forest.specs.firsts.Opening.{IsStill}
 use Rattle.tv_entries.specs.Calls.{Settles}
-use Rattle.tv_entries.specs.Runs.{first_flow, past_of}
+use Rattle.tv_entries.specs.Runs.{past_of}
+use Rattle.tv_model.specs.Opening.{first_nested}
 use Rattle.tv_entries.specs.declared.entry.Entry.{Entry}
 use Rattle.tv_entries.specs.declared.entry.Entry.TheVariants as entry
 use Rattle.tv_open.specs.Firsts.{BindsFault, IsReadySeat}
@@ -41,9 +42,9 @@ abbrev pub bounces_job : ℕ → Entry
 bounces_job k = entry.Bounced k
 
 -- the entry of what was settled in an instance, with its place in this box
-abbrev pub level_entry : ℕ → Settled → Box Place Global → Entry
-level_entry i (settled.Closed s q n) b = entry.Closed i s (record b { value = q }) n
-level_entry i (settled.Passed s q) b = entry.Passed i s (record b { value = q })
+abbrev pub settled_entry : ℕ → Settled → Box Place Global → Entry
+settled_entry i (settled.Closed s q n) b = entry.Closed i s (record b { value = q }) n
+settled_entry i (settled.Passed s q) b = entry.Passed i s (record b { value = q })
 
 -- ---- in one instance
 
@@ -77,8 +78,7 @@ EndsIn x v = has_ended_now (levels_in v.flow) v ≡ true
 
 -- the job of seat n of instance i, which is s, of step t, may give what instance k gives, which has ended
 pub record GivesTo (r : OpenRun) (xs : Instances) (i : ℕ) (x : Instance) (v : View) (n : ℕ)
-    (s : Seat)
-    (t : Name × Step) (k : ℕ) (y : Instance) (w : View) : Type 0 where
+    (s : Seat) (t : Name × Step) (k : ℕ) (y : Instance) (w : View) : Type 0 where
   pub seat : IsSeatHere r xs i x v n s t
   pub here : IsOpenHere r xs k y w
   pub ends : EndsIn y w
@@ -182,7 +182,7 @@ pub record IsOpenerOf (r : OpenRun) (i k : ℕ) : Type 0 where
 
 -- the flow that a step's jobs open
 abbrev pub opened_flow : Step → Option Name
-opened_flow s = first_flow s.activities
+opened_flow s = first_nested s.activities
 
 -- whether a job at this stage, with these tries, has a flow next
 abbrev pub has_flow_next : Plan → Option Stage → Bool

@@ -3,6 +3,7 @@
 use Rattle.std.specs.List.{sum_by}
 use Rattle.std.specs.Option.{option_map_or}
 use Rattle.std.specs.Prelude.{Bool, List, None, Option, Some, [], count_by, false, filter, is_none, is_some, length, map, option_and_then, option_map, slice_get, true, vec_capacity, ℕ, ◌+◌, ◌++◌, ◌<◌, ◌∷◌, ◌≡◌, ◌≤◌, ◌||◌}
+use Rattle.tv_lemmas.specs.Members.{In}
 use Rattle.tv_value.specs.Values.{JobName, Name}
 use Rattle.tv_gate.specs.Outcomes.{Giving}
 use Rattle.tv_strategy.specs.Origins.{plain}
@@ -14,7 +15,6 @@ use Rattle.tv_cell.specs.PieceValues.{piece_values}
 use Rattle.tv_cell.specs.Soundness.{AreSound}
 use Rattle.tv_model.specs.Jobs.{Job}
 use Rattle.tv_model.specs.Meanings.{meaning}
-use Rattle.tv_model.specs.Members.{In}
 use Rattle.tv_history.specs.Histories.{is_settled}
 use Rattle.tv_history.specs.ReadOff.{has_failed}
 use Rattle.tv_framing.specs.Views.{View}
@@ -25,9 +25,9 @@ use Rattle.tv_seats.specs.Seats.{Seat}
 use Rattle.tv_seats.specs.Tables.{Rows}
 use Rattle.tv_seats.specs.Stages.{is_aside, is_idle, is_waiting}
 use Rattle.tv_seats.specs.declared.stage.Stage.{Stage}
-use Rattle.tv_seated.specs.Seated.{AreAtSteps, spot_of}
+use Rattle.tv_forest.specs.seats.Seated.{AreAtSteps, spot_of}
 use Rattle.tv_forest.specs.Forest.{AreNumbered, Instance, Instances, IsAt, Stand, TellsNumbers, names_by}
-use Rattle.tv_firsts.specs.Opening.{IsStill}
+use Rattle.tv_forest.specs.firsts.Opening.{IsStill}
 use Rattle.tv_entries.specs.Runs.{IsLegalRun, Run, instances_of, meant, past_of}
 use Rattle.tv_open.specs.Standing.{IsOpen}
 use Rattle.tv_open.specs.declared.open.Open.{Open}

@@ -1,14 +1,13 @@
 -- What was made of what in a run that is done, and the settled jobs of one that goes on.
-use Rattle.std.specs.Prelude.{◌≡◌, Bool, true, false, List, filter, map}
+use Rattle.std.specs.Prelude.{◌≡◌, true, List, filter, map}
 use Rattle.tv_gate.specs.Outcomes.{Giving}
 use Rattle.tv_flow.specs.Flows.{Flow}
 use Rattle.tv_check.specs.RunViews.{run_view}
 use Rattle.tv_history.specs.Histories.{is_done}
 use Rattle.tv_entries.specs.Runs.{past_of}
 use Rattle.tv_seats.specs.Seats.{Seat}
-use Rattle.tv_seats.specs.declared.stage.Stage.{Stage}
-use Rattle.tv_seats.specs.declared.stage.Stage.TheVariants as stage
-use Rattle.tv_marked.specs.Seen.{Spot}
+use Rattle.tv_forest.specs.stands.Seats.{is_over}
+use Rattle.tv_traces.specs.Seen.{Spot}
 use Rattle.tv_traces.specs.Traced.{AreTraces}
 use Rattle.tv_traces.specs.declared.traces.Traces.{Traces}
 use Rattle.tv_run.specs.Standing.{StandsStill, run_of}
@@ -25,10 +24,6 @@ StandsTraced gives r t = StandsStill gives r × (is_done (past_of (run_of r)) �
 
 -- ---- settled jobs
 
-abbrev pub is_settled_stage : Stage → Bool
-is_settled_stage stage.Settled = true
-is_settled_stage x = false
-
 -- the settled ones among the jobs of these seats
 abbrev pub settled_spots : List Seat → List Spot
-settled_spots ss = map (λ s. (s.step, s.place)) (filter (λ s. is_settled_stage s.stage) ss)
+settled_spots ss = map (λ s. (s.step, s.place)) (filter (λ s. is_over s.stage) ss)

@@ -3,7 +3,7 @@ use Rattle.std.specs.Prelude.{Bool, None, Option, Some, ◌≡◌, false, true, 
 use Rattle.tv_gate.specs.Outcomes.{Giving, Outcome}
 use Rattle.tv_frame.specs.Calls.{SameRegions}
 use Rattle.tv_entries.specs.Answers.{Question}
-use Rattle.tv_entries.specs.Calls.{IsNothingOffered, IsTask, NothingSettles, Settles, hands_out, out_count, state_of, try_if_out}
+use Rattle.tv_entries.specs.Calls.{IsNothingOffered, IsTask, NothingSettles, Settles, hands_out, out_now, state_of, try_if_out}
 use Rattle.tv_entries.specs.Refusals.{IsAccepting}
 use Rattle.tv_entries.specs.Runs.{Appends, Run}
 use Rattle.tv_run.specs.Standing.{StandsOpen, StandsStill, run_of}
@@ -48,15 +48,15 @@ module _ (gives : Giving) where
   -- all tries that were out are taken back
   pub record RecallsTo (r s : OpenRun) (n : ℕ) : Type 0 where
     pub stands : StandsOpen gives s
-    pub count : n ≡ out_count gives (run_of r)
+    pub count : n ≡ out_now gives (run_of r)
     pub recalled : IsRecalled (run_of r) (run_of s) n
     pub names : (run_of s).names ≡ (run_of r).names
     pub idle : AreIdle gives (run_of r) (run_of s)
-    pub none_out : out_count gives (run_of s) ≡ 0
+    pub none_out : out_now gives (run_of s) ≡ 0
 
   -- nothing is out, and nothing more can be done
   pub record IsOver (r : Run) : Type 0 where
-    pub none_out : out_count gives r ≡ 0
+    pub none_out : out_now gives r ≡ 0
     pub nothing_offered : IsNothingOffered gives r
     pub nothing_settles : NothingSettles gives r
     pub no_state_out : (k a t : ℕ) → state_of gives r k ≡ state.Out a t → ⊥

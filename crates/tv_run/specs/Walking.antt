@@ -10,14 +10,14 @@ use Rattle.tv_dispatch.specs.declared.plan.Plan.{Plan}
 use Rattle.tv_model.specs.Jobs.{Job}
 use Rattle.tv_history.specs.Entries.{History}
 use Rattle.tv_history.specs.Histories.{next_ask}
-use Rattle.tv_order.specs.JobOrder.{place_before}
+use Rattle.tv_model.specs.JobOrder.{place_before}
 use Rattle.tv_order.specs.Moments.{all_jobs, goes_on, has_offer}
 use Rattle.tv_framing.specs.Views.{View}
 use Rattle.tv_seats.specs.Firsts.{MayGoOut, MayNest}
 use Rattle.tv_seats.specs.Seats.{Seat}
-use Rattle.tv_seated.specs.Seated.{IsNextTry}
+use Rattle.tv_forest.specs.seats.Seated.{IsNextTry}
 use Rattle.tv_forest.specs.Forest.{Instance, Instances, IsJobAt}
-use Rattle.tv_firsts.specs.FirstWithin.{IsFirst, IsFirstWithin, IsFoundAt}
+use Rattle.tv_forest.specs.firsts.FirstWithin.{IsFirst, IsFirstWithin, IsFoundAt}
 use Rattle.tv_entries.specs.Runs.{past_of}
 use Rattle.tv_entries.specs.declared.ticket.Ticket.{Ticket}
 use Rattle.tv_open.specs.Events.{WaitsReady}
@@ -32,6 +32,12 @@ use Rattle.tv_run.specs.declared.run.OpenRun.{OpenRun}
 abbrev pub passing : Giving → Document → History → Seeking → Job → Bool
 passing gives d past seeking.Offers = has_offer gives d past
 passing gives d past seeking.All = goes_on gives d past
+
+-- a seat of the step stands before that one, or there is no other
+abbrev pub StandsBeforeOwn : Instance → Seat → Option ℕ → Type 0
+StandsBeforeOwn x t None = Unit {0}
+StandsBeforeOwn x t (Some n) = (s : Seat) → slice_get x.seats n ≡ Some s
+    → place_before t.place s.place ≡ true
 
 module _ (gives : Giving) (r : OpenRun) where
   abbrev pub passes : Seeking → Job → Bool
@@ -72,9 +78,9 @@ module _ (gives : Giving) (r : OpenRun) where
   -- ---- one step
 
   -- where one passes itself, it may begin
-  abbrev pub IsOwnBegun : Instances → Seeking → ℕ → Instance → View → ℕ → Option ℕ → Type 0
-  IsOwnBegun xs s i x v step None = Unit {0}
-  IsOwnBegun xs s i x v step (Some n) =
+  abbrev pub IsOwnBegun : Instances → ℕ → Instance → Option ℕ → Type 0
+  IsOwnBegun xs i x None = Unit {0}
+  IsOwnBegun xs i x (Some n) =
       (k : ℕ) (t : Seat) (j : Job) → IsNumber xs k i n x t j → MayBegin xs k j
 
   -- of the jobs of a step of instance i that pass themselves, that of seat n has the least place
@@ -120,12 +126,6 @@ module _ (gives : Giving) (r : OpenRun) where
       (m : ℕ) (t : Seat) (l : Job) → IsJobAt gives (run_view r.run) xs i m x t l → t.step ≡ step
       → IsFoundAtJob s l None
   IsFoundOf xs s i x step (Some k) = IsFoundAtStep xs s i x step k
-
-  -- a seat of the step stands before that one, or there is no other
-  abbrev pub StandsBeforeOwn : Instance → Seat → Option ℕ → Type 0
-  StandsBeforeOwn x t None = Unit {0}
-  StandsBeforeOwn x t (Some n) = (s : Seat) → slice_get x.seats n ≡ Some s
-      → place_before t.place s.place ≡ true
 
   -- the same for those of a step that stand before one that passes itself
   abbrev pub IsFoundBefore : Instances → Seeking → ℕ → Instance → ℕ → Option ℕ → Option ℕ → Type 0

@@ -22,7 +22,7 @@ ghost use Rattle.tv_framing.specs.Answers.{AreInputs};
 ghost use Rattle.tv_framing.specs.Views.{View};
 ghost use Rattle.tv_seats.specs.Seats.{Seat, with_stage};
 ghost use Rattle.tv_seats.specs.declared.stage.Stage.TheVariants.{Aside as AnAside, Idle as AnIdle};
-ghost use Rattle.tv_seated.specs.Seated.{spot_of};
+ghost use Rattle.tv_forest.specs.seats.Seated.{spot_of};
 ghost use Rattle.tv_forest.specs.Entries.{seated, with_instance};
 ghost use Rattle.tv_forest.specs.Forest.{Instance, Instances, IsAt};
 ghost use Rattle.tv_run.specs.Changes.{IsOpenHere};
@@ -284,7 +284,9 @@ impl OpenRun {
         requires due { self.old.due < vec_capacity self.old.entries }
         ensures moved { (xs : Instances) (x : Instance) (v : View) (s : Seat)
             → IsOutHere self.old xs instance x v number s
-            → MovesTo self.old self.new (with_instance xs instance (seated x (with_stage number (AnIdle activity attempt) x.seats))) }
+            → MovesTo self.old self.new
+            (with_instance xs instance
+            (seated x (with_stage number (AnIdle activity attempt) x.seats))) }
         ensures due { self.new.due ≡ self.old.due + 1 }
     {
         self.instances[instance as usize].open[0].put_back(number, activity, attempt);
@@ -311,7 +313,9 @@ impl OpenRun {
         requires due { self.old.due < vec_capacity self.old.entries }
         ensures moved { (xs : Instances) (x : Instance) (v : View) (s : Seat)
             → IsOutHere self.old xs instance x v number s
-            → MovesTo self.old self.new (with_instance xs instance (seated x (with_stage number (AnAside activity) x.seats))) }
+            → MovesTo self.old self.new
+            (with_instance xs instance
+            (seated x (with_stage number (AnAside activity) x.seats))) }
         ensures due { self.new.due ≡ self.old.due + 1 }
     {
         self.instances[instance as usize].open[0].set_aside(number, activity);

@@ -6,7 +6,7 @@ ghost use Rattle.tv_seats.specs.Firsts.{MayGoOut};
 ghost use Rattle.tv_seats.specs.declared.stage.Stage.TheVariants.{Out as AnOut};
 ghost use Rattle.tv_open.specs.Events.{WaitsReady};
 ghost use Rattle.tv_forest.specs.Forest.{Instance, Instances};
-ghost use Rattle.tv_entries.specs.Calls.{out_count};
+ghost use Rattle.tv_entries.specs.Calls.{out_now};
 ghost use Rattle.tv_run.specs.Changes.{IsOpenHere, TakesIn};
 ghost use Rattle.tv_run.specs.Rooms.{IsAsBefore};
 ghost use Rattle.tv_run.specs.Standing.{Stands, StandsOpen, run_of};
@@ -129,7 +129,7 @@ impl OpenRun {
         ensures refused { OnErr result ((gives : Giving) → StandsOpen gives self.old
             → StaysAs gives self.old self.new) }
         ensures quiet { (gives : Giving) → StandsOpen gives self.old
-            → out_count gives (run_of self.old) ≡ 0 → IsOk result }
+            → out_now gives (run_of self.old) ≡ 0 → IsOk result }
     {
         let count = self.out_count();
         if count == 0 {

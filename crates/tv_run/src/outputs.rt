@@ -15,7 +15,7 @@ ghost use Rattle.tv_entries.specs.Calls.{totals_so_far};
 ghost use Rattle.tv_entries.specs.Counted.{is_acceptance, is_bounce};
 ghost use Rattle.tv_entries.specs.Runs.{meant, past_of};
 ghost use Rattle.tv_run.specs.Standing.{StandsStill, run_of};
-ghost use Rattle.tv_standing.specs.Seats.{is_over};
+ghost use Rattle.tv_forest.specs.stands.Seats.{is_over};
 
 use crate::run::OpenRun;
 use std::alloc::Global;
@@ -78,7 +78,8 @@ fn count_bounced(entries: &[Entry]) -> usize
     entries.iter().filter(|entry| is_bounce(entry)).count()
 }
 
-fn is_settled(stage: Option<Stage>) -> bool
+/// Whether a job that stands there is settled.
+pub(crate) fn is_settled(stage: Option<Stage>) -> bool
     ensures { result ≡ option_map_or is_over stage false }
 {
     match stage {

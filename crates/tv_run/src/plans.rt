@@ -5,7 +5,7 @@ ghost use Rattle.tv_flow.specs.Flows.{Document};
 ghost use Rattle.tv_flow.specs.Views.{activity_view, flow_view, step_view};
 ghost use Rattle.tv_check.specs.RunViews.{run_view};
 ghost use Rattle.tv_dispatch.specs.Plans.{kind_of};
-ghost use Rattle.tv_entries.specs.Runs.{first_flow};
+ghost use Rattle.tv_model.specs.Opening.{first_nested};
 ghost use Rattle.tv_run.specs.Looks.{AreFlowsOf, AreLooks, AreStepLooks, IsLook, OpensNumber, tries_of};
 
 use std::alloc::Global;
@@ -64,7 +64,7 @@ fn tries_of(alloc: Global, step: &Step) -> Result<Plan, NoMemory>
 fn opened_by(flows: &Flows, activities: &[Activity]) -> Option<u32>
     requires { (d : Document) × AreFlowsOf d flows.now }
     ensures { (d : Document) → AreFlowsOf d flows.now
-        → OpensNumber d (first_flow (map activity_view activities.now)) result }
+        → OpensNumber d (first_nested (map activity_view activities.now)) result }
 {
     for activity in activities {
         if let Activity::Nested(name) = activity {

@@ -55,7 +55,8 @@ impl OpenRun {
         requires sound { AreSound pieces }
         ensures { (xs : Instances) (x : Instance) (v : View) (s : Seat) (t : Name × Step)
             → MayBeGivenIn self.old xs instance x v number s t (piece_values pieces) spot
-            → TellsIn self.old self.new xs instance x v (gave t.0 s.place (piece_values pieces)) spot.more
+            → TellsIn self.old self.new xs instance x v
+            (gave t.0 s.place (piece_values pieces)) spot.more
             (with_stage number ASettled x.seats) }
     {
         let plan = self.run.flow(self.instances[instance as usize].flow);
@@ -71,7 +72,8 @@ impl OpenRun {
         requires sound { AreSound pieces }
         ensures { (xs : Instances) (x : Instance) (v : View) (s : Seat) (t : Name × Step)
             → MayBeBouncedIn self.old xs instance x v number s t (piece_values pieces) spot
-            → TellsIn self.old self.new xs instance x v (gave t.0 s.place (piece_values pieces)) spot.more
+            → TellsIn self.old self.new xs instance x v
+            (gave t.0 s.place (piece_values pieces)) spot.more
             (with_stage number ASettled x.seats) }
     {
         let plan = self.run.flow(self.instances[instance as usize].flow);

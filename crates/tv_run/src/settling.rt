@@ -10,7 +10,7 @@ ghost use Rattle.tv_forest.specs.Forest.{Instance, Instances};
 ghost use Rattle.tv_open.specs.Events.{TellsAt};
 ghost use Rattle.tv_run.specs.Changes.{IsOpenHere, IsReadyToSettleIn, TellsIn};
 ghost use Rattle.tv_run.specs.Rooms.{HasRoomIn};
-ghost use Rattle.tv_run.specs.Settlements.{BouncesIn, IsBouncedJob, IsOpenIn, IsReadyToSettleLevel, LeavesLast, NothingBouncesIn, OfOpen, SettlesBusy, SettlesIn, SettlesLast, level_entry};
+ghost use Rattle.tv_run.specs.Settlements.{BouncesIn, IsBouncedJob, IsOpenIn, IsReadyToSettleLevel, LeavesLast, NothingBouncesIn, OfOpen, SettlesBusy, SettlesIn, SettlesLast, settled_entry};
 ghost use Rattle.tv_run.specs.Standing.{Fits, Stands, StandsOpen};
 ghost use Rattle.tv_run.specs.Turns.{MovesTo, SettlesTo, StaysAs};
 
@@ -23,7 +23,7 @@ use tv_value::{NoMemory, Place};
 
 /// The entry of what was settled in an instance, with its place put here.
 fn entry_of(instance: u64, settled: Settled, kept: Box<Place>) -> Entry
-    ensures { result ≡ level_entry instance settled kept }
+    ensures { result ≡ settled_entry instance settled kept }
 {
     let mut kept = kept;
     match settled {

@@ -13,7 +13,7 @@ ghost use Rattle.tv_cell.specs.Soundness.{AreSound};
 ghost use Rattle.tv_framing.specs.Answers.{AreInputs};
 ghost use Rattle.tv_framing.specs.Views.{View};
 ghost use Rattle.tv_seats.specs.Seats.{Seat};
-ghost use Rattle.tv_seated.specs.Seated.{spot_of};
+ghost use Rattle.tv_forest.specs.seats.Seated.{spot_of};
 ghost use Rattle.tv_forest.specs.Forest.{Instance as AnInstance, Instances, IsAt};
 ghost use Rattle.tv_run.specs.Jobs.{IsOfOpen, is_service};
 ghost use Rattle.tv_run.specs.declared.instances.Numbered.{Numbered as TheNumbered};

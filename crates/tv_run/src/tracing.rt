@@ -1,36 +1,25 @@
 //! What was made of what: of a run that is done all of it, and of one that goes on what its settled jobs used.
-ghost use Rattle.std.specs.Option.{option_map_or};
-ghost use Rattle.std.specs.Prelude.{◌≡◌, IfOk, false, map, option_map, true};
+ghost use Rattle.std.specs.Prelude.{◌≡◌, IfOk, map, option_map, true};
 ghost use Rattle.tv_gate.specs.Outcomes.{Giving};
-ghost use Rattle.tv_followed.specs.Recorded.{leaves, marks_of, output_at};
+ghost use Rattle.tv_model.specs.records.Recorded.{leaves, marks_of, output_at};
 ghost use Rattle.tv_history.specs.Histories.{is_done};
 ghost use Rattle.tv_entries.specs.Runs.{meant, past_of};
 ghost use Rattle.tv_lineage.specs.Kept.{records_of};
 ghost use Rattle.tv_lineage.specs.Members.{HaveSame};
 ghost use Rattle.tv_lineage.specs.Views.{leaf_view, mark_view};
-ghost use Rattle.tv_marked.specs.Settled.{settled_records};
+ghost use Rattle.tv_traces.specs.Settled.{settled_records};
 ghost use Rattle.tv_run.specs.Standing.{StandsStill, run_of};
-ghost use Rattle.tv_run.specs.Tracing.{IsTracedBy, is_settled_stage, settled_spots};
+ghost use Rattle.tv_run.specs.Tracing.{IsTracedBy, settled_spots};
 ghost use Rattle.tv_traces.specs.Sights.{job_view};
 
+use crate::outputs::is_settled;
 use crate::run::OpenRun;
 use std::alloc::Global;
 use tv_lineage::{Leaves, Marks, Records};
 use tv_open::Open;
 use tv_path::Path;
-use tv_seats::Stage;
 use tv_traces::{SettledJob, Traces};
 use tv_value::{Name, NoMemory, Place};
-
-/// Whether a job that stands there is settled.
-fn is_settled(stage: Option<Stage>) -> bool
-    ensures { result ≡ option_map_or is_settled_stage stage false }
-{
-    match stage {
-        Some(stage) => matches!(stage, Stage::Settled),
-        None => false,
-    }
-}
 
 /// The settled jobs of an open instance. Linear in the jobs that it knows.
 fn settled_jobs(alloc: Global, open: &Open) -> Result<Vec<SettledJob>, NoMemory>
@@ -52,7 +41,8 @@ impl OpenRun {
     /// main instance so far. Costs what `Traces::start` does.
     pub fn records(&self) -> Result<Records, NoMemory>
         requires { (gives : Giving) × StandsStill gives self.now }
-        ensures { (gives : Giving) → StandsStill gives self.now → IfOk result (λ rs. HaveSame (records_of rs)
+        ensures { (gives : Giving) → StandsStill gives self.now
+            → IfOk result (λ rs. HaveSame (records_of rs)
             (settled_records (past_of (run_of self.now)) (meant gives (run_of self.now)))) }
     {
         let plan = self.run.flow(self.run.main());

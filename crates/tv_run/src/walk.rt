@@ -98,7 +98,7 @@ impl OpenRun {
         ensures begins { (gives : Giving) (xs : Instances) (x : Instance) (v : View)
             → Stands gives self.now xs → IsAt xs instance x → x.view ≡ Some v
             → step < length x.flow.steps
-            → IsOwnBegun gives self.now xs seeking instance x v step result }
+            → IsOwnBegun gives self.now xs instance x result }
     {
         let begins = is_sought(self.tries_of(instance, step), seeking);
         let plan = self.plan_of(instance);

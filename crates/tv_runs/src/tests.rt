@@ -14,9 +14,9 @@ use std::process::Abort;
 use std::test::Fail;
 use tv_gate::{Gate, GateAsker};
 use tv_report::result_line;
+use tv_samples::accepted;
 use tv_value::Text;
 use tv_work::run_whole;
-use tv_worked::accepted;
 
 /// The result line of a run over a board.
 pub(crate) fn line_by_board<G: Gate>(

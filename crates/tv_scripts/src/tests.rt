@@ -22,7 +22,7 @@ use std::alloc::Global;
 use std::process::Abort;
 use std::test::Fail;
 use tv_local::LocalServices;
-use tv_worked::accepted;
+use tv_samples::accepted;
 
 /// A board of the document of a text.
 pub(crate) fn play_of(rt: &impl Abort, alloc: Global, text: &str) -> Result<Play, Fail> {

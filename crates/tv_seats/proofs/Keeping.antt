@@ -10,7 +10,7 @@ use Rattle.tv_seats.specs.declared.stage.Stage.{Stage}
 use Rattle.tv_seats.specs.declared.stage.Stage.TheVariants as stage
 use Rattle.tv_seats.specs.declared.steps.StepSeats.{StepSeats}
 use Rattle.tv_seats.specs.Kept.{AreApart, AreJobsAt, AreKept, AreNumbersAt, AreOfSteps, StepIsKept, all_levels, all_rooms}
-use Rattle.tv_seats.specs.Seats.{Seat, count_at, levels_of, one_less, out_count, room_at, staged, stands, step_at, with_stage}
+use Rattle.tv_seats.specs.Seats.{Seat, count_at, levels_of, one_less, room_at, seats_out, staged, stands, step_at, with_stage}
 use Rattle.tv_seats.specs.Stages.{is_aside, is_idle, is_nested, is_out, runs}
 use Rattle.tv_seats.specs.Tables.{Rows}
 use Rattle.tv_seats.proofs.Staging.{by-same, one, set-here, set-other, some-same, staged-count, staged-here, staged-long, staged-other}
@@ -200,7 +200,7 @@ kept-changed t u n s x steps after y z out more c kept step outs = record {
   outs =
       let a = staged-count t.seats n s x c.there (λ (t : Seat). is_out t.stage) in
       let b = kept.outs in
-      let e = ap out_count c.seats in
+      let e = ap seats_out c.seats in
       omega (arith, a, b, e, outs);
   numbers =
       let a = kept.numbers in
@@ -292,7 +292,7 @@ roomy-kept t u steps out seats widest numbers kept = record {
   of_steps = subst (AreOfSteps (all_levels steps)) (sym seats) kept.of_steps;
   apart = subst AreApart (sym seats) kept.apart;
   wide = λ k. subst (λ w. levels_of (all_levels steps) k ≤ w) (sym widest) (kept.wide k);
-  outs = kept.outs ∙ ap out_count (sym seats);
+  outs = kept.outs ∙ ap seats_out (sym seats);
   numbers = numbers;
 }
 

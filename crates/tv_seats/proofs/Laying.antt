@@ -7,7 +7,7 @@ use Rattle.std.proofs.lemmas.Bool.{le-leb, leb-true, and_parts}
 use Rattle.std.proofs.lemmas.List.{drop-append-le, length-append, length-drop, map-append, take-append-le, take_all}
 use Rattle.std.proofs.lemmas.List.Folds.{list_all-append}
 use Rattle.tv_seats.specs.declared.table.Row.{Row}
-use Rattle.tv_seats.specs.Laid.{seat_of, shown}
+use Rattle.tv_seats.specs.Laid.{seat_of, table_seats}
 use Rattle.tv_seats.proofs.Staging.{some-same}
 
 abbrev pub lies : List ℕ → Row → Bool
@@ -23,12 +23,12 @@ module _ (indices place : List ℕ) where
       in
       ap (λ q. record { step = r.step; place = q; stage = r.stage }) same
 
-  still-shown : (rows : List Row) → list_all (lies indices) rows ≡ true → shown (indices ++ place) rows ≡ shown indices rows
+  still-shown : (rows : List Row) → list_all (lies indices) rows ≡ true → table_seats (indices ++ place) rows ≡ table_seats indices rows
   still-shown [] h = refl
   still-shown (r ∷ rows) h =
       let b = and_parts (lies indices r) (list_all (lies indices) rows) h in
       let le = leb-true (r.start + r.levels) (length indices) b.0 in
-      ap (λ s. s ∷ shown (indices ++ place) rows) (still-seat r le)
+      ap (λ s. s ∷ table_seats (indices ++ place) rows) (still-seat r le)
       ∙ ap (λ ss. seat_of indices r ∷ ss) (still-shown rows b.1)
 
   still-lies : (rows : List Row) → list_all (lies indices) rows ≡ true → list_all (lies (indices ++ place)) rows ≡ true
@@ -41,7 +41,7 @@ module _ (indices place : List ℕ) where
       ∙ still-lies rows b.1
 
   module _ (rows : List Row) (h : list_all (lies indices) rows ≡ true) (r : Row) (starts : r.start ≡ length indices) (long : r.levels ≡ length place) where
-    pub pushed-shown : shown (indices ++ place) (rows ++ r ∷ []) ≡ shown indices rows ++ record { step = r.step; place = place; stage = r.stage } ∷ []
+    pub pushed-shown : table_seats (indices ++ place) (rows ++ r ∷ []) ≡ table_seats indices rows ++ record { step = r.step; place = place; stage = r.stage } ∷ []
     pushed-shown =
         let at : take r.levels (drop r.start (indices ++ place)) ≡ place =
         ap (λ k. take r.levels (drop k (indices ++ place))) starts
@@ -50,7 +50,7 @@ module _ (indices place : List ℕ) where
         in
         map-append (seat_of (indices ++ place)) rows (r ∷ [])
         ∙ ap (λ ss. ss ++ seat_of (indices ++ place) r ∷ []) (still-shown rows h)
-        ∙ ap (λ q. shown indices rows ++ record { step = r.step; place = q; stage = r.stage } ∷ []) at
+        ∙ ap (λ q. table_seats indices rows ++ record { step = r.step; place = q; stage = r.stage } ∷ []) at
 
     pub pushed-lies : list_all (lies (indices ++ place)) (rows ++ r ∷ []) ≡ true
     pushed-lies =
@@ -59,7 +59,7 @@ module _ (indices place : List ℕ) where
         ∙ ap (λ b. b && (lies (indices ++ place) r && true)) (still-lies rows h)
         ∙ ap (λ b. b && true) (le-leb (r.start + r.levels) (length (indices ++ place)) (omega (arith, many, starts, long)))
 
-pub shown-long : (indices : List ℕ) (rows : List Row) → length (shown indices rows) ≡ length rows
+pub shown-long : (indices : List ℕ) (rows : List Row) → length (table_seats indices rows) ≡ length rows
 shown-long indices [] = refl
 shown-long indices (r ∷ rows) = ap suc (shown-long indices rows)
 
@@ -70,12 +70,12 @@ lies-at indices (t ∷ rows) zero r h e =
     leb-true (r.start + r.levels) (length indices) (ap (lies indices) (sym (some-same e)) ∙ b.0)
 lies-at indices (t ∷ rows) (suc n) r h e = lies-at indices rows n r (and_parts (lies indices t) (list_all (lies indices) rows) h).1 e
 
-pub shown-at : (indices : List ℕ) (rows : List Row) (n : ℕ) (r : Row) → slice_get rows n ≡ Some r → slice_get (shown indices rows) n ≡ Some (seat_of indices r)
+pub shown-at : (indices : List ℕ) (rows : List Row) (n : ℕ) (r : Row) → slice_get rows n ≡ Some r → slice_get (table_seats indices rows) n ≡ Some (seat_of indices r)
 shown-at indices [] n r e = cc
 shown-at indices (t ∷ rows) zero r e = ap (λ t. Some (seat_of indices t)) (some-same e)
 shown-at indices (t ∷ rows) (suc n) r e = shown-at indices rows n r e
 
-pub shown-set : (indices : List ℕ) (rows : List Row) (n : ℕ) (r : Row) → shown indices (slice_set rows n r) ≡ slice_set (shown indices rows) n (seat_of indices r)
+pub shown-set : (indices : List ℕ) (rows : List Row) (n : ℕ) (r : Row) → table_seats indices (slice_set rows n r) ≡ slice_set (table_seats indices rows) n (seat_of indices r)
 shown-set indices [] n r = refl
 shown-set indices (t ∷ rows) zero r = refl
 shown-set indices (t ∷ rows) (suc n) r = ap (λ ss. seat_of indices t ∷ ss) (shown-set indices rows n r)

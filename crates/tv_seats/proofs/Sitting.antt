@@ -1,30 +1,15 @@
 -- One more job sits down.
-use Rattle.std.specs.Prelude.{◌≡◌, ℕ, zero, suc, ◌-◌, ◌<◌, ◌≤◌, ◌⊎◌, ◌&&◌, ◌==◌, ◌++◌, Bool, true, false, List, [], ◌∷◌, Some, length, slice_get, refl}
+use Rattle.std.specs.Prelude.{◌≡◌, ℕ, ◌-◌, ◌<◌, ◌≤◌, ◌&&◌, ◌==◌, ◌++◌, Bool, true, false, List, [], ◌∷◌, length, refl}
 use Rattle.std.proofs.Common.{arith, ap, subst, sym, ◌∙◌, inl, inr, length-append}
 use Rattle.tv_seats.specs.declared.stage.Stage.{Stage}
 use Rattle.tv_seats.specs.declared.stage.Stage.TheVariants as stage
 use Rattle.tv_seats.specs.declared.steps.StepSeats.{StepSeats}
 use Rattle.tv_seats.specs.Kept.{AreApart, AreJobsAt, AreKept, AreOfSteps, IsSeatAt, StepIsKept, all_levels}
-use Rattle.tv_seats.specs.Seats.{IsFree, Seat, count_at, levels_of, new_seat, out_count}
+use Rattle.tv_seats.specs.Seats.{IsFree, Seat, count_at, levels_of, new_seat, seats_out}
 use Rattle.tv_seats.specs.Stages.{is_aside, is_idle, is_nested, is_out, runs}
 use Rattle.tv_seats.specs.Tables.{Rows}
-use Rattle.tv_seats.proofs.Staging.{count-last, one, some-same}
-
-module _ {A : Type 0} where
-  pub get-front : (xs ys : List A) (n : ℕ) (x : A) → slice_get xs n ≡ Some x → slice_get (xs ++ ys) n ≡ Some x
-  get-front [] ys n x e = cc
-  get-front (z ∷ xs) ys zero x e = e
-  get-front (z ∷ xs) ys (suc n) x e = get-front xs ys n x e
-
-  get-last : (xs : List A) (y : A) (n : ℕ) (x : A) → slice_get (xs ++ y ∷ []) n ≡ Some x → (slice_get xs n ≡ Some x) ⊎ ((n ≡ length xs) × (x ≡ y))
-  get-last [] y zero x e = inr (refl, sym (some-same e))
-  get-last [] y (suc n) x e = cc
-  get-last (z ∷ xs) y zero x e = inl e
-  get-last (z ∷ xs) y (suc n) x e =
-      elim (get-last xs y n x e) [
-        | inl h ↦ inl h
-        | inr h ↦ inr (ap suc h.0, h.1)
-      ]
+use Rattle.tv_seats.proofs.Staging.{count-last, one}
+use Rattle.tv_lemmas.proofs.Lists.{in-front, get-last}
 
 module _ (seats : List Seat) (k : ℕ) (q : List ℕ) where
   abbrev after : List Seat
@@ -40,7 +25,7 @@ module _ (seats : List Seat) (k : ℕ) (q : List ℕ) where
 
     at-after : (l n : ℕ) (s : Seat) → IsSeatAt p seats l n s → IsSeatAt p after l n s
     at-after l n s i = record {
-      there = get-front seats (new_seat k q ∷ []) n s i.there;
+      there = in-front seats (new_seat k q ∷ []) n s i.there;
       of_step = i.of_step;
       stands = i.stands;
     }
@@ -117,7 +102,7 @@ kept-sat t u steps out k q seats widest room some step long free kept = record {
   wide = λ l. subst (λ w. levels_of (all_levels steps) l ≤ w) (sym widest) (kept.wide l);
   outs =
       let c = count-last (λ (s : Seat). is_out s.stage) t.seats (new_seat k q) in
-      let e = ap out_count seats in
+      let e = ap seats_out seats in
       let o = kept.outs in
       omega (arith, c, e, o);
   numbers =

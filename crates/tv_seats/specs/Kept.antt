@@ -5,7 +5,7 @@ use Rattle.std.specs.List.{list_all}
 use Rattle.std.specs.Ordering.{is_lt, nat_cmp}
 use Rattle.tv_seats.specs.declared.stage.Stage.{Stage}
 use Rattle.tv_seats.specs.declared.steps.StepSeats.{StepSeats}
-use Rattle.tv_seats.specs.Seats.{Seat, count_at, levels_of, out_count}
+use Rattle.tv_seats.specs.Seats.{Seat, count_at, levels_of, seats_out}
 use Rattle.tv_seats.specs.Stages.{is_aside, is_idle, is_nested, is_out, runs}
 use Rattle.tv_seats.specs.Tables.{Rows}
 
@@ -31,8 +31,8 @@ abbrev pub IsJobAt : (Stage → Bool) → List Seat → ℕ → ℕ × List ℕ 
 IsJobAt is seats k j = (s : Seat) × IsSeatAt is seats k j.0 s × (s.place ≡ j.1)
 
 -- those of step k, in order of place
-pub record AreJobsAt (is : Stage → Bool) (seats : List Seat) (k : ℕ) (js : List (ℕ × List ℕ)) : Type
-    0 where
+pub record AreJobsAt (is : Stage → Bool) (seats : List Seat) (k : ℕ)
+    (js : List (ℕ × List ℕ)) : Type 0 where
   pub in_order : rises js ≡ true
   pub each : (j : ℕ × List ℕ) → IsOneOf j js → IsJobAt is seats k j
   pub all : (j : ℕ × List ℕ) → IsJobAt is seats k j → IsOneOf j js
@@ -88,5 +88,5 @@ pub record AreKept (table : Rows) (steps : List StepSeats) (out : ℕ) : Type 0 
   pub of_steps : AreOfSteps (all_levels steps) table.seats
   pub apart : AreApart table.seats
   pub wide : (k : ℕ) → levels_of (all_levels steps) k ≤ table.widest
-  pub outs : out ≡ out_count table.seats
+  pub outs : out ≡ seats_out table.seats
   pub numbers : length table.seats + table.room < 2 ^ 32

@@ -12,8 +12,8 @@ seat_of indices r = record {
   stage = r.stage;
 }
 
-abbrev pub shown : List ℕ → List Row → List Seat
-shown indices rows = map (seat_of indices) rows
+abbrev pub table_seats : List ℕ → List Row → List Seat
+table_seats indices rows = map (seat_of indices) rows
 
 -- each place lies within the list, and so many more seats can be put
 pub record IsLaid (rows : Vec Row Global) (indices : Vec ℕ Global) (widest room : ℕ) : Type 0 where

@@ -53,8 +53,8 @@ count_at is k seats = count_by (λ s. s.step == k && is s.stage) seats
 abbrev pub running_count : ℕ → List Seat → ℕ
 running_count k seats = count_at runs k seats
 
-abbrev pub out_count : List Seat → ℕ
-out_count seats = count_by (λ s. is_out s.stage) seats
+abbrev pub seats_out : List Seat → ℕ
+seats_out seats = count_by (λ s. is_out s.stage) seats
 
 abbrev pub levels_of : List ℕ → ℕ → ℕ
 levels_of levels k = slice_index_or levels k 0

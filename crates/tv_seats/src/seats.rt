@@ -4,7 +4,7 @@ ghost use Rattle.std.specs.List.{list_all};
 ghost use Rattle.tv_seats.specs.declared.stage.Stage.TheVariants.{Aside as AnAside, Idle as AnIdle, Nested as ANested, Out as AnOut, Settled as ASettled};
 ghost use Rattle.tv_seats.specs.Firsts.{IsFirstAsideOf, IsFirstOf, MayGoOut, MayNest};
 ghost use Rattle.tv_seats.specs.Nested.{AreNested, StandsBehind};
-ghost use Rattle.tv_seats.specs.Seats.{HasBackRooms, HasRoomsOrAsBefore, IsFree, back, back_room, count_at, levels_of, new_seat, one_less, out_count, place_at, room_at, running_count, stage_at, stands, step_at, with_back, with_stage};
+ghost use Rattle.tv_seats.specs.Seats.{HasBackRooms, HasRoomsOrAsBefore, IsFree, back, back_room, count_at, levels_of, new_seat, one_less, place_at, room_at, running_count, seats_out, stage_at, stands, step_at, with_back, with_stage};
 ghost use Rattle.tv_seats.specs.Starts.{AreEmptySteps, EmptiesStep};
 ghost use Rattle.tv_seats.specs.Stages.{is_nested, is_out, may_settle, may_settle_alone};
 
@@ -176,7 +176,7 @@ impl Seats {
 
     /// How many jobs are out, of all steps together.
     pub fn out_count(&self) -> u64
-        ensures { result ≡ out_count self.now.seats }
+        ensures { result ≡ seats_out self.now.seats }
     {
         self.out
     }
@@ -433,7 +433,7 @@ impl Seats {
     /// the seats, and for each that was out as `put_back`.
     pub fn put_all_back(&mut self) -> u64
         requires { HasBackRooms self.old }
-        ensures count { result ≡ out_count self.old.seats }
+        ensures count { result ≡ seats_out self.old.seats }
         ensures seats { self.new.seats ≡ map back self.old.seats }
         ensures levels { self.new.levels ≡ self.old.levels }
         ensures room { self.new.room ≡ self.old.room }

@@ -37,9 +37,13 @@ impl Model for Table {
 
     ghost Value = { Rows };
 
-    ghost use Rattle.tv_seats.specs.Laid.{shown, IsLaid};
+    ghost use Rattle.tv_seats.specs.Laid.{table_seats, IsLaid};
 
-    ghost view = { λ t. record { seats = shown t.indices.items t.rows.items; widest = t.widest; room = t.room } };
+    ghost view = { λ t. record {
+      seats = table_seats t.indices.items t.rows.items;
+      widest = t.widest;
+      room = t.room;
+    } };
 
     ghost invariant = { λ t. IsLaid t.rows t.indices t.widest t.room };
 }

@@ -3,9 +3,9 @@ use Rattle.std.specs.List.{range_with_len}
 use Rattle.std.specs.Prelude.{◌≡◌, ℕ, zero, suc, ◌+◌, ◌<◌, ◌≤◌, Bool, true, false, cond, List, [], ◌∷◌, ◌++◌, drop, filter, flat_map, length, take, refl}
 use Rattle.std.proofs.Common.{arith, get_or, ap, sym, subst, ◌∙◌, append-nil}
 use Rattle.std.proofs.lemmas.List.Elements.{filter-append}
+use Rattle.tv_lemmas.specs.Members.{Each}
 use Rattle.tv_lemmas.proofs.Numbers.{none-below}
 use Rattle.tv_lemmas.proofs.Lists.{range-more}
-use Rattle.tv_strategy.specs.Sources.{Each}
 use Rattle.tv_matching.specs.Items.{if_so}
 
 module _ {A : Type 0} (P : A → Type 0) where

@@ -5,8 +5,8 @@ use Rattle.std.specs.Prelude.{◌≡◌, ℕ, zero, suc, ◌+◌, ◌<◌, ◌�
 use Rattle.std.proofs.Common.{Bor, arith, get_or, inl, inr, ap, sym, subst, ◌∙◌, append_assoc, append-nil}
 use Rattle.std.proofs.lemmas.List.{take-append-drop}
 use Rattle.std.proofs.lemmas.Bool.{both_ways, cases_lt}
+use Rattle.tv_lemmas.specs.Members.{Each}
 use Rattle.tv_lemmas.proofs.Numbers.{none-below}
-use Rattle.tv_strategy.specs.Sources.{Each}
 use Rattle.tv_matching.specs.Items.{if_so}
 use Rattle.tv_strategy.specs.Measures.{leaf_names}
 use Rattle.tv_strategy.proofs.OfSources.{each-append}
@@ -21,7 +21,7 @@ use Rattle.tv_wires.specs.declared.wires.Wire.{Wire}
 use Rattle.tv_intake.specs.declared.intakes.Intakes.{Intakes}
 use Rattle.tv_intake.specs.Intaken.{AreIntaken, CanHold, CanShow, HoldsThese, OthersStay, known_jobs, matcher_at, waiting_things}
 use Rattle.tv_spread.specs.declared.around.Around.{Around}
-use Rattle.tv_spread.specs.Along.{is_walked, way_of, ways_into}
+use Rattle.tv_telling.specs.Along.{is_walked, way_of, ways_into}
 use Rattle.tv_spread.specs.Arounds.{IsAround, is_told, ports_at, told_at, told_steps, ways_at, wholes_at, wires_along}
 use Rattle.tv_spread.specs.Runs.{AreSortedFrom, StartsElsewhere}
 use Rattle.tv_spread.specs.Spreads.{CanBeTold, CanHoldThese, HoldTold, HoldsAt, StaysAt}

@@ -17,7 +17,7 @@ use Rattle.tv_wires.specs.Ports.{ports_of}
 use Rattle.tv_wires.specs.Turned.{all_wires, from_each}
 use Rattle.tv_wires.specs.Wirings.{all_ports}
 use Rattle.tv_endings.specs.Ends.{is_whole}
-use Rattle.tv_feeds.specs.Feeds.{has_whole_with, leaves_whole_with}
+use Rattle.tv_endings.specs.Feeds.{has_whole_with, leaves_whole_with}
 use Rattle.tv_intake.specs.Intaken.{IsMadeAt, brought_at, matcher_at}
 use Rattle.tv_intake.specs.Sorting.{brought}
 use Rattle.tv_intake.proofs.OfIntakes.{ahead-parts}

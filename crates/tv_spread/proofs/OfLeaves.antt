@@ -1,11 +1,11 @@
 -- Tellings that are made of leaves name leaves of the strategy that they are told.
 use Rattle.std.specs.Prelude.{◌≡◌, ℕ, zero, suc, ◌-◌, ◌<◌, Bool, true, false, if◌then◌else◌, nat_le, nat_lt, List, [], ◌∷◌, ◌++◌, flat_map, get_or, length, map, take, refl}
 use Rattle.std.proofs.Common.{arith, sym, subst, ◌∙◌}
+use Rattle.tv_lemmas.specs.Members.{Each}
 use Rattle.tv_lemmas.proofs.Numbers.{none-below}
 use Rattle.tv_value.specs.Nested.{Tree, leaf, list, Trees, no_trees, tree, Place}
 use Rattle.tv_value.specs.Strategies.{Strategy, Strategies, cross, port, strategy, no_strategies}
 use Rattle.tv_value.specs.Values.{Name, Scalar, fault, holds_fault, text}
-use Rattle.tv_strategy.specs.Sources.{Each}
 use Rattle.tv_strategy.proofs.OfSources.{each-append}
 use Rattle.tv_strategy.proofs.OfEach.{each-weaken}
 use Rattle.tv_matching.specs.Items.{if_so}

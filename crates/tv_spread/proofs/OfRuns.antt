@@ -3,11 +3,11 @@ use Rattle.std.specs.Prelude.{◌≡◌, ℕ, zero, suc, ◌+◌, ◌<◌, ◌�
 use Rattle.std.proofs.Common.{arith, get_or, ap, sym, subst, ◌∙◌, append-nil}
 use Rattle.std.proofs.lemmas.Bool.{eq-eqb, ne_eqb}
 use Rattle.std.proofs.lemmas.List.Elements.{filter-append}
+use Rattle.tv_lemmas.specs.Members.{Each}
 use Rattle.tv_lemmas.proofs.Numbers.{none-below}
-use Rattle.tv_strategy.specs.Sources.{Each}
 use Rattle.tv_strategy.proofs.OfEach.{each-weaken}
 use Rattle.tv_wires.specs.declared.wires.Wire.{Wire}
-use Rattle.tv_spread.specs.Along.{is_walked, leads_into, way_of, ways_into}
+use Rattle.tv_telling.specs.Along.{is_walked, leads_into, way_of, ways_into}
 use Rattle.tv_spread.specs.Runs.{AreSortedFrom, StartsElsewhere}
 use Rattle.tv_spread.proofs.Lists.{filter-among, filter-none, filter-same}
 

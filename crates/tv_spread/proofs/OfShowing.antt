@@ -7,10 +7,10 @@ use Rattle.std.proofs.lemmas.Grind.{flat_map-append}
 use Rattle.std.proofs.lemmas.List.{length-map}
 use Rattle.std.proofs.lemmas.List.Sorted.{IsPermutation-sym}
 use Rattle.std.proofs.lemmas.List.Sums.{sum_by-cons}
+use Rattle.tv_lemmas.specs.Members.{Each}
 use Rattle.tv_value.specs.Nested.{Place}
 use Rattle.tv_value.specs.Views.{strategy_view}
 use Rattle.tv_lemmas.proofs.Counts.{count-map}
-use Rattle.tv_strategy.specs.Sources.{Each}
 use Rattle.tv_strategy.specs.Conditions.{number_of}
 use Rattle.tv_strategy.specs.Measures.{strategy_depth}
 use Rattle.tv_strategy.proofs.OfSources.{each-append}
@@ -86,7 +86,7 @@ flags-same : (c : ℕ) (f g : ℕ × Place → Bool) → ((q : Place) → f (c, 
 flags-same c f g e [] = tt
 flags-same c f g e (q ∷ qs) = (e q, flags-same c f g e qs)
 
-places-many : (os : List Outcome) → length (job_places os) ≡ jobs_among os
+pub places-many : (os : List Outcome) → length (job_places os) ≡ jobs_among os
 places-many [] = refl
 places-many (job_at q ∷ os) = ap suc (places-many os)
 places-many (list_at q n ∷ os) = places-many os

@@ -2,7 +2,7 @@
 use Rattle.std.specs.Prelude.{◌≡◌, ℕ, ◌==◌, ◌&&◌, Bool, true, false, if◌then◌else◌, List, [], filter, length, map, refl, ◌<◌}
 use Rattle.std.proofs.Common.{ap, sym, ◌∙◌}
 use Rattle.std.proofs.lemmas.Bool.{eqb-true}
-use Rattle.tv_strategy.specs.Sources.{Each}
+use Rattle.tv_lemmas.specs.Members.{Each}
 use Rattle.tv_strategy.proofs.OfEach.{each-weaken}
 use Rattle.tv_matching.proofs.Lists.{each-map}
 use Rattle.tv_telling.specs.declared.ways.Event.{Event}
@@ -16,9 +16,9 @@ use Rattle.tv_wires.specs.declared.feeds.NumberedFeed.TheVariants.{Link, Merge, 
 use Rattle.tv_wires.specs.declared.ports.Port.{Port}
 use Rattle.tv_wires.specs.declared.wires.Wire.{Wire}
 use Rattle.tv_endings.specs.Ends.{is_whole}
-use Rattle.tv_feeds.specs.Feeds.{IsLinkWithin, IsWithin, feed_from, feed_whole, has_whole_with, with_step}
+use Rattle.tv_endings.specs.Feeds.{IsLinkWithin, IsWithin, feed_from, feed_whole, has_whole_with, with_step}
 use Rattle.tv_spread.specs.declared.around.Around.{Around}
-use Rattle.tv_spread.specs.Along.{is_walked, leads_into, way_of, ways_into, wires_from}
+use Rattle.tv_telling.specs.Along.{is_walked, leads_into, way_of, ways_into, wires_from}
 use Rattle.tv_spread.specs.Wholes.{whole_port, wholes_with}
 use Rattle.tv_spread.specs.Arounds.{IsAround, IsFed, IsLinked, delivers_fault, is_told, ports_at, tells_some, ways_at, wholes_among, wholes_at, wires_along}
 use Rattle.tv_spread.proofs.Lists.{each-filter, each-passing, filter-none}

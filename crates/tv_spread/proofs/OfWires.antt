@@ -8,7 +8,7 @@ use Rattle.std.proofs.lemmas.Bool.{eq-eqb, eqb-true, ne_eqb}
 use Rattle.std.proofs.lemmas.List.{get_or-map, length-map, map-append}
 use Rattle.std.proofs.lemmas.List.Elements.{filter-append}
 use Rattle.std.proofs.lemmas.List.FromFn.{get_or-map-range_with_len, length-map-range_with_len}
-use Rattle.tv_strategy.specs.Sources.{Each}
+use Rattle.tv_lemmas.specs.Members.{Each}
 use Rattle.tv_strategy.proofs.OfSources.{each-append}
 use Rattle.tv_strategy.proofs.OfEach.{each-all, each-weaken}
 use Rattle.tv_matching.proofs.Onces.{each-flat}
@@ -21,8 +21,8 @@ use Rattle.tv_wires.specs.declared.ports.Port.{Port}
 use Rattle.tv_wires.specs.declared.wires.Wire.{Wire}
 use Rattle.tv_wires.specs.declared.wiring.Wiring.{Wiring}
 use Rattle.tv_wires.specs.Turned.{all_wires, from_number, links_of, port_wires, step_wires, wire_of}
-use Rattle.tv_feeds.specs.Feeds.{feed_from, link_from}
-use Rattle.tv_spread.specs.Along.{is_walked, wires_from}
+use Rattle.tv_endings.specs.Feeds.{feed_from, link_from}
+use Rattle.tv_telling.specs.Along.{is_walked, wires_from}
 use Rattle.tv_spread.specs.Arounds.{AreWalked, AreWires}
 use Rattle.tv_spread.specs.Runs.{AreSortedFrom}
 use Rattle.tv_spread.proofs.Lists.{each-unflat}

@@ -2,9 +2,9 @@
 use Rattle.std.specs.List.{range_with_len}
 use Rattle.std.specs.Global.{Global}
 use Rattle.std.specs.Prelude.{◌≡◌, ℕ, ◌+◌, ◌==◌, ◌<◌, ◌||◌, not, nat_lt, Bool, false, if◌then◌else◌, List, [], ◌++◌, filter, flat_map, get_or, length, map, slice_index_or, Vec}
+use Rattle.tv_lemmas.specs.Members.{Each}
 use Rattle.tv_value.specs.Values.{holds_fault}
 use Rattle.tv_value.specs.Strategies.{Strategy}
-use Rattle.tv_strategy.specs.Sources.{Each}
 use Rattle.tv_parts.specs.Partials.{holds_some}
 use Rattle.tv_pool.specs.declared.handles.Region.{Region}
 use Rattle.tv_matching.specs.Told.{Told}
@@ -24,7 +24,7 @@ use Rattle.tv_endings.specs.Ends.{is_whole}
 use Rattle.tv_outputs.specs.Known.{known, tree_in}
 use Rattle.tv_outputs.specs.Kept.{Stand}
 use Rattle.tv_spread.specs.declared.around.Around.{Around}
-use Rattle.tv_spread.specs.Along.{is_walked, ways_into, wires_from}
+use Rattle.tv_telling.specs.Along.{is_walked, ways_into, wires_from}
 use Rattle.tv_spread.specs.Wholes.{feed_faulty, wholes_with}
 
 -- ---- which values hold a fault once event e of step s has happened

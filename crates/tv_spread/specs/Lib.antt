@@ -1,4 +1,3 @@
-pub mod Along
 pub mod Runs
 pub mod Wholes
 pub mod Arounds

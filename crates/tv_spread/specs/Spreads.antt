@@ -1,10 +1,10 @@
 -- What `hold` and `show` make of the matchers and the idle jobs.
 use Rattle.std.specs.Prelude.{◌≡◌, ℕ, ◌+◌, ◌-◌, ◌<◌, ◌≤◌, not, Bool, true, false, List, [], ◌∷◌, Option, Some, None, count_by, flat_map, length, map, slice_set, sum_by}
+use Rattle.tv_lemmas.specs.Members.{Each}
 use Rattle.tv_value.specs.Nested.{Place}
 use Rattle.tv_value.specs.Strategies.{Strategy}
 use Rattle.tv_strategy.specs.Conditions.{number_of}
 use Rattle.tv_strategy.specs.Measures.{leaf_names, strategy_depth}
-use Rattle.tv_strategy.specs.Sources.{Each}
 use Rattle.tv_matching.specs.Matchers.{CanTellAll, Holds, Matching, Outcome}
 use Rattle.tv_matching.specs.Told.{Told, faulty_at}
 use Rattle.tv_match.specs.declared.told.Told as code

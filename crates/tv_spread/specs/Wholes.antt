@@ -7,7 +7,7 @@ use Rattle.tv_wires.specs.declared.feeds.NumberedLink.TheVariants.{Input, Output
 use Rattle.tv_wires.specs.declared.feeds.NumberedFeed.{NumberedFeed}
 use Rattle.tv_wires.specs.declared.feeds.NumberedFeed.TheVariants.{Link, Merge, Constant}
 use Rattle.tv_wires.specs.declared.ports.Port.{Port}
-use Rattle.tv_feeds.specs.Feeds.{has_whole_with}
+use Rattle.tv_endings.specs.Feeds.{has_whole_with}
 
 -- ---- whether what a feed delivers holds a fault, from which inputs and outputs hold one
 

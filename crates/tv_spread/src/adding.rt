@@ -1,6 +1,6 @@
 //! New jobs become idle.
 ghost use Rattle.std.specs.Prelude.{◌≡◌, ◌<◌, ◌≤◌, ◌-◌, not, count_by, drop, length};
-ghost use Rattle.tv_strategy.specs.Sources.{Each};
+ghost use Rattle.tv_lemmas.specs.Members.{Each};
 ghost use Rattle.tv_intake.specs.Intaken.{AreIntaken, known_jobs};
 ghost use Rattle.tv_idle.specs.Idles.{of_step};
 ghost use Rattle.tv_spread.specs.Spreads.{IsAt, is_faulty_now, with_all_new};

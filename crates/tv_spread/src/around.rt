@@ -1,14 +1,13 @@
 //! What ports are looked up in, and the ports that have their whole values with an event.
 ghost use Rattle.std.specs.Prelude.{◌≡◌, ◌++◌, OnOk};
 ghost use Rattle.std.specs.List.{list_any};
-ghost use Rattle.tv_strategy.specs.Sources.{Each};
+ghost use Rattle.tv_lemmas.specs.Members.{Each};
 ghost use Rattle.tv_pool.specs.declared.handles.Region.{Region as InRegion};
 ghost use Rattle.tv_outputs.specs.Kept.{Stand};
 ghost use Rattle.tv_spread.specs.Arounds.{IsFed, IsLinked, delivers_fault, input_faulty, output_faulty, wholes_among};
 ghost use Rattle.tv_spread.specs.Wholes.{link_faulty};
 
-use tv_endings::Endings;
-use tv_feeds::has_whole;
+use tv_endings::{Endings, has_whole};
 use tv_outputs::{Nodes, Outputs};
 use tv_telling::{Event, Whole};
 use tv_value::NoMemory;

@@ -1,13 +1,13 @@
 //! An event spread: held, and then shown.
 ghost use Rattle.std.specs.Prelude.{◌≡◌, ◌++◌, ◌+◌, ℕ, ◌<◌, ◌≤◌, [], true, false, filter, length, map, IfOk, OnOk};
-ghost use Rattle.tv_strategy.specs.Sources.{Each};
+ghost use Rattle.tv_lemmas.specs.Members.{Each};
 ghost use Rattle.tv_matching.specs.Items.{if_so};
 ghost use Rattle.tv_telling.specs.Views.{HasOutput};
 ghost use Rattle.tv_pool.specs.declared.handles.Region.{Region as InRegion};
 ghost use Rattle.tv_outputs.specs.Kept.{Stand};
 ghost use Rattle.tv_intake.specs.Intaken.{AreIntaken, CanShow, OthersStay, known_jobs, matcher_at, waiting_things};
 ghost use Rattle.tv_idle.specs.Idles.{of_step};
-ghost use Rattle.tv_spread.specs.Along.{is_walked, way_of};
+ghost use Rattle.tv_telling.specs.Along.{is_walked, way_of};
 ghost use Rattle.tv_spread.specs.Arounds.{IsAround, IsFed, ports_at, tellings_by, tells_some, told_steps, ways_at, wholes_at};
 ghost use Rattle.tv_spread.specs.Spreads.{CanHoldThese, CanHoldTold, CanShowAll, HasOtherRooms, HoldTold, HoldsAt, IsLevelled, MakeAll, StaysAt, binds_fault, new_count, new_faulty, new_good, new_jobs, new_things, with_all_new};
 

@@ -1,7 +1,7 @@
 //! The wires of a step along which an event is told, and those of them that lead into one step.
 ghost use Rattle.std.specs.Prelude.{◌≡◌, ◌≤◌, ◌<◌, ◌^◌, ◌++◌, map, filter, drop, take, length, IfOk, OnOk};
-ghost use Rattle.tv_strategy.specs.Sources.{Each};
-ghost use Rattle.tv_spread.specs.Along.{is_walked, levels_walked, way_of};
+ghost use Rattle.tv_lemmas.specs.Members.{Each};
+ghost use Rattle.tv_telling.specs.Along.{is_walked, levels_walked, way_of};
 ghost use Rattle.tv_spread.specs.Arounds.{IsAround, wires_along};
 ghost use Rattle.tv_spread.specs.Runs.{StartsElsewhere};
 

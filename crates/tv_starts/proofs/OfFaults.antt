@@ -2,6 +2,8 @@
 use Rattle.std.specs.Prelude.{◌≡◌, refl, ℕ, ◌+◌, true, false, List, [], ◌∷◌, ◌++◌, ◌⊎◌, drop, length, flat_map}
 use Rattle.std.proofs.Common.{ap, sym, subst, ◌∙◌, inl, inr, length-append, append_assoc}
 use Rattle.std.proofs.lemmas.List.{drop_at}
+use Rattle.tv_lemmas.specs.Members.{In}
+use Rattle.tv_lemmas.proofs.OfMembers.{each_in, in-append, in-left, in-right, of-flat, of-map}
 use Rattle.tv_value.specs.Nested.{Place}
 use Rattle.tv_value.specs.Orders.{same_name}
 use Rattle.tv_value.specs.Strategies.{Strategy, port, cross, dot, Strategies, no_strategies, strategy}
@@ -11,11 +13,10 @@ use Rattle.tv_strategy.specs.Splits.{same_place}
 use Rattle.tv_strategy.proofs.OfPlaces.{same-equal}
 use Rattle.tv_matching.specs.Items.{Item, Kind, closes, ends, here, if_so, item, passes}
 use Rattle.tv_matching.specs.Levels.{AreLeveled, KindAt}
-use Rattle.tv_matching.specs.Matched.{below, bound, matched, matched_cross, matched_dot, meet, met, replaced, same}
-use Rattle.tv_matching.specs.Members.{In}
+use Rattle.tv_matching.specs.Matched.{below, bound, matched, matched_cross, matched_dot, meet, meet_kinds, replaced, same}
 use Rattle.tv_matching.specs.Told.{Spot, Told, arrival, close, faulty, telling, told_kind, told_leaf, told_place, told_to}
 use Rattle.tv_matching.proofs.OfLaws.{told-leveled}
-use Rattle.tv_matching.proofs.OfMembers.{each-in, in-append, in-left, in-right, of-flat, of-if, of-map}
+use Rattle.tv_matching.proofs.OfMembers.{of-if}
 use Rattle.tv_matching.proofs.Onces.{matched-leveled}
 use Rattle.tv_starts.specs.Starts.{cross_starts, dot_starts, starts}
 use Rattle.tv_starts.specs.Stated.{FaultsStandFromStarts}
@@ -96,7 +97,7 @@ module _ (ports : Name → ℕ) (told : Name → List (Item Spot Spot)) (leveled
       (r.0, r.1, r.2 ∙ ap (λ u. drop r.0 (b ++ u.place)) (sym p)))
   crossed-one c ls ms zs at b l x y level first rest (passes g) ek (inr m) = absurd m
 
-  met-one : (c : Strategy) (cs : Strategies) (at : ℕ) (b : Place) (y z : Item Spot Spot) → y.place ≡ z.place → Stands (starts ports at c) b y → Stands (dot_starts ports at cs) b z → (x : Item Spot Spot) (f : Spot) → x.place ≡ z.place → (k : Kind Spot Spot) → y.kind ≡ k → (j : Kind Spot Spot) → z.kind ≡ j → met k j ≡ passes f → (o : ℕ) × In (f.0, o) (starts ports at c ++ dot_starts ports at cs) × (f.1 ≡ drop o (b ++ x.place))
+  met-one : (c : Strategy) (cs : Strategies) (at : ℕ) (b : Place) (y z : Item Spot Spot) → y.place ≡ z.place → Stands (starts ports at c) b y → Stands (dot_starts ports at cs) b z → (x : Item Spot Spot) (f : Spot) → x.place ≡ z.place → (k : Kind Spot Spot) → y.kind ≡ k → (j : Kind Spot Spot) → z.kind ≡ j → meet_kinds k j ≡ passes f → (o : ℕ) × In (f.0, o) (starts ports at c ++ dot_starts ports at cs) × (f.1 ≡ drop o (b ++ x.place))
   met-one c cs at b y z ep first second x f ex (ends d) ek j ej e =
       let r = stands-right (starts ports at c) (dot_starts ports at cs) b z second f (ej ∙ bound-fault d j f e) in
       (r.0, r.1, r.2 ∙ ap (λ q. drop r.0 (b ++ q)) (sym ex))
@@ -123,7 +124,7 @@ module _ (ports : Name → ℕ) (told : Name → List (Item Spot Spot)) (leveled
     from-cross (strategy c cs) at b l a x m =
         let r = of-flat (λ y. replaced (matched_cross told cs) y.place y.kind) x (matched told c) m in
         crossed-one c (starts ports at c) (cross_starts ports (at + strategy_depth ports c) cs) (matched_cross told cs) at b l x r.0
-        (each-in (λ u. KindAt (strategy_depth ports c) u.place u.kind) r.0 (matched told c) (matched-leveled ports told leveled c a.0) r.1)
+        (each_in (λ u. KindAt (strategy_depth ports c) u.place u.kind) (matched told c) (matched-leveled ports told leveled c a.0) r.0 r.1)
         (from-starts c at b l a.0 r.0 r.1)
         (λ d e z m. from-cross cs (at + strategy_depth ports c) d e a.1 z m) r.0.kind refl r.2
 
@@ -134,7 +135,7 @@ module _ (ports : Name → ℕ) (told : Name → List (Item Spot Spot)) (leveled
     from-dot (strategy c (strategy d ds)) at b l a o x m =
         let r = of-flat (λ y. flat_map (meet same y) (matched_dot told (strategy d ds))) x (matched told c) m in
         let s = of-flat (meet same r.0) x (matched_dot told (strategy d ds)) r.2 in
-        let t = of-if (same_place r.0.place s.0.place) (item s.0.place (met r.0.kind s.0.kind)) x s.2 in
+        let t = of-if (same_place r.0.place s.0.place) (item s.0.place (meet_kinds r.0.kind s.0.kind)) x s.2 in
         let first = from-starts c at b l a.0 r.0 r.1 in
         let second = from-dot (strategy d ds) at b l a.1 o.1 s.0 s.1 in
         λ f e.

@@ -1,13 +1,12 @@
 -- What stands where a leaf begins: the leaf's part of a job's place, and of the place of a passed fault.
 use Rattle.std.specs.Prelude.{◌≡◌, ℕ, List, drop, length, map, take}
+use Rattle.tv_lemmas.specs.Members.{Each, In}
 use Rattle.tv_value.specs.Nested.{Place}
 use Rattle.tv_value.specs.Strategies.{Strategy}
 use Rattle.tv_value.specs.Values.{Name}
 use Rattle.tv_strategy.specs.Measures.{DotsAgree, strategy_depth}
-use Rattle.tv_strategy.specs.Sources.{Each}
 use Rattle.tv_strategy.specs.Splits.{split}
 use Rattle.tv_matching.specs.Items.{Item, passes}
-use Rattle.tv_matching.specs.Members.{In}
 use Rattle.tv_matching.specs.Told.{IsFit, Spot, Told, matched_after}
 use Rattle.tv_starts.specs.Starts.{starts}
 

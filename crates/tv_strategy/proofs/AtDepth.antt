@@ -4,7 +4,7 @@ use Rattle.std.proofs.Common.{arith, sym, subst, ◌∙◌}
 use Rattle.tv_value.specs.Nested.{leaf, list, Trees, no_trees, tree, Place, map_trees}
 use Rattle.tv_value.specs.Values.{Name, JobName, Scalar, text, fault, Value, HasDepth, AllHaveDepth, scalar_depth}
 use Rattle.tv_value.specs.Strategies.{Strategy, port, cross, dot, Strategies, no_strategies, strategy}
-use Rattle.tv_strategy.specs.Origins.{Origin, Traced, traced, from_job}
+use Rattle.tv_strategy.specs.Origins.{Origin, Traced, traced, from_job, input_value, input_values}
 use Rattle.tv_strategy.specs.Measures.{strategy_depth, sum_of_depths, first_depth, DotsAgree, AllDotsAgree, HaveOneDepth}
 use Rattle.tv_strategy.specs.Levels.{EndHasLevels, HasLevels, AllHaveLevels}
 use Rattle.tv_strategy.specs.Sources.{EndStands, JobsStand, JobsStandFrom}
@@ -127,6 +127,17 @@ mutual
   pub all_traced-depth : (o : Origin) (vs : Trees (Unit {0}) Scalar) (d : ℕ) → AllHaveDepth vs d → AllHaveDepth (map_trees (λ _. o) (λ a. a) vs) d
   all_traced-depth o no_trees d h = tt
   all_traced-depth o (tree t ts) d h = (traced-depth o t d h.0, all_traced-depth o ts d h.1)
+
+-- the same of an input
+mutual
+  pub input-depth : (x : Name) (q : Place) (v : Value) (d : ℕ) → HasDepth v d → HasDepth (input_value x q v) d
+  input-depth x q (leaf n a) d h = h
+  input-depth x q (list n vs) zero h = absurd h
+  input-depth x q (list n vs) (suc d) h = inputs-depth x q 0 vs d h
+
+  inputs-depth : (x : Name) (q : Place) (i : ℕ) (vs : Trees (Unit {0}) Scalar) (d : ℕ) → AllHaveDepth vs d → AllHaveDepth (input_values x q i vs) d
+  inputs-depth x q i no_trees d h = tt
+  inputs-depth x q i (tree v vs) d h = (input-depth x (q ++ i ∷ []) v d h.0, inputs-depth x q (suc i) vs d h.1)
 
 -- each job, at its place, makes a value of the declared depth
 module _ (J : Place → Type 0) (named : Place → JobName) (made : Place → Value) (declared : ℕ) (right : (q : Place) → J q → HasDepth (made q) declared) where

@@ -97,7 +97,7 @@ pub record Lesser (o p : Option Iteration) (n : ℕ) : Type 0 where
   pub right_is : IsListOf p right
   pub least : n ≡ min left right
 
-count-each_paired : (ts us : Iterations) → count (each_paired ts us) ≡ min (count ts) (count us)
+pub count-each_paired : (ts us : Iterations) → count (each_paired ts us) ≡ min (count ts) (count us)
 count-each_paired no_trees us = none (count us)
   where
     none : (n : ℕ) → 0 ≡ min 0 n

@@ -1,6 +1,7 @@
 -- The places that a place splits into meet the conditions of joining, and join to it.
 use Rattle.std.specs.Prelude.{◌≡◌, refl, ℕ, suc, List, [], ◌∷◌, ◌++◌, length, take, drop, Bool, true, false, if◌then◌else◌, Some, unwrap_or}
 use Rattle.std.proofs.Common.{arith, ap, sym, subst, ◌∙◌, append_assoc}
+use Rattle.tv_lemmas.specs.Members.{Each}
 use Rattle.tv_value.specs.Nested.{Place}
 use Rattle.tv_value.specs.Values.{Name}
 use Rattle.tv_value.specs.Orders.{same_name, named}
@@ -9,7 +10,6 @@ use Rattle.tv_strategy.specs.Measures.{strategy_depth, sum_of_depths, first_dept
 use Rattle.tv_strategy.specs.Splits.{split, split_cross, split_dot}
 use Rattle.tv_strategy.specs.Conditions.{HaveLengths, EachOnce, names_in, number_of, place_of, times}
 use Rattle.tv_strategy.specs.Promises.{AreOf}
-use Rattle.tv_strategy.specs.Sources.{Each}
 use Rattle.tv_strategy.specs.Stated.{JoinGivesPlaceBack}
 use Rattle.tv_strategy.proofs.OfSources.{each-append}
 use Rattle.tv_strategy.proofs.OfPlaces.{same-itself}

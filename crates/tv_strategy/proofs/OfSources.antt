@@ -1,12 +1,13 @@
 -- What holds of every node of a step's inputs holds of every source of its iteration, and, where it passes to what the step makes, of every node of its outputs.
 use Rattle.std.specs.Prelude.{ℕ, zero, suc, pred, List, [], ◌∷◌, ◌++◌, Option, None}
+use Rattle.tv_lemmas.specs.Members.{Each}
 use Rattle.tv_value.specs.Nested.{leaf, list, Trees, no_trees, tree, Place, note, notes, all_notes, map_trees}
 use Rattle.tv_value.specs.Values.{Name, JobName, Scalar, text, fault, Value}
 use Rattle.tv_value.specs.Strategies.{Strategy, port, cross, dot, Strategies, no_strategies, strategy}
 use Rattle.tv_strategy.specs.Origins.{Mark, Origin, Traced, traced, from_job, from_level}
 use Rattle.tv_strategy.specs.Iterations.{Binding, End, job, passed, Iteration, Iterations, stopped, walk, walk_each, end_with, added, crossed, each_crossed, crossed_end, paired, each_paired, paired_end, iteration, cross_of, dot_of}
 use Rattle.tv_strategy.specs.Outputs.{output_below, outputs_from, end_output}
-use Rattle.tv_strategy.specs.Sources.{Each, AtNodes, AtAllNodes, EndHas, SourcesHave, AllSourcesHave, EndStands, JobsStand, JobsStandFrom}
+use Rattle.tv_strategy.specs.Sources.{AtNodes, AtAllNodes, EndHas, SourcesHave, AllSourcesHave, EndStands, JobsStand, JobsStandFrom}
 
 pub each-append : {A : Type 0} (P : A → Type 0) (xs ys : List A) → Each P xs → Each P ys → Each P (xs ++ ys)
 each-append P [] ys h k = k

@@ -3,6 +3,7 @@ use Rattle.std.specs.Prelude.{◌≡◌, refl, ℕ, zero, suc, List, [], ◌∷�
 use Rattle.std.proofs.Common.{arith, ap, sym, subst, ◌∙◌}
 use Rattle.std.proofs.lemmas.List.{take-append-drop}
 use Rattle.std.proofs.lemmas.Option.{same_Some}
+use Rattle.tv_lemmas.specs.Members.{Each}
 use Rattle.tv_value.specs.Nested.{leaf, list, Place, notes, at, item_at}
 use Rattle.tv_value.specs.Values.{Name}
 use Rattle.tv_value.specs.Strategies.{Strategy, port, cross, dot, Strategies, no_strategies, strategy}
@@ -11,7 +12,6 @@ use Rattle.tv_strategy.specs.Iterations.{Binding, job, Iteration, end_with, walk
 use Rattle.tv_strategy.specs.Measures.{strategy_depth, sum_of_depths, first_depth, DotsAgree, AllDotsAgree, HaveOneDepth}
 use Rattle.tv_strategy.specs.Splits.{split, split_cross, split_dot}
 use Rattle.tv_strategy.specs.Levels.{IsJob}
-use Rattle.tv_strategy.specs.Sources.{Each}
 use Rattle.tv_strategy.specs.Stated.{JobStandsWhereAllAreThere}
 use Rattle.tv_strategy.proofs.AtPlace.{item_at-map}
 use Rattle.tv_strategy.proofs.OfEnds.{item_at-walk_each}

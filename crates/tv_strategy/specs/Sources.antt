@@ -1,14 +1,10 @@
 -- What is so of every node of a value, and of every source of an iteration.
-use Rattle.std.specs.Prelude.{ℕ, suc, List, [], ◌∷◌, ◌++◌}
+use Rattle.std.specs.Prelude.{ℕ, suc, [], ◌∷◌, ◌++◌}
+use Rattle.tv_lemmas.specs.Members.{Each}
 use Rattle.tv_value.specs.Nested.{leaf, list, Trees, no_trees, tree, Place}
 use Rattle.tv_value.specs.Values.{Scalar}
 use Rattle.tv_strategy.specs.Origins.{Origin, Traced}
 use Rattle.tv_strategy.specs.Iterations.{End, job, passed, Iteration, Iterations}
-
--- P holds of each
-abbrev pub Each : {A : Type 0} → (A → Type 0) → List A → Type 0
-Each P [] = Unit {0}
-Each P (x ∷ xs) = P x × Each P xs
 
 module _ (P : Origin → Type 0) where
   -- P holds at every node

@@ -1,5 +1,6 @@
 -- Laws of iteration, for every strategy and all values.
 use Rattle.std.specs.Prelude.{◌≡◌, ◌↔◌, ℕ, ◌+◌, ◌<◌, min, List, [], ◌∷◌, ◌++◌, length, Bool, true, Option, Some, None, IsSome}
+use Rattle.tv_lemmas.specs.Members.{Each}
 use Rattle.tv_value.specs.Nested.{leaf, list, no_trees, count, note, Place, at}
 use Rattle.tv_value.specs.Values.{Name, JobName, ErrorDoc, fault, Value, HasDepth}
 use Rattle.tv_value.specs.Strategies.{Strategy, cross, dot, Strategies, no_strategies, strategy}
@@ -11,7 +12,7 @@ use Rattle.tv_strategy.specs.Conditions.{HaveLengths, names_in, Suits, HasPlaces
 use Rattle.tv_strategy.specs.Outputs.{output_below}
 use Rattle.tv_strategy.specs.Levels.{HasLevels, IsJob}
 use Rattle.tv_strategy.specs.Promises.{HaveDepths, ArePlacesOfEnd, UndoesSplit, DotDiffers}
-use Rattle.tv_strategy.specs.Sources.{Each, AtNodes, SourcesHave, JobsStand}
+use Rattle.tv_strategy.specs.Sources.{AtNodes, SourcesHave, JobsStand}
 
 -- ---- depths
 

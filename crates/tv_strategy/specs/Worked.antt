@@ -70,7 +70,13 @@ joins t = t
 
 -- a fault in the place of a list of texts
 abbrev pub no_range : Place → ErrorDoc
-no_range q = record { at = (codes "r", q) ∷ []; depth = 1; why = codes "range input 1 is no number"; from = [] }
+no_range q =
+    record {
+      at = (codes "r", q) ∷ [];
+      depth = 1;
+      why = codes "range input 1 is no number";
+      from = [];
+    }
 
 abbrev pub no_list : Place → Value
 no_list q = fault_value (no_range q)
@@ -78,7 +84,9 @@ no_list q = fault_value (no_range q)
 -- a list of lists, with an empty one among them
 abbrev pub WalksNestedLists : Type 0
 WalksNestedLists =
-    output in_capitals (levels 2 0) (both (lists (texts (codes "a" ∷ []) ∷ texts [] ∷ texts (codes "b" ∷ codes "c" ∷ []) ∷ [])) (texts [])) one
+    output in_capitals (levels 2 0)
+    (both (lists (texts (codes "a" ∷ []) ∷ texts [] ∷ texts (codes "b" ∷ codes "c" ∷ []) ∷ []))
+    (texts [])) one
     ≡ lists (texts (codes "A" ∷ []) ∷ texts [] ∷ texts (codes "B" ∷ codes "C" ∷ []) ∷ [])
 
 abbrev pub WalksEmptyList : Type 0
@@ -87,36 +95,44 @@ WalksEmptyList = output in_capitals (levels 1 0) (both (texts []) (texts [])) on
 -- each with each, the first child outermost
 abbrev pub CrossesTwoLists : Type 0
 CrossesTwoLists =
-    output joins (levels 1 1) (both (texts (codes "a" ∷ codes "b" ∷ [])) (texts (codes "1" ∷ codes "2" ∷ []))) crossing
+    output joins (levels 1 1)
+    (both (texts (codes "a" ∷ codes "b" ∷ [])) (texts (codes "1" ∷ codes "2" ∷ []))) crossing
     ≡ lists (texts (codes "a1" ∷ codes "a2" ∷ []) ∷ texts (codes "b1" ∷ codes "b2" ∷ []) ∷ [])
 
 abbrev pub CrossesWithEmptyInnerList : Type 0
 CrossesWithEmptyInnerList =
-    output joins (levels 1 1) (both (texts (codes "a" ∷ codes "b" ∷ [])) (texts [])) crossing ≡ lists (texts [] ∷ texts [] ∷ [])
+    output joins (levels 1 1) (both (texts (codes "a" ∷ codes "b" ∷ [])) (texts [])) crossing
+    ≡ lists (texts [] ∷ texts [] ∷ [])
 
 abbrev pub CrossesWithEmptyOuterList : Type 0
-CrossesWithEmptyOuterList = output joins (levels 1 1) (both (texts []) (texts (codes "1" ∷ []))) crossing ≡ texts []
+CrossesWithEmptyOuterList = output joins (levels 1 1) (both (texts []) (texts (codes "1" ∷ [])))
+    crossing ≡ texts []
 
 -- a fault in the place of the inner list, for no item and for one
 abbrev pub CrossesWithFault : Type 0
 CrossesWithFault =
     (output joins (levels 1 1) (both (texts []) (no_list [])) crossing ≡ texts [])
-    × (output joins (levels 1 1) (both (texts (codes "a" ∷ [])) (no_list [])) crossing ≡ lists (no_list [] ∷ []))
+    × (output joins (levels 1 1) (both (texts (codes "a" ∷ [])) (no_list [])) crossing
+    ≡ lists (no_list [] ∷ []))
 
 -- that fault in the place of lists of lists
 abbrev pub no_lists : Place → Value
-no_lists q = let e = no_range q in fault_value (record { at = e.at; depth = 2; why = e.why; from = e.from })
+no_lists q = let e =
+    no_range q in fault_value (record { at = e.at; depth = 2; why = e.why; from = e.from })
 
 -- a fault in the place of the outer list stands once, as deep as the output, however many items the inner list has
 abbrev pub CrossesFaultWithList : Type 0
 CrossesFaultWithList =
     (output joins (levels 1 1) (both (no_list []) (texts [])) crossing ≡ no_lists [])
-    × (output joins (levels 1 1) (both (no_list []) (texts (codes "1" ∷ codes "2" ∷ []))) crossing ≡ no_lists [])
+    × (output joins (levels 1 1) (both (no_list []) (texts (codes "1" ∷ codes "2" ∷ []))) crossing
+    ≡ no_lists [])
 
 -- in pairs, to the shorter
 abbrev pub PairsToShorter : Type 0
 PairsToShorter =
-    output joins (levels 1 1) (both (texts (codes "A" ∷ codes "B" ∷ codes "C" ∷ [])) (texts (codes "1" ∷ codes "2" ∷ []))) pairing
+    output joins (levels 1 1)
+    (both (texts (codes "A" ∷ codes "B" ∷ codes "C" ∷ [])) (texts (codes "1" ∷ codes "2" ∷ [])))
+    pairing
     ≡ texts (codes "A1" ∷ codes "B2" ∷ [])
 
 -- a dot of a list and a text has no depth
@@ -126,7 +142,9 @@ TellsDotFault = measured (levels 1 0) pairing ≡ Err (record { first = 1; secon
 -- a fault in the place of one list beside a list in its place
 abbrev pub PairsWithFault : Type 0
 PairsWithFault =
-    output joins (levels 2 2) (both (lists (no_list (0 ∷ []) ∷ texts (codes "0" ∷ []) ∷ [])) (lists (texts (codes "p" ∷ []) ∷ texts (codes "q" ∷ []) ∷ []))) pairing
+    output joins (levels 2 2)
+    (both (lists (no_list (0 ∷ []) ∷ texts (codes "0" ∷ []) ∷ []))
+    (lists (texts (codes "p" ∷ []) ∷ texts (codes "q" ∷ []) ∷ []))) pairing
     ≡ lists (no_list (0 ∷ []) ∷ texts (codes "0q" ∷ []) ∷ [])
 
 -- the place of a job of a cross of two lists, and back
@@ -150,14 +168,17 @@ waits t = map_tree (λ s. s) (λ _. tt) t
 -- a cross waits for the walked lists, and inside for the outer binding too
 abbrev pub CrossWaits : Type 0
 CrossWaits =
-    waits (iteration (walks (levels 1 1) (inputs (texts (codes "x" ∷ [])) (texts (codes "y" ∷ [])))) crossing)
+    waits (iteration (walks (levels 1 1) (inputs (texts (codes "x" ∷ [])) (texts (codes "y" ∷ []))))
+    crossing)
     ≡ list (from_input a [] ∷ []) (trees_of (list (from_input a (0 ∷ []) ∷ from_input b [] ∷ [])
     (trees_of (leaf (from_input a (0 ∷ []) ∷ from_input b (0 ∷ []) ∷ []) tt ∷ [])) ∷ []))
 
 -- a dot waits at each place for all its children
 abbrev pub DotWaits : Type 0
 DotWaits =
-    (waits (iteration (walks (levels 1 1) (inputs (texts (codes "x" ∷ [])) (texts (codes "y" ∷ [])))) pairing)
+    (waits (iteration
+    (walks (levels 1 1) (inputs (texts (codes "x" ∷ [])) (texts (codes "y" ∷ [])))) pairing)
     ≡ list (from_input a [] ∷ from_input b [] ∷ [])
     (trees_of (leaf (from_input a (0 ∷ []) ∷ from_input b (0 ∷ []) ∷ []) tt ∷ [])))
-    × (waits (iteration (walks (levels 1 1) (inputs (texts (codes "x" ∷ [])) (no_list []))) pairing) ≡ leaf (from_input a [] ∷ from_input b [] ∷ []) tt)
+    × (waits (iteration (walks (levels 1 1) (inputs (texts (codes "x" ∷ [])) (no_list []))) pairing)
+    ≡ leaf (from_input a [] ∷ from_input b [] ∷ []) tt)

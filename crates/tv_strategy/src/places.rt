@@ -7,7 +7,7 @@ ghost use Rattle.tv_strategy.specs.Splits.{split as split_of};
 ghost use Rattle.tv_strategy.specs.Conditions.{Suits, HasPlaces, number_of, place_of};
 ghost use Rattle.tv_strategy.specs.Promises.{ArePlacesOfEnd, UndoesSplit, DotDiffers};
 ghost use Rattle.tv_strategy.specs.Views.{children_view};
-ghost use Rattle.tv_strategy.specs.Rooms.{room};
+ghost use Rattle.tv_strategy.specs.Rooms.{place_room};
 
 use crate::depth::mismatch_at;
 use std::alloc::Global;
@@ -154,7 +154,7 @@ pub fn join(
 #[cycle(join)]
 fn join_tree(alloc: Global, tree: &Tree, places: &PortPlaces) -> Result<Option<Place>, NoMemory>
     ensures place { IfOk result (λ o. o ≡ joined (place_of places.now) (strategy_view tree.now)) }
-    ensures short { room (place_of places.now) (strategy_view tree.now) ≤ 32 → IsOk result }
+    ensures short { place_room (place_of places.now) (strategy_view tree.now) ≤ 32 → IsOk result }
 {
     match tree {
         Tree::Leaf(name) => join_leaf(alloc, name, places),
@@ -182,7 +182,7 @@ fn join_leaf(alloc: Global, name: &Name, places: &PortPlaces) -> Result<Option<P
 fn join_cross(alloc: Global, trees: &[Tree], places: &PortPlaces) -> Result<Option<Place>, NoMemory>
     ensures place { IfOk result (λ o. o
         ≡ joined (place_of places.now) (cross (children_view trees.now))) }
-    ensures short { room (place_of places.now) (cross (children_view trees.now)) ≤ 32
+    ensures short { place_room (place_of places.now) (cross (children_view trees.now)) ≤ 32
         → IsOk result }
 {
     let mut whole = Place::top(alloc);
@@ -200,7 +200,8 @@ fn join_cross(alloc: Global, trees: &[Tree], places: &PortPlaces) -> Result<Opti
 fn join_dot(alloc: Global, trees: &[Tree], places: &PortPlaces) -> Result<Option<Place>, NoMemory>
     ensures place { IfOk result (λ o. o
         ≡ joined (place_of places.now) (dot (children_view trees.now))) }
-    ensures short { room (place_of places.now) (dot (children_view trees.now)) ≤ 32 → IsOk result }
+    ensures short { place_room (place_of places.now) (dot (children_view trees.now)) ≤ 32
+        → IsOk result }
 {
     let Some((first, others)) = trees.split_first() else {
         return Ok(Some(Place::top(alloc)));

@@ -5,7 +5,7 @@ use Rattle.std.specs.Result.{OnErr}
 use Rattle.std.proofs.lemmas.Bool.{cases_eq}
 use Rattle.std.proofs.lemmas.List.{append-nil}
 use Rattle.std.proofs.lemmas.Option.{same_Some}
-use Rattle.tv_lemmas.proofs.Tests.{or-nothing}
+use Rattle.std.proofs.Math.Bool.{or-false}
 use Rattle.tv_lemmas.proofs.Options.{some-not_none}
 use Rattle.tv_parts.specs.Partials.{Partial, wanting, item, growing, closed, Parts, no_parts, part, part_count, whole, whole_count, holds_some, some_holds}
 use Rattle.tv_parts.specs.Changes.{filled, arrive, close_here, close_at, CanArrive, CanClose}
@@ -222,7 +222,7 @@ module _ {T : Type 0} where
             ap (holds_some is_marked) close-tree
             ∙ holds-filled is_marked (listed (count_of c) F) n
             ∙ sym (ap (holds_some is_marked) (tree-suc h m s b body) ∙ (list-like (IsSound h m) (tree_at h m) m s 0 b.marked b.part has (counted-as h m s b body inside.sound)).holds)
-            ∙ or-nothing (holds_some is_marked (tree_at (suc h) m s));
+            ∙ sym (or-false (holds_some is_marked (tree_at (suc h) m s)));
         least_is = ap (least_whole []) (close-tree ∙ ap closed filled-is) ∙ ap (λ x. if x then Some 0 else None) (whole-as d G whole-is);
       },
     )

@@ -10,7 +10,7 @@ use Rattle.tv_parts.specs.Changes.{with_part, filled, arrive, close_here, close_
 use Rattle.tv_parts.proofs.Changes.{arrive-below, close-below, arrive-not_whole, close-not_whole}
 use Rattle.tv_parts.proofs.Wholeness.{whole-is}
 use Rattle.tv_stream.specs.Trees.{Marked, least_whole}
-use Rattle.tv_stream.specs.Mapped.{shown}
+use Rattle.tv_stream.specs.Mapped.{value_tree_by}
 
 module _ {A B : Type 0} (f : A → B) where
   -- ---- parts
@@ -184,13 +184,13 @@ module _ {A : Type 0} where
 -- ---- where items stand for values
 
 module _ {T : Type 0} (stands_for : T → Value) where
-  pub arrive-below_value : (q : Place) (x : Marked T) (r : Partial (Marked T)) (v : Value) → Below (shown stands_for r) v → at v q ≡ Some (stands_for x.value) → Below (shown stands_for (arrive q x r)) v
+  pub arrive-below_value : (q : Place) (x : Marked T) (r : Partial (Marked T)) (v : Value) → Below (value_tree_by stands_for r) v → at v q ≡ Some (stands_for x.value) → Below (value_tree_by stands_for (arrive q x r)) v
   arrive-below_value q x r v h e =
-      subst (λ p. Below p v) (sym (map-arrive (λ (x : Marked T). stands_for x.value) q x r)) (arrive-below q (stands_for x.value) (shown stands_for r) v h e)
+      subst (λ p. Below p v) (sym (map-arrive (λ (x : Marked T). stands_for x.value) q x r)) (arrive-below q (stands_for x.value) (value_tree_by stands_for r) v h e)
 
-  pub close-below_value : (q : Place) (n : ℕ) (r : Partial (Marked T)) (v : Value) (m : Unit {0}) (us : Values) → Below (shown stands_for r) v → at v q ≡ Some (list m us) → count us ≡ n → Below (shown stands_for (close_at q n r)) v
+  pub close-below_value : (q : Place) (n : ℕ) (r : Partial (Marked T)) (v : Value) (m : Unit {0}) (us : Values) → Below (value_tree_by stands_for r) v → at v q ≡ Some (list m us) → count us ≡ n → Below (value_tree_by stands_for (close_at q n r)) v
   close-below_value q n r v m us h e c =
-      subst (λ p. Below p v) (sym (map-close (λ (x : Marked T). stands_for x.value) q n r)) (close-below q n (shown stands_for r) v m us h e c)
+      subst (λ p. Below p v) (sym (map-close (λ (x : Marked T). stands_for x.value) q n r)) (close-below q n (value_tree_by stands_for r) v m us h e c)
 
-  pub whole-is_value : (r : Partial (Marked T)) (v : Value) → Below (shown stands_for r) v → whole r ≡ true → value_in (shown stands_for r) ≡ v
-  whole-is_value r v h w = whole-is (shown stands_for r) v h (map-whole (λ (x : Marked T). stands_for x.value) r ∙ w)
+  pub whole-is_value : (r : Partial (Marked T)) (v : Value) → Below (value_tree_by stands_for r) v → whole r ≡ true → value_in (value_tree_by stands_for r) ≡ v
+  whole-is_value r v h w = whole-is (value_tree_by stands_for r) v h (map-whole (λ (x : Marked T). stands_for x.value) r ∙ w)

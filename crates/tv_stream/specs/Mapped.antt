@@ -60,16 +60,18 @@ pub record ChangesWhereOpen (A : Type 0) : Type 0 where
 -- ---- where items stand for values
 
 -- the tree of the values that the items stand for
-abbrev pub shown : {T : Type 0} → (T → Value) → Partial (Marked T) → Partial Value
-shown stands_for r = map_partial (λ x. stands_for x.value) r
+abbrev pub value_tree_by : {T : Type 0} → (T → Value) → Partial (Marked T) → Partial Value
+value_tree_by stands_for r = map_partial (λ x. stands_for x.value) r
 
 -- a tree below a value stays below it when an item that stands for the value's part arrives, or a list is closed with its length there; a whole one shows the value
 pub record ItemsBuildValue (T : Type 0) : Type 0 where
   pub arrival : (stands_for : T → Value) (q : Place) (x : Marked T) (r : Partial (Marked T))
-      (v : Value) → Below (shown stands_for r) v → at v q ≡ Some (stands_for x.value)
-      → Below (shown stands_for (arrive q x r)) v
+      (v : Value) → Below (value_tree_by stands_for r) v → at v q ≡ Some (stands_for x.value)
+      → Below (value_tree_by stands_for (arrive q x r)) v
   pub close : (stands_for : T → Value) (q : Place) (n : ℕ) (r : Partial (Marked T)) (v : Value)
-      (m : Unit {0}) (us : Values) → Below (shown stands_for r) v → at v q ≡ Some (list m us)
-      → count us ≡ n → Below (shown stands_for (close_at q n r)) v
+      (m : Unit {0}) (us : Values) → Below (value_tree_by stands_for r) v → at v q
+      ≡ Some (list m us)
+      → count us ≡ n → Below (value_tree_by stands_for (close_at q n r)) v
   pub whole : (stands_for : T → Value) (r : Partial (Marked T)) (v : Value)
-      → Below (shown stands_for r) v → whole r ≡ true → value_in (shown stands_for r) ≡ v
+      → Below (value_tree_by stands_for r) v → whole r ≡ true
+      → value_in (value_tree_by stands_for r) ≡ v

@@ -53,8 +53,8 @@ module _ {T : Type 0} where
       × IsCounted (IsSound height m) (tree_at height m) m s b.marked b.part
 
   -- the tree stands, and its nodes lie in the slots with a spot
-  pub record StandsOn (pool : Pool (Entry (Held T))) (p : Handle T) (spots : ℕ → Option Spot) : Type
-      0 where
+  pub record StandsOn (pool : Pool (Entry (Held T))) (p : Handle T)
+      (spots : ℕ → Option Spot) : Type 0 where
     pub nodes : AreNodes (memory_of pool p) spots
     pub spot : Spot
     pub known : spots (slot_of p.root) ≡ Some spot
@@ -68,8 +68,8 @@ module _ {T : Type 0} where
   IsIn p region = region_of p.root ≡ number_of region
 
   -- the tree stands on its slots and on slots in which nothing lay, and nothing else of the region changed
-  pub record Grows (old new : Pool (Entry (Held T))) (p : Handle T) (spots : ℕ → Option Spot) : Type
-      0 where
+  pub record Grows (old new : Pool (Entry (Held T))) (p : Handle T)
+      (spots : ℕ → Option Spot) : Type 0 where
     pub more : ℕ → Option Spot
     pub stands : StandsOn new p more
     pub known : (s : ℕ) (q : Spot) → spots s ≡ Some q → more s ≡ Some q
@@ -80,8 +80,8 @@ module _ {T : Type 0} where
   KeepsTrees old new p = (spots : ℕ → Option Spot) → StandsOn old p spots → Grows old new p spots
 
   -- a new tree: it stands on one slot, in which nothing lay, and nothing else of the region changed
-  pub record Starts (old new : Pool (Entry (Held T))) (p : Handle T) (depth number : ℕ) : Type
-      0 where
+  pub record Starts (old new : Pool (Entry (Held T))) (p : Handle T)
+      (depth number : ℕ) : Type 0 where
     pub depth_is : p.depth ≡ depth
     pub region : region_of p.root ≡ number
     pub empty : tree_at depth (item_in new number) (slot_of p.root) ≡ wanting
@@ -94,8 +94,8 @@ module _ {T : Type 0} where
   -- ---- other trees
 
   -- the tree stands where it stood, and is what it was
-  pub record Stays (old new : Pool (Entry (Held T))) (p : Handle T) (spots : ℕ → Option Spot) : Type
-      0 where
+  pub record Stays (old new : Pool (Entry (Held T))) (p : Handle T)
+      (spots : ℕ → Option Spot) : Type 0 where
     pub stands : StandsOn new p spots
     pub tree : tree_of new p ≡ tree_of old p
 

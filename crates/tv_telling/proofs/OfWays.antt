@@ -2,10 +2,10 @@
 use Rattle.std.specs.Prelude.{◌≡◌, ℕ, zero, suc, ◌+◌, ◌<◌, List, [], ◌∷◌, ◌++◌, flat_map, map, take, length, slice_get, unwrap_or, false, Some, refl}
 use Rattle.std.proofs.Common.{arith, get_or, ap, sym, ◌∙◌, append_assoc, append-nil}
 use Rattle.std.proofs.Math.Numerals.{suc-eq-add-one}
+use Rattle.tv_lemmas.specs.Members.{Each}
 use Rattle.tv_lemmas.proofs.Numbers.{none-below}
 use Rattle.tv_value.specs.Nested.{Place, list, no_trees}
 use Rattle.tv_value.specs.Values.{Name, holds_fault}
-use Rattle.tv_strategy.specs.Sources.{Each}
 use Rattle.tv_cell.specs.PieceValues.{piece_value}
 use Rattle.tv_cell.specs.declared.piece.Piece.{Piece}
 use Rattle.tv_telling.specs.ValueTellings.{value_told}

@@ -1,3 +1,5 @@
 pub mod ValueTellings
 pub mod WayTellings
 pub mod Views
+pub mod Openings
+pub mod Along

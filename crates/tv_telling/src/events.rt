@@ -1,7 +1,7 @@
 ghost use Rattle.std.specs.Prelude.{◌≡◌, ◌++◌, ◌-◌, ◌<◌, ◌∷◌, [], IfOk, OnOk, false, flat_map, map};
+ghost use Rattle.tv_lemmas.specs.Members.{Each};
 ghost use Rattle.tv_value.specs.Values.{holds_fault};
 ghost use Rattle.tv_cell.specs.PieceValues.{piece_value};
-ghost use Rattle.tv_strategy.specs.Sources.{Each};
 ghost use Rattle.tv_matching.specs.Matchers.{leaf_name};
 ghost use Rattle.tv_telling.specs.Views.{AddsTellings, AreTellings, HasOutput, HasPiece, IsFaultless, happening, way_tellings, whole_telling};
 ghost use Rattle.tv_telling.specs.ValueTellings.{value_told};

@@ -6,6 +6,11 @@
 //! (`specs/WayTellings.antt`, `specs/ValueTellings.antt`); nothing is looked up. A contract sees the tellings as `tv_matching`
 //! has them, whatever strategy the leaves are of.
 //!
+//! When an instance opens, inputs of the flow and constants are told down to the levels that their ports walk, and of merges
+//! their lists; of outputs of steps nothing is known yet. A contract says it by the numbers of inputs and the leaves of ports
+//! (`specs/Openings.antt`).
+//!
+//! - `opening`: what a port is told when an instance opens
 //! - `ways`: ways and events
 //! - `telling`: one telling, at the end of a list
 //! - `walking`: all that is told of a value
@@ -13,9 +18,11 @@
 #![tactic(auto)]
 
 mod events;
+mod opening;
 mod telling;
 mod walking;
 mod ways;
 
 pub use events::{tell_known, tellings_with};
+pub use opening::port_start;
 pub use ways::{Event, Happened, Way, Whole};

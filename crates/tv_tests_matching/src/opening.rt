@@ -1,13 +1,13 @@
 //! Worked openings: an input that is walked or taken whole, an output, a constant, and a merge with an output among its links.
 ghost use Rattle.std.specs.Prelude.{◌≡◌, is_some};
-ghost use Rattle.tv_opening.specs.Openings.{IsFedFrom, IsInput};
+ghost use Rattle.tv_telling.specs.Openings.{IsFedFrom, IsInput};
 
 use std::alloc::Global;
 use std::test::Fail;
 use tv_cell::{Cell, Piece};
 use tv_match::Told;
-use tv_opening::port_start;
 use tv_path::Path;
+use tv_telling::port_start;
 use tv_value::{Items, NoMemory, Sequence, Text, Value};
 use tv_wires::{NumberedFeed, NumberedLink, Port};
 

@@ -1,6 +1,6 @@
 //! Worked tellings: of a value, and with events above, at and below the end of a port's walk.
 ghost use Rattle.std.specs.Prelude.{◌≡◌};
-ghost use Rattle.tv_strategy.specs.Sources.{Each};
+ghost use Rattle.tv_lemmas.specs.Members.{Each};
 ghost use Rattle.tv_telling.specs.Views.{HasOutput};
 
 use std::alloc::Global;

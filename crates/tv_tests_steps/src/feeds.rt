@@ -1,11 +1,10 @@
 //! A port that merges an input and the outputs of two steps, and one that walks.
 ghost use Rattle.std.specs.Prelude.{◌≡◌, ◌<◌, length, IfOk};
-ghost use Rattle.tv_feeds.specs.Feeds.{IsWithin};
+ghost use Rattle.tv_endings.specs.Feeds.{IsWithin};
 
 use std::alloc::Global;
 use std::test::Fail;
-use tv_endings::Endings;
-use tv_feeds::has_whole;
+use tv_endings::{Endings, has_whole};
 use tv_value::{NoMemory, Sequence};
 use tv_wires::{NumberedFeed, NumberedLink, Port};
 

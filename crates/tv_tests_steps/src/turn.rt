@@ -6,9 +6,8 @@ use std::alloc::{AllocError, Global};
 use std::fmt::Write;
 use std::process::Abort;
 use std::test::Fail;
-use tv_endings::Endings;
+use tv_endings::{Endings, first_ready};
 use tv_idle::Idle;
-use tv_turn::first_ready;
 use tv_value::{NoMemory, Sequence};
 use tv_wires::{Numbers, Wiring, dependents_of, wires_of};
 

@@ -1,6 +1,6 @@
 //! Printed lines, and the first document against its text.
 use std::test::Fail;
-use tv_generated::{generated, summary_line};
+use tv_generator::{generated, summary_line};
 use tv_json::{compact, json_of_document};
 use tv_model::Totals;
 

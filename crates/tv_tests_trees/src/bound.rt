@@ -2,7 +2,7 @@
 use crate::values::{alone, text};
 use std::alloc::Global;
 use std::test::Fail;
-use tv_bound::{Constants, wrap};
+use tv_binding::{Constants, wrap};
 use tv_cell::{Cell, Piece, assemble, same_value};
 use tv_flow::{Feed, Flow, FlowOutputs};
 use tv_path::Path;

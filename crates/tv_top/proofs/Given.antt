@@ -48,13 +48,13 @@ either : {A : Type 0} (b : Bool) (x y : Result A StatusLine) → IsPossible x �
 either true x y h k = h
 either false x y h k = k
 
-unless-complaint : (d : Document) (o : Option checking.Complaint) → IsPossible (unless_complaint d o)
+unless-complaint : (d : Document) (o : Option checking.CheckComplaint) → IsPossible (unless_complaint d o)
 unless-complaint d None = tt
 unless-complaint d (Some c) = tt
 
 -- a document that is checked isn't refused for its words
 pub not-usage :
-    (d : Document) (o : Option checking.Complaint) (r : Result CheckedRun Refusal) → GivesRun r (unless_complaint d o) → ended r ≢ Usage
+    (d : Document) (o : Option checking.CheckComplaint) (r : Result CheckedRun Refusal) → GivesRun r (unless_complaint d o) → ended r ≢ Usage
 not-usage d o (Ok run') h = λ e. cc e
 not-usage d o (Err r) (inl h) = λ e. subst Possible e (subst IsPossible h (unless-complaint d o))
 not-usage d o (Err r) (inr m) = λ e. cc (sym (ap refusal_status m) ∙ e)
@@ -64,12 +64,12 @@ abbrev IsNoElement : Reading → Type 0
 IsNoElement (Ok d) = Unit {0}
 IsNoElement (Err r) = r.0 ≢ NoSuchElement
 
-no-element : (d : Document) (o : Option checking.Complaint) → IsNoElement (unless_complaint d o)
+no-element : (d : Document) (o : Option checking.CheckComplaint) → IsNoElement (unless_complaint d o)
 no-element d None = tt
 no-element d (Some c) = λ e. cc e
 
 pub not-element :
-    (d : Document) (o : Option checking.Complaint) (r : Result CheckedRun Refusal) → GivesRun r (unless_complaint d o)
+    (d : Document) (o : Option checking.CheckComplaint) (r : Result CheckedRun Refusal) → GivesRun r (unless_complaint d o)
     → ended r ≢ NoSuchElement
 not-element d o (Ok run') h = λ e. cc e
 not-element d o (Err r) (inl h) = λ e. subst IsNoElement h (no-element d o) e

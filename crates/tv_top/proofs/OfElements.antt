@@ -14,8 +14,8 @@ use Rattle.tv_lineage.specs.Touching.{Mark}
 use Rattle.tv_strategy.specs.Origins.{Traced}
 use Rattle.tv_model.specs.Lineages as model
 use Rattle.tv_model.specs.Meanings.{meaning}
-use Rattle.tv_followed.specs.Recorded.{leaves, main_records, marks_of, output_at}
-use Rattle.tv_followed.proofs.Meant.{meaning-backward, meaning-forward}
+use Rattle.tv_model.specs.records.Recorded.{leaves, main_records, marks_of, output_at}
+use Rattle.tv_model.proofs.records.Meant.{meaning-backward, meaning-forward}
 
 -- ---- what is given
 

@@ -70,7 +70,7 @@ module _ (asks : List ℕ → List Call) (s : Source) (before after : ToldCalls)
   status_in (Ok d) = Done
   status_in (Err r) = r.0
 
-  pub unasked-checked : (d : Document) (o : Option checking.Complaint) (r : Refusal) → GivesRun (Err r) (unless_complaint d o) → IsAsked asks s before after (refusal_status r)
+  pub unasked-checked : (d : Document) (o : Option checking.CheckComplaint) (r : Refusal) → GivesRun (Err r) (unless_complaint d o) → IsAsked asks s before after (refusal_status r)
   unasked-checked d None r (inl h) = absurd (cc h)
   unasked-checked d (Some c) r (inl h) = subst (λ st. IsAsked asks s before after st) (ap status_in h) same
   unasked-checked d o r (inr m) = subst (λ st. IsAsked asks s before after st) (sym (ap refusal_status m)) (inl same)

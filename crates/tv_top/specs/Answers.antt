@@ -23,7 +23,7 @@ use Rattle.tv_report.specs.FormLines.{form_text}
 use Rattle.tv_report.specs.CheckLines.{check_text}
 use Rattle.tv_report.specs.DepthLines.{depth_text}
 use Rattle.tv_report.specs.TraceLines.{trace_text}
-use Rattle.tv_generated.specs.Summaries.{summary_text}
+use Rattle.tv_generator.specs.Summaries.{summary_text}
 use Rattle.tv_top.specs.Words.{Command, run, check, trace, lineage, forward, gen}
 use Rattle.tv_top.specs.Lines.{absent_line, fault_line}
 use Rattle.tv_top.specs.declared.status.Status.{Status}
@@ -51,7 +51,7 @@ json_of bytes = if is_utf8 bytes then read_text bytes else None
 abbrev pub Reading : Type 0
 Reading = Result Document StatusLine
 
-abbrev pub unless_complaint : Document → Option checking.Complaint → Reading
+abbrev pub unless_complaint : Document → Option checking.CheckComplaint → Reading
 unless_complaint d None = Ok d
 unless_complaint d (Some c) = Err (Check, check_text c)
 

@@ -1,5 +1,5 @@
 -- What the parts of a top call answer on the way to its status.
-use Rattle.std.specs.Prelude.{◌≡◌, ℕ, List, ◌⊎◌, Some, None, Result, Ok, Err, map, String, string_bytes}
+use Rattle.std.specs.Prelude.{◌≡◌, ℕ, List, ◌⊎◌, Option, Some, None, Result, Ok, Err, map, String, string_bytes}
 use Rattle.std.specs.declared.alloc.Global.{Global}
 use Rattle.serde_json.specs.View.{view as json_view}
 use Rattle.serde_json.specs.declared.value.Value.{Value as Json}
@@ -8,6 +8,7 @@ use Rattle.tv_check.specs.RunViews.{run_view}
 use Rattle.tv_check.specs.declared.run.CheckedRun.{CheckedRun}
 use Rattle.tv_top.specs.Answers.{Answer, Reading, json_of}
 use Rattle.tv_top.specs.Lines.{fault_line}
+use Rattle.tv_top.specs.Words.{Command, command_of}
 use Rattle.tv_top.specs.declared.status.Status.{Status}
 use Rattle.tv_top.specs.declared.status.Status.TheVariants.{Done, NotJson, Form, Check, NoSuchElement, NoMemory}
 use Rattle.tv_top.specs.declared.refusal.Refusal.{Refusal}
@@ -16,6 +17,10 @@ use Rattle.tv_top.specs.declared.refusal.Refusal.TheVariants as why
 -- the bytes of each word
 abbrev pub texts_of : List (String Global) → List Text
 texts_of words = map (λ w. string_bytes w) words
+
+-- the command that the words ask for
+abbrev pub asked_for : List (String Global) → Option Command
+asked_for words = command_of (texts_of words)
 
 -- the status of a refusal, and its line
 abbrev pub refusal_status : Refusal → Status

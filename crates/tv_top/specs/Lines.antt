@@ -9,7 +9,8 @@ use Rattle.tv_top.specs.declared.status.Status.TheVariants.{Done, Usage, ReadFau
 -- none for a fault of the form or of the check, or an element that isn't there, whose line says which
 abbrev pub fault_line : Status → Text
 fault_line Done = []
-fault_line Usage = codes "taverna: usage: taverna run [--workers N] | check | trace | lineage --of PORT[PLACE] | forward --of PORT[PLACE] | gen N [--workers W]" ++ 10 ∷ []
+fault_line Usage =
+    codes "taverna: usage: taverna run [--workers N] | check | trace | lineage --of PORT[PLACE] | forward --of PORT[PLACE] | gen N [--workers W]" ++ 10 ∷ []
 fault_line ReadFault = codes "taverna: read fault" ++ 10 ∷ []
 fault_line TooLong = codes "taverna: input longer than 16777216 bytes" ++ 10 ∷ []
 fault_line NotJson = codes "taverna: not JSON" ++ 10 ∷ []

@@ -18,14 +18,17 @@ use Rattle.tv_top.specs.declared.status.Status.TheVariants.{Done, Usage, ReadFau
 
 -- capitals of the input x
 abbrev pub one_step : Value → Document
-one_step v = document ((x, 0) ∷ []) ((codes "u", asks (codes "upper") (takes a (from_input x) ∷ [])) ∷ []) (out (codes "u")) ((x, v) ∷ [])
+one_step v =
+    document ((x, 0) ∷ []) ((codes "u", asks (codes "upper") (takes a (from_input x) ∷ [])) ∷ [])
+    (out (codes "u")) ((x, v) ∷ [])
 
 -- capitals, then small letters
 abbrev pub two_steps : Document
 two_steps =
     document
     ((x, 1) ∷ [])
-    ((codes "p", asks (codes "upper") (takes a (from_input x) ∷ [])) ∷ (codes "q", asks (codes "lower") (takes a (from_step (codes "p")) ∷ [])) ∷ [])
+    ((codes "p", asks (codes "upper") (takes a (from_input x) ∷ []))
+    ∷ (codes "q", asks (codes "lower") (takes a (from_step (codes "p")) ∷ [])) ∷ [])
     (out (codes "q"))
     ((x, words (codes "a" ∷ codes "b" ∷ [])) ∷ [])
 
@@ -34,7 +37,8 @@ abbrev pub one_failure : Document
 one_failure =
     document
     ((x, 1) ∷ [])
-    ((codes "f", asks (codes "fail_if") (takes a (from_input x) ∷ [])) ∷ (codes "u", asks (codes "upper") (takes a (from_step (codes "f")) ∷ [])) ∷ [])
+    ((codes "f", asks (codes "fail_if") (takes a (from_input x) ∷ []))
+    ∷ (codes "u", asks (codes "upper") (takes a (from_step (codes "f")) ∷ [])) ∷ [])
     (out (codes "u"))
     ((x, words (codes "no" ∷ codes "true" ∷ codes "no" ∷ [])) ∷ [])
 
@@ -52,7 +56,13 @@ abbrev pub third_attempt : Document
 third_attempt =
     document
     ((x, 0) ∷ [])
-    ((codes "f", record (asks (codes "flaky") (takes a (from_input x) ∷ takes (codes "n") (constant_text (codes "2")) ∷ [])) { retries = 2 }) ∷ [])
+    ((
+      codes "f",
+      record (asks (codes "flaky")
+          (takes a (from_input x) ∷ takes (codes "n") (constant_text (codes "2")) ∷ [])) {
+            retries = 2;
+          },
+    ) ∷ [])
     (out (codes "f"))
     ((x, text_value (codes "t")) ∷ [])
 
@@ -61,7 +71,8 @@ abbrev pub circle : Document
 circle =
     document
     ((x, 0) ∷ [])
-    ((codes "p", asks (codes "upper") (takes a (from_step (codes "q")) ∷ [])) ∷ (codes "q", asks (codes "lower") (takes a (from_step (codes "p")) ∷ [])) ∷ [])
+    ((codes "p", asks (codes "upper") (takes a (from_step (codes "q")) ∷ []))
+    ∷ (codes "q", asks (codes "lower") (takes a (from_step (codes "p")) ∷ [])) ∷ [])
     (out (codes "q"))
     ((x, text_value (codes "a")) ∷ [])
 
@@ -75,10 +86,12 @@ abbrev pub answer : Command → Document → Answer
 answer command d = answer_to_reading local_gives command (read d)
 
 abbrev pub RunsOneText : Type 0
-RunsOneText = answer run (one_step (text_value (codes "a"))) ≡ Ok (codes "{\"outputs\":{\"out\":\"A\"},\"totals\":{\"attempts\":1,\"bounced\":0,\"failed\":0,\"jobs\":1}}\n")
+RunsOneText = answer run (one_step (text_value (codes "a")))
+    ≡ Ok (codes "{\"outputs\":{\"out\":\"A\"},\"totals\":{\"attempts\":1,\"bounced\":0,\"failed\":0,\"jobs\":1}}\n")
 
 abbrev pub RunsChain : Type 0
-RunsChain = answer run two_steps ≡ Ok (codes "{\"outputs\":{\"out\":[\"a\",\"b\"]},\"totals\":{\"attempts\":4,\"bounced\":0,\"failed\":0,\"jobs\":4}}\n")
+RunsChain = answer run two_steps
+    ≡ Ok (codes "{\"outputs\":{\"out\":[\"a\",\"b\"]},\"totals\":{\"attempts\":4,\"bounced\":0,\"failed\":0,\"jobs\":4}}\n")
 
 abbrev pub RunsFailure : Type 0
 RunsFailure =
@@ -86,7 +99,8 @@ RunsFailure =
     ≡ Ok (codes "{\"outputs\":{\"out\":[\"NO\",{\"error\":{\"at\":\"u[1]\",\"depth\":0,\"from\":[\"f[1]\"],\"why\":\"bounced\"}},\"NO\"]},\"totals\":{\"attempts\":5,\"bounced\":1,\"failed\":1,\"jobs\":6}}\n")
 
 abbrev pub RunsCross : Type 0
-RunsCross = answer run two_ports ≡ Ok (codes "{\"outputs\":{\"out\":[[\"a1\",\"a2\"],[\"b1\",\"b2\"]]},\"totals\":{\"attempts\":4,\"bounced\":0,\"failed\":0,\"jobs\":4}}\n")
+RunsCross = answer run two_ports
+    ≡ Ok (codes "{\"outputs\":{\"out\":[[\"a1\",\"a2\"],[\"b1\",\"b2\"]]},\"totals\":{\"attempts\":4,\"bounced\":0,\"failed\":0,\"jobs\":4}}\n")
 
 -- a job asks as often as it needs to
 abbrev pub TracesAttempts : Type 0
@@ -123,25 +137,33 @@ RunsGenerated =
     ≡ Ok (codes "gen 1: jobs 4 attempts 4 bounced 1 failed 1 bytes 150\n")
 
 abbrev pub ChecksCross : Type 0
-ChecksCross = answer check two_ports ≡ Ok (codes "in m c a 0 1\nin m c b 0 1\nout m c o 0 2\nflow m out 2\n")
+ChecksCross = answer check two_ports
+    ≡ Ok (codes "in m c a 0 1\nin m c b 0 1\nout m c o 0 2\nflow m out 2\n")
 
 abbrev pub ChecksChain : Type 0
-ChecksChain = answer check two_steps ≡ Ok (codes "in m p a 0 1\nout m p o 0 1\nin m q a 0 1\nout m q o 0 1\nflow m out 1\n")
+ChecksChain = answer check two_steps
+    ≡ Ok (codes "in m p a 0 1\nout m p o 0 1\nin m q a 0 1\nout m q o 0 1\nflow m out 1\n")
 
 -- both commands refuse it, and in this order: the form, the check
 abbrev pub RefusesDepth : Type 0
 RefusesDepth =
-    (answer run (one_step (words (codes "a" ∷ []))) ≡ Err (Check, codes "taverna: check fault 13 input depth at input x: 0 and 1\n"))
-    × (answer check (one_step (words (codes "a" ∷ []))) ≡ Err (Check, codes "taverna: check fault 13 input depth at input x: 0 and 1\n"))
+    (answer run (one_step (words (codes "a" ∷ [])))
+    ≡ Err (Check, codes "taverna: check fault 13 input depth at input x: 0 and 1\n"))
+    × (answer check (one_step (words (codes "a" ∷ [])))
+    ≡ Err (Check, codes "taverna: check fault 13 input depth at input x: 0 and 1\n"))
 
 abbrev pub RefusesCircle : Type 0
-RefusesCircle = answer run circle ≡ Err (Check, codes "taverna: check fault 5 link cycle at flow m step p\n")
+RefusesCircle = answer run circle
+    ≡ Err (Check, codes "taverna: check fault 5 link cycle at flow m step p\n")
 
 abbrev pub RefusesNoDocument : Type 0
-RefusesNoDocument = answer_to_reading local_gives check (reading_of_json local_knows (Some (object no_members))) ≡ Err (Form, codes "taverna: form fault 1 missing at [\"taverna\"]\n")
+RefusesNoDocument =
+    answer_to_reading local_gives check (reading_of_json local_knows (Some (object no_members)))
+    ≡ Err (Form, codes "taverna: form fault 1 missing at [\"taverna\"]\n")
 
 abbrev pub RefusesNoJson : Type 0
-RefusesNoJson = answer_to_reading local_gives run (reading_of_json local_knows None) ≡ Err (NotJson, codes "taverna: not JSON\n")
+RefusesNoJson = answer_to_reading local_gives run (reading_of_json local_knows None)
+    ≡ Err (NotJson, codes "taverna: not JSON\n")
 
 abbrev pub RefusesNoCommand : Type 0
 RefusesNoCommand = answer_of local_gives local_knows None [] ≡ Err (always Usage)
@@ -149,10 +171,13 @@ RefusesNoCommand = answer_of local_gives local_knows None [] ≡ Err (always Usa
 -- no such place in an output, no such output, no such place in an input, and no such input
 abbrev pub RefusesElements : Type 0
 RefusesElements =
-    (answer (lineage (codes "out") (2 ∷ [])) two_ports ≡ Err (NoSuchElement, codes "taverna: no element at out[2]\n"))
+    (answer (lineage (codes "out") (2 ∷ [])) two_ports
+    ≡ Err (NoSuchElement, codes "taverna: no element at out[2]\n"))
     × (answer (lineage x []) two_ports ≡ Err (NoSuchElement, codes "taverna: no element at x[]\n"))
-    × (answer (forward x (0 ∷ 0 ∷ [])) two_ports ≡ Err (NoSuchElement, codes "taverna: no element at x[0,0]\n"))
-    × (answer (forward (codes "out") []) two_ports ≡ Err (NoSuchElement, codes "taverna: no element at out[]\n"))
+    × (answer (forward x (0 ∷ 0 ∷ [])) two_ports
+    ≡ Err (NoSuchElement, codes "taverna: no element at x[0,0]\n"))
+    × (answer (forward (codes "out") []) two_ports
+    ≡ Err (NoSuchElement, codes "taverna: no element at out[]\n"))
 
 -- ---- asks
 
@@ -165,12 +190,16 @@ first_call s t = record { service = s; inputs = text_value t ∷ []; attempt = 0
 
 -- each text goes on to the next step before the next text is asked for
 abbrev pub AsksChain : Type 0
-AsksChain = asks_for run two_steps ≡ first_call (codes "upper") (codes "a") ∷ first_call (codes "lower") (codes "A") ∷ first_call (codes "upper") (codes "b") ∷ first_call (codes "lower") (codes "B") ∷ []
+AsksChain = asks_for run two_steps ≡ first_call (codes "upper") (codes "a")
+    ∷ first_call (codes "lower") (codes "A") ∷ first_call (codes "upper") (codes "b")
+    ∷ first_call (codes "lower") (codes "B") ∷ []
 
 -- the text that fails is asked for, and what bounces isn't
 abbrev pub AsksFailure : Type 0
 AsksFailure =
-    asks_for run one_failure ≡ first_call (codes "fail_if") (codes "no") ∷ first_call (codes "upper") (codes "no") ∷ first_call (codes "fail_if") (codes "true") ∷ first_call (codes "fail_if") (codes "no") ∷ first_call (codes "upper") (codes "no") ∷ []
+    asks_for run one_failure ≡ first_call (codes "fail_if") (codes "no")
+    ∷ first_call (codes "upper") (codes "no") ∷ first_call (codes "fail_if") (codes "true")
+    ∷ first_call (codes "fail_if") (codes "no") ∷ first_call (codes "upper") (codes "no") ∷ []
 
 -- `trace` asks what `run` asks: each attempt of a job before the next job
 abbrev pub AsksAttempts : Type 0
@@ -205,7 +234,8 @@ TakesCommands =
     × (command_of (codes "run" ∷ codes "--workers" ∷ codes "4" ∷ []) ≡ Some run)
     × (command_of (codes "check" ∷ []) ≡ Some check)
     × (command_of (codes "trace" ∷ []) ≡ Some trace)
-    × (command_of (codes "lineage" ∷ codes "--of" ∷ codes "out[1,0]" ∷ []) ≡ Some (lineage (codes "out") (1 ∷ 0 ∷ [])))
+    × (command_of (codes "lineage" ∷ codes "--of" ∷ codes "out[1,0]" ∷ [])
+    ≡ Some (lineage (codes "out") (1 ∷ 0 ∷ [])))
     × (command_of (codes "forward" ∷ codes "--of" ∷ codes "x[]" ∷ []) ≡ Some (forward x []))
     × (command_of (codes "gen" ∷ codes "7" ∷ []) ≡ Some (gen 7))
 
@@ -226,4 +256,7 @@ TellsCodes =
 
 abbrev pub TellsLines : Type 0
 TellsLines =
-    map fault_line (ReadFault ∷ TooLong ∷ NotJson ∷ WriteFault ∷ NoMemory ∷ []) ≡ codes "taverna: read fault\n" ∷ codes "taverna: input longer than 16777216 bytes\n" ∷ codes "taverna: not JSON\n" ∷ codes "taverna: write fault\n" ∷ codes "taverna: want of memory\n" ∷ []
+    map fault_line (ReadFault ∷ TooLong ∷ NotJson ∷ WriteFault ∷ NoMemory ∷ [])
+    ≡ codes "taverna: read fault\n" ∷ codes "taverna: input longer than 16777216 bytes\n"
+    ∷ codes "taverna: not JSON\n" ∷ codes "taverna: write fault\n"
+    ∷ codes "taverna: want of memory\n" ∷ []

@@ -18,7 +18,7 @@ use crate::words::Reading;
 use std::alloc::Global;
 use tv_check::CheckedRun;
 use tv_gate::Asker;
-use tv_generated::summary_line;
+use tv_generator::summary_line;
 use tv_report::{depth_lines, result_line, trace_lines};
 use tv_value::{NoMemory, Text};
 use tv_work::{run_board, run_whole};

@@ -4,7 +4,7 @@
 //! Their contracts are the headline: what is written is a function of the words and the document's bytes
 //! (`specs/Answers.antt`), and so is what the services are asked (`specs/Asking.antt`), each status has its cause and its line
 //! (`specs/Headline.antt`), and a document that is accepted is refused for want of memory or a fault of a stream alone. `gen` runs a
-//! document that is generated (`tv_generated`), and reads nothing. A run goes over a board (`tv_board`), which one worker works
+//! document that is generated (`tv_generator`), and reads nothing. A run goes over a board (`tv_board`), which one worker works
 //! off (`run_whole` of `tv_work`).
 //!
 //! - `words`, `status`, `refusal`: what goes in and comes out besides bytes

@@ -1,10 +1,10 @@
 //! The top calls.
 ghost use Rattle.std.specs.Prelude.{◌+◌, ◌≡◌, ◌≢◌, ◌≤◌, ◌↔◌, Some, None, IfErr};
 ghost use Rattle.tv_io.specs.ReadOf.{TakesAtMost};
-ghost use Rattle.tv_top.specs.Words.{IsGen, command_of as asked_for, gen};
+ghost use Rattle.tv_top.specs.Words.{IsGen, gen};
 ghost use Rattle.tv_top.specs.CommandViews.{reading_view};
 ghost use Rattle.tv_top.specs.Answers.{answer_of, byte_limit, generated_reading, reading_of};
-ghost use Rattle.tv_top.specs.Asked.{GivesRun, texts_of, refusal_status, refusal_line, ended};
+ghost use Rattle.tv_top.specs.Asked.{GivesRun, asked_for, refusal_status, refusal_line, ended};
 ghost use Rattle.tv_top.specs.Asking.{asks_of, IsAsked, IsAskedFor};
 ghost use Rattle.tv_top.specs.Headline.{IsAnswered, Cause, IsComplete, IsLine, IsRead, IsReported, IsSaid, Source as ASource, left_by, read_whole, source_told, sink_told, unread};
 
@@ -18,7 +18,7 @@ use std::sync::Wait;
 use std::thread::Threads;
 use tv_check::CheckedRun;
 use tv_gate::{Asker, Gate, Services};
-use tv_generated::generated;
+use tv_generator::generated;
 use tv_io::{ReadAllFault, Sink, Source, read_all, write_all};
 use tv_value::Text;
 
@@ -42,30 +42,31 @@ pub fn taverna_alone<S: Source, K: Sink, E: Sink, A: Asker>(
     asker: &mut A,
 ) -> Status
     // Why the status came, by the bytes of the document and of the answer.
-    ensures cause { Cause (left_by (asked_for (texts_of words.now)))
-        (answer_of A.Services.gives A.Services.knows (asked_for (texts_of words.now)))
+    ensures cause { Cause (left_by (asked_for words.now))
+        (answer_of A.Services.gives A.Services.knows (asked_for words.now))
         (source_told ⟦<S as Source>⟧ source.old source.new)
         (sink_told ⟦<K as Sink>⟧ out.old out.new) result }
-    ensures complete { IsComplete (answer_of A.Services.gives A.Services.knows (asked_for (texts_of words.now)))
+    ensures complete { IsComplete
+        (answer_of A.Services.gives A.Services.knows (asked_for words.now))
         (source_told ⟦<S as Source>⟧ source.old source.new)
         (sink_told ⟦<K as Sink>⟧ out.old out.new) result }
     // Words that give no command are told from them alone, where memory isn't wanting, and then nothing is read.
     ensures usage { result ≢ Status.NoMemory
-        → ((result ≡ Status.Usage) ↔ (asked_for (texts_of words.now) ≡ None)) }
+        → ((result ≡ Status.Usage) ↔ (asked_for words.now ≡ None)) }
     ensures taken { TakesAtMost (byte_limit + 1) (S.left source.old) (S.left source.new) }
     ensures unread { result ≡ Status.Usage → source.new ≡ source.old }
-    ensures unread_by_gen { IsGen (asked_for (texts_of words.now)) → source.new ≡ source.old }
+    ensures unread_by_gen { IsGen (asked_for words.now) → source.new ≡ source.old }
     // The output has nothing but an answer, and the line on `err` is the status's.
     ensures silent { result ≢ Status.Done → result ≢ Status.WriteFault → out.new ≡ out.old }
     ensures unsaid { result ≡ Status.Done → err.new ≡ err.old }
     ensures said { result ≢ Status.Done
-        → IsSaid (answer_of A.Services.gives A.Services.knows (asked_for (texts_of words.now)))
+        → IsSaid (answer_of A.Services.gives A.Services.knows (asked_for words.now))
         (source_told ⟦<S as Source>⟧ source.old source.new)
         (sink_told ⟦<E as Sink>⟧ err.old err.new) result }
     // What the services were asked, where the asker tells its calls: all that the answer takes, in the order of one worker, and
     // no more, whether or not it was written, or an element of an output wasn't there; nothing for another refusal; a beginning of it
     // where memory was wanting.
-    ensures asked { IsAsked (asks_of A.Services.gives A.Services.knows (asked_for (texts_of words.now)))
+    ensures asked { IsAsked (asks_of A.Services.gives A.Services.knows (asked_for words.now))
         (source_told ⟦<S as Source>⟧ source.old source.new)
         (A.calls asker.old) (A.calls asker.new) result }
 {
@@ -96,20 +97,21 @@ fn carried_out<S: Source, K: Sink, A: Asker>(
     out: &mut K,
     asker: &mut A,
 ) -> Result<(), Refusal>
-    ensures cause { Cause (left_by (asked_for (texts_of words.now)))
-        (answer_of A.Services.gives A.Services.knows (asked_for (texts_of words.now)))
+    ensures cause { Cause (left_by (asked_for words.now))
+        (answer_of A.Services.gives A.Services.knows (asked_for words.now))
         (source_told ⟦<S as Source>⟧ source.old source.new)
         (sink_told ⟦<K as Sink>⟧ out.old out.new) (ended result) }
-    ensures line { IfErr result (λ r. IsLine (answer_of A.Services.gives A.Services.knows (asked_for (texts_of words.now)))
+    ensures line { IfErr result
+        (λ r. IsLine (answer_of A.Services.gives A.Services.knows (asked_for words.now))
         (source_told ⟦<S as Source>⟧ source.old source.new) (refusal_status r) (refusal_line r)) }
     ensures usage { ended result ≢ Status.NoMemory
-        → ((ended result ≡ Status.Usage) ↔ (asked_for (texts_of words.now) ≡ None)) }
+        → ((ended result ≡ Status.Usage) ↔ (asked_for words.now ≡ None)) }
     ensures taken { TakesAtMost (byte_limit + 1) (S.left source.old) (S.left source.new) }
     ensures unread { ended result ≡ Status.Usage → source.new ≡ source.old }
-    ensures unread_by_gen { IsGen (asked_for (texts_of words.now)) → source.new ≡ source.old }
+    ensures unread_by_gen { IsGen (asked_for words.now) → source.new ≡ source.old }
     ensures silent { ended result ≢ Status.Done → ended result ≢ Status.WriteFault
         → out.new ≡ out.old }
-    ensures asked { IsAsked (asks_of A.Services.gives A.Services.knows (asked_for (texts_of words.now)))
+    ensures asked { IsAsked (asks_of A.Services.gives A.Services.knows (asked_for words.now))
         (source_told ⟦<S as Source>⟧ source.old source.new)
         (A.calls asker.old) (A.calls asker.new) (ended result) }
 {
@@ -127,15 +129,15 @@ fn answered<S: Source, A: Asker>(
     source: &mut S,
     asker: &mut A,
 ) -> Result<Text, Refusal>
-    ensures answer { IsAnswered (left_by (asked_for (texts_of words.now)))
-        (answer_of A.Services.gives A.Services.knows (asked_for (texts_of words.now)))
+    ensures answer { IsAnswered (left_by (asked_for words.now))
+        (answer_of A.Services.gives A.Services.knows (asked_for words.now))
         (source_told ⟦<S as Source>⟧ source.old source.new) result }
     ensures usage { ended result ≢ Status.NoMemory
-        → ((ended result ≡ Status.Usage) ↔ (asked_for (texts_of words.now) ≡ None)) }
+        → ((ended result ≡ Status.Usage) ↔ (asked_for words.now ≡ None)) }
     ensures taken { TakesAtMost (byte_limit + 1) (S.left source.old) (S.left source.new) }
     ensures unread { ended result ≡ Status.Usage → source.new ≡ source.old }
-    ensures unread_by_gen { IsGen (asked_for (texts_of words.now)) → source.new ≡ source.old }
-    ensures asked { IsAskedFor (asks_of A.Services.gives A.Services.knows (asked_for (texts_of words.now)))
+    ensures unread_by_gen { IsGen (asked_for words.now) → source.new ≡ source.old }
+    ensures asked { IsAskedFor (asks_of A.Services.gives A.Services.knows (asked_for words.now))
         (source_told ⟦<S as Source>⟧ source.old source.new)
         (A.calls asker.old) (A.calls asker.new) result }
 {
@@ -153,12 +155,15 @@ fn read_and_answered<S: Source, A: Asker>(
     source: &mut S,
     asker: &mut A,
 ) -> Result<Text, Refusal>
-    ensures answer { IsAnswered read_whole (answer_of A.Services.gives A.Services.knows (Some (reading_view command)))
+    ensures answer { IsAnswered read_whole
+        (answer_of A.Services.gives A.Services.knows (Some (reading_view command)))
         (source_told ⟦<S as Source>⟧ source.old source.new) result }
     ensures taken { TakesAtMost (byte_limit + 1) (S.left source.old) (S.left source.new) }
     ensures command { ended result ≢ Status.Usage }
-    ensures asked { IsAskedFor (asks_of A.Services.gives A.Services.knows (Some (reading_view command)))
-        (source_told ⟦<S as Source>⟧ source.old source.new) (A.calls asker.old) (A.calls asker.new) result }
+    ensures asked { IsAskedFor
+        (asks_of A.Services.gives A.Services.knows (Some (reading_view command)))
+        (source_told ⟦<S as Source>⟧ source.old source.new) (A.calls asker.old)
+        (A.calls asker.new) result }
 {
     let run = run_read::<S, A::Services>(alloc, source)?;
     answer(alloc, command, run, asker)
@@ -173,10 +178,12 @@ fn generated_and_answered<A: Asker>(
     requires some { 1 ≤ number }
     requires most { number ≤ 200 }
     ensures answer { (s : ASource) → s.left_after ≡ s.left
-        → IsAnswered unread (answer_of A.Services.gives A.Services.knows (Some (gen number))) s result }
+        → IsAnswered unread (answer_of A.Services.gives A.Services.knows (Some (gen number))) s
+        result }
     ensures command { ended result ≢ Status.Usage }
     ensures asked { (s : ASource)
-        → IsAskedFor (asks_of A.Services.gives A.Services.knows (Some (gen number))) s (A.calls asker.old) (A.calls asker.new) result }
+        → IsAskedFor (asks_of A.Services.gives A.Services.knows (Some (gen number))) s
+        (A.calls asker.old) (A.calls asker.new) result }
 {
     let run = run_generated::<A::Services>(alloc, number)?;
     summary(alloc, number, run, asker)
@@ -229,25 +236,26 @@ pub fn taverna<
     _gate: &G,
     asker: &mut A,
 ) -> Status
-    ensures cause { Cause (left_by (asked_for (texts_of words.now)))
-        (answer_of G.Services.gives G.Services.knows (asked_for (texts_of words.now)))
+    ensures cause { Cause (left_by (asked_for words.now))
+        (answer_of G.Services.gives G.Services.knows (asked_for words.now))
         (source_told ⟦<S as Source>⟧ source.old source.new)
         (sink_told ⟦<K as Sink>⟧ out.old out.new) result }
-    ensures complete { IsComplete (answer_of G.Services.gives G.Services.knows (asked_for (texts_of words.now)))
+    ensures complete { IsComplete
+        (answer_of G.Services.gives G.Services.knows (asked_for words.now))
         (source_told ⟦<S as Source>⟧ source.old source.new)
         (sink_told ⟦<K as Sink>⟧ out.old out.new) result }
     ensures usage { result ≢ Status.NoMemory
-        → ((result ≡ Status.Usage) ↔ (asked_for (texts_of words.now) ≡ None)) }
+        → ((result ≡ Status.Usage) ↔ (asked_for words.now ≡ None)) }
     ensures taken { TakesAtMost (byte_limit + 1) (S.left source.old) (S.left source.new) }
     ensures unread { result ≡ Status.Usage → source.new ≡ source.old }
-    ensures unread_by_gen { IsGen (asked_for (texts_of words.now)) → source.new ≡ source.old }
+    ensures unread_by_gen { IsGen (asked_for words.now) → source.new ≡ source.old }
     ensures silent { result ≢ Status.Done → result ≢ Status.WriteFault → out.new ≡ out.old }
     ensures unsaid { result ≡ Status.Done → err.new ≡ err.old }
     ensures said { result ≢ Status.Done
-        → IsSaid (answer_of G.Services.gives G.Services.knows (asked_for (texts_of words.now)))
+        → IsSaid (answer_of G.Services.gives G.Services.knows (asked_for words.now))
         (source_told ⟦<S as Source>⟧ source.old source.new)
         (sink_told ⟦<E as Sink>⟧ err.old err.new) result }
-    ensures asked { IsAsked (asks_of G.Services.gives G.Services.knows (asked_for (texts_of words.now)))
+    ensures asked { IsAsked (asks_of G.Services.gives G.Services.knows (asked_for words.now))
         (source_told ⟦<S as Source>⟧ source.old source.new)
         (A.calls asker.old) (A.calls asker.new) result }
 {

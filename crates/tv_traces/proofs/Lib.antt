@@ -8,3 +8,16 @@ pub mod OfPlan
 pub mod OfStart
 pub mod OfGrowing
 pub mod OfSights
+pub mod OfSources
+pub mod OfShapes
+pub mod OfFeeds
+pub mod OfBound
+pub mod OfTables
+pub mod OfStages
+pub mod OfRecords
+pub mod OfGroups
+pub mod OfOutputs
+pub mod OfBuilding
+pub mod OfAdding
+pub mod OfLaws
+pub mod OfKnown

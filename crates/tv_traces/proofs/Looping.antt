@@ -6,8 +6,8 @@ use Rattle.tv_lemmas.proofs.Numbers.{none-below, less-back, suc-plus}
 use Rattle.tv_value.specs.Nested.{Place, Tree, trees_of}
 use Rattle.tv_value.specs.Values.{JobName}
 use Rattle.tv_lineage.specs.Touching.{Mark}
-use Rattle.tv_marked.specs.Leaves.{leaf_places, places_from}
-use Rattle.tv_marked.specs.Shapes.{shape_used, shapes_used}
+use Rattle.tv_traces.specs.Leaves.{leaf_places, places_from}
+use Rattle.tv_traces.specs.Shapes.{shape_used, shapes_used}
 use Rattle.tv_traces.specs.Views.{node_view, nodes_view}
 use Rattle.tv_traces.specs.declared.node.Node.{Node}
 

@@ -7,7 +7,7 @@ use Rattle.tv_levels.specs.Levels as levels
 use Rattle.tv_levels.specs.Levels.{came, closed}
 use Rattle.tv_levels.specs.Views.{what_view}
 use Rattle.tv_levels.specs.declared.level.What.{What}
-use Rattle.tv_marked.specs.Building.{IsBuilt, Telling}
+use Rattle.tv_traces.specs.OfNodes.{IsBuilt, Telling}
 
 pub both-ok : {T E P Q R : Type 0} (r : Result T E) → (P → Q → R) → OnOk r P → OnOk r Q → OnOk r R
 both-ok (Ok x) f h k = f h k
@@ -23,5 +23,5 @@ told-none o told e f = sym f ∙ ap (option_map what_view) e
 pub next-level : (n : ℕ) → (n ≡ 0 → ⊥) → suc (n - 1) ≡ n
 next-level n h = omega (arith, h)
 
-pub at-level : (t : Telling) (m n : ℕ) (q r : Place) (old new : Kept) (u : Rattle.tv_marked.specs.Shapes.Shape) → m ≡ n → r ≡ q → IsBuilt t m r old new u → IsBuilt t n q old new u
+pub at-level : (t : Telling) (m n : ℕ) (q r : Place) (old new : Kept) (u : Rattle.tv_traces.specs.Shapes.Shape) → m ≡ n → r ≡ q → IsBuilt t m r old new u → IsBuilt t n q old new u
 at-level t m n q r old new u e f h = subst (λ k. IsBuilt t k q old new u) e (subst (λ p. IsBuilt t m p old new u) f h)

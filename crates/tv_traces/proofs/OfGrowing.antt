@@ -7,22 +7,22 @@ use Rattle.std.proofs.Common.{append_assoc, arith, sym, ap, ap₂, subst, ◌∙
 use Rattle.std.proofs.lemmas.List.{map-append, take_all}
 use Rattle.std.proofs.lemmas.Option.{none-some, same_Some}
 use Rattle.std.specs.Cmp.Lexicographic.{texts_ties}
+use Rattle.tv_lemmas.specs.Members.{In}
+use Rattle.tv_lemmas.proofs.OfMembers.{in-append, in-left, in-right}
 use Rattle.tv_lemmas.proofs.Numbers.{none-below}
 use Rattle.tv_lemmas.proofs.Tests.{from-true_false}
 use Rattle.tv_lemmas.proofs.Lists.{take-next}
 use Rattle.tv_value.specs.Nested.{Place}
 use Rattle.tv_value.specs.Orders.{place_cmp, same_name}
-use Rattle.tv_value.proofs.OfNames.{same_name-refl}
-use Rattle.tv_naming.proofs.ByPosition.{same_name-is}
+use Rattle.tv_value.proofs.OfNames.{same_name-is, same_name-refl}
 use Rattle.tv_levels.specs.Levels as levels
 use Rattle.tv_levels.specs.Levels.{IsAmong, closed}
 use Rattle.tv_levels.specs.Views.{level_view}
 use Rattle.tv_levels.specs.declared.level.Level.{Level}
-use Rattle.tv_model.specs.Members.{In}
-use Rattle.tv_model.proofs.Order.{in-left, in-right, in-append}
-use Rattle.tv_marked.specs.Tables.{AreGrown, IsInside, IsThere}
+use Rattle.tv_traces.specs.Tables.{AreGrown, IsInside, IsThere}
 use Rattle.tv_traces.specs.Growing.{AreGrownBy, IsAround, IsAroundOne, Items, WithAround, WithItem, at_least}
 use Rattle.tv_traces.specs.Sights.{grown_in, level_spot}
+use Rattle.tv_lineage.proofs.Seeing.{last as in-last}
 
 -- ---- keys
 
@@ -241,10 +241,6 @@ pub in-front : {A : Type 0} (x y : A) (xs : List A) → In x xs → In x (xs ++ 
 in-front x y [] i = absurd i
 in-front x y (z ∷ xs) (inl e) = inl e
 in-front x y (z ∷ xs) (inr i) = inr (in-front x y xs i)
-
-pub in-last : {A : Type 0} (y : A) (xs : List A) → In y (xs ++ y ∷ [])
-in-last y [] = inl refl
-in-last y (z ∷ xs) = inr (in-last y xs)
 
 longer : (q : Place) (i : ℕ) (p : Place) → length q < length (q ++ i ∷ p)
 longer [] i p = some (length p)

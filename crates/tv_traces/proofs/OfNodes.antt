@@ -8,8 +8,8 @@ use Rattle.tv_lineage.specs.declared.mark.Mark.{Mark}
 use Rattle.tv_lineage.specs.declared.mark.Mark.TheVariants.{Given, Made}
 use Rattle.tv_lineage.specs.declared.mark.Part.{Part}
 use Rattle.tv_lineage.specs.declared.mark.Part.TheVariants.{Single}
-use Rattle.tv_marked.specs.Feeds.{as_part}
-use Rattle.tv_marked.specs.Shapes.{Shape, job_here, passed_by, reached}
+use Rattle.tv_traces.specs.Feeds.{as_part}
+use Rattle.tv_traces.specs.Shapes.{Shape, job_here, passed_by, reached}
 use Rattle.tv_traces.specs.Views.{node_step, node_view, nodes_view}
 use Rattle.tv_traces.specs.declared.node.Node.{Node}
 use Rattle.tv_traces.specs.declared.node.Node.TheVariants as plain
@@ -75,7 +75,7 @@ drop-next (i ∷ q) (suc t) h = drop-next q t (less t (length q) h)
     less a b h = omega arith
 
 -- the way ends at a leaf
-pub stops : (u v : Shape) (e : Rattle.tv_marked.specs.Shapes.Stop) → u ≡ v → v ≡ leaf (result []) e → (q r : Place) → reached q u r ≡ Some (q, u)
+pub stops : (u v : Shape) (e : Rattle.tv_traces.specs.Shapes.Stop) → u ≡ v → v ≡ leaf (result []) e → (q r : Place) → reached q u r ≡ Some (q, u)
 stops u v e f g q r = subst (λ w. reached q w r ≡ Some (q, w)) (sym (f ∙ g)) (by r)
   where
     by : (r : Place) → reached q (leaf (result []) e) r ≡ Some (q, leaf (result []) e)

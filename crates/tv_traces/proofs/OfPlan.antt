@@ -12,7 +12,7 @@ use Rattle.tv_flow.specs.declared.document.Step.{Step}
 use Rattle.tv_strategy.specs.Conditions.{number_of}
 use Rattle.tv_strategy.specs.Measures.{strategy_depth}
 use Rattle.tv_starts.specs.Starts.{starts}
-use Rattle.tv_depths.specs.Steps.{strategy_of}
+use Rattle.tv_instance.specs.Steps.{strategy_of}
 use Rattle.tv_wires.specs.Ports.{mismatches, ports_of}
 use Rattle.tv_wires.specs.declared.ports.Port.{Port}
 use Rattle.tv_wires.specs.declared.wiring.Wiring.{Wiring}
@@ -22,7 +22,7 @@ use Rattle.tv_check.specs.declared.plans.FlowPlan.{FlowPlan}
 use Rattle.tv_check.specs.declared.plans.StepPlan.{StepPlan}
 use Rattle.tv_frame.proofs.OfPlans.{numbers-are}
 use Rattle.tv_frame.proofs.OfTables.{as-many-code, as-many-steps, step-of, wiring-is}
-use Rattle.tv_marked.specs.Walking.{begins_of}
+use Rattle.tv_traces.specs.Walking.{begins_of}
 
 -- the plan of step s
 pub record IsPlanOf (f : spec.Flow) (s : Name × spec.Step) (q : StepPlan) : Type 0 where

@@ -6,25 +6,26 @@ use Rattle.std.specs.Prelude.{◌≡◌, refl, ℕ, suc, ◌+◌, ◌<◌, ◌�
 use Rattle.std.proofs.Common.{arith, sym, ap, ap₂, subst, ◌∙◌, get_or, inl, inr}
 use Rattle.std.proofs.lemmas.List.{map-append}
 use Rattle.std.specs.Cmp.Lexicographic.{texts_ties}
+use Rattle.tv_lemmas.specs.Members.{In}
 use Rattle.tv_lemmas.proofs.Lists.{take-next}
 use Rattle.tv_value.specs.Nested.{Place}
 use Rattle.tv_value.specs.Orders.{place_cmp, same_name}
 use Rattle.tv_value.specs.Values.{JobName}
 use Rattle.tv_flow.specs.Flows.{Flow}
 use Rattle.tv_strategy.specs.Origins.{Origin}
-use Rattle.tv_depths.specs.Delivered.{StepMeaning}
-use Rattle.tv_naming.proofs.ByPosition.{same_name-is}
+use Rattle.tv_instance.specs.Delivered.{StepMeaning}
+use Rattle.tv_value.proofs.OfNames.{same_name-is}
 use Rattle.tv_levels.specs.Levels as levels
 use Rattle.tv_levels.specs.Levels.{AreLevels, closed}
 use Rattle.tv_levels.specs.declared.level.What.{What}
-use Rattle.tv_model.specs.Members.{In}
-use Rattle.tv_marked.specs.Seen.{AreKnownBy, AreSeen, Spot}
-use Rattle.tv_marked.specs.Tables.{AreDone, AreGrown, IsTableOf, or_else, told_or}
-use Rattle.tv_marked.proofs.OfTables.{so_far-seen, whole-seen}
+use Rattle.tv_traces.specs.Seen.{AreKnownBy, AreSeen, Spot}
+use Rattle.tv_traces.specs.Tables.{AreDone, AreGrown, IsTableOf, or_else, told_or}
+use Rattle.tv_traces.proofs.OfTables.{so_far-seen, whole-seen}
 use Rattle.tv_traces.specs.Sights.{done_by, grown_in, job_view}
 use Rattle.tv_traces.specs.Tabled.{told_in}
 use Rattle.tv_traces.specs.declared.settled.SettledJob.{SettledJob}
-use Rattle.tv_traces.proofs.OfGrowing.{at-key, in-end, in-front, in-last, same-key}
+use Rattle.tv_traces.proofs.OfGrowing.{at-key, in-end, in-front, same-key}
+use Rattle.tv_lineage.proofs.Seeing.{last as in-last}
 
 -- ---- settled jobs
 

@@ -12,8 +12,8 @@ use Rattle.tv_lineage.specs.Kept.{Groups, Kept, records_of}
 use Rattle.tv_strategy.specs.Conditions.{number_of}
 use Rattle.tv_strategy.specs.Measures.{strategy_depth}
 use Rattle.tv_naming.specs.Numbers.{position}
-use Rattle.tv_depths.specs.Ranks.{ranked}
-use Rattle.tv_depths.specs.Steps.{strategy_of}
+use Rattle.tv_instance.specs.Ranks.{ranked}
+use Rattle.tv_instance.specs.Steps.{strategy_of}
 use Rattle.tv_wires.specs.Ports.{mismatches}
 use Rattle.tv_check.specs.Plans as plan
 use Rattle.tv_check.specs.declared.plans.FlowPlan.{FlowPlan}
@@ -22,26 +22,27 @@ use Rattle.tv_levels.specs.Levels.{What}
 use Rattle.tv_levels.specs.MainSteps.{main_steps}
 use Rattle.tv_lineage.specs.Members.{HaveSame}
 use Rattle.tv_strategy.specs.Origins.{Origin}
-use Rattle.tv_followed.specs.Recorded.{main_records}
+use Rattle.tv_model.specs.records.Recorded.{main_records}
 use Rattle.tv_model.specs.Meanings.{meaning}
 use Rattle.std.proofs.lemmas.List.Sorted.{IsPermutation-sym}
 use Rattle.std.proofs.lemmas.Bool.{cases_eq}
+use Rattle.tv_lemmas.proofs.OfMembers.{in-slice}
 use Rattle.tv_lemmas.proofs.Lists.{get-within, filter-all}
 use Rattle.tv_naming.proofs.OfForms.{steps-named}
-use Rattle.tv_matching.specs.Members as matching
 use Rattle.tv_matching.proofs.OfMembers.{in-permutes}
-use Rattle.tv_model.specs.Members as model
-use Rattle.tv_drawn.proofs.OfRanks.{in-at, ranked-permutes}
+use Rattle.tv_framing.proofs.matches.OfRanks.{ranked-permutes}
+use Rattle.tv_lemmas.proofs.OfMembers.{get-in as in-at}
 use Rattle.tv_frame.proofs.OfOrder.{rank-is}
 use Rattle.tv_frame.proofs.OfTables.{as-many-steps, plan-wired, step-of}
-use Rattle.tv_marked.specs.Building.{IsBuilt}
-use Rattle.tv_marked.specs.Feeds.{job_at}
-use Rattle.tv_marked.specs.Grouped.{AllAreGrouped, Grows, IsGrouped}
-use Rattle.tv_marked.specs.Shapes.{Shape, no_shape}
-use Rattle.tv_marked.specs.Seen.{AreSeen}
-use Rattle.tv_marked.specs.Staged.{IsMainFlow, IsStage}
-use Rattle.tv_marked.proofs.OfAdding.{stage-end, stage-next, stage-start}
-use Rattle.tv_marked.proofs.OfGroups.{all-grow}
+use Rattle.tv_traces.specs.OfNodes.{IsBuilt}
+use Rattle.tv_traces.specs.Feeds.{job_at}
+use Rattle.tv_traces.specs.Grouped.{AllAreGrouped, Grows, IsGrouped}
+use Rattle.tv_traces.specs.Shapes.{Shape, no_shape}
+use Rattle.tv_traces.specs.Seen.{AreSeen}
+use Rattle.tv_traces.specs.Staged.{IsStage}
+use Rattle.tv_forest.specs.runs.Stated.{IsMainFlow}
+use Rattle.tv_traces.proofs.OfAdding.{stage-end, stage-next, stage-start}
+use Rattle.tv_traces.proofs.OfGroups.{all-grow}
 use Rattle.tv_traces.specs.Stepping.{telling_of}
 use Rattle.tv_traces.specs.Traced.{AreTraces, AreTracesBy}
 use Rattle.tv_traces.specs.Views.{node_view, shapes_view}
@@ -135,23 +136,13 @@ rank-there p r lt none =
     let flow = flow_view p.flow in
     let wired = plan-wired p in
     let s = get-within (ranked flow.steps) r (subst (λ m. r < m) (as-many-steps p ∙ sym wired.ranked) lt) in
-    let i = in-permutes s.0 flow.steps (ranked flow.steps) (IsPermutation-sym _ _ (ranked-permutes flow.steps (steps-named flow wired.formed).rise wired.ranked)) (over (ranked flow.steps) r s.0 s.1) in
-    let n = in-at s.0 flow.steps (under s.0 flow.steps i) in
+    let i = in-permutes s.0 flow.steps (ranked flow.steps) (IsPermutation-sym _ _ (ranked-permutes flow.steps (steps-named flow wired.formed).rise wired.ranked)) (in-slice (ranked flow.steps) r s.0 s.1) in
+    let n = in-at s.0 flow.steps i in
     let q = get-within p.steps n.0 (inside p n.0 s.0 n.1) in
     let w = step-of p n.0 q.0 q.1 in
     let same : w.0 ≡ s.0 = same_Some w.0 s.0 (sym w.1.0 ∙ n.1) in
     none n.0 q.0 q.1 (ap (λ (z : plan.StepPlan). z.rank) w.1.1 ∙ ap (λ (x : Name × spec.Step). position x.0 (ranked flow.steps)) same ∙ rank-is flow wired r s.0 s.1)
   where
-    over : {A : Type 0} (xs : List A) (k : ℕ) (x : A) → slice_get xs k ≡ Some x → matching.In x xs
-    over [] k x e = absurd (none-some x e)
-    over (y ∷ xs) zero x e = inl (sym (same_Some y x e))
-    over (y ∷ xs) (suc k) x e = inr (over xs k x e)
-
-    under : {A : Type 0} (x : A) (xs : List A) → matching.In x xs → model.In x xs
-    under x [] i = i
-    under x (y ∷ xs) (inl e) = inl e
-    under x (y ∷ xs) (inr i) = inr (under x xs i)
-
     inside : (p : FlowPlan) (k : ℕ) (s : Name × spec.Step) → slice_get (flow_view p.flow).steps k ≡ Some s → k < length p.steps
     inside p k s e = subst (λ m. k < m) (sym (as-many-steps p)) (got-below (flow_view p.flow).steps k s e)
       where

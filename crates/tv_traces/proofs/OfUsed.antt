@@ -20,17 +20,17 @@ use Rattle.tv_wires.specs.declared.feeds.NumberedFeed.{NumberedFeed}
 use Rattle.tv_wires.specs.declared.wiring.Wiring.{Wiring}
 use Rattle.tv_check.specs.declared.plans.FlowPlan.{FlowPlan}
 use Rattle.tv_model.specs.Meanings.{meaning}
-use Rattle.tv_followed.specs.Recorded.{leaves, marks_of, output_at}
+use Rattle.tv_model.specs.records.Recorded.{leaves, marks_of, output_at}
 use Rattle.tv_frame.proofs.OfTables.{wiring-is}
 use Rattle.tv_lineage.specs.Lineages as lineages
 use Rattle.tv_flow.specs.declared.document.Feed.{Feed}
-use Rattle.tv_marked.specs.Feeds.{feed_marks}
-use Rattle.tv_marked.specs.Leaves.{leaf_places}
-use Rattle.tv_marked.proofs.OfOutputs.{leaves-are, leaves_told, named-output, no-output, output, outputs-are, place-told, value}
+use Rattle.tv_traces.specs.Feeds.{feed_marks}
+use Rattle.tv_traces.specs.Leaves.{leaf_places}
+use Rattle.tv_traces.proofs.OfOutputs.{leaves-are, leaves_told, named-output, no-output, output, outputs-are, place-told, value}
 use Rattle.tv_traces.specs.Traced.{AreTraces}
 use Rattle.tv_traces.specs.Views.{shapes_view}
 use Rattle.tv_traces.specs.declared.traces.Traces.{Traces}
-use Rattle.tv_depths.proofs.OfNested.{position-each}
+use Rattle.tv_naming.proofs.ByPosition.{position-each}
 
 both-at : {A B C : Type 0} (f : B → C) (g : A → B) (xs : List A) (k : ℕ) (x : A) → slice_get xs k ≡ Some x → slice_get (map f (map g xs)) k ≡ Some (f (g x))
 both-at f g xs k x e = get-map f (map g xs) k (g x) (get-map g xs k x e)

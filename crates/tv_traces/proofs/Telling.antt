@@ -14,8 +14,8 @@ use Rattle.tv_flow.specs.declared.document.Step.{Step}
 use Rattle.tv_wires.specs.declared.feeds.NumberedLink.{NumberedLink}
 use Rattle.tv_wires.specs.declared.feeds.NumberedFeed.{NumberedFeed}
 use Rattle.tv_wires.specs.declared.feeds.NumberedFeed.TheVariants.{Merge}
-use Rattle.tv_marked.specs.Feeds.{feed_told, input_told, link_told, output_told}
-use Rattle.tv_marked.specs.Shapes.{Shape, no_shape, reached}
+use Rattle.tv_traces.specs.Feeds.{feed_told, input_told, link_told, output_told}
+use Rattle.tv_traces.specs.Shapes.{Shape, no_shape, reached}
 use Rattle.tv_traces.specs.Views.{node_view, shapes_view}
 use Rattle.tv_traces.specs.declared.node.Node.{Node}
 
@@ -39,9 +39,9 @@ shape-none (v ∷ us) (suc n) h = shape-none us n (le_of_suc-le-suc {n = length 
 pub none-pushed : {A : Type 0} (old told : List A) → told ≡ [] → old ≡ old ++ told
 none-pushed old told e = sym (append-nil old) ∙ ap (λ l. old ++ l) (sym e)
 
-module _ {A : Type 0} (of_element : Name → Place → List A) (of_node : Name → Place → Shape → List A) (none : (s : Name) (q : Place) → of_node s q no_shape ≡ []) (f : Flow) (us : List Node) (n o : ℕ) (q : Place) where
+module _ {A : Type 0} (of_node : Name → Place → Shape → List A) (none : (s : Name) (q : Place) → of_node s q no_shape ≡ []) (f : Flow) (us : List Node) (n o : ℕ) (q : Place) where
   abbrev told : List A
-  told = output_told of_element of_node (flow_view f) (shapes_view us) n o q
+  told = output_told of_node (flow_view f) (shapes_view us) n o q
 
   abbrev inner : Name × spec.Step → List A
   inner s = option_map_or (λ (p : Name × ℕ). option_map_or (λ (x : Place × Shape). of_node s.0 x.0 x.1) (reached [] (slice_index_or (shapes_view us) n no_shape) q) []) (slice_get s.1.outputs o) []

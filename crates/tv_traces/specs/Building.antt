@@ -1,8 +1,8 @@
 -- What is known of a step whose iteration is gone through.
 use Rattle.tv_flow.specs.Views.{flow_view}
 use Rattle.tv_lineage.specs.Kept.{Groups}
-use Rattle.tv_marked.specs.Building.{Telling}
-use Rattle.tv_marked.specs.Grouped.{AllAreGrouped}
+use Rattle.tv_traces.specs.OfNodes.{Telling}
+use Rattle.tv_traces.specs.Grouped.{AllAreGrouped}
 use Rattle.tv_traces.specs.Sights.{done_in, what_in}
 use Rattle.tv_traces.specs.Views.{shapes_view}
 use Rattle.tv_traces.specs.declared.building.Walk.{Walk}

@@ -1,7 +1,7 @@
 -- What is told of lists that grow.
 use Rattle.std.specs.Prelude.{◌≡◌, ◌⊎◌, ◌<◌, ◌++◌, ◌∷◌, ℕ, suc, Bool, false, not, nat_lt, length, List, Option, Some, None}
+use Rattle.tv_lemmas.specs.Members.{In}
 use Rattle.tv_value.specs.Nested.{Place}
-use Rattle.tv_model.specs.Members.{In}
 
 -- a list is told as long as that
 abbrev pub at_least : ℕ → Option ℕ → Bool

@@ -5,3 +5,17 @@ pub mod Growing
 pub mod Sights
 pub mod Building
 pub mod Stepping
+pub mod Shapes
+pub mod Feeds
+pub mod Walking
+pub mod Tables
+pub mod Seen
+pub mod KnownInRun
+pub mod Standing
+pub mod Noted
+pub mod Staged
+pub mod Leaves
+pub mod Settled
+pub mod Grouped
+pub mod OfNodes
+pub mod Stated

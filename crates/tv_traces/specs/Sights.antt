@@ -7,8 +7,8 @@ use Rattle.tv_value.specs.Orders.{place_cmp}
 use Rattle.tv_levels.specs.Levels as levels
 use Rattle.tv_levels.specs.Levels.{closed}
 use Rattle.tv_levels.specs.declared.level.Level.{Level}
-use Rattle.tv_marked.specs.Seen.{Spot}
-use Rattle.tv_marked.specs.Tables.{told_or}
+use Rattle.tv_traces.specs.Seen.{Spot}
+use Rattle.tv_traces.specs.Tables.{told_or}
 use Rattle.tv_traces.specs.Tabled.{told_in}
 use Rattle.tv_traces.specs.declared.settled.SettledJob.{SettledJob}
 use Rattle.tv_traces.specs.declared.sight.Sight.{Sight}

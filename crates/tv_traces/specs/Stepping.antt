@@ -5,9 +5,9 @@ use Rattle.tv_value.specs.Values.{Name}
 use Rattle.tv_flow.specs.Flows.{Flow, Step}
 use Rattle.tv_wires.specs.Ports.{ports_of}
 use Rattle.tv_levels.specs.Levels.{What}
-use Rattle.tv_marked.specs.Building.{Telling}
-use Rattle.tv_marked.specs.Shapes.{Shape}
-use Rattle.tv_marked.specs.Walking.{begins_of}
+use Rattle.tv_traces.specs.OfNodes.{Telling}
+use Rattle.tv_traces.specs.Shapes.{Shape}
+use Rattle.tv_traces.specs.Walking.{begins_of}
 
 abbrev pub telling_of : Flow → List Shape → (Place → Option What) → (Place → Bool) → Name × Step
     → Telling

@@ -7,13 +7,14 @@ use Rattle.tv_lineage.specs.Kept.{records_of}
 use Rattle.tv_lineage.specs.Members.{HaveSame}
 use Rattle.tv_strategy.specs.Origins.{Origin}
 use Rattle.tv_model.specs.Meanings.{meaning}
-use Rattle.tv_followed.specs.Recorded.{main_records}
+use Rattle.tv_model.specs.records.Recorded.{main_records}
 use Rattle.tv_levels.specs.Levels.{AreLevels, Level}
 use Rattle.tv_levels.specs.MainSteps.{main_steps}
-use Rattle.tv_marked.specs.Seen.{AreKnownBy, Spot}
-use Rattle.tv_marked.specs.Settled.{records_of_settled}
-use Rattle.tv_marked.specs.Staged.{IsMainFlow, steps_until}
-use Rattle.tv_marked.specs.Standing.{AreShapesOf}
+use Rattle.tv_traces.specs.Seen.{AreKnownBy, Spot}
+use Rattle.tv_traces.specs.Settled.{records_of_settled}
+use Rattle.tv_traces.specs.Staged.{steps_until}
+use Rattle.tv_forest.specs.runs.Stated.{IsMainFlow}
+use Rattle.tv_traces.specs.Standing.{AreShapesOf}
 use Rattle.tv_traces.specs.Views.{shapes_view}
 use Rattle.tv_traces.specs.declared.traces.Traces.{Traces}
 

@@ -3,7 +3,7 @@ use Rattle.std.specs.Prelude.{List, [], map}
 use Rattle.tv_value.specs.Nested.{leaf, list, trees_of}
 use Rattle.tv_lineage.specs.Kept.{result}
 use Rattle.tv_lineage.specs.Views.{mark_view, part_view}
-use Rattle.tv_marked.specs.Shapes.{Shape, Shapes, job_here, passed_by}
+use Rattle.tv_traces.specs.Shapes.{Shape, Shapes, job_here, passed_by}
 use Rattle.tv_traces.specs.declared.node.Node.{Node, fold-Node}
 use Rattle.tv_traces.specs.declared.node.Node.TheOpen.{Node-F}
 

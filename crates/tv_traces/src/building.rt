@@ -2,8 +2,8 @@
 ghost use Rattle.std.specs.Prelude.{◌≡◌, ◌+◌, ◌==◌, IfOk, OnOk, Some, drop, find, length, map, option_map, slice_index_or, take};
 ghost use Rattle.tv_flow.specs.Views.{flow_view};
 ghost use Rattle.tv_lineage.specs.Views.{mark_view, part_view};
-ghost use Rattle.tv_marked.specs.Walking.{bound_parts, fault_marks, part_in};
-ghost use Rattle.tv_marked.specs.Building.{IsBuilt, IsJobNoted};
+ghost use Rattle.tv_traces.specs.Walking.{bound_parts, fault_marks, part_in};
+ghost use Rattle.tv_traces.specs.OfNodes.{IsBuilt, IsJobNoted};
 ghost use Rattle.tv_levels.specs.Levels.{closed};
 ghost use Rattle.tv_traces.specs.Building.{AreGrouped, telling};
 ghost use Rattle.tv_traces.specs.Sights.{what_in};
@@ -73,7 +73,8 @@ fn part_of<'p>(starts: &[u32], port: &Port, place: &'p [u32]) -> &'p [u32]
 /// The parts of all that the job at a place binds.
 fn bound_parts(alloc: Global, walk: &Walk<'_>, place: &[u32]) -> Result<Parts, NoMemory>
     ensures { IfOk result (λ ps. map part_view ps
-        ≡ bound_parts (flow_view walk.now.shown.flow.now) (shapes_view walk.now.shown.shapes.now) walk.now.ports.now walk.now.starts.now place.now) }
+        ≡ bound_parts (flow_view walk.now.shown.flow.now) (shapes_view walk.now.shown.shapes.now)
+        walk.now.ports.now walk.now.starts.now place.now) }
 {
     let mut parts = Vec::new(alloc);
     for port in walk.ports {
@@ -98,7 +99,8 @@ fn port_of<'a>(ports: &'a [Port], leaf: u32) -> Option<&'a Port>
 /// The mark of the fault that a leaf met, if it has one.
 fn fault_marks(alloc: Global, walk: &Walk<'_>, leaf: u32, place: &[u32]) -> Result<Marks, NoMemory>
     ensures { IfOk result (λ ms. map mark_view ms
-        ≡ fault_marks (flow_view walk.now.shown.flow.now) (shapes_view walk.now.shown.shapes.now) walk.now.ports.now walk.now.starts.now leaf place.now) }
+        ≡ fault_marks (flow_view walk.now.shown.flow.now) (shapes_view walk.now.shown.shapes.now)
+        walk.now.ports.now walk.now.starts.now leaf place.now) }
 {
     let mut marks = Vec::new(alloc);
     if let Some(port) = port_of(walk.ports, leaf) {

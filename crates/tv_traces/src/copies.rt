@@ -2,7 +2,7 @@
 ghost use Rattle.std.specs.Prelude.{◌≡◌, ◌++◌, ◌∷◌, [], IfOk};
 ghost use Rattle.tv_lineage.specs.Touching as touching;
 ghost use Rattle.tv_lineage.specs.Views.{mark_view, part_view};
-ghost use Rattle.tv_marked.specs.Feeds.{job_at};
+ghost use Rattle.tv_traces.specs.Feeds.{job_at};
 
 use std::alloc::Global;
 use tv_lineage::{Mark, Part};

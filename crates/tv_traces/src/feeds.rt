@@ -2,8 +2,8 @@
 ghost use Rattle.std.specs.Prelude.{◌≡◌, ◌++◌, ◌≤◌, [], IfOk, IfSome, OnOk, Some, length, map, option_map, slice_index_or, take};
 ghost use Rattle.tv_flow.specs.Views.{flow_view};
 ghost use Rattle.tv_lineage.specs.Views.{mark_view, part_view};
-ghost use Rattle.tv_marked.specs.Feeds.{as_part, element_parts, feed_parts, input_told, link_told, merge_told, node_parts, output_told};
-ghost use Rattle.tv_marked.specs.Shapes.{reached};
+ghost use Rattle.tv_traces.specs.Feeds.{as_part, element_parts, feed_parts, input_told, link_told, merge_told, node_parts, output_told};
+ghost use Rattle.tv_traces.specs.Shapes.{reached};
 ghost use Rattle.tv_traces.specs.Views.{node_view, shapes_view};
 
 use crate::copies::{element_mark, job_mark, mark_copy, part_copy};
@@ -113,7 +113,8 @@ fn push_output_parts(
 ) -> Result<(), NoMemory>
     ensures { OnOk result (map part_view parts.new.items
         ≡ map part_view parts.old.items
-        ++ output_told element_parts node_parts (flow_view shown.now.flow.now) (shapes_view shown.now.shapes.now) step output place.now) }
+        ++ output_told node_parts (flow_view shown.now.flow.now)
+        (shapes_view shown.now.shapes.now) step output place.now) }
 {
     let Some(entry) = shown.flow.steps.as_slice().get(step as usize) else {
         return Ok(());
@@ -140,7 +141,8 @@ fn push_link_parts(
 ) -> Result<(), NoMemory>
     ensures { OnOk result (map part_view parts.new.items
         ≡ map part_view parts.old.items
-        ++ link_told element_parts node_parts (flow_view shown.now.flow.now) (shapes_view shown.now.shapes.now) link.now place.now) }
+        ++ link_told element_parts node_parts (flow_view shown.now.flow.now)
+        (shapes_view shown.now.shapes.now) link.now place.now) }
 {
     match link {
         NumberedLink::Input(input) => push_element_part(alloc, shown, *input, place, parts),
@@ -159,7 +161,8 @@ fn push_merged_parts(
 ) -> Result<(), NoMemory>
     ensures { OnOk result (map part_view parts.new.items
         ≡ map part_view parts.old.items
-        ++ merge_told element_parts node_parts (flow_view shown.now.flow.now) (shapes_view shown.now.shapes.now) links.now []) }
+        ++ merge_told element_parts node_parts (flow_view shown.now.flow.now)
+        (shapes_view shown.now.shapes.now) links.now []) }
 {
     for link in links {
         push_link_parts(alloc, shown, link, &[], parts)?;
@@ -177,7 +180,8 @@ pub(crate) fn push_feed_parts(
 ) -> Result<(), NoMemory>
     ensures { OnOk result (map part_view parts.new.items
         ≡ map part_view parts.old.items
-        ++ feed_parts (flow_view shown.now.flow.now) (shapes_view shown.now.shapes.now) feed.now place.now) }
+        ++ feed_parts (flow_view shown.now.flow.now) (shapes_view shown.now.shapes.now)
+        feed.now place.now) }
 {
     match feed {
         NumberedFeed::Link(link) => push_link_parts(alloc, shown, link, place, parts),

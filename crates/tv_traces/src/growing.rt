@@ -4,8 +4,8 @@ ghost use Rattle.std.specs.Prelude.{◌≡◌, ◌++◌, ◌∷◌, ℕ, [], IfO
 ghost use Rattle.tv_value.specs.Nested.{Place as APlace};
 ghost use Rattle.tv_value.specs.Orders.{place_cmp};
 ghost use Rattle.tv_levels.specs.Views.{level_view};
-ghost use Rattle.tv_marked.specs.Seen.{Spot};
-ghost use Rattle.tv_marked.specs.Tables.{AreGrown};
+ghost use Rattle.tv_traces.specs.Seen.{Spot};
+ghost use Rattle.tv_traces.specs.Tables.{AreGrown};
 ghost use Rattle.tv_traces.specs.Growing.{AreGrownBy, IsAroundOne, WithAround, WithItem, at_least};
 ghost use Rattle.tv_traces.specs.Sights.{grown_in, job_view, level_spot};
 
@@ -27,7 +27,8 @@ fn grow(
 ) -> Result<(), NoMemory>
     ensures { OnOk result ((js : List Spot) (whole : APlace) (depth : ℕ)
         → AreGrownBy (WithAround (IsAroundOne js) step whole depth) (get place_cmp grown.old)
-        → AreGrownBy (WithItem (WithAround (IsAroundOne js) step whole depth) step place.now index) (get place_cmp grown.new)) }
+        → AreGrownBy (WithItem (WithAround (IsAroundOne js) step whole depth) step place.now index)
+        (get place_cmp grown.new)) }
 {
     let Some(count) = index.checked_add(1) else {
         return Err(NoMemory);

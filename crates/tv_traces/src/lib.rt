@@ -26,12 +26,14 @@
 //! - `feeds`, `used`: what feeds deliver at a place, as parts and as marks
 //! - `places`: the places of a value's leaves
 //! - `node`, `copies`: nodes of shapes; copies of marks and parts
+//! - `laws`: which marks what stands in the main instance used, told by the shapes of its iterations alone
 #![tactic(auto)]
 
 mod building;
 mod copies;
 mod feeds;
 mod growing;
+pub mod laws;
 mod node;
 mod places;
 mod settled;

@@ -3,7 +3,7 @@ ghost use Rattle.std.specs.Prelude.{◌≡◌, ◌++◌, [], OnOk, map};
 ghost use Rattle.tv_value.specs.Nested.{trees_of};
 ghost use Rattle.tv_value.specs.Views.{items_view, view};
 ghost use Rattle.tv_cell.specs.PieceValues.{piece_value};
-ghost use Rattle.tv_marked.specs.Leaves.{leaf_places, places_from};
+ghost use Rattle.tv_traces.specs.Leaves.{leaf_places, places_from};
 
 use crate::copies::item_place;
 use std::alloc::Global;

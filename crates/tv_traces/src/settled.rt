@@ -1,6 +1,6 @@
 //! Settled jobs.
 ghost use Rattle.std.specs.Prelude.{IfOk, Some, map};
-ghost use Rattle.tv_marked.specs.Tables.{AreDone};
+ghost use Rattle.tv_traces.specs.Tables.{AreDone};
 ghost use Rattle.tv_traces.specs.Sights.{done_by, job_view};
 
 use crate::table::key_of;

@@ -3,10 +3,10 @@ ghost use Rattle.std.specs.Prelude.{◌≡◌, ℕ, Bool, true, IfOk, List, map,
 ghost use Rattle.tv_value.specs.Values.{JobName};
 ghost use Rattle.tv_flow.specs.Flows.{Flow};
 ghost use Rattle.tv_strategy.specs.Origins.{Origin};
-ghost use Rattle.tv_depths.specs.Delivered.{StepMeaning};
+ghost use Rattle.tv_instance.specs.Delivered.{StepMeaning};
 ghost use Rattle.tv_levels.specs.Levels.{AreLevels};
 ghost use Rattle.tv_levels.specs.Views.{level_view, what_view};
-ghost use Rattle.tv_marked.specs.Seen.{AreKnownBy, AreSeen};
+ghost use Rattle.tv_traces.specs.Seen.{AreKnownBy, AreSeen};
 ghost use Rattle.tv_traces.specs.Sights.{done_in, job_view, what_in};
 
 use crate::growing::{grown_at, grown_of};
@@ -30,7 +30,8 @@ pub(crate) struct Sight {
 impl Sight {
     /// Of an instance that has ended: these are all its levels, and all its jobs are settled.
     pub(crate) fn whole(alloc: Global, levels: &[Level]) -> Result<Sight, NoMemory>
-        ensures { IfOk result (λ v. (flow : Flow) (fs : List StepMeaning) → AreLevels flow fs (map level_view levels.now)
+        ensures { IfOk result (λ v. (flow : Flow) (fs : List StepMeaning)
+            → AreLevels flow fs (map level_view levels.now)
             → AreSeen (λ o. true) (λ n. true) flow fs (what_in v) (done_in v)) }
     {
         let table = table_of(alloc, levels)?;
@@ -47,7 +48,9 @@ impl Sight {
         levels: &[Level],
         jobs: &[SettledJob],
     ) -> Result<Sight, NoMemory>
-        ensures { IfOk result (λ v. (known : Origin → Bool) (settled : JobName → Bool) (flow : Flow) (fs : List StepMeaning)
+        ensures { IfOk result
+            (λ v. (known : Origin → Bool) (settled : JobName → Bool) (flow : Flow)
+            (fs : List StepMeaning)
             → AreKnownBy known settled flow fs (map level_view levels.now) (map job_view jobs.now)
             → AreSeen known settled flow fs (what_in v) (done_in v)) }
     {

@@ -6,12 +6,12 @@ ghost use Rattle.tv_flow.specs.Flows.{Step};
 ghost use Rattle.tv_flow.specs.Views.{flow_view};
 ghost use Rattle.tv_strategy.specs.Conditions.{number_of};
 ghost use Rattle.tv_strategy.specs.Measures.{strategy_depth};
-ghost use Rattle.tv_depths.specs.Steps.{strategy_of};
+ghost use Rattle.tv_instance.specs.Steps.{strategy_of};
 ghost use Rattle.tv_wires.specs.Ports.{mismatches};
 ghost use Rattle.tv_check.specs.declared.plans.StepPlan.{StepPlan};
-ghost use Rattle.tv_marked.specs.Building.{IsBuilt};
-ghost use Rattle.tv_marked.specs.Grouped.{AllAreGrouped};
-ghost use Rattle.tv_marked.specs.Shapes.{no_shape};
+ghost use Rattle.tv_traces.specs.OfNodes.{IsBuilt};
+ghost use Rattle.tv_traces.specs.Grouped.{AllAreGrouped};
+ghost use Rattle.tv_traces.specs.Shapes.{no_shape};
 ghost use Rattle.tv_traces.specs.Stepping.{telling_of};
 ghost use Rattle.tv_traces.specs.Sights.{done_in, what_in};
 ghost use Rattle.tv_traces.specs.Views.{node_view, shapes_view};
@@ -78,7 +78,8 @@ pub(crate) fn step_node(
         → slice_get (flow_view plan.now.flow).steps number ≡ Some s
         → IsBuilt (telling_of (flow_view plan.now.flow) (shapes_view shapes.now)
         (what_in sight.now number) (done_in sight.now number) s)
-        (strategy_depth (number_of (mismatches (flow_view plan.now.flow) s.1)) (strategy_of s.1)) [] records.old records.new (node_view u)) }
+        (strategy_depth (number_of (mismatches (flow_view plan.now.flow) s.1)) (strategy_of s.1)) []
+        records.old records.new (node_view u)) }
 {
     let step = &plan.steps.as_slice()[number];
     let entry = &plan.flow.steps.as_slice()[number];

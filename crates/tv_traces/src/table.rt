@@ -3,7 +3,7 @@ ghost use Rattle.std.specs.BTreeMap.{get};
 ghost use Rattle.std.specs.Prelude.{◌≡◌, ◌∷◌, IfOk, map, option_map};
 ghost use Rattle.tv_value.specs.Orders.{place_cmp};
 ghost use Rattle.tv_levels.specs.Views.{level_view, what_view};
-ghost use Rattle.tv_marked.specs.Tables.{IsTableOf};
+ghost use Rattle.tv_traces.specs.Tables.{IsTableOf};
 ghost use Rattle.tv_traces.specs.Tabled.{told_in};
 
 use std::alloc::Global;

@@ -10,13 +10,13 @@ ghost use Rattle.tv_lineage.specs.Kept.{records_of};
 ghost use Rattle.tv_lineage.specs.Members.{HaveSame};
 ghost use Rattle.tv_lineage.specs.Views.{leaf_view, mark_view};
 ghost use Rattle.tv_model.specs.Meanings.{meaning};
-ghost use Rattle.tv_followed.specs.Recorded.{leaves, marks_of, output_at};
+ghost use Rattle.tv_model.specs.records.Recorded.{leaves, marks_of, output_at};
 ghost use Rattle.tv_levels.specs.MainSteps.{main_steps};
 ghost use Rattle.tv_levels.specs.Views.{level_view};
-ghost use Rattle.tv_marked.specs.Feeds.{feed_marks};
-ghost use Rattle.tv_marked.specs.Seen.{AreSeen};
-ghost use Rattle.tv_marked.specs.Settled.{records_of_settled};
-ghost use Rattle.tv_marked.specs.Staged.{IsMainFlow};
+ghost use Rattle.tv_traces.specs.Feeds.{feed_marks};
+ghost use Rattle.tv_traces.specs.Seen.{AreSeen};
+ghost use Rattle.tv_traces.specs.Settled.{records_of_settled};
+ghost use Rattle.tv_forest.specs.runs.Stated.{IsMainFlow};
 ghost use Rattle.tv_traces.specs.Sights.{done_in, job_view, what_in};
 ghost use Rattle.tv_traces.specs.Views.{shapes_view};
 ghost use Rattle.tv_traces.specs.Traced.{AreTraces, AreTracesBy, IsTraced, IsTracedSoFar};
@@ -64,8 +64,10 @@ impl Traces {
         jobs: &[SettledJob],
     ) -> Result<Records, NoMemory>
         ensures { (known : Origin → Bool) (settled : JobName → Bool) (gives : Giving) (d : Document)
-            → IsTracedSoFar known settled gives d (flow_view plan.now.flow) (map level_view levels.now) (map job_view jobs.now)
-            → IfOk result (λ rs. HaveSame (records_of rs) (records_of_settled settled (meaning gives d))) }
+            → IsTracedSoFar known settled gives d (flow_view plan.now.flow)
+            (map level_view levels.now) (map job_view jobs.now)
+            → IfOk result
+            (λ rs. HaveSame (records_of rs) (records_of_settled settled (meaning gives d))) }
     {
         let sight = Sight::so_far(alloc, levels, jobs)?;
         let traces = traces_by(alloc, plan, &sight)?;
@@ -162,7 +164,8 @@ impl Traces {
 fn traces_by(alloc: Global, plan: &FlowPlan, sight: &Sight) -> Result<Traces, NoMemory>
     ensures { (known : Origin → Bool) (settled : JobName → Bool) (gives : Giving) (d : Document)
         → IsMainFlow d (flow_view plan.now.flow)
-        → AreSeen known settled (flow_view plan.now.flow) (main_steps (meaning gives d)) (what_in sight.now) (done_in sight.now)
+        → AreSeen known settled (flow_view plan.now.flow) (main_steps (meaning gives d))
+        (what_in sight.now) (done_in sight.now)
         → IfOk result (AreTracesBy known settled gives d (flow_view plan.now.flow)) }
 {
     let mut records = Records::start(alloc)?;
@@ -199,7 +202,14 @@ fn push_leaves(
     leaves: &mut Vec<Leaf>,
 ) -> Result<(), NoMemory>
     ensures { OnOk result (map leaf_view leaves.new.items ≡ map leaf_view leaves.old.items
-        ++ map (λ q. record { port = port.now; place = q; used = feed_marks (flow_view shown.now.flow.now) (shapes_view shown.now.shapes.now) feed.now q }) places.now) }
+        ++ map (λ q.
+        record {
+          port = port.now;
+          place = q;
+          used =
+              feed_marks (flow_view shown.now.flow.now) (shapes_view shown.now.shapes.now) feed.now
+              q;
+        }) places.now) }
 {
     for place in places {
         let mut marks = Vec::new(alloc);

@@ -2,8 +2,8 @@
 ghost use Rattle.std.specs.Prelude.{◌≡◌, ◌++◌, [], OnOk, map};
 ghost use Rattle.tv_flow.specs.Views.{flow_view};
 ghost use Rattle.tv_lineage.specs.Views.{mark_view};
-ghost use Rattle.tv_marked.specs.Feeds.{element_marks, feed_marks, input_told, job_at, link_told, merge_told, node_marks, output_told};
-ghost use Rattle.tv_marked.specs.Shapes.{shapes_used};
+ghost use Rattle.tv_traces.specs.Feeds.{element_marks, feed_marks, input_told, job_at, link_told, merge_told, node_marks, output_told};
+ghost use Rattle.tv_traces.specs.Shapes.{shapes_used};
 ghost use Rattle.tv_traces.specs.Views.{node_view, nodes_view, shapes_view};
 
 use crate::copies::{element_mark, item_place, job_mark, mark_copy};
@@ -46,7 +46,8 @@ fn push_item_marks(
     marks: &mut Vec<Mark>,
 ) -> Result<(), NoMemory>
     ensures { OnOk result (map mark_view marks.new.items
-        ≡ map mark_view marks.old.items ++ shapes_used (job_at step.now) place.now 0 (nodes_view items.now)) }
+        ≡ map mark_view marks.old.items ++ shapes_used (job_at step.now) place.now 0
+        (nodes_view items.now)) }
 {
     for (index, item) in items.iter().enumerate() {
         let Ok(number) = u32::try_from(index) else {
@@ -101,7 +102,8 @@ fn push_output_marks(
 ) -> Result<(), NoMemory>
     ensures { OnOk result (map mark_view marks.new.items
         ≡ map mark_view marks.old.items
-        ++ output_told element_marks node_marks (flow_view shown.now.flow.now) (shapes_view shown.now.shapes.now) step output place.now) }
+        ++ output_told node_marks (flow_view shown.now.flow.now)
+        (shapes_view shown.now.shapes.now) step output place.now) }
 {
     let Some(entry) = shown.flow.steps.as_slice().get(step as usize) else {
         return Ok(());
@@ -128,7 +130,8 @@ fn push_link_marks(
 ) -> Result<(), NoMemory>
     ensures { OnOk result (map mark_view marks.new.items
         ≡ map mark_view marks.old.items
-        ++ link_told element_marks node_marks (flow_view shown.now.flow.now) (shapes_view shown.now.shapes.now) link.now place.now) }
+        ++ link_told element_marks node_marks (flow_view shown.now.flow.now)
+        (shapes_view shown.now.shapes.now) link.now place.now) }
 {
     match link {
         NumberedLink::Input(input) => push_element_mark(alloc, shown, *input, place, marks),
@@ -147,7 +150,8 @@ fn push_merged_marks(
 ) -> Result<(), NoMemory>
     ensures { OnOk result (map mark_view marks.new.items
         ≡ map mark_view marks.old.items
-        ++ merge_told element_marks node_marks (flow_view shown.now.flow.now) (shapes_view shown.now.shapes.now) links.now []) }
+        ++ merge_told element_marks node_marks (flow_view shown.now.flow.now)
+        (shapes_view shown.now.shapes.now) links.now []) }
 {
     for link in links {
         push_link_marks(alloc, shown, link, &[], marks)?;
@@ -165,7 +169,8 @@ pub(crate) fn push_feed_marks(
 ) -> Result<(), NoMemory>
     ensures { OnOk result (map mark_view marks.new.items
         ≡ map mark_view marks.old.items
-        ++ feed_marks (flow_view shown.now.flow.now) (shapes_view shown.now.shapes.now) feed.now place.now) }
+        ++ feed_marks (flow_view shown.now.flow.now) (shapes_view shown.now.shapes.now)
+        feed.now place.now) }
 {
     match feed {
         NumberedFeed::Link(link) => push_link_marks(alloc, shown, link, place, marks),

@@ -12,19 +12,19 @@ use Rattle.serde_json.specs.declared.value.Value.{Value as Json}
 use Rattle.tv_value.specs.Nested.{Trees, no_trees, trees_of}
 use Rattle.tv_value.specs.Values as spec
 use Rattle.tv_value.specs.Values.{Scalar}
-use Rattle.tv_value.specs.Readings.{Complaint, read, read_items, read_list, first_read, item_count, length_limit, ragged}
+use Rattle.tv_value.specs.Readings.{ReadingComplaint, read, read_items, read_list, first_read, item_count, length_limit, ragged}
 
 pub item_count-each : (xs : List Json) → item_count (json_items xs) ≡ length xs
 item_count-each [] = refl
 item_count-each (x ∷ xs) = ap suc (item_count-each xs)
 
 -- the values read so far, before what the rest gives
-abbrev pub put_before : List spec.Value → Result (Trees (Unit {0}) Scalar) Complaint → Result (Trees (Unit {0}) Scalar) Complaint
+abbrev pub put_before : List spec.Value → Result (Trees (Unit {0}) Scalar) ReadingComplaint → Result (Trees (Unit {0}) Scalar) ReadingComplaint
 put_before vs (Err c) = Err c
 put_before [] (Ok ts) = Ok ts
 put_before (v ∷ vs) (Ok ts) = first_read 0 (Ok v) (put_before vs (Ok ts))
 
-pub put_before-push : (vs : List spec.Value) (v : spec.Value) (i : ℕ) (r : Result (Trees (Unit {0}) Scalar) Complaint) → put_before (vs ++ v ∷ []) r ≡ put_before vs (first_read i (Ok v) r)
+pub put_before-push : (vs : List spec.Value) (v : spec.Value) (i : ℕ) (r : Result (Trees (Unit {0}) Scalar) ReadingComplaint) → put_before (vs ++ v ∷ []) r ≡ put_before vs (first_read i (Ok v) r)
 put_before-push vs v i (Err c) = refl
 put_before-push [] v i (Ok ts) = refl
 put_before-push (u ∷ vs) v i (Ok ts) = ap (λ r. first_read 0 (Ok u) r) (put_before-push vs v i (Ok ts))
@@ -33,10 +33,10 @@ pub put_before-end : (vs : List spec.Value) → put_before vs (Ok no_trees) ≡ 
 put_before-end [] = refl
 put_before-end (v ∷ vs) = ap (λ r. first_read 0 (Ok v) r) (put_before-end vs)
 
-short : (n : ℕ) (x y : Result spec.Value Complaint) → n < 2 ^ 32 → (if nat_lt n length_limit then x else y) ≡ x
+short : (n : ℕ) (x y : Result spec.Value ReadingComplaint) → n < 2 ^ 32 → (if nat_lt n length_limit then x else y) ≡ x
 short n x y h = subst (λ b. (if b then x else y) ≡ x) (sym (lt-ltb n (2 ^ 32) h)) refl
 
-long : (n : ℕ) (x y : Result spec.Value Complaint) → 2 ^ 32 ≤ n → (if nat_lt n length_limit then x else y) ≡ y
+long : (n : ℕ) (x y : Result spec.Value ReadingComplaint) → 2 ^ 32 ≤ n → (if nat_lt n length_limit then x else y) ≡ y
 long n x y h = subst (λ b. (if b then x else y) ≡ y) (sym (le-ltb n (2 ^ 32) h)) refl
 
 pub read_short : (xs : List Json) → length xs < 2 ^ 32 → read (array (json_items xs)) ≡ read_list (read_items 0 (json_items xs))
@@ -68,7 +68,7 @@ read_step xs i d vs v h e =
 pub read_end : (xs : List Json) (i : ℕ) (vs : List spec.Value) → length xs ≤ i → put_before vs (read_items i (json_items (drop i xs))) ≡ Ok (trees_of vs)
 read_end xs i vs h = ap (λ ys. put_before vs (read_items i (json_items ys))) (drop_all i xs h) ∙ put_before-end vs
 
-pub fault_through : (f : ValueFault) (r : Result (Trees (Unit {0}) Scalar) Complaint) → IsFault f r → IsFault f (read_list r)
+pub fault_through : (f : ValueFault) (r : Result (Trees (Unit {0}) Scalar) ReadingComplaint) → IsFault f r → IsFault f (read_list r)
 fault_through (NotText p) r h = ap read_list h
 fault_through (Ragged p) r h = ap read_list h
 fault_through NoMemory r h = tt

@@ -3,7 +3,7 @@ use Rattle.std.specs.Prelude.{◌≡◌, ℕ, ◌∷◌, Result, Ok, Err}
 use Rattle.tv_value.specs.Nested.{Trees}
 use Rattle.tv_value.specs.Values as spec
 use Rattle.tv_value.specs.Values.{Scalar}
-use Rattle.tv_value.specs.Readings.{Complaint, not_text, ragged}
+use Rattle.tv_value.specs.Readings.{ReadingComplaint, not_text, ragged}
 use Rattle.tv_value.specs.declared.value.Value.{Value}
 use Rattle.tv_value.specs.declared.value.Items.{Items}
 use Rattle.tv_value.specs.declared.reading.ValueFault.{ValueFault}
@@ -11,16 +11,17 @@ use Rattle.tv_value.specs.declared.reading.ValueFault.TheVariants.{NotText, Ragg
 use Rattle.tv_value.specs.Views.{view, items_view}
 
 -- the fault is the reading's complaint; want of memory says nothing
-abbrev pub IsFault : {A : Type 0} → ValueFault → Result A Complaint → Type 0
+abbrev pub IsFault : {A : Type 0} → ValueFault → Result A ReadingComplaint → Type 0
 IsFault (NotText p) r = r ≡ Err (not_text p)
 IsFault (Ragged p) r = r ≡ Err (ragged p)
 IsFault NoMemory r = Unit {0}
 
-abbrev pub IsReading : Result Value ValueFault → Result spec.Value Complaint → Type 0
+abbrev pub IsReading : Result Value ValueFault → Result spec.Value ReadingComplaint → Type 0
 IsReading (Ok v) r = r ≡ Ok (view v)
 IsReading (Err f) r = IsFault f r
 
-abbrev pub IsReadingOfItems : Result Items ValueFault → Result (Trees (Unit {0}) Scalar) Complaint
+abbrev pub IsReadingOfItems : Result Items ValueFault → Result (Trees (Unit {0}) Scalar)
+    ReadingComplaint
     → Type 0
 IsReadingOfItems (Ok vs) r = r ≡ Ok (items_view vs)
 IsReadingOfItems (Err f) r = IsFault f r

@@ -24,7 +24,15 @@ strings (t ∷ ts) = item (string t) (strings ts)
 
 -- an error document as the one member of an object
 abbrev pub error_json : ErrorDoc → Data
-error_json e = object (members ((codes "error", object (members ((codes "at", string (job_text e.at)) ∷ (codes "depth", number (unsigned e.depth)) ∷ (codes "from", array (strings (map job_text e.from))) ∷ (codes "why", string e.why) ∷ []))) ∷ []))
+error_json e =
+    object (members
+    ((
+      codes "error",
+      object
+          (members ((codes "at", string (job_text e.at)) ∷ (codes "depth", number (unsigned e.depth))
+          ∷ (codes "from", array (strings (map job_text e.from))) ∷ (codes "why", string e.why) ∷ [])),
+    )
+    ∷ []))
 
 abbrev pub scalar_json : Scalar → Data
 scalar_json (text t) = string t

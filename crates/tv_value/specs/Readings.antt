@@ -6,17 +6,17 @@ use Rattle.tv_value.specs.Nested.{Trees, no_trees, tree, Place}
 use Rattle.tv_value.specs.Values.{Scalar, Value, text_value, list_value}
 use Rattle.tv_value.specs.DepthSets.{least_depth}
 
-pub data Complaint : Type 0 where
-  not_text : Place → Complaint
-  ragged : Place → Complaint
+pub data ReadingComplaint : Type 0 where
+  not_text : Place → ReadingComplaint
+  ragged : Place → ReadingComplaint
 
 -- the same, seen from a list that has it at an index
-abbrev pub within : ℕ → Complaint → Complaint
+abbrev pub within : ℕ → ReadingComplaint → ReadingComplaint
 within i (not_text q) = not_text (i ∷ q)
 within i (ragged q) = ragged (i ∷ q)
 
 -- an integer is its decimal text
-abbrev pub read_number : Num → Result Value Complaint
+abbrev pub read_number : Num → Result Value ReadingComplaint
 read_number (unsigned n) = Ok (text_value (decimal n))
 read_number (negative z) = Ok (text_value (signed_decimal z))
 read_number (float x) = Err (not_text [])
@@ -29,20 +29,22 @@ item_count no_items = 0
 item_count (item d ds) = suc (item_count ds)
 
 -- a list of well-formed items, if it has a depth
-abbrev pub read_list : Result (Trees (Unit {0}) Scalar) Complaint → Result Value Complaint
+abbrev pub read_list : Result (Trees (Unit {0}) Scalar) ReadingComplaint
+    → Result Value ReadingComplaint
 read_list (Err c) = Err c
 read_list (Ok vs) = if is_some (least_depth (list_value vs)) then Ok (list_value vs)
     else Err (ragged [])
 
-abbrev pub first_read : ℕ → Result Value Complaint → Result (Trees (Unit {0}) Scalar) Complaint
-    → Result (Trees (Unit {0}) Scalar) Complaint
+abbrev pub first_read : ℕ → Result Value ReadingComplaint
+    → Result (Trees (Unit {0}) Scalar) ReadingComplaint
+    → Result (Trees (Unit {0}) Scalar) ReadingComplaint
 first_read i (Err c) rest = Err (within i c)
 first_read i (Ok v) (Err c) = Err c
 first_read i (Ok v) (Ok vs) = Ok (tree v vs)
 
 -- items before their list; a list that is too long before its items
 abbrev mutual
-  pub read : Data → Result Value Complaint
+  pub read : Data → Result Value ReadingComplaint
   read null = Err (not_text [])
   read (boolean b) = Err (not_text [])
   read (number n) = read_number n
@@ -51,6 +53,6 @@ abbrev mutual
       else Err (ragged [])
   read (object ms) = Err (not_text [])
 
-  pub read_items : ℕ → Items → Result (Trees (Unit {0}) Scalar) Complaint
+  pub read_items : ℕ → Items → Result (Trees (Unit {0}) Scalar) ReadingComplaint
   read_items i no_items = Ok no_trees
   read_items i (item d ds) = first_read i (read d) (read_items (suc i) ds)

@@ -27,7 +27,10 @@ a_json = string (codes "a")
 -- texts, integers and lists are read
 abbrev pub ReadsValues : Type 0
 ReadsValues =
-    (read a_json ≡ Ok (t (codes "a"))) × (read (number (unsigned 10)) ≡ Ok (t (codes "10"))) × (read (number (negative (negsuc 1))) ≡ Ok (t (codes "-2"))) × (read (array_of (array_of [] ∷ array_of (a_json ∷ []) ∷ [])) ≡ Ok (l (l [] ∷ l (t (codes "a") ∷ []) ∷ [])))
+    (read a_json ≡ Ok (t (codes "a"))) × (read (number (unsigned 10)) ≡ Ok (t (codes "10")))
+    × (read (number (negative (negsuc 1))) ≡ Ok (t (codes "-2")))
+    × (read (array_of (array_of [] ∷ array_of (a_json ∷ []) ∷ []))
+    ≡ Ok (l (l [] ∷ l (t (codes "a") ∷ []) ∷ [])))
 
 -- the first complaint in order, with its place, and items before their list
 abbrev pub TellsFirstComplaint : Type 0
@@ -40,16 +43,29 @@ TellsFirstComplaint =
     ≡ Err (ragged (1 ∷ [])))
 
 abbrev pub bounced : ErrorDoc
-bounced = record { at = (codes "n", 0 ∷ []) ∷ (codes "u", 1 ∷ 2 ∷ []) ∷ []; depth = 1; why = codes "bounced"; from = ((codes "q", []) ∷ []) ∷ [] }
+bounced =
+    record {
+      at = (codes "n", 0 ∷ []) ∷ (codes "u", 1 ∷ 2 ∷ []) ∷ [];
+      depth = 1;
+      why = codes "bounced";
+      from = ((codes "q", []) ∷ []) ∷ [];
+    }
 
 -- the empty list has every depth from 1, and an error document the one that it states
 abbrev pub MeasuresDepths : Type 0
 MeasuresDepths =
-    (map (has_depth (l [])) (0 ∷ 1 ∷ 7 ∷ []) ≡ map (λ d. has_depth (l (l [] ∷ [])) d) (1 ∷ 2 ∷ 8 ∷ [])) × (least_depth (t (codes "a")) ≡ Some 0) × (least_depth (l []) ≡ Some 1) × (least_depth (l (l [] ∷ l (t (codes "a") ∷ []) ∷ [])) ≡ Some 2) × (least_depth (l (l [] ∷ t (codes "a") ∷ [])) ≡ None) × (least_depth (l (fault_value bounced ∷ l [] ∷ [])) ≡ Some 2)
+    (map (has_depth (l [])) (0 ∷ 1 ∷ 7 ∷ [])
+    ≡ map (λ d. has_depth (l (l [] ∷ [])) d) (1 ∷ 2 ∷ 8 ∷ []))
+    × (least_depth (t (codes "a")) ≡ Some 0) × (least_depth (l []) ≡ Some 1)
+    × (least_depth (l (l [] ∷ l (t (codes "a") ∷ []) ∷ [])) ≡ Some 2)
+    × (least_depth (l (l [] ∷ t (codes "a") ∷ [])) ≡ None)
+    × (least_depth (l (fault_value bounced ∷ l [] ∷ [])) ≡ Some 2)
 
 abbrev pub LooksUp : Type 0
 LooksUp =
-    (at (l (t (codes "a") ∷ l [] ∷ [])) (1 ∷ []) ≡ Some (l [])) × (at (l (t (codes "a") ∷ [])) [] ≡ Some (l (t (codes "a") ∷ []))) × (at (l (t (codes "a") ∷ [])) (1 ∷ []) ≡ None) × (at (t (codes "a")) (0 ∷ []) ≡ None)
+    (at (l (t (codes "a") ∷ l [] ∷ [])) (1 ∷ []) ≡ Some (l []))
+    × (at (l (t (codes "a") ∷ [])) [] ≡ Some (l (t (codes "a") ∷ [])))
+    × (at (l (t (codes "a") ∷ [])) (1 ∷ []) ≡ None) × (at (t (codes "a")) (0 ∷ []) ≡ None)
 
 abbrev pub ComparesPlaces : Type 0
 ComparesPlaces = (is_prefix [] (1 ∷ []) ≡ true) × (is_prefix (1 ∷ []) (1 ∷ 2 ∷ []) ≡ true)
@@ -59,11 +75,19 @@ ComparesPlaces = (is_prefix [] (1 ∷ []) ≡ true) × (is_prefix (1 ∷ []) (1 
 -- names by step before place, and each once
 abbrev pub OrdersNames : Type 0
 OrdersNames =
-    in_order job_name_cmp (((codes "u", []) ∷ []) ∷ ((codes "n", 10 ∷ []) ∷ []) ∷ ((codes "n", 2 ∷ []) ∷ (codes "a", []) ∷ []) ∷ ((codes "u", []) ∷ []) ∷ ((codes "n", 2 ∷ []) ∷ []) ∷ []) ≡ ((codes "n", 2 ∷ []) ∷ []) ∷ ((codes "n", 2 ∷ []) ∷ (codes "a", []) ∷ []) ∷ ((codes "n", 10 ∷ []) ∷ []) ∷ ((codes "u", []) ∷ []) ∷ []
+    in_order job_name_cmp
+    (((codes "u", []) ∷ []) ∷ ((codes "n", 10 ∷ []) ∷ [])
+    ∷ ((codes "n", 2 ∷ []) ∷ (codes "a", []) ∷ []) ∷ ((codes "u", []) ∷ [])
+    ∷ ((codes "n", 2 ∷ []) ∷ []) ∷ []) ≡ ((codes "n", 2 ∷ []) ∷ [])
+    ∷ ((codes "n", 2 ∷ []) ∷ (codes "a", []) ∷ []) ∷ ((codes "n", 10 ∷ []) ∷ [])
+    ∷ ((codes "u", []) ∷ []) ∷ []
 
 abbrev pub PrintsNames : Type 0
-PrintsNames = (job_text bounced.at ≡ codes "n[0]/u[1,2]") × (job_text ((codes "u", []) ∷ []) ≡ codes "u[]")
+PrintsNames = (job_text bounced.at ≡ codes "n[0]/u[1,2]")
+    × (job_text ((codes "u", []) ∷ []) ≡ codes "u[]")
 
 abbrev pub PrintsValues : Type 0
 PrintsValues =
-    (value_text (l (t (codes "a\"b") ∷ t [] ∷ [])) ≡ codes "[\"a\\\"b\",\"\"]") × (value_text (l (l [] ∷ fault_value bounced ∷ [])) ≡ codes "[[],{\"error\":{\"at\":\"n[0]/u[1,2]\",\"depth\":1,\"from\":[\"q[]\"],\"why\":\"bounced\"}}]")
+    (value_text (l (t (codes "a\"b") ∷ t [] ∷ [])) ≡ codes "[\"a\\\"b\",\"\"]")
+    × (value_text (l (l [] ∷ fault_value bounced ∷ []))
+    ≡ codes "[[],{\"error\":{\"at\":\"n[0]/u[1,2]\",\"depth\":1,\"from\":[\"q[]\"],\"why\":\"bounced\"}}]")

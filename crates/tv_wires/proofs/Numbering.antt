@@ -1,5 +1,5 @@
 -- The numbers of steps and outputs, as look-ups give them.
-use Rattle.std.specs.Prelude.{◌≡◌, ℕ, suc, ◌<◌, ◌≤◌, ◌^◌, List, [], ◌∷◌, length, true, false, Bool, if◌then◌else◌, None, Some, Option, is_some, option_map, refl}
+use Rattle.std.specs.Prelude.{◌≡◌, ℕ, suc, ◌<◌, ◌^◌, List, [], ◌∷◌, length, true, false, Bool, if◌then◌else◌, None, Some, Option, is_some, option_map, refl}
 use Rattle.std.specs.Option.{option_map_or}
 use Rattle.std.proofs.Common.{arith, get_or, ap, sym, subst, ◌∙◌}
 use Rattle.tv_value.specs.Values.{Name}
@@ -11,13 +11,11 @@ use Rattle.tv_flow.specs.Views.{each, flow_view, step_view}
 use Rattle.tv_flow.specs.declared.document.Flow.{Flow}
 use Rattle.tv_flow.specs.declared.document.Step.{Step}
 use Rattle.tv_naming.specs.Numbers.{number_in, position}
-use Rattle.tv_naming.proofs.ByPosition.{number-absent, number-found}
+use Rattle.tv_naming.proofs.ByPosition.{number-absent, number-found, position-each}
 use Rattle.tv_naming.proofs.Kept.{named-each, step-at}
-use Rattle.tv_naming.proofs.FormedParts.{few, step-inputs, step-outputs}
+use Rattle.tv_naming.proofs.FormedParts.{few, step-outputs}
 use Rattle.tv_wires.specs.Feeds.{link_numbered, outputs_of}
-use Rattle.tv_wires.specs.declared.feeds.NumberedLink.{NumberedLink}
 use Rattle.tv_wires.specs.declared.feeds.NumberedLink.TheVariants.{Output}
-use Rattle.tv_depths.proofs.OfNested.{position-each}
 
 module _ {A : Type 0} (n : Name) where
   past : (xs : List (Name × A)) → named n xs ≡ None → position n xs ≡ length xs

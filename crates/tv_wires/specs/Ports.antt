@@ -4,8 +4,8 @@ use Rattle.tv_value.specs.Values.{Name}
 use Rattle.tv_value.specs.Orders.{same_name}
 use Rattle.tv_flow.specs.Flows.{StepInput, Step, Flow}
 use Rattle.tv_strategy.specs.Measures.{leaf_names}
-use Rattle.tv_depths.specs.CheckedDepths.{feed_depth, flow_depths}
-use Rattle.tv_depths.specs.Steps.{strategy_of}
+use Rattle.tv_instance.specs.CheckedDepths.{feed_depth, flow_depths}
+use Rattle.tv_instance.specs.Steps.{strategy_of}
 use Rattle.tv_wires.specs.declared.ports.Port.{Port}
 use Rattle.tv_wires.specs.Feeds.{feed_numbered}
 

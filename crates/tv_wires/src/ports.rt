@@ -4,7 +4,7 @@ ghost use Rattle.tv_value.specs.Views.{strategy_view};
 ghost use Rattle.tv_flow.specs.Formed.{is_flow};
 ghost use Rattle.tv_flow.specs.Views.{each, flow_view, step_view, step_input_view};
 ghost use Rattle.tv_strategy.specs.Measures.{leaf_names};
-ghost use Rattle.tv_depths.specs.Steps.{strategy_of};
+ghost use Rattle.tv_instance.specs.Steps.{strategy_of};
 ghost use Rattle.tv_wires.specs.Ports.{levels_of, mismatches, port_among, ports_of};
 
 use crate::feeds::{NumberedFeed, feed_numbered};

@@ -47,7 +47,8 @@ element_command word e =
 -- two words
 abbrev pub numbered_command : Text → Text → Option Text → Option Command
 numbered_command word number workers =
-    if same_name word (codes "gen") then option_and_then (λ n. option_map (gen n) (workers_of workers)) (number_of number)
+    if same_name word (codes "gen")
+    then option_and_then (λ n. option_map (gen n) (workers_of workers)) (number_of number)
     else None
 
 -- by the words, `--workers` and `--of`; all else gives no command

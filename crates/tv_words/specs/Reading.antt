@@ -8,7 +8,11 @@ use Rattle.tv_value.specs.Values.{Text}
 
 -- the words that belong to no option: one or two, which have to be there
 abbrev pub words_rule : Rule
-words_rule = record (new_rule (codes "words")) { required = true; range = Some (record { start_inclusive = 1; end_inclusive = 2 }) }
+words_rule =
+    record (new_rule (codes "words")) {
+      required = true;
+      range = Some (record { start_inclusive = 1; end_inclusive = 2 });
+    }
 
 -- an option with one value, `--workers VALUE`
 abbrev pub workers_rule : Rule

@@ -21,7 +21,8 @@ abbrev pub OthersAreGiven : Type 0
 OthersAreGiven =
     gives (codes "check" ∷ []) check
     × gives (codes "trace" ∷ []) trace
-    × gives (codes "lineage" ∷ codes "--of" ∷ codes "out[1,0]" ∷ []) (lineage (codes "out") (1 ∷ 0 ∷ []))
+    × gives (codes "lineage" ∷ codes "--of" ∷ codes "out[1,0]" ∷ [])
+    (lineage (codes "out") (1 ∷ 0 ∷ []))
     × gives (codes "--of=x[]" ∷ codes "forward" ∷ []) (forward (codes "x") [])
     × gives (codes "gen" ∷ codes "200" ∷ []) (gen 200 1)
     × gives (codes "gen" ∷ codes "1" ∷ codes "--workers" ∷ codes "8" ∷ []) (gen 1 8)

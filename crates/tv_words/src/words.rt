@@ -35,7 +35,8 @@ fn command_in(
     of: Option<&str>,
 ) -> Result<Option<Command>, NoMemory>
     ensures { IfOk result (λ command. option_map command_view command
-        ≡ command_in (map (λ w. w.now) words.now) (option_map (λ t. t.now) workers.entry) (option_map (λ t. t.now) of.entry)) }
+        ≡ command_in (map (λ w. w.now) words.now) (option_map (λ t. t.now) workers.entry)
+        (option_map (λ t. t.now) of.entry)) }
 {
     match (words, workers, of) {
         ([word], _, None) => Ok(plain_command(word, workers)),

@@ -1,6 +1,6 @@
 //! One worker alone.
 ghost use Rattle.std.specs.Prelude.{◌≡◌, ◌≤◌, IfOk, OnErr, OnOk, true};
-ghost use Rattle.tv_entries.specs.Calls.{out_count};
+ghost use Rattle.tv_entries.specs.Calls.{out_now};
 ghost use Rattle.tv_entries.specs.Runs.{IsLegalRun};
 ghost use Rattle.tv_work.specs.Asked.{AsksABeginning, AsksAtMostOneMore, AsksEach, AsksInOrder, accepted_tries};
 ghost use Rattle.tv_work.specs.ByOne.{StaysByOne};
@@ -27,11 +27,11 @@ pub fn run_alone<V: Services, A: Asker<Services = V>>(
     board: &mut Board<V>,
     asker: &mut A,
 ) -> Result<(), NoMemory>
-    requires { out_count V.gives board.old ≡ 0 }
+    requires { out_now V.gives board.old ≡ 0 }
     ensures goes_on { GoesOn board.old board.new }
     ensures legal { IsLegalRun V.gives board.new }
     ensures worked_off { OnOk result (IsWorkedOff V.gives board.new) }
-    ensures refused { OnErr result (out_count V.gives board.new ≤ 1) }
+    ensures refused { OnErr result (out_now V.gives board.new ≤ 1) }
     ensures asked { OnOk result (AsksEach V.gives (A.calls asker.old)
         (A.calls asker.new) board.old board.new) }
     ensures lost { OnErr result (AsksAtMostOneMore V.gives (A.calls asker.old)
@@ -61,7 +61,7 @@ fn turn<V: Services, A: Asker<Services = V>>(
     ensures goes_on { GoesOn board.old board.new }
     ensures legal { IsLegalRun V.gives board.new }
     ensures turned { IfOk result (λ more. IsTurn V.gives board.old board.new more) }
-    ensures refused { OnErr result (out_count V.gives board.new ≤ 1) }
+    ensures refused { OnErr result (out_now V.gives board.new ≤ 1) }
     ensures asked { OnOk result (AsksEach V.gives (A.calls asker.old)
         (A.calls asker.new) board.old board.new) }
     ensures lost { OnErr result (AsksAtMostOneMore V.gives (A.calls asker.old)
@@ -83,7 +83,7 @@ fn settle_all<V: Services>(board: &mut Board<V>) -> Result<Option<Ticket>, NoMem
     ensures goes_on { GoesOn board.old board.new }
     ensures legal { IsLegalRun V.gives board.new }
     ensures handed { IfOk result (IsHanded V.gives board.new) }
-    ensures few { out_count V.gives board.new ≤ 1 }
+    ensures few { out_now V.gives board.new ≤ 1 }
     ensures none_accepted { accepted_tries board.new ≡ accepted_tries board.old }
     ensures by_one { StaysByOne V.gives board.old board.new }
 {
@@ -124,7 +124,7 @@ fn ask_for<V: Services, A: Asker<Services = V>>(
     ensures goes_on { GoesOn board.old board.new }
     ensures legal { IsLegalRun V.gives board.new }
     ensures turned { OnOk result (IsTurn V.gives board.old board.new true) }
-    ensures refused { OnErr result (out_count V.gives board.new ≤ 1) }
+    ensures refused { OnErr result (out_now V.gives board.new ≤ 1) }
     ensures asked { OnOk result (AsksEach V.gives (A.calls asker.old)
         (A.calls asker.new) board.old board.new) }
     ensures lost { OnErr result (AsksAtMostOneMore V.gives (A.calls asker.old)

@@ -2,8 +2,8 @@
 use crate::tests::line_by_board;
 use std::test::Fail;
 use tv_local::LocalGate;
-use tv_worked::document;
-use tv_worked::steps::{AFTER, CROSS, DOT, GENES, MERGE, NO_RANGE, PAIRS, PASSED, WRAPPED};
+use tv_samples::document;
+use tv_samples::steps::{AFTER, CROSS, DOT, GENES, MERGE, NO_RANGE, PAIRS, PASSED, WRAPPED};
 
 /// Steps, the output's step, the inputs with their depths, their values, and the result line.
 const DOCUMENTS: [(&str, &str, &str, &str, &str); 12] = [

@@ -3,9 +3,9 @@ use std::test::Fail;
 use tv_board::Board;
 use tv_gate::GateAsker;
 use tv_local::{LocalGate, LocalServices};
+use tv_samples::steps::CROSS;
+use tv_samples::{accepted, document};
 use tv_work::run_board;
-use tv_worked::steps::CROSS;
-use tv_worked::{accepted, document};
 
 #[test]
 fn a_board_that_is_done_keeps_nothing(rt: HostRuntime) -> Result<(), Fail> {

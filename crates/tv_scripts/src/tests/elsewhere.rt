@@ -4,8 +4,8 @@ use crate::tests::{play_of, replaced};
 use std::alloc::Global;
 use std::process::Abort;
 use std::test::Fail;
-use tv_worked::document;
-use tv_worked::steps::CHAIN;
+use tv_samples::document;
+use tv_samples::steps::CHAIN;
 
 /// The other board: a part of its steps, what stands there, its values, its script; and what is said of its last answer.
 type Elsewhere = (

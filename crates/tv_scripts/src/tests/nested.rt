@@ -4,7 +4,7 @@ use crate::tests::{plays, replaced};
 use std::alloc::Global;
 use std::process::Abort;
 use std::test::Fail;
-use tv_worked::document;
+use tv_samples::document;
 
 /// Capitals of a text.
 pub(crate) const CAPITALS: &str =

@@ -2,8 +2,8 @@
 use crate::tests::nested::{CAPITALS as NESTED, TWO_AT_ONCE, with_flows};
 use crate::tests::{says, with_jobs};
 use std::test::Fail;
-use tv_worked::document;
-use tv_worked::steps::{CHAIN, CROSS, FAILURES, MERGE, PASSED};
+use tv_samples::document;
+use tv_samples::steps::{CHAIN, CROSS, FAILURES, MERGE, PASSED};
 
 // Each job once it is settled, whatever the order of outcomes, and none before.
 #[test]

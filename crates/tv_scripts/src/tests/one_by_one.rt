@@ -1,8 +1,8 @@
 //! What each call of a board says, one by one.
 use crate::tests::{plays, says};
 use std::test::Fail;
-use tv_worked::document;
-use tv_worked::steps::{CAPITALS, CHAIN};
+use tv_samples::document;
+use tv_samples::steps::{CAPITALS, CHAIN};
 
 // One job: its answer is accepted once, and the run ends.
 #[test]

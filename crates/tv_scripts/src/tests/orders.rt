@@ -1,8 +1,8 @@
 //! Outcomes accepted in any order: the outputs and totals are always the same, and what is refused changes nothing.
 use crate::tests::{plays, with_jobs};
 use std::test::Fail;
-use tv_worked::document;
-use tv_worked::steps::{CHAIN, FAILOVER, FAILURES, FLAKY};
+use tv_samples::document;
+use tv_samples::steps::{CHAIN, FAILOVER, FAILURES, FLAKY};
 
 /// Two texts through two steps, of which the first may have two tries out.
 const PAIRS_OF_TRIES: [(&str, &str); 8] = [

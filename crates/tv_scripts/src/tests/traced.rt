@@ -7,9 +7,9 @@ use tv_board::Traced;
 use tv_elements::{label_lines, read_element};
 use tv_json::job_text;
 use tv_local::LocalServices;
+use tv_samples::document;
+use tv_samples::steps::CROSS;
 use tv_value::{NoMemory, Text};
-use tv_worked::document;
-use tv_worked::steps::CROSS;
 
 /// Scripts over a cross of two lists of two, of which all jobs may be out at once.
 const ORDERS: [&str; 3] = [

@@ -4,10 +4,10 @@ use std::alloc::Global;
 use std::test::Fail;
 use tv_gate::LoggedGate;
 use tv_local::LocalGate;
+use tv_samples::document;
+use tv_samples::steps::{CHAIN, FAILURES};
 use tv_top::{Status, taverna, taverna_alone};
 use tv_value::{Items, Value};
-use tv_worked::document;
-use tv_worked::steps::{CHAIN, FAILURES};
 
 /// The document of a value whose depth is declared, and the line of its result.
 fn of_value(alloc: Global, depth: u32, value: &str) -> Result<String, Fail> {

@@ -3,9 +3,9 @@ use crate::tests::{SOUND, alone, by_gate, sink_of, source_of, words_of};
 use std::test::Fail;
 use tv_gate::LoggedGate;
 use tv_local::LocalGate;
+use tv_samples::document;
+use tv_samples::steps::{CHAIN, CROSS, DOT, FAILURES, MERGE, NO_RANGE, WRAPPED};
 use tv_top::{Status, taverna_alone};
-use tv_worked::document;
-use tv_worked::steps::{CHAIN, CROSS, DOT, FAILURES, MERGE, NO_RANGE, WRAPPED};
 
 /// Steps, the last one, the inputs with their depths, and their values.
 type Made = (&'static str, &'static str, &'static str, &'static str);

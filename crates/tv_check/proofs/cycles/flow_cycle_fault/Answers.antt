@@ -4,12 +4,12 @@ use Rattle.tv_flow.specs.Views.{flow_view}
 use Rattle.tv_flow.specs.DocumentViews.{document_view}
 use Rattle.tv_graph.specs.Graphs.{first_on_cycle}
 use Rattle.tv_depths.specs.Cycles.{opened_flows}
-use Rattle.tv_naming.specs.Faulty.{at_flow, flow_cycle, Complaint, plainly}
+use Rattle.tv_naming.specs.Faulty.{at_flow, flow_cycle, CheckComplaint, plainly}
 use Rattle.tv_check.proofs.OfCycles.{no-cycle, cycle-inside, cycle-told}
 use Rattle.tv_naming.proofs.OfForms.{flows-named, rise-each}
 use Rattle.tv_check.proofs.cycles.flow_cycle_fault.Goals as goal
 
-abbrev complaint : Name → Complaint
+abbrev complaint : Name → CheckComplaint
 complaint f = plainly flow_cycle (at_flow f)
 
 pub flow_graph-requires-clause-in_order : goal.flow_graph-requires-clause-in_order

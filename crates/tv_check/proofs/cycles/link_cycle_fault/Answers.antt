@@ -5,14 +5,14 @@ use Rattle.tv_flow.specs.Views.{each, flow_view}
 use Rattle.tv_flow.specs.DocumentViews.{document_view}
 use Rattle.tv_value.specs.Values.{Name}
 use Rattle.tv_depths.specs.Cycles.{flow_link_cycles}
-use Rattle.tv_naming.specs.Faulty.{Complaint, first_of}
+use Rattle.tv_naming.specs.Faulty.{CheckComplaint, first_of}
 use Rattle.tv_naming.specs.FaultViews.{fault_view}
 use Rattle.tv_naming.proofs.OfLists.{flat_map-map}
 use Rattle.tv_check.proofs.OfCycles.{passed, stopped, passed-all}
 use Rattle.tv_naming.proofs.OfForms.{flow-at}
 use Rattle.tv_check.proofs.cycles.link_cycle_fault.Goals as goal
 
-abbrev told : Name × Flow → List Complaint
+abbrev told : Name × Flow → List CheckComplaint
 told f = flow_link_cycles f.0 (flow_view f.1)
 
 all-told : (fs gs : List (Name × Flow)) → fs ≡ gs → first_of (flat_map told fs) ≡ first_of (flat_map (λ f. flow_link_cycles f.0 f.1) (each flow_view gs))

@@ -5,8 +5,9 @@ use Rattle.tv_value.specs.Values.{Name}
 use Rattle.tv_flow.specs.Flows.{Flow, Document}
 use Rattle.tv_flow.specs.Views.{flow_view}
 use Rattle.tv_flow.specs.DocumentViews.{document_view}
-use Rattle.tv_depths.specs.Cycles.{nesting, nesting_limit}
-use Rattle.tv_naming.specs.Faulty.{at_flow, too_deep, Complaint, with_numbers}
+use Rattle.tv_depths.specs.Cycles.{nesting}
+use Rattle.tv_instance.specs.Nesting.{nesting_limit}
+use Rattle.tv_naming.specs.Faulty.{at_flow, too_deep, CheckComplaint, with_numbers}
 use Rattle.tv_naming.proofs.OfForms.{length-each, entry-each}
 use Rattle.tv_check.proofs.OfNestings.{no-position, a-position, number-at}
 use Rattle.tv_check.proofs.cycles.nesting_fault.Goals as goal
@@ -18,7 +19,7 @@ module _ (d : Document) where
   abbrev nest : Name × Flow → ℕ
   nest f = nesting d (length d.flows) f.0
 
-  abbrev complaint : Name × Flow → Complaint
+  abbrev complaint : Name × Flow → CheckComplaint
   complaint f = with_numbers too_deep (at_flow f.0) (nest f) nesting_limit
 
 pub bounds-as_slice-flow : goal.bounds-as_slice-flow

@@ -2,7 +2,7 @@ use Rattle.std.proofs.Common.{map, ap, sym, ◌∙◌, subst, ◌<◌, ◌^◌}
 use Rattle.std.proofs.lemmas.List.{length-map}
 use Rattle.tv_flow.specs.Views.{each, step_view}
 use Rattle.tv_graph.specs.Graphs.{is_graph}
-use Rattle.tv_depths.specs.Ranks.{earlier_steps}
+use Rattle.tv_instance.specs.Ranks.{earlier_steps}
 use Rattle.tv_check.specs.NamedGraphs.{numbers_of}
 use Rattle.tv_naming.proofs.OfLists.{map-more, map-now}
 use Rattle.tv_check.proofs.OfGraphs.{graph_of-is, graph_of-each}

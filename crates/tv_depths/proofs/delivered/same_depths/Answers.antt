@@ -1,16 +1,16 @@
 use Rattle.std.proofs.Common.{◌∙◌, ◌≡◌, sym, ap, map, slice_get, Some}
 use Rattle.tv_lemmas.proofs.Lists.{get-map, get-read}
 use Rattle.tv_flow.specs.Views.{flow_view, link_view}
-use Rattle.tv_depths.specs.CheckedDepths.{link_depth}
+use Rattle.tv_instance.specs.CheckedDepths.{link_depth}
 use Rattle.tv_naming.specs.AtViews.{at_view}
-use Rattle.tv_depths.specs.Tables.{known}
+use Rattle.tv_depths.specs.Tables.{known_steps}
 use Rattle.tv_depths.proofs.OfLinks.{differs-next, same-more}
 use Rattle.tv_depths.proofs.delivered.same_depths.Goals as goal
 
 pub returns-then-depth-first : goal.returns-then-depth-first
 returns-then-depth-first c =
     let f = c.args.flow.now in
-    let depth = link_depth (flow_view f).inputs (known (flow_view f).steps c.args.levels.now) in
+    let depth = link_depth (flow_view f).inputs (known_steps (flow_view f).steps c.args.levels.now) in
     let ds = map depth (map link_view c.args.links.now) in
     let i = c.loop-link.link-index in
     let x = c.link-item.result in
@@ -20,7 +20,7 @@ returns-then-depth-first c =
 pub loop-link-preserved : goal.loop-link-preserved
 loop-link-preserved c =
     let f = c.args.flow.now in
-    let depth = link_depth (flow_view f).inputs (known (flow_view f).steps c.args.levels.now) in
+    let depth = link_depth (flow_view f).inputs (known_steps (flow_view f).steps c.args.levels.now) in
     let ds = map depth (map link_view c.args.links.now) in
     let i = c.loop-link.link-index in
     let x = c.link-item.result in

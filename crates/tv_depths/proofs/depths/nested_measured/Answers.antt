@@ -8,7 +8,7 @@ use Rattle.tv_value.specs.Values.{Name}
 use Rattle.tv_flow.specs.Flows.{Flow}
 use Rattle.tv_flow.specs.DocumentViews.{document_view}
 use Rattle.tv_flow.specs.Views.{flow_view}
-use Rattle.tv_depths.specs.Ranks.{ranked}
+use Rattle.tv_instance.specs.Ranks.{ranked}
 use Rattle.tv_depths.specs.Depthwise.{flow_complaints}
 use Rattle.tv_depths.specs.Tables.{AreAt}
 use Rattle.tv_naming.specs.Told.{StopsAt}

@@ -3,17 +3,17 @@ use Rattle.std.proofs.lemmas.Result.{err_from_is_err_and}
 use Rattle.std.specs.Prelude.{◌≤◌}
 use Rattle.tv_flow.specs.DocumentViews.{document_view}
 use Rattle.tv_flow.specs.Views.{flow_view, step_view}
-use Rattle.tv_depths.specs.Ranks.{ranked}
+use Rattle.tv_instance.specs.Ranks.{ranked}
 use Rattle.tv_value.specs.Values.{Name}
 use Rattle.tv_flow.specs.Flows.{Step}
 use Rattle.tv_strategy.specs.Measures.{strategy_depth}
-use Rattle.tv_depths.specs.Steps.{strategy_of}
-use Rattle.tv_depths.specs.CheckedDepths.{port_depth}
+use Rattle.tv_instance.specs.Steps.{strategy_of}
+use Rattle.tv_instance.specs.CheckedDepths.{port_depth}
 use Rattle.tv_depths.specs.Depthwise.{step_complaints}
-use Rattle.tv_depths.specs.Tables.{known}
+use Rattle.tv_depths.specs.Tables.{known_steps}
 use Rattle.tv_naming.specs.Told.{StopsAt}
 use Rattle.tv_depths.proofs.OfLinks.{length-each}
-use Rattle.tv_depths.proofs.OfRanked.{ranked-ordered}
+use Rattle.tv_instance.proofs.OfRanks.{ranked-ordered}
 use Rattle.tv_depths.proofs.OfDepths.{steps-start, steps-stop, steps-more, steps-silent, steps-end, length-at, number-in, number-below, step-there, step-here, step-sound, step-opens}
 use Rattle.tv_depths.proofs.depths.steps_levels.Goals as goal
 
@@ -46,7 +46,7 @@ returns-in_err-level-clause-told c =
     let there = step-there c.args.flow.now c.as_slice-steps.result.now c.args.order.now i c.as_slice-steps.ensures c.requires.order c.loop-number-test.true c.index-steps-number.result c.index-steps-number.is in
     let here = step-here c.args.flow.now c.as_slice-steps.result.now c.args.order.now i c.as_slice-steps.ensures c.requires.order c.loop-number-test.true c.index-steps-number.result c.index-steps-number.is in
     let e = c.in_err-level.field-0.0 in
-    let told = subst (λ ls. StopsAt (step_complaints d n f.inputs (known f.steps ls) s) e) c.as_slice-table.ensures.value c.in_err-level.ensures.told in
+    let told = subst (λ ls. StopsAt (step_complaints d n f.inputs (known_steps f.steps ls) s) e) c.as_slice-table.ensures.value c.in_err-level.ensures.told in
     rw (p.1, p.2) (steps-stop d n f (ranked f.steps) (ranked-ordered f.steps) c.loop-number.levels.items i k s c.loop-number.invariant there here e told)
 
 pub index_mut-requires : goal.index_mut-requires
@@ -66,8 +66,8 @@ loop-number-preserved c =
     let here = step-here c.args.flow.now c.as_slice-steps.result.now c.args.order.now i c.as_slice-steps.ensures c.requires.order c.loop-number-test.true c.index-steps-number.result c.index-steps-number.is in
     let ls = c.loop-number.levels.items in
     let v = c.in_ok-level.level in
-    let told = subst (λ ms. step_complaints d n f.inputs (known f.steps ms) s ≡ []) c.as_slice-table.ensures.value c.in_ok-level.ensures.told in
-    let level = subst (λ ms. v ≡ strategy_depth (port_depth f.inputs (known f.steps ms) s.1) (strategy_of s.1)) c.as_slice-table.ensures.value c.in_ok-level.ensures.level in
+    let told = subst (λ ms. step_complaints d n f.inputs (known_steps f.steps ms) s ≡ []) c.as_slice-table.ensures.value c.in_ok-level.ensures.told in
+    let level = subst (λ ms. v ≡ strategy_depth (port_depth f.inputs (known_steps f.steps ms) s.1) (strategy_of s.1)) c.as_slice-table.ensures.value c.in_ok-level.ensures.level in
     steps-more d n f (ranked f.steps) (ranked-ordered f.steps) ls i k s c.loop-number.invariant there here v level c.in_ok-level.ensures.small told
 
 pub returns-clause-table : goal.returns-clause-table

@@ -1,6 +1,6 @@
 use Rattle.tv_flow.specs.DocumentViews.{document_view}
 use Rattle.tv_flow.specs.Views.{flow_view}
-use Rattle.tv_depths.specs.Ranks.{ranked}
+use Rattle.tv_instance.specs.Ranks.{ranked}
 use Rattle.tv_depths.proofs.OfDepths.{StepsSo}
 use Rattle.tv_depths.proofs.depths.steps_levels.Given as goal
 

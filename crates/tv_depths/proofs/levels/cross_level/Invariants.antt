@@ -2,7 +2,7 @@ use Rattle.std.proofs.Common.{◌≡◌, ◌≤◌, ◌+◌, ◌*◌, drop}
 use Rattle.tv_flow.specs.Views.{each, flow_view, step_input_view}
 use Rattle.tv_strategy.specs.Conditions.{number_of}
 use Rattle.tv_strategy.specs.Measures.{sum_of_depths}
-use Rattle.tv_depths.specs.Steps.{ports_of}
+use Rattle.tv_instance.specs.Steps.{ports_of}
 use Rattle.tv_depths.specs.Tables.{table_mismatch}
 use Rattle.tv_depths.proofs.levels.cross_level.Given as goal
 

@@ -2,7 +2,7 @@ use Rattle.std.proofs.Common.{◌∙◌, sym, ap, subst, map, ℕ, ◌&&◌}
 use Rattle.tv_value.specs.Values.{Name}
 use Rattle.tv_flow.specs.declared.document.StepInput.{StepInput}
 use Rattle.tv_flow.specs.Views.{flow_view}
-use Rattle.tv_depths.specs.CheckedDepths.{measured_outputs}
+use Rattle.tv_instance.specs.CheckedDepths.{measured_outputs}
 use Rattle.tv_depths.specs.Depthwise.{same_ports}
 use Rattle.tv_depths.specs.Measured.{IsWorked}
 use Rattle.tv_depths.proofs.OfNested.{inputs-seen, ports-pointwise}

@@ -6,7 +6,7 @@ use Rattle.serde_json.specs.View.{view as json_view, members_view}
 use Rattle.tv_flow.specs.Complaints.{Path, key}
 use Rattle.tv_flow.specs.PathViews.{at_view}
 use Rattle.tv_flow.specs.Views.{each}
-use Rattle.tv_flow.specs.Answers.{told}
+use Rattle.tv_flow.specs.Answers.{fault_result}
 use Rattle.tv_flow.specs.Forms.{is_name, entries_form}
 use Rattle.tv_flow.proofs.Places.{at-Key}
 use Rattle.tv_flow.proofs.Growing.{put_before, entries_of, entries-more, entries-unnamed, entries-unread, name-same, all-push}
@@ -42,10 +42,10 @@ returns-in_err-name-clause-read g c =
     let e = deref_pair (c.in-Some.key, c.in-Some.value) in
     let f = c.in_err-name.field-0.0 in
     let there = at-Key c.args.at c.as_str.result ∙ ap (key here) c.as_str.ensures.value in
-    let unnamed = subst (λ r. r ≡ told f r) (name-same there c.as_str-in-loop-key.ensures.value) c.in_err-name.ensures.read in
+    let unnamed = subst (λ r. r ≡ fault_result f r) (name-same there c.as_str-in-loop-key.ensures.value) c.in_err-name.ensures.read in
     let whole = c.loop-key.invariant.read in
-    let h : entries_form form here (members_view c.args.members.now.entries) ≡ told f (entries_form form here (members_view c.args.members.now.entries)) =
-    whole ∙ entries-unnamed form here c.loop-key.key-iterator c.next.new.self e things f c.in-Some.ensures.steps unnamed ∙ ap (told f) (sym whole) in
+    let h : entries_form form here (members_view c.args.members.now.entries) ≡ fault_result f (entries_form form here (members_view c.args.members.now.entries)) =
+    whole ∙ entries-unnamed form here c.loop-key.key-iterator c.next.new.self e things f c.in-Some.ensures.steps unnamed ∙ ap (fault_result f) (sym whole) in
     search rules
 
 pub returns-in_err-thing-clause-read : goal.returns-in_err-thing-clause-read
@@ -57,8 +57,8 @@ returns-in_err-thing-clause-read g c =
     let f = c.in_err-thing.field-0.0 in
     let there = at-Key c.args.at c.as_str.result ∙ ap (key here) c.as_str.ensures.value in
     let named = sym (name-same there c.as_str-in-loop-key.ensures.value) ∙ c.in_ok-name.ensures.read in
-    let unread = subst (λ r. r ≡ told f r) (ap (λ (p : Path). form p (json_view c.in-Some.value.now)) there) c.in_err-thing.ensures.read in
+    let unread = subst (λ r. r ≡ fault_result f r) (ap (λ (p : Path). form p (json_view c.in-Some.value.now)) there) c.in_err-thing.ensures.read in
     let whole = c.loop-key.invariant.read in
-    let h : entries_form form here (members_view c.args.members.now.entries) ≡ told f (entries_form form here (members_view c.args.members.now.entries)) =
-    whole ∙ entries-unread form here c.loop-key.key-iterator c.next.new.self e things c.in_ok-name.name f c.in-Some.ensures.steps named unread ∙ ap (told f) (sym whole) in
+    let h : entries_form form here (members_view c.args.members.now.entries) ≡ fault_result f (entries_form form here (members_view c.args.members.now.entries)) =
+    whole ∙ entries-unread form here c.loop-key.key-iterator c.next.new.self e things c.in_ok-name.name f c.in-Some.ensures.steps named unread ∙ ap (fault_result f) (sym whole) in
     search rules

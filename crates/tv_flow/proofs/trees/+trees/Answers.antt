@@ -7,9 +7,9 @@ use Rattle.serde_json.proofs.Views.{view-Object, view-Array}
 use Rattle.tv_value.specs.Strategies.{cross, dot}
 use Rattle.tv_flow.specs.Branch.{branch}
 use Rattle.tv_value.specs.Views.{strategy_view}
-use Rattle.tv_flow.specs.Complaints.{Path, index, given}
+use Rattle.tv_flow.specs.Complaints.{Path, index, and_then}
 use Rattle.tv_flow.specs.PathViews.{at_view}
-use Rattle.tv_flow.specs.Answers.{IsForm, told}
+use Rattle.tv_flow.specs.Answers.{IsForm, fault_result}
 use Rattle.tv_flow.specs.Forms.{tree_form, trees_form, items_form, has}
 use Rattle.tv_flow.specs.Formed.{is_tree, is_between, strategy_count, are_trees}
 use Rattle.tv_flow.proofs.Places.{at-Index}
@@ -54,31 +54,31 @@ each_tree-returns-in_err-tree-clause-read t c =
     let xs = c.args.items.now.items in
     let i = c.loop-index.index in
     let f = c.in_err-tree.field-0.0 in
-    let stop = subst (λ j. tree_form (index here i) (json_view j) ≡ told f (tree_form (index here i) (json_view j))) c.index.ensures (subst (λ p. tree_form p (json_view c.index.result.now) ≡ told f (tree_form p (json_view c.index.result.now))) (at-Index c.args.at i) c.in_err-tree.ensures.read) in
+    let stop = subst (λ j. tree_form (index here i) (json_view j) ≡ fault_result f (tree_form (index here i) (json_view j))) c.index.ensures (subst (λ p. tree_form p (json_view c.index.result.now) ≡ fault_result f (tree_form p (json_view c.index.result.now))) (at-Index c.args.at i) c.in_err-tree.ensures.read) in
     let whole = c.loop-index.invariant.read in
-    let h : items_form tree_form here 0 (json_items xs) ≡ told f (items_form tree_form here 0 (json_items xs)) =
-    whole ∙ items-stop tree_form here xs i c.index.result.now (map strategy_view c.loop-index.trees.items) f (omega (arith, c.args.items.now.ok.0, c.len-index-end.ensures, c.loop-index-test.true)) stop ∙ ap (told f) (sym whole) in
+    let h : items_form tree_form here 0 (json_items xs) ≡ fault_result f (items_form tree_form here 0 (json_items xs)) =
+    whole ∙ items-stop tree_form here xs i c.index.result.now (map strategy_view c.loop-index.trees.items) f (omega (arith, c.args.items.now.ok.0, c.len-index-end.ensures, c.loop-index-test.true)) stop ∙ ap (fault_result f) (sym whole) in
     search rules
 
 pub tree-returns-then-has-clause-read : goal.tree-returns-then-has-clause-read
 tree-returns-then-has-clause-read t c =
     let here = at_view c.args.at.now in
     let is = ap json_view c.in-Object.is ∙ view-Object c.in-Object.field-0 in
-    let law = subst (λ d. has (codes "cross") d ≡ true → tree_form here d ≡ given (branch (codes "cross") here d) (λ ts. Ok (cross ts))) (sym is) (node-cross here (members_view c.in-Object.field-0.entries)) in
+    let law = subst (λ d. has (codes "cross") d ≡ true → tree_form here d ≡ and_then (branch (codes "cross") here d) (λ ts. Ok (cross ts))) (sym is) (node-cross here (members_view c.in-Object.field-0.entries)) in
     subst (IsForm strategy_view c.cross_node.result) (sym (law (sym c.has.ensures ∙ c.if-has.true))) c.cross_node.ensures.read
 
 pub tree-returns-then-has-2-clause-read : goal.tree-returns-then-has-2-clause-read
 tree-returns-then-has-2-clause-read t c =
     let here = at_view c.args.at.now in
     let is = ap json_view c.in-Object.is ∙ view-Object c.in-Object.field-0 in
-    let law = subst (λ d. has (codes "cross") d ≡ false → has (codes "dot") d ≡ true → tree_form here d ≡ given (branch (codes "dot") here d) (λ ts. Ok (dot ts))) (sym is) (node-dot here (members_view c.in-Object.field-0.entries)) in
+    let law = subst (λ d. has (codes "cross") d ≡ false → has (codes "dot") d ≡ true → tree_form here d ≡ and_then (branch (codes "dot") here d) (λ ts. Ok (dot ts))) (sym is) (node-dot here (members_view c.in-Object.field-0.entries)) in
     subst (IsForm strategy_view c.dot_node.result) (sym (law (sym c.has.ensures ∙ c.if-has.false) (sym c.has-else-has.ensures ∙ c.if-has-2.true))) c.dot_node.ensures.read
 
 pub tree-returns-else-has-2-clause-read : goal.tree-returns-else-has-2-clause-read
 tree-returns-else-has-2-clause-read t c =
     let here = at_view c.args.at.now in
     let is = ap json_view c.in-Object.is ∙ view-Object c.in-Object.field-0 in
-    let law = subst (λ d. has (codes "cross") d ≡ false → has (codes "dot") d ≡ false → tree_form here d ≡ given (branch (codes "cross") here d) (λ ts. Ok (cross ts))) (sym is) (node-neither here (members_view c.in-Object.field-0.entries)) in
+    let law = subst (λ d. has (codes "cross") d ≡ false → has (codes "dot") d ≡ false → tree_form here d ≡ and_then (branch (codes "cross") here d) (λ ts. Ok (cross ts))) (sym is) (node-neither here (members_view c.in-Object.field-0.entries)) in
     subst (IsForm strategy_view c.cross_node-else-has-2.result) (sym (law (sym c.has.ensures ∙ c.if-has.false) (sym c.has-else-has.ensures ∙ c.if-has-2.false))) c.cross_node-else-has-2.ensures.read
 
 pub trees-each_tree-requires : goal.trees-each_tree-requires
@@ -94,7 +94,7 @@ trees-returns-in_err-trees-in-Array-clause-read t c =
     let d = json_view c.args.json.now in
     let is = ap json_view c.in-Array.is ∙ view-Array c.in-Array.items in
     let f = c.in_err-trees-in-Array.field-0.0 in
-    let h : trees_form here d ≡ told f (trees_form here d) =
+    let h : trees_form here d ≡ fault_result f (trees_form here d) =
     trees-stop here (json_items c.in-Array.items.items) d c.item_count.result is c.item_count.ensures c.in_ok-counted-in-Array.ensures.read f c.in_err-trees-in-Array.ensures.read in
     search rules
 

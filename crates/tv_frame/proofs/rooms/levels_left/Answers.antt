@@ -1,12 +1,12 @@
 use Rattle.std.proofs.Common.{arith, ◌≡◌, ◌∙◌, ap, length, slice_index_or}
 use Rattle.tv_flow.specs.Views.{flow_view}
-use Rattle.tv_frame.specs.Tables.{levels_at}
+use Rattle.tv_depths.specs.Tables.{step_level}
 use Rattle.tv_frame.proofs.OfFaultingRead.{planned}
 use Rattle.tv_frame.proofs.rooms.levels_left.Goals as goal
 
 pub returns-in-Ok : goal.returns-in-Ok
 returns-in-Ok c = λ s e.
-    let depth : (slice_index_or c.as_slice.result.now c.args.step c.index-as_slice-step.result).depth ≡ levels_at (flow_view c.args.plan.now.flow) s.1 = ap (λ xs. (slice_index_or xs c.args.step c.index-as_slice-step.result).depth) c.as_slice.ensures ∙ planned c.args.plan.now c.args.step c.index-as_slice-step.result s e in
+    let depth : (slice_index_or c.as_slice.result.now c.args.step c.index-as_slice-step.result).depth ≡ step_level (flow_view c.args.plan.now.flow) s.1 = ap (λ xs. (slice_index_or xs c.args.step c.index-as_slice-step.result).depth) c.as_slice.ensures ∙ planned c.args.plan.now c.args.step c.index-as_slice-step.result s e in
     let p = c.saturating_sub.ensures in
     let q = c.in-Ok.ensures in
     let r = ap length c.as_slice-2.ensures in

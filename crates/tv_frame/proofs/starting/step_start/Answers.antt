@@ -3,8 +3,8 @@ use Rattle.std.proofs.Common.{arith, ◌∙◌, ap}
 use Rattle.tv_lemmas.proofs.Lists.{get-read}
 use Rattle.tv_cell.specs.PieceValues.{piece_values}
 use Rattle.tv_match.specs.Seen.{told_view}
-use Rattle.tv_bound.specs.Constants.{constant_of_port, constants_view}
-use Rattle.tv_opening.specs.Openings.{numbered_port_start}
+use Rattle.tv_binding.specs.Constants.{constant_of_port, constants_view}
+use Rattle.tv_telling.specs.Openings.{numbered_port_start}
 use Rattle.tv_frame.proofs.OfStarting.{fed-lent, fixed-lent, ports-all, ports-next}
 use Rattle.tv_frame.proofs.starting.step_start.Goals as goal
 

@@ -1,6 +1,6 @@
 use Rattle.tv_cell.specs.PieceValues.{piece_values}
 use Rattle.tv_telling.specs.Views.{AreTellings}
-use Rattle.tv_bound.specs.Constants.{constant_of_port, constants_view}
+use Rattle.tv_binding.specs.Constants.{constant_of_port, constants_view}
 use Rattle.tv_frame.proofs.OfStarting.{last_start}
 use Rattle.tv_frame.proofs.starting.step_start.Given as goal
 

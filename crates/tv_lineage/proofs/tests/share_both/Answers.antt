@@ -1,6 +1,6 @@
 use Rattle.std.proofs.Common.{length, map, subst, sym}
+use Rattle.tv_lemmas.specs.Members.{Each}
 use Rattle.tv_lineage.specs.Kept.{IsBefore}
-use Rattle.tv_lineage.specs.Members.{Each}
 use Rattle.tv_lineage.specs.Views.{part_view}
 use Rattle.tv_lineage.proofs.tests.share_both.Goals as goal
 

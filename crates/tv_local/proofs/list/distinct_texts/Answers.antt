@@ -3,7 +3,7 @@ use Rattle.std.specs.BTreeSet.{contains}
 use Rattle.std.proofs.lemmas.List.{take_more}
 use Rattle.tv_value.specs.Values.{text_value}
 use Rattle.tv_value.specs.Views.{view}
-use Rattle.tv_local.specs.Lists.{is_among}
+use Rattle.tv_local.specs.Lists.{text_among}
 use Rattle.tv_local.specs.Reading.{text_of}
 use Rattle.tv_local.proofs.OfLists.{ref_cmp, put-among, text_at, texts-long, distinct-new, distinct-old}
 use Rattle.tv_local.proofs.list.distinct_texts.Goals as goal
@@ -29,8 +29,8 @@ loop-value-preserved c =
     let more : take i ts ++ r.now ∷ [] ≡ take (i + 1) ts = ap (λ u. take i ts ++ u ∷ []) here ∙ sym (take_more ts i d long) in
     let inv = c.loop-value.invariant in
     let old = map view c.loop-value.texts.items in
-    let was : is_among (take i ts) (get_or ts i d) ≡ contains ref_cmp c.loop-value.seen r = sym (ap (is_among (take i ts)) here) ∙ sym (inv.0 r) in (
-      λ q. put-among c.loop-value.seen c.insert.new.self r (take i ts) c.in_ok-insert.ensures.keys inv.0 q ∙ ap (λ us. is_among us q.now) more,
+    let was : text_among (take i ts) (get_or ts i d) ≡ contains ref_cmp c.loop-value.seen r = sym (ap (text_among (take i ts)) here) ∙ sym (inv.0 r) in (
+      λ q. put-among c.loop-value.seen c.insert.new.self r (take i ts) c.in_ok-insert.ensures.keys inv.0 q ∙ ap (λ us. text_among us q.now) more,
       elim c.if-branch.branch [
         | then-branch+in_ok-push_text w ↦
             let moved : map view c.if-branch.texts.items ≡ map view w.push_text.new.values.items = cc in

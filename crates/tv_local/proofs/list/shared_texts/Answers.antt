@@ -2,7 +2,7 @@ use Rattle.std.proofs.Common.{◌≡◌, ◌++◌, ◌∷◌, [], ◌<◌, lengt
 use Rattle.std.proofs.lemmas.List.{take_more}
 use Rattle.tv_value.specs.Values.{text_value}
 use Rattle.tv_value.specs.Views.{view}
-use Rattle.tv_local.specs.Lists.{is_among}
+use Rattle.tv_local.specs.Lists.{text_among}
 use Rattle.tv_local.specs.Reading.{text_of}
 use Rattle.tv_local.proofs.OfLists.{put-among, text_at, texts-long, texts-all, shared-new, shared-old}
 use Rattle.tv_local.proofs.list.shared_texts.Goals as goal
@@ -17,7 +17,7 @@ loop-other-preserved c = λ q.
     let d = text_of (view c.other-item.result) in
     let here : r.now ≡ get_or ts i d = c.text_of.ensures ∙ ap (λ v. text_of (view v)) c.other-item.is ∙ sym (text_at vs i c.other-item.result c.loop-other-test.true) in
     put-among c.loop-other.wanted c.insert.new.self r (take i ts) c.in_ok-insert.ensures.keys c.loop-other.invariant q
-    ∙ ap (λ us. is_among us q.now) (ap (λ u. take i ts ++ u ∷ []) here ∙ sym (take_more ts i d (texts-long vs i c.loop-other-test.true)))
+    ∙ ap (λ us. text_among us q.now) (ap (λ u. take i ts ++ u ∷ []) here ∙ sym (take_more ts i d (texts-long vs i c.loop-other-test.true)))
 
 pub loop-value-preserved : goal.loop-value-preserved
 loop-value-preserved c =
@@ -30,8 +30,8 @@ loop-value-preserved c =
     let old = map view c.loop-value.texts.items in
     let long : i < length ts = texts-long vs i c.loop-value-test.true in
     let here : r.now ≡ get_or ts i d = c.text_of-text.ensures ∙ ap (λ v. text_of (view v)) c.value-item.is ∙ sym (text_at vs i c.value-item.result c.loop-value-test.true) in
-    let told : is_among us (get_or ts i d) ≡ c.contains.result =
-    sym (c.contains.ensures ∙ c.loop-other.invariant r ∙ ap (λ l. is_among l r.now) (texts-all c.args.others.now c.loop-other.other-index c.loop-other-test.false) ∙ ap (is_among us) here) in
+    let told : text_among us (get_or ts i d) ≡ c.contains.result =
+    sym (c.contains.ensures ∙ c.loop-other.invariant r ∙ ap (λ l. text_among l r.now) (texts-all c.args.others.now c.loop-other.other-index c.loop-other-test.false) ∙ ap (text_among us) here) in
     elim c.if-contains.branch [
       | then-contains+in_ok-push_text w ↦
           let moved : map view c.if-contains.texts.items ≡ map view w.push_text.new.values.items = cc in

@@ -4,13 +4,13 @@ use Rattle.std.specs.Ordering.{nat_cmp}
 use Rattle.std.specs.Cmp.Lexicographic.{slice_cmp}
 use Rattle.tv_value.specs.Values.{text_value}
 use Rattle.tv_value.specs.Views.{view}
-use Rattle.tv_local.specs.Lists.{is_among, shared}
+use Rattle.tv_local.specs.Lists.{text_among, shared}
 use Rattle.tv_local.specs.Reading.{text_of}
 use Rattle.tv_local.proofs.list.shared_texts.Given as goal
 
 abbrev pub invariant-loop-other : goal.invariant-loop-other
 invariant-loop-other l =
-    (q : Bor (List ℕ)) → contains (λ x y. slice_cmp nat_cmp x.now y.now) l.wanted q ≡ is_among (take l.other-index (map text_of (map view l.others))) q.now
+    (q : Bor (List ℕ)) → contains (λ x y. slice_cmp nat_cmp x.now y.now) l.wanted q ≡ text_among (take l.other-index (map text_of (map view l.others))) q.now
 
 abbrev pub invariant-loop-value : goal.invariant-loop-value
 invariant-loop-value l =

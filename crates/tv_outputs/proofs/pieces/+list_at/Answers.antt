@@ -9,7 +9,7 @@ use Rattle.tv_cell.specs.declared.piece.Piece.{Piece}
 use Rattle.tv_cell.specs.PieceValues.{piece_values}
 use Rattle.tv_cell.specs.Soundness.{AreSound}
 use Rattle.tv_cell.proofs.OfPieces.{list-value}
-use Rattle.tv_outputs.specs.Known.{shown}
+use Rattle.tv_outputs.specs.Known.{value_tree}
 use Rattle.tv_outputs.specs.PartValues.{list_values}
 use Rattle.tv_outputs.proofs.OfPieces.{known-none, known-part, list-is-sound, no-values}
 use Rattle.tv_outputs.proofs.Seeing.{sees-part}
@@ -19,7 +19,7 @@ pub list_piece-requires : goal.list_piece-requires
 list_piece-requires t c =
     let n = c.requires in
     let nil = nil-of c.args.place.now (c.in_default.ensures {u = tt}).cases in
-    (n.0, n.1, λ i lt. ap (λ q. whole (part_at (known_at q (shown n.0)) i)) nil ∙ n.2 i lt)
+    (n.0, n.1, λ i lt. ap (λ q. whole (part_at (known_at q (value_tree n.0)) i)) nil ∙ n.2 i lt)
 
 pub list_at-requires : goal.list_at-requires
 list_at-requires t c =
@@ -41,8 +41,8 @@ list_at-requires t c =
 pub returns-in_default-clause-value : goal.returns-in_default-clause-value
 returns-in_default-clause-value t c r sees all =
     let nil = nil-of c.args.place.now (c.in_default.ensures {u = tt}).cases in
-    IfOk-weaker c.list_piece.result _ _ (λ (p : Piece) h. h ∙ ap (λ q. list_value (trees_of (slice_range (list_values (known_at q (shown r))) 0 c.args.length))) nil)
-    (c.list_piece.ensures.value r sees (λ i lt. ap (λ q. whole (part_at (known_at q (shown r)) i)) nil ∙ all i lt))
+    IfOk-weaker c.list_piece.result _ _ (λ (p : Piece) h. h ∙ ap (λ q. list_value (trees_of (slice_range (list_values (known_at q (value_tree r))) 0 c.args.length))) nil)
+    (c.list_piece.ensures.value r sees (λ i lt. ap (λ q. whole (part_at (known_at q (value_tree r)) i)) nil ∙ all i lt))
 
 pub returns-in-Some-part-clause-value : goal.returns-in-Some-part-clause-value
 returns-in-Some-part-clause-value t c r sees all =
@@ -54,8 +54,8 @@ returns-in-Some-part-clause-value t c r sees all =
 pub returns-in-None-clause-value : goal.returns-in-None-clause-value
 returns-in-None-clause-value t c r sees all =
     let o = c.in-Some.rest.now in
-    let nothing = known-part r c.args.place.now c.in-Some.first.now o c.in-Some.ensures.cases.0 ∙ known-none o (shown (part_at r c.in-Some.first.now)) (ap shown (c.in-None.ensures {u = tt} r sees.shows)) in
-    list-value c.of.result ∙ ap (λ us. list_value (trees_of us)) (ap piece_values (c.of.ensures ∙ c.new.ensures.items) ∙ sym (no-values (known_at c.args.place.now (shown r)) c.args.length nothing all))
+    let nothing = known-part r c.args.place.now c.in-Some.first.now o c.in-Some.ensures.cases.0 ∙ known-none o (value_tree (part_at r c.in-Some.first.now)) (ap value_tree (c.in-None.ensures {u = tt} r sees.shows)) in
+    list-value c.of.result ∙ ap (λ us. list_value (trees_of us)) (ap piece_values (c.of.ensures ∙ c.new.ensures.items) ∙ sym (no-values (known_at c.args.place.now (value_tree r)) c.args.length nothing all))
 
 pub returns-in-None-clause-sound : goal.returns-in-None-clause-sound
 returns-in-None-clause-sound t c =

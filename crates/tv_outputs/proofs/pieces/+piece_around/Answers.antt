@@ -5,11 +5,11 @@ use Rattle.tv_parts.specs.Partials.{part_at, whole}
 use Rattle.tv_parts.specs.Below.{value_in}
 use Rattle.tv_parts.specs.Changes.{arrive, is_place}
 use Rattle.tv_stream.proofs.Ways.{nil-of}
+use Rattle.tv_stream.proofs.Mapped.{map-part_at}
 use Rattle.tv_cell.specs.declared.piece.Piece.{Piece}
 use Rattle.tv_cell.specs.PieceValues.{piece_value}
-use Rattle.tv_outputs.specs.Known.{item_value, shown}
+use Rattle.tv_outputs.specs.Known.{item_value, value_tree}
 use Rattle.tv_outputs.proofs.Building.{closes-has}
-use Rattle.tv_outputs.proofs.Mapping.{map-part_at}
 use Rattle.tv_outputs.proofs.OfPieces.{around-at, kind-closes, none-arrives, whole-closes}
 use Rattle.tv_outputs.proofs.Seeing.{sees-part}
 use Rattle.tv_outputs.proofs.pieces.+piece_around.Goals as goal
@@ -24,14 +24,14 @@ piece_around-unreachable-requires t c =
     let n = c.requires.seen in
     let s = c.in-Some.ensures.cases.0 in
     let v = piece_value c.args.piece in
-    whole-closes n.0 c.in-Some.first.now c.in-Some.rest.now v (subst (λ q. is_place q (shown n.0) ≡ true) s n.2) (subst (λ q. whole (arrive q v (shown n.0)) ≡ true) s n.3) (λ m e. c.in_default-kind.not-Closed m (c.kind.ensures n.0 n.1.shows ∙ e))
+    whole-closes n.0 c.in-Some.first.now c.in-Some.rest.now v (subst (λ q. is_place q (value_tree n.0) ≡ true) s n.2) (subst (λ q. whole (arrive q v (value_tree n.0)) ≡ true) s n.3) (λ m e. c.in_default-kind.not-Closed m (c.kind.ensures n.0 n.1.shows ∙ e))
 
 pub piece_around-part_around-requires : goal.piece_around-part_around-requires
 piece_around-part_around-requires t c =
     let n = c.requires.seen in
     let s = c.in-Some.ensures.cases.0 in
     let o = c.in-Some.rest.now in
-    let a = around-at (shown n.0) c.args.place.now c.in-Some.first.now o (piece_value c.args.piece) s n.2 n.3 in (
+    let a = around-at (value_tree n.0) c.args.place.now c.in-Some.first.now o (piece_value c.args.piece) s n.2 n.3 in (
       subst (λ m. suc (2 * length o) < m) (sym (ap (λ q. 2 * length q) s) ∙ c.decreases) (shorter (length o)),
       ((n.0, n.1, a.inner_there, a.inner_whole), c.requires.sound),
     )
@@ -39,28 +39,28 @@ piece_around-part_around-requires t c =
 pub piece_around-list_with-requires-clause-there : goal.piece_around-list_with-requires-clause-there
 piece_around-list_with-requires-clause-there t c =
     let n = c.requires.seen in
-    let a = around-at (shown n.0) c.args.place.now c.in-Some.first.now c.in-Some.rest.now (piece_value c.args.piece) c.in-Some.ensures.cases.0 n.2 n.3 in
-    closes-has (shown n.0) c.in-Closed.length c.in-Some.first.now (kind-closes n.0 c.in-Closed.length (sym (c.kind.ensures n.0 n.1.shows) ∙ c.in-Closed.is)) a.list_there
+    let a = around-at (value_tree n.0) c.args.place.now c.in-Some.first.now c.in-Some.rest.now (piece_value c.args.piece) c.in-Some.ensures.cases.0 n.2 n.3 in
+    closes-has (value_tree n.0) c.in-Closed.length c.in-Some.first.now (kind-closes n.0 c.in-Closed.length (sym (c.kind.ensures n.0 n.1.shows) ∙ c.in-Closed.is)) a.list_there
 
 pub piece_around-list_with-requires-clause-seen : goal.piece_around-list_with-requires-clause-seen
 piece_around-list_with-requires-clause-seen t c =
     let n = c.requires.seen in
-    let a = around-at (shown n.0) c.args.place.now c.in-Some.first.now c.in-Some.rest.now (piece_value c.args.piece) c.in-Some.ensures.cases.0 n.2 n.3 in
+    let a = around-at (value_tree n.0) c.args.place.now c.in-Some.first.now c.in-Some.rest.now (piece_value c.args.piece) c.in-Some.ensures.cases.0 n.2 n.3 in
     (n.0, n.1, sym (c.kind.ensures n.0 n.1.shows) ∙ c.in-Closed.is, a.list_whole (piece_value c.in_ok-part.part) (c.in_ok-part.ensures.value n.0 n.1 a.inner_there a.inner_whole))
 
 pub piece_around-returns-in_default-clause-value : goal.piece_around-returns-in_default-clause-value
 piece_around-returns-in_default-clause-value t c r sees there w =
     let v = piece_value c.args.piece in
-    ap (λ q. value_in (arrive q v (shown r))) (nil-of c.args.place.now (c.in_default.ensures {u = tt}).cases)
+    ap (λ q. value_in (arrive q v (value_tree r))) (nil-of c.args.place.now (c.in_default.ensures {u = tt}).cases)
 
 pub piece_around-returns-clause-value : goal.piece_around-returns-clause-value
 piece_around-returns-clause-value t c r sees there w =
     let s = c.in-Some.ensures.cases.0 in
     let v = piece_value c.args.piece in
     let x = piece_value c.in_ok-part.part in
-    let a = around-at (shown r) c.args.place.now c.in-Some.first.now c.in-Some.rest.now v s there w in
+    let a = around-at (value_tree r) c.args.place.now c.in-Some.first.now c.in-Some.rest.now v s there w in
     let is = c.in_ok-part.ensures.value r sees a.inner_there a.inner_whole in
-    IfOk-weaker c.list_with.result _ _ (λ (p : Piece) h. h ∙ a.list_value x is ∙ ap (λ q. value_in (arrive q v (shown r))) (sym s))
+    IfOk-weaker c.list_with.result _ _ (λ (p : Piece) h. h ∙ a.list_value x is ∙ ap (λ q. value_in (arrive q v (value_tree r))) (sym s))
     (c.list_with.ensures.value r sees (sym (c.kind.ensures r sees.shows) ∙ c.in-Closed.is) (a.list_whole x is))
 
 -- ---- in a part
@@ -96,5 +96,5 @@ pub part_around-returns-in-None-clause-value : goal.part_around-returns-in-None-
 part_around-returns-in-None-clause-value t c r sees there w =
     let q = c.args.place.now in
     let v = piece_value c.args.piece in
-    let same = map-part_at item_value r c.args.index ∙ ap shown (c.in-None.ensures {u = tt} r sees.shows) in
+    let same = map-part_at item_value r c.args.index ∙ ap value_tree (c.in-None.ensures {u = tt} r sees.shows) in
     none-arrives q v (subst (λ k. whole (arrive q v k) ≡ true) same w) ∙ ap (λ k. value_in (arrive q v k)) (sym same)

@@ -4,7 +4,7 @@ use Rattle.tv_lemmas.proofs.Lists.{get-within}
 use Rattle.tv_value.specs.Nested.{trees_of}
 use Rattle.tv_value.specs.Views.{view}
 use Rattle.tv_parts.specs.Partials.{part_at}
-use Rattle.tv_outputs.specs.Known.{shown}
+use Rattle.tv_outputs.specs.Known.{value_tree}
 use Rattle.tv_outputs.specs.FoundIn.{found_in}
 use Rattle.tv_outputs.specs.Kept.{IsNoted}
 use Rattle.tv_outputs.proofs.Comparing.{fault-view, found-none, item-smaller, item-told, leaf-told, list-smaller, list-told, list_of-view, more-found, one-other, open-told, size, sizes, text-view, value-at}
@@ -36,16 +36,16 @@ whole_is-parts_are-requires t c = (
 
 pub whole_is-returns-in-Text : goal.whole_is-returns-in-Text
 whole_is-returns-in-Text t c r shows each =
-    leaf-told (shown r) c.in-Closed.length (kind-closes r c.in-Closed.length (sym (c.kind.ensures r shows) ∙ c.in-Closed.is)) (view c.args.value.now) _ (ap view c.in-Text.is ∙ text-view c.in-Text.field-0)
+    leaf-told (value_tree r) c.in-Closed.length (kind-closes r c.in-Closed.length (sym (c.kind.ensures r shows) ∙ c.in-Closed.is)) (view c.args.value.now) _ (ap view c.in-Text.is ∙ text-view c.in-Text.field-0)
 
 pub whole_is-returns-in-List : goal.whole_is-returns-in-List
 whole_is-returns-in-List t c r shows each =
-    list-told (shown r) c.in-Closed.length (kind-closes r c.in-Closed.length (sym (c.kind.ensures r shows) ∙ c.in-Closed.is)) (view c.args.value.now) (map view c.as_slice.result.now)
+    list-told (value_tree r) c.in-Closed.length (kind-closes r c.in-Closed.length (sym (c.kind.ensures r shows) ∙ c.in-Closed.is)) (view c.args.value.now) (map view c.as_slice.result.now)
     (list_of-view c.args.value.now c.in-List.items c.as_slice.result.now c.in-List.is c.as_slice.ensures) c.parts_are.result (c.parts_are.ensures r shows each)
 
 pub whole_is-returns-in-Fault : goal.whole_is-returns-in-Fault
 whole_is-returns-in-Fault t c r shows each =
-    leaf-told (shown r) c.in-Closed.length (kind-closes r c.in-Closed.length (sym (c.kind.ensures r shows) ∙ c.in-Closed.is)) (view c.args.value.now) _ (ap view c.in-Fault.is ∙ fault-view c.in-Fault.field-0)
+    leaf-told (value_tree r) c.in-Closed.length (kind-closes r c.in-Closed.length (sym (c.kind.ensures r shows) ∙ c.in-Closed.is)) (view c.args.value.now) _ (ap view c.in-Fault.is ∙ fault-view c.in-Fault.field-0)
 
 -- ---- its parts
 
@@ -54,7 +54,7 @@ parts_are-returns-in_default t c r shows each =
     let vs = map view c.args.values.now in
     let i = c.loop-index.index in
     let v = get-within vs i (subst (λ n. i < n) (sym (length-map c.args.values.now view ∙ c.if-values-count.false)) c.loop-index-test.true) in
-    one-other r vs c.args.count i v.0 c.loop-index-test.true v.1 (λ e. found-none [] v.0 (ap (λ x. found_in [] (shown x)) (sym (c.in_default.ensures {u = tt} r shows)) ∙ e))
+    one-other r vs c.args.count i v.0 c.loop-index-test.true v.1 (λ e. found-none [] v.0 (ap (λ x. found_in [] (value_tree x)) (sym (c.in_default.ensures {u = tt} r shows)) ∙ e))
 
 pub parts_are-whole_is-requires : goal.parts_are-whole_is-requires
 parts_are-whole_is-requires t c =

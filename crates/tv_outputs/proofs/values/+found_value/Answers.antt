@@ -4,7 +4,7 @@ use Rattle.tv_parts.specs.Partials.{part_at}
 use Rattle.tv_stream.proofs.Ways.{nil-of}
 use Rattle.tv_value.specs.declared.value.Value.{Value}
 use Rattle.tv_value.specs.Views.{view}
-use Rattle.tv_outputs.specs.Known.{shown}
+use Rattle.tv_outputs.specs.Known.{value_tree}
 use Rattle.tv_outputs.specs.FoundIn.{found_in}
 use Rattle.tv_outputs.proofs.OfPieces.{here-found, here-whole, inside-found, item-sound, nothing-found, part-found}
 use Rattle.tv_outputs.proofs.Seeing.{sees-part}
@@ -13,7 +13,7 @@ use Rattle.tv_outputs.proofs.values.+found_value.Goals as goal
 pub whole_value-requires : goal.whole_value-requires
 whole_value-requires t c =
     let n = c.requires in
-    (n.0, n.1, here-whole (shown n.0) c.args.place.now (nil-of c.args.place.now (c.in_default.ensures {u = tt}).cases) n.2)
+    (n.0, n.1, here-whole (value_tree n.0) c.args.place.now (nil-of c.args.place.now (c.in_default.ensures {u = tt}).cases) n.2)
 
 pub part-requires : goal.part-requires
 part-requires t c =
@@ -31,7 +31,7 @@ unreachable-requires t c =
     let i = c.in-Some.first.now in
     let o = c.in-Some.rest.now in
     nothing-found o (
-    ap (λ r. is_some (found_in o (shown r))) (sym (c.in-None-part.ensures {u = tt} n.0 n.1.shows))
+    ap (λ r. is_some (found_in o (value_tree r))) (sym (c.in-None-part.ensures {u = tt} n.0 n.1.shows))
     ∙ sym (ap is_some (inside-found n.0 c.args.place.now i o c.in-Some.ensures.cases.0 (c.in-None.ensures {u = tt} n.0 n.1.shows)))
     ∙ n.2)
 
@@ -55,8 +55,8 @@ found_value-requires t c =
 pub returns-in_default : goal.returns-in_default
 returns-in_default t c r sees found =
     let nil = nil-of c.args.place.now (c.in_default.ensures {u = tt}).cases in
-    let w = here-whole (shown r) c.args.place.now nil found in
-    IfOk-weaker c.whole_value.result _ _ (λ (x : Value) h. here-found (shown r) c.args.place.now (view x) nil w h) (c.whole_value.ensures r sees w)
+    let w = here-whole (value_tree r) c.args.place.now nil found in
+    IfOk-weaker c.whole_value.result _ _ (λ (x : Value) h. here-found (value_tree r) c.args.place.now (view x) nil w h) (c.whole_value.ensures r sees w)
 
 pub returns-in_ok-part-in-Some-item : goal.returns-in_ok-part-in-Some-item
 returns-in_ok-part-in-Some-item t c r sees found =

@@ -1,7 +1,7 @@
 use Rattle.std.specs.Prelude.{◌+◌, ◌∷◌, drop, map}
 use Rattle.std.proofs.Common.{ap, arith, subst, sym, ◌∙◌}
 use Rattle.tv_flow.specs.Views.{activity_view}
-use Rattle.tv_entries.specs.Runs.{first_flow}
+use Rattle.tv_model.specs.Opening.{first_nested}
 use Rattle.tv_run.specs.Looks.{OpensNumber}
 use Rattle.tv_run.proofs.OfLooking.{first-so_far}
 use Rattle.tv_run.proofs.plans.opened_by.Goals as goal
@@ -13,5 +13,5 @@ returns-in-Nested c d are =
     let is =
     first-so_far activity_view xs k c.activity-item.result (omega (arith, c.loop-activity-test.true)) c.activity-item.is
     c.loop-activity.invariant
-    ∙ ap (λ x. first_flow (activity_view x ∷ map activity_view (drop (k + 1) xs))) c.in-Nested.is in
+    ∙ ap (λ x. first_nested (activity_view x ∷ map activity_view (drop (k + 1) xs))) c.in-Nested.is in
     subst (λ o. OpensNumber d o c.flow_number.result) (sym is) (c.flow_number.ensures d are)

@@ -1,7 +1,7 @@
 use Rattle.std.specs.Prelude.{◌+◌, map}
 use Rattle.std.proofs.Common.{ap, arith, subst, sym}
 use Rattle.tv_flow.specs.Views.{activity_view, each, flow_view, step_view}
-use Rattle.tv_entries.specs.Runs.{first_flow}
+use Rattle.tv_model.specs.Opening.{first_nested}
 use Rattle.tv_run.specs.Looks.{OpensNumber}
 use Rattle.tv_run.specs.declared.plans.StepLook.{StepLook}
 use Rattle.tv_run.proofs.OfLooking.{AreStepsSoFar, all-steps, one-step}
@@ -13,7 +13,7 @@ loop-step-preserved c d are =
     let k = c.loop-step.step-index in
     let x : StepLook = record { tries = c.in_ok-tries_of.field-0; opens = c.opened_by.result } in
     let opens =
-    subst (λ l. OpensNumber d (first_flow (map activity_view l)) c.opened_by.result) c.as_slice.ensures
+    subst (λ l. OpensNumber d (first_nested (map activity_view l)) c.opened_by.result) c.as_slice.ensures
     (c.opened_by.ensures d are) in
     subst (λ l. AreStepsSoFar d steps l (k + 1)) (sym c.in_ok-push.ensures.items)
     (one-step d steps c.loop-step.looks.items k c.step-item.result x (omega (arith, c.loop-step-test.true)) c.step-item.is

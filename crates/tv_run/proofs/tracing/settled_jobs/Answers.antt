@@ -1,7 +1,7 @@
 use Rattle.std.specs.Option.{option_map_or}
 use Rattle.std.proofs.Common.{ap, arith, false, sym, ◌<◌, ◌≡◌, ◌∙◌, length}
 use Rattle.tv_seats.specs.Seats.{stage_at}
-use Rattle.tv_run.specs.Tracing.{is_settled_stage}
+use Rattle.tv_forest.specs.stands.Seats.{is_over}
 use Rattle.tv_run.proofs.OfRecording.{all-gathered, gathered, not-gathered}
 use Rattle.tv_run.proofs.tracing.settled_jobs.Goals as goal
 use Rattle.tv_run.proofs.tracing.settled_jobs.Goals.{else-is_settled, then-is_settled+in_ok-place+in_ok-push}
@@ -10,8 +10,8 @@ pub loop-number-preserved : goal.loop-number-preserved
 loop-number-preserved c =
     let ss = c.args.open.now.seats.seats in
     let k = c.loop-number.number in
-    let told : option_map_or is_settled_stage (stage_at ss k) false ≡ c.is_settled.result =
-    ap (λ o. option_map_or is_settled_stage o false) (sym c.stage.ensures) ∙ sym c.is_settled.ensures
+    let told : option_map_or is_over (stage_at ss k) false ≡ c.is_settled.result =
+    ap (λ o. option_map_or is_over o false) (sym c.stage.ensures) ∙ sym c.is_settled.ensures
     in
     let low : k < length ss = (let e = c.known-number-end.ensures in omega (arith, c.loop-number-test.true, e)) in
     let m = c.is_settled.result in

@@ -1,6 +1,6 @@
 use Rattle.std.proofs.Common.{length, subst, sym}
 use Rattle.tv_wires.specs.declared.ports.Port.{Port}
-use Rattle.tv_feeds.specs.Feeds.{IsWithin}
+use Rattle.tv_endings.specs.Feeds.{IsWithin}
 use Rattle.tv_spread.specs.Arounds.{IsFed}
 use Rattle.tv_spread.proofs.Lists.{each-at}
 use Rattle.tv_spread.proofs.OfTold.{fed-within}

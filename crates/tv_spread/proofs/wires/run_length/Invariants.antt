@@ -1,5 +1,5 @@
 use Rattle.std.proofs.Common.{◌≡◌, take}
-use Rattle.tv_strategy.specs.Sources.{Each}
+use Rattle.tv_lemmas.specs.Members.{Each}
 use Rattle.tv_wires.specs.declared.wires.Wire.{Wire}
 use Rattle.tv_spread.proofs.wires.run_length.Given as goal
 

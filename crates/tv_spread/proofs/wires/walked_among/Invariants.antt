@@ -1,6 +1,6 @@
 use Rattle.std.proofs.Common.{◌≡◌, take}
 use Rattle.std.specs.Prelude.{filter}
-use Rattle.tv_spread.specs.Along.{is_walked}
+use Rattle.tv_telling.specs.Along.{is_walked}
 use Rattle.tv_spread.proofs.wires.walked_among.Given as goal
 
 abbrev pub invariant-loop-wire : goal.invariant-loop-wire

@@ -3,7 +3,7 @@ use Rattle.std.specs.Prelude.{length, ◌≡◌}
 use Rattle.tv_lemmas.proofs.Options.{on-err}
 use Rattle.tv_value.specs.Values.{Text}
 use Rattle.tv_check.specs.RunViews.{run_view}
-use Rattle.tv_generated.specs.Summaries.{summary_text}
+use Rattle.tv_generator.specs.Summaries.{summary_text}
 use Rattle.tv_model.specs.Meanings.{meaning}
 use Rattle.tv_model.specs.Results.{result_line}
 use Rattle.tv_model.specs.Totals.{totals}

@@ -1,14 +1,14 @@
-use Rattle.std.proofs.Common.{arith, sym, ap, ap₂, subst, refl, ◌≡◌, ◌≤◌, ◌∙◌, ◌++◌, ◌∷◌, [], length, map, ℕ, suc, ◌+◌, ◌-◌, Some}
+use Rattle.std.proofs.Common.{arith, sym, ap, ap₂, subst, refl, ◌≡◌, ◌∙◌, ◌++◌, ◌∷◌, [], length, map, ℕ, suc, ◌+◌, ◌-◌, Some}
 use Rattle.tv_levels.specs.Views.{what_view}
 use Rattle.std.proofs.lemmas.List.{length-map, map-append}
+use Rattle.tv_lemmas.specs.Members.{Each}
 use Rattle.tv_flow.specs.Views.{flow_view}
 use Rattle.tv_lineage.specs.Kept.{IsBefore}
-use Rattle.tv_lineage.specs.Members.{Each}
 use Rattle.tv_lineage.specs.Views.{mark_view, part_view}
-use Rattle.tv_marked.specs.Building.{AreBuilt, IsBuilt}
-use Rattle.tv_marked.specs.Feeds.{node_parts}
-use Rattle.tv_marked.proofs.OfBuilding.{fault-built, job-built, list-built, none-built, none-of_list, one-more}
-use Rattle.tv_marked.proofs.OfGroups.{all-grow}
+use Rattle.tv_traces.specs.OfNodes.{AreBuilt, IsBuilt}
+use Rattle.tv_traces.specs.Feeds.{node_parts}
+use Rattle.tv_traces.proofs.OfBuilding.{fault-built, job-built, list-built, none-built, none-of_list, one-more}
+use Rattle.tv_traces.proofs.OfGroups.{all-grow}
 use Rattle.tv_traces.specs.Building.{telling}
 use Rattle.tv_traces.specs.Views.{node_view, shapes_view}
 use Rattle.tv_traces.proofs.Noting.{at-level, next-level, told-is, told-none}
@@ -26,13 +26,13 @@ node_below-returns-in_ok-fault_marks-in-Some-Passed t c =
     let place : c.as_slice-in-Some-Passed.result.now ≡ c.as_slice-2.result.now = c.as_slice-in-Some-Passed.ensures ∙ sym c.as_slice-2.ensures in
     at-level (telling c.args.walk.now) (suc (c.args.levels - 1)) c.args.levels c.args.place.now c.as_slice-2.result.now c.args.records.now c.args.records.now _ (next-level c.args.levels c.if-levels-eq0.false) c.as_slice-2.ensures
     (fault-built (telling c.args.walk.now) (c.args.levels - 1) c.as_slice-2.result.now c.args.records.now c.in-Some-Passed.leaf _ (map mark_view c.in_ok-fault_marks-in-Some-Passed.field-0) (passed-view c.in_ok-fault_marks-in-Some-Passed.field-0) told
-    (c.in_ok-fault_marks-in-Some-Passed.ensures ∙ ap (λ q. Rattle.tv_marked.specs.Walking.fault_marks (flow_view c.args.walk.now.shown.flow.now) (shapes_view c.args.walk.now.shown.shapes.now) c.args.walk.now.ports.now c.args.walk.now.starts.now c.in-Some-Passed.leaf q) place))
+    (c.in_ok-fault_marks-in-Some-Passed.ensures ∙ ap (λ q. Rattle.tv_traces.specs.Walking.fault_marks (flow_view c.args.walk.now.shown.flow.now) (shapes_view c.args.walk.now.shown.shapes.now) c.args.walk.now.ports.now c.args.walk.now.starts.now c.in-Some-Passed.leaf q) place))
 
 pub node_below-returns-in-None : goal.node_below-returns-in-None
 node_below-returns-in-None t c =
     let told = told-none c.in_ok-count.field-0 _ c.in-None.is c.in_ok-count.ensures in
     at-level (telling c.args.walk.now) (suc (c.args.levels - 1)) c.args.levels c.args.place.now c.as_slice-2.result.now c.args.records.now c.args.records.now _ (next-level c.args.levels c.if-levels-eq0.false) c.as_slice-2.ensures
-    (none-built (telling c.args.walk.now) (c.args.levels - 1) c.as_slice-2.result.now c.args.records.now _ (passed-view c.empty.result ∙ ap (λ ms. Rattle.tv_value.specs.Nested.leaf (Rattle.tv_lineage.specs.Kept.result []) (Rattle.tv_marked.specs.Shapes.passed_by (map mark_view ms))) c.empty.ensures) told)
+    (none-built (telling c.args.walk.now) (c.args.levels - 1) c.as_slice-2.result.now c.args.records.now _ (passed-view c.empty.result ∙ ap (λ ms. Rattle.tv_value.specs.Nested.leaf (Rattle.tv_lineage.specs.Kept.result []) (Rattle.tv_traces.specs.Shapes.passed_by (map mark_view ms))) c.empty.ensures) told)
 
 pub list_below-loop-index-init : goal.list_below-loop-index-init
 list_below-loop-index-init t c = record {

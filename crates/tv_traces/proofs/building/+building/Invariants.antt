@@ -1,6 +1,6 @@
 use Rattle.std.proofs.Common.{◌≡◌, ◌+◌, length, map}
 use Rattle.tv_lineage.specs.Views.{part_view}
-use Rattle.tv_marked.specs.Building.{AreBuilt}
+use Rattle.tv_traces.specs.OfNodes.{AreBuilt}
 use Rattle.tv_traces.specs.Building.{telling}
 use Rattle.tv_traces.specs.Views.{node_view}
 use Rattle.tv_traces.proofs.building.+building.Given as goal

@@ -1,7 +1,7 @@
 use Rattle.std.proofs.Common.{◌≡◌, map, take}
 use Rattle.tv_flow.specs.Views.{flow_view}
 use Rattle.tv_lineage.specs.Views.{part_view}
-use Rattle.tv_marked.specs.Walking.{bound_parts}
+use Rattle.tv_traces.specs.Walking.{bound_parts}
 use Rattle.tv_traces.specs.Views.{shapes_view}
 use Rattle.tv_traces.proofs.building.bound_parts.Given as goal
 

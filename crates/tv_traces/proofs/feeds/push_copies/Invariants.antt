@@ -1,6 +1,6 @@
 use Rattle.std.proofs.Common.{◌≡◌, ◌++◌, map, take}
 use Rattle.tv_lineage.specs.Views.{mark_view, part_view}
-use Rattle.tv_marked.specs.Feeds.{as_part}
+use Rattle.tv_traces.specs.Feeds.{as_part}
 use Rattle.tv_traces.proofs.feeds.push_copies.Given as goal
 
 abbrev pub invariant-loop-mark : goal.invariant-loop-mark

@@ -1,7 +1,7 @@
 use Rattle.std.proofs.Common.{◌≡◌, ◌++◌, [], map, take}
 use Rattle.tv_flow.specs.Views.{flow_view}
 use Rattle.tv_lineage.specs.Views.{part_view}
-use Rattle.tv_marked.specs.Feeds.{element_parts, merge_told, node_parts}
+use Rattle.tv_traces.specs.Feeds.{element_parts, merge_told, node_parts}
 use Rattle.tv_traces.specs.Views.{shapes_view}
 use Rattle.tv_traces.proofs.feeds.push_merged_parts.Given as goal
 

@@ -1,6 +1,6 @@
 use Rattle.std.proofs.Common.{arith, sym, ◌∙◌, take, drop, map}
 use Rattle.tv_lineage.specs.Views.{mark_view}
-use Rattle.tv_marked.specs.Shapes.{job_here, passed_by}
+use Rattle.tv_traces.specs.Shapes.{job_here, passed_by}
 use Rattle.tv_traces.specs.Views.{node_view}
 use Rattle.std.proofs.Common.{ap}
 use Rattle.tv_traces.proofs.OfNodes.{job-view, passed-view, stops, way-ends, way-goes_on}

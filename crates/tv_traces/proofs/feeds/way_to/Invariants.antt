@@ -1,5 +1,5 @@
 use Rattle.std.proofs.Common.{◌≡◌, [], drop, take}
-use Rattle.tv_marked.specs.Shapes.{reached}
+use Rattle.tv_traces.specs.Shapes.{reached}
 use Rattle.tv_traces.specs.Views.{node_view}
 use Rattle.tv_traces.proofs.feeds.way_to.Given as goal
 

@@ -1,7 +1,7 @@
 use Rattle.std.proofs.Common.{List, ◌++◌, map, take}
 use Rattle.std.specs.BTreeMap.{get}
 use Rattle.tv_value.specs.Orders.{place_cmp}
-use Rattle.tv_marked.specs.Seen.{Spot}
+use Rattle.tv_traces.specs.Seen.{Spot}
 use Rattle.tv_traces.specs.Growing.{AreGrownBy, IsAroundOne}
 use Rattle.tv_traces.specs.Sights.{job_view}
 use Rattle.tv_traces.proofs.growing.grow_by_jobs.Given as goal

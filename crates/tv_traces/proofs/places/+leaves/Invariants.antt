@@ -1,7 +1,7 @@
 use Rattle.std.proofs.Common.{◌≡◌, ◌++◌, map, take}
 use Rattle.tv_value.specs.Nested.{trees_of}
 use Rattle.tv_cell.specs.PieceValues.{piece_value}
-use Rattle.tv_marked.specs.Leaves.{places_from}
+use Rattle.tv_traces.specs.Leaves.{places_from}
 use Rattle.tv_traces.proofs.places.+leaves.Given as goal
 
 abbrev pub invariant-push_pieces_places-loop-index : goal.invariant-push_pieces_places-loop-index

@@ -1,5 +1,5 @@
 use Rattle.std.proofs.Common.{map, take, Some}
-use Rattle.tv_marked.specs.Tables.{AreDone}
+use Rattle.tv_traces.specs.Tables.{AreDone}
 use Rattle.tv_traces.specs.Sights.{done_by, job_view}
 use Rattle.tv_traces.proofs.settled.jobs_of.Given as goal
 

@@ -1,6 +1,6 @@
 use Rattle.std.proofs.Common.{◌≡◌}
 use Rattle.std.specs.Prelude.{replicate}
-use Rattle.tv_marked.specs.Shapes.{no_shape}
+use Rattle.tv_traces.specs.Shapes.{no_shape}
 use Rattle.tv_traces.specs.Views.{shapes_view}
 use Rattle.tv_traces.proofs.stepping.no_shapes.Given as goal
 

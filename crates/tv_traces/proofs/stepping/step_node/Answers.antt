@@ -4,7 +4,7 @@ use Rattle.tv_lemmas.proofs.Lists.{get-read}
 use Rattle.tv_flow.specs.Views.{flow_view}
 use Rattle.tv_frame.proofs.OfOrder.{few-steps}
 use Rattle.tv_frame.proofs.OfTables.{levels-small}
-use Rattle.tv_marked.specs.Building.{IsBuilt, Telling}
+use Rattle.tv_traces.specs.OfNodes.{IsBuilt, Telling}
 use Rattle.tv_traces.specs.Sights.{done_in, what_in}
 use Rattle.tv_traces.specs.Views.{node_view, shapes_view}
 use Rattle.tv_traces.proofs.Noting.{at-level}

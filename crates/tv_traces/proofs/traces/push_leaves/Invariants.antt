@@ -1,7 +1,7 @@
 use Rattle.std.proofs.Common.{◌≡◌, ◌++◌, map, take}
 use Rattle.tv_flow.specs.Views.{flow_view}
 use Rattle.tv_lineage.specs.Views.{leaf_view}
-use Rattle.tv_marked.specs.Feeds.{feed_marks}
+use Rattle.tv_traces.specs.Feeds.{feed_marks}
 use Rattle.tv_traces.specs.Views.{shapes_view}
 use Rattle.tv_traces.proofs.traces.push_leaves.Given as goal
 

@@ -7,9 +7,10 @@ use Rattle.tv_flow.specs.Views.{flow_view}
 use Rattle.tv_strategy.specs.Origins.{Origin}
 use Rattle.tv_model.specs.Meanings.{meaning}
 use Rattle.tv_levels.specs.MainSteps.{main_steps}
-use Rattle.tv_marked.specs.Grouped.{AllAreGrouped}
-use Rattle.tv_marked.specs.Seen.{AreSeen}
-use Rattle.tv_marked.specs.Staged.{IsMainFlow, IsStage}
+use Rattle.tv_traces.specs.Grouped.{AllAreGrouped}
+use Rattle.tv_traces.specs.Seen.{AreSeen}
+use Rattle.tv_traces.specs.Staged.{IsStage}
+use Rattle.tv_forest.specs.runs.Stated.{IsMainFlow}
 use Rattle.tv_traces.specs.Sights.{done_in, what_in}
 use Rattle.tv_traces.specs.Views.{shapes_view}
 use Rattle.tv_traces.proofs.traces.traces_by.Given as goal

@@ -1,5 +1,5 @@
 use Rattle.std.proofs.Common.{arith, ◌≡◌, ◌++◌, ◌∷◌, [], ap, ◌∙◌}
-use Rattle.tv_marked.specs.Feeds.{job_at}
+use Rattle.tv_traces.specs.Feeds.{job_at}
 use Rattle.tv_traces.proofs.Looping.{used-more}
 use Rattle.tv_traces.proofs.used.+used.Goals as goal
 

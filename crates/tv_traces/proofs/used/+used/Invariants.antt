@@ -1,7 +1,7 @@
 use Rattle.std.proofs.Common.{◌≡◌, ◌++◌, map, take}
 use Rattle.tv_lineage.specs.Views.{mark_view}
-use Rattle.tv_marked.specs.Feeds.{job_at}
-use Rattle.tv_marked.specs.Shapes.{shapes_used}
+use Rattle.tv_traces.specs.Feeds.{job_at}
+use Rattle.tv_traces.specs.Shapes.{shapes_used}
 use Rattle.tv_traces.specs.Views.{nodes_view}
 use Rattle.tv_traces.proofs.used.+used.Given as goal
 

@@ -1,6 +1,6 @@
 use Rattle.tv_lineage.specs.Touching.{given}
 use Rattle.tv_lineage.specs.Views.{mark_view}
-use Rattle.tv_marked.specs.Feeds.{element_marks}
+use Rattle.tv_traces.specs.Feeds.{element_marks}
 use Rattle.tv_traces.proofs.Telling.{no-input, none-pushed, pushed-one, some-input}
 use Rattle.tv_traces.proofs.used.push_element_mark.Goals as goal
 

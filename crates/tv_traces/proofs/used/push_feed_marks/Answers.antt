@@ -1,5 +1,5 @@
 use Rattle.tv_flow.specs.Views.{flow_view}
-use Rattle.tv_marked.specs.Feeds.{element_marks, node_marks}
+use Rattle.tv_traces.specs.Feeds.{element_marks, node_marks}
 use Rattle.tv_traces.specs.Views.{shapes_view}
 use Rattle.tv_traces.proofs.Telling.{no-link, none-pushed}
 use Rattle.tv_traces.proofs.used.push_feed_marks.Goals as goal

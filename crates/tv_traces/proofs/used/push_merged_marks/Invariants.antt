@@ -1,7 +1,7 @@
 use Rattle.std.proofs.Common.{◌≡◌, ◌++◌, [], map, take}
 use Rattle.tv_flow.specs.Views.{flow_view}
 use Rattle.tv_lineage.specs.Views.{mark_view}
-use Rattle.tv_marked.specs.Feeds.{element_marks, merge_told, node_marks}
+use Rattle.tv_traces.specs.Feeds.{element_marks, merge_told, node_marks}
 use Rattle.tv_traces.specs.Views.{shapes_view}
 use Rattle.tv_traces.proofs.used.push_merged_marks.Given as goal
 

@@ -1,4 +1,4 @@
-use Rattle.std.proofs.Common.{◌∙◌, ap, sym, map, ◌≡◌}
+use Rattle.std.proofs.Common.{◌∙◌, ap, sym, map}
 use Rattle.std.proofs.lemmas.List.{take_all}
 use Rattle.std.proofs.lemmas.Simd.{map-map}
 use Rattle.tv_flow.specs.Views.{each, step_view}
@@ -7,7 +7,7 @@ use Rattle.tv_naming.proofs.OfLists.{map-same}
 use Rattle.tv_wires.specs.Wirings.{after_of}
 use Rattle.tv_wires.proofs.Counting.{image-more}
 use Rattle.tv_wires.proofs.wiring.after_by_steps.Goals as goal
-use Rattle.tv_depths.proofs.OfNested.{position-each}
+use Rattle.tv_naming.proofs.ByPosition.{position-each}
 
 pub loop-step-preserved : goal.loop-step-preserved
 loop-step-preserved c =

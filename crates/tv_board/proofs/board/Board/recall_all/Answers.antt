@@ -1,6 +1,6 @@
 use Rattle.std.proofs.Common.{ap, sym, ◌∙◌}
 use Rattle.std.specs.Prelude.{refl}
-use Rattle.tv_entries.specs.Calls.{out_count}
+use Rattle.tv_entries.specs.Calls.{out_now}
 use Rattle.tv_run.specs.Standing.{run_of}
 use Rattle.tv_board.proofs.OfCalls.{legal-now, over-idle, over-out, recall-counts, recall-idle, recall-names, recall-none_out, recall-stands, recall-tells, stays}
 use Rattle.tv_board.proofs.board.Board.recall_all.Goals as goal
@@ -36,7 +36,7 @@ pub returns-clause-none_out : goal.returns-clause-none_out
 returns-clause-none_out g c = recall-none_out g.V.Services.gives c.self.inside.run c.recall_all.new.self c.args.self.now c.self.view_is (c.if-is_done.ensures.still refl g.V.Services.gives c.self.invariant) c.recall_all.result c.recall_all.ensures.recalled
 
 pub returns-clause-quiet : goal.returns-clause-quiet
-returns-clause-quiet g c = λ h. c.recall_all.ensures.quiet g.V.Services.gives (c.if-is_done.ensures.still refl g.V.Services.gives c.self.invariant) (ap (out_count g.V.Services.gives) c.self.view_is ∙ h)
+returns-clause-quiet g c = λ h. c.recall_all.ensures.quiet g.V.Services.gives (c.if-is_done.ensures.still refl g.V.Services.gives c.self.invariant) (ap (out_now g.V.Services.gives) c.self.view_is ∙ h)
 
 pub returns-clause-refused : goal.returns-clause-refused
 returns-clause-refused g c = stays g.V.Services.gives c.self.inside.run c.recall_all.new.self c.args.self.now c.self.view_is (c.if-is_done.ensures.still refl g.V.Services.gives c.self.invariant) c.recall_all.result c.recall_all.ensures.refused

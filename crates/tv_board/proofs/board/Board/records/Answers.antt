@@ -3,7 +3,7 @@ use Rattle.std.proofs.Common.{subst}
 use Rattle.tv_entries.specs.Runs.{Run, meant, past_of}
 use Rattle.tv_lineage.specs.Kept.{records_of}
 use Rattle.tv_lineage.specs.Members.{HaveSame}
-use Rattle.tv_marked.specs.Settled.{settled_records}
+use Rattle.tv_traces.specs.Settled.{settled_records}
 use Rattle.tv_board.proofs.board.Board.records.Goals as goal
 
 pub records-requires : goal.records-requires

@@ -1,6 +1,6 @@
 use Rattle.std.specs.Prelude.{map, ◌≡◌}
 use Rattle.tv_lineage.specs.Views.{leaf_view}
-use Rattle.tv_followed.specs.Recorded.{leaves}
+use Rattle.tv_model.specs.records.Recorded.{leaves}
 use Rattle.tv_entries.specs.Runs.{meant}
 use Rattle.tv_board.proofs.OfTraced.{told}
 use Rattle.tv_board.proofs.traced.Traced.leaves.Goals as goal

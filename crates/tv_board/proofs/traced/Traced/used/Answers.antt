@@ -1,6 +1,6 @@
 use Rattle.std.specs.Prelude.{map, option_map, ◌≡◌}
 use Rattle.tv_lineage.specs.Views.{mark_view}
-use Rattle.tv_followed.specs.Recorded.{marks_of, output_at}
+use Rattle.tv_model.specs.records.Recorded.{marks_of, output_at}
 use Rattle.tv_entries.specs.Runs.{meant}
 use Rattle.tv_board.proofs.OfTraced.{told}
 use Rattle.tv_board.proofs.traced.Traced.used.Goals as goal

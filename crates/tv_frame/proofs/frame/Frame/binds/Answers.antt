@@ -1,10 +1,10 @@
 use Rattle.std.specs.Prelude.{◌≡◌, ◌<◌, ◌↔◌, IsTrue, Some, is_some, map, slice_index_or}
 use Rattle.std.proofs.Common.{◌∙◌, ap, refl, subst, sym}
 use Rattle.tv_value.specs.Views.{view}
-use Rattle.tv_bound.specs.Constants.{constants_view}
-use Rattle.tv_bound.specs.declared.constants.Constants.{Constants}
-use Rattle.tv_bound.specs.Jobs.{job_found}
-use Rattle.tv_bound.specs.Sourced.{known_by as sourced_by}
+use Rattle.tv_binding.specs.Constants.{constants_view}
+use Rattle.tv_binding.specs.declared.constants.Constants.{Constants}
+use Rattle.tv_binding.specs.Jobs.{job_found}
+use Rattle.tv_binding.specs.Sourced.{known_by as sourced_by}
 use Rattle.tv_frame.specs.declared.tables.Tables.{Tables}
 use Rattle.tv_frame.proofs.OfJobInputs.{binds-other, binds-same, call-counted, call-delivered, call-found, call-inputs, call-of, call-parts, starts-within, step-within}
 use Rattle.tv_frame.proofs.OfOuts.{sources-stand}

@@ -1,5 +1,5 @@
 use Rattle.std.proofs.Common.{refl, subst, sym}
-use Rattle.tv_turn.specs.FirstReady.{IsFirstReady}
+use Rattle.tv_framing.specs.turns.FirstReady.{IsFirstReady}
 use Rattle.tv_frame.specs.Tables.{levels_in}
 use Rattle.tv_frame.proofs.OfReady.{first-after_one, first-of_all}
 use Rattle.tv_frame.proofs.frame.Frame.first_ready.Goals as goal

@@ -2,8 +2,8 @@ use Rattle.std.proofs.Common.{◌≡◌, ◌∙◌, ◌<◌, ap, refl, subst, sy
 use Rattle.std.proofs.lemmas.Option.{same_Some}
 use Rattle.std.specs.Bool.{IsTrue}
 use Rattle.std.specs.Option.{is_some}
-use Rattle.tv_bound.specs.Constants.{constant_of_port, constants_view}
-use Rattle.tv_bound.specs.declared.constants.Constants.{Constants}
+use Rattle.tv_binding.specs.Constants.{constant_of_port, constants_view}
+use Rattle.tv_binding.specs.declared.constants.Constants.{Constants}
 use Rattle.tv_frame.specs.declared.tables.Tables.{Tables}
 use Rattle.tv_frame.proofs.OfFaultingRead.{fault-read, feed-few, leaf-within, ok-weaken, port-within, ports-read, ports-within, start-is, step-small}
 use Rattle.tv_frame.proofs.frame.Frame.passed_piece.Goals as goal

@@ -4,7 +4,7 @@ use Rattle.tv_outputs.specs.Changes.{AllCanClose}
 use Rattle.tv_outputs.specs.Known.{depths, known, needed, tree_in}
 use Rattle.tv_telling.specs.Views.{HasPiece}
 use Rattle.tv_instance.specs.Events.{closed}
-use Rattle.tv_fed.specs.Seen.{Happens}
+use Rattle.tv_framing.specs.feeds.Seen.{Happens}
 use Rattle.tv_frame.specs.Tables.{first_tree, trees_of}
 use Rattle.tv_frame.proofs.OfComing.{counted-closings}
 use Rattle.tv_frame.proofs.OfKeeping.{first-is, firsts-within, keeps-ahead, keeps-room, step-there, step-within}

@@ -3,7 +3,7 @@ use Rattle.std.proofs.Common.{◌≡◌, ◌==◌, ◌≤◌, arith, length, ref
 use Rattle.tv_outputs.specs.Known.{known}
 use Rattle.tv_telling.specs.Views.{HasPiece}
 use Rattle.tv_instance.specs.Events.{fault_set}
-use Rattle.tv_fed.specs.Seen.{Happens}
+use Rattle.tv_framing.specs.feeds.Seen.{Happens}
 use Rattle.tv_frame.proofs.OfComing.{counted-arrivals}
 use Rattle.tv_frame.proofs.OfKeeping.{first-is, firsts-within, keeps-ahead, step-there, step-within}
 use Rattle.tv_frame.proofs.OfPassing.{fault-arrives, fault-coming, fault-counted, fault-first_can, fault-first_short, fault-next, fault-there, fault-turns, fault-values}

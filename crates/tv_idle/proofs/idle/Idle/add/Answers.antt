@@ -1,6 +1,6 @@
 use Rattle.std.proofs.Common.{◌≡◌, ◌+◌, ◌<◌, ap, sym, subst, ◌∙◌, arith, length, slice_set}
 use Rattle.tv_idle.specs.Idles.{Idles, of_step, with_idle}
-use Rattle.tv_idle.specs.Kept.{faulty_in, is_gone, shown}
+use Rattle.tv_idle.specs.Kept.{faulty_in, is_gone, queues_view}
 use Rattle.tv_idle.proofs.AllSteps.{many, map-longer, put-kept, put-seen}
 use Rattle.tv_idle.proofs.OfFaulty.{more-by, one-more}
 use Rattle.tv_idle.proofs.idle.Idle.add.Goals as goal
@@ -12,7 +12,7 @@ invariant_of-self c =
     let gs = r.gone.items in
     let qs = r.queues.items in
     let s = c.args.step in
-    let e = map-longer (shown (is_gone gs)) qs in
+    let e = map-longer (queues_view (is_gone gs)) qs in
     let inside : s < length qs = subst (λ m. s < m) (ap (λ (v : Idles). length v.steps) (sym c.self.view_is) ∙ e) c.requires.step in
     let number : c.len-number.result ≡ length gs = omega (arith, c.len-number.ensures, r.gone.ok.0) in
     let positive : 0 < r.room = subst (λ (v : Idles). 0 < v.room) (sym c.self.view_is) c.requires.room in
@@ -36,7 +36,7 @@ returns-clause-steps c =
     let gs = r.gone.items in
     let qs = r.queues.items in
     let s = c.args.step in
-    let e = map-longer (shown (is_gone gs)) qs in
+    let e = map-longer (queues_view (is_gone gs)) qs in
     let inside : s < length qs = subst (λ m. s < m) (ap (λ (v : Idles). length v.steps) (sym c.self.view_is) ∙ e) c.requires.step in
     let number : c.len-number.result ≡ length gs = omega (arith, c.len-number.ensures, r.gone.ok.0) in
     put-seen gs c.push_reserved.new.self.items c.len-number.result c.args.place.now qs s c.args.faulty c.index_mut.result.now c.put.new.self c.push_reserved.ensures.items number i.all inside c.index_mut.ensures.value c.put.ensures.grown c.put.ensures.other

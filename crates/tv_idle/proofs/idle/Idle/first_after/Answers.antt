@@ -2,7 +2,7 @@ use Rattle.std.proofs.Common.{◌<◌, ap, sym, subst, ◌∙◌, length}
 use Rattle.tv_ready.specs.Sought.{sought}
 use Rattle.tv_idle.specs.declared.queues.Queues.{Queues}
 use Rattle.tv_idle.specs.Idles.{Idles, first_after, first_of, of_step, standing_after}
-use Rattle.tv_idle.specs.Kept.{is_gone, live, no_queues, queues_of, shown}
+use Rattle.tv_idle.specs.Kept.{is_gone, live, no_queues, queues_of, queues_view}
 use Rattle.tv_idle.proofs.AllSteps.{map-longer, of-shown, read-same}
 use Rattle.tv_idle.proofs.Listing.{sought-live}
 use Rattle.tv_idle.proofs.idle.Idle.first_after.Goals as goal
@@ -14,7 +14,7 @@ returns c =
     let qs = r.queues.items in
     let s = c.args.step in
     let p = c.args.place.now in
-    let inside : s < length qs = subst (λ m. s < m) (ap (λ (v : Idles). length v.steps) (sym c.self.view_is) ∙ map-longer (shown (is_gone gs)) qs) c.requires in
+    let inside : s < length qs = subst (λ m. s < m) (ap (λ (v : Idles). length v.steps) (sym c.self.view_is) ∙ map-longer (queues_view (is_gone gs)) qs) c.requires in
     let q = queues_of qs s in
     c.first_after.ensures
     ∙ ap (λ m. first_of (sought p m c.read.result.now.good.jobs) (sought p m c.read.result.now.faulty.jobs)) c.as_slice.ensures.value

@@ -2,7 +2,7 @@ use Rattle.std.proofs.Common.{◌<◌, ap, sym, subst, ◌∙◌, length, map, s
 use Rattle.std.proofs.lemmas.Result.{on_ok_weaker}
 use Rattle.tv_idle.specs.declared.queues.Queues.{Queues}
 use Rattle.tv_idle.specs.Idles.{Idles, StepIdle, of_step, with_rooms_of}
-use Rattle.tv_idle.specs.Kept.{is_gone, shown}
+use Rattle.tv_idle.specs.Kept.{is_gone, queues_view}
 use Rattle.tv_idle.proofs.AllSteps.{map-longer, same-kept, same-step, same-steps, there-same}
 use Rattle.tv_idle.proofs.OfFaulty.{same-faulty}
 use Rattle.tv_idle.proofs.idle.Idle.reserve.Goals as goal
@@ -16,7 +16,7 @@ invariant_of-self c =
     let s = c.args.step in
     let from = c.index_mut.result.now in
     let to = c.reserve.new.self in
-    let inside : s < length qs = subst (λ m. s < m) (ap (λ (v : Idles). length v.steps) (sym c.self.view_is) ∙ map-longer (shown (is_gone gs)) qs) c.requires.step in
+    let inside : s < length qs = subst (λ m. s < m) (ap (λ (v : Idles). length v.steps) (sym c.self.view_is) ∙ map-longer (queues_view (is_gone gs)) qs) c.requires.step in
     let good = there-same (λ (q : Queues). q.good) qs s from to inside c.index_mut.ensures.value c.reserve.ensures.same_good in
     let faulty = there-same (λ (q : Queues). q.faulty) qs s from to inside c.index_mut.ensures.value c.reserve.ensures.same_faulty in
     record {
@@ -36,7 +36,7 @@ returns-clause-good c =
     let s = c.args.step in
     let from = c.index_mut.result.now in
     let to = c.reserve.new.self in
-    let inside : s < length qs = subst (λ m. s < m) (ap (λ (v : Idles). length v.steps) (sym c.self.view_is) ∙ map-longer (shown (is_gone gs)) qs) c.requires.step in
+    let inside : s < length qs = subst (λ m. s < m) (ap (λ (v : Idles). length v.steps) (sym c.self.view_is) ∙ map-longer (queues_view (is_gone gs)) qs) c.requires.step in
     let good = there-same (λ (q : Queues). q.good) qs s from to inside c.index_mut.ensures.value c.reserve.ensures.same_good in
     let faulty = there-same (λ (q : Queues). q.faulty) qs s from to inside c.index_mut.ensures.value c.reserve.ensures.same_faulty in
     let step = same-step (is_gone gs) (length gs) qs s to i.all inside good faulty in
@@ -51,7 +51,7 @@ returns-clause-faulty c =
     let s = c.args.step in
     let from = c.index_mut.result.now in
     let to = c.reserve.new.self in
-    let inside : s < length qs = subst (λ m. s < m) (ap (λ (v : Idles). length v.steps) (sym c.self.view_is) ∙ map-longer (shown (is_gone gs)) qs) c.requires.step in
+    let inside : s < length qs = subst (λ m. s < m) (ap (λ (v : Idles). length v.steps) (sym c.self.view_is) ∙ map-longer (queues_view (is_gone gs)) qs) c.requires.step in
     let good = there-same (λ (q : Queues). q.good) qs s from to inside c.index_mut.ensures.value c.reserve.ensures.same_good in
     let faulty = there-same (λ (q : Queues). q.faulty) qs s from to inside c.index_mut.ensures.value c.reserve.ensures.same_faulty in
     let step = same-step (is_gone gs) (length gs) qs s to i.all inside good faulty in
@@ -66,8 +66,8 @@ returns-clause-steps c =
     let s = c.args.step in
     let from = c.index_mut.result.now in
     let to = c.reserve.new.self in
-    let inside : s < length qs = subst (λ m. s < m) (ap (λ (v : Idles). length v.steps) (sym c.self.view_is) ∙ map-longer (shown (is_gone gs)) qs) c.requires.step in
+    let inside : s < length qs = subst (λ m. s < m) (ap (λ (v : Idles). length v.steps) (sym c.self.view_is) ∙ map-longer (queues_view (is_gone gs)) qs) c.requires.step in
     let good = there-same (λ (q : Queues). q.good) qs s from to inside c.index_mut.ensures.value c.reserve.ensures.same_good in
     let faulty = there-same (λ (q : Queues). q.faulty) qs s from to inside c.index_mut.ensures.value c.reserve.ensures.same_faulty in
     same-steps (is_gone gs) (length gs) qs s to i.all inside good faulty
-    ∙ ap (λ (v : Idles). slice_set v.steps s (with_rooms_of (of_step (map (shown (is_gone gs)) (slice_set qs s to)) s) (of_step v.steps s))) c.self.view_is
+    ∙ ap (λ (v : Idles). slice_set v.steps s (with_rooms_of (of_step (map (queues_view (is_gone gs)) (slice_set qs s to)) s) (of_step v.steps s))) c.self.view_is

@@ -1,8 +1,8 @@
 use Rattle.std.proofs.Common.{List, [], ap, length, subst, sym, ◌++◌, ◌∙◌, ◌∷◌}
 use Rattle.std.proofs.lemmas.Result.{on_ok_weaker}
+use Rattle.tv_lemmas.specs.Members.{Each}
 use Rattle.tv_lineage.specs.Kept.{IsBefore, all_marks, records_of}
 use Rattle.tv_lineage.specs.Lineages.{Record}
-use Rattle.tv_lineage.specs.Members.{Each}
 use Rattle.tv_lineage.specs.Touching.{Mark}
 use Rattle.tv_lineage.proofs.Holding.{marks-before, marks-parts}
 use Rattle.tv_lineage.proofs.records.Records.note.Goals as goal

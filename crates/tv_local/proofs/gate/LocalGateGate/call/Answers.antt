@@ -5,7 +5,7 @@ use Rattle.tv_value.specs.Views.{view, values_view}
 use Rattle.tv_value.specs.Orders.{named}
 use Rattle.tv_value.proofs.OfItems.{items-trees_of}
 use Rattle.tv_gate.specs.Views.{outcome_view}
-use Rattle.tv_local.specs.LocalGives.{given}
+use Rattle.tv_local.specs.LocalGives.{local_outcome}
 use Rattle.tv_local.specs.Table.{names}
 use Rattle.tv_local.specs.declared.row.Local.{Local}
 use Rattle.tv_local.proofs.gate.LocalGateGate.call.Goals as goal
@@ -16,5 +16,5 @@ returns-in-Some c =
     let n = c.args.attempt in
     let same : map view c.as_slice.result.now ≡ values_view c.args.inputs.now = sym (items-trees_of (map view c.as_slice.result.now)) ∙ ap items c.as_slice.ensures in
     let found : Some c.in-Some.local ≡ named name names = sym c.in-Some.is ∙ c.find.ensures in
-    subst (λ (l : Option Local). IfOk c.checked.result (λ o. outcome_view o ≡ given l name (values_view c.args.inputs.now) n)) found
-    (subst (λ (vs : List spec.Value). IfOk c.checked.result (λ o. outcome_view o ≡ given (Some c.in-Some.local) name vs n)) same c.checked.ensures)
+    subst (λ (l : Option Local). IfOk c.checked.result (λ o. outcome_view o ≡ local_outcome l name (values_view c.args.inputs.now) n)) found
+    (subst (λ (vs : List spec.Value). IfOk c.checked.result (λ o. outcome_view o ≡ local_outcome (Some c.in-Some.local) name vs n)) same c.checked.ensures)

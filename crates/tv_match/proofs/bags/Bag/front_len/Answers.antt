@@ -1,6 +1,6 @@
 use Rattle.std.proofs.Common.{◌≡◌, suc, ◌-◌, ◌<◌, ◌≤◌, length, take, sym, ap, subst, ◌∙◌, arith}
 use Rattle.tv_match.specs.Entries.{front, entry_at}
-use Rattle.tv_match.specs.Slots.{shown}
+use Rattle.tv_match.specs.Slots.{bag_entries}
 use Rattle.tv_match.proofs.Fronts.{front-step, front-ends}
 use Rattle.tv_match.proofs.Laying.{number-shown, length-shown}
 use Rattle.tv_match.proofs.bags.Bag.front_len.Goals as goal
@@ -8,7 +8,7 @@ use Rattle.tv_match.proofs.bags.Bag.front_len.Goals as goal
 pub loop-count-preserved : goal.loop-count-preserved
 loop-count-preserved c =
     let slots = c.self.inside.slots.items in
-    let es = shown c.self.inside.indices.items slots in
+    let es = bag_entries c.self.inside.indices.items slots in
     let n = c.loop-count.count in
     let within : n ≤ length slots = c.loop-count.invariant.0 in
     let positive = c.loop-count-test.true in
@@ -21,7 +21,7 @@ loop-count-preserved c =
 pub returns-else-index-number-clause-front : goal.returns-else-index-number-clause-front
 returns-else-index-number-clause-front c =
     let slots = c.self.inside.slots.items in
-    let es = shown c.self.inside.indices.items slots in
+    let es = bag_entries c.self.inside.indices.items slots in
     let n = c.loop-count.count in
     let within : n ≤ length slots = c.loop-count.invariant.0 in
     let positive = c.loop-count-test.true in

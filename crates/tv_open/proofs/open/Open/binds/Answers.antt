@@ -1,4 +1,4 @@
-use Rattle.tv_seated.specs.Seated.{spot_of}
+use Rattle.tv_forest.specs.seats.Seated.{spot_of}
 use Rattle.tv_open.proofs.OfOpen.{numbered-at}
 use Rattle.tv_open.proofs.open.Open.binds.Goals as goal
 

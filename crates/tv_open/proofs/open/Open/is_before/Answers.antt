@@ -2,7 +2,7 @@ use Rattle.std.specs.Cmp.Lexicographic.{lists_agrees, slice_cmp}
 use Rattle.std.specs.Ordering.{is_lt, is_some_and, nat_cmp}
 use Rattle.std.proofs.Common.{ap, refl, sym, ◌∙◌}
 use Rattle.tv_seats.specs.Seats.{place_at}
-use Rattle.tv_turn.proofs.OfRanks.{place-is}
+use Rattle.tv_framing.proofs.turns.OfRanks.{place-is}
 use Rattle.tv_open.specs.Firsts.{stands_before}
 use Rattle.tv_open.proofs.open.Open.is_before.Goals as goal
 

@@ -1,5 +1,5 @@
 use Rattle.std.proofs.Common.{ap, arith, length, subst, sym, ◌<◌, ◌∙◌, slice_get}
-use Rattle.tv_turn.specs.FirstReady.{by_falling_rank}
+use Rattle.tv_framing.specs.turns.FirstReady.{by_falling_rank}
 use Rattle.tv_open.specs.Turns.{AreTurns}
 use Rattle.tv_open.proofs.OfOrder.{planned-low}
 use Rattle.tv_open.proofs.OfStarting.{first-can, first-kept, starts-open}

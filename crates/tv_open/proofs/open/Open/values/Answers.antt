@@ -8,7 +8,7 @@ use Rattle.tv_framing.specs.Answers.{AreInputs, numbered}
 use Rattle.tv_framing.specs.Views.{View}
 use Rattle.tv_frame.specs.Kept.{Keeps}
 use Rattle.tv_seats.specs.Seats.{Seat}
-use Rattle.tv_seated.specs.Seated.{spot_of}
+use Rattle.tv_forest.specs.seats.Seated.{spot_of}
 use Rattle.tv_open.specs.Standing.{IsOpen}
 use Rattle.tv_open.proofs.OfOpen.{numbered-at}
 use Rattle.tv_open.proofs.open.Open.values.Goals as goal

@@ -3,7 +3,8 @@ use Rattle.std.proofs.lemmas.List.{get_or-map}
 use Rattle.tv_parts.specs.Changes.{arrive}
 use Rattle.tv_cell.specs.PieceValues.{piece_value, piece_values}
 use Rattle.tv_outputs.specs.Known.{known, tree_in}
-use Rattle.tv_outputs.specs.Changes.{HoldsFaults, no_value}
+use Rattle.tv_outputs.specs.Changes.{no_value}
+use Rattle.tv_parts.specs.Partials.{HoldsFaults}
 use Rattle.tv_outputs.proofs.Counts.{counted-more}
 use Rattle.tv_outputs.proofs.outputs.Outputs.faults_by_arrival.Goals as goal
 

@@ -2,7 +2,8 @@ use Rattle.std.proofs.Common.{◌≡◌, ◌≤◌, ◌<◌, ◌+◌, ◌-◌, �
 use Rattle.std.specs.Prelude.{slice_get}
 use Rattle.tv_parts.specs.Changes.{close_at}
 use Rattle.tv_outputs.specs.Known.{known_in, tree_in}
-use Rattle.tv_outputs.specs.Changes.{HoldsFaults, Counted}
+use Rattle.tv_outputs.specs.Changes.{Counted}
+use Rattle.tv_parts.specs.Partials.{HoldsFaults}
 use Rattle.tv_outputs.proofs.Counts.{counted-more}
 use Rattle.tv_outputs.proofs.Looks.{levels-there, levels-closed}
 use Rattle.tv_outputs.proofs.Ones.{found, one-stands}

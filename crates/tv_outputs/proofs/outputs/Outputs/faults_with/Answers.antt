@@ -1,7 +1,7 @@
 use Rattle.std.proofs.Common.{◌≡◌, ◌+◌, ◌∙◌, sym, ap, subst, length, Some}
 use Rattle.std.specs.Prelude.{slice_get}
 use Rattle.tv_outputs.specs.Known.{known_in, tree_in}
-use Rattle.tv_outputs.specs.Changes.{HoldsFaults}
+use Rattle.tv_parts.specs.Partials.{HoldsFaults}
 use Rattle.tv_cell.specs.PieceValues.{piece_value}
 use Rattle.tv_parts.specs.Changes.{arrive}
 use Rattle.tv_outputs.proofs.Ones.{within, fits, found, one-stands}

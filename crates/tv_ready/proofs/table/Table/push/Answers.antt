@@ -4,7 +4,7 @@ use Rattle.std.specs.List.{list_all}
 use Rattle.std.proofs.lemmas.List.{length-append}
 use Rattle.tv_lemmas.proofs.Numbers.{one_less-times}
 use Rattle.tv_ready.specs.declared.table.Slot.{Slot}
-use Rattle.tv_ready.specs.Slots.{shown}
+use Rattle.tv_ready.specs.Slots.{table_jobs}
 use Rattle.tv_ready.specs.Tables.{Rows}
 use Rattle.tv_ready.proofs.Laying.{pushed-lies, pushed-shown, room-left}
 use Rattle.tv_ready.proofs.table.Table.push.Goals as goal
@@ -50,7 +50,7 @@ returns-clause-jobs c =
     let s : Slot = record { start = c.len-start.result; number = c.args.number } in
     let starts : s.start ≡ length t.indices.items = omega (arith, c.len-start.ensures, t.indices.ok.0) in
     let long : length place ≡ t.levels = c.requires.levels ∙ sym (ap (λ (v : Rows). v.levels) c.self.view_is) in
-    ap (shown t.levels c.put_indices.new.indices.items) c.push_reserved.ensures.items
-    ∙ ap (λ is. shown t.levels is (t.slots.items ++ s ∷ [])) c.put_indices.ensures.items
+    ap (table_jobs t.levels c.put_indices.new.indices.items) c.push_reserved.ensures.items
+    ∙ ap (λ is. table_jobs t.levels is (t.slots.items ++ s ∷ [])) c.put_indices.ensures.items
     ∙ pushed-shown t.levels t.indices.items place long t.slots.items c.self.invariant.inside s starts
     ∙ ap (λ (v : Rows). v.jobs ++ (c.args.number, place) ∷ []) c.self.view_is

@@ -1,7 +1,7 @@
 use Rattle.std.specs.Prelude.{List, Some, length, ℕ, ◌*◌, ◌+◌, ◌++◌, ◌≡◌}
 use Rattle.tv_gate.specs.Outcomes.{Giving}
 use Rattle.tv_framing.specs.Views.{View}
-use Rattle.tv_turn.specs.FirstReady.{by_falling_rank}
+use Rattle.tv_framing.specs.turns.FirstReady.{by_falling_rank}
 use Rattle.tv_forest.specs.Forest.{Instance, Instances, IsAt}
 use Rattle.tv_run.specs.Standing.{Stands}
 use Rattle.tv_run.specs.Walking.{IsOwn}

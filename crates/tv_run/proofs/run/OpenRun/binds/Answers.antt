@@ -2,7 +2,7 @@ use Rattle.std.proofs.Common.{ap, map, subst, sym, ◌≡◌, ◌∙◌}
 use Rattle.tv_check.specs.RunViews.{run_view}
 use Rattle.tv_flow.specs.Flows.{Flow}
 use Rattle.tv_framing.specs.Answers.{AreInputs}
-use Rattle.tv_seated.specs.Seated.{spot_of}
+use Rattle.tv_forest.specs.seats.Seated.{spot_of}
 use Rattle.tv_value.specs.Nested.{items}
 use Rattle.tv_value.specs.Views.{values_view, view}
 use Rattle.tv_value.proofs.OfItems.{items-trees_of}

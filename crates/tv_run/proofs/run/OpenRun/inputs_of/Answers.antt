@@ -4,7 +4,7 @@ use Rattle.tv_cell.specs.PieceValues.{piece_values}
 use Rattle.tv_check.specs.RunViews.{run_view}
 use Rattle.tv_flow.specs.Flows.{Flow}
 use Rattle.tv_framing.specs.Answers.{AreInputs}
-use Rattle.tv_seated.specs.Seated.{spot_of}
+use Rattle.tv_forest.specs.seats.Seated.{spot_of}
 use Rattle.tv_run.proofs.OfOpenJobs.{at-low, at-there, code-there, is-open, open-as, open-of, opened-as, seat-in, seat-low}
 use Rattle.tv_run.proofs.run.OpenRun.inputs_of.Goals as goal
 

@@ -2,11 +2,11 @@ use Rattle.std.specs.Prelude.{[], vec_capacity, ◌++◌, ◌∷◌, ◌≡◌}
 use Rattle.std.proofs.Common.{ap, arith, length, refl, subst, sym, ◌∙◌}
 use Rattle.std.proofs.lemmas.Option.{slice_get_within}
 use Rattle.tv_lemmas.proofs.Options.{on-err}
+use Rattle.tv_lemmas.proofs.Lists.{in-front}
 use Rattle.tv_check.specs.RunViews.{run_view}
 use Rattle.tv_cell.specs.PieceValues.{piece_values}
 use Rattle.tv_entries.specs.declared.entry.Entry.TheVariants as entry
 use Rattle.tv_seats.specs.declared.stage.Stage.TheVariants as stage
-use Rattle.tv_seated.proofs.OfLists.{in-front}
 use Rattle.tv_run.specs.Changes.{TakesIn}
 use Rattle.tv_run.specs.Looks.{OpensNumber}
 use Rattle.tv_run.specs.Rooms.{IsNoted}

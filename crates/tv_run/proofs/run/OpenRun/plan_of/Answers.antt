@@ -1,13 +1,12 @@
 use Rattle.std.specs.Prelude.{ℕ, Some, slice_get}
 use Rattle.std.proofs.Common.{ap, get_or, length, refl, subst, sym, ◌<◌, ◌≡◌, ◌∙◌}
 use Rattle.std.proofs.lemmas.Option.{same_Some, slice_get_read, slice_get_within}
-use Rattle.tv_lemmas.proofs.Lists.{get-within}
+use Rattle.tv_lemmas.proofs.Lists.{get-within, get-map}
 use Rattle.tv_value.specs.Values.{Name}
 use Rattle.tv_flow.specs.Flows.{Flow}
 use Rattle.tv_check.specs.FlowPlanViews.{flow_plan_view}
 use Rattle.tv_check.specs.Plans as plans
 use Rattle.tv_check.specs.RunViews.{run_view}
-use Rattle.tv_seated.proofs.OfLists.{get-image}
 use Rattle.tv_forest.specs.Forest.{Instances}
 use Rattle.tv_run.specs.Standing.{Fits}
 use Rattle.tv_run.specs.declared.instances.Instance as code
@@ -41,5 +40,5 @@ returns c = λ xs x fits at.
     let same =
     same_Some (flow_plan_view plan) (plans.flow_plan f.0.1)
     (sym c.flow.ensures
-    ∙ get-image (λ (g : Name × Flow). plans.flow_plan g.1) (run_view r.run).flows itself.flow f.0 f.1) in
+    ∙ get-map (λ (g : Name × Flow). plans.flow_plan g.1) (run_view r.run).flows itself.flow f.0 f.1) in
     ap (λ (p : plans.FlowPlan). p.flow) same ∙ f.2

@@ -6,7 +6,7 @@ use Rattle.tv_entries.specs.Runs.{meant, past_of}
 use Rattle.tv_instance.specs.Events.{known_by}
 use Rattle.tv_lineage.specs.Kept.{records_of}
 use Rattle.tv_lineage.specs.Members.{HaveSame}
-use Rattle.tv_marked.specs.Settled.{settled_records}
+use Rattle.tv_traces.specs.Settled.{settled_records}
 use Rattle.tv_traces.specs.Sights.{job_view}
 use Rattle.tv_run.specs.Standing.{run_of}
 use Rattle.tv_run.proofs.OfRecording.{all-recorded, first-code, life, traced-so_far, view}

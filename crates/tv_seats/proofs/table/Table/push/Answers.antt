@@ -4,7 +4,7 @@ use Rattle.std.proofs.lemmas.List.{length-append}
 use Rattle.tv_lemmas.proofs.Numbers.{one_less-times}
 use Rattle.tv_seats.specs.declared.stage.Stage.TheVariants as stage
 use Rattle.tv_seats.specs.declared.table.Row.{Row}
-use Rattle.tv_seats.specs.Laid.{shown}
+use Rattle.tv_seats.specs.Laid.{table_seats}
 use Rattle.tv_seats.specs.Seats.{new_seat}
 use Rattle.tv_seats.specs.Tables.{Rows}
 use Rattle.tv_seats.proofs.Laying.{lies, pushed-lies, pushed-shown}
@@ -43,7 +43,7 @@ returns-clause-seats c =
     let place = c.args.place.now in
     let r : Row = record { step = c.args.step; start = c.len-start.result; levels = length place; stage = stage.Waiting } in
     let starts : r.start ≡ length t.indices.items = omega (arith, c.len-start.ensures, t.indices.ok.0) in
-    ap (shown c.extend_from_slice.new.self.items) c.push_reserved.ensures.items
-    ∙ ap (λ is. shown is (t.rows.items ++ r ∷ [])) c.in-Ok.ensures.items
+    ap (table_seats c.extend_from_slice.new.self.items) c.push_reserved.ensures.items
+    ∙ ap (λ is. table_seats is (t.rows.items ++ r ∷ [])) c.in-Ok.ensures.items
     ∙ pushed-shown t.indices.items place t.rows.items c.self.invariant.inside r starts refl
     ∙ ap (λ (v : Rows). v.seats ++ new_seat c.args.step place ∷ []) c.self.view_is

@@ -1,6 +1,6 @@
 use Rattle.std.proofs.Common.{◌≡◌, ◌<◌, length, get_or, arith, ap, sym, subst, ◌∙◌}
 use Rattle.std.specs.Prelude.{sum_by}
-use Rattle.tv_strategy.specs.Sources.{Each}
+use Rattle.tv_lemmas.specs.Members.{Each}
 use Rattle.tv_strategy.proofs.OfEach.{each-weaken}
 use Rattle.tv_idle.specs.Idles.{of_step}
 use Rattle.tv_intake.specs.Intaken.{CanShow, HasRoom, brought_at, matcher_at}

@@ -1,5 +1,5 @@
 use Rattle.std.proofs.Common.{◌≡◌, take}
-use Rattle.tv_strategy.specs.Sources.{Each}
+use Rattle.tv_lemmas.specs.Members.{Each}
 use Rattle.tv_idle.specs.Idles.{of_step}
 use Rattle.tv_spread.specs.Spreads.{HasOtherRooms, new_faulty, new_good}
 use Rattle.tv_spread.proofs.spread.Spread.reserve_idle.Given as goal

@@ -1,13 +1,13 @@
 use Rattle.std.proofs.Common.{◌≡◌, ◌++◌, true, false, Some, map, get_or, slice_get, ap, sym, subst, ◌∙◌}
 use Rattle.std.specs.Prelude.{filter}
 use Rattle.std.proofs.lemmas.Option.{get_or_from_slice_get, slice_get_within}
-use Rattle.tv_strategy.specs.Sources.{Each}
+use Rattle.tv_lemmas.specs.Members.{Each}
 use Rattle.tv_matching.specs.Items.{if_so}
 use Rattle.tv_telling.specs.declared.ways.Way.{Way}
 use Rattle.tv_telling.specs.Views.{HasOutput}
 use Rattle.tv_wires.specs.declared.wires.Wire.{Wire}
 use Rattle.tv_intake.specs.Intaken.{CanShow, matcher_at}
-use Rattle.tv_spread.specs.Along.{is_walked, way_of}
+use Rattle.tv_telling.specs.Along.{is_walked, way_of}
 use Rattle.tv_spread.specs.Arounds.{tellings_by, tells_some, told_at, ways_at}
 use Rattle.tv_spread.specs.Spreads.{CanHoldThese, HoldsAt}
 use Rattle.tv_spread.proofs.OfHolding.{Telling, can-hold, hold-told, no-first, not-yet, telling-more, telling-none, there, told-all, ways-here}

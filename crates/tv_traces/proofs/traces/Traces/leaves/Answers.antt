@@ -2,8 +2,8 @@ use Rattle.std.proofs.Common.{ap, ap₂, ◌∙◌, ◌++◌, ◌≤◌, [], map
 use Rattle.tv_flow.specs.Views.{flow_view}
 use Rattle.tv_cell.specs.PieceValues.{piece_value}
 use Rattle.tv_lineage.specs.Views.{leaf_view}
-use Rattle.tv_marked.specs.Feeds.{feed_marks}
-use Rattle.tv_marked.specs.Leaves.{leaf_places}
+use Rattle.tv_traces.specs.Feeds.{feed_marks}
+use Rattle.tv_traces.specs.Leaves.{leaf_places}
 use Rattle.tv_traces.specs.Views.{shapes_view}
 use Rattle.tv_traces.proofs.OfUsed.{in-outputs, leaves-all, leaves-next}
 use Rattle.tv_traces.proofs.traces.Traces.leaves.Goals as goal

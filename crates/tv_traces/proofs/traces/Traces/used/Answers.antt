@@ -4,8 +4,8 @@ use Rattle.tv_value.specs.Nested.{at}
 use Rattle.tv_flow.specs.Views.{flow_view}
 use Rattle.tv_cell.specs.PieceValues.{piece_value}
 use Rattle.tv_lineage.specs.Views.{mark_view}
-use Rattle.tv_followed.specs.Recorded.{marks_of}
-use Rattle.tv_marked.specs.Feeds.{feed_marks}
+use Rattle.tv_model.specs.records.Recorded.{marks_of}
+use Rattle.tv_traces.specs.Feeds.{feed_marks}
 use Rattle.tv_naming.specs.Numbers.{position}
 use Rattle.tv_traces.specs.Views.{shapes_view}
 use Rattle.tv_traces.proofs.OfUsed.{has-value, in-outputs, none-named, not-there, used-there}

@@ -1,5 +1,0 @@
-pub mod Opening
-pub mod InstanceFlows
-pub mod PlannedDepths
-pub mod Stated
-pub mod Rows

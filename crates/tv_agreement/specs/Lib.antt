@@ -1,0 +1,4 @@
+pub mod InstanceFlows
+pub mod PlannedDepths
+pub mod Stated
+pub mod Rows

@@ -1,5 +1,0 @@
-use Rattle.tv_begun.proofs.OfNumbers.{inputs-are_in_order, numbers-start_alike}
-use Rattle.tv_begun.proofs.laws.numbers.Goals as goal
-
-pub returns : goal.returns
-returns c = record { ports = numbers-start_alike; inputs = inputs-are_in_order }

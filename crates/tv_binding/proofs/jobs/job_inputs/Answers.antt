@@ -1,0 +1,70 @@
+use Rattle.std.proofs.Common.{◌≡◌, ◌≤◌, ◌+◌, drop, length, take, is_some, sym, ap, ◌∙◌, subst}
+use Rattle.std.specs.Prelude.{option_map}
+use Rattle.std.proofs.lemmas.Option.{get_or_from_slice_get, slice_get_within}
+use Rattle.tv_value.specs.Views.{strategy_view}
+use Rattle.tv_strategy.specs.Conditions.{number_of}
+use Rattle.tv_strategy.specs.Splits.{split}
+use Rattle.tv_cell.specs.Soundness.{AreSound}
+use Rattle.tv_outputs.proofs.OfPieces.{more-sound}
+use Rattle.tv_binding.specs.Constants.{constant_of_port, constants_view}
+use Rattle.tv_binding.specs.Delivered.{wrapped_value}
+use Rattle.tv_binding.specs.Found.{feed_found}
+use Rattle.tv_binding.specs.Jobs.{port_found, wraps}
+use Rattle.tv_binding.specs.Parts.{IsPartOf}
+use Rattle.tv_binding.specs.Sourced.{known_by}
+use Rattle.tv_binding.proofs.Comparing.{each-at, port-at}
+use Rattle.tv_binding.proofs.OfSources.{numbered-found, numbered-more, numbered-all, some-inside}
+use Rattle.tv_binding.proofs.jobs.job_inputs.Goals as goal
+
+pub bounds-starts-port : goal.bounds-starts-port
+bounds-starts-port c =
+    let s = c.args.step.now in
+    let r = each-at (IsPartOf s c.args.place.now c.args.starts.now) s.ports.now c.loop-number.number c.port-item.result c.requires.parts c.loop-number-test.true c.port-item.is in
+    slice_get_within c.args.starts.now c.port-item.result.leaf r.start r.begins
+
+pub part_of-part-requires : goal.part_of-part-requires
+part_of-part-requires c =
+    let s = c.args.step.now in
+    let p = c.port-item.result in
+    let r = each-at (IsPartOf s c.args.place.now c.args.starts.now) s.ports.now c.loop-number.number p c.requires.parts c.loop-number-test.true c.port-item.is in
+    subst (λ n. n + p.levels ≤ length c.args.place.now) (sym (get_or_from_slice_get c.args.starts.now p.leaf r.start 0 r.begins)) r.fits
+
+pub port_piece-requires-clause-found : goal.port_piece-requires-clause-found
+port_piece-requires-clause-found c =
+    let k = known_by c.args.sources.now in
+    let cs = constants_view c.args.constants.now in
+    let s = c.args.step.now in
+    let q = c.args.place.now in
+    let i = c.loop-number.number in
+    let p = c.port-item.result in
+    let f = port_found k cs s (split (number_of s.mismatch.now) (strategy_view s.tree.now) q) in
+    let r = each-at (IsPartOf s q c.args.starts.now) s.ports.now i p c.requires.parts c.loop-number-test.true c.port-item.is in
+    let here = c.part_of-part.ensures ∙ ap (λ n. take p.levels (drop n q)) (get_or_from_slice_get c.args.starts.now p.leaf r.start 0 r.begins) in
+    ap (λ x. is_some (feed_found k p.feed (constant_of_port cs s.number i) x)) here
+    ∙ some-inside (wrapped_value (wraps s.inputs.now s.delivered.now i)) (feed_found k p.feed (constant_of_port cs s.number i) (take p.levels (drop r.start q)))
+    (sym (ap is_some (port-at k cs s q c.args.starts.now i p r)) ∙ numbered-found f s.ports.now i p c.requires.found c.loop-number-test.true c.port-item.is)
+
+pub loop-number-preserved : goal.loop-number-preserved
+loop-number-preserved c =
+    let k = known_by c.args.sources.now in
+    let cs = constants_view c.args.constants.now in
+    let s = c.args.step.now in
+    let q = c.args.place.now in
+    let i = c.loop-number.number in
+    let p = c.port-item.result in
+    let l = c.loop-number.invariant in
+    let x = c.in_ok-port_piece.field-0 in
+    let f = port_found k cs s (split (number_of s.mismatch.now) (strategy_view s.tree.now) q) in
+    let r = each-at (IsPartOf s q c.args.starts.now) s.ports.now i p c.requires.parts c.loop-number-test.true c.port-item.is in
+    let here = c.part_of-part.ensures ∙ ap (λ n. take p.levels (drop n q)) (get_or_from_slice_get c.args.starts.now p.leaf r.start 0 r.begins) in
+    let same : f (i, p) ≡ option_map (wrapped_value (wraps s.inputs.now s.delivered.now i)) (feed_found k p.feed (constant_of_port cs s.number i) c.part_of-part.result.now) =
+    port-at k cs s q c.args.starts.now i p r ∙ ap (λ y. option_map (wrapped_value (wraps s.inputs.now s.delivered.now i)) (feed_found k p.feed (constant_of_port cs s.number i) y)) (sym here) in
+    record {
+      values = numbered-more f s.ports.now c.loop-number.pieces.items c.push.new.self.items x i p l.values c.in_ok-push.ensures.items c.loop-number-test.true c.port-item.is (same ∙ c.in_ok-port_piece.ensures.value);
+      sound = subst AreSound (sym c.in_ok-push.ensures.items) (more-sound c.loop-number.pieces.items x l.sound c.in_ok-port_piece.ensures.sound);
+    }
+
+pub returns-clause-values : goal.returns-clause-values
+returns-clause-values c =
+    let s = c.args.step.now in
+    numbered-all (port_found (known_by c.args.sources.now) (constants_view c.args.constants.now) s (split (number_of s.mismatch.now) (strategy_view s.tree.now) c.args.place.now)) s.ports.now c.of.result c.loop-number.pieces.items c.loop-number.number c.of.ensures c.loop-number.invariant.values c.loop-number-test.false

@@ -1,4 +1,0 @@
-use Rattle.tv_bound.proofs.same.+unwrapped.Given as goal
-
-abbrev pub decreases-unwrapped : goal.decreases-unwrapped
-decreases-unwrapped l = l.times

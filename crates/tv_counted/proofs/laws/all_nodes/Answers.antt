@@ -1,5 +1,0 @@
-use Rattle.tv_counted.proofs.OfValues.{all-nodes, no-more}
-use Rattle.tv_counted.proofs.laws.all_nodes.Goals as goal
-
-pub returns : goal.returns
-returns c = record { trees = all-nodes; values = no-more }

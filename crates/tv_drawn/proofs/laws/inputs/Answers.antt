@@ -1,5 +1,0 @@
-use Rattle.tv_drawn.proofs.OfLaws.{jobs-bind_parts, parts-are_inputs}
-use Rattle.tv_drawn.proofs.laws.inputs.Goals as goal
-
-pub returns : goal.returns
-returns c = record { parts = jobs-bind_parts; answers = parts-are_inputs }

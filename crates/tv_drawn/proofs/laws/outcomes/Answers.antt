@@ -1,5 +1,0 @@
-use Rattle.tv_drawn.proofs.OfLaws.{outcomes-are_known, passed_faults-stand}
-use Rattle.tv_drawn.proofs.laws.outcomes.Goals as goal
-
-pub returns : goal.returns
-returns c = record { known = outcomes-are_known; faults = passed_faults-stand }

@@ -1,5 +1,0 @@
-use Rattle.tv_drawn.proofs.OfLaws.{nothing-settles, waiting_faults-can_settle, waiting_lists-can_settle}
-use Rattle.tv_drawn.proofs.laws.settlements.Goals as goal
-
-pub returns : goal.returns
-returns c = record { lists = waiting_lists-can_settle; faults = waiting_faults-can_settle; nothing = nothing-settles }

@@ -1,5 +1,0 @@
-use Rattle.tv_drawn.proofs.OfLaws.{next-can_be_told, outcomes-come_in_any_order, steps-told_in_any_order}
-use Rattle.tv_drawn.proofs.laws.tellings.Goals as goal
-
-pub returns : goal.returns
-returns c = record { next = next-can_be_told; order = steps-told_in_any_order; outcomes = outcomes-come_in_any_order }

@@ -1,7 +1,0 @@
-pub mod Sorting
-pub mod Steps
-pub mod Items
-pub mod Jobs
-pub mod Waiting
-pub mod Stated
-pub mod Worked

@@ -1,7 +1,0 @@
-use Rattle.tv_firsts.proofs.OfFirsts.{first-by_seats}
-use Rattle.tv_firsts.proofs.OfHistories.{first-of_all_jobs}
-use Rattle.tv_firsts.proofs.OfQuiet.{going-by_next}
-use Rattle.tv_firsts.proofs.laws.first_within.Goals as goal
-
-pub returns : goal.returns
-returns c = record { seats = first-by_seats; all = first-of_all_jobs; next = going-by_next }

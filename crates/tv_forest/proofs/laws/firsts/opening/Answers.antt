@@ -1,0 +1,7 @@
+use Rattle.tv_forest.proofs.firsts.OfEnds.{nothing-at_end}
+use Rattle.tv_forest.proofs.firsts.OfHistories.{nothing-left, opening-is_legal}
+use Rattle.tv_forest.proofs.firsts.OfQuiet.{quiet-by_instances}
+use Rattle.tv_forest.proofs.laws.firsts.opening.Goals as goal
+
+pub returns : goal.returns
+returns c = record { quiet = quiet-by_instances; legal = opening-is_legal; left = nothing-left; at_end = nothing-at_end }

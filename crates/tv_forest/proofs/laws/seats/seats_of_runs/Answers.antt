@@ -1,0 +1,6 @@
+use Rattle.tv_forest.proofs.seats.OfEnds.{ends-settled}
+use Rattle.tv_forest.proofs.seats.OfRuns.{level_settles, recalled_all}
+use Rattle.tv_forest.proofs.laws.seats.seats_of_runs.Goals as goal
+
+pub returns : goal.returns
+returns c = record { levels = level_settles; recalls = recalled_all; ends = ends-settled }

@@ -1,0 +1,5 @@
+use Rattle.tv_forest.proofs.stands.OfOrder.{order-by_seats}
+use Rattle.tv_forest.proofs.laws.stands.order_by_seats.Goals as goal
+
+pub returns : goal.returns
+returns c = order-by_seats

@@ -1,0 +1,5 @@
+use Rattle.tv_framing.proofs.engine.OfTold.{events-tell, feeds-whole, wires-tell}
+use Rattle.tv_framing.proofs.laws.engine.along_wires.Goals as goal
+
+pub returns : goal.returns
+returns c = record { ways = wires-tell; theory = events-tell; feeds = feeds-whole }

@@ -1,0 +1,5 @@
+use Rattle.tv_framing.proofs.keeping.OfLaws.{taking-tells_nothing}
+use Rattle.tv_framing.proofs.laws.keeping.taking.Goals as goal
+
+pub returns : goal.returns
+returns c = taking-tells_nothing

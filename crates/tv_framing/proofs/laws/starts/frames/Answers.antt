@@ -1,0 +1,5 @@
+use Rattle.tv_framing.proofs.starts.OfLaws.{start-is_frame}
+use Rattle.tv_framing.proofs.laws.starts.frames.Goals as goal
+
+pub returns : goal.returns
+returns c = start-is_frame

@@ -1,0 +1,6 @@
+pub mod OfTurns
+pub mod OfRanks
+pub mod OfSettling
+pub mod OfFrames
+pub mod OfChanges
+pub mod OfOrders

@@ -1,0 +1,4 @@
+pub mod IdleJobs
+pub mod FirstReady
+pub mod Stated
+pub mod Changes

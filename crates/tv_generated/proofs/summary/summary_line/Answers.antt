@@ -1,5 +1,0 @@
-use Rattle.std.proofs.Common.{◌∙◌, append_assoc, ℕ}
-use Rattle.tv_generated.proofs.summary.summary_line.Goals as goal
-
-pub returns : goal.returns
-returns c = c.of.ensures ∙ c.in_ok-line.ensures.ok ∙ simp append_assoc

@@ -1,0 +1,5 @@
+use Rattle.tv_generator.proofs.OfForm.{are-formed}
+use Rattle.tv_generator.proofs.laws.are_formed.Goals as goal
+
+pub returns : goal.returns
+returns c = are-formed

@@ -1,0 +1,17 @@
+//! What holds of the definitions alone: each law is the clause of a function that does nothing.
+ghost use Rattle.tv_generator.specs.Stated.{AreFormed, SummaryOfTen, TextsOfTwelve};
+
+/// Every generated document is of the form.
+pub fn are_formed()
+    ensures { AreFormed }
+{}
+
+/// The first texts of both lists.
+pub fn worked_texts()
+    ensures { TextsOfTwelve }
+{}
+
+/// The line of the run of ten.
+pub fn worked_summary()
+    ensures { SummaryOfTen }
+{}

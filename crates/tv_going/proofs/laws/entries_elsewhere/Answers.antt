@@ -1,5 +1,0 @@
-use Rattle.tv_going.proofs.OfElsewhere.{elsewhere-tells_nothing, main-ends_elsewhere, others-are_elsewhere}
-use Rattle.tv_going.proofs.laws.entries_elsewhere.Goals as goal
-
-pub returns : goal.returns
-returns c = record { others = others-are_elsewhere; main_end = main-ends_elsewhere; nothing = elsewhere-tells_nothing }

@@ -1,5 +1,0 @@
-use Rattle.tv_going.proofs.OfStarts.{inputs-are_in_order, main-starts}
-use Rattle.tv_going.proofs.laws.main_starts.Goals as goal
-
-pub returns : goal.returns
-returns c = record { starts = main-starts; inputs = inputs-are_in_order }

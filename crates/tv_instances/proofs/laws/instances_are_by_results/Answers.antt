@@ -1,6 +1,0 @@
-use Rattle.tv_instances.proofs.OfMeant.{own_results-are_of_depth}
-use Rattle.tv_instances.proofs.OfResults.{steps-by_results}
-use Rattle.tv_instances.proofs.laws.instances_are_by_results.Goals as goal
-
-pub returns : goal.returns
-returns c = record { steps = steps-by_results; depths = own_results-are_of_depth }

@@ -1,6 +1,0 @@
-pub mod Sums
-pub mod Regions
-pub mod Jobs
-pub mod Instances
-pub mod Lived
-pub mod Room

@@ -1,5 +1,0 @@
-use Rattle.tv_lived.proofs.Room.{nodes-have_room}
-use Rattle.tv_lived.proofs.laws.room.Goals as goal
-
-pub returns : goal.returns
-returns c = nodes-have_room

@@ -1,5 +1,0 @@
-use Rattle.tv_marked.proofs.OfLaws.{main-is_known, so_far-is_seen, whole-is_seen}
-use Rattle.tv_marked.proofs.laws.sights.Goals as goal
-
-pub returns : goal.returns
-returns c = record { whole = whole-is_seen; so_far = so_far-is_seen; known = main-is_known }

@@ -1,5 +1,0 @@
-use Rattle.tv_marked.proofs.OfLaws.{records-are_of_main_jobs, stages-go_on}
-use Rattle.tv_marked.proofs.laws.stages.Goals as goal
-
-pub returns : goal.returns
-returns c = record { next = stages-go_on; records = records-are_of_main_jobs }

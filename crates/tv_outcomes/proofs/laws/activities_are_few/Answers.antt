@@ -1,5 +1,0 @@
-use Rattle.tv_outcomes.proofs.Few.{activities-few}
-use Rattle.tv_outcomes.proofs.laws.activities_are_few.Goals as goal
-
-pub returns : goal.returns
-returns c = λ gives d h j i a k. activities-few gives d h j i a k

@@ -1,5 +1,0 @@
-use Rattle.tv_standing.proofs.OfTold.{counts-by_seats, running-by_seats}
-use Rattle.tv_standing.proofs.laws.counts_by_seats.Goals as goal
-
-pub returns : goal.returns
-returns c = record { counts = counts-by_seats; running = running-by_seats }

@@ -1,6 +1,0 @@
-use Rattle.tv_standing.proofs.OfNext.{next-by_seat}
-use Rattle.tv_standing.proofs.OfOffers.{bounces-by_seat, going-by_seat}
-use Rattle.tv_standing.proofs.laws.going_by_seat.Goals as goal
-
-pub returns : goal.returns
-returns c = record { going = going-by_seat; next = next-by_seat; bounces = bounces-by_seat }

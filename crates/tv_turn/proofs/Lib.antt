@@ -1,7 +1,0 @@
-pub mod OfRows
-pub mod OfTurns
-pub mod OfRanks
-pub mod OfSettling
-pub mod OfFrames
-pub mod OfChanges
-pub mod OfOrders

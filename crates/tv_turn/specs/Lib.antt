@@ -1,5 +1,0 @@
-pub mod Turns
-pub mod IdleJobs
-pub mod FirstReady
-pub mod Stated
-pub mod Changes

@@ -1,5 +1,0 @@
-use Rattle.tv_viewed.proofs.OfLaws.{ready-is_told, taken-is_running}
-use Rattle.tv_viewed.proofs.laws.going_of_jobs.Goals as goal
-
-pub returns : goal.returns
-returns c = record { ready = ready-is_told; taken = taken-is_running }
