@@ -7,65 +7,37 @@ them on made-up records against a plain closure, with each allocation refused in
 Wants a rustc, and valgrind to measure. The code that is tried is that of crates/tv_lineage; what it uses of the libraries below
 is in bench/lineage/shim.rs.
 """
-import glob
 import os
 import re
-import shutil
 import subprocess
 import sys
 import tempfile
 
-HERE = os.path.dirname(os.path.abspath(__file__))
-CRATE = os.path.join(HERE, "..", "crates", "tv_lineage", "src")
+sys.path.insert(0, os.path.dirname(os.path.abspath(__file__)))
+
+import plain  # noqa: E402
+
 ELEMENTS = (25_000, 50_000, 100_000)
 PHASES = ("note_all", "go_back", "go_on", "list_jobs")
 
 
-def without_clauses(text):
-    """The text without its clauses, each of which ends where its braces do."""
-    kept = []
-    depth = 0
-    for line in text.split("\n"):
-        if depth == 0 and not re.match(r"\s*(requires|ensures)\b", line):
-            kept.append(line)
-            continue
-        depth += line.count("{") - line.count("}")
-    return "\n".join(kept)
-
-
-def plain(text):
-    """A file of the crate as plain Rust."""
-    text = re.sub(r"^//!.*\n", "", text, flags=re.M)
-    text = re.sub(r"^\s*ghost use [^\n]*\n", "", text, flags=re.M)
-    text = re.sub(r"impl Model for \w+ \{.*?\n\}\n", "", text, flags=re.S)
-    text = re.sub(r"#!\[tactic\(\w+\)\]\n", "", without_clauses(text))
-    text = re.sub(r"#\[cfg\(test\)\]\nmod tests;\n|pub mod laws;\n|use std::marker::Model;\n", "", text)
+def shimmed(text):
+    """A file of the crate over the shim."""
     text = re.sub(r"vec!\[in alloc; (\w+); ([^\]]+)\]", r"crate::shim::filled(alloc, \1, \2)", text)
     text = re.sub(r"vec!\[in alloc; (.*)\]\?", r"crate::shim::one(alloc, \1)?", text)
-    text = text.replace("#[derive(Drop)]\n", "").replace(", Drop)]", ")]").replace("std::alloc::Global", "crate::shim::Global")
+    text = text.replace("std::alloc::Global", "crate::shim::Global")
     return text.replace("std::collections::", "crate::shim::").replace("tv_value::", "crate::shim::")
 
 
 def built(folder, program):
     """Builds a program of bench/lineage over the crate."""
-    for path in glob.glob(os.path.join(CRATE, "*.rt")):
-        name = os.path.basename(path)[:-3]
-        if name in ("tests", "laws"):
-            continue
-        with open(path, encoding="utf-8") as it:
-            text = plain(it.read())
+    main = ""
+    for name, text in plain.files("tv_lineage"):
         if name == "lib":
-            name = "main"
-            text = f"#![allow(dead_code, unused_imports)]\n{text}\nmod shim;\nmod {program};\nfn main() {{ {program}::main() }}\n"
+            main = shimmed(text)
         else:
-            text = f"use crate::shim::Vec;\n{text}"
-        with open(os.path.join(folder, f"{name}.rs"), "w", encoding="utf-8") as it:
-            it.write(text)
-    for name in ("shim", program):
-        shutil.copy(os.path.join(HERE, "lineage", f"{name}.rs"), folder)
-    out = os.path.join(folder, program)
-    subprocess.run(["rustc", "-O", "-g", "--edition", "2021", "-A", "warnings", "-o", out, os.path.join(folder, "main.rs")], check=True)
-    return out
+            plain.write(folder, name, f"use crate::shim::Vec;\n{shimmed(text)}")
+    return plain.built(folder, "lineage", program, main, "-g")
 
 
 def spent_in(costs):

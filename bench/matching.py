@@ -9,16 +9,16 @@ is counted is the whole run of the program, from its start on, of each shape wit
 Wants a rustc, and valgrind to measure. The code that is tried is that of crates/tv_match; what it uses of the libraries below is
 in bench/matching/shim.rs.
 """
-import glob
 import os
 import re
-import shutil
 import subprocess
 import sys
 import tempfile
 
-HERE = os.path.dirname(os.path.abspath(__file__))
-CRATE = os.path.join(HERE, "..", "crates", "tv_match", "src")
+sys.path.insert(0, os.path.dirname(os.path.abspath(__file__)))
+
+import plain  # noqa: E402
+
 SHAPES = {
     "cross": (250, 500, 1000),
     "dot": (125_000, 250_000, 500_000, 1_000_000),
@@ -27,41 +27,17 @@ SHAPES = {
 }
 
 
-def plain(text):
-    """A file of the crate as plain Rust."""
-    text = re.sub(r"^//!.*\n", "", text, flags=re.M)
-    text = re.sub(r"^\s*ghost use [^\n]*\n", "", text, flags=re.M)
-    text = re.sub(r"^\s*(requires|ensures)\s[^\n]*\n", "", text, flags=re.M)
-    text = re.sub(r"impl Model for \w+ \{.*?\n\}\n", "", text, flags=re.S)
-    text = re.sub(r"#!?\[(cycle|tactic)\(\w+\)\]\n", "", text)
-    text = re.sub(r"#\[cfg\(test\)\]\nmod tests;\n", "", text)
-    text = text.replace("#[derive(Drop)]\n", "").replace(", Drop)]", ")]")
-    text = text.replace("use std::marker::Model;\n", "").replace("use std::alloc::Global;", "use crate::shim::Global;")
-    text = text.replace(".as_slice().to_vec(alloc)", ".copied(alloc)")
-    return re.sub(r"use tv_(value|strategy)::", "use crate::shim::", text)
-
-
 def built(folder, program):
     """Builds a program of bench/matching over the crate."""
-    for path in glob.glob(os.path.join(CRATE, "**", "*.rt"), recursive=True):
-        name = os.path.relpath(path, CRATE)[:-3]
-        if name == "tests":
-            continue
-        with open(path, encoding="utf-8") as it:
-            text = plain(it.read())
+    main = ""
+    for name, text in plain.files("tv_match"):
+        text = text.replace("use std::alloc::Global;", "use crate::shim::Global;").replace(".as_slice().to_vec(alloc)", ".copied(alloc)")
+        text = re.sub(r"use tv_(value|strategy)::", "use crate::shim::", text)
         if name == "lib":
-            name = "main"
-            text = f"#![allow(dead_code, unused_imports)]\n{text}\nmod shim;\nmod {program};\nfn main() {{ {program}::main() }}\n"
+            main = text
         else:
-            text = f"use crate::shim::{{Box, Vec}};\n{text}"
-        os.makedirs(os.path.dirname(os.path.join(folder, name)), exist_ok=True)
-        with open(os.path.join(folder, f"{name}.rs"), "w", encoding="utf-8") as it:
-            it.write(text)
-    for name in ("shim", program):
-        shutil.copy(os.path.join(HERE, "matching", f"{name}.rs"), folder)
-    out = os.path.join(folder, program)
-    subprocess.run(["rustc", "-O", "--edition", "2021", "-A", "warnings", "-o", out, os.path.join(folder, "main.rs")], check=True)
-    return out
+            plain.write(folder, name, f"use crate::shim::{{Box, Vec}};\n{text}")
+    return plain.built(folder, "matching", program, main)
 
 
 def measure(folder):

@@ -2,46 +2,38 @@
 arrives, or tries it on made-up events against what the events alone say.
 
     python3 bench/streams.py measure
-    python3 bench/streams.py trial
+    python3 bench/streams.py trial [SEED]
 
 Wants a rustc, and valgrind to measure. The code that is tried is that of crates/tv_stream, crates/tv_nodes and crates/tv_pool;
 what it uses of the libraries below is in bench/streams/shim.rs.
 """
-import glob
 import os
 import re
-import shutil
 import subprocess
 import sys
 import tempfile
 
-HERE = os.path.dirname(os.path.abspath(__file__))
+sys.path.insert(0, os.path.dirname(os.path.abspath(__file__)))
+
+import plain  # noqa: E402
+
 CRATES = ("tv_pool", "tv_nodes", "tv_stream")
 ORDERS = ("forward", "backward", "random")
 COUNTS = (250_000, 500_000, 1_000_000)
-HEAD = """#![allow(dead_code, unused_imports, unused_labels)]
-macro_rules! prove { ($($t:tt)*) => {} }
-mod shim;
+MAIN = """macro_rules! prove { ($($t:tt)*) => {} }
 mod tv_pool;
 mod tv_nodes;
 mod tv_stream;
 """
 
 
-def plain(text, crate):
-    """A file of a crate as plain Rust."""
-    text = re.sub(r"^\s*//!.*\n", "", text, flags=re.M)
-    text = re.sub(r"^\s*ghost use [^\n]*\n", "", text, flags=re.M)
-    text = re.sub(r"^\s*(requires|ensures)\*?\s[^\n]*\n", "", text, flags=re.M)
-    text = re.sub(r"impl<T> Model for [^\n]* \{.*?\n\}\n", "", text, flags=re.S)
-    text = re.sub(r"#!?\[(cycle|tactic)\(\w+\)\]\n", "", text)
-    text = re.sub(r"#\[cfg\(test\)\]\nmod tests;\n", "", text)
+def shimmed(text, crate):
+    """A file of a crate over the shim, as a module of it."""
     text = re.sub(r"^\s*#\[error\([^\n]*\)\]\n", "", text, flags=re.M)
     text = text.replace("use thiserror::Error;\n", "").replace(", Error)]", ")]")
-    text = text.replace("#[derive(Drop)]\n", "").replace(", Drop)]", ")]")
     text = re.sub(r"<(\w): Drop>", r"<\1>", text)
     text = re.sub(r"^\s*T: Drop,\n", "", text, flags=re.M)
-    text = text.replace("use std::marker::Model;\n", "").replace("use crate::", f"use crate::{crate}::")
+    text = text.replace("use crate::", f"use crate::{crate}::")
     for name in CRATES:
         text = text.replace(f"use {name}::", f"use crate::{name}::")
     for name in ("use std::alloc::", "use slab::", "use tv_value::"):
@@ -52,22 +44,9 @@ def plain(text, crate):
 def built(folder, program):
     """Builds a program of bench/streams over the crates."""
     for crate in CRATES:
-        os.makedirs(os.path.join(folder, crate))
-        for path in glob.glob(os.path.join(HERE, "..", "crates", crate, "src", "*.rt")):
-            name = os.path.basename(path)[:-3]
-            if name in ("tests", "laws"):
-                continue
-            with open(path, encoding="utf-8") as it:
-                text = plain(it.read(), crate).replace("pub mod laws;\n", "")
-            with open(os.path.join(folder, crate, "mod.rs" if name == "lib" else f"{name}.rs"), "w", encoding="utf-8") as it:
-                it.write(text)
-    with open(os.path.join(folder, "main.rs"), "w", encoding="utf-8") as it:
-        it.write(f"{HEAD}mod {program};\nfn main() {{ {program}::main() }}\n")
-    for name in ("shim", program):
-        shutil.copy(os.path.join(HERE, "streams", f"{name}.rs"), folder)
-    out = os.path.join(folder, program)
-    subprocess.run(["rustc", "-O", "--edition", "2021", "-A", "warnings", "-o", out, os.path.join(folder, "main.rs")], check=True)
-    return out
+        for name, text in plain.files(crate):
+            plain.write(folder, os.path.join(crate, "mod" if name == "lib" else name), shimmed(text, crate))
+    return plain.built(folder, "streams", program, MAIN)
 
 
 def measure(program):

@@ -47,6 +47,9 @@ impl<T> Vec<T> {
     pub fn truncate(&mut self, n: usize) {
         self.0.truncate(n)
     }
+    pub fn clear(&mut self) {
+        self.0.clear()
+    }
     #[inline]
     pub fn as_slice(&self) -> &[T] {
         &self.0
@@ -139,8 +142,8 @@ pub enum Tree {
 }
 pub struct Trees(pub std::vec::Vec<Tree>);
 impl Trees {
-    pub fn of(trees: std::vec::Vec<Tree>) -> Trees {
-        Trees(trees)
+    pub fn of(trees: Vec<Tree>) -> Trees {
+        Trees(trees.0)
     }
     pub fn as_slice(&self) -> &[Tree] {
         &self.0
@@ -168,11 +171,14 @@ impl Trees {
         Ok(Trees(v))
     }
 }
-#[derive(Debug)]
+#[derive(Debug, PartialEq)]
 pub struct Sequence<T>(pub std::vec::Vec<T>);
 impl<T> Sequence<T> {
     pub fn of(items: std::vec::Vec<T>) -> Self {
         Sequence(items)
+    }
+    pub fn empty(_: Global) -> Self {
+        Sequence(std::vec::Vec::new())
     }
     pub fn as_slice(&self) -> &[T] {
         &self.0

@@ -319,7 +319,7 @@ fn trees(alloc: Global, shapes: &[Shape]) -> Result<Trees> {
     for shape in shapes {
         made.push(tree(alloc, shape)?);
     }
-    Ok(Trees::of(made))
+    Ok(Trees(made))
 }
 
 pub fn mismatch(alloc: Global, depths: &[usize]) -> Result<Depths> {
