@@ -1,4 +1,3 @@
-mod OfGiven
 mod OfCalls
 mod OfAnswers
 mod OfAsking

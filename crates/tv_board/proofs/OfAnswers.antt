@@ -19,7 +19,7 @@ use Rattle.tv_run.proofs.OfOver.{open-asked}
 use Rattle.tv_board.specs.Refusals.{IsRefused, answered, told_or_back}
 use Rattle.tv_board.specs.declared.answer.Answer.{Answer}
 use Rattle.tv_board.proofs.OfCalls.{still}
-use Rattle.tv_board.proofs.OfGiven.{is-given}
+use Rattle.tv_gate.proofs.OfGiven.{is-given}
 
 pub none-is : {A : Type 0} (o : Option A) (b : Bool) → b ≡ is_some o → b ≡ false → o ≡ None
 none-is None b h k = refl

@@ -235,6 +235,7 @@ impl<V: Services> Board<V> {
             (A.calls asker.old) (A.calls asker.new)) }
         ensures unchanged { OnErr result (self.new ≡ self.old) }
         ensures legal { IsLegalRun V.gives self.new }
+        ensures reached { A.reaches asker.old asker.new }
     {
         let mut room = mem::replace(&mut self.room, Vec::new(alloc));
         room.clear();

@@ -1,4 +1,3 @@
-pub mod OfSameness
 pub mod OfPieces
 pub mod OfParts
 pub mod OfSizes

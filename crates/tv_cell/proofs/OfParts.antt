@@ -17,7 +17,8 @@ use Rattle.tv_cell.specs.declared.piece.Piece.TheVariants as plain
 use Rattle.tv_cell.specs.declared.piece.Piece.TheViews as code
 use Rattle.tv_cell.specs.Found.{found_value, document_of, with_depth}
 use Rattle.tv_cell.specs.PieceValues.{piece_value, piece_values}
-use Rattle.tv_cell.specs.Sameness.{is_at, same_value}
+use Rattle.tv_value.specs.Sameness.{same_value}
+use Rattle.tv_cell.specs.Sameness.{is_at}
 use Rattle.tv_cell.specs.Soundness.{IsSound, is_sound}
 use Rattle.tv_cell.proofs.OfPieces.{fault-value, list-value, list-view, part-sound, part-value, piece-sound, pieces-sound}
 

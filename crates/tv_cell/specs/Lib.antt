@@ -2,5 +2,4 @@ pub mod Found
 pub mod PieceValues
 pub mod Soundness
 pub mod Sameness
-pub mod Laws
 pub mod formers

@@ -17,14 +17,12 @@
 //! - `row`: lists that may hold the type that holds them (`specs/formers/row/Row.antt` says how they hold their things)
 //! - `piece`: a value as a tree of cells, its copies and parts
 //! - `assembly`: the value that a piece stands for
-//! - `same`: whether two values, or two pieces, are the same
+//! - `same`: whether two pieces are the same
 //! - `threads`: both may cross threads
-//! - `laws`: what holds of the definitions alone
 #![tactic(auto)]
 
 mod assembly;
 mod cell;
-pub mod laws;
 mod looking;
 mod piece;
 mod row;
@@ -35,5 +33,6 @@ pub use assembly::assemble;
 pub use cell::Cell;
 pub use piece::{Piece, Pieces};
 pub use row::Row;
-pub use same::{same_value, value_is_at};
+pub use same::value_is_at;
 pub use threads::SentAndShared;
+pub use tv_value::same_value;

@@ -1,65 +1,13 @@
 ghost use Rattle.std.specs.Prelude.{◌≡◌, ◌↔◌, IsTrue, map};
-ghost use Rattle.tv_value.specs.Views.{error_view, items_view, view};
+ghost use Rattle.tv_value.specs.Sameness.{same_value, same_values};
+ghost use Rattle.tv_value.specs.Views.{view};
 ghost use Rattle.tv_cell.specs.PieceValues.{piece_value, piece_values};
-ghost use Rattle.tv_cell.specs.Sameness.{is_at, same_document, same_trees, same_value, same_values};
+ghost use Rattle.tv_cell.specs.Sameness.{is_at};
 ghost use Rattle.tv_cell.specs.Soundness.{AreSound, IsSound};
 
 use crate::looking::{thing_at, value_at};
 use crate::piece::Piece;
-use tv_value::{ErrorDoc, Items, Value};
-
-/// Whether two values are the same. Linear in what they have in common. Takes no memory.
-#[cycle(same_value)]
-pub fn same_value(first: &Value, second: &Value) -> bool
-    ensures { result ≡ same_value (view first.now) (view second.now) }
-{
-    match first {
-        Value::Text(text) => match second {
-            Value::Text(other) => text == other,
-            Value::List(_) => false,
-            Value::Fault(_) => false,
-        },
-        Value::List(items) => match second {
-            Value::Text(_) => false,
-            Value::List(others) => same_lists(items, others),
-            Value::Fault(_) => false,
-        },
-        Value::Fault(error) => match second {
-            Value::Text(_) => false,
-            Value::List(_) => false,
-            Value::Fault(other) => error.depth == other.depth && same_document(error, other),
-        },
-    }
-}
-
-#[cycle(same_value)]
-fn same_lists(first: &Items, second: &Items) -> bool
-    ensures { result ≡ same_trees (items_view first.now) (items_view second.now) }
-{
-    same_items(first.values.as_slice(), second.values.as_slice())
-}
-
-#[cycle(same_value)]
-fn same_items(first: &[Value], second: &[Value]) -> bool
-    ensures { result ≡ same_values (map view first.now) (map view second.now) }
-{
-    if first.len() != second.len() {
-        return false;
-    }
-    for (index, value) in first.iter().enumerate() {
-        if !same_value(value, &second[index]) {
-            return false;
-        }
-    }
-    true
-}
-
-/// Whether two error documents are the same but for their depths.
-fn same_document(first: &ErrorDoc, second: &ErrorDoc) -> bool
-    ensures { result ≡ same_document (error_view first.now) (error_view second.now) }
-{
-    first.at == second.at && (first.why == second.why && first.from == second.from)
-}
+use tv_value::{Value, same_document, same_value};
 
 impl Piece {
     /// Whether both stand for one value. Linear in what the two values have in common, also where both are parts of one

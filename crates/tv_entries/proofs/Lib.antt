@@ -6,3 +6,4 @@ pub mod OfFlows
 pub mod OfTold
 pub mod OfLegal
 pub mod OfTotals
+pub mod OfOut

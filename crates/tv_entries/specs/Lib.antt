@@ -9,3 +9,4 @@ pub mod Idle
 pub mod Declarations
 pub mod Refusals
 pub mod Counted
+pub mod Laws

@@ -6,6 +6,7 @@
 //!
 //! - `entry`, `ticket`: entries of the history; tickets, tasks and where jobs stand
 //! - `told`: what calls tell of a try, and what a run did that went on by itself
+//! - `laws`: how many tries are out, entry by entry
 //! - `specs/Runs.antt`, `specs/RunCodes.antt`: runs, their histories, and what holds of every run
 //! - `specs/Calls.antt`: what is settled, handed out and asked
 //! - `specs/Settlements.antt`: what is settled next, or that there is nothing of a kind
@@ -16,6 +17,7 @@
 #![tactic(auto)]
 
 mod entry;
+pub mod laws;
 mod ticket;
 mod told;
 

@@ -8,8 +8,9 @@ use crate::outcome::Outcome;
 use std::alloc::Global;
 use tv_value::{Items, NoMemory};
 
-/// A set of services: which there are, and what each gives.
-pub trait Services {
+/// A set of services: which there are, and what each gives. What holds things of such a type goes to other threads and is
+/// shared by them.
+pub trait Services: Send + Sync {
     /// What each service gives.
     ghost gives: { Giving };
 
@@ -45,6 +46,9 @@ pub trait Asker {
     /// The calls that were answered, in order, where the asker tells them.
     ghost calls: { Self → Option (List Call) };
 
+    /// What calls may leave of an asker: for those who hold one type of askers, what stays so from call to call.
+    ghost reaches: { Self → Self → Type 0 };
+
     /// Answers what the service gives, or that it found no memory.
     fn call(
         &mut self,
@@ -61,5 +65,10 @@ pub trait Asker {
               inputs = values_view inputs.now;
               attempt = attempt;
             })) }
-        ensures refused { OnErr result (IsSameCalls (calls self.old) (calls self.new)) };
+        ensures refused { OnErr result (IsSameCalls (calls self.old) (calls self.new)) }
+        ensures reached { reaches self.old self.new };
+
+    ghost stays: { (a : Self) → reaches a a };
+
+    ghost goes_on: { (a b c : Self) → reaches a b → reaches b c → reaches a c };
 }

@@ -172,7 +172,7 @@ module _ (gives : Giving) (D : ℕ → Type 0) (m : Meaning) (w : IsWhole gives 
 
   -- ---- tries
 
-  going-not_out : (past : History) (j : Job) → may_go_on m past j ≡ true → is_out past j.name ≡ false
+  pub going-not_out : (past : History) (j : Job) → may_go_on m past j ≡ true → is_out past j.name ≡ false
   going-not_out past j h = by (going-cases past j h) (is_out past j.name) refl
     where
       by : (is_idle past j ≡ true) ⊎ (list_any (is_begun_entry j.name) past ≡ false) → (b : Bool) → is_out past j.name ≡ b → is_out past j.name ≡ false

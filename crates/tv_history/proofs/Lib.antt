@@ -9,6 +9,7 @@ pub mod Counts
 pub mod Done
 pub mod Sums
 pub mod Bounded
+pub mod TriesOut
 pub mod Progress
 pub mod Permuted
 pub mod OneWorker

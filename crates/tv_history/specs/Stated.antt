@@ -1,6 +1,6 @@
 -- The laws of legal histories, for every document and all services.
 use Rattle.std.specs.List.{list_any}
-use Rattle.std.specs.Prelude.{IsPermutation, List, [], count_by, false, length, map, true, ℕ, ◌≡◌, ◌≤◌}
+use Rattle.std.specs.Prelude.{IsPermutation, List, [], ◌∷◌, count_by, false, length, map, true, ℕ, ◌≡◌, ◌≤◌}
 use Rattle.tv_lemmas.specs.Members.{Each, In}
 use Rattle.tv_value.specs.Values.{Name, Value}
 use Rattle.tv_gate.specs.Outcomes.{Giving}
@@ -10,9 +10,9 @@ use Rattle.tv_model.specs.Made.{Meaning}
 use Rattle.tv_model.specs.Meanings.{flow_meaning, meaning}
 use Rattle.tv_model.specs.Turns.{ask_order}
 use Rattle.tv_history.specs.Alone.{HaveTries, IsFirstPart, is_by_one}
-use Rattle.tv_history.specs.Entries.{History, is_out}
-use Rattle.tv_history.specs.Going.{IsWellFormed, Next, is_recall, most_entries}
-use Rattle.tv_history.specs.Histories.{can_open, can_settle_more, is_done, is_legal, is_offered, is_offered_by_meaning}
+use Rattle.tv_history.specs.Entries.{Entry, History, is_out}
+use Rattle.tv_history.specs.Going.{IsWellFormed, Next, OutAfter, is_recall, most_entries}
+use Rattle.tv_history.specs.Histories.{can_open, can_settle_more, is_done, is_legal, is_offered, is_offered_by_meaning, out_count}
 use Rattle.tv_history.specs.ReadOff.{IsAsMeant}
 use Rattle.tv_history.specs.Tries.{all_tries, ask_try}
 
@@ -67,6 +67,13 @@ HistoriesGoOn =
     → is_legal gives (meaning gives d) past ≡ true
     → is_done past ≡ false
     → Next gives (meaning gives d) past
+
+-- how many tries are out, entry by entry: in every legal history as many as were handed out and neither accepted nor recalled
+abbrev pub TriesOutAreCounted : Type 0
+TriesOutAreCounted =
+    (gives : Giving) (d : Document) (past : History) (e : Entry)
+    → is_legal gives (meaning gives d) (e ∷ past) ≡ true
+    → OutAfter e (out_count (meaning gives d) past) (out_count (meaning gives d) (e ∷ past))
 
 -- the accepted tries of a finished history are the asks of the order of one worker, each as often
 abbrev pub TriesAreOfTheOrder : Type 0

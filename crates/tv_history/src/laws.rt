@@ -1,5 +1,5 @@
 //! What holds of every legal history: each law is the clause of a function that does nothing.
-ghost use Rattle.tv_history.specs.Stated.{OffersAreTheMeanings, IsNeverStuck, DoneIsAsMeant, HistoriesAreBounded, HistoriesGoOn, TriesAreOfTheOrder, OneWorkerIsInOrder};
+ghost use Rattle.tv_history.specs.Stated.{OffersAreTheMeanings, IsNeverStuck, DoneIsAsMeant, HistoriesAreBounded, HistoriesGoOn, TriesAreOfTheOrder, TriesOutAreCounted, OneWorkerIsInOrder};
 
 pub mod activities;
 
@@ -25,6 +25,12 @@ pub fn done_is_as_meant()
 pub fn histories_end()
     ensures bounded { HistoriesAreBounded }
     ensures goes_on { HistoriesGoOn }
+{}
+
+/// One try more is out once it was handed out, one fewer once its outcome was accepted, and none after a recall, which tells how
+/// many were.
+pub fn tries_out_are_counted()
+    ensures { TriesOutAreCounted }
 {}
 
 /// The accepted tries of a finished history are those of the order of one worker, each as often.

@@ -22,9 +22,10 @@ use Rattle.tv_stream.specs.Answers.{kind_of, item_of}
 use Rattle.tv_stream.proofs.Mapped.{map-part_at}
 use Rattle.tv_cell.specs.declared.piece.Piece.{Piece}
 use Rattle.tv_cell.specs.PieceValues.{piece_value}
-use Rattle.tv_cell.specs.Sameness.{is_at, same_value}
+use Rattle.tv_value.specs.Sameness.{same_value}
+use Rattle.tv_cell.specs.Sameness.{is_at}
 use Rattle.tv_cell.proofs.OfPieces.{list-view}
-use Rattle.tv_cell.proofs.OfSameness.{test-decides}
+use Rattle.tv_value.proofs.OfSameness.{test-decides}
 use Rattle.tv_outputs.specs.Known.{item_value, value_tree}
 use Rattle.tv_outputs.specs.FoundIn.{found_in}
 use Rattle.tv_outputs.specs.PartValues.{part_values, list_values, AreParts}

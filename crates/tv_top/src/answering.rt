@@ -52,6 +52,7 @@ fn result_of_run<A: Asker>(alloc: Global, run: CheckedRun, asker: &mut A) -> Res
         (map call_of (ask_order (meaning A.Services.gives (run_view run))))) }
     ensures begun { OnErr result (BeginsThese (A.calls asker.old) (A.calls asker.new)
         (map call_of (ask_order (meaning A.Services.gives (run_view run))))) }
+    ensures reached { A.reaches asker.old asker.new }
 {
     let (outputs, totals) = run_whole(alloc, run, asker)?;
     let line = result_line(alloc, &outputs, &totals)?;
@@ -66,6 +67,7 @@ fn trace_of_run<A: Asker>(alloc: Global, run: CheckedRun, asker: &mut A) -> Resu
         (map call_of (ask_order (meaning A.Services.gives (run_view run))))) }
     ensures begun { OnErr result (BeginsThese (A.calls asker.old) (A.calls asker.new)
         (map call_of (ask_order (meaning A.Services.gives (run_view run))))) }
+    ensures reached { A.reaches asker.old asker.new }
 {
     let board = run_board(alloc, run, asker)?;
     let lines = trace_lines(alloc, &board)?;
@@ -98,6 +100,7 @@ fn summary_of_run<A: Asker>(
         (map call_of (ask_order (meaning A.Services.gives (run_view run))))) }
     ensures begun { OnErr result (BeginsThese (A.calls asker.old) (A.calls asker.new)
         (map call_of (ask_order (meaning A.Services.gives (run_view run))))) }
+    ensures reached { A.reaches asker.old asker.new }
 {
     let (outputs, totals) = run_whole(alloc, run, asker)?;
     let line = result_line(alloc, &outputs, &totals)?;

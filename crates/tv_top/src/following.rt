@@ -56,6 +56,7 @@ fn lineage_of_run<A: Asker>(
         (map call_of (ask_order (meaning A.Services.gives (run_view run))))) }
     ensures begun { OnErr result (BeginsThese (A.calls asker.old) (A.calls asker.new)
         (map call_of (ask_order (meaning A.Services.gives (run_view run))))) }
+    ensures reached { A.reaches asker.old asker.new }
 {
     let board = run_board(alloc, run, asker)?;
     let traced = board.traced()?;
@@ -115,6 +116,7 @@ fn forward_of_run<A: Asker>(
         (map call_of (ask_order (meaning A.Services.gives (run_view run))))) }
     ensures begun { OnErr result (BeginsThese (A.calls asker.old) (A.calls asker.new)
         (map call_of (ask_order (meaning A.Services.gives (run_view run))))) }
+    ensures reached { A.reaches asker.old asker.new }
 {
     let board = run_board(alloc, run, asker)?;
     let traced = board.traced()?;

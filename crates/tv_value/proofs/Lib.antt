@@ -8,3 +8,5 @@ pub mod ByName
 pub mod OfTrees
 pub mod OfNames
 pub mod OfJobNames
+pub mod OfSameness
+pub mod OfWrites

@@ -1,6 +1,7 @@
--- What holds of every value's depths.
-use Rattle.std.specs.Prelude.{◌≡◌, ℕ, ◌≤◌, ◌<◌, ◌↔◌, true, Some, None}
+-- What holds of every value's depths, and of the test whether two values are the same.
+use Rattle.std.specs.Prelude.{◌≡◌, ℕ, ◌≤◌, ◌<◌, ◌↔◌, IsTrue, true, Some, None}
 use Rattle.tv_value.specs.Values.{Value, HasDepth, has_depth}
+use Rattle.tv_value.specs.Sameness.{same_value}
 use Rattle.tv_value.specs.DepthSets.{IsOneOf, depths, depth_limit, least_depth}
 
 -- the test says what the fact says
@@ -19,3 +20,7 @@ LeastDepthIsLeast = (v : Value) → (d : ℕ) → d < depth_limit → least_dept
 -- a value with no least depth has none below the limit
 abbrev pub RaggedHasNoDepth : Type 0
 RaggedHasNoDepth = (v : Value) → (d : ℕ) → d < depth_limit → least_depth v ≡ None → HasDepth v d → ⊥
+
+-- the test of sameness decides equality
+abbrev pub TestDecidesSameness : Type 0
+TestDecidesSameness = (v w : Value) → IsTrue (same_value v w) ↔ (v ≡ w)

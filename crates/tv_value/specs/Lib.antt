@@ -3,6 +3,8 @@ pub mod Values
 pub mod Insides
 pub mod DepthSets
 pub mod Orders
+pub mod Sameness
+pub mod Writes
 pub mod Strategies
 pub mod Activities
 pub mod Readings

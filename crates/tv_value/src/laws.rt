@@ -1,5 +1,5 @@
 //! What holds of the definitions alone: each law is the clause of a function that does nothing.
-ghost use Rattle.tv_value.specs.Laws.{TestDecidesDepth, DepthsAreThose, LeastDepthIsLeast, RaggedHasNoDepth};
+ghost use Rattle.tv_value.specs.Laws.{TestDecidesDepth, DepthsAreThose, LeastDepthIsLeast, RaggedHasNoDepth, TestDecidesSameness};
 ghost use Rattle.tv_value.specs.Worked.{ReadsValues, TellsFirstComplaint, MeasuresDepths, LooksUp, ComparesPlaces, OrdersNames, PrintsNames, PrintsValues};
 
 /// The test, the set of depths and the least depth of a value all speak of the depths that it has.
@@ -8,6 +8,11 @@ pub fn depths()
     ensures those { DepthsAreThose }
     ensures least { LeastDepthIsLeast }
     ensures ragged { RaggedHasNoDepth }
+{}
+
+/// The test whether two values are the same decides whether they are equal.
+pub fn sameness()
+    ensures { TestDecidesSameness }
 {}
 
 /// Values from JSON, and the first complaint.

@@ -10,6 +10,7 @@
 //! - `sequence`, `text`, `copied`: lists and texts as small types, and equal ones of their own
 //! - `place`, `job_name`: where a value stands, and which job made it
 //! - `value`, `depth`: values, their copies, parts and depths
+//! - `same`, `hashing`: whether two values are the same, and what hashers are fed for them
 //! - `tree`: iteration strategies as documents state them
 //! - `reading`: values from JSON
 //! - `laws`: what holds of the definitions alone
@@ -17,12 +18,14 @@
 
 mod copied;
 mod depth;
+mod hashing;
 mod job_name;
 pub mod laws;
 mod memory;
 mod order;
 mod place;
 mod reading;
+mod same;
 mod sequence;
 #[cfg(test)]
 mod tests;
@@ -31,10 +34,12 @@ mod tree;
 mod value;
 
 pub use copied::Copied;
+pub use hashing::{hash_value, hash_values};
 pub use job_name::{JobName, JobNames};
 pub use memory::NoMemory;
 pub use place::Place;
 pub use reading::{ValueFault, value_of};
+pub use same::{same_document, same_lists, same_value};
 pub use sequence::Sequence;
 pub use text::{Name, Names, Text};
 pub use tree::{Tree, Trees};

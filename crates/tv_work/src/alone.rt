@@ -45,6 +45,7 @@ pub fn run_alone<V: Services, A: Asker<Services = V>>(
         → AcceptsInOrder V.gives board.new) }
     ensures accepted_beginning { OnErr result (HasOnlySettled board.old
         → AcceptsABeginning V.gives board.new) }
+    ensures reached { A.reaches asker.old asker.new }
 {
     board.is_lawful();
     'turns: while turn(alloc, board, asker)? {}
@@ -67,6 +68,7 @@ fn turn<V: Services, A: Asker<Services = V>>(
     ensures lost { OnErr result (AsksAtMostOneMore V.gives (A.calls asker.old)
         (A.calls asker.new) board.old board.new) }
     ensures by_one { StaysByOne V.gives board.old board.new }
+    ensures reached { A.reaches asker.old asker.new }
 {
     match settle_all(board)? {
         Some(ticket) => {
@@ -130,6 +132,7 @@ fn ask_for<V: Services, A: Asker<Services = V>>(
     ensures lost { OnErr result (AsksAtMostOneMore V.gives (A.calls asker.old)
         (A.calls asker.new) board.old board.new) }
     ensures by_one { StaysByOne V.gives board.old board.new }
+    ensures reached { A.reaches asker.old asker.new }
 {
     match board.ask_and_accept(alloc, ticket, asker) {
         Ok(_accepted) => Ok(()),

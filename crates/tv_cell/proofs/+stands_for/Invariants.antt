@@ -1,7 +1,7 @@
 use Rattle.std.proofs.Common.{◌≡◌, drop, map}
 use Rattle.tv_value.specs.Views.{view}
 use Rattle.tv_cell.specs.PieceValues.{piece_values}
-use Rattle.tv_cell.specs.Sameness.{same_values}
+use Rattle.tv_value.specs.Sameness.{same_values}
 use Rattle.tv_cell.proofs.OfSizes.{size, sizes}
 use Rattle.tv_cell.proofs.+stands_for.Given as goal
 

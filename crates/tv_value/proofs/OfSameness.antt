@@ -9,8 +9,8 @@ use Rattle.tv_value.specs.Nested.{leaf, list, Trees, no_trees, tree, trees_of, i
 use Rattle.tv_value.specs.Values.{ErrorDoc, Scalar, Value, fault, text}
 use Rattle.tv_value.specs.Orders.{same_job, same_name}
 use Rattle.tv_value.proofs.OfJobNames.{same_job_decides}
-use Rattle.tv_cell.specs.Laws.{TestDecidesSameness}
-use Rattle.tv_cell.specs.Sameness.{same_document, same_scalar, same_trees, same_value, same_values}
+use Rattle.tv_value.specs.Laws.{TestDecidesSameness}
+use Rattle.tv_value.specs.Sameness.{same_document, same_scalar, same_trees, same_value, same_values}
 
 pub same_trees-items : (ts us : Trees (Unit {0}) Scalar) → same_trees ts us ≡ same_values (items ts) (items us)
 same_trees-items no_trees no_trees = refl

@@ -1,7 +1,7 @@
 use Rattle.std.proofs.Common.{◌≡◌, drop, map}
 use Rattle.tv_value.specs.Views.{view}
-use Rattle.tv_cell.specs.Sameness.{same_values}
-use Rattle.tv_cell.proofs.same.+same_value.Given as goal
+use Rattle.tv_value.specs.Sameness.{same_values}
+use Rattle.tv_value.proofs.same.+same_value.Given as goal
 
 abbrev pub invariant-same_items-loop-index : goal.invariant-same_items-loop-index
 invariant-same_items-loop-index l =

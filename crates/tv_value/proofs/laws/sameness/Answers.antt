@@ -1,0 +1,5 @@
+use Rattle.tv_value.proofs.OfSameness.{test-decides}
+use Rattle.tv_value.proofs.laws.sameness.Goals as goal
+
+pub returns : goal.returns
+returns c = test-decides
