@@ -1,6 +1,6 @@
 -- How many tries are out after one entry more.
-use Rattle.std.specs.Prelude.{◌≡◌, refl, ℕ, zero, suc, ◌+◌, ◌<◌, ◌==◌, ◌&&◌, ◌∷◌, Bool, true, false, nat_lt, if◌then◌else◌, is_some}
-use Rattle.std.proofs.Common.{arith, ap, sym, subst, ◌∙◌, eqb-true}
+use Rattle.std.specs.Prelude.{◌≡◌, refl, ℕ, suc, ◌+◌, ◌==◌, [], ◌∷◌, Bool, true, false, nat_lt, if◌then◌else◌, is_some}
+use Rattle.std.proofs.Common.{arith, ap, sym, ◌∙◌, eqb-true}
 use Rattle.std.specs.Cmp.{first_so, second_so}
 use Rattle.tv_lemmas.specs.Members.{In}
 use Rattle.tv_value.specs.Orders.{same_job}
