@@ -1,6 +1,6 @@
 -- How many tries are out after one entry more.
-use Rattle.std.specs.Prelude.{◌≡◌, refl, ℕ, zero, suc, ◌+◌, ◌<◌, ◌==◌, ◌&&◌, ◌∷◌, Bool, true, false, nat_lt, if◌then◌else◌, is_some}
-use Rattle.std.proofs.Common.{arith, ap, sym, subst, ◌∙◌, eqb-true}
+use Rattle.std.specs.Prelude.{◌≡◌, refl, ℕ, suc, ◌+◌, ◌==◌, [], ◌∷◌, Bool, true, false, nat_lt, if◌then◌else◌, is_some}
+use Rattle.std.proofs.Common.{arith, ap, sym, ◌∙◌, eqb-true}
 use Rattle.std.specs.Cmp.{first_so, second_so}
 use Rattle.tv_lemmas.specs.Members.{In}
 use Rattle.tv_value.specs.Orders.{same_job}
@@ -19,6 +19,9 @@ use Rattle.tv_history.proofs.Bounded.{going-not_out}
 use Rattle.tv_history.proofs.Counts.{bit, count-total, nothing-counted, once-counted, total, total-of_sums, total-same}
 use Rattle.tv_history.proofs.Legal.{Legal, accepts, bounces, closes, ends, hands, legal-of, opens, passes, recalls}
 use Rattle.tv_history.proofs.Ready.{AnyNumber, document-whole}
+
+nothing : (n : ℕ) → n ≡ 0 + n
+nothing n = omega arith
 
 module _ (gives : Giving) (D : ℕ → Type 0) (m : Meaning) (w : IsWhole gives D m []) (past : History) where
   abbrev its : JobName → Job → ℕ
@@ -43,7 +46,7 @@ module _ (gives : Giving) (D : ℕ → Type 0) (m : Meaning) (w : IsWhole gives 
     where
       by : (b c : Bool) → (b ≡ true → c ≡ false) → bit (if b then true else c) ≡ bit b + bit c
       by true c f = ap (λ x. 1 + bit x) (sym (f refl))
-      by false c f = refl
+      by false c f = nothing (bit c)
 
   handed : (k : Job) → In k m.jobs → is_out past k.name ≡ false → total (is_now k.name) m.jobs ≡ suc (total was m.jobs)
   handed k i none =
@@ -60,7 +63,7 @@ module _ (gives : Giving) (D : ℕ → Type 0) (m : Meaning) (w : IsWhole gives 
     where
       by : (b c : Bool) → (b ≡ true → c ≡ true) → bit c ≡ bit b + bit (if b then false else c)
       by true c f = ap bit (f refl)
-      by false c f = refl
+      by false c f = nothing (bit c)
 
   taken : (k : Job) → In k m.jobs → is_out past k.name ≡ true → total was m.jobs ≡ suc (total (is_left k.name) m.jobs)
   taken k i out =
