@@ -283,6 +283,8 @@ class Dots:
             return ports[tree]
         kind = "cross" if "cross" in tree else "dot"
         found = [self.tree(it, ports, (*path, kind, at)) for at, it in enumerate(tree[kind])]
+        if not found:
+            return None, 0
         shape, levels = found[0]
         for at, (other, more) in enumerate(found[1:], 1):
             if kind == "cross":

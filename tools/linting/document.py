@@ -15,7 +15,7 @@ NO_PROGRAM = 1
 class Linted:
     """What is wrong of a document's bytes: `found`, in the order in which it is told, and the `status`.
 
-    The program is asked where one is given; `doubt` says why it couldn't be.
+    The program is asked where one is given; `doubt` says why it couldn't be. `due` is the line that it prints, as lint has it.
     """
 
     def __init__(self, given, program=None):
@@ -27,6 +27,7 @@ class Linted:
         else:
             self.look(given)
         self.status = next((it for it in (TOO_LONG, NOT_JSON, FORM, CHECK) if any(found.status == it for found in self.found)), 0)
+        self.due = next((it.said for it in self.found if self.status and it.status == self.status), "")
         self.hear(given, program)
         self.put_in_order()
 
@@ -89,11 +90,11 @@ class Linted:
             self.found.insert(0, it)
 
     def put_in_order(self):
-        """The program's own fault first, then all others by line and column."""
+        """The program's own fault first and then what isn't JSON, then all others by line and column."""
         if self.text is not None:
             self.text.place(self.found)
         first = next((it for it in self.found if it.said and it.said == self.line), None)
-        self.found.sort(key=lambda it: (it is not first, it.line, it.column, it.status == WARNING))
+        self.found.sort(key=lambda it: (it is not first, it.status != NOT_JSON, it.line, it.column, it.status == WARNING))
 
 
 def unreadable(error):

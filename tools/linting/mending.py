@@ -71,16 +71,16 @@ class Mender:
         while due != "end":
             i = self.room(i)
             i, due = getattr(self, due)(i)
-        end, i = i, self.room(i)
-        if i == len(self.text):
+        end = self.room(i)
+        if end == len(self.text):
             return
-        self.replace(end, len(self.text), "")
-        if self.text[i] in "{[":
-            self.tell(i, "a second document begins here", "one file has one document; take it apart")
-        elif self.text[i] in "]}":
-            self.tell(i, f"{quoted(self.text[i])} closes nothing, since the document has ended", "is there a closing bracket too many?")
+        if self.text[end] in "{[":
+            self.tell(end, "a second document begins here", "one file has one document; take it apart")
+            self.replace(end, len(self.text), "")
+        elif self.text[end] in "]}":
+            self.stop(end, f"{quoted(self.text[end])} closes nothing, since the document has ended", "is there a closing bracket too many?")
         else:
-            self.tell(i, "more text behind the document's end", "take it out, or is a closing bracket before it too many?")
+            self.stop(end, "more text behind the document's end", "take it out, or is a closing bracket before it too many?")
 
     def room(self, i):
         """Goes over spaces, and over comments and odd spaces, which it tells."""
