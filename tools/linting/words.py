@@ -45,7 +45,7 @@ def folded(word):
 # Words of other systems: whose word it is, the field here (None where there is none like it), and a remark.
 
 CWL, SNAKEMAKE, TAVERNA, WDL = "CWL", "snakemake", "Taverna", "WDL"
-ITERATION = "ports iterate by their depths alone, and how several go together a tree says, as"
+ITERATION = "ports iterate by their depths, and a tree says how several go together, as"
 NO_FILES = "there are no files here: data are texts and lists of texts"
 NO_PROGRAMS = "there are no programs here: a step has one of eighteen text services, or a flow"
 FOREIGN = {
