@@ -9,7 +9,9 @@ MOST_NESTED = 127
 SPACE = re.compile(r"[ \t\r\n]*")
 ODD_SPACES = "\u00a0\u1680\u2000\u2001\u2002\u2003\u2004\u2005\u2006\u2007\u2008\u2009\u200a\u200b\u2028\u2029\u202f\u205f\u3000\ufeff\x0b\x0c\x85"
 STRING = re.compile(r'"(?:[^"\\\x00-\x1f]|\\(?:["\\/bfnrt]|u[0-9a-fA-F]{4}))*"')
-PLAIN_TEXTS = re.compile(r'(?:"[^"\\\x00-\x1f]*"[ \t\r\n]*,[ \t\r\n]*){1,500}(?=")')
+ITEM = r'(?:"[^"\\\x00-\x1f]*"|-?(?:0|[1-9][0-9]{0,200}))[ \t\r\n]*'
+ROW = rf"\[[ \t\r\n]*(?:{ITEM}(?:,[ \t\r\n]*{ITEM})*)?\][ \t\r\n]*"
+PLAIN_ITEMS = re.compile(rf'(?:(?:{ITEM}|{ROW}),[ \t\r\n]*){{1,200}}(?=["\[0-9-])')
 LOOSE_STRING = re.compile(r'"(?:[^"\\\n]|\\[^\n])*"')
 QUOTED_OTHERWISE = re.compile(r"'((?:[^'\\\n]|\\[^\n])*)'|[“”„«]([^“”«»\"\n]*)[“”»\"]|[‘’‚]([^‘’'\n]*)[‘’']|`([^`\n]*)`")
 NUMBER = re.compile(r"-?(?:0|[1-9][0-9]*)(?:\.[0-9]+)?(?:[eE][+-]?[0-9]+)?")
@@ -117,6 +119,9 @@ class Mender:
         return "next" if self.open else "end"
 
     def value(self, i):
+        if self.open and self.open[-1][0] == "[" and len(self.open) < MOST_NESTED:
+            plain = PLAIN_ITEMS.match(self.text, i)
+            i = plain.end() if plain else i
         sign = self.text[i : i + 1]
         if not sign:
             self.ended()
@@ -126,9 +131,6 @@ class Mender:
             self.open.append((sign, i))
             return i + 1, "first_key" if sign == "{" else "first_value"
         if sign == '"':
-            if self.open and self.open[-1][0] == "[":
-                plain = PLAIN_TEXTS.match(self.text, i)
-                i = plain.end() if plain else i
             return self.string(i), self.after_value()
         otherwise = QUOTED_OTHERWISE.match(self.text, i)
         if otherwise:

@@ -18,6 +18,7 @@ SPOTS = (
     (r"flow (\w+)", ("flows", 1), True),
     (r"input (\w+)", ("inputs", 1), True),
 )
+WORDS = re.compile(r"taverna: (form fault|check fault|not JSON|input longer|read fault|want of memory|write fault)")
 
 
 class CannotAsk(Exception):
@@ -27,20 +28,20 @@ class CannotAsk(Exception):
 def asked(program, given):
     """The status that `check` ends with on these bytes, and its line. What else it writes on standard error is passed on."""
     line = ""
-    with tempfile.TemporaryFile() as document:
-        document.write(given)
-        document.seek(0)
-        try:
+    try:
+        with tempfile.TemporaryFile() as document:
+            document.write(given)
+            document.seek(0)
             ran = subprocess.Popen([program, "check"], stdin=document, stdout=subprocess.DEVNULL, stderr=subprocess.PIPE)
-        except OSError as error:
-            raise CannotAsk(f"{program} can't be run ({error.strerror})") from None
-        with ran:
-            for said in ran.stderr:
-                said = said.decode("utf-8", "replace")
-                if re.match(r"taverna: (form fault|check fault|not JSON|input longer|read fault|want of memory|write fault)", said):
-                    line = said.strip("\n")
-                else:
-                    sys.stderr.write(said)
+            with ran:
+                for said in ran.stderr:
+                    said = said.decode("utf-8", "replace")
+                    if WORDS.match(said):
+                        line = said.strip("\n")
+                    else:
+                        sys.stderr.write(said)
+    except OSError as error:
+        raise CannotAsk(f"{program} can't be run ({error.strerror})") from None
     if ran.returncode < 0:
         raise CannotAsk(f"{program} was ended by signal {-ran.returncode}")
     if ran.returncode and not line:

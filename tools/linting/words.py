@@ -4,20 +4,20 @@ import re
 
 from linting.findings import listed, quoted
 
-MOST_SEARCHES, LIKELY = 2000, 0.6
+MOST_LOOKED_AT, LIKELY = 200_000, 0.6
 
 
 class Nearest:
-    """Looks for names that are near. It gives up after so many searches, since each goes over all names."""
+    """Looks for names that are near. After so many names that were looked at it gives up."""
 
     def __init__(self):
-        self.searches = 0
+        self.looked_at = 0
 
     def first(self, word, words):
         """The words, nearest first, and whether the first one is likely meant."""
         words = sorted(words)
-        self.searches += 1
-        if self.searches > MOST_SEARCHES:
+        self.looked_at += len(words)
+        if self.looked_at > MOST_LOOKED_AT:
             return words, False
         close = difflib.get_close_matches(folded(word), {folded(it) for it in words}, 8, LIKELY)
         scores = {it: len(close) - at for at, it in enumerate(close)}
@@ -155,8 +155,10 @@ SERVICE_WORDS = {
     "reverse": "rev backward",
 }
 SERVICE_HERE = {folded(word): here for here, words in SERVICE_WORDS.items() for word in words.split()}
-PROGRAMS = "python python3 bash sh shell perl r rscript java beanshell docker rest wsdl tool command script xpath sed awk grep samtools bwa blast sort filter map"
-PROGRAMS = set(PROGRAMS.split())
+PROGRAMS = set(
+    "python python3 bash sh shell perl r rscript java beanshell docker rest wsdl tool command script xpath sed awk grep samtools bwa blast"
+    " sort filter map".split()
+)
 
 
 def foreign(word, fields):
