@@ -15,7 +15,8 @@ def keys_that_stand_twice(thing, text, path=()):
         for key in getattr(thing, "twice", ()):
             lines = text.keys_of((*path, key))
             before = ", ".join(str(it) for it in lines[:-1])
-            what = f"the key {quoted(key)} stands {'twice' if len(lines) == 2 else f'{len(lines)} times'} in one object, and only the last one counts"
+            often = "twice" if len(lines) == 2 else f"{len(lines)} times"
+            what = f"the key {quoted(key)} stands {often} in one object, and only the last one counts"
             mend = f"rename or take out the one{'s' * (len(lines) > 2)} in line {before}"
             found.append(Finding(WARNING, what, mend, (*path, key), True))
         for key, it in thing.items():
@@ -25,6 +26,11 @@ def keys_that_stand_twice(thing, text, path=()):
             if isinstance(it, (dict, list)):
                 found += keys_that_stand_twice(it, text, (*path, at))
     return found
+
+
+def steps_before_it(said):
+    """The steps whose outputs a step takes."""
+    return [link["step"] for feed in feeds_of(said) for _, link in links_of(feed) if "input" not in link]
 
 
 class Cautions:
@@ -52,8 +58,8 @@ class Cautions:
                 Dots(self, name).all()
 
     def retries(self, said, path):
-        services = [it["service"] for it in said["activities"] if "service" in it]
-        if said.get("retries") and len(services) == len(said["activities"]) and all(it in SERVICES and it != "flaky" for it in services):
+        services = [it.get("service") for it in said["activities"]]
+        if said.get("retries") and all(it in SERVICES and it != "flaky" for it in services):
             mend = 'take "retries" out; another way is a second activity'
             self.tell((*path, "retries"), f"the retries change nothing: {quoted(services[0])} gives the same at each try", mend, True)
 
@@ -73,13 +79,13 @@ class Cautions:
     def unopened(self):
         opened = self.opened()
         for name in sorted(set(self.flows) - opened):
-            self.tell(("flows", name), f"the flow {quoted(name)} is never opened", 'take it out, or open it: {"flow": ' + f"{quoted(name)}}}", True)
+            mend = f'take it out, or open it by an activity {{"flow": {quoted(name)}}}'
+            self.tell(("flows", name), f"the flow {quoted(name)} is never opened", mend, True)
 
     def unused(self, name, flow):
         """Warns of steps that no output of the flow comes from, and of inputs of the main flow that nothing takes."""
         steps, path = steps_of(flow), ("flows", name)
-        takes = {step: {link["step"] for feed in feeds_of(said) for _, link in links_of(feed) if "step" in link and "input" not in link}
-                 for step, said in steps.items()}
+        takes = {step: set(steps_before_it(said)) for step, said in steps.items()}
         sources = [link for feed in outputs_of(flow).values() for _, link in links_of(feed)]
         used = [it["step"] for it in sources if "input" not in it]
         used += [other for said in steps.values() for other in said.get("after", [])]
@@ -99,7 +105,8 @@ class Cautions:
         if name == self.main:
             sources += [link for said in steps.values() for feed in feeds_of(said) for _, link in links_of(feed)]
             for port in sorted(set(inputs_of(flow)) - {it.get("input") for it in sources}):
-                self.tell((*path, "inputs", port), f"nothing takes the input {quoted(port)}", "link it to a step or output, or take it out", True)
+                mend = "link it to a step or output, or take it out"
+                self.tell((*path, "inputs", port), f"nothing takes the input {quoted(port)}", mend, True)
 
 
 class Signature:
@@ -136,8 +143,10 @@ class Signature:
 
     def number_of_ports(self):
         number = len(self.service.takes)
-        what = (f"{quoted(self.name)} takes {counted(number, 'input')}, and the step {quoted(self.step)} has "
-                f"{counted(len(self.ports), 'input port')}: {self.outcome}")
+        what = (
+            f"{quoted(self.name)} takes {counted(number, 'input')}, and the step {quoted(self.step)} has "
+            f"{counted(len(self.ports), 'input port')}: {self.outcome}"
+        )
         roles = f" ({', '.join(self.service.roles)})" if self.service.roles else ""
         mend = f"give it {counted(number, 'port')} of depth {self.wants()}{roles}"
         if self.name in ("concat", "join", "add") and len(self.ports) > number:
@@ -152,16 +161,21 @@ class Signature:
         order = "ports go to a service in byte order of their names"
         if len(self.ports) == 2 and self.depths[::-1] == list(self.service.takes):
             first, second = self.ports[1], self.ports[0]
-            what = (f"the ports of {quoted(self.name)} are in the wrong order: {order}, so {quoted(self.ports[0])} comes first, "
-                    f"and it wants depths {self.wants()}: {self.outcome}")
+            what = (
+                f"the ports of {quoted(self.name)} are in the wrong order: {order}, so {quoted(self.ports[0])} comes first, "
+                f"and it wants depths {self.wants()}: {self.outcome}"
+            )
             mend = f"rename them so that {quoted(first)} comes first, as {quoted('a_' + first)} and {quoted('b_' + second)}"
             self.tell(what, mend, (*self.path, "inputs", self.ports[0]), True)
             return
         for at in wrong:
             port, depth, want = self.ports[at], self.depths[at], self.service.takes[at]
-            what = (f"input {at + 1} of {quoted(self.name)} is the port {quoted(port)} of depth {depth}, and {quoted(self.name)} wants depth "
-                    f"{want} there: {self.outcome}")
-            mend = f"declare depth {want}" + (", and the step iterates over the list" if depth > want else ", and it takes a list whole")
+            what = (
+                f"input {at + 1} of {quoted(self.name)} is the port {quoted(port)} of depth {depth}, and {quoted(self.name)} wants "
+                f"depth {want} there: {self.outcome}"
+            )
+            then = "the step iterates over the list" if depth > want else "it takes a list whole"
+            mend = f"declare depth {want}, and {then}"
             if len(self.ports) > 1:
                 mend += f" ({order}: {', '.join(self.ports)})"
             self.tell(what, mend, (*self.path, "inputs", port, "depth"))
@@ -171,18 +185,24 @@ class Signature:
         if not self.service.is_ordered or len(self.ports) != 2:
             return
         first, second = self.ports
-        written = list(inputs_of(self.said))
-        roles = f" {self.service.roles[0]} is {quoted(first)}, {self.service.roles[1]} {quoted(second)}"
-        order = f"ports go to {quoted(self.name)} in byte order of their names, so"
-        mend = (f"is that meant? Write them in this order; else rename them, as {quoted('a_' + second)} and {quoted('b_' + first)}")
-        words = PORT_WORDS.get(self.name, ((), ()))
-        named = [[bool(set(re.split(r"_|\d", it.lower())) & group) for group in words] if words[0] else [False, False] for it in self.ports]
-        is_named_so = (named[0] == [False, True] and named[1] != [False, True]) or (named[1] == [True, False] and named[0] != [True, False])
-        if written == [second, first]:
-            self.tell(f"the ports are written in another order than they are taken: {order}{roles}", mend, (*self.path, "inputs", second), True)
-        elif is_named_so or self.is_fixed_first(first, second):
-            self.tell(f"the ports seem to be in the wrong order: {order}{roles}", mend.replace("Write them in this order; else", "Else"),
-                      (*self.path, "inputs", first), True)
+        roles = f"{self.service.roles[0]} is {quoted(first)}, {self.service.roles[1]} {quoted(second)}"
+        order = f"ports go to {quoted(self.name)} in byte order of their names, so {roles}"
+        mend = f"lse rename them, as {quoted('a_' + second)} and {quoted('b_' + first)}"
+        if list(inputs_of(self.said)) == [second, first]:
+            what = f"the ports are written in another order than they are taken: {order}"
+            self.tell(what, f"is that meant? Write them in this order; e{mend}", (*self.path, "inputs", second), True)
+        elif self.are_named_otherwise() or self.is_fixed_first(first, second):
+            what = f"the ports seem to be in the wrong order: {order}"
+            self.tell(what, f"is that meant? E{mend}", (*self.path, "inputs", first), True)
+
+    def are_named_otherwise(self):
+        """Whether the first port has a word of the second input in its name, or the other way round, and the other port doesn't."""
+        if self.name not in PORT_WORDS:
+            return False
+        of_first, of_second = PORT_WORDS[self.name]
+        parts = [set(re.split(r"_|\d", it.lower())) for it in self.ports]
+        leans = [bool(it & of_second) - bool(it & of_first) for it in parts]
+        return leans[0] > leans[1]
 
     def is_fixed_first(self, first, second):
         """A split of a constant by what comes from elsewhere."""
@@ -205,15 +225,16 @@ class Signature:
             elif (self.name, text) == ("fail_if", "true"):
                 refused = 'for which "fail_if" always fails', "link what is to be tested"
             if refused:
-                self.tell(f"the port {quoted(port)} of {quoted(self.name)} is always {quoted(text)}, {refused[0]}: {self.outcome}", refused[1],
-                          (*self.path, "inputs", port, "from", "constant"))
+                what = f"the port {quoted(port)} of {quoted(self.name)} is always {quoted(text)}, {refused[0]}: {self.outcome}"
+                self.tell(what, refused[1], (*self.path, "inputs", port, "from", "constant"))
 
     def output(self):
         ports = sorted(outputs_of(self.said))
         if len(ports) != 1:
-            what = f"{quoted(self.name)} gives one value, and the step {quoted(self.step)} has {counted(len(ports), 'output port')}: {self.outcome}"
-            mend = "take out all but one; several ports of one step may link to the same output" if ports else 'add "outputs": {"o": 0}'
-            self.tell(what, mend if ports else mend.replace("0}", f"{self.gives() or 0}}}"))
+            has = counted(len(ports), "output port")
+            what = f"{quoted(self.name)} gives one value, and the step {quoted(self.step)} has {has}: {self.outcome}"
+            mend = "take out all but one; several links may begin at one output"
+            self.tell(what, mend if ports else f'add "outputs": {{"o": {self.gives() or 0}}}')
             return
         declared, gives = outputs_of(self.said)[ports[0]], self.gives()
         if gives is not None and declared != gives:
@@ -299,8 +320,9 @@ class Dots:
                 place, one, two = parts
                 where = f" at {list(place)}" if place else ""
                 names = [", ".join(leaf for _, leaf in leaves_of(it)) for it in (tree[kind][0], tree[kind][at])]
-                what = f"this dot is always cut{where}: {quoted(names[0])} has {counted(one, 'item')} there and {quoted(names[1])} has {two}"
-                mend = f"the {abs(one - two)} over have no partner and are left out: give both the same number of items, or take a cross"
+                lengths = f"{quoted(names[0])} has {counted(one, 'item')} there and {quoted(names[1])} has {two}"
+                what = f"this dot is always cut{where}: {lengths}"
+                mend = f"the {abs(one - two)} over have no partner and are left out: give both equally many items, or take a cross"
                 self.cautions.tell((*path, kind), what, mend, True)
                 return None, levels
             shape = together(shape, other)

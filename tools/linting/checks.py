@@ -7,10 +7,23 @@ from linting.form import MOST_DEPTH
 from linting.services import SERVICES
 from linting.values import depth_of, has_depth
 
-(NO_PORT, NO_SERVICE, NO_FLOW, FLOW_CYCLE, LINK_CYCLE, STRATEGY_PORTS, DOT_DEPTHS, MERGE_DEPTHS, NESTED_PORTS, TOO_DEEP, INPUT_MISSING,
- INPUT_UNKNOWN, INPUT_DEPTH) = range(1, 14)
-WORDS = ("no such port", "no such service", "no such flow", "flow cycle", "link cycle", "strategy ports", "dot depths", "merge depths",
-         "nested ports", "too deep", "input missing", "input unknown", "input depth")
+NO_PORT, NO_SERVICE, NO_FLOW, FLOW_CYCLE, LINK_CYCLE, STRATEGY_PORTS, DOT_DEPTHS, MERGE_DEPTHS, NESTED_PORTS = range(1, 10)
+TOO_DEEP, INPUT_MISSING, INPUT_UNKNOWN, INPUT_DEPTH = range(10, 14)
+WORDS = (
+    "no such port",
+    "no such service",
+    "no such flow",
+    "flow cycle",
+    "link cycle",
+    "strategy ports",
+    "dot depths",
+    "merge depths",
+    "nested ports",
+    "too deep",
+    "input missing",
+    "input unknown",
+    "input depth",
+)
 MOST_FLOWS_DEEP = 8
 
 
@@ -101,7 +114,8 @@ class Checks:
             here = (*path, "activities", at)
             if "service" in activity and activity["service"] not in SERVICES:
                 mend = self.service_meant(activity["service"])
-                self.tell(NO_SERVICE, f"{spot} activity {at}", f"there is no service {quoted(activity['service'])}", mend, (*here, "service"))
+                what = f"there is no service {quoted(activity['service'])}"
+                self.tell(NO_SERVICE, f"{spot} activity {at}", what, mend, (*here, "service"))
             elif "service" not in activity and activity["flow"] not in self.flows:
                 mend = self.nearest.choice(activity["flow"], self.flows, "flows")
                 if activity["flow"] in SERVICES:
@@ -111,7 +125,8 @@ class Checks:
         for at, other in enumerate(sorted(set(after))):
             if other not in steps_of(flow):
                 mend = self.nearest.choice(other, [it for it in steps_of(flow) if it != step], "other steps of the flow")
-                self.tell(NO_PORT, f"{spot} after {at}", f"there is no step {quoted(other)} to run after", mend, (*path, "after", after.index(other)))
+                what, place = f"there is no step {quoted(other)} to run after", (*path, "after", after.index(other))
+                self.tell(NO_PORT, f"{spot} after {at}", what, mend, place)
 
     def service_meant(self, name):
         """How to mend a service that isn't there."""
@@ -142,7 +157,8 @@ class Checks:
                 mend = self.nearest.choice(link["port"], outputs_of(said), f"outputs of {quoted(link['step'])}")
                 if link["port"] in inputs_of(said):
                     mend = f"that is an input port of it; {mend}"
-                self.tell(NO_PORT, spot, f"the step {quoted(link['step'])} has no output {quoted(link['port'])}", mend, (*here, "port"))
+                what = f"the step {quoted(link['step'])} has no output {quoted(link['port'])}"
+                self.tell(NO_PORT, spot, what, mend, (*here, "port"))
 
     def input_meant(self, flow, name):
         """How to mend a link from a flow input that isn't there."""
@@ -152,7 +168,8 @@ class Checks:
             return f"that is a step: write {as_json({'step': name, 'port': port}, 200)}"
         mend = self.nearest.choice(name, inputs_of(flow), "inputs of the flow")
         if name in inputs_of(self.document) and not mend.startswith("did"):
-            mend = f'a value is given for it: add {quoted(name)}: {depth_of(inputs_of(self.document)[name])[0]} to the "inputs" of the flow'
+            depth = depth_of(inputs_of(self.document)[name])[0]
+            mend = f'a value is given for it: add {quoted(name)}: {depth} to the "inputs" of the flow'
         return mend
 
     def strategy_ports(self, said, step, path, spot):
@@ -162,13 +179,15 @@ class Checks:
         for at, leaf in leaves:
             here = (*path, "strategy", *at)
             if leaf not in ports:
-                mend = self.nearest.choice(leaf, left or ports, f"ports that it leaves out" if left else f"ports of {quoted(step)}")
+                mend = self.nearest.choice(leaf, left or ports, "ports that it leaves out" if left else f"ports of {quoted(step)}")
                 kind = leaf if leaf in ("cross", "dot") else words.foreign(leaf, ("cross", "dot"))[2]
                 if kind:
                     mend = f"a strategy is a tree of ports: write {as_json({kind: sorted(ports)}, 200)}"
-                self.tell(STRATEGY_PORTS, spot, f"the strategy names {quoted(leaf)}, which is no input port of {quoted(step)}", mend, here)
+                what = f"the strategy names {quoted(leaf)}, which is no input port of {quoted(step)}"
+                self.tell(STRATEGY_PORTS, spot, what, mend, here)
             elif leaf in seen:
-                self.tell(STRATEGY_PORTS, spot, f"the strategy names the port {quoted(leaf)} again", "each port stands once: take one out", here)
+                what = f"the strategy names the port {quoted(leaf)} again"
+                self.tell(STRATEGY_PORTS, spot, what, "each port stands once: take one out", here)
             seen.add(leaf)
         for port in left:
             mend = "each input port stands once, also one that doesn't iterate"
@@ -187,10 +206,10 @@ class Checks:
                     if other in self.flows:
                         opens[name].setdefault(other, step)
         for way in rounds(opens):
-            told = ", ".join(f"the step {quoted(opens[one][other])} of {quoted(one)} opens {quoted(other)}" for one, other in zip(way, way[1:]))
+            told = [f"the step {quoted(opens[one][other])} of {quoted(one)} opens {quoted(other)}" for one, other in zip(way, way[1:])]
+            what = f"flows open one another in a round: {', '.join(told)}"
             path = ("flows", way[0], "steps", opens[way[0]][way[1]])
-            self.tell(FLOW_CYCLE, f"flow {way[0]}", f"flows open one another in a round: {told}", "a flow can't open itself: take one out", path,
-                      is_key=True)
+            self.tell(FLOW_CYCLE, f"flow {way[0]}", what, "a flow can't open itself: take one out", path, is_key=True)
         self.nesting = nestings(opens)
         for name in sorted(self.nesting):
             if self.nesting[name] > MOST_FLOWS_DEEP:
@@ -201,7 +220,8 @@ class Checks:
                 break
         for name in sorted(self.flows):
             for way in rounds(self.before[name]):
-                reasons = [f"{quoted(one)} waits for {quoted(other)} ({self.before[name][one][other]})" for one, other in zip(way, way[1:])]
+                why = self.before[name]
+                reasons = [f"{quoted(one)} waits for {quoted(other)} ({why[one][other]})" for one, other in zip(way, way[1:])]
                 path = ("flows", name, "steps", way[0])
                 what = f"steps of {quoted(name)} wait for one another in a round: {', '.join(reasons)}"
                 self.tell(LINK_CYCLE, f"flow {name} step {way[0]}", what, 'take out a link or a name of "after"', path, is_key=True)
@@ -215,7 +235,9 @@ class Checks:
         for name in sorted(set(wants) - set(has)):
             value = ('"text"', '["text", "text"]', '[["text"], ["text"]]')[min(wants[name], 2)]
             near, is_likely = self.nearest.first(name, set(has) - set(wants))
-            mend = f"did you mean {quoted(near[0])} by it, which is given?" if is_likely else f'add {quoted(name)}: {value} to the document\'s "inputs"'
+            mend = f'add {quoted(name)}: {value} to the document\'s "inputs"'
+            if is_likely:
+                mend = f"did you mean {quoted(near[0])} by it, which is given?"
             what = f"the input {quoted(name)} of {quoted(self.main)} is given no value"
             place = ("inputs",) if "inputs" in self.document else ("flows", self.main, "inputs", name)
             self.tell(INPUT_MISSING, f"input {name}", what, mend, place, is_key=True)
@@ -276,14 +298,16 @@ class FlowDepths:
                 if None not in (it, found[0]) and it != found[0]:
                     told = f"the links of a merge deliver different depths: link 0 has {found[0]} and link {at} has {it}"
                     most = max(it, found[0])
-                    mend = f'all links of a merge are equally deep; a step with "echo" whose ports declare depth {most} makes lists of one of the lesser'
+                    mend = "all links of a merge are equally deep"
+                    mend += f'; a step with "echo" whose ports declare depth {most} makes lists of one of the lesser'
                     self.tell(MERGE_DEPTHS, spot, told, mend, (*path, "merge", at), (found[0], it))
                     return None
             if None in found:
                 return None
             depth = found[0] + ("merge" in feed)
         if depth > MOST_DEPTH:
-            self.tell(TOO_DEEP, spot, f"lists nested {depth} deep are delivered here", f"{MOST_DEPTH} is the limit", path, (depth, MOST_DEPTH))
+            what = f"lists nested {depth} deep are delivered here"
+            self.tell(TOO_DEEP, spot, what, f"{MOST_DEPTH} is the limit", path, (depth, MOST_DEPTH))
             return None
         return depth
 
@@ -337,11 +361,15 @@ class FlowDepths:
         for port in sorted(set(has) | set(wants)):
             if port not in wants:
                 mend = self.checks.nearest.choice(port, set(wants) - set(has) or wants, f"{kind}s of {quoted(inner)}")
-                self.tell(NESTED_PORTS, spot, f"the step has the {kind} {quoted(port)}, and the flow {quoted(inner)} has none", mend, here)
+                what = f"the step has the {kind} {quoted(port)}, and the flow {quoted(inner)} has none"
+                self.tell(NESTED_PORTS, spot, what, mend, here)
             elif port not in has:
                 near, is_likely = self.checks.nearest.first(port, set(has) - set(wants))
-                mend = f"the step's {quoted(near[0])} may be meant" if is_likely else f"give the step the {kind} {quoted(port)}, or take it out of the flow"
-                self.tell(NESTED_PORTS, spot, f"the flow {quoted(inner)} has the {kind} {quoted(port)}, and the step has none", mend, here)
+                mend = f"give the step the {kind} {quoted(port)}, or take it out of the flow"
+                if is_likely:
+                    mend = f"the step's {quoted(near[0])} may be meant"
+                what = f"the flow {quoted(inner)} has the {kind} {quoted(port)}, and the step has none"
+                self.tell(NESTED_PORTS, spot, what, mend, here)
             elif wants[port] is not None and has[port] != wants[port]:
                 what = f"the {kind} {quoted(port)} has depth {has[port]} in the step and {wants[port]} in the flow {quoted(inner)}"
                 mend = f"declare depth {wants[port]} in the step: each job opens the flow on what its ports declare"
@@ -360,7 +388,8 @@ def dot_mended(children, found):
     if 0 in found and len({it for it in found if it}) == 1:
         walk = [it for it, depth in zip(children, found) if depth]
         stay = [it for it, depth in zip(children, found) if depth == 0]
-        return f"what iterates over 0 levels stands beside the dot: {as_json({'cross': [{'dot': walk} if len(walk) > 1 else walk[0], *stay]}, 200)}"
+        tree = {"cross": [{"dot": walk} if len(walk) > 1 else walk[0], *stay]}
+        return f"what iterates over 0 levels stands beside the dot: {as_json(tree, 200)}"
     return "a dot takes together what is equally deep; a cross takes each with each"
 
 

@@ -398,7 +398,8 @@ class Form:
         if not isinstance(tree, dict):
             mend = f"write {SAMPLES['a strategy']}"
             if isinstance(tree, list) and as_json(tree, 60):
-                mend = f'write {{"cross": {as_json(tree)}}} for each with each, or {{"dot": {as_json(tree)}}} for those at equal places'
+                ports = as_json(tree)
+                mend = f'write {{"cross": {ports}}} for each with each, or {{"dot": {ports}}} for those at equal places'
             self.tell(WRONG_KIND, path, f"{kind_of(tree)} stands where a strategy must stand, a text or an object", mend)
             return
         form = next((it for it in TREES if it in tree), "cross")
@@ -453,8 +454,9 @@ class Form:
         mend = f"the item {at} of it is {deep_one(lone)}, the others are {deep(usual)}"
         if lone < usual:
             item = as_json(value[at], 40)
-            mend += f": put it in a list of its own, {'[' * (usual - lone) + item + ']' * (usual - lone)}" if item and usual - lone < 4 else \
-                ": put it in a list of its own"
+            mend += ": put it in a list of its own"
+            if item and usual - lone < 4:
+                mend += f", {'[' * (usual - lone)}{item}{']' * (usual - lone)}"
         elif lone > usual:
             mend += ": take its brackets out, or put the others in lists too"
         else:
@@ -480,7 +482,7 @@ def no_value(thing):
     if isinstance(thing, Odd):
         if re.fullmatch(r"-?[0-9]+", thing.text) and thing.text != "-0":
             return f"the number {printable(cut(thing.text))} has more than 64 bits", "give it as a text, in double quotes"
-        return f"the number {printable(cut(thing.text))} stands {rule}", f"write it as the text \"{printable(cut(thing.text))}\", in double quotes"
+        return f"the number {printable(cut(thing.text))} stands {rule}", f"write it as the text {quoted(thing.text)}, in double quotes"
     if isinstance(thing, bool):
         return f"{str(thing).lower()} stands {rule}", f'write it as the text "{str(thing).lower()}"'
     if thing is None:

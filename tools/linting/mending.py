@@ -7,7 +7,7 @@ from linting.findings import NOT_JSON, Finding, cut, printable, quoted
 MOST_NESTED = 127
 
 SPACE = re.compile(r"[ \t\r\n]*")
-ODD_SPACES = "\u00a0\u1680\u2000\u2001\u2002\u2003\u2004\u2005\u2006\u2007\u2008\u2009\u200a\u200b\u2028\u2029\u202f\u205f\u3000\ufeff\x0b\x0c\x85"
+ODD_SPACES = re.compile("[\x0b\x0c\x85\u00a0\u1680\u2000-\u200b\u2028\u2029\u202f\u205f\u3000\ufeff]+")
 STRING = re.compile(r'"(?:[^"\\\x00-\x1f]|\\(?:["\\/bfnrt]|u[0-9a-fA-F]{4}))*"')
 ITEM = r'(?:"[^"\\\x00-\x1f]*"|-?(?:0|[1-9][0-9]{0,200}))[ \t\r\n]*'
 ROW = rf"\[[ \t\r\n]*(?:{ITEM}(?:,[ \t\r\n]*{ITEM})*)?\][ \t\r\n]*"
@@ -91,10 +91,9 @@ class Mender:
             sign = self.text[i : i + 1]
             if not sign:
                 return i
-            if sign in ODD_SPACES:
-                end = i + 1
-                while self.text[end : end + 1] and self.text[end] in ODD_SPACES:
-                    end += 1
+            odd = ODD_SPACES.match(self.text, i)
+            if odd:
+                end = odd.end()
                 self.tell(i, f"the character U+{ord(sign):04X}, which only looks like a space", "put a plain space")
             elif sign == "#" or self.text.startswith(("//", "/*"), i):
                 closing = "*/" if self.text.startswith("/*", i) else "\n"

@@ -23,7 +23,7 @@ class Nearest:
         scores = {it: len(close) - at for at, it in enumerate(close)}
         near = sorted((it for it in words if scores.get(folded(it))), key=lambda it: (-scores[folded(it)], it))
         if not near:
-            near = [it for it in words if len(it) > 2 and (folded(it) in folded(word) or (len(word) > 2 and folded(word) in folded(it)))]
+            near = [it for it in words if is_part(it, word) or is_part(word, it)]
         rest = set(near)
         return near + [it for it in words if it not in rest], bool(near)
 
@@ -36,6 +36,10 @@ class Nearest:
             return f"the {whose}: {listed(ordered)}"
         more = f" The {whose}, nearest first: {listed(ordered)}" if len(ordered) > 1 else ""
         return f"did you mean {quoted(ordered[0])}?{more}"
+
+
+def is_part(word, other):
+    return len(word) > 2 and folded(word) in folded(other)
 
 
 def folded(word):
