@@ -2,30 +2,30 @@
 import re
 
 from linting.checks import feeds_of, flows_opened_by, inputs_of, leaves_of, links_of, outputs_of, shown_tree, steps_of, strategy_of
-from linting.findings import WARNING, Finding, counted, quoted
-from linting.reading import Twice
+from linting.findings import MOST_FOUND, WARNING, Finding, Findings, counted, quoted
 from linting.services import ANY, PORT_WORDS, SERVICES, is_number
 from linting.values import MOST_COUNTED, below, depth_of, parting, shape_of, together, top
 
 
-def keys_that_stand_twice(thing, text, path=()):
+def keys_that_stand_twice(document, text):
     """A warning for each key that stands several times in one object."""
-    found = []
+    found, paths = Findings(), list(paths_of_keys_twice(document))
+    for path, lines in zip(paths, text.lines_of_keys(paths[:MOST_FOUND])):
+        often = "twice" if len(lines) == 2 else f"{len(lines)} times"
+        what = f"the key {quoted(path[-1])} stands {often} in one object, and only the last one counts"
+        mend = f"rename or take out the one{'s' * (len(lines) > 2)} in line {', '.join(str(it) for it in lines[:-1][:8])}"
+        found.append(Finding(WARNING, what, mend, path, True))
+    return found
+
+
+def paths_of_keys_twice(thing, path=()):
     if isinstance(thing, dict):
         for key in getattr(thing, "twice", ()):
-            lines = text.keys_of((*path, key))
-            before = ", ".join(str(it) for it in lines[:-1])
-            often = "twice" if len(lines) == 2 else f"{len(lines)} times"
-            what = f"the key {quoted(key)} stands {often} in one object, and only the last one counts"
-            mend = f"rename or take out the one{'s' * (len(lines) > 2)} in line {before}"
-            found.append(Finding(WARNING, what, mend, (*path, key), True))
-        for key, it in thing.items():
-            found += keys_that_stand_twice(it, text, (*path, key))
-    elif isinstance(thing, list):
-        for at, it in enumerate(thing):
-            if isinstance(it, (dict, list)):
-                found += keys_that_stand_twice(it, text, (*path, at))
-    return found
+            yield (*path, key)
+    parts = thing.items() if isinstance(thing, dict) else enumerate(thing)
+    for part, it in parts:
+        if isinstance(it, (dict, list)):
+            yield from paths_of_keys_twice(it, (*path, part))
 
 
 def steps_before_it(said):
@@ -37,7 +37,7 @@ class Cautions:
     """Goes through a document whose form is right. `found` has the warnings."""
 
     def __init__(self, checks):
-        self.checks, self.flows, self.main, self.found = checks, checks.flows, checks.main, []
+        self.checks, self.flows, self.main, self.found = checks, checks.flows, checks.main, Findings()
         self.document = checks.document
 
     def tell(self, path, what, mend="", is_key=False):

@@ -2,7 +2,7 @@
 import heapq
 
 from linting import words
-from linting.findings import CHECK, Finding, as_json, counted, listed, quoted
+from linting.findings import CHECK, Finding, Findings, as_json, counted, listed, quoted
 from linting.form import MOST_DEPTH
 from linting.services import SERVICES
 from linting.values import depth_of, has_depth
@@ -71,7 +71,7 @@ class Checks:
     """Goes through a document whose form is right. `found` has the complaints, in the program's order but for ones behind the first."""
 
     def __init__(self, document, nearest):
-        self.document, self.nearest, self.found = document, nearest, []
+        self.document, self.nearest, self.found = document, nearest, Findings()
         self.flows, self.main = document["flows"], document["main"]
         self.before = {name: steps_before(flow) for name, flow in self.flows.items()}
         self.ranked = {name: ranks(before) for name, before in self.before.items()}

@@ -43,23 +43,34 @@ class Linted:
             start = len(text) - len(text.lstrip()) if text.strip() else 0
             self.found.append(Finding(NOT_JSON, *other, offset=start))
             return
-        self.found += self.text.found
+        self.take(self.text.found)
         if self.text.is_read:
             self.look_into(self.text.document)
 
+    def take(self, findings):
+        """Takes findings over, and tells how many were left out of them."""
+        self.found += findings
+        if getattr(findings, "left_out", 0):
+            last = findings[-1]
+            what = f"{findings.left_out} more findings are left out" if last.status != NOT_JSON else "what stands behind is left out"
+            more = Finding(last.status, what, f"mend the {len(findings)} before first", last.path, last.is_key, last.offset)
+            self.found.append(more)
+
     def look_into(self, document):
         nearest = Nearest()
-        self.found += keys_that_stand_twice(document, self.text)
+        if isinstance(document, (dict, list)):
+            self.take(keys_that_stand_twice(document, self.text))
         form = Form(nearest)
         form.document(document)
-        self.found += form.found
+        self.take(form.found)
         if form.found or self.text.is_guessed:
             return
         checks = Checks(document, nearest)
         checks.all()
         cautions = Cautions(checks)
         cautions.all(not checks.found)
-        self.found += checks.found + cautions.found
+        self.take(checks.found)
+        self.take(cautions.found)
 
     def hear(self, given, program):
         """Hears the program, whose word is the last one."""

@@ -3,7 +3,7 @@ import json
 import re
 
 WARNING, READ_FAULT, TOO_LONG, NOT_JSON, FORM, CHECK = 0, 3, 4, 5, 6, 7
-MOST_SHOWN, MOST_LISTED = 40, 8
+MOST_SHOWN, MOST_LISTED, MOST_FOUND = 40, 8, 2000
 
 
 class Finding:
@@ -28,6 +28,20 @@ class Finding:
     def likeness(self):
         """What is equal in findings that differ in the item of a list alone."""
         return self.status, self.what, tuple(it for it in self.path if not isinstance(it, int))
+
+
+class Findings(list):
+    """A list of findings that takes so many, and then counts those that it leaves out."""
+
+    def __init__(self):
+        super().__init__()
+        self.left_out = 0
+
+    def append(self, finding):
+        if len(self) < MOST_FOUND:
+            super().append(finding)
+        else:
+            self.left_out += 1
 
 
 def printable(text):

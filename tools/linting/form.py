@@ -2,7 +2,7 @@
 import re
 
 from linting import words
-from linting.findings import FORM, Finding, as_json, counted, cut, listed, path_text, printable, quoted
+from linting.findings import FORM, Finding, Findings, as_json, counted, cut, listed, path_text, printable, quoted
 from linting.reading import LEAST_INTEGER, MOST_INTEGER, Odd
 
 MISSING, UNKNOWN, WRONG_KIND, BAD_NAME, OUT_OF_RANGE, EMPTY, NOT_TEXT, RAGGED = range(1, 9)
@@ -76,7 +76,7 @@ class Form:
     """Goes through a document. `found` has the faults of its form, in the order in which the program meets them."""
 
     def __init__(self, nearest):
-        self.found, self.nearest = [], nearest
+        self.found, self.nearest = Findings(), nearest
 
     def tell(self, fault, path, what, mend, at=None, is_key=False):
         """Tells a fault at a path; the place that is shown is that of `at` where the path itself isn't there."""

@@ -2,7 +2,7 @@
 import bisect
 import re
 
-from linting.findings import NOT_JSON, Finding, cut, printable, quoted
+from linting.findings import NOT_JSON, Finding, Findings, cut, printable, quoted
 
 MOST_NESTED = 127
 
@@ -39,7 +39,7 @@ class Mender:
     """Goes through a text once. `found` has what isn't JSON; `is_guessed` says that a value was put in the place of what was there."""
 
     def __init__(self, text):
-        self.text, self.found, self.is_guessed = text, [], False
+        self.text, self.found, self.is_guessed = text, Findings(), False
         self.pieces, self.kept = [], 0
         self.open = []  # the open brackets, each with its offset
 
@@ -55,6 +55,8 @@ class Mender:
 
     def tell(self, offset, what, mend):
         self.found.append(Finding(NOT_JSON, what, mend, offset=offset))
+        if self.found.left_out:
+            raise Broken
 
     def stop(self, offset, what, mend):
         self.tell(offset, what, mend)

@@ -144,10 +144,10 @@ class Text:
                 offset = self.mended.offset(offset)
             it.line, it.column = self.line_and_column(offset)
 
-    def keys_of(self, path):
-        """The lines in which a key that stands several times stands."""
-        keys = places(self.mended.text, [path])[path][2]
-        return [self.line_and_column(self.mended.offset(it))[0] for it in keys]
+    def lines_of_keys(self, paths):
+        """For each path the lines in which its key stands, of which there may be several."""
+        found = places(self.mended.text, paths)
+        return [[self.line_and_column(self.mended.offset(it))[0] for it in found[path][2]] for path in paths]
 
 
 def places(text, paths):
