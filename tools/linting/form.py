@@ -165,7 +165,9 @@ class Form:
         """The items of an array; tells what isn't right of it."""
         if not isinstance(thing, list):
             mend = f"write {SAMPLES[what]}"
-            if isinstance(thing, (str, dict)) and as_json(thing, 60):
+            if what == "names of steps" and isinstance(thing, dict) and as_json(list(thing), 60):
+                mend = f"write {as_json(list(thing))}"
+            elif isinstance(thing, (str, dict)) and as_json(thing, 60):
                 mend = f"put it in brackets: [{as_json(thing, 60)}]"
             self.tell(WRONG_KIND, path, f"{kind_of(thing)} stands where a list of {what} must stand", mend)
             return []
@@ -285,9 +287,9 @@ class Form:
 
     def port(self, path, port):
         if isinstance(port, str) or (isinstance(port, dict) and port and set(port) <= set(FEEDS) | {"port"}):
-            feed = as_json(port, 60) if isinstance(port, dict) else self.feed_meant(port, FEEDS)
+            feed = as_json(port, 60) if isinstance(port, dict) else self.feed_meant(port, LINKS)
             if isinstance(port, str):
-                what = f"a text stands where {SAMPLES['an input port']} must stand, an object"
+                what = "a text stands where an input port must stand, an object"
                 self.tell(WRONG_KIND, path, what, f'write {{"depth": 0, "from": {feed}}}')
                 return
             for key in sorted(port):

@@ -309,7 +309,7 @@ class Mender:
         elif re.fullmatch(r"-?0[0-9]+", whole[0]):
             self.tell(i, f"the number {printable(cut(whole[0]))} begins with a zero", 'take it out, or give a text, as "007"')
         elif whole[0] == "-" and self.text.startswith("-Infinity", i):
-            self.tell(i, "-Infinity, which JSON hasn't", OTHER_WORDS["Infinity"][1])
+            self.tell(i, "-Infinity, which is no JSON", OTHER_WORDS["Infinity"][1])
             self.replace(i, i + 9, "1", True)
             return i + 9
         else:
@@ -324,7 +324,7 @@ class Mender:
             return end
         for right in sorted(OTHER_WORDS, key=len, reverse=True):
             if word == right:
-                self.tell(found.start(), f"{word}, which JSON hasn't", OTHER_WORDS[word][1])
+                self.tell(found.start(), f"{word}, which is no JSON", OTHER_WORDS[word][1])
                 self.replace(found.start(), end, OTHER_WORDS[word][0], True)
                 return end
         self.tell(found.start(), f"{printable(cut(word))} without quotes", "a text stands in double quotes")

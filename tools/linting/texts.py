@@ -44,13 +44,16 @@ def text_of(given):
         return given.decode("utf-8"), found
     except UnicodeDecodeError as error:
         bad, first = given[error.start], error.start
-    text = given.decode("utf-8", "replace")
-    if b"\x00" in given[:4096] or text.count("\N{REPLACEMENT CHARACTER}") > len(text) // 4:
+    # (each such byte is read as the character that it is in Latin-1)
+    text, wrong = re.subn("[\udc80-\udcff]", lambda it: chr(ord(it[0]) - 0xDC00), given.decode("utf-8", "surrogateescape"))
+    if b"\x00" in given[:4096] or wrong > len(text) // 4:
         return None, [Finding(NOT_JSON, "these are no text but other bytes", "a document is one JSON text in UTF-8", offset=0)]
     place = len(given[:first].decode("utf-8"))
     what = f"the byte 0x{bad:02X} is no UTF-8"
     if bad >= 0xA0:
         what += f" (in Latin-1 it is {bytes([bad]).decode('latin-1')!r})"
+    if wrong > 1:
+        what += f", and {wrong - 1} more are none"
     found.append(Finding(NOT_JSON, what, "is the text Latin-1? Save it as UTF-8: iconv -f LATIN1 -t UTF-8", offset=place))
     return text, found
 
