@@ -27,7 +27,8 @@ class Finding:
 
     def likeness(self):
         """What is equal in findings that differ in the item of a list alone."""
-        return self.status, self.what, tuple(it for it in self.path if not isinstance(it, int))
+        kind = self.said.split(" at ")[0] or self.what
+        return self.status, kind, tuple(it for it in self.path if not isinstance(it, int))
 
 
 class Findings(list):

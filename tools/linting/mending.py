@@ -17,8 +17,11 @@ QUOTED_OTHERWISE = re.compile(r"'((?:[^'\\\n]|\\[^\n])*)'|[“”„«]([^“”
 NUMBER = re.compile(r"-?(?:0|[1-9][0-9]*)(?:\.[0-9]+)?(?:[eE][+-]?[0-9]+)?")
 LIKE_A_NUMBER = re.compile(r"[+-]?\.?[0-9][\w.+-]*|[+-]?\.[0-9]\w*|-")
 WORD = re.compile(r"[^\W\d][\w./:-]*")
-ESCAPES = re.compile(r'\\(?:["\\/bfnrt]|u[0-9a-fA-F]{4})|(\\)|([\x00-\x1f])')
-SURROGATES = re.compile(r"\\u[dD][89abAB][0-9a-fA-F]{2}\\u[dD][c-fC-F][0-9a-fA-F]{2}|\\\\|(\\u[dD][89a-fA-F][0-9a-fA-F]{2})")
+PAIR = r"\\u[dD][89abAB][0-9a-fA-F]{2}\\u[dD][c-fC-F][0-9a-fA-F]{2}"
+HALF = r"\\u[dD][89a-fA-F][0-9a-fA-F]{2}"
+ESCAPES = re.compile(
+    rf'{PAIR}|(?P<half>{HALF})|\\(?:["\\/bfnrt]|u[0-9a-fA-F]{{4}})|(?P<escape>\\)|(?P<control>[\x00-\x1f])'
+)
 WORDS = {"true": "true", "false": "false", "null": "null"}
 OTHER_WORDS = {
     "True": ("true", "Python's json.dumps writes JSON, str and print don't"),
@@ -221,14 +224,17 @@ class Mender:
             behind = self.room(i + 1)
             if self.text[behind : behind + 1] == ("}" if inside == "{" else "]"):
                 if sign == ",":
-                    self.take_comma_out(i)
+                    self.tell(i, "a comma before a closing bracket", "take it out")
+                self.take_comma_out(i)
                 return behind, "next"
             return behind, due
         if sign == ":":
             mend = "only an object has keys: was { meant for [?" if inside == "[" else "is a quote or comma missing before it?"
             self.stop(i, "a colon where a comma or bracket must stand", mend)
         if sign in '"{[-\'“‘' or sign.isalnum():
-            behind = len(self.text[:i].rstrip())
+            behind = i
+            while self.text[behind - 1] in " \t\r\n":
+                behind -= 1
             token = re.compile(r'"[^"\n]{0,30}"?|[\w.+-]+|.').match(self.text, i)
             self.tell(behind, f"no comma before {printable(token[0])}", "put one here")
             self.replace(i, i, ",")
@@ -237,7 +243,6 @@ class Mender:
 
     def take_comma_out(self, i):
         """A comma before a closing bracket, which stands in the pieces already where spaces behind it were mended."""
-        self.tell(i, "a comma before a closing bracket", "take it out")
         if self.kept <= i:
             self.replace(i, i + 1, " ")
             return
@@ -252,8 +257,8 @@ class Mender:
         due = "}" if bracket == "{" else "]"
         if self.text[i] != due:
             line = self.text.count("\n", 0, offset) + 1
-            self.stop(i, f"{quoted(self.text[i])} stands where {quoted(due)} must stand",
-                      f"it has to close {quoted(bracket)} of line {line}: is a bracket missing before it, or one too many?")
+            mend = f"it has to close {quoted(bracket)} of line {line}: is a bracket missing before it, or one too many?"
+            self.stop(i, f"{quoted(self.text[i])} stands where {quoted(due)} must stand", mend)
         self.open.pop()
         return i + 1, self.after_value()
 
@@ -261,35 +266,28 @@ class Mender:
 
     def string(self, i):
         found = STRING.match(self.text, i)
-        if found:
-            self.surrogates(i, found[0])
+        if found and "\\u" not in found[0]:
             return found.end()
-        loose = LOOSE_STRING.match(self.text, i)
-        if not loose:
+        found = LOOSE_STRING.match(self.text, i)
+        if not found:
             end = self.text.find("\n", i)
-            self.stop(i, "a text that doesn't end in its line", 'close it with ", and write a line end in a text as \\n'
-                      + (' and a " as \\"' if '"' in self.text[i + 1 : end if end >= 0 else None] else ""))
-        for odd in ESCAPES.finditer(loose[0]):
-            at = i + odd.start()
-            if odd[1]:
+            more = ' and a " as \\"' if '"' in self.text[i + 1 : end if end >= 0 else None] else ""
+            mend = f'close it with ", and write a line end in a text as \\n{more}'
+            self.stop(i, "a text that doesn't end in its line", mend)
+        for odd in ESCAPES.finditer(self.text, i, found.end()):
+            at = odd.start()
+            if odd["half"]:
+                self.tell(at, f"{odd[0]} is half of a character", "write the character itself, or both halves")
+                self.replace(at, at + 6, "\\ufffd", True)
+            elif odd["escape"]:
                 self.tell(at, f"{printable(self.text[at : at + 2])} is no escape", "write \\\\ for one \\")
                 self.replace(at, at + 1, "\\\\")
-            elif odd[2]:
-                escape = {"\t": "\\t", "\r": "\\r"}.get(odd[2], f"\\u{ord(odd[2]):04x}")
-                name = "a tabulator" if odd[2] == "\t" else f"the control character U+{ord(odd[2]):04X}"
+            elif odd["control"]:
+                escape = {"\t": "\\t", "\r": "\\r"}.get(odd[0], f"\\u{ord(odd[0]):04x}")
+                name = "a tabulator" if odd[0] == "\t" else f"the control character U+{ord(odd[0]):04X}"
                 self.tell(at, f"{name} in a text", f"write it as {escape}")
                 self.replace(at, at + 1, escape)
-        self.surrogates(i, loose[0])
-        return loose.end()
-
-    def surrogates(self, i, text):
-        if "\\u" not in text:
-            return
-        for half in SURROGATES.finditer(text):
-            if half[1]:
-                at = i + half.start(1)
-                self.tell(at, f"{half[1]} is half of a character", "write the character itself, or both halves")
-                self.replace(at, at + 6, "\\ufffd", True)
+        return found.end()
 
     def quoted_otherwise(self, found):
         sign, inner = found[0][0], next(it for it in found.groups() if it is not None)
@@ -322,11 +320,10 @@ class Mender:
         word, end = found[0], found.end()
         if word in WORDS:
             return end
-        for right in sorted(OTHER_WORDS, key=len, reverse=True):
-            if word == right:
-                self.tell(found.start(), f"{word}, which is no JSON", OTHER_WORDS[word][1])
-                self.replace(found.start(), end, OTHER_WORDS[word][0], True)
-                return end
+        if word in OTHER_WORDS:
+            self.tell(found.start(), f"{word}, which is no JSON", OTHER_WORDS[word][1])
+            self.replace(found.start(), end, OTHER_WORDS[word][0], True)
+            return end
         self.tell(found.start(), f"{printable(cut(word))} without quotes", "a text stands in double quotes")
         self.replace(found.start(), end, f'"{word}"')
         return end
