@@ -39,10 +39,13 @@ class Findings(list):
         self.left_out = 0
 
     def append(self, finding):
-        if len(self) < MOST_FOUND:
-            super().append(finding)
-        else:
+        if self.are_enough():
             self.left_out += 1
+        else:
+            super().append(finding)
+
+    def are_enough(self):
+        return len(self) >= MOST_FOUND
 
 
 def printable(text):

@@ -92,6 +92,9 @@ class Form:
             return None
         fields, meant = FIELDS[what], set()
         for key in sorted(it for it in thing if it not in fields):
+            if self.found.are_enough():
+                self.found.left_out += 1
+                continue
             whose, mend, here = self.field_meant(key, thing, fields, what)
             meant.add(here)
             self.no_field(path, key, what, mend, whose)

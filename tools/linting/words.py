@@ -4,7 +4,7 @@ import re
 
 from linting.findings import listed, quoted
 
-MOST_LOOKED_AT, LIKELY = 200_000, 0.6
+MOST_LOOKED_AT, LIKELY = 100_000, 0.6
 
 
 class Nearest:
@@ -15,10 +15,10 @@ class Nearest:
 
     def first(self, word, words):
         """The words, nearest first, and whether the first one is likely meant."""
-        words = sorted(words)
         self.looked_at += len(words)
         if self.looked_at > MOST_LOOKED_AT:
-            return words, False
+            return list(words), False
+        words = sorted(words)
         close = difflib.get_close_matches(folded(word), {folded(it) for it in words}, 8, LIKELY)
         scores = {it: len(close) - at for at, it in enumerate(close)}
         near = sorted((it for it in words if scores.get(folded(it))), key=lambda it: (-scores[folded(it)], it))
