@@ -149,9 +149,9 @@ class Signature:
         )
         roles = f" ({', '.join(self.service.roles)})" if self.service.roles else ""
         mend = f"give it {counted(number, 'port')} of depth {self.wants()}{roles}"
-        if self.name in ("concat", "join", "add") and len(self.ports) > number:
-            mend += '; several texts go together by a "merge" at one port, and "join"' if self.name != "add" else ""
-        if self.name in ("count", "distinct", "reverse", "flatten") and len(self.ports) > number:
+        if len(self.ports) > number and self.name in ("concat", "join"):
+            mend += '; several texts go together by a "merge" at one port of "join"'
+        elif len(self.ports) > number and self.service.takes[0] in (1, 2):
             mend += '; several links go together by a "merge" at one port'
         self.tell(what, mend)
 
@@ -187,13 +187,13 @@ class Signature:
         first, second = self.ports
         roles = f"{self.service.roles[0]} is {quoted(first)}, {self.service.roles[1]} {quoted(second)}"
         order = f"ports go to {quoted(self.name)} in byte order of their names, so {roles}"
-        mend = f"lse rename them, as {quoted('a_' + second)} and {quoted('b_' + first)}"
+        rename = f"rename them, as {quoted('a_' + second)} and {quoted('b_' + first)}"
         if list(inputs_of(self.said)) == [second, first]:
             what = f"the ports are written in another order than they are taken: {order}"
-            self.tell(what, f"is that meant? Write them in this order; e{mend}", (*self.path, "inputs", second), True)
+            self.tell(what, f"is that meant? Write them in this order; else {rename}", (*self.path, "inputs", second), True)
         elif self.are_named_otherwise() or self.is_fixed_first(first, second):
             what = f"the ports seem to be in the wrong order: {order}"
-            self.tell(what, f"is that meant? E{mend}", (*self.path, "inputs", first), True)
+            self.tell(what, f"is that meant? Else {rename}", (*self.path, "inputs", first), True)
 
     def are_named_otherwise(self):
         """Whether the first port has a word of the second input in its name, or the other way round, and the other port doesn't."""
@@ -258,7 +258,8 @@ class Dots:
         self.counted = 0
 
     def all(self):
-        if not any("dot" in str(said.get("strategy", "")) for said in steps_of(self.flow).values()):
+        trees = [said.get("strategy", {}) for said in steps_of(self.flow).values()]
+        if not any("dot" in path for tree in trees if tree for path, _ in leaves_of(tree)):
             return
         for step in self.checks.ranked[self.name]:
             said = steps_of(self.flow)[step]

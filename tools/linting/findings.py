@@ -76,7 +76,7 @@ def counted(number, one, many=None):
 
 def as_json(thing, most=100):
     """The JSON text of a thing, and nothing where it is too long to be shown."""
-    text = json.dumps(thing, ensure_ascii=False)
+    text = json.dumps(thing, ensure_ascii=False, default=lambda odd: float(odd.text))
     return printable(text) if len(text) <= most else ""
 
 

@@ -29,6 +29,7 @@ FIELDS = {
 }
 FEEDS = {"input": "a feed from an input", "step": "a feed from a step", "merge": "a merge", "constant": "a constant"}
 LINKS = {"input": "a feed from an input", "step": "a feed from a step"}
+NAMED_BY = {"input": "the name of a flow input", "step": "the name of a step", "port": "the name of a step's output"}
 TREES = {"cross": "a cross", "dot": "a dot"}
 ACTIVITIES = {"service": "a service", "flow": "a nested flow"}
 
@@ -184,7 +185,8 @@ class Form:
 
     def name(self, path, thing, what, mend=None):
         if not isinstance(thing, str):
-            self.tell(WRONG_KIND, path, f"{kind_of(thing)} stands where {what} must stand, a text", mend or "write it in double quotes")
+            mend = mend or ("write it in double quotes" if isinstance(thing, (int, Odd)) else 'write it as a text, as "NAME"')
+            self.tell(WRONG_KIND, path, f"{kind_of(thing)} stands where {what} must stand, a text", mend)
         elif not NAME.fullmatch(thing):
             self.no_name(path, thing, False, mend)
 
@@ -277,7 +279,7 @@ class Form:
                 self.port((*path, "inputs", name), port)
         self.depths((*path, "outputs"), step, "outputs", "output ports")
         if "strategy" in step:
-            self.tree((*path, "strategy"), step["strategy"], step)
+            self.tree((*path, "strategy"), step["strategy"])
         if self.has(path, step, "activities", "a step", meant):
             for position, activity in self.listed((*path, "activities"), step["activities"], "activities", 1, 8):
                 self.activity((*path, "activities", position), activity)
@@ -327,7 +329,8 @@ class Form:
                     mend = f"take it out; {ACTIVITIES[form]} is its name alone"
                 self.no_field(path, key, "an activity", mend, whose)
         if form not in activity and not activity:
-            self.tell(MISSING, (*path, form), "an activity has neither \"service\" nor \"flow\"", f"write {SAMPLES['an activity']}", path)
+            what = 'an activity has neither "service" nor "flow"'
+            self.tell(MISSING, (*path, form), what, f"write {SAMPLES['an activity']}", path)
         elif form in activity:
             self.name((*path, form), activity[form], f"the name of {ACTIVITIES[form]}")
 
@@ -371,8 +374,7 @@ class Form:
             elif form == "constant":
                 self.value((*path, "constant"), feed["constant"])
             else:
-                self.name((*path, key), feed[key], {"input": "the name of a flow input", "step": "the name of a step",
-                                                    "port": "the name of a step's output"}[key])
+                self.name((*path, key), feed[key], NAMED_BY[key])
 
     def field_of_feed(self, path, key, feed, form, forms):
         """Tells a key in a feed that is no field there."""
@@ -393,10 +395,11 @@ class Form:
             whose, mend, meant = self.field_meant(key, feed, forms, what)
             inner = feed[key]
             if key in ("source", "from") and isinstance(inner, (dict, str)):
-                mend = f"a feed is its link itself: write {as_json(inner) if isinstance(inner, dict) else self.feed_meant(inner, forms)}"
+                link = as_json(inner) if isinstance(inner, dict) else self.feed_meant(inner, forms)
+                mend = f"a feed is its link itself: write {link or SAMPLES['a link']}"
             self.no_field(path, key, what, mend, whose)
 
-    def tree(self, path, tree, step, is_top=True):
+    def tree(self, path, tree):
         if isinstance(tree, str):
             self.name(path, tree, "the name of a port")
             return
@@ -410,7 +413,7 @@ class Form:
         form = next((it for it in TREES if it in tree), "cross")
         for key in sorted(it for it in tree if it != form):
             if key in TREES:
-                mend = f'put one into the other: {{"cross": [{{"dot": ["a", "b"]}}, "c"]}}'
+                mend = 'put one into the other, as {"cross": [{"dot": ["a", "b"]}, "c"]}'
                 self.tell(UNKNOWN, (*path, key), f"{quoted(key)} stands beside {quoted(form)} in one strategy", mend, is_key=True)
             else:
                 whose, mend, here = self.field_meant(key, tree, TREES, "a strategy")
@@ -419,7 +422,7 @@ class Form:
                 self.no_field(path, key, "a strategy", mend, whose)
         if form in tree:
             for position, child in self.listed((*path, form), tree[form], "ports and trees", 1, 16):
-                self.tree((*path, form, position), child, step, False)
+                self.tree((*path, form, position), child)
         elif not tree:
             self.tell(MISSING, (*path, form), "a strategy without a field", f"write {SAMPLES['a strategy']}, or none", path)
 
@@ -457,7 +460,9 @@ class Form:
         usual = max((it for it in counts if it != lone), default=lone, key=lambda it: counts[it])
         kinds = " and ".join(deep(it) for it in sorted(counts))
         mend = f"the item {at} of it is {deep_one(lone)}, the others are {deep(usual)}"
-        if lone < usual:
+        if len(counts) > 2:
+            mend = f"the items of a list are all equally deep: the item {at} of it is {deep_one(lone)}, most are {deep(usual)}"
+        elif lone < usual:
             item = as_json(value[at], 40)
             mend += ": put it in a list of its own"
             if item and usual - lone < 4:
