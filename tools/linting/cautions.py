@@ -1,7 +1,7 @@
 """Warnings: what the program accepts, and what then fails job by job or does other than was meant."""
 import re
 
-from linting.checks import feeds_of, flows_opened_by, inputs_of, leaves_of, links_of, outputs_of, shown_tree, steps_of, strategy_of
+from linting.checks import feeds_of, flows_opened_by, inputs_of, leaves_of, links_of, outputs_of, steps_of, strategy_of
 from linting.findings import MOST_FOUND, WARNING, Finding, Findings, counted, quoted
 from linting.services import ANY, PORT_WORDS, SERVICES, is_number
 from linting.values import MOST_COUNTED, below, depth_of, parting, shape_of, together, top

@@ -2,7 +2,7 @@
 import heapq
 
 from linting import words
-from linting.findings import CHECK, Finding, Findings, as_json, counted, listed, quoted
+from linting.findings import CHECK, Finding, Findings, as_json, listed, quoted
 from linting.form import MOST_DEPTH
 from linting.services import SERVICES
 from linting.values import depth_of, has_depth

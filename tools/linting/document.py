@@ -1,7 +1,7 @@
 """All that lint finds in one document."""
 from linting.cautions import Cautions, keys_that_stand_twice
 from linting.checks import Checks
-from linting.findings import CHECK, FORM, NOT_JSON, READ_FAULT, TOO_LONG, WARNING, Finding, printable, quoted
+from linting.findings import CHECK, FORM, NOT_JSON, READ_FAULT, TOO_LONG, WARNING, Finding, printable
 from linting.form import Form
 from linting.program import CannotAsk, asked, place_of
 from linting.reading import Text
@@ -21,9 +21,9 @@ class Linted:
     def __init__(self, given, program=None):
         self.text, self.found, self.doubt = None, [], ""
         if len(given) > MOST_BYTES:
-            more = "the document has more than 16777216 bytes"
-            self.found.append(Finding(TOO_LONG, more, "that is the most that is read: give it less data, or several runs", offset=0,
-                                      said="taverna: input longer than 16777216 bytes"))
+            what, mend = f"the document has more than {MOST_BYTES} bytes", "that is the most that is read: give it less data"
+            said = f"taverna: input longer than {MOST_BYTES} bytes"
+            self.found.append(Finding(TOO_LONG, what, mend, offset=0, said=said))
         else:
             self.look(given)
         self.status = next((it for it in (TOO_LONG, NOT_JSON, FORM, CHECK) if any(found.status == it for found in self.found)), 0)
@@ -92,9 +92,10 @@ class Linted:
             return
         if not any(it.said == self.line for it in errors):
             path, is_key = place_of(self.line)
-            status = own and f", where lint by itself would have ended with {own}" * (own != self.status)
             what = f"the program refuses this: {printable(self.line)}"
-            mend = f"lint didn't find that by itself, and the program has the last word{status or ''}"
+            mend = "lint didn't find that by itself, and the program has the last word"
+            if own not in (0, self.status):
+                mend += f" (by itself lint would have ended with {own})"
             it = Finding(self.status, what, mend, path, is_key, said=self.line)
             if self.text is None or not self.text.is_read:
                 it.offset = 0

@@ -3,7 +3,7 @@ import re
 
 from linting import words
 from linting.findings import FORM, Finding, Findings, as_json, counted, cut, listed, path_text, printable, quoted
-from linting.reading import LEAST_INTEGER, MOST_INTEGER, Odd
+from linting.reading import Odd
 
 MISSING, UNKNOWN, WRONG_KIND, BAD_NAME, OUT_OF_RANGE, EMPTY, NOT_TEXT, RAGGED = range(1, 9)
 WORDS = ("missing", "unknown", "wrong kind", "bad name", "out of range", "empty", "not text", "ragged")
@@ -183,18 +183,18 @@ class Form:
         if not NAME.fullmatch(path[-1]):
             self.no_name(path, path[-1], True)
 
-    def name(self, path, thing, what, mend=None):
+    def name(self, path, thing, what):
         if not isinstance(thing, str):
-            mend = mend or ("write it in double quotes" if isinstance(thing, (int, Odd)) else 'write it as a text, as "NAME"')
+            mend = "write it in double quotes" if isinstance(thing, (int, Odd)) else 'write it as a text, as "NAME"'
             self.tell(WRONG_KIND, path, f"{kind_of(thing)} stands where {what} must stand, a text", mend)
         elif not NAME.fullmatch(thing):
-            self.no_name(path, thing, False, mend)
+            self.no_name(path, thing, False)
 
-    def no_name(self, path, text, is_key, mend=None):
+    def no_name(self, path, text, is_key):
         better = re.sub(r"[^A-Za-z0-9_]", "_", text)[:64]
         rule = "a name is 1 to 64 of the letters, digits and _ of ASCII"
         why = f"has {counted(len(text), 'character')}" if len(text) > 64 else "is no name"
-        mend = mend or (f"{rule}, as {quoted(better)}" if NAME.fullmatch(better) and better.strip("_") else rule)
+        mend = f"{rule}, as {quoted(better)}" if NAME.fullmatch(better) and better.strip("_") else rule
         self.tell(BAD_NAME, path, f"{quoted(text)} {why}", mend, is_key=is_key)
 
     def number(self, path, thing, what, least, most):
