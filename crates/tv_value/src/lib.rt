@@ -24,8 +24,6 @@ mod order;
 mod place;
 mod reading;
 mod sequence;
-#[cfg(test)]
-mod tests;
 mod text;
 mod tree;
 mod value;
