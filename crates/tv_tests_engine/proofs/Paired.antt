@@ -5,7 +5,7 @@ use Rattle.tv_value.specs.Values.{Name}
 use Rattle.tv_value.specs.Strategies.{Strategy, dot, no_strategies, port, strategy}
 use Rattle.tv_strategy.specs.Conditions.{Suits, HasPlaces, number_of}
 use Rattle.tv_strategy.specs.Measures.{DotsAgree, strategy_depth}
-use Rattle.tv_strategy.specs.Iterations.{split_of}
+use Rattle.tv_strategy.specs.Splits.{split as split_of}
 
 abbrev paired : Strategy
 paired = dot (strategy (port (97 ∷ [])) (strategy (port (98 ∷ [])) no_strategies))

@@ -148,7 +148,7 @@ fn seen(
     ))
 }
 
-static OUT_OF_ORDER: [Step; 6] = [
+const OUT_OF_ORDER: [Step; 6] = [
     (&[1], Event::Arrive(5), Came::Whole(Some(1))),
     (&[0], Event::Arrive(7), Came::Whole(Some(1))),
     (&[], Event::Close(2), Came::Whole(Some(0))),
@@ -157,7 +157,7 @@ static OUT_OF_ORDER: [Step; 6] = [
     (&[2], Event::Arrive(8), Came::NoPlace),
 ];
 
-static TOO_SHORT: [Step; 4] = [
+const TOO_SHORT: [Step; 4] = [
     (&[1], Event::Arrive(5), Came::Whole(Some(1))),
     (&[], Event::Close(1), Came::Short(1, 2)),
     (&[], Event::Close(2), Came::Whole(None)),
@@ -165,7 +165,7 @@ static TOO_SHORT: [Step; 4] = [
 ];
 
 // Inner lists that are closed before and after their parts come, an empty one, and a fault in a list's place.
-static IN_LISTS: [Step; 13] = [
+const IN_LISTS: [Step; 13] = [
     (&[2, 1], Event::Arrive(5), Came::Whole(Some(2))),
     (&[2, 1, 0], Event::Arrive(5), Came::NoPlace),
     (&[2, 1], Event::Close(0), Came::NoPlace),
@@ -181,12 +181,12 @@ static IN_LISTS: [Step; 13] = [
     (&[2, 0], Event::Arrive(6), Came::Whole(Some(0))),
 ];
 
-static MARKED_INSIDE: [Step; 2] = [
+const MARKED_INSIDE: [Step; 2] = [
     (&[1, 0], Event::Arrive(9), Came::Whole(Some(2))),
     (&[1], Event::Close(1), Came::Whole(Some(1))),
 ];
 
-static KNOWN: [Look; 5] = [
+const KNOWN: [Look; 5] = [
     (&[], PartKind::Growing, None, false, true),
     (&[0], PartKind::Wanting, None, false, false),
     (&[1], PartKind::Closed(1), None, true, true),
@@ -195,7 +195,7 @@ static KNOWN: [Look; 5] = [
 ];
 
 /// The depths of trees, what is done to them, and what is looked at then.
-static CASES: [(u32, &[Step], &[Look]); 4] = [
+const CASES: [(u32, &[Step], &[Look]); 4] = [
     (1, &OUT_OF_ORDER, &[]),
     (1, &TOO_SHORT, &[]),
     (2, &IN_LISTS, &[]),

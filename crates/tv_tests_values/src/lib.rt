@@ -3,6 +3,7 @@
 //! - `values`: values of tests, as they are written
 //! - `documents`: documents that are read, copied and written again
 //! - `services`: the local services, case by case
+//! - `scripted`: a gate that answers by a script
 //! - `judging`: outcomes against the outputs that are due
 //! - `generated`: generated documents against their texts
 #![tactic(auto)]
@@ -13,6 +14,8 @@ mod documents;
 mod generated;
 #[cfg(test)]
 mod judging;
+#[cfg(test)]
+mod scripted;
 #[cfg(test)]
 mod services;
 #[cfg(test)]
