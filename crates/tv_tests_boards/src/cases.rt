@@ -304,7 +304,7 @@ fn each_act_says_what_is_due(rt: HostRuntime) -> Result<(), Fail> {
     for (worked, script, said) in &CASES {
         let play = played(rt.alloc(), worked.document, script)?;
         let due = (*said, worked.line);
-        assert_eq!(rt; (play.said(), play.line()), due, "{script}");
+        assert_eq!(rt; (play.said.as_str(), play.line.as_str()), due, "{script}");
     }
     Ok(())
 }

@@ -62,7 +62,11 @@ fn played(alloc: Global, document: &str, script: &str, here: &str) -> Result<Pla
 fn answers_of_other_boards(rt: HostRuntime) -> Result<(), Fail> {
     for (document, script, here, said) in CASES {
         let play = played(rt.alloc(), document, script, here)?;
-        assert_eq!(rt; (play.said(), play.line()), (said, LINE), "{document}");
+        assert_eq!(rt;
+            (play.said.as_str(), play.line.as_str()),
+            (said, LINE),
+            "{document}"
+        );
     }
     Ok(())
 }

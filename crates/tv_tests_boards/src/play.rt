@@ -43,8 +43,10 @@ pub(crate) struct Play {
     alloc: Global,
     board: Board<LocalServices>,
     answers: Vec<Option<Given>>,
-    said: String,
-    line: Text,
+    /// What was said.
+    pub(crate) said: String,
+    /// The result line, once the run is worked off.
+    pub(crate) line: Text,
 }
 
 /// What a board can run of the document of a text.
@@ -80,16 +82,6 @@ impl Play {
         })
     }
 
-    /// What was said.
-    pub(crate) fn said(&self) -> &str {
-        self.said.as_str()
-    }
-
-    /// The result line, once the run is worked off.
-    pub(crate) fn line(&self) -> &str {
-        self.line.as_str()
-    }
-
     /// Plays a script.
     pub(crate) fn acts(&mut self, script: &str) -> Result<(), NoMemory> {
         for act in script.split(' ') {
@@ -114,7 +106,12 @@ impl Play {
             "recall" => write!(self.said, "{} ", self.board.recall_all()?),
             "done" => write!(self.said, "{} ", self.board.is_done()),
             "keeps" => write!(self.said, "{} ", self.board.live() > 0),
-            "totals" => self.tell_totals(),
+            "totals" => {
+                let totals = self.board.totals();
+                let (attempts, bounced) = (totals.attempts, totals.bounced);
+                let (failed, jobs) = (totals.failed, totals.jobs);
+                write!(self.said, "{attempts} {bounced} {failed} {jobs} ")
+            }
             "history" => push_history(&mut self.said, self.board.history()),
             "" => Ok(()),
             _ => self.said.push_str("? "),
@@ -134,7 +131,7 @@ impl Play {
             (_, Some(ticket)) => self.ask(&ticket, act == "alone"),
             ("accept", _) => self.accept(number as usize),
             ("name", _) => self.tell_name(number),
-            _ => self.tell_noted(of),
+            _ => push_noted(self.alloc, &mut self.said, &self.board.records()?, of),
         }
     }
 
@@ -155,24 +152,12 @@ impl Play {
         })
     }
 
-    fn tell_totals(&mut self) -> Result<(), AllocError> {
-        let totals = self.board.totals();
-        let (attempts, bounced) = (totals.attempts, totals.bounced);
-        let (failed, jobs) = (totals.failed, totals.jobs);
-        write!(self.said, "{attempts} {bounced} {failed} {jobs} ")
-    }
-
     fn tell_name(&mut self, job: u64) -> Result<(), NoMemory> {
         if let Some(name) = self.board.name_of(job)? {
             self.said.push_str(job_text(self.alloc, &name)?.as_str())?;
             return Ok(self.said.push_str(" ")?);
         }
         Ok(self.said.push_str("none ")?)
-    }
-
-    fn tell_noted(&mut self, step: &str) -> Result<(), NoMemory> {
-        let records = self.board.records()?;
-        push_noted(self.alloc, &mut self.said, &records, step)
     }
 
     fn ask(&mut self, ticket: &Ticket, alone: bool) -> Result<(), NoMemory> {

@@ -56,48 +56,45 @@ pub(crate) fn push_task(
     }
 }
 
-/// An entry: a job with activity and attempt, a list or a passed fault with instance, step and the length of its place.
-fn push_entry(said: &mut String, entry: &Entry) -> Result<(), AllocError> {
-    match entry {
-        Entry::HandedOut {
-            job,
-            activity,
-            attempt,
-        } => write!(said, "out {job}/{activity}/{attempt};"),
-        Entry::Accepted {
-            job,
-            activity,
-            attempt,
-            right,
-        } => write!(said, "in {job}/{activity}/{attempt} {right};"),
-        Entry::Bounced { job } => write!(said, "bounced {job};"),
-        Entry::Closed {
-            instance,
-            step,
-            place,
-            length,
-        } => {
-            let depth = place.as_slice().len();
-            write!(said, "closed {instance}/{step}/{depth} {length};")
-        }
-        Entry::Passed {
-            instance,
-            step,
-            place,
-        } => {
-            let depth = place.as_slice().len();
-            write!(said, "passed {instance}/{step}/{depth};")
-        }
-        Entry::Opened { job, instance } => write!(said, "opened {job} {instance};"),
-        Entry::Ended { instance } => write!(said, "ended {instance};"),
-        Entry::Recalled { count } => write!(said, "recalled {count};"),
-    }
-}
-
-/// The entries of a history, the oldest first.
+/// The entries of a history, the oldest first: a job with activity and attempt, a list or a passed fault with instance, step and
+/// the length of its place.
 pub(crate) fn push_history(said: &mut String, history: &[Entry]) -> Result<(), AllocError> {
     for entry in history {
-        push_entry(said, entry)?;
+        let told = match entry {
+            Entry::HandedOut {
+                job,
+                activity,
+                attempt,
+            } => write!(said, "out {job}/{activity}/{attempt};"),
+            Entry::Accepted {
+                job,
+                activity,
+                attempt,
+                right,
+            } => write!(said, "in {job}/{activity}/{attempt} {right};"),
+            Entry::Bounced { job } => write!(said, "bounced {job};"),
+            Entry::Closed {
+                instance,
+                step,
+                place,
+                length,
+            } => {
+                let depth = place.as_slice().len();
+                write!(said, "closed {instance}/{step}/{depth} {length};")
+            }
+            Entry::Passed {
+                instance,
+                step,
+                place,
+            } => {
+                let depth = place.as_slice().len();
+                write!(said, "passed {instance}/{step}/{depth};")
+            }
+            Entry::Opened { job, instance } => write!(said, "opened {job} {instance};"),
+            Entry::Ended { instance } => write!(said, "ended {instance};"),
+            Entry::Recalled { count } => write!(said, "recalled {count};"),
+        };
+        told?;
     }
     said.push(' ')
 }

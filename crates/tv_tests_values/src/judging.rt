@@ -2,7 +2,7 @@
 //!
 //! A case is what is told, the depths of the outputs, and the outcome: `!` and a text, or `=` and the values, with a bar between
 //! each two.
-use crate::values::values;
+use crate::values::{parted, values};
 use std::alloc::Global;
 use std::test::Fail;
 use tv_dispatch::{Verdict, judge};
@@ -10,7 +10,7 @@ use tv_gate::Outcome;
 use tv_value::{Depths, Name, Sequence, Text};
 
 const CASES: &str = "right|0|=|a
-outcome has 1 values|00|=|a
+outcome has 1 values|0,0|=|a
 outcome value 1 lacks depth 1|1|=|a
 outcome value 1 holds an error|0|=|#
 outcome value 1 holds an error|1|=|#
@@ -21,30 +21,26 @@ outcome has 0 values|0|=
 right||=
 told to fail|0|!|told to fail";
 
-/// Outputs of these depths, a digit each.
+/// Outputs of these depths.
 fn outputs(alloc: Global, depths: &str) -> Result<Depths, Fail> {
     let mut outputs = Vec::new(alloc);
-    for depth in depths.chars() {
-        outputs.push((Name::from_str(alloc, "o")?, depth.to_digit(10).unwrap_or(0)))?;
+    for depth in depths.split(',') {
+        if let Ok(depth) = depth.parse::<u32>() {
+            outputs.push((Name::from_str(alloc, "o")?, depth))?;
+        }
     }
     Ok(Sequence::of(outputs))
 }
 
-fn outcome<'a>(alloc: Global, fields: impl Iterator<Item = &'a str>) -> Result<Outcome, Fail> {
-    let mut fields = fields;
-    if fields.next() == Some("=") {
-        return Ok(Outcome::Good(values(alloc, fields)?));
-    }
-    let why = fields.next().ok_or("no text")?;
-    Ok(Outcome::Bad(Text::from_str(alloc, why)?))
-}
-
 /// What is told, and what is due.
-fn judged<'a>(alloc: Global, case: &'a str) -> Result<(Text, &'a str), Fail> {
-    let mut fields = case.split('|');
-    let due = fields.next().ok_or("nothing is due")?;
-    let outputs = outputs(alloc, fields.next().ok_or("no depths")?)?;
-    let outcome = outcome(alloc, fields)?;
+fn judged(alloc: Global, case: &'static str) -> Result<(Text, &'static str), Fail> {
+    let (due, rest) = case.split_once('|').ok_or("no depths")?;
+    let (depths, rest) = rest.split_once('|').ok_or("no outcome")?;
+    let outputs = outputs(alloc, depths)?;
+    let outcome = match parted(rest) {
+        ("!", why) => Outcome::Bad(Text::from_str(alloc, why.unwrap_or(""))?),
+        (_, written) => Outcome::Good(values(alloc, written)?),
+    };
     match judge(alloc, &outputs, &outcome)? {
         Verdict::Right => Ok((Text::from_str(alloc, "right")?, due)),
         Verdict::Wrong(why) => Ok((why, due)),

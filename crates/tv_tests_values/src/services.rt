@@ -2,7 +2,7 @@
 //!
 //! A case is a service, the attempt, what it gives and its inputs, with a bar between each two. What it gives is `=` and a value
 //! as JSON, or `!` and a text.
-use crate::values::values;
+use crate::values::{parted, values};
 use std::alloc::Global;
 use std::test::Fail;
 use tv_gate::{Gate, Outcome};
@@ -128,12 +128,12 @@ fn told(alloc: Global, outcome: &Outcome) -> Result<String, NoMemory> {
 }
 
 /// What the gate gives, and what is due.
-fn given<'a>(alloc: Global, case: &'a str) -> Result<(String, &'a str), Fail> {
-    let mut fields = case.split('|');
-    let service = fields.next().ok_or("no service")?;
-    let attempt = fields.next().ok_or("no attempt")?.parse::<u32>()?;
-    let due = fields.next().ok_or("no outcome")?;
-    let inputs = values(alloc, fields)?;
+fn given(alloc: Global, case: &'static str) -> Result<(String, &'static str), Fail> {
+    let (service, rest) = case.split_once('|').ok_or("no attempt")?;
+    let (attempt, rest) = rest.split_once('|').ok_or("no outcome")?;
+    let attempt = attempt.parse::<u32>()?;
+    let (due, written) = parted(rest);
+    let inputs = values(alloc, written)?;
     let outcome = LocalGate::new().call(alloc, service, &inputs, attempt)?;
     Ok((told(alloc, &outcome)?, due))
 }

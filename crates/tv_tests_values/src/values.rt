@@ -34,7 +34,7 @@ fn inner(alloc: Global, written: &str) -> Result<Value, NoMemory> {
     Ok(Value::List(Items::of(values)))
 }
 
-pub(crate) fn value(alloc: Global, written: &str) -> Result<Value, NoMemory> {
+fn value(alloc: Global, written: &str) -> Result<Value, NoMemory> {
     let Some(rest) = written.strip_prefix('[') else {
         return scalar(alloc, written);
     };
@@ -47,14 +47,21 @@ pub(crate) fn value(alloc: Global, written: &str) -> Result<Value, NoMemory> {
     Ok(Value::List(Items::of(values)))
 }
 
-/// The values of fields with a bar between each two.
-pub(crate) fn values<'a>(
-    alloc: Global,
-    fields: impl Iterator<Item = &'a str>,
-) -> Result<Items, NoMemory> {
+/// Values with a bar between each two, or none.
+pub(crate) fn values(alloc: Global, written: Option<&str>) -> Result<Items, NoMemory> {
     let mut values = Vec::new(alloc);
-    for field in fields {
-        values.push(value(alloc, field)?)?;
+    if let Some(fields) = written {
+        for field in fields.split('|') {
+            values.push(value(alloc, field)?)?;
+        }
     }
     Ok(Items::of(values))
+}
+
+/// What stands before the first bar, and what stands behind it.
+pub(crate) fn parted(written: &str) -> (&str, Option<&str>) {
+    match written.split_once('|') {
+        Some((first, rest)) => (first, Some(rest)),
+        None => (written, None),
+    }
 }
