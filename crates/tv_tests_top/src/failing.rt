@@ -157,6 +157,12 @@ impl Asker for Wanting {
 
     ghost calls = { λ _. None };
 
+    ghost reaches = { λ _ _. Unit {0} };
+
+    ghost stays = { λ _. tt };
+
+    ghost goes_on = { λ _ _ _ _ _. tt };
+
     fn call(
         &mut self,
         _alloc: Global,
