@@ -17,8 +17,8 @@ from unproved import Failed
 
 NEEDED = ("Crate", "lock", "guarded", "files_of")
 OF_CRATE = ("build_rlib", "is_built", "below", "stamp", "need")
-# A crate that seconds.txt hasn't: so much, and so much for each line of code, as the least squares of those it has give.
-FIRST, EACH_LINE = 10, 0.1
+# A crate that seconds.txt hasn't: so much, and so much for each line of code, much as for those that it has.
+FIRST, EACH_LINE = 10, 0.2
 
 
 def seconds(top, names):
@@ -98,7 +98,7 @@ class Lanes:
         threading.Thread(target=self.build, args=(name, jobs), daemon=True).start()
 
     def build(self, name, jobs):
-        crate, status = self.crates[name], 1
+        crate, status, begun = self.crates[name], 1, time.time()
         try:
             os.makedirs(f"{crate.folder}/out", exist_ok=True)
             with open(f"{self.logs}/{name}", "w", encoding="utf-8") as crate.out:
@@ -112,6 +112,7 @@ class Lanes:
                     self.progress.say(f"taverna: {name} isn't proved; what else is being proved is ended first")
                 else:
                     self.done.add(name)
+                    note_seconds(self.logs, name, begun)
                 self.changed.notify_all()
 
     def begin_ready(self):
@@ -143,6 +144,12 @@ class Lanes:
                 self.tell()
                 self.changed.wait(timeout=1)
         return list(self.failed)
+
+
+def note_seconds(logs, name, begun):
+    """Notes what a crate took by the clock, beside others at the same time, for seconds.txt."""
+    with open(f"{os.path.dirname(logs)}/seconds", "a", encoding="utf-8") as it:
+        it.write(f"{name} {time.time() - begun:.0f}\n")
 
 
 def processors(made):
@@ -218,8 +225,10 @@ def in_turn(top, folder, progress, log):
 def side_by_side(made, top, progress, jobs, logs):
     """Proves the libraries side by side, and then the program by what `rt run` does, which finds them built."""
     lanes = libraries(made, top, progress, jobs, logs)
-    lanes.running[sources.PROGRAM] = time.time(), 0, 1
+    begun = time.time()
+    lanes.running[sources.PROGRAM] = begun, 0, 1
     at = program([sys.executable, sources.HERE, "rt", "run"], top, progress, f"{logs}/{sources.PROGRAM}", lanes.tell)
+    note_seconds(logs, sources.PROGRAM, begun)
     if not os.path.isfile(f"{at}.stamp"):
         raise Failed(f"the kit's rt says that the sources changed while it built the program:\n{kit.tail(f'{logs}/{sources.PROGRAM}')}")
     return at
