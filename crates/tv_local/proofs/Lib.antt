@@ -5,3 +5,4 @@ pub mod OfTexts
 pub mod OfLists
 pub mod Examples
 pub mod Single
+pub mod OfBeginnings

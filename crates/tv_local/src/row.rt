@@ -1,8 +1,8 @@
 // The rows of the table: which services there are, and what each wants.
-ghost use Rattle.std.specs.Prelude.{◌≡◌, filter, map};
+ghost use Rattle.std.specs.Prelude.{◌≡◌, ◌≤◌, ◌-◌, drop, length, map, take};
 ghost use Rattle.tv_value.specs.Orders.{named};
 ghost use Rattle.tv_local.specs.Table.{names, wants};
-ghost use Rattle.tv_local.specs.Beginnings.{begins};
+ghost use Rattle.tv_local.specs.Beginnings.{from_byte, spans};
 
 /// A local service.
 #[derive(Clone, Copy, Debug, PartialEq, Eq)]
@@ -42,29 +42,84 @@ pub enum Want {
     Any,
 }
 
-/// The services whose names begin with this byte, by name.
-fn rows_from(first: u8) -> &'static [(&'static str, Local)]
-    ensures { map (λ r. (r.0.now, r.1)) result.now ≡ filter (λ r. begins first r.0) names }
+/// The services, by name.
+fn rows() -> &'static [(&'static str, Local)]
+    ensures { map (λ r. (r.0.now, r.1)) result.now ≡ names }
 {
-    match first {
-        b'a' => &[("add", Local::Add)],
-        b'c' => &[("concat", Local::Concat), ("count", Local::Count)],
-        b'd' => &[("distinct", Local::Distinct)],
-        b'e' => &[("echo", Local::Echo)],
-        b'f' => &[
-            ("fail_if", Local::FailIf),
-            ("flaky", Local::Flaky),
-            ("flatten", Local::Flatten),
-        ],
-        b'i' => &[("intersect", Local::Intersect)],
-        b'j' => &[("join", Local::Join)],
-        b'l' => &[("length", Local::Length), ("lower", Local::Lower)],
-        b'r' => &[("range", Local::Range), ("reverse", Local::Reverse)],
-        b's' => &[("split", Local::Split), ("subtract", Local::Subtract)],
-        b't' => &[("take", Local::Take)],
-        b'u' => &[("upper", Local::Upper)],
-        _ => &[],
+    &[
+        ("add", Local::Add),
+        ("concat", Local::Concat),
+        ("count", Local::Count),
+        ("distinct", Local::Distinct),
+        ("echo", Local::Echo),
+        ("fail_if", Local::FailIf),
+        ("flaky", Local::Flaky),
+        ("flatten", Local::Flatten),
+        ("intersect", Local::Intersect),
+        ("join", Local::Join),
+        ("length", Local::Length),
+        ("lower", Local::Lower),
+        ("range", Local::Range),
+        ("reverse", Local::Reverse),
+        ("split", Local::Split),
+        ("subtract", Local::Subtract),
+        ("take", Local::Take),
+        ("upper", Local::Upper),
+    ]
+}
+
+/// Where the rows whose names begin with each byte stand, from `a` to `u`: from the first number to before the second.
+fn spans() -> &'static [(usize, usize)]
+    ensures { result.now ≡ spans }
+{
+    &[
+        (0, 1),
+        (1, 1),
+        (1, 3),
+        (3, 4),
+        (4, 5),
+        (5, 8),
+        (8, 8),
+        (8, 8),
+        (8, 9),
+        (9, 10),
+        (10, 10),
+        (10, 12),
+        (12, 12),
+        (12, 12),
+        (12, 12),
+        (12, 12),
+        (12, 12),
+        (12, 14),
+        (14, 16),
+        (16, 17),
+        (17, 18),
+    ]
+}
+
+/// The services whose names begin with this byte, by name. Constant time.
+fn rows_from(first: u8) -> &'static [(&'static str, Local)]
+    ensures { map (λ r. (r.0.now, r.1)) result.now ≡ from_byte first }
+{
+    if first < b'a' {
+        return &[];
     }
+    match spans().get((first - b'a') as usize) {
+        Some((from, to)) => between(rows(), *from, *to),
+        None => &[],
+    }
+}
+
+/// The rows from the first number to before the second.
+fn between(
+    rows: &'static [(&'static str, Local)],
+    from: usize,
+    to: usize,
+) -> &'static [(&'static str, Local)]
+    requires { from ≤ to × to ≤ length rows.now }
+    ensures { result.now ≡ take (to - from) (drop from rows.now) }
+{
+    &rows[from..to]
 }
 
 /// The service of a name. Compares it with the names that begin as it does, three at the most.
