@@ -1,6 +1,6 @@
 -- Splitting a place among a list of strategies, child by child.
 use Rattle.std.specs.Prelude.{◌≡◌, refl, ℕ, zero, suc, ◌+◌, ◌≤◌, List, [], ◌∷◌, ◌++◌, length, take, drop}
-use Rattle.std.proofs.Common.{arith, ap, sym, subst, ◌∙◌, append_assoc}
+use Rattle.std.proofs.Common.{arith, ap, sym, subst, ◌∙◌, append-nil, append_assoc}
 use Rattle.std.proofs.lemmas.List.{take-take, drop-take, drop-drop}
 use Rattle.tv_value.specs.Nested.{Place}
 use Rattle.tv_value.specs.Values.{Name}
@@ -56,6 +56,18 @@ module _ (ports : Name → ℕ) (indices : Place) (whole : Strategies) (before :
       further : (taken d n s r w : ℕ) → w ≡ taken + r → r ≡ n + s → d ≡ n → w ≡ taken + d + s
       further taken d n s r w p q h = omega arith
 
+  pub taken-all : (rest : Strategies) (taken : ℕ) (places : List (Name × Place)) → Taken ports indices whole before rest taken places → rest ≡ no_strategies → (taken ≡ sum_of_depths ports whole) × (places ≡ before ++ split_cross ports whole (take taken indices))
+  taken-all rest taken places t e =
+      let all = every taken (sum_of_depths ports rest) (sum_of_depths ports whole) t.depth_so_far (ap (sum_of_depths ports) e) in (
+        all,
+        sym (append-nil places)
+            ∙ sym (t.places_so_far ∙ ap (λ r. places ++ split_cross ports r (take (sum_of_depths ports r) (drop taken indices))) e)
+            ∙ ap (λ n. before ++ split_cross ports whole (take n indices)) (sym all),
+      )
+    where
+      every : (taken r w : ℕ) → w ≡ taken + r → r ≡ 0 → taken ≡ w
+      every taken r w p q = omega arith
+
 -- ---- a dot
 
 -- all of these agree, and have this depth
@@ -78,3 +90,16 @@ module _ (ports : Name → ℕ) (q : Place) (d : ℕ) (whole : Strategies) (befo
 
   pub given-child : (rest : Strategies) (c : Strategy) (cs : Strategies) (places : List (Name × Place)) → Given ports q d whole before rest places → rest ≡ strategy c cs → DotsAgree ports c × (strategy_depth ports c ≡ d)
   given-child rest c cs places g e = let h = subst (λ r. AllDeep ports d r) e g.deep in (h.0, h.1)
+
+  pub given-next : (rest : Strategies) (c : Strategy) (cs : Strategies) (places more : List (Name × Place)) → Given ports q d whole before rest places → rest ≡ strategy c cs → more ≡ places ++ split ports c q → Given ports q d whole before cs more
+  given-next rest c cs places more g e k = record {
+    deep = (subst (λ r. AllDeep ports d r) e g.deep).2;
+    places_so_far =
+        g.places_so_far
+        ∙ ap (λ r. places ++ split_dot ports r q) e
+        ∙ sym (append_assoc places (split ports c q) (split_dot ports cs q))
+        ∙ ap (λ ps. ps ++ split_dot ports cs q) (sym k);
+  }
+
+  pub given-all : (rest : Strategies) (places : List (Name × Place)) → Given ports q d whole before rest places → rest ≡ no_strategies → places ≡ before ++ split_dot ports whole q
+  given-all rest places g e = sym (append-nil places) ∙ sym (g.places_so_far ∙ ap (λ r. places ++ split_dot ports r q) e)
