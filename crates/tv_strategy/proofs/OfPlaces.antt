@@ -1,6 +1,6 @@
 -- Joining the places of a list of strategies, child by child.
 use Rattle.std.specs.Prelude.{◌≡◌, refl, [], ◌∷◌, ◌++◌, Bool, true, false, ◌==◌, if◌then◌else◌, Option, Some, None}
-use Rattle.std.proofs.Common.{sym, ap, subst, ◌∙◌, append_assoc}
+use Rattle.std.proofs.Common.{sym, ap, subst, ◌∙◌, append-nil, append_assoc}
 use Rattle.std.proofs.lemmas.Bool.{eqb-true, eq-eqb, and_from}
 use Rattle.std.specs.Cmp.{first_so, second_so}
 use Rattle.tv_value.specs.Nested.{Place}
@@ -94,3 +94,12 @@ module _ (ports : Name → Place) where
 
   pub all_at-end : (rest : Strategies) (q : Place) → rest ≡ no_strategies → all_at q rest ≡ Some q
   all_at-end rest q e = ap (all_at q) e
+
+  pub all_at-next : (rest : Strategies) (d : Strategy) (ds : Strategies) (q r : Place) → rest ≡ strategy d ds → Some r ≡ joined ports d → same_place q r ≡ true → all_at q rest ≡ all_at q ds
+  all_at-next rest d ds q r e h s = ap (all_at q) e ∙ ap (λ o. still q o (all_at q ds)) (sym h) ∙ ap (λ b. if b then all_at q ds else None) s
+
+  pub cross-none : (rest : Strategies) (c : Strategy) (cs : Strategies) (w : Place) → rest ≡ strategy c cs → None ≡ joined ports c → one_after (Some w) (joined_cross ports rest) ≡ None
+  cross-none rest c cs w e h = ap (λ r. one_after (Some w) (joined_cross ports r)) e ∙ ap (λ o. one_after (Some w) (one_after o (joined_cross ports cs))) (sym h)
+
+  pub cross-end : (rest : Strategies) (w : Place) → rest ≡ no_strategies → one_after (Some w) (joined_cross ports rest) ≡ Some w
+  cross-end rest w e = ap (λ r. one_after (Some w) (joined_cross ports r)) e ∙ ap Some (append-nil w)

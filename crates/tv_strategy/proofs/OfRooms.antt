@@ -35,6 +35,19 @@ module _ (ports : Name → Place) where
     dot-room (strategy c (strategy d ds)) q h =
         left (length q) (place_room ports c) (room_of_most ports (strategy d ds)) (joined-room c q (in_common-some (joined ports c) (joined_dot ports (strategy d ds)) q h).0)
 
+  -- a child has no more room than its list
+  pub room-next : (rest : Strategies) (c : Strategy) (cs : Strategies) (n k : ℕ) → rest ≡ strategy c cs → n + room_of_all ports rest ≤ k → place_room ports c ≤ k
+  room-next rest c cs n k e h = part (place_room ports c) (room_of_all ports cs) n k (subst (λ r. n + room_of_all ports r ≤ k) e h)
+    where
+      part : (a b m j : ℕ) → m + (a + b) ≤ j → a ≤ j
+      part a b m j l = omega arith
+
+  pub most-next : (rest : Strategies) (c : Strategy) (cs : Strategies) (k : ℕ) → rest ≡ strategy c cs → room_of_most ports rest ≤ k → (place_room ports c ≤ k) × (room_of_most ports cs ≤ k)
+  most-next rest c cs k e h = parts (place_room ports c) (room_of_most ports cs) k (subst (λ r. room_of_most ports r ≤ k) e h)
+    where
+      parts : (a b j : ℕ) → max a b ≤ j → (a ≤ j) × (b ≤ j)
+      parts a b j l = (omega arith, omega arith)
+
   -- a child's place may be put after the whole so far
   pub room-left : (rest : Strategies) (c : Strategy) (cs : Strategies) (q : Place) (n k : ℕ) → rest ≡ strategy c cs → Some q ≡ joined ports c → n + room_of_all ports rest ≤ k → (n + length q) + room_of_all ports cs ≤ k
   room-left rest c cs q n k e h l = sum n (length q) (place_room ports c) (room_of_all ports cs) k (subst (λ r. n + room_of_all ports r ≤ k) e l) (joined-room c q (sym h))

@@ -5,9 +5,9 @@ use Rattle.tv_value.proofs.OfTrees.{size, sizes, size-item, strategies_of-drop, 
 use Rattle.tv_strategy.specs.Conditions.{place_of}
 use Rattle.tv_strategy.specs.Splits.{joined, joined_cross, joined_dot, one_after, same_place}
 use Rattle.tv_strategy.specs.Views.{children_view}
-use Rattle.tv_strategy.proofs.OfPlaces.{cross-next, all_at-differs, all_at-end, all_at-none, dot-all}
+use Rattle.tv_strategy.proofs.OfPlaces.{cross-end, cross-next, cross-none, all_at-differs, all_at-end, all_at-next, all_at-none, dot-all}
 use Rattle.tv_strategy.specs.Rooms.{room_of_all}
-use Rattle.tv_strategy.proofs.OfRooms.{room-left}
+use Rattle.tv_strategy.proofs.OfRooms.{most-next, room-left, room-next}
 use Rattle.tv_strategy.proofs.places.+join.Goals as goal
 
 pub join_cross-join_tree-requires : goal.join_cross-join_tree-requires
@@ -94,3 +94,52 @@ join_dot-returns-clause-place t c =
     ∙ c.loop-tree.invariant.0
     ∙ all_at-end ports _ q (strategies_of-end strategy_view xs c.loop-tree.tree-index c.loop-tree-test.false)
     ∙ ap Some c.as_slice-common.ensures)
+
+pub join_cross-returns-clause-place : goal.join_cross-returns-clause-place
+join_cross-returns-clause-place t c =
+    sym (c.loop-tree.invariant.0 ∙ cross-end (place_of c.args.places.now) _ c.loop-tree.whole (strategies_of-end strategy_view c.args.trees.now c.loop-tree.tree-index c.loop-tree-test.false))
+
+pub join_cross-returns-in_default-clause-place : goal.join_cross-returns-in_default-clause-place
+join_cross-returns-in_default-clause-place t c =
+    let ports = place_of c.args.places.now in
+    let xs = c.args.trees.now in
+    let x = c.tree-item.result in
+    let none : None ≡ joined ports (strategy_view x) = sym c.in_default.is ∙ c.in_ok-place.ensures.place in
+    sym (c.loop-tree.invariant.0 ∙ cross-none ports _ (strategy_view x) _ c.loop-tree.whole (strategies_of-drop strategy_view xs c.loop-tree.tree-index x c.loop-tree-test.true c.tree-item.is) none)
+
+pub join_cross-returns-in_err-place-clause-short : goal.join_cross-returns-in_err-place-clause-short
+join_cross-returns-in_err-place-clause-short t c h =
+    let xs = c.args.trees.now in
+    let x = c.tree-item.result in
+    let small = room-next (place_of c.args.places.now) _ (strategy_view x) _ (length c.loop-tree.whole) _ (strategies_of-drop strategy_view xs c.loop-tree.tree-index x c.loop-tree-test.true c.tree-item.is) c.loop-tree.invariant.1 in
+    from-false_true (c.in_err-place.ensures.short (omega (arith, small, h)))
+
+pub join_dot-returns-in_err-place-clause-short : goal.join_dot-returns-in_err-place-clause-short
+join_dot-returns-in_err-place-clause-short t c h =
+    from-false_true (c.in_err-place.ensures.short (most-next (place_of c.args.places.now) _ (strategy_view c.in-Some.first.now) (children_view c.in-Some.others.now) 32 (ap children_view c.in-Some.ensures.cases.0) h).0)
+
+pub join_dot-returns-in_err-other-clause-short : goal.join_dot-returns-in_err-other-clause-short
+join_dot-returns-in_err-other-clause-short t c h =
+    let ports = place_of c.args.places.now in
+    let xs = c.in-Some.others.now in
+    let x = c.tree-item.result in
+    let small = (most-next ports _ (strategy_view c.in-Some.first.now) (children_view xs) 32 (ap children_view c.in-Some.ensures.cases.0) h).1 in
+    let part = most-next ports _ (strategy_view x) _ 32 (strategies_of-drop strategy_view xs c.loop-tree.tree-index x c.loop-tree-test.true c.tree-item.is) (omega (arith, c.loop-tree.invariant.1, small)) in
+    from-false_true (c.in_err-other.ensures.short part.0)
+
+not-false : (b : Bool) → not b ≡ false → b ≡ true
+not-false true h = refl
+not-false false h = absurd (cc)
+
+pub join_dot-loop-tree-preserved : goal.join_dot-loop-tree-preserved
+join_dot-loop-tree-preserved t c =
+    let ports = place_of c.args.places.now in
+    let xs = c.in-Some.others.now in
+    let x = c.tree-item.result in
+    let q = c.as_slice-common.result.now in
+    let r = c.as_slice.result.now in
+    let rest = strategies_of-drop strategy_view xs c.loop-tree.tree-index x c.loop-tree-test.true c.tree-item.is in
+    let other : Some r ≡ joined ports (strategy_view x) = ap Some c.as_slice.ensures ∙ sym c.in-Some-3.is ∙ c.in_ok-other.ensures.place in (
+      c.loop-tree.invariant.0 ∙ all_at-next ports _ (strategy_view x) _ q r rest other (not-false (same_place q r) (sym c.ne.ensures ∙ c.if-ne.false)),
+      (most-next ports _ (strategy_view x) _ _ rest c.loop-tree.invariant.1).1,
+    )
