@@ -75,7 +75,7 @@ def steps(run):
 
 
 def failed(failures, most):
-    if len(failures) or failures.run.untold.get("failed"):
+    if failures.run.totals["failed"]:
         yield '<h2>What failed</h2><div class="wide"><table><thead><tr><th>job</th><th>why</th><th>lost by it</th>'
         yield "<th>made from</th></tr></thead><tbody>"
         for it in list(failures)[:most]:

@@ -10,18 +10,22 @@ def figure(count, name):
     return f"{getattr(count, name)}" + ("+" if name in count.least else "")
 
 
+def numbers_text(numbers):
+    """Totals in words: 2 jobs, 1 attempt, 1 failed."""
+    return ", ".join(many(it, name[:-1]) if name in ("jobs", "attempts") else f"{it} {name}" for name, it in numbers.items())
+
+
 def headline(run):
-    return ", ".join(f"{run.totals[name]} {name}" for name in ("jobs", "attempts", "failed", "bounced"))
+    return numbers_text({name: run.totals[name] for name in ("jobs", "attempts", "failed", "bounced")})
 
 
 def untold_line(run):
     """What the sums of the steps lack of the totals, in words; nothing where they agree."""
     if not run.untold:
         return ""
-    lacking = ", ".join(f"{number} {name}" for name, number in run.untold.items())
     if run.differing:
-        return f"The sums of the steps differ from the totals by {lacking}: a fault of this report."
-    return f"Not told by step: {lacking}. Figures that may be greater say at least."
+        return f"The sums of the steps differ from the totals by {numbers_text(run.untold)}: a fault of this report."
+    return f"Not told by step: {numbers_text(run.untold)}."
 
 
 def value_text(value, most=WIDE):
@@ -103,7 +107,7 @@ def output_lines(failures, port, value, most):
 
 def as_text(run, failures, most):
     lines = [f"{run.main}: {headline(run)}", "", *step_lines(run)]
-    if len(failures):
+    if run.totals["failed"]:
         lines += ["", "failed", *failure_lines(failures, most)]
     lines += ["", "outputs" if run.outputs else "no outputs"]
     for port, value in sorted(run.outputs.items()):
