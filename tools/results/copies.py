@@ -78,7 +78,7 @@ def with_outputs(document):
     """
     made = dict(document, flows={})
     for name, flow in document["flows"].items():
-        steps = {it: step if step.get("outputs") else dict(step, outputs=dict.fromkeys(ADDED, 0)) for it, step in steps_of(flow).items()}
+        steps = {it: dict(step, outputs=step.get("outputs") or dict.fromkeys(ADDED, 0)) for it, step in steps_of(flow).items()}
         outputs = flow["outputs"] or {port: {"constant": ""} for port in ADDED}
         made["flows"][name] = dict(flow, steps=steps, outputs=outputs)
     return made

@@ -17,13 +17,15 @@ DARK = (
     "--failed:#4a1b1f;--failed-ink:#ffb4b4;--bounced:#453312;--bounced-ink:#ffd58a"
 )
 STYLE = """
-body{font:14px/1.45 Helvetica,Arial,sans-serif;margin:2em auto;padding:0 1.5em;max-width:1100px;background:var(--page);color:var(--ink)}
+body{font:14px/1.45 Helvetica,Arial,sans-serif;margin:2em auto;padding:0 1.5em;max-width:1100px}
+body{background:var(--page);color:var(--ink)}
 h1{font-size:20px;overflow-wrap:anywhere}h2{font-size:16px;margin-top:2em}h3{font-size:14px;margin:1.2em 0 .3em}
 h1 small,h3 small,.quiet{color:var(--quiet);font-weight:normal;font-size:13px}
 .wide{overflow-x:auto}table{border-collapse:collapse;margin:.3em 0}
 td,th{border:1px solid var(--line);padding:2px 8px;text-align:left;vertical-align:top;white-space:pre-wrap;overflow-wrap:anywhere}
 th{background:var(--head);font-weight:600;overflow-wrap:normal}.number{text-align:right}th.place{font-weight:normal;color:var(--quiet)}
-.failed{background:var(--failed);color:var(--failed-ink)}.bounced{background:var(--bounced);color:var(--bounced-ink)}
+.failed{background:var(--failed);color:var(--failed-ink)}
+.bounced{background:var(--bounced);color:var(--bounced-ink)}
 .tile{display:inline-block;border:1px solid var(--line);border-radius:8px;padding:6px 16px;margin:0 10px 8px 0}
 .tile b{display:block;font-size:20px}svg{max-width:100%;height:auto}
 @media print{@page{margin:14mm}body{margin:0;padding:0;max-width:none;print-color-adjust:exact;-webkit-print-color-adjust:exact}
@@ -92,8 +94,9 @@ def failed(failures, most):
 
 def item(failures, value):
     if is_error(value):
-        kind = "bounced" if value["error"]["from"] else "failed"
-        return f'<td class="{kind}" title="{escape(value["error"]["at"])}">✗ {escape(cut(failures.told(value["error"]), TEXT))}</td>'
+        error = value["error"]
+        kind, told = "bounced" if error["from"] else "failed", escape(cut(failures.told(error), TEXT))
+        return f'<td class="{kind}" title="{escape(error["at"])}">✗ {told}</td>'
     return f"<td>{escape(cut(value, TEXT))}</td>" if value else '<td class="quiet">empty text</td>'
 
 

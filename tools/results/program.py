@@ -32,8 +32,10 @@ class Program:
             ran = subprocess.run([self.path, *words], input=given, stdout=subprocess.PIPE, stderr=err)
         except OSError as error:
             stop(f"{self.path} can't be run ({error.strerror})")
+        if ran.returncode < 0:
+            stop(f"the program was ended by signal {-ran.returncode}")
         if ran.returncode:
-            raise Refused(ran.returncode if ran.returncode > 0 else 1)
+            raise Refused(ran.returncode)
         return ran.stdout.decode("utf-8", "replace")
 
 

@@ -1,6 +1,6 @@
 """A report as text."""
-from .values import cut, is_error, many, place_text, plain, rows
 from .program import compact
+from .values import cut, is_error, many, place_text, plain, rows
 
 COLUMNS = ("jobs", "asked", "failed", "bounced", "attempts", "retried")
 WIDE, ITEMS = 60, 12  # characters of a value, and items of a row, that are shown
@@ -24,13 +24,13 @@ def untold_line(run):
     if not run.untold:
         return ""
     if run.differing:
-        return f"The sums of the steps differ from the totals by {numbers_text(run.untold)}: a fault of this report."
+        return f"The sums of the steps differ from the totals by {numbers_text(run.untold)}: a fault of the report or the program."
     return f"Not told by step: {numbers_text(run.untold)}."
 
 
 def value_text(value, most=WIDE):
     """A given value, or a text of an output, on one line."""
-    return cut(plain(value) or '""' if isinstance(value, str) else compact(value), most)
+    return cut(plain(value if isinstance(value, str) else compact(value)) or '""', most)
 
 
 def given_lines(failures, failure, most):
@@ -46,8 +46,9 @@ def given_lines(failures, failure, most):
 def lost_text(failure, most=12):
     """What was lost by a failed job, in words."""
     said = " ".join(port + place_text(place) for port, place in failure.lost[:most]) or "nothing in the outputs"
-    more = len(failure.lost) - most
-    return said + (f" and {more} more" if more > 0 else "") + (f"; {many(failure.bounced, 'job')} bounced" if failure.bounced else "")
+    if len(failure.lost) > most:
+        said += f" and {len(failure.lost) - most} more"
+    return said + (f"; {many(failure.bounced, 'job')} bounced" if failure.bounced else "")
 
 
 def table_lines(table, texts):
