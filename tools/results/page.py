@@ -6,7 +6,7 @@ from .picture import NoPicture, dark_rules, svg
 from .text import COLUMNS, given_lines, headline, lost_text, untold_line, value_text
 from .values import cut, is_error, many, place_text, rows
 
-TEXT, ITEMS = 2000, 60  # characters of a text, and items of a row, that are shown
+TEXT, ITEMS, CELLS = 2000, 60, 12  # characters of a text, and items of a row, that are shown; items that have a cell each
 
 LIGHT = (
     "--page:#fff;--ink:#1f2937;--quiet:#6b7280;--line:#d5d9e0;--head:#f4f5f7;"
@@ -23,6 +23,7 @@ h1{font-size:20px;overflow-wrap:anywhere}h2{font-size:16px;margin-top:2em}h3{fon
 h1 small,h3 small,.quiet{color:var(--quiet);font-weight:normal;font-size:13px}
 .wide{overflow-x:auto}table{border-collapse:collapse;margin:.3em 0}
 td,th{border:1px solid var(--line);padding:2px 8px;text-align:left;vertical-align:top;white-space:pre-wrap;overflow-wrap:anywhere}
+td{min-width:3ch}span.item{display:inline-block;border:1px solid var(--line);border-radius:4px;padding:0 6px;margin:1px 4px 1px 0}
 th{background:var(--head);font-weight:600;overflow-wrap:normal}.number{text-align:right}th.place{font-weight:normal;color:var(--quiet)}
 .failed{background:var(--failed);color:var(--failed-ink)}
 .bounced{background:var(--bounced);color:var(--bounced-ink)}
@@ -92,22 +93,32 @@ def failed(failures, most):
             yield f'<p class="quiet">and some of {many(untold, "failed job")} that no step is known to have</p>'
 
 
-def item(failures, value):
+def item(failures, value, tag):
+    """An item of an output: a cell of a table, or a span."""
     if is_error(value):
         error = value["error"]
         kind, told = "bounced" if error["from"] else "failed", escape(cut(failures.told(error), TEXT))
-        return f'<td class="{kind}" title="{escape(error["at"])}">✗ {told}</td>'
-    return f"<td>{escape(cut(value, TEXT))}</td>" if value else '<td class="quiet">empty text</td>'
+        return f'<{tag} class="item {kind}" title="{escape(error["at"])}">✗ {told}</{tag}>'
+    quiet, text = ("", cut(value, TEXT)) if value else (" quiet", "empty text")
+    return f'<{tag} class="item{quiet}">{escape(text)}</{tag}>'
+
+
+def row(failures, items, is_long):
+    """The cells of a row; one alone, with all items, where the rows of a table are long."""
+    if not items:
+        return '<td class="quiet">an empty list</td>'
+    cells = "".join(item(failures, it, "span" if is_long else "td") for it in items[:ITEMS])
+    more = f'<span class="quiet">and {len(items) - ITEMS} more</span>' if len(items) > ITEMS else ""
+    return f"<td>{cells}{more}</td>" if is_long else cells
 
 
 def output(failures, port, value, most):
     depth = failures.run.depths["flow", failures.run.main, port][0]
     yield f'<h3>{escape(port)} <small>depth {depth}</small></h3><div class="wide"><table>'
     found = rows(value)
+    is_long = any(len(items) > CELLS for _, items in found[:most])
     for place, items in found[:most]:
-        cells = "".join(item(failures, it) for it in items[:ITEMS]) or '<td class="quiet">an empty list</td>'
-        more = f'<td class="quiet">and {len(items) - ITEMS} more</td>' if len(items) > ITEMS else ""
-        yield f'<tr><th class="place">{place_text(place)}</th>{cells}{more}</tr>'
+        yield f'<tr><th class="place">{place_text(place)}</th>{row(failures, items, is_long)}</tr>'
     yield "</table></div>"
     if len(found) > most:
         yield f'<p class="quiet">and {len(found) - most} more rows; tools/table writes all of them</p>'
