@@ -153,6 +153,13 @@ class Run:
         least = {name for count in self.steps.values() for name in count.least}
         self.differing = [name for name, number in self.untold.items() if name not in least or number < 0]
 
+    def total(self, name):
+        """The run's own total of a column; those of jobs that asked are told by `trace`."""
+        if name in self.totals:
+            return self.totals[name]
+        least = 2 if name == "retried" else 1
+        return sum(number >= least for number in self.attempts.values())
+
     def ways(self):
         """The ways to all steps, each before those inside of it."""
         orders = {}

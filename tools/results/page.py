@@ -66,8 +66,8 @@ def steps(run):
             kind = f" {name}" if number and name in ("failed", "bounced") else ""
             yield f'<td class="number{kind}">{least}{number}</td>'
         yield "</tr>"
-    sums = [run.totals.get(name, sum(getattr(it, name) for it in run.steps.values())) for name in COLUMNS]
-    yield '</tbody><tfoot><tr><th>total</th><th></th>' + "".join(f'<th class="number">{it}</th>' for it in sums)
+    yield "</tbody><tfoot><tr><th>total</th><th></th>"
+    yield "".join(f'<th class="number">{run.total(name)}</th>' for name in COLUMNS)
     yield "</tr></tfoot></table></div>"
     if run.untold:
         yield f'<p class="quiet">{escape(untold_line(run))}</p>'

@@ -64,8 +64,7 @@ def step_lines(run):
     for way in run.ways():
         figures = [figure(run.steps[way], name) for name in COLUMNS]
         table.append(("  " * (len(way) - 1) + way[-1], run.does(way), *("." if it == "0" else it for it in figures)))
-    sums = [run.totals.get(name, sum(getattr(it, name) for it in run.steps.values())) for name in COLUMNS]
-    table.append(("total", "", *map(str, sums)))
+    table.append(("total", "", *(str(run.total(name)) for name in COLUMNS)))
     yield from table_lines(table, 2)
     if any(count.least for count in run.steps.values()):
         yield "+  at least so many"
