@@ -14,7 +14,7 @@ flow_fault-requires g c =
     let i = c.loop-name.name-index in
     let x = c.loop-name-item.result in
     let lt = subst (λ fs. i < length fs) c.as_slice-name-items.ensures c.loop-name-test.true in
-    rw (c.loop-name-item.is ∙ ap (λ fs. get_or fs i x) c.as_slice-name-items.ensures) (flow-at d i x lt)
+    (c.type_bounds.send-V, (c.type_bounds.sync-V, rw (c.loop-name-item.is ∙ ap (λ fs. get_or fs i x) c.as_slice-name-items.ensures) (flow-at d i x lt)))
 
 pub returns-in-Some : goal.returns-in-Some
 returns-in-Some g c =

@@ -14,7 +14,7 @@ step_fault-requires g c =
     let i = c.loop-step_name.step_name-index in
     let x = c.loop-step_name-item.result in
     let lt = subst (λ ss. i < length ss) c.as_slice-step_name-items.ensures c.loop-step_name-test.true in
-    record { flow = c.requires; step = rw (c.loop-step_name-item.is ∙ ap (λ ss. get_or ss i x) c.as_slice-step_name-items.ensures) (step-at f i x c.requires lt) }
+    (c.type_bounds.send-V, (c.type_bounds.sync-V, (c.requires, rw (c.loop-step_name-item.is ∙ ap (λ ss. get_or ss i x) c.as_slice-step_name-items.ensures) (step-at f i x c.requires lt))))
 
 pub returns-in-Some : goal.returns-in-Some
 returns-in-Some g c =
