@@ -2,15 +2,23 @@
 in plain Rust (`pool_raw.rs`, where a `rustc` is there), with many small regions and with few large ones: the least processor
 time of five runs of each.
 
-    python3 bench/pool.py PROGRAM
+    python3 bench/pool.py [FOLDER]
 
-PROGRAM is what `rt run` builds in crates/tv_pool_bench.
+The program that fills the pool (`pool/main.rattle`) is built in some minutes by `building.py`, in FOLDER where one is given, which keeps it.
 """
+import glob
 import os
 import shutil
 import subprocess
 import sys
 import tempfile
+
+HERE = os.path.dirname(os.path.abspath(__file__))
+sys.path.insert(0, HERE)
+
+import building  # noqa: E402
+
+NAME = "tv_fills"
 
 COUNT = "10000000"
 SHAPES = ((10, "many regions of 10"), (2_500_000, "4 regions of 2,500,000"))
@@ -30,12 +38,17 @@ def least_time(words):
     return least, printed
 
 
+def makes(folder):
+    building.more(folder, NAME, "tv_pool anyhow", glob.glob(os.path.join(HERE, "pool", "*.rattle")))
+
+
 def main():
     with tempfile.TemporaryDirectory() as folder:
-        layouts = {name: [sys.argv[1], name] for name in ("pool", "vectors")}
+        program = building.built(sys.argv[1] if len(sys.argv) > 1 else folder, NAME, makes)
+        layouts = {name: [program, name] for name in ("pool", "vectors")}
         if shutil.which("rustc"):
             raw = os.path.join(folder, "pool_raw")
-            source = os.path.join(os.path.dirname(os.path.abspath(__file__)), "pool_raw.rs")
+            source = os.path.join(HERE, "pool_raw.rs")
             subprocess.run(["rustc", "-O", "--edition", "2021", "-o", raw, source], check=True)
             layouts["raw memory"] = [raw]
         for size, shape in SHAPES:

@@ -18,8 +18,6 @@
 mod accepted;
 mod checking;
 mod cycles;
-#[cfg(test)]
-mod cycles_tests;
 mod graphs;
 pub mod laws;
 mod orders;
@@ -27,10 +25,6 @@ mod planning;
 mod plans;
 mod reading;
 mod run;
-#[cfg(test)]
-mod tests;
-#[cfg(test)]
-mod wiring_tests;
 
 pub use checking::check;
 pub use cycles::steps_by_rank;

@@ -27,8 +27,6 @@ pub mod laws;
 mod memory;
 mod orders;
 mod search;
-#[cfg(test)]
-mod tests;
 mod untaken;
 mod waiting;
 mod walk;

@@ -29,8 +29,6 @@ mod records;
 mod search;
 mod steps;
 mod table;
-#[cfg(test)]
-mod tests;
 
 pub use mark::{Labels, Leaf, Leaves, Mark, Marks, OutPlaces, Part, Parts};
 pub use records::Records;

@@ -15,7 +15,7 @@ use crate::kinds::Kind;
 use crate::listing::work_all;
 use crate::places::Places;
 use crate::steps::{begin, take_back, work};
-use crate::stores::Store;
+use crate::stores::{Store, copies_of_bags};
 use crate::told::{Matched, Tolds};
 pub use ahead::what_is_ahead;
 use shells::{keep_depths, keep_tree};
@@ -408,16 +408,22 @@ impl Matcher {
         ensures same { IfOk result (λ m. IsUnchanged self.now m) }
         ensures sound { IfOk result (λ m. IsSound m) }
     {
+        let tree = self.tree.copy(self.alloc)?;
+        let mismatch = self.mismatch.copy(self.alloc)?;
+        let root = self.root.copy(self.alloc)?;
+        let places = self.places.copy(&self.out)?;
+        // The bags last: none is then dropped where another copy is refused.
+        let bags = copies_of_bags(self.alloc, &self.log, &self.out)?;
         Ok(Matcher {
             alloc: self.alloc,
-            tree: self.tree.copy(self.alloc)?,
-            mismatch: self.mismatch.copy(self.alloc)?,
-            root: self.root.copy(self.alloc)?,
-            log: self.log.copy(self.alloc)?,
-            out: self.out.copy(self.alloc)?,
+            tree,
+            mismatch,
+            root,
+            log: bags.0,
+            out: bags.1,
             told: self.told,
             given: self.given,
-            places: self.places.copy(&self.out)?,
+            places,
         })
     }
 

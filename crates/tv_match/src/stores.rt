@@ -44,15 +44,15 @@ impl Store {
         match self {
             Store::Leaf(leaf) => Ok(Store::Leaf(*leaf)),
             Store::Cross(ends, rests, _, first, rest) => {
-                let (ends, rests) = (ends.copy(alloc)?, rests.copy(alloc)?);
                 let first = Box::new(alloc, first.copy(alloc)?)?;
                 let rest = Box::new(alloc, rest.copy(alloc)?)?;
+                let (ends, rests) = copies_of_bags(alloc, ends, rests)?;
                 Ok(Store::Cross(ends, rests, Bag::new(alloc), first, rest))
             }
             Store::Dot(firsts, rests, _, first, rest) => {
-                let (firsts, rests) = (firsts.copy(alloc)?, rests.copy(alloc)?);
                 let first = Box::new(alloc, first.copy(alloc)?)?;
                 let rest = Box::new(alloc, rest.copy(alloc)?)?;
+                let (firsts, rests) = copies_of_found(alloc, firsts, rests)?;
                 Ok(Store::Dot(firsts, rests, Bag::new(alloc), first, rest))
             }
         }
@@ -111,6 +111,22 @@ impl Store {
             }
         }
     }
+}
+
+/// Copies of two bags.
+pub(crate) fn copies_of_bags(alloc: Global, first: &Bag, rest: &Bag) -> Result<(Bag, Bag), NoMemory>
+    ensures { IfOk result (λ p. p ≡ (first.now, rest.now)) }
+{
+    let first = first.copy(alloc)?;
+    Ok((first, rest.copy(alloc)?))
+}
+
+/// Copies of two bags with their look-ups.
+fn copies_of_found(alloc: Global, first: &Found, rest: &Found) -> Result<(Found, Found), NoMemory>
+    ensures { IfOk result (λ p. p ≡ (first.now, rest.now)) }
+{
+    let first = first.copy(alloc)?;
+    Ok((first, rest.copy(alloc)?))
 }
 
 /// Puts the item if it is for this leaf.

@@ -2,4 +2,3 @@ pub mod Pool
 pub mod Lends
 pub mod Layout
 pub mod Placed
-pub mod Mirror

@@ -38,8 +38,6 @@ ghost use Rattle.tv_pool.specs.Pool.{IsLive, Holds, item_at, live_count, Begins,
 mod faults;
 mod handles;
 mod layout;
-#[cfg(test)]
-mod tests;
 
 pub use faults::{NoMemory, PutRefused};
 pub use handles::{Link, Node, Region};

@@ -1,6 +1,5 @@
 -- What is kept beside the seats, where one seat stands at another stage, or one more sits down.
-use Rattle.std.specs.Prelude.{◌≡◌, ◌≢◌, ℕ, zero, suc, ◌+◌, ◌-◌, ◌<◌, ◌≤◌, ◌^◌, ◌&&◌, ◌==◌, Bool, true, false, List, [], ◌∷◌, Option, Some, None, length, map, slice_get, slice_index_or, slice_set, vec_capacity, Vec, refl}
-use Rattle.std.specs.Global.{Global}
+use Rattle.std.specs.Prelude.{◌≡◌, ◌≢◌, ℕ, zero, suc, ◌+◌, ◌-◌, ◌<◌, ◌≤◌, ◌^◌, ◌&&◌, ◌==◌, Bool, true, false, List, [], ◌∷◌, Option, Some, None, length, map, slice_get, slice_index_or, slice_set, vec_capacity, refl}
 use Rattle.std.specs.Option.{option_map_or}
 use Rattle.std.proofs.Common.{arith, ap, subst, sym, ◌∙◌}
 use Rattle.std.proofs.lemmas.Bool.{eq-eqb, eqb-true}
@@ -57,9 +56,6 @@ pub all-at : (f : StepSeats → ℕ) (xs : List StepSeats) (k : ℕ) (y : StepSe
 all-at f [] k y e = cc
 all-at f (x ∷ xs) zero y e = ap f (some-same e)
 all-at f (x ∷ xs) (suc k) y e = all-at f xs k y e
-
-pub room-at : (xs : List StepSeats) (k : ℕ) (y : StepSeats) → slice_get xs k ≡ Some y → slice_index_or (all_rooms xs) k 0 ≡ y.idle.room
-room-at = all-at (λ x. x.idle.room)
 
 pub many-all : (f : StepSeats → ℕ) (xs : List StepSeats) → length (map f xs) ≡ length xs
 many-all f [] = refl
@@ -162,13 +158,6 @@ module _ (seats : List Seat) (n : ℕ) (s : Seat) (x : Stage) (there : slice_get
           by : (b : Bool) → (s.step == k) ≡ b → count_at p k after + one (b && p s.stage) ≡ count_at p k seats + one (b && p x) → count_at p k after ≡ count_at p k seats
           by true e h = absurd (ne (eqb-true s.step k e))
           by false e h = omega (arith, h)
-
--- the same open flows have the same room
-pub same-nested : (seats : List Seat) (k : ℕ) (y z : StepSeats) → StepIsKept seats k y → z.nested ≡ y.nested → z.nested_room ≡ y.nested_room
-    → length z.nested.items + z.nested_room ≤ vec_capacity z.nested
-same-nested seats k y z kept nested room =
-    subst (λ (v : Vec ℕ Global). length v.items + z.nested_room ≤ vec_capacity v) (sym nested)
-    (subst (λ m. length y.nested.items + m ≤ vec_capacity y.nested) (sym room) kept.room)
 
 -- the table t becomes u, of its step y becomes z
 pub record Changes (t u : Rows) (n : ℕ) (s : Seat) (x : Stage) (steps after : List StepSeats) (y z : StepSeats) : Type 0 where

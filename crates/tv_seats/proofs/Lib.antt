@@ -3,10 +3,8 @@ pub mod Staging
 pub mod Listing
 pub mod Telling
 pub mod Keeping
-pub mod HandingOut
-pub mod ComingBack
-pub mod Nesting
 pub mod Sitting
 pub mod Looking
 pub mod CallingBack
+pub mod Moving
 pub mod Starting

@@ -6,6 +6,7 @@ use Rattle.std.proofs.lemmas.Bool.{eq-eqb, eqb-true}
 use Rattle.std.proofs.lemmas.List.Sums.{sum_by-cons}
 use Rattle.tv_seats.specs.declared.stage.Stage.{Stage}
 use Rattle.tv_seats.specs.Kept.{IsSeatAt}
+pub use Rattle.tv_seats.specs.Moves.{one}
 use Rattle.tv_seats.specs.Seats.{Seat, staged, with_stage}
 
 -- ---- lists
@@ -30,9 +31,6 @@ module _ {A : Type 0} where
   set-same [] n x e = refl
   set-same (z ∷ xs) zero x e = ap (λ y. y ∷ xs) (sym (some-same e))
   set-same (z ∷ xs) (suc n) x e = ap (λ l. z ∷ l) (set-same xs n x e)
-
-abbrev pub one : Bool → ℕ
-one b = cond b 1 0
 
 module _ {A : Type 0} (p : A → Bool) where
   pub count-cons : (x : A) (xs : List A) → count_by p (x ∷ xs) ≡ one (p x) + count_by p xs

@@ -6,4 +6,5 @@ pub mod Tables
 pub mod Pasts
 pub mod Laid
 pub mod Kept
+pub mod Moves
 pub mod Starts

@@ -1,5 +1,5 @@
 -- The seats of an ended instance as a contract sees them.
-use Rattle.std.specs.Prelude.{ℕ, List, [], ◌∷◌}
+use Rattle.std.specs.Prelude.{ℕ, [], ◌∷◌}
 use Rattle.tv_seats.specs.declared.past.Kept.{Kept}
 use Rattle.tv_seats.specs.declared.past.Kept.TheVariants.{One, Many}
 use Rattle.tv_seats.specs.declared.stage.Stage.{Stage}

@@ -30,21 +30,9 @@ is_nested x = false
 abbrev pub runs : Stage → Bool
 runs x = is_out x || is_idle x || is_aside x || is_nested x
 
--- its bouncing or its outcome may settle it
-abbrev pub may_settle_alone : Stage → Bool
-may_settle_alone x = is_waiting x || is_out x
-
--- and so may the end of its flow
+-- its bouncing, its outcome or the end of its flow may settle it
 abbrev pub may_settle : Stage → Bool
 may_settle x = is_waiting x || is_out x || is_nested x
-
--- a try of it may go out
-abbrev pub may_go_out : Stage → Bool
-may_go_out x = is_waiting x || is_idle x
-
--- its flow may be opened
-abbrev pub may_nest : Stage → Bool
-may_nest x = is_waiting x || is_aside x
 
 -- a try that is out is the next one again; flows stay open
 abbrev pub called_back : Stage → Stage

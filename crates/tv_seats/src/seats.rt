@@ -1,12 +1,13 @@
 //! The seats of an instance's known jobs.
-ghost use Rattle.std.specs.Prelude.{◌≡◌, ◌^◌, ◌+◌, ◌-◌, ◌<◌, ◌≤◌, ◌++◌, ◌∷◌, [], true, length, map, nat_lt, slice_set, IfOk, OnErr, OnOk};
+ghost use Rattle.std.specs.Prelude.{◌≡◌, ◌^◌, ◌+◌, ◌-◌, ◌<◌, ◌≤◌, ◌++◌, ◌∷◌, ◌||◌, [], true, length, map, nat_lt, slice_set, IfOk, OnErr, OnOk};
 ghost use Rattle.std.specs.List.{list_all};
 ghost use Rattle.tv_seats.specs.declared.stage.Stage.TheVariants.{Aside as AnAside, Idle as AnIdle, Nested as ANested, Out as AnOut, Settled as ASettled};
 ghost use Rattle.tv_seats.specs.Firsts.{IsFirstAsideOf, IsFirstOf, MayGoOut, MayNest};
+ghost use Rattle.tv_seats.specs.Moves.{HasRoomAt, MayGoTo, rooms_after};
 ghost use Rattle.tv_seats.specs.Nested.{AreNested, StandsBehind};
 ghost use Rattle.tv_seats.specs.Seats.{HasBackRooms, HasRoomsOrAsBefore, IsFree, back, back_room, count_at, levels_of, new_seat, one_less, place_at, room_at, running_count, seats_out, stage_at, stands, step_at, with_back, with_stage};
 ghost use Rattle.tv_seats.specs.Starts.{AreEmptySteps, EmptiesStep};
-ghost use Rattle.tv_seats.specs.Stages.{is_nested, is_out, may_settle, may_settle_alone};
+ghost use Rattle.tv_seats.specs.Stages.{is_aside, is_idle, is_nested, is_out, may_settle};
 
 use crate::past::Past;
 use crate::stage::Stage;
@@ -203,12 +204,7 @@ impl Seats {
         ensures aside_rooms { self.new.aside_rooms ≡ self.old.aside_rooms }
         ensures nested_rooms { self.new.nested_rooms ≡ self.old.nested_rooms }
     {
-        let at = number as usize;
-        let step = self.table.step(at) as usize;
-        let waited = self.table.is_waiting(at);
-        self.steps[step].hand_out(waited);
-        self.table.set_stage(at, Stage::Out { activity, attempt });
-        self.out += 1;
+        self.move_seat(number, Stage::Out { activity, attempt });
     }
 
     /// Takes the room to put one job of a step back.
@@ -255,11 +251,7 @@ impl Seats {
         ensures aside_rooms { self.new.aside_rooms ≡ self.old.aside_rooms }
         ensures nested_rooms { self.new.nested_rooms ≡ self.old.nested_rooms }
     {
-        let at = number as usize;
-        let step = self.table.step(at) as usize;
-        self.steps[step].put_back(number as u32, self.table.place(at));
-        self.table.set_stage(at, Stage::Idle { activity, attempt });
-        self.out -= 1;
+        self.move_seat(number, Stage::Idle { activity, attempt });
     }
 
     /// A job that waits, is out or has its flow open is done. Takes no memory. Constant, and where its flow was open linear in the open
@@ -273,46 +265,7 @@ impl Seats {
         ensures aside_rooms { self.new.aside_rooms ≡ self.old.aside_rooms }
         ensures nested_rooms { self.new.nested_rooms ≡ self.old.nested_rooms }
     {
-        if self.table.is_nested(number as usize) {
-            self.settle_nested(number);
-        } else {
-            self.settle_alone(number);
-        }
-    }
-
-    /// A job that waits or is out is done.
-    fn settle_alone(&mut self, number: u64)
-        requires { stands may_settle_alone self.old.seats number ≡ true }
-        ensures seats { self.new.seats ≡ with_stage number ASettled self.old.seats }
-        ensures levels { self.new.levels ≡ self.old.levels }
-        ensures room { self.new.room ≡ self.old.room }
-        ensures back_rooms { self.new.back_rooms ≡ self.old.back_rooms }
-        ensures aside_rooms { self.new.aside_rooms ≡ self.old.aside_rooms }
-        ensures nested_rooms { self.new.nested_rooms ≡ self.old.nested_rooms }
-    {
-        let at = number as usize;
-        let step = self.table.step(at) as usize;
-        let was_out = self.table.is_out(at);
-        self.steps[step].settle(was_out);
-        self.table.set_stage(at, Stage::Settled);
-        self.out -= u64::from(was_out);
-    }
-
-    /// A job whose flow is open is done.
-    fn settle_nested(&mut self, number: u64)
-        requires { stands is_nested self.old.seats number ≡ true }
-        ensures seats { self.new.seats ≡ with_stage number ASettled self.old.seats }
-        ensures levels { self.new.levels ≡ self.old.levels }
-        ensures room { self.new.room ≡ self.old.room }
-        ensures back_rooms { self.new.back_rooms ≡ self.old.back_rooms }
-        ensures aside_rooms { self.new.aside_rooms ≡ self.old.aside_rooms }
-        ensures nested_rooms { self.new.nested_rooms ≡ self.old.nested_rooms }
-    {
-        let at = number as usize;
-        let step = self.table.step(at) as usize;
-        let position = position_among(&self.table, self.steps[step].nested.as_slice(), at);
-        self.steps[step].leave(position);
-        self.table.set_stage(at, Stage::Settled);
+        self.move_seat(number, Stage::Settled);
     }
 
     /// Takes the room to set one job of a step aside.
@@ -342,11 +295,7 @@ impl Seats {
             ≡ one_less (step_at self.old.seats number) self.old.aside_rooms }
         ensures nested_rooms { self.new.nested_rooms ≡ self.old.nested_rooms }
     {
-        let at = number as usize;
-        let step = self.table.step(at) as usize;
-        self.steps[step].set_aside(number as u32, self.table.place(at));
-        self.table.set_stage(at, Stage::Aside { activity });
-        self.out -= 1;
+        self.move_seat(number, Stage::Aside { activity });
     }
 
     /// The number of the job of a step with the least place, of those that were set aside.
@@ -388,12 +337,7 @@ impl Seats {
         ensures nested_rooms { self.new.nested_rooms
             ≡ one_less (step_at self.old.seats number) self.old.nested_rooms }
     {
-        let at = number as usize;
-        let step = self.table.step(at) as usize;
-        let waited = self.table.is_waiting(at);
-        let position = position_among(&self.table, self.steps[step].nested.as_slice(), at);
-        self.steps[step].nest(number as u32, waited, position);
-        self.table.set_stage(at, Stage::Nested { instance });
+        self.move_seat(number, Stage::Nested { instance });
     }
 
     /// The numbers of the jobs of a step whose flow is open, in order of place.
@@ -419,6 +363,32 @@ impl Seats {
             self.reserve_for(step, self.out_of(step))?;
         }
         Ok(())
+    }
+
+    /// A job goes to another stage: its step forgets it, and takes it up again as that stage has it.
+    fn move_seat(&mut self, number: u64, stage: Stage)
+        requires may { MayGoTo stage self.old.seats number }
+        requires room { HasRoomAt stage self.old (step_at self.old.seats number) }
+        ensures seats { self.new.seats ≡ with_stage number stage self.old.seats }
+        ensures levels { self.new.levels ≡ self.old.levels }
+        ensures room { self.new.room ≡ self.old.room }
+        ensures back_rooms { self.new.back_rooms
+            ≡ rooms_after (is_idle stage) (step_at self.old.seats number) self.old.back_rooms }
+        ensures aside_rooms { self.new.aside_rooms
+            ≡ rooms_after (is_aside stage) (step_at self.old.seats number) self.old.aside_rooms }
+        ensures nested_rooms { self.new.nested_rooms
+            ≡ rooms_after (is_nested stage) (step_at self.old.seats number) self.old.nested_rooms }
+    {
+        let at = number as usize;
+        let step = self.table.step(at) as usize;
+        let before = self.table.stage(at);
+        let seats = &mut self.steps[step];
+        let position = position_among(&self.table, seats.nested.as_slice(), at, before, stage);
+        seats.leave(before, position);
+        seats.enter(stage, number as u32, self.table.place(at), position);
+        self.table.set_stage(at, stage);
+        self.out -= u64::from(before.is_out());
+        self.out += u64::from(stage.is_out());
     }
 
     /// How many jobs of a step are out.
@@ -497,12 +467,17 @@ fn empty_step(
     Ok(())
 }
 
-/// How many of some jobs in order of place stand before a job: its position, where it is one of them. Linear.
-fn position_among(table: &Table, numbers: &[u32], at: usize) -> usize
+/// How many of some jobs in order of place stand before a job: its position, where it is one of them. Linear. They are those whose flow
+/// is open, and it goes from one stage to another: there is no walk where neither says so of it.
+fn position_among(table: &Table, numbers: &[u32], at: usize, before: Stage, after: Stage) -> usize
     requires at { at < length table.now.seats }
     requires within { list_all (λ n. nat_lt n (length table.now.seats)) numbers.now ≡ true }
-    ensures { StandsBehind table.now.seats numbers.now at result }
+    ensures { (is_nested before || is_nested after) ≡ true
+        → StandsBehind table.now.seats numbers.now at result }
 {
+    if !before.is_nested() && !after.is_nested() {
+        return 0;
+    }
     for position in 0..numbers.len() {
         if !table.is_before(numbers[position] as usize, at) {
             return position;

@@ -1,4 +1,6 @@
 //! Where a known job stands.
+ghost use Rattle.std.specs.Prelude.{◌≡◌};
+ghost use Rattle.tv_seats.specs.Stages.{is_nested, is_out};
 
 /// Where a known job stands. Activities and attempts count from 0.
 #[derive(Clone, Copy, Debug, PartialEq, Eq)]
@@ -15,4 +17,20 @@ pub enum Stage {
     Nested { instance: u64 },
     /// It is done.
     Settled,
+}
+
+impl Stage {
+    /// Whether a try of it is out.
+    pub(crate) fn is_out(self) -> bool
+        ensures { result ≡ is_out self }
+    {
+        matches!(self, Stage::Out { .. })
+    }
+
+    /// Whether its flow is open.
+    pub(crate) fn is_nested(self) -> bool
+        ensures { result ≡ is_nested self }
+    {
+        matches!(self, Stage::Nested { .. })
+    }
 }

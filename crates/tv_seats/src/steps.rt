@@ -1,9 +1,10 @@
 //! The seats of one step, counted.
-ghost use Rattle.std.specs.Prelude.{◌≡◌, ◌+◌, ◌-◌, ◌<◌, ◌≤◌, ◌^◌, if◌then◌else◌, [], drop, length, vec_capacity, OnErr, OnOk};
-ghost use Rattle.std.specs.List.{insert, remove};
-ghost use Rattle.tv_ready.specs.Listed.{with_job};
+ghost use Rattle.std.specs.Prelude.{◌≡◌, ◌+◌, ◌<◌, ◌≤◌, ◌^◌, length, true, vec_capacity, OnErr, OnOk};
+ghost use Rattle.tv_seats.specs.Moves.{Enters, HasRoom, Leaves, one};
+ghost use Rattle.tv_seats.specs.Stages.{is_nested, is_out, runs};
 ghost use Rattle.tv_seats.specs.Starts.{IsEmptyStep};
 
+use crate::stage::Stage;
 use std::alloc::Global;
 use tv_ready::Ready;
 use tv_value::NoMemory;
@@ -97,127 +98,74 @@ impl StepSeats {
         Ok(())
     }
 
-    /// One more is out: one that waited, or the first idle one. Takes no memory.
-    pub(crate) fn hand_out(&mut self, waited: bool)
-        requires running { self.old.running + (if waited then 1 else 0) < 2 ^ 32 }
-        requires out { self.old.out + 1 < 2 ^ 32 }
-        ensures jobs { self.new.idle.jobs ≡ (if waited then self.old.idle.jobs
-            else drop 1 self.old.idle.jobs) }
-        ensures levels { self.new.idle.levels ≡ self.old.idle.levels }
-        ensures room { self.new.idle.room ≡ self.old.idle.room }
-        ensures aside { self.new.aside ≡ self.old.aside }
-        ensures nested { self.new.nested ≡ self.old.nested }
-        ensures nested_room { self.new.nested_room ≡ self.old.nested_room }
-        ensures running { self.new.running ≡ self.old.running + (if waited then 1 else 0) }
-        ensures out { self.new.out ≡ self.old.out + 1 }
-    {
-        self.out += 1;
-        if waited {
-            self.running += 1;
-        } else {
-            let _first = self.idle.take_first();
-        }
-    }
-
-    /// One that was out is idle. Takes no memory.
-    pub(crate) fn put_back(&mut self, number: u32, place: &[u32])
-        requires room { 0 < self.old.idle.room }
-        requires levels { length place.now ≡ self.old.idle.levels }
-        requires some { 0 < self.old.out }
-        ensures jobs { self.new.idle.jobs ≡ with_job (number, place.now) self.old.idle.jobs }
-        ensures levels { self.new.idle.levels ≡ self.old.idle.levels }
-        ensures room { self.new.idle.room ≡ self.old.idle.room - 1 }
-        ensures aside { self.new.aside ≡ self.old.aside }
-        ensures nested { self.new.nested ≡ self.old.nested }
-        ensures nested_room { self.new.nested_room ≡ self.old.nested_room }
-        ensures running { self.new.running ≡ self.old.running }
-        ensures out { self.new.out ≡ self.old.out - 1 }
-    {
-        self.idle.put(number, place);
-        self.out -= 1;
-    }
-
-    /// One that was out is set aside. Takes no memory.
-    pub(crate) fn set_aside(&mut self, number: u32, place: &[u32])
-        requires room { 0 < self.old.aside.room }
-        requires levels { length place.now ≡ self.old.aside.levels }
-        requires some { 0 < self.old.out }
-        ensures idle { self.new.idle ≡ self.old.idle }
-        ensures jobs { self.new.aside.jobs ≡ with_job (number, place.now) self.old.aside.jobs }
-        ensures levels { self.new.aside.levels ≡ self.old.aside.levels }
-        ensures room { self.new.aside.room ≡ self.old.aside.room - 1 }
-        ensures nested { self.new.nested ≡ self.old.nested }
-        ensures nested_room { self.new.nested_room ≡ self.old.nested_room }
-        ensures running { self.new.running ≡ self.old.running }
-        ensures out { self.new.out ≡ self.old.out - 1 }
-    {
-        self.aside.put(number, place);
-        self.out -= 1;
-    }
-
-    /// The flow of one more is open, which stands at this position among these: one that waited, or the first that was set aside.
-    /// Takes no memory. Linear in the open flows.
-    pub(crate) fn nest(&mut self, number: u32, waited: bool, position: usize)
-        requires position { position ≤ length self.old.nested.items }
-        requires room { 0 < self.old.nested_room }
+    /// A job leaves the stage: the first one, where that is to be idle or set aside, and the one that stands at this position, where its
+    /// flow is open. Takes no memory. Where its flow was open, linear in the open flows.
+    pub(crate) fn leave(&mut self, stage: Stage, position: usize)
+        requires position { is_nested stage ≡ true → position < length self.old.nested.items }
         requires capacity { length self.old.nested.items + self.old.nested_room
             ≤ vec_capacity self.old.nested }
-        requires running { self.old.running + (if waited then 1 else 0) < 2 ^ 32 }
-        ensures idle { self.new.idle ≡ self.old.idle }
-        ensures jobs { self.new.aside.jobs ≡ (if waited then self.old.aside.jobs
-            else drop 1 self.old.aside.jobs) }
-        ensures levels { self.new.aside.levels ≡ self.old.aside.levels }
-        ensures room { self.new.aside.room ≡ self.old.aside.room }
-        ensures nested { self.new.nested.items ≡ insert self.old.nested.items position number }
-        ensures nested_room { self.new.nested_room ≡ self.old.nested_room - 1 }
-        ensures capacity { length self.new.nested.items + self.new.nested_room
-            ≤ vec_capacity self.new.nested }
-        ensures running { self.new.running ≡ self.old.running + (if waited then 1 else 0) }
-        ensures out { self.new.out ≡ self.old.out }
+        requires running { one (runs stage) ≤ self.old.running }
+        requires out { one (is_out stage) ≤ self.old.out }
+        ensures { Leaves stage position self.old self.new }
     {
-        match self.nested.insert(position, number) {
-            Ok(()) => (),
-            Err(_full) => unreachable!(),
-        }
-        self.nested_room -= 1;
-        if waited {
-            self.running += 1;
-        } else {
-            let _first = self.aside.take_first();
+        match stage {
+            Stage::Waiting => (),
+            Stage::Out { .. } => {
+                self.out -= 1;
+                self.running -= 1;
+            }
+            Stage::Idle { .. } => {
+                let _first = self.idle.take_first();
+                self.running -= 1;
+            }
+            Stage::Aside { .. } => {
+                let _first = self.aside.take_first();
+                self.running -= 1;
+            }
+            Stage::Nested { .. } => {
+                let _number = self.nested.remove(position);
+                self.running -= 1;
+            }
+            Stage::Settled => (),
         }
     }
 
-    /// One that was out or waited is done.
-    pub(crate) fn settle(&mut self, was_out: bool)
-        requires running { (if was_out then 1 else 0) ≤ self.old.running }
-        requires out { (if was_out then 1 else 0) ≤ self.old.out }
-        ensures idle { self.new.idle ≡ self.old.idle }
-        ensures aside { self.new.aside ≡ self.old.aside }
-        ensures nested { self.new.nested ≡ self.old.nested }
-        ensures nested_room { self.new.nested_room ≡ self.old.nested_room }
-        ensures running { self.new.running + (if was_out then 1 else 0) ≡ self.old.running }
-        ensures out { self.new.out + (if was_out then 1 else 0) ≡ self.old.out }
-    {
-        self.running -= u32::from(was_out);
-        self.out -= u32::from(was_out);
-    }
-
-    /// One whose flow was open is done, which stands at this position among these. Linear in the open flows.
-    pub(crate) fn leave(&mut self, position: usize)
-        requires position { position < length self.old.nested.items }
+    /// A job comes to the stage, at this place, and at this position among the open flows, where its own is one. Takes no memory. Where
+    /// its flow is open, linear in the open flows.
+    pub(crate) fn enter(&mut self, stage: Stage, number: u32, place: &[u32], position: usize)
+        requires room { HasRoom stage self.old }
+        requires levels { (length place.now ≡ self.old.idle.levels)
+            × (length place.now ≡ self.old.aside.levels) }
+        requires position { is_nested stage ≡ true → position ≤ length self.old.nested.items }
         requires capacity { length self.old.nested.items + self.old.nested_room
             ≤ vec_capacity self.old.nested }
-        requires running { 0 < self.old.running }
-        ensures idle { self.new.idle ≡ self.old.idle }
-        ensures aside { self.new.aside ≡ self.old.aside }
-        ensures nested { self.new.nested.items ≡ remove self.old.nested.items position }
-        ensures nested_room { self.new.nested_room ≡ self.old.nested_room }
-        ensures capacity { length self.new.nested.items + self.new.nested_room
-            ≤ vec_capacity self.new.nested }
-        ensures running { self.new.running + 1 ≡ self.old.running }
-        ensures out { self.new.out ≡ self.old.out }
+        requires running { self.old.running + one (runs stage) < 2 ^ 32 }
+        requires out { self.old.out + one (is_out stage) < 2 ^ 32 }
+        ensures { Enters stage (number, place.now) position self.old self.new }
     {
-        let _number = self.nested.remove(position);
-        self.running -= 1;
+        match stage {
+            Stage::Waiting => (),
+            Stage::Out { .. } => {
+                self.out += 1;
+                self.running += 1;
+            }
+            Stage::Idle { .. } => {
+                self.idle.put(number, place);
+                self.running += 1;
+            }
+            Stage::Aside { .. } => {
+                self.aside.put(number, place);
+                self.running += 1;
+            }
+            Stage::Nested { .. } => {
+                match self.nested.insert(position, number) {
+                    Ok(()) => (),
+                    Err(_full) => unreachable!(),
+                }
+                self.nested_room -= 1;
+                self.running += 1;
+            }
+            Stage::Settled => (),
+        }
     }
 }

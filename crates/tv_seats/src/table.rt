@@ -1,8 +1,7 @@
 //! The seats by number.
 ghost use Rattle.std.specs.Prelude.{◌≡◌, ◌++◌, ◌∷◌, ◌<◌, ◌≤◌, ◌-◌, ◌+◌, ◌^◌, [], Some, length, option_map, slice_get, OnOk, OnErr};
 ghost use Rattle.tv_seats.specs.Nested.{is_before};
-ghost use Rattle.tv_seats.specs.Seats.{new_seat, stage_at, stands, step_at, with_stage};
-ghost use Rattle.tv_seats.specs.Stages.{is_nested, is_out, is_waiting};
+ghost use Rattle.tv_seats.specs.Seats.{new_seat, stage_at, step_at, with_stage};
 
 use crate::past::{Kept, Past};
 use crate::stage::Stage;
@@ -172,30 +171,6 @@ impl Table {
         ensures { Some result ≡ stage_at self.now.seats at }
     {
         self.rows[at].stage
-    }
-
-    /// Whether its job waits.
-    pub fn is_waiting(&self, at: usize) -> bool
-        requires { at < length self.now.seats }
-        ensures { result ≡ stands is_waiting self.now.seats at }
-    {
-        matches!(self.rows[at].stage, Stage::Waiting)
-    }
-
-    /// Whether its job is out.
-    pub fn is_out(&self, at: usize) -> bool
-        requires { at < length self.now.seats }
-        ensures { result ≡ stands is_out self.now.seats at }
-    {
-        matches!(self.rows[at].stage, Stage::Out { .. })
-    }
-
-    /// Whether its job's flow is open.
-    pub fn is_nested(&self, at: usize) -> bool
-        requires { at < length self.now.seats }
-        ensures { result ≡ stands is_nested self.now.seats at }
-    {
-        matches!(self.rows[at].stage, Stage::Nested { .. })
     }
 
     /// Whether one seat's place is lesser than another's.

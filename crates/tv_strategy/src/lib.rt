@@ -26,8 +26,6 @@
 mod depth;
 pub mod laws;
 mod places;
-#[cfg(test)]
-mod tests;
 
 pub use depth::{DotFault, depth_of};
 pub use places::{PortPlaces, join, split};

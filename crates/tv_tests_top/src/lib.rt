@@ -1,5 +1,16 @@
-//! Tests of whole runs of the top calls over memory: answers, refusals, and streams that fail.
+//! Tests of streams and of whole runs of the top calls over memory: what they ask, and what fails.
+//!
+//! - `streams`: reads and writes over sources and sinks
+//! - `runs`: runs of the two top calls over streams that may fail
+//! - `calls`: what runs ask
+//! - `failing`: reads and writes that fail, and want of memory
 #![tactic(auto)]
 
 #[cfg(test)]
-mod tests;
+mod calls;
+#[cfg(test)]
+mod failing;
+#[cfg(test)]
+mod runs;
+#[cfg(test)]
+mod streams;

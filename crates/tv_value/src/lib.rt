@@ -27,8 +27,6 @@ mod place;
 mod reading;
 mod same;
 mod sequence;
-#[cfg(test)]
-mod tests;
 mod text;
 mod tree;
 mod value;

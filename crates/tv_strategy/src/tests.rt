@@ -1,2 +1,0 @@
-mod conditions;
-mod trees;

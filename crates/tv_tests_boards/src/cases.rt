@@ -1,0 +1,310 @@
+//! Scripts over boards of worked documents, what is said of each act, and the line once the rest is worked off: the same one,
+//! in whatever order outcomes came.
+use crate::play::{Play, run_of};
+use std::alloc::Global;
+use std::test::Fail;
+
+/// A document, and the line that it comes to.
+struct Worked {
+    document: &'static str,
+    line: &'static str,
+}
+
+/// Capitals of one text.
+const ONE: Worked = Worked {
+    document: r#"{"taverna":1,"main":"m","flows":{"m":{"inputs":{"x":0},"steps":{"u":{"inputs":{"a":{"depth":0,"from":{"input":"x"}}},"outputs":{"o":0},"activities":[{"service":"upper"}]}},"outputs":{"out":{"step":"u","port":"o"}}}},"inputs":{"x":"a"}}"#,
+    line: "{\"outputs\":{\"out\":\"A\"},\"totals\":{\"attempts\":1,\"bounced\":0,\"failed\":0,\"jobs\":1}}\n",
+};
+
+/// Capitals of two texts, and small letters of them.
+const CHAIN: Worked = Worked {
+    document: r#"{"taverna":1,"main":"m","flows":{"m":{"inputs":{"x":1},"steps":{"p":{"inputs":{"a":{"depth":0,"from":{"input":"x"}}},"outputs":{"o":0},"activities":[{"service":"upper"}]},"q":{"inputs":{"a":{"depth":0,"from":{"step":"p","port":"o"}}},"outputs":{"o":0},"activities":[{"service":"lower"}]}},"outputs":{"out":{"step":"q","port":"o"}}}},"inputs":{"x":["a","b"]}}"#,
+    line: "{\"outputs\":{\"out\":[\"a\",\"b\"]},\"totals\":{\"attempts\":4,\"bounced\":0,\"failed\":0,\"jobs\":4}}\n",
+};
+
+/// The same, with two jobs of the first step at once.
+const CHAIN_BY_TWO: Worked = Worked {
+    document: r#"{"taverna":1,"main":"m","flows":{"m":{"inputs":{"x":1},"steps":{"p":{"inputs":{"a":{"depth":0,"from":{"input":"x"}}},"jobs":2,"outputs":{"o":0},"activities":[{"service":"upper"}]},"q":{"inputs":{"a":{"depth":0,"from":{"step":"p","port":"o"}}},"outputs":{"o":0},"activities":[{"service":"lower"}]}},"outputs":{"out":{"step":"q","port":"o"}}}},"inputs":{"x":["a","b"]}}"#,
+    line: "{\"outputs\":{\"out\":[\"a\",\"b\"]},\"totals\":{\"attempts\":4,\"bounced\":0,\"failed\":0,\"jobs\":4}}\n",
+};
+
+/// Three texts, of which one fails, through a step that may have three tries out, and one that may have one.
+const FAILURES_BY_THREE: Worked = Worked {
+    document: r#"{"taverna":1,"main":"m","flows":{"m":{"inputs":{"x":1},"steps":{"f":{"inputs":{"a":{"depth":0,"from":{"input":"x"}}},"jobs":3,"outputs":{"o":0},"activities":[{"service":"fail_if"}]},"u":{"inputs":{"a":{"depth":0,"from":{"step":"f","port":"o"}}},"outputs":{"o":0},"activities":[{"service":"upper"}]}},"outputs":{"out":{"step":"u","port":"o"}}}},"inputs":{"x":["no","true","no"]}}"#,
+    line: "{\"outputs\":{\"out\":[\"NO\",{\"error\":{\"at\":\"u[1]\",\"depth\":0,\"from\":[\"f[1]\"],\"why\":\"bounced\"}},\"NO\"]},\"totals\":{\"attempts\":5,\"bounced\":1,\"failed\":1,\"jobs\":6}}\n",
+};
+
+/// A text that fails twice before it comes through.
+const FLAKY: Worked = Worked {
+    document: r#"{"taverna":1,"main":"m","flows":{"m":{"inputs":{"x":0},"steps":{"f":{"inputs":{"a":{"depth":0,"from":{"input":"x"}},"n":{"depth":0,"from":{"constant":"2"}}},"outputs":{"o":0},"retries":2,"activities":[{"service":"flaky"}]}},"outputs":{"out":{"step":"f","port":"o"}}}},"inputs":{"x":"t"}}"#,
+    line: "{\"outputs\":{\"out\":\"t\"},\"totals\":{\"attempts\":3,\"bounced\":0,\"failed\":0,\"jobs\":1}}\n",
+};
+
+/// A failure, tried twice, and an echo then.
+const FAILOVER: Worked = Worked {
+    document: r#"{"taverna":1,"main":"m","flows":{"m":{"inputs":{"x":0},"steps":{"e":{"inputs":{"a":{"depth":0,"from":{"input":"x"}}},"outputs":{"o":0},"retries":1,"activities":[{"service":"fail_if"},{"service":"echo"}]}},"outputs":{"out":{"step":"e","port":"o"}}}},"inputs":{"x":"true"}}"#,
+    line: "{\"outputs\":{\"out\":\"true\"},\"totals\":{\"attempts\":3,\"bounced\":0,\"failed\":0,\"jobs\":1}}\n",
+};
+
+/// Two lists crossed, with four jobs at once.
+const CROSS_BY_FOUR: Worked = Worked {
+    document: r#"{"taverna":1,"main":"m","flows":{"m":{"inputs":{"x":1,"y":1},"steps":{"c":{"inputs":{"a":{"depth":0,"from":{"input":"x"}},"b":{"depth":0,"from":{"input":"y"}}},"jobs":4,"outputs":{"o":0},"activities":[{"service":"concat"}]}},"outputs":{"out":{"step":"c","port":"o"}}}},"inputs":{"x":["a","b"],"y":["1","2"]}}"#,
+    line: "{\"outputs\":{\"out\":[[\"a1\",\"a2\"],[\"b1\",\"b2\"]]},\"totals\":{\"attempts\":4,\"bounced\":0,\"failed\":0,\"jobs\":4}}\n",
+};
+
+/// Two texts, of which the first fails, and capitals of the rest.
+const FAILURES: Worked = Worked {
+    document: r#"{"taverna":1,"main":"m","flows":{"m":{"inputs":{"x":1},"steps":{"f":{"inputs":{"a":{"depth":0,"from":{"input":"x"}}},"outputs":{"o":0},"activities":[{"service":"fail_if"}]},"u":{"inputs":{"a":{"depth":0,"from":{"step":"f","port":"o"}}},"outputs":{"o":0},"activities":[{"service":"upper"}]}},"outputs":{"out":{"step":"u","port":"o"}}}},"inputs":{"x":["true","no"]}}"#,
+    line: "{\"outputs\":{\"out\":[{\"error\":{\"at\":\"u[0]\",\"depth\":0,\"from\":[\"f[0]\"],\"why\":\"bounced\"}},\"NO\"]},\"totals\":{\"attempts\":3,\"bounced\":1,\"failed\":1,\"jobs\":4}}\n",
+};
+
+/// Capitals of a fault that stands for a list.
+const PASSED: Worked = Worked {
+    document: r#"{"taverna":1,"main":"m","flows":{"m":{"inputs":{},"steps":{"r":{"inputs":{"a":{"depth":0,"from":{"constant":"z"}},"b":{"depth":0,"from":{"constant":"1"}}},"outputs":{"o":1},"activities":[{"service":"range"}]},"u":{"inputs":{"a":{"depth":0,"from":{"step":"r","port":"o"}}},"outputs":{"o":0},"activities":[{"service":"upper"}]}},"outputs":{"out":{"step":"u","port":"o"}}}},"inputs":{}}"#,
+    line: "{\"outputs\":{\"out\":{\"error\":{\"at\":\"r[]\",\"depth\":1,\"from\":[],\"why\":\"range input 1 is no number\"}}},\"totals\":{\"attempts\":1,\"bounced\":0,\"failed\":1,\"jobs\":1}}\n",
+};
+
+/// Two inputs as one list.
+const MERGE: Worked = Worked {
+    document: r#"{"taverna":1,"main":"m","flows":{"m":{"inputs":{"x":0,"y":0},"steps":{"e":{"inputs":{"a":{"depth":1,"from":{"merge":[{"input":"x"},{"input":"y"}]}}},"outputs":{"o":1},"activities":[{"service":"echo"}]}},"outputs":{"out":{"step":"e","port":"o"}}}},"inputs":{"x":"a","y":"b"}}"#,
+    line: "{\"outputs\":{\"out\":[\"a\",\"b\"]},\"totals\":{\"attempts\":1,\"bounced\":0,\"failed\":0,\"jobs\":1}}\n",
+};
+
+/// A flow of one step for each of three texts, with two open at once.
+const NESTED: Worked = Worked {
+    document: r#"{"taverna":1,"main":"m","flows":{"s":{"inputs":{"a":0},"steps":{"u":{"inputs":{"a":{"depth":0,"from":{"input":"a"}}},"outputs":{"o":0},"activities":[{"service":"upper"}]}},"outputs":{"o":{"step":"u","port":"o"}}},"m":{"inputs":{"x":1},"steps":{"n":{"inputs":{"a":{"depth":0,"from":{"input":"x"}}},"outputs":{"o":0},"jobs":2,"activities":[{"flow":"s"}]}},"outputs":{"out":{"step":"n","port":"o"}}}},"inputs":{"x":["a","b","c"]}}"#,
+    line: "{\"outputs\":{\"out\":[\"A\",\"B\",\"C\"]},\"totals\":{\"attempts\":3,\"bounced\":0,\"failed\":0,\"jobs\":6}}\n",
+};
+
+/// The same for two texts.
+const NESTED_TWO: Worked = Worked {
+    document: r#"{"taverna":1,"main":"m","flows":{"s":{"inputs":{"a":0},"steps":{"u":{"inputs":{"a":{"depth":0,"from":{"input":"a"}}},"outputs":{"o":0},"activities":[{"service":"upper"}]}},"outputs":{"o":{"step":"u","port":"o"}}},"m":{"inputs":{"x":1},"steps":{"n":{"inputs":{"a":{"depth":0,"from":{"input":"x"}}},"outputs":{"o":0},"jobs":2,"activities":[{"flow":"s"}]}},"outputs":{"out":{"step":"n","port":"o"}}}},"inputs":{"x":["a","b"]}}"#,
+    line: "{\"outputs\":{\"out\":[\"A\",\"B\"]},\"totals\":{\"attempts\":2,\"bounced\":0,\"failed\":0,\"jobs\":4}}\n",
+};
+
+/// A service that fails where the text is true, tried twice, and the flow then.
+const NESTED_FAILOVER: Worked = Worked {
+    document: r#"{"taverna":1,"main":"m","flows":{"s":{"inputs":{"a":0},"steps":{"u":{"inputs":{"a":{"depth":0,"from":{"input":"a"}}},"outputs":{"o":0},"activities":[{"service":"upper"}]}},"outputs":{"o":{"step":"u","port":"o"}}},"m":{"inputs":{"x":1},"steps":{"n":{"inputs":{"a":{"depth":0,"from":{"input":"x"}}},"outputs":{"o":0},"retries":1,"activities":[{"service":"fail_if"},{"flow":"s"}]}},"outputs":{"out":{"step":"n","port":"o"}}}},"inputs":{"x":["true","no"]}}"#,
+    line: "{\"outputs\":{\"out\":[\"TRUE\",\"no\"]},\"totals\":{\"attempts\":4,\"bounced\":0,\"failed\":0,\"jobs\":3}}\n",
+};
+
+/// The same tried once, with two jobs at once.
+const NESTED_FAILOVER_BY_TWO: Worked = Worked {
+    document: r#"{"taverna":1,"main":"m","flows":{"s":{"inputs":{"a":0},"steps":{"u":{"inputs":{"a":{"depth":0,"from":{"input":"a"}}},"outputs":{"o":0},"activities":[{"service":"upper"}]}},"outputs":{"o":{"step":"u","port":"o"}}},"m":{"inputs":{"x":1},"steps":{"n":{"inputs":{"a":{"depth":0,"from":{"input":"x"}}},"outputs":{"o":0},"jobs":2,"activities":[{"service":"fail_if"},{"flow":"s"}]}},"outputs":{"out":{"step":"n","port":"o"}}}},"inputs":{"x":["no","true"]}}"#,
+    line: "{\"outputs\":{\"out\":[\"no\",\"TRUE\"]},\"totals\":{\"attempts\":3,\"bounced\":0,\"failed\":0,\"jobs\":3}}\n",
+};
+
+/// A flow that fails where the text is true, and capitals of what comes out.
+const NESTED_FAILURE: Worked = Worked {
+    document: r#"{"taverna":1,"main":"m","flows":{"s":{"inputs":{"a":0},"steps":{"f":{"inputs":{"a":{"depth":0,"from":{"input":"a"}}},"outputs":{"o":0},"activities":[{"service":"fail_if"}]}},"outputs":{"o":{"step":"f","port":"o"}}},"m":{"inputs":{"x":1},"steps":{"n":{"inputs":{"a":{"depth":0,"from":{"input":"x"}}},"outputs":{"o":0},"jobs":2,"activities":[{"flow":"s"}]},"q":{"inputs":{"a":{"depth":0,"from":{"step":"n","port":"o"}}},"outputs":{"o":0},"activities":[{"service":"upper"}]}},"outputs":{"out":{"step":"q","port":"o"}}}},"inputs":{"x":["true","no"]}}"#,
+    line: "{\"outputs\":{\"out\":[{\"error\":{\"at\":\"q[0]\",\"depth\":0,\"from\":[\"n[0]/f[]\"],\"why\":\"bounced\"}},\"NO\"]},\"totals\":{\"attempts\":3,\"bounced\":1,\"failed\":1,\"jobs\":6}}\n",
+};
+
+/// Capitals of x, a flow over y then, and small letters of x at last.
+const NESTED_AFTER: Worked = Worked {
+    document: r#"{"taverna":1,"main":"m","flows":{"s":{"inputs":{"a":0},"steps":{"u":{"inputs":{"a":{"depth":0,"from":{"input":"a"}}},"outputs":{"o":0},"activities":[{"service":"upper"}]}},"outputs":{"o":{"step":"u","port":"o"}}},"m":{"inputs":{"x":0,"y":1},"steps":{"p":{"inputs":{"a":{"depth":0,"from":{"input":"x"}}},"outputs":{"o":0},"activities":[{"service":"upper"}]},"q":{"inputs":{"a":{"depth":0,"from":{"input":"y"}}},"outputs":{"o":0},"jobs":2,"after":["p"],"activities":[{"flow":"s"}]},"r":{"inputs":{"a":{"depth":0,"from":{"input":"x"}}},"outputs":{"o":0},"after":["q"],"activities":[{"service":"lower"}]}},"outputs":{"out":{"step":"q","port":"o"}}}},"inputs":{"x":"K","y":["a","b"]}}"#,
+    line: "{\"outputs\":{\"out\":[\"A\",\"B\"]},\"totals\":{\"attempts\":4,\"bounced\":0,\"failed\":0,\"jobs\":6}}\n",
+};
+
+/// A text that fails once before it comes through, two flows deep.
+const DEEP: Worked = Worked {
+    document: r#"{"taverna":1,"main":"m","flows":{"s":{"inputs":{"a":0},"steps":{"n":{"inputs":{"a":{"depth":0,"from":{"input":"a"}}},"outputs":{"o":0},"activities":[{"flow":"t"}]}},"outputs":{"o":{"step":"n","port":"o"}}},"t":{"inputs":{"a":0},"steps":{"f":{"inputs":{"a":{"depth":0,"from":{"input":"a"}},"n":{"depth":0,"from":{"constant":"1"}}},"outputs":{"o":0},"retries":1,"activities":[{"service":"flaky"}]}},"outputs":{"o":{"step":"f","port":"o"}}},"m":{"inputs":{"x":1},"steps":{"k":{"inputs":{"a":{"depth":0,"from":{"input":"x"}}},"outputs":{"o":0},"activities":[{"flow":"s"}]}},"outputs":{"out":{"step":"k","port":"o"}}}},"inputs":{"x":["a","b"]}}"#,
+    line: "{\"outputs\":{\"out\":[\"a\",\"b\"]},\"totals\":{\"attempts\":4,\"bounced\":0,\"failed\":0,\"jobs\":6}}\n",
+};
+
+static CASES: [(Worked, &str, &str); 31] = [
+    // One job: its answer is accepted once, and the run ends.
+    (
+        ONE,
+        "history settle hand hand task:0/0/0 ask:0/0/0 alone:0/0/0 accept:0 accept:1 done settle settle done totals history",
+        r#" false 0/0/0 none upper o:0["a"] good settled false true false true 1 0 0 1 out 0/0/0;in 0/0/0 true;ended 0; "#,
+    ),
+    // A board that moves on settles as long as it can, hands out what is on offer, and rests.
+    (
+        ONE,
+        "move move ask:0/0/0 move accept:0 move move done",
+        "0/0/0 none none good settles none true ",
+    ),
+    // A try that was taken back isn't out, and its answer is accepted once it is out again.
+    (
+        CHAIN,
+        "hand name:0 name:99 ask:0/0/0 recall accept:0 hand accept:0 recall history",
+        "0/0/0 p[0] none 1 idle 0/0 0/0/0 good 0 out 0/0/0;recalled 1;out 0/0/0;in 0/0/0 true; ",
+    ),
+    // Where jobs stand whose tries aren't out: there is none of that number, it hasn't begun, and another try of it is out.
+    (
+        CHAIN,
+        "task:99/0/0 task:0/0/0 hand task:0/0/0 task:0/0/1 task:0/1/0 task:1/0/0 recall task:0/0/0",
+        r#"unknown ready 0/0/0 upper o:0["a"] out 0/0 out 0/0 ready 1 idle 0/0 "#,
+    ),
+    // Two texts through two steps, of which the first may have two tries out.
+    (CHAIN_BY_TWO, "", ""),
+    (
+        CHAIN_BY_TWO,
+        "hand ask:0/0/0 accept:0 hand ask:2/0/0 accept:1 hand ask:1/0/0 accept:2",
+        "0/0/0 good 2/0/0 good 1/0/0 good ",
+    ),
+    (
+        CHAIN_BY_TWO,
+        "hand hand hand ask:0/0/0 ask:1/0/0 accept:1 accept:0 hand hand",
+        "0/0/0 1/0/0 none good good 3/0/0 none ",
+    ),
+    (
+        CHAIN_BY_TWO,
+        "hand hand ask:1/0/0 accept:0 hand ask:0/0/0 ask:2/0/0 accept:2 accept:1",
+        "0/0/0 1/0/0 good 2/0/0 good good ",
+    ),
+    (
+        CHAIN_BY_TWO,
+        "hand hand ask:0/0/0 ask:0/0/0 ask:1/0/0 accept:0 accept:1 accept:2 accept:1",
+        "0/0/0 1/0/0 good settled good settled ",
+    ),
+    (
+        CHAIN_BY_TWO,
+        "hand hand ask:0/0/0 ask:1/0/0 recall accept:0 accept:1 hand accept:1 accept:0 hand hand accept:1",
+        "0/0/0 1/0/0 2 idle 0/0 idle 0/0 0/0/0 idle 0/0 good 2/0/0 1/0/0 good ",
+    ),
+    (
+        CHAIN_BY_TWO,
+        "recall hand ask:0/0/0 accept:0 recall settles recall",
+        "0 0/0/0 good 0 2 0 ",
+    ),
+    (
+        CHAIN_BY_TWO,
+        "settles hand hand ask:1/0/0 ask:0/0/0 accept:0 accept:1 settles hand ask:3/0/0 accept:2 hand ask:2/0/0 accept:3 settles settles hand",
+        "2 0/0/0 1/0/0 good good 0 3/0/0 good 2/0/0 good 1 0 none ",
+    ),
+    // Three texts, of which one fails.
+    (
+        FAILURES_BY_THREE,
+        "hand hand hand ask:0/0/0 ask:1/0/0 ask:2/0/0 accept:2 accept:1 accept:0 settles history",
+        "0/0/0 1/0/0 2/0/0 good failed good 3 out 0/0/0;out 1/0/0;out 2/0/0;in 2/0/0 true;in 1/0/0 false;in 0/0/0 true;bounced 4;closed 0/0/0 3;closed 0/1/0 3; ",
+    ),
+    (
+        FAILURES_BY_THREE,
+        "settles hand hand ask:1/0/0 ask:1/0/0 accept:0 settles settles hand accept:1",
+        "2 0/0/0 1/0/0 failed 1 0 2/0/0 settled ",
+    ),
+    (
+        FAILURES_BY_THREE,
+        "hand hand hand ask:1/0/0 ask:1/0/0 recall hand hand accept:1 accept:0 settles",
+        "0/0/0 1/0/0 2/0/0 3 0/0/0 1/0/0 failed settled 3 ",
+    ),
+    // The tries of one job come one after another, and an answer is for its own try.
+    (
+        FLAKY,
+        "hand hand ask:0/0/0 ask:0/0/0 accept:0 accept:1 settles hand accept:1 ask:0/0/1 accept:2 hand ask:0/0/2 accept:3 settles",
+        "0/0/0 none again idle 0/1 0 0/0/1 out 0/1 again 0/0/2 good 1 ",
+    ),
+    // After the last try of one activity comes the first of the next.
+    (
+        FAILOVER,
+        "hand ask:0/0/0 accept:0 hand ask:0/0/1 recall accept:1 hand accept:1 hand ask:0/1/0 recall hand accept:2",
+        "0/0/0 again 0/0/1 1 idle 0/1 0/0/1 again 0/1/0 1 0/1/0 good ",
+    ),
+    // A second instance is opened once the first has no try on offer, and a third where a place is
+    // free. Recalled tries are on offer again, and their instances stay open.
+    (
+        NESTED,
+        "settles task:0/0/0 task:1/0/0 hand settle settle hand hand name:3 name:4 ask:3/0/0 ask:4/0/0 recall settle accept:0 hand accept:1 hand accept:1 settles accept:0 settles hand ask:5/0/0 accept:2 settles done totals history",
+        "2 nested ready 3/0/0 true false 4/0/0 none n[0]/u[] n[1]/u[] 2 false idle 0/0 3/0/0 idle 0/0 4/0/0 good 2 good 1 5/0/0 good 2 true 3 0 0 6 closed 0/0/0 3;opened 0 1;out 3/0/0;opened 1 2;out 4/0/0;recalled 2;out 3/0/0;out 4/0/0;in 4/0/0 true;ended 2;opened 2 3;in 3/0/0 true;ended 1;out 5/0/0;in 5/0/0 true;ended 3;ended 0; ",
+    ),
+    // A job whose services failed is idle until its instance is opened, with the place that it has; it
+    // waits while a job before it has a try on offer.
+    (
+        NESTED_FAILOVER,
+        "settles hand hand ask:0/0/0 accept:0 task:0/0/0 hand ask:0/0/1 accept:1 task:0/1/0 hand settle task:0/1/0 settle hand hand ask:2/0/0 accept:2 settle settle hand ask:1/0/0 accept:3 settles totals",
+        "1 0/0/0 none again idle 0/1 0/0/1 again idle 1/0 none true nested false 2/0/0 none good true false 1/0/0 good 1 4 0 0 3 ",
+    ),
+    (
+        NESTED_FAILOVER_BY_TWO,
+        "settles hand hand ask:0/0/0 ask:1/0/0 accept:1 task:1/1/0 recall settle hand settle accept:0 settles hand ask:2/0/0 accept:2 settles done",
+        "1 0/0/0 1/0/0 again idle 1/0 1 false 0/0/0 true good 0 2/0/0 good 2 true ",
+    ),
+    // A fault of an instance stands in its job's place, and the job of the next step bounces; the
+    // nested job itself is right.
+    (
+        NESTED_FAILURE,
+        "settles hand settles hand ask:2/0/0 ask:3/0/0 accept:0 settles task:4/0/0 accept:1 settles hand ask:5/0/0 accept:2 settles totals history",
+        "3 2/0/0 1 3/0/0 failed 2 settled good 1 5/0/0 good 1 3 1 1 6 closed 0/0/0 2;closed 0/1/0 2;opened 0 1;out 2/0/0;opened 1 2;out 3/0/0;in 2/0/0 false;ended 1;bounced 4;in 3/0/0 true;ended 2;out 5/0/0;in 5/0/0 true;ended 0; ",
+    ),
+    // The same board, moved on: it opens flows and hands out in their order, and what is out doesn't hold it up.
+    (
+        NESTED_FAILURE,
+        "move move move move move move move ask:2/0/0 ask:3/0/0 accept:0 move move move accept:1",
+        "settles settles settles 2/0/0 settles 3/0/0 none failed settles settles none good ",
+    ),
+    // A recall takes back what is out in an instance two flows deep, which stays open; a job's attempts
+    // go on from there.
+    (
+        DEEP,
+        "settles recall hand name:3 ask:3/0/0 recall task:3/0/0 task:2/0/0 settle accept:0 hand accept:0 recall hand ask:3/0/1 recall accept:1 hand accept:1 settles history",
+        "3 0 3/0/0 k[0]/n[]/f[] 1 idle 0/0 nested false idle 0/0 3/0/0 again 0 3/0/1 1 idle 0/1 3/0/1 good 4 closed 0/0/0 2;opened 0 1;opened 2 2;out 3/0/0;recalled 1;out 3/0/0;in 3/0/0 false;out 3/0/1;recalled 1;out 3/0/1;in 3/0/1 true;ended 2;ended 1;opened 1 3;opened 4 4; ",
+    ),
+    // A nested step waits for the step that it runs after, and a step that runs after it for all its
+    // instances.
+    (
+        NESTED_AFTER,
+        "settles name:0 name:1 name:2 name:3 task:1/0/0 hand hand settle ask:0/0/0 accept:0 task:1/0/0 settle settle task:1/0/0 hand settle hand hand ask:4/0/0 ask:5/0/0 accept:2 settle settle task:3/0/0 accept:1 task:3/0/0 settle task:3/0/0 settle hand ask:3/0/0 accept:3 settles done",
+        "1 p[] q[0] q[1] r[] waiting 0/0/0 none false good ready true false nested 4/0/0 true 5/0/0 none good true false waiting good waiting true ready false 3/0/0 good 1 true ",
+    ),
+    // Each job once it is settled, whatever the order of outcomes, and none before.
+    (
+        CROSS_BY_FOUR,
+        "noted:c hand hand hand noted:c ask:1/0/0 accept:0 noted:c ask:0/0/0 accept:1 noted:c recall noted:c noted:x",
+        "; 0/0/0 1/0/0 2/0/0 ; good c[0,1]<x[0]<y[1] ; good c[0,0]<x[0]<y[0] c[0,1]<x[0]<y[1] ; 1 c[0,0]<x[0]<y[0] c[0,1]<x[0]<y[1] ; ; ",
+    ),
+    // A job on an item of a list that isn't whole yet.
+    (
+        CHAIN,
+        "hand ask:0/0/0 accept:0 noted:q settles hand noted:p hand name:2 ask:2/0/0 accept:1 noted:q noted:p",
+        "0/0/0 good ; 2 2/0/0 p[0]<x[0] ; 1/0/0 q[0] good q[0]<x[0] ; p[0]<x[0] ; ",
+    ),
+    // A job that has failed is noted, and one that bounced, which leads through it.
+    (
+        FAILURES,
+        "hand ask:0/0/0 accept:0 noted:f noted:u settles noted:u hand name:1",
+        "0/0/0 failed f[0]<x[0] ; ; 3 u[0]<x[0] ; 1/0/0 f[1] ",
+    ),
+    (
+        PASSED,
+        "hand ask:0/0/0 accept:0 noted:r noted:u settles noted:u done",
+        "0/0/0 failed r[] ; ; 2 ; true ",
+    ),
+    // All that a merge takes in.
+    (
+        MERGE,
+        "noted:e hand ask:0/0/0 accept:0 noted:e",
+        "; 0/0/0 good e[]<x[]<y[] ; ",
+    ),
+    // A nested job is noted once its instance has ended, and no job inside an instance is.
+    (
+        NESTED_TWO,
+        "settles hand settle hand ask:2/0/0 ask:3/0/0 accept:1 noted:n noted:u settles noted:n noted:u accept:0 settles noted:n done",
+        "2 2/0/0 true 3/0/0 good ; ; 1 n[1]<x[1] ; ; good 2 n[0]<x[0] n[1]<x[1] ; true ",
+    ),
+    // A board keeps nodes while its run goes on, and none once that is done.
+    (
+        CROSS_BY_FOUR,
+        "keeps hand hand hand hand ask:0/0/0 ask:1/0/0 ask:2/0/0 ask:3/0/0 accept:0 accept:1 accept:2 accept:3 settles keeps done",
+        "true 0/0/0 1/0/0 2/0/0 3/0/0 good good good good 4 false true ",
+    ),
+];
+
+/// What is said of a script, and then the line.
+fn played(alloc: Global, document: &str, script: &str) -> Result<Play, Fail> {
+    let mut play = Play::start(alloc, run_of(alloc, document)?)?;
+    play.acts(script)?;
+    play.work_off()?;
+    Ok(play)
+}
+
+#[test]
+fn each_act_says_what_is_due(rt: HostRuntime) -> Result<(), Fail> {
+    for (worked, script, said) in &CASES {
+        let play = played(rt.alloc(), worked.document, script)?;
+        let due = (*said, worked.line);
+        assert_eq!(rt; (play.said.as_str(), play.line.as_str()), due, "{script}");
+    }
+    Ok(())
+}

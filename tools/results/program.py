@@ -1,0 +1,60 @@
+"""The program, and what it answers."""
+import json
+import os
+import subprocess
+import sys
+
+TOP = os.path.dirname(os.path.dirname(os.path.dirname(os.path.realpath(__file__))))
+
+
+class Refused(Exception):
+    """The program ended with this status, which isn't 0."""
+
+    def __init__(self, status):
+        super().__init__(f"status {status}")
+        self.status = status
+
+
+class Program:
+    """./taverna, or the program that the variable TAVERNA names."""
+
+    def __init__(self):
+        self.path = os.environ.get("TAVERNA") or f"{TOP}/taverna"
+
+    def answer(self, *words, document, is_quiet=False):
+        """What the program writes for these words and this document, which is bytes or a JSON tree.
+
+        What it says on standard error is passed on as it comes, but where it is asked quietly.
+        """
+        err = subprocess.DEVNULL if is_quiet else None
+        given = document if isinstance(document, bytes) else compact(document).encode()
+        try:
+            ran = subprocess.run([self.path, *words], input=given, stdout=subprocess.PIPE, stderr=err)
+        except OSError as error:
+            stop(f"{self.path} can't be run ({error.strerror})")
+        if ran.returncode < 0:
+            stop(f"the program was ended by signal {-ran.returncode}")
+        if ran.returncode:
+            raise Refused(ran.returncode)
+        return ran.stdout.decode("utf-8", "replace")
+
+
+def compact(tree):
+    return json.dumps(tree, ensure_ascii=False, separators=(",", ":"))
+
+
+def stop(text, status=1):
+    """Ends with this status, after a line on standard error."""
+    print(f"tools/{os.path.basename(sys.argv[0])}: {text}", file=sys.stderr)
+    sys.exit(status)
+
+
+def bytes_of(path):
+    """The bytes of a file; `-` is standard input. Status 3 where it can't be read, as the program's own."""
+    try:
+        if path == "-":
+            return sys.stdin.buffer.read()
+        with open(path, "rb") as file:
+            return file.read()
+    except OSError as error:
+        stop(f"{path}: {error.strerror}", 3)
