@@ -4,7 +4,7 @@ arrives, or tries it on made-up events against what the events alone say.
     python3 bench/streams.py measure
     python3 bench/streams.py trial [SEED]
 
-Wants a rustc, and valgrind to measure. The code that is tried is that of crates/tv_stream, crates/tv_nodes and crates/tv_pool;
+Wants a rustc, and valgrind to measure. The code that is tried is that of crates/tv_stream and crates/tv_pool;
 what it uses of the libraries below is in bench/streams/shim.rs.
 """
 import os
@@ -17,12 +17,11 @@ sys.path.insert(0, os.path.dirname(os.path.abspath(__file__)))
 
 import plain  # noqa: E402
 
-CRATES = ("tv_pool", "tv_nodes", "tv_stream")
+CRATES = ("tv_pool", "tv_stream")
 ORDERS = ("forward", "backward", "random")
 COUNTS = (250_000, 500_000, 1_000_000)
 MAIN = """macro_rules! prove { ($($t:tt)*) => {} }
 mod tv_pool;
-mod tv_nodes;
 mod tv_stream;
 """
 
