@@ -1,4 +1,6 @@
 //! Generated documents against their texts.
+ghost use Rattle.std.specs.Prelude.{◌≤◌};
+
 use std::alloc::Global;
 use std::test::Fail;
 use tv_generator::generated;
@@ -17,7 +19,10 @@ const ENDS: [(u32, &str); 2] = [
     ),
 ];
 
-fn written(alloc: Global, number: u32) -> Result<Text, Fail> {
+fn written(alloc: Global, number: u32) -> Result<Text, Fail>
+    requires some { 1 ≤ number }
+    requires most { number ≤ 200 }
+{
     let json = json_of_document(alloc, &generated(alloc, number)?)?;
     Ok(compact(alloc, &json)?)
 }
@@ -25,6 +30,7 @@ fn written(alloc: Global, number: u32) -> Result<Text, Fail> {
 #[test]
 fn generated_documents_end_so(rt: HostRuntime) -> Result<(), Fail> {
     for (number, end) in ENDS {
+        assert!(rt; 1 <= number && number <= 200);
         let text = written(rt.alloc(), number)?;
         assert!(rt; text.as_str().ends_with(end), "of {number}");
     }
