@@ -41,7 +41,7 @@ WANT = 10, b"", b"taverna: want of memory\n"
 def rows(names):
     """For each of these rows its name, its words, its document and what is due."""
     held = runpy.run_path(os.path.join(TOP, "tests", "rows", "run"))
-    found = {row["name"]: row for row in held["rows"]()}
+    found = {row["name"]: row for row in held["data"]("rows")}
     for name in names or ROWS:
         row = found[name]
         built = set(row["needs"]) <= held["BUILT"]
