@@ -39,7 +39,7 @@ class Run:
         self.document = json.loads(given)
         self.flows, self.main = self.document["flows"], self.document["main"]
         self.depths = depths_of(checked)
-        self.result = json.loads(program.answer("run", document=given))
+        self.result = program.result(given)
         self.outputs, self.totals = self.result["outputs"], self.result["totals"]
         traced = [line.rsplit(" ", 1) for line in program.answer("trace", document=given).splitlines()]
         self.attempts = {job: int(number) for job, number in traced}
@@ -57,7 +57,7 @@ class Run:
             made = with_outputs(self.document)
             try:
                 depths = depths_of(self.program.answer("check", document=made, is_quiet=True))
-                ran = json.loads(self.program.answer("run", document=made, is_quiet=True))
+                ran = self.program.result(made, is_quiet=True)
                 if ran["totals"] == self.totals:
                     return Copies(made, depths)
             except Refused:
@@ -71,7 +71,7 @@ class Run:
         self.copied += 1
         try:
             copy = self.copies.copy(way, steps, without_flow)
-            outputs = json.loads(self.program.answer("run", document=copy, is_quiet=True))["outputs"]
+            outputs = self.program.result(copy, is_quiet=True)["outputs"]
         except Refused:
             return None
         return [outputs[f"p{number}"] for number in range(len(steps))]

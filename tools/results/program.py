@@ -3,6 +3,7 @@ import json
 import os
 import subprocess
 import sys
+import tempfile
 
 TOP = os.path.dirname(os.path.dirname(os.path.dirname(os.path.realpath(__file__))))
 
@@ -28,15 +29,26 @@ class Program:
         """
         err = subprocess.DEVNULL if is_quiet else None
         given = document if isinstance(document, bytes) else compact(document).encode()
-        try:
-            ran = subprocess.run([self.path, *words], input=given, stdout=subprocess.PIPE, stderr=err)
-        except OSError as error:
-            stop(f"{self.path} can't be run ({error.strerror})")
+        with tempfile.TemporaryFile() as file:
+            # (from a file, so that a program may leave off reading)
+            file.write(given)
+            file.seek(0)
+            try:
+                ran = subprocess.run([self.path, *words], stdin=file, stdout=subprocess.PIPE, stderr=err)
+            except OSError as error:
+                stop(f"{self.path} can't be run ({error.strerror})")
         if ran.returncode < 0:
             stop(f"the program was ended by signal {-ran.returncode}")
         if ran.returncode:
             raise Refused(ran.returncode)
         return ran.stdout.decode("utf-8", "replace")
+
+    def result(self, document, is_quiet=False):
+        """What `run` writes of this document, as a JSON tree."""
+        try:
+            return json.loads(self.answer("run", document=document, is_quiet=is_quiet))
+        except ValueError:
+            return stop(f"what {self.path} writes for run is no result")
 
 
 def compact(tree):
@@ -49,9 +61,20 @@ def stop(text, status=1):
     sys.exit(status)
 
 
+def write(given):
+    """Writes a text or bytes on standard output."""
+    try:
+        with open(1, "wb", closefd=False) as out:
+            out.write(given if isinstance(given, bytes) else given.encode("utf-8", "replace"))
+    except OSError as error:
+        stop(f"it can't be written ({error.strerror})")
+
+
 def bytes_of(path):
     """The bytes of a file; `-` is standard input. Status 3 where it can't be read, as the program's own."""
     try:
+        if path == "-" and sys.stdin is None:
+            stop("standard input is closed", 3)
         if path == "-":
             return sys.stdin.buffer.read()
         with open(path, "rb") as file:
