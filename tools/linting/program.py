@@ -18,6 +18,7 @@ SPOTS = (
     (r"flow (\w+)", ("flows", 1), True),
     (r"input (\w+)", ("inputs", 1), True),
 )
+PASSED_ON = set()  # lines of standard error that were passed on, each once
 WORDS = re.compile(r"taverna: (form fault|check fault|not JSON|input longer|read fault|want of memory|write fault)")
 
 
@@ -26,7 +27,7 @@ class CannotAsk(Exception):
 
 
 def asked(program, given):
-    """The status that `check` ends with on these bytes, and its line. What else it writes on standard error is passed on."""
+    """The status that `check` ends with on these bytes, and its line. Each other line on standard error is passed on once."""
     line = ""
     try:
         with tempfile.TemporaryFile() as document:
@@ -38,7 +39,8 @@ def asked(program, given):
                     said = said.decode("utf-8", "replace")
                     if WORDS.match(said):
                         line = said.strip("\n")
-                    else:
+                    elif said not in PASSED_ON:
+                        PASSED_ON.add(said)
                         sys.stderr.write(said)
     except OSError as error:
         raise CannotAsk(f"{program} can't be run ({error.strerror})") from None

@@ -21,27 +21,33 @@ class Program:
 
     def __init__(self):
         self.path = os.environ.get("TAVERNA") or f"{TOP}/taverna"
+        self.passed_on = set()  # lines of standard error
 
     def answer(self, *words, document, is_quiet=False):
         """What the program writes for these words and this document, which is bytes or a JSON tree.
 
-        What it says on standard error is passed on as it comes, but where it is asked quietly.
+        What it says on standard error is passed on as it comes, each line once, but where it is asked quietly.
         """
-        err = subprocess.DEVNULL if is_quiet else None
-        given = document if isinstance(document, bytes) else compact(document).encode()
-        with tempfile.TemporaryFile() as file:
-            # (from a file, so that a program may leave off reading)
-            file.write(given)
-            file.seek(0)
+        # (from a file, so that a program may leave off reading, and into one, so that standard error is read meanwhile)
+        with tempfile.TemporaryFile() as given, tempfile.TemporaryFile() as told:
+            given.write(document if isinstance(document, bytes) else compact(document).encode())
+            given.seek(0)
             try:
-                ran = subprocess.run([self.path, *words], stdin=file, stdout=subprocess.PIPE, stderr=err)
+                ran = subprocess.Popen([self.path, *words], stdin=given, stdout=told, stderr=subprocess.PIPE)
             except OSError as error:
                 stop(f"{self.path} can't be run ({error.strerror})")
+            with ran:
+                for line in ran.stderr:
+                    if not is_quiet and line not in self.passed_on:
+                        self.passed_on.add(line)
+                        print(line.decode("utf-8", "replace"), end="", file=sys.stderr, flush=True)
+            told.seek(0)
+            answer = told.read().decode("utf-8", "replace")
         if ran.returncode < 0:
             stop(f"the program was ended by signal {-ran.returncode}")
         if ran.returncode:
             raise Refused(ran.returncode)
-        return ran.stdout.decode("utf-8", "replace")
+        return answer
 
     def result(self, document, is_quiet=False):
         """What `run` writes of this document, as a JSON tree."""
