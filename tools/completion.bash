@@ -42,12 +42,19 @@ _taverna() {
     esac
 }
 
-# The options that a tool's --help names, and documents.
+# The commands of tools/table, the options that a tool's --help names, and documents.
 _taverna_tool() {
-    local word=${COMP_WORDS[COMP_CWORD]}
+    local word=${COMP_WORDS[COMP_CWORD]} tool=("${COMP_WORDS[0]}")
     COMPREPLY=()
+    if [[ ${tool[0]} == *table ]]; then
+        if [ "$COMP_CWORD" -eq 1 ] && [[ $word != -* ]]; then
+            _taverna_words "fill run show" "$word"
+            return
+        fi
+        [ "$COMP_CWORD" -eq 1 ] || tool+=("${COMP_WORDS[1]}")
+    fi
     case $word in
-        -*) _taverna_words "$("${COMP_WORDS[0]}" --help 2>&1 </dev/null | grep -oE -- '(^|[[ (|])--?[A-Za-z][a-z-]*' | tr -d '[ (|')" "$word" ;;
+        -*) _taverna_words "$("${tool[@]}" --help 2>&1 </dev/null | grep -oE -- '(^|[[ (|])--?[A-Za-z][a-z-]*' | tr -d '[ (|' | sort -u)" "$word" ;;
         *) _taverna_files "$word" ;;
     esac
 }
