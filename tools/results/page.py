@@ -4,7 +4,7 @@ from html import escape
 
 from .picture import NoPicture, dark_rules, svg
 from .text import COLUMNS, given_lines, headline, lost_text, untold_line, value_text
-from .values import cut, is_error, many, place_text, rows
+from .values import cut, is_error, many, place_text, plain, rows
 
 TEXT, ITEMS, CELLS = 2000, 60, 12  # characters of a text, and items of a row, that are shown; items that have a cell each
 
@@ -83,7 +83,7 @@ def failed(failures, most):
         yield "<th>made from</th></tr></thead><tbody>"
         for it in list(failures)[:most]:
             given = "\n".join(given_lines(failures, it, 6))
-            yield f'<tr><td>{escape(it.job)}</td><td class="failed">{escape(it.why or "it is not told why")}</td>'
+            yield f'<tr><td>{escape(it.job)}</td><td class="failed">{escape(plain(it.why or "it is not told why"))}</td>'
             yield f"<td>{escape(lost_text(it))}</td><td>{escape(given)}</td></tr>"
         yield "</tbody></table></div>"
         untold = failures.run.untold.get("failed", 0)
@@ -97,9 +97,9 @@ def item(failures, value, tag):
     """An item of an output: a cell of a table, or a span."""
     if is_error(value):
         error = value["error"]
-        kind, told = "bounced" if error["from"] else "failed", escape(cut(failures.told(error), TEXT))
+        kind, told = "bounced" if error["from"] else "failed", escape(cut(plain(failures.told(error)), TEXT))
         return f'<{tag} class="item {kind}" title="{escape(error["at"])}">✗ {told}</{tag}>'
-    quiet, text = ("", cut(value, TEXT)) if value else (" quiet", "empty text")
+    quiet, text = ("", cut(plain(value, "\n\t"), TEXT)) if value else (" quiet", "empty text")
     return f'<{tag} class="item{quiet}">{escape(text)}</{tag}>'
 
 

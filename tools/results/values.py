@@ -46,9 +46,9 @@ def rows(value):
     return found
 
 
-def plain(text):
-    """A text on one line: what can't be printed is escaped as in JSON."""
-    return "".join(it if it.isprintable() else ESCAPES.get(it) or f"\\u{ord(it):04x}" for it in text)
+def plain(text, kept=""):
+    """A text on one line: what can't be printed is escaped as in JSON, but for the signs that are kept."""
+    return "".join(it if it.isprintable() or it in kept else ESCAPES.get(it) or f"\\u{ord(it):04x}" for it in text)
 
 
 ESCAPES = {"\n": "\\n", "\t": "\\t", "\r": "\\r"}
