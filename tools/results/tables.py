@@ -25,7 +25,9 @@ class Table:
         except UnicodeDecodeError as error:
             stop(f"{path}: not UTF-8 ({error.reason} at byte {error.start})", 3)
         except csv.Error as error:
-            stop(f"{path}: {error}, at line {reader.line_num}", 3)
+            hint = "; a cell that begins with a quote ends with one, and has each quote between twice"
+            hint = hint if str(error).startswith("unexpected end") or '"' in str(error) else ""
+            stop(f"{path}: {error}, at line {reader.line_num}{hint}", 3)
         while lines and not lines[-1][1]:
             lines.pop()
         if not lines:
