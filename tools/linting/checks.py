@@ -67,6 +67,11 @@ def strategy_of(step):
     return step.get("strategy", {"cross": sorted(inputs_of(step))})
 
 
+def shortened(said, most=16):
+    """The parts of a round; of a long one so many, and how many are left out before the last."""
+    return said if len(said) <= most else [*said[: most - 1], f"{len(said) - most} more", said[-1]]
+
+
 class Checks:
     """Goes through a document whose form is right. `found` has the complaints, in the program's order but for ones behind the first."""
 
@@ -207,7 +212,7 @@ class Checks:
                         opens[name].setdefault(other, step)
         for way in rounds(opens):
             told = [f"the step {quoted(opens[one][other])} of {quoted(one)} opens {quoted(other)}" for one, other in zip(way, way[1:])]
-            what = f"flows open one another in a round: {', '.join(told)}"
+            what = f"flows open one another in a round: {', '.join(shortened(told))}"
             path = ("flows", way[0], "steps", opens[way[0]][way[1]])
             self.tell(FLOW_CYCLE, f"flow {way[0]}", what, "a flow can't open itself: take one out", path, is_key=True)
         self.nesting = nestings(opens)
@@ -223,7 +228,7 @@ class Checks:
                 why = self.before[name]
                 reasons = [f"{quoted(one)} waits for {quoted(other)} ({why[one][other]})" for one, other in zip(way, way[1:])]
                 path = ("flows", name, "steps", way[0])
-                what = f"steps of {quoted(name)} wait for one another in a round: {', '.join(reasons)}"
+                what = f"steps of {quoted(name)} wait for one another in a round: {', '.join(shortened(reasons))}"
                 self.tell(LINK_CYCLE, f"flow {name} step {way[0]}", what, 'take out a link or a name of "after"', path, is_key=True)
 
     # Given values
